@@ -1,0 +1,99 @@
+use Rattle.std.specs.Prelude.{◌≡◌, ℕ, ◌^◌, Bool, true, false, ◌&&◌, ◌||◌, not, if◌then◌else◌, ◌==◌, nat_le, nat_lt, List, [], ◌∷◌, ◌++◌, length, map, Option, None, Some, is_none, slice_get, Result, MatchResult}
+use Rattle.std.specs.List.{list_all, list_any}
+use Rattle.std.specs.Str.{bytes_eq}
+use Rattle.agg_types.specs.Col.{col_id, is_rate}
+use Rattle.agg_types.specs.Fits.{at_table, stores}
+use Rattle.agg_types.specs.Name.{is_name}
+use Rattle.agg_types.specs.declared.column.Col.{Col}
+use Rattle.agg_types.specs.declared.config.Config.{Config}
+use Rattle.agg_types.specs.declared.config.Filter.{Filter}
+use Rattle.agg_types.specs.declared.config.KeyKind.{KeyKind}
+use Rattle.agg_types.specs.declared.config.KeyKind.TheVariants.{Integer, Ip, Ipv6, Str, Binary}
+use Rattle.agg_types.specs.declared.config.Rank.{Rank}
+use Rattle.agg_types.specs.declared.config.Shape.{Shape}
+use Rattle.agg_types.specs.declared.check.ConfigFault.{ConfigFault}
+use Rattle.agg_types.specs.declared.check.ConfigFault.TheVariants.{Duplicate, TooMany, UnknownTable, UnknownColumn, BadPeriod, BadSize, BadName}
+
+-- a fault, where the test says that it is there
+abbrev pub fault_if : Bool → ConfigFault → List ConfigFault
+fault_if there fault = if there then fault ∷ [] else []
+
+-- the faults of each entry, which are told by the entries before it
+abbrev pub each : {A : Type 0} → (List A → A → List ConfigFault) → List A → List A → List ConfigFault
+each faults before [] = []
+each faults before (entry ∷ entries) = faults before entry ++ each faults (before ++ entry ∷ []) entries
+
+-- the faults of a peer, which are told by those before it
+unfoldable pub peer_faults : List (List ℕ) → List ℕ → List ConfigFault
+peer_faults before name =
+    fault_if (nat_le 256 (length before)) TooMany
+    ++ fault_if (not (is_name name)) BadName
+    ++ fault_if (list_any (λ other. bytes_eq other name) before) Duplicate
+
+-- each number is above the one before it, the first above this one
+abbrev pub ascends_above : ℕ → List ℕ → Bool
+ascends_above last [] = true
+ascends_above last (next ∷ rest) = nat_lt last next && ascends_above next rest
+
+-- each number is above the one before it
+abbrev pub ascends : List ℕ → Bool
+ascends [] = true
+ascends (first ∷ rest) = ascends_above first rest
+
+-- a rate has a period of 1 to 2^31 - 1 ms, a count none
+abbrev pub period_fits : Col × ℕ → Bool
+period_fits col = if is_rate col.0 then nat_le 1 col.1 && nat_lt col.1 (2 ^ 31) else (col.1 == 0)
+
+-- 1 to the most that there may be
+abbrev pub is_within : ℕ → ℕ → Bool
+is_within number most = nat_le 1 number && nat_le number most
+
+-- 1 to 256 bytes, where the length is told
+abbrev pub len_fits : KeyKind → Bool
+len_fits (Str len) = is_within len 256
+len_fits (Binary len) = is_within len 256
+len_fits Integer = true
+len_fits Ip = true
+len_fits Ipv6 = true
+
+-- the faults of a table, which are told by those before it
+unfoldable pub table_faults : List Shape → Shape → List ConfigFault
+table_faults before shape =
+    fault_if (nat_le 16 (length before)) TooMany
+    ++ fault_if (not (is_name shape.name)) BadName
+    ++ fault_if (list_any (λ other. bytes_eq other.name shape.name) before || not (ascends (map (λ col. col_id col.0) shape.cols))) Duplicate
+    ++ fault_if (not (list_all period_fits shape.cols)) BadPeriod
+    ++ fault_if (not (is_within shape.size 1000000 && len_fits shape.kind)) BadSize
+
+-- the faults of a filter, which are told by those before it
+unfoldable pub filter_faults : List Shape → List Filter → Filter → List ConfigFault
+filter_faults tables before filter =
+    fault_if (nat_le 32 (length before) || nat_lt 4 (length filter.conds)) TooMany
+    ++ fault_if (not (is_name filter.name)) BadName
+    ++ fault_if (list_any (λ other. bytes_eq other.name filter.name) before) Duplicate
+    ++ fault_if (is_none (slice_get tables filter.table)) UnknownTable
+    ++ fault_if (not (at_table tables filter.table (λ shape. list_all (λ cond. stores shape.cols cond.col) filter.conds))) UnknownColumn
+    ++ fault_if (length filter.conds == 0) BadSize
+
+-- the faults of a ranked list, which are told by those before it
+unfoldable pub rank_faults : List Shape → List Rank → Rank → List ConfigFault
+rank_faults tables before rank =
+    fault_if (nat_le 16 (length before)) TooMany
+    ++ fault_if (not (is_name rank.name)) BadName
+    ++ fault_if (list_any (λ other. bytes_eq other.name rank.name) before) Duplicate
+    ++ fault_if (is_none (slice_get tables rank.table)) UnknownTable
+    ++ fault_if (not (at_table tables rank.table (λ shape. stores shape.cols rank.col))) UnknownColumn
+    ++ fault_if (not (is_within rank.n 1000)) BadSize
+
+-- the faults of a configuration, in the order in which they count
+abbrev pub config_faults : Config → List ConfigFault
+config_faults config =
+    fault_if (not (is_name config.me)) BadName
+    ++ each peer_faults [] config.peers
+    ++ each table_faults [] config.tables
+    ++ each (filter_faults config.tables) [] config.filters
+    ++ each (rank_faults config.tables) [] config.ranks
+
+-- Ok where there are no faults, else the first of them
+abbrev pub FindsFirst : Result (Unit {0}) ConfigFault → List ConfigFault → Type 0
+FindsFirst result faults = MatchResult result (λ _. faults ≡ []) (λ fault. slice_get faults 0 ≡ Some fault)

@@ -1,0 +1,188 @@
+ghost use Rattle.std.specs.Prelude.{◌≡◌, IfOk};
+ghost use Rattle.agg_types.specs.Op.{op_holds};
+
+use crate::{Col, Items, Name, NoMemory};
+use std::alloc::Global;
+
+/// The kind of a table's keys (Configuration Manual, "stick-table", `type`).
+///
+/// Lengths are in bytes: a string key has at most `len`, a binary key exactly `len`.
+#[derive(Clone, Copy, Debug, PartialEq, Eq)]
+pub enum KeyKind {
+    Integer,
+    Ip,
+    Ipv6,
+    Str(u64),
+    Binary(u64),
+}
+
+/// A table: its name, the kind of its keys, how many rows each peer may hold, and the columns stored.
+///
+/// A column stands with its period in ms, which is 0 for a count. Columns ascend.
+#[derive(Debug, Drop)]
+pub struct Shape {
+    pub name: Name,
+    pub kind: KeyKind,
+    pub size: u64,
+    pub cols: Items<(Col, u32)>,
+}
+
+/// How a condition compares a value with its bound (Management Guide, "show table").
+#[derive(Clone, Copy, Debug, PartialEq, Eq)]
+pub enum Op {
+    Eq,
+    Ne,
+    Le,
+    Ge,
+    Lt,
+    Gt,
+}
+
+impl Op {
+    /// Whether the comparison holds of a value and its bound.
+    pub fn holds(self, value: u128, bound: u64) -> bool
+        ensures { result ≡ op_holds self value bound }
+    {
+        let bound = u128::from(bound);
+        match self {
+            Op::Eq => value == bound,
+            Op::Ne => value != bound,
+            Op::Le => value <= bound,
+            Op::Ge => value >= bound,
+            Op::Lt => value < bound,
+            Op::Gt => value > bound,
+        }
+    }
+}
+
+/// A condition on the summed value of a column.
+#[derive(Clone, Copy, Debug, PartialEq, Eq)]
+pub struct Cond {
+    pub col: Col,
+    pub op: Op,
+    pub bound: u64,
+}
+
+/// A standing filter: the keys of a table for which all conditions hold.
+#[derive(Debug, Drop)]
+pub struct Filter {
+    pub name: Name,
+    pub table: usize,
+    pub conds: Items<Cond>,
+}
+
+/// A ranked list: the first `n` keys of a table by a column, the larger value first.
+#[derive(Debug, Drop)]
+pub struct Rank {
+    pub name: Name,
+    pub table: usize,
+    pub col: Col,
+    pub n: u64,
+}
+
+/// A collector's configuration: its own name, and its peers, tables, filters and ranked lists, which
+/// events name by position.
+#[derive(Debug, Drop)]
+pub struct Config {
+    pub me: Name,
+    pub peers: Items<Name>,
+    pub tables: Items<Shape>,
+    pub filters: Items<Filter>,
+    pub ranks: Items<Rank>,
+}
+
+impl Shape {
+    /// An equal table.
+    pub fn duplicate(&self, alloc: Global) -> Result<Shape, NoMemory>
+        ensures { IfOk result (λ copied. copied ≡ self.now) }
+    {
+        Ok(Shape {
+            name: self.name.duplicate(alloc)?,
+            kind: self.kind,
+            size: self.size,
+            cols: self.cols.duplicate(alloc)?,
+        })
+    }
+}
+
+impl Filter {
+    /// An equal filter.
+    pub fn duplicate(&self, alloc: Global) -> Result<Filter, NoMemory>
+        ensures { IfOk result (λ copied. copied ≡ self.now) }
+    {
+        Ok(Filter {
+            name: self.name.duplicate(alloc)?,
+            table: self.table,
+            conds: self.conds.duplicate(alloc)?,
+        })
+    }
+}
+
+impl Rank {
+    /// An equal ranked list.
+    pub fn duplicate(&self, alloc: Global) -> Result<Rank, NoMemory>
+        ensures { IfOk result (λ copied. copied ≡ self.now) }
+    {
+        Ok(Rank {
+            name: self.name.duplicate(alloc)?,
+            table: self.table,
+            col: self.col,
+            n: self.n,
+        })
+    }
+}
+
+impl Config {
+    /// An equal configuration: every field agrees.
+    pub fn duplicate(&self, alloc: Global) -> Result<Config, NoMemory>
+        ensures { IfOk result (λ copied. copied ≡ self.now) }
+    {
+        Ok(Config {
+            me: self.me.duplicate(alloc)?,
+            peers: duplicate_peers(alloc, self.peers.as_slice())?,
+            tables: duplicate_tables(alloc, self.tables.as_slice())?,
+            filters: duplicate_filters(alloc, self.filters.as_slice())?,
+            ranks: duplicate_ranks(alloc, self.ranks.as_slice())?,
+        })
+    }
+}
+
+fn duplicate_peers(alloc: Global, peers: &[Name]) -> Result<Items<Name>, NoMemory>
+    ensures { IfOk result (λ copied. copied ≡ peers.now) }
+{
+    let mut copied = Vec::with_capacity(alloc, peers.len())?;
+    for peer in peers {
+        copied.push(peer.duplicate(alloc)?)?;
+    }
+    Ok(Items::from_vec(copied))
+}
+
+fn duplicate_tables(alloc: Global, tables: &[Shape]) -> Result<Items<Shape>, NoMemory>
+    ensures { IfOk result (λ copied. copied ≡ tables.now) }
+{
+    let mut copied = Vec::with_capacity(alloc, tables.len())?;
+    for shape in tables {
+        copied.push(shape.duplicate(alloc)?)?;
+    }
+    Ok(Items::from_vec(copied))
+}
+
+fn duplicate_filters(alloc: Global, filters: &[Filter]) -> Result<Items<Filter>, NoMemory>
+    ensures { IfOk result (λ copied. copied ≡ filters.now) }
+{
+    let mut copied = Vec::with_capacity(alloc, filters.len())?;
+    for filter in filters {
+        copied.push(filter.duplicate(alloc)?)?;
+    }
+    Ok(Items::from_vec(copied))
+}
+
+fn duplicate_ranks(alloc: Global, ranks: &[Rank]) -> Result<Items<Rank>, NoMemory>
+    ensures { IfOk result (λ copied. copied ≡ ranks.now) }
+{
+    let mut copied = Vec::with_capacity(alloc, ranks.len())?;
+    for rank in ranks {
+        copied.push(rank.duplicate(alloc)?)?;
+    }
+    Ok(Items::from_vec(copied))
+}

@@ -1,0 +1,55 @@
+use crate::{Cond, Filter, Items, Key};
+
+/// A cell of a row as it comes: a count, or a rate with the ms elapsed in its current period and
+/// the events of the current and of the previous period.
+#[derive(Clone, Copy, Debug, PartialEq, Eq)]
+pub enum Cell {
+    Count(u64),
+    Rate { elapsed: u64, cur: u32, prev: u32 },
+}
+
+/// Which keys of a table a clear takes: all, one, or those whose summed values meet all conditions.
+#[derive(Debug, Drop)]
+pub enum Select {
+    All,
+    One(Key),
+    Conds(Items<Cond>),
+}
+
+/// What happens at a seat. Peers and tables are named by their positions in the configuration.
+///
+/// A life is in ms from the row's arrival; a row without one never ends. A moment is in ms.
+#[derive(Debug, Drop)]
+pub enum What {
+    /// A connection or a worker sits down.
+    Sit,
+    /// The seat speaks for a peer from now on.
+    Open(usize),
+    /// A peer's row of a table and key, in place of an older one.
+    Put {
+        peer: usize,
+        table: usize,
+        key: Key,
+        life: Option<u64>,
+        cells: Items<Cell>,
+    },
+    /// Rows of a table are taken away, over all peers.
+    Clear {
+        table: usize,
+        sel: Select,
+    },
+    /// A standing filter is added behind the others.
+    AddFilter(Filter),
+    /// The clock says this moment.
+    Moment(u64),
+    /// The seat gets free for good.
+    Leave,
+}
+
+/// One entry of the fleet's history: what happened, at which seat, under the seat's next number.
+#[derive(Debug, Drop)]
+pub struct Event {
+    pub seat: u64,
+    pub seq: u64,
+    pub what: What,
+}

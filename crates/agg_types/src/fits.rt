@@ -1,0 +1,154 @@
+ghost use Rattle.std.specs.Prelude.{◌≡◌, ◌&&◌};
+ghost use Rattle.std.specs.List.{list_all};
+ghost use Rattle.agg_types.specs.Fits.{key_fits, cell_fits, cells_fit, stores, conds_fit, select_fits, at_table, life_fits, filter_fits, fits};
+
+use crate::{Cell, Col, Cond, Config, Filter, Key, KeyKind, Select, Shape, What};
+
+/// The greatest moment, in ms.
+pub const LAST_MOMENT: u64 = 1 << 62;
+
+/// The most conditions of a filter or of a command.
+pub const MOST_CONDS: usize = 4;
+
+impl Config {
+    /// Whether something may happen in this configuration: its positions are in range, its key has
+    /// the table's length, each stored column has one cell of its kind, its life has 32 bits, its
+    /// moment is at most 2^62, and its 1 to 4 conditions are on stored columns.
+    pub fn fits(&self, what: &What) -> bool
+        ensures { result ≡ fits self.now what.now }
+    {
+        let tables = self.tables.as_slice();
+        match what {
+            What::Sit => true,
+            What::Open(peer) => *peer < self.peers.len(),
+            What::Put {
+                peer,
+                table,
+                key,
+                life,
+                cells,
+            } => {
+                *peer < self.peers.len()
+                    && life_fits(*life)
+                    && row_fits(tables, *table, key, cells.as_slice())
+            }
+            What::Clear { table, sel } => selection_fits(tables, *table, sel),
+            What::AddFilter(filter) => filter_fits(tables, filter),
+            What::Moment(moment) => *moment <= LAST_MOMENT,
+            What::Leave => true,
+        }
+    }
+}
+
+impl KeyKind {
+    /// Whether these bytes may be a key of this kind.
+    pub fn fits(self, key: &[u8]) -> bool
+        ensures { result ≡ key_fits self key.now }
+    {
+        let len = key.len() as u64;
+        match self {
+            KeyKind::Integer | KeyKind::Ip => len == 4,
+            KeyKind::Ipv6 => len == 16,
+            KeyKind::Str(most) => len <= most,
+            KeyKind::Binary(exact) => len == exact,
+        }
+    }
+}
+
+impl Shape {
+    /// Whether a column is among those stored.
+    pub fn stores(&self, col: Col) -> bool
+        ensures { result ≡ stores self.now.cols col }
+    {
+        stores(self.cols.as_slice(), col)
+    }
+}
+
+fn stores(cols: &[(Col, u32)], col: Col) -> bool
+    ensures { result ≡ stores cols.now col }
+{
+    cols.iter().any(|stored| stored.0.id() == col.id())
+}
+
+fn life_fits(life: Option<u64>) -> bool
+    ensures { result ≡ life_fits life }
+{
+    match life {
+        None => true,
+        Some(life) => life < 1 << 32,
+    }
+}
+
+fn row_fits(tables: &[Shape], table: usize, key: &Key, cells: &[Cell]) -> bool
+    ensures { result ≡ at_table tables.now table (λ shape. key_fits shape.kind key.now && cells_fit shape.cols cells.now) }
+{
+    match tables.get(table) {
+        None => false,
+        Some(shape) => {
+            shape.kind.fits(key.as_slice()) && cells_fit(shape.cols.as_slice(), cells)
+        }
+    }
+}
+
+fn cells_fit(cols: &[(Col, u32)], cells: &[Cell]) -> bool
+    ensures { result ≡ cells_fit cols.now cells.now }
+{
+    match cols {
+        [] => cells.is_empty(),
+        [col, cols @ ..] => match cells {
+            [] => false,
+            [cell, cells @ ..] => cell_fits(col.0, *cell) && cells_fit(cols, cells),
+        },
+    }
+}
+
+fn cell_fits(col: Col, cell: Cell) -> bool
+    ensures { result ≡ cell_fits col cell }
+{
+    match cell {
+        Cell::Count(count) => !col.is_rate() && (col.is_wide() || count < 1 << 32),
+        Cell::Rate { .. } => col.is_rate(),
+    }
+}
+
+fn selection_fits(tables: &[Shape], table: usize, sel: &Select) -> bool
+    ensures { result ≡ at_table tables.now table (λ shape. select_fits shape sel.now) }
+{
+    match tables.get(table) {
+        None => false,
+        Some(shape) => select_fits(shape, sel),
+    }
+}
+
+fn select_fits(shape: &Shape, sel: &Select) -> bool
+    ensures { result ≡ select_fits shape.now sel.now }
+{
+    match sel {
+        Select::All => true,
+        Select::One(key) => shape.kind.fits(key.as_slice()),
+        Select::Conds(conds) => conds_fit(shape.cols.as_slice(), conds.as_slice()),
+    }
+}
+
+fn conds_fit(cols: &[(Col, u32)], conds: &[Cond]) -> bool
+    ensures { result ≡ conds_fit cols.now conds.now }
+{
+    let stored = all_stored(cols, conds);
+    !conds.is_empty() && conds.len() <= MOST_CONDS && stored
+}
+
+pub(crate) fn all_stored(cols: &[(Col, u32)], conds: &[Cond]) -> bool
+    ensures { result ≡ list_all (λ cond. stores cols.now cond.col) conds.now }
+{
+    conds.iter().all(|cond| stores(cols, cond.col))
+}
+
+fn filter_fits(tables: &[Shape], filter: &Filter) -> bool
+    ensures { result ≡ filter_fits tables.now filter.now }
+{
+    filter.name.is_valid()
+        && match tables.get(filter.table) {
+            None => false,
+            Some(shape) => conds_fit(shape.cols.as_slice(), filter.conds.as_slice()),
+        }
+}
