@@ -1,0 +1,52 @@
+-- What is answered of a state.
+use Rattle.std.specs.Prelude.{ℕ, ◌+◌, ◌-◌, Bool, true, false, ◌==◌, if◌then◌else◌, List, [], ◌∷◌, length, Option, None, Some, map, filter, fold, max, take}
+use Rattle.std.specs.Option.{option_map}
+use Rattle.agg_types.specs.Col.{all_cols}
+use Rattle.agg_types.specs.declared.column.Col.{Col}
+use Rattle.agg_types.specs.declared.config.Filter.{Filter}
+use Rattle.agg_types.specs.declared.place.Place.{Place}
+use Rattle.fleet_model.specs.declared.arrival.Arrival.{Arrival}
+use Rattle.fleet_model.specs.declared.summed.Summed.{Summed}
+use Rattle.fleet_model.specs.State.{State}
+use Rattle.fleet_model.specs.Values.{cols_of, is_of, live_keys, meets, value}
+
+-- the longer of two lives, of which none never ends
+abbrev pub longer : Option ℕ → Option ℕ → Option ℕ
+longer None other = None
+longer (Some life) None = None
+longer (Some life) (Some other) = Some (max life other)
+
+abbrev pub left_after : Option ℕ → ℕ → ℕ → Option ℕ
+left_after None arrived t = None
+left_after (Some life) arrived t = Some (life - (t - arrived))
+
+-- the ms that a row has left, or none where it never ends
+abbrev pub left_of : ℕ → Arrival → Option ℕ
+left_of t row = left_after row.life row.arrived t
+
+-- the rows of a key
+unfoldable pub rows_of : State → ℕ → List ℕ → List (Place × Arrival)
+rows_of state table key = filter (is_of table key state.moment) state.rows
+
+-- how many rows there are, and the longest life left of them, if there are any
+abbrev pub tally : ℕ → List (Place × Arrival) → Option (ℕ × Option ℕ)
+tally t [] = None
+tally t (row ∷ rows) = Some (length rows + 1, fold (λ left other. longer left (left_of t other.1)) (left_of t row.1) rows)
+
+-- the rows of a key, if there are any, and the values that they sum up to
+abbrev pub sum_up : List ℕ → ℕ → List (Place × Arrival) → Option Summed
+sum_up values t rows = option_map (λ found. record { peers = found.0; left = found.1; values = values }) (tally t rows)
+
+-- the summed row of a key, if some peer holds a row of it
+unfoldable pub summed : State → ℕ → List ℕ → Option Summed
+summed state table key =
+    sum_up (map (λ col. value (cols_of state.config.tables table) state.rows table key col state.moment) all_cols) state.moment (rows_of state table key)
+
+-- the keys of a table with a row, in order
+unfoldable pub keys_of : State → ℕ → List (List ℕ)
+keys_of state table = live_keys state.rows table state.moment
+
+-- the keys that a filter holds at t: those with a row that lives then and for which all conditions hold
+unfoldable pub set_at : State → Filter → ℕ → List (List ℕ)
+set_at state filtering t =
+    filter (λ key. meets (cols_of state.config.tables filtering.table) state.rows filtering.table key t filtering.conds) (live_keys state.rows filtering.table t)

@@ -1,0 +1,11 @@
+pub mod Seats
+pub mod Moments
+pub mod Sessions
+pub mod Filters
+pub mod Rows
+pub mod Values
+pub mod History
+pub mod State
+pub mod Machine
+pub mod Answers
+pub mod Laws

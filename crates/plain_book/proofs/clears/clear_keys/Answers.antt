@@ -1,0 +1,10 @@
+use Rattle.std.proofs.Common.{rules, not, ◌==◌, ◌&&◌}
+use Rattle.std.specs.List.{list_any}
+use Rattle.std.proofs.lemmas.Map.Made.{filter_same_pairs}
+use Rattle.fleet_model.specs.Values.{same_key}
+use Rattle.plain_book.proofs.clears.clear_keys.Goals as goal
+
+pub returns : goal.returns
+returns c =
+    filter_same_pairs _ (λ row. not ((row.0.table == c.args.table) && list_any (λ key. same_key key row.0.key) c.args.keys.now)) _
+    (λ k v b w f' t. search rules) _ _ c.retain.ensures.filtered

@@ -1,0 +1,369 @@
+ghost use Rattle.std.specs.Prelude.{◌≡◌, ℕ, List, map, [], ◌∷◌, ◌++◌, ◌&&◌, ◌==◌, not, if◌then◌else◌, filter, IsTrue, IfOk, OnOk, OnErr};
+ghost use Rattle.std.specs.BTreeMap.{is_at};
+ghost use Rattle.std.specs.List.{list_any};
+ghost use Rattle.std.specs.Map.{lookup};
+ghost use Rattle.std.specs.Ordering.{nat_cmp};
+ghost use Rattle.std.specs.Str.{bytes_eq};
+ghost use Rattle.agg_types.specs.declared.config.Config.{Config};
+ghost use Rattle.agg_types.specs.declared.event.Event.{Event};
+ghost use Rattle.fleet_model.specs.Answers.{keys_of, summed};
+ghost use Rattle.fleet_model.specs.Filters.{is_new};
+ghost use Rattle.fleet_model.specs.State.{Stands};
+ghost use Rattle.fleet_model.specs.Machine.{after, counts_now, number_of, opened, session_of, with_row};
+ghost use Rattle.fleet_model.specs.Rows.{has_room};
+ghost use Rattle.fleet_model.specs.Seats.{is_number};
+ghost use Rattle.fleet_model.specs.Values.{cols_of, selects};
+ghost use Rattle.plain_book.specs.Due.{IsDue};
+
+use crate::clears::clear_where;
+use crate::rows::{Rows, clear_key, clear_table, end_rows, has_room, put_row};
+use crate::seats::{
+    Seats, Sessions, count_up, end_sessions, has_free_seat, is_next, is_number, open_session,
+    sit_down, stand_up,
+};
+use crate::{queries, seats};
+use agg_types::{
+    Cell, Col, Config, Event, Filter, Items, Key, MOST_FILTERS, NoMemory, Place, Select, Shape,
+    What,
+};
+use fleet_model::{Arrival, Summed};
+use std::alloc::Global;
+use std::collections::BTreeMap;
+use std::marker::Model;
+
+/// The state of a fleet, one event at a time.
+///
+/// Contracts see what recomputing from the whole list of events gives: the configuration with the
+/// filters that stand, the moment, the rows in force, the sessions and the seats.
+#[derive(Drop)]
+pub struct Book {
+    alloc: Global,
+    config: Config,
+    moment: u64,
+    rows: Rows,
+    sessions: Sessions,
+    seats: Seats,
+    next_seat: u64,
+}
+
+impl Model for Book {
+    ghost use Rattle.fleet_model.specs.State.{State};
+
+    ghost Value = { State };
+
+    ghost view = { λ b. record {
+      config = b.config;
+      moment = b.moment;
+      rows = b.rows.entries;
+      sessions = b.sessions.entries;
+      seats = b.seats.entries;
+      next_seat = b.next_seat;
+    } };
+}
+
+impl Book {
+    /// A book in which nothing has happened yet, at its opening moment, in ms. Takes no memory.
+    #[tactic(auto, unfolding(fleet_model::specs::State::Stands))]
+    pub fn new(alloc: Global, config: Config, moment: u64) -> Book
+        ensures opened { result ≡ opened config moment }
+        ensures stands { Stands result config moment [] }
+    {
+        fleet_model::laws::nothing_happened();
+        Book::open(alloc, config, moment)
+    }
+
+    #[tactic(auto, unfolding(fleet_model::specs::Machine::opened))]
+    fn open(alloc: Global, config: Config, moment: u64) -> Book
+        ensures { result ≡ opened config moment }
+    {
+        Book {
+            alloc,
+            config,
+            moment,
+            rows: BTreeMap::new(alloc),
+            sessions: BTreeMap::new(alloc),
+            seats: BTreeMap::new(alloc),
+            next_seat: 0,
+        }
+    }
+
+    /// Takes one event. Afterwards the book is what recomputing from the whole list of events gives, this
+    /// one at its end; an event that doesn't count changes nothing. After NoMemory the book is as it was.
+    pub fn step(&mut self, event: &Event) -> Result<(), NoMemory>
+        ensures ok { OnOk result (self.new ≡ after self.old event.now) }
+        ensures stands { OnOk result ((config : Config) (opening : ℕ) (events : List Event)
+            → Stands self.old config opening events → Stands self.new config opening (events ++ event.now ∷ [])) }
+        ensures err { OnErr result (self.new ≡ self.old) }
+    {
+        fleet_model::laws::stands_after_one_more();
+        self.apply(event)
+    }
+
+    /// The configuration, with the filters that stand. Takes no memory.
+    pub fn config(&self) -> &Config
+        ensures { result.now ≡ self.now.config }
+    {
+        &self.config
+    }
+
+    /// The moment, in ms. Takes no memory.
+    pub fn moment(&self) -> u64
+        ensures { result ≡ self.now.moment }
+    {
+        self.moment
+    }
+
+    /// The seat that is the session in force of a peer, or none. Takes no memory.
+    pub fn session_of(&self, peer: usize) -> Option<u64>
+        ensures { result ≡ session_of self.now peer }
+    {
+        seats::session_of(&self.sessions, peer)
+    }
+
+    /// The number of a seat's next event, or none where it doesn't sit. Takes no memory.
+    pub fn next_seq(&self, seat: u64) -> Option<u64>
+        ensures { result ≡ number_of self.now seat }
+    {
+        seats::number_of(&self.seats, seat)
+    }
+
+    /// The summed row of a key, if some peer holds a row of it. Takes no memory.
+    #[tactic(auto, unfolding(fleet_model::specs::Answers::summed, fleet_model::specs::Answers::rows_of))]
+    pub fn summed(&self, table: usize, key: &Key) -> Option<Summed>
+        ensures { result ≡ summed self.now table key.now }
+    {
+        let cols = cols_of(self.config.tables.as_slice(), table);
+        queries::summed(&self.rows, cols, table, key, self.moment)
+    }
+
+    /// The keys of a table with a row, in order.
+    #[tactic(auto, unfolding(fleet_model::specs::Answers::keys_of))]
+    pub fn keys(&self, alloc: Global, table: usize) -> Result<Vec<&Key>, NoMemory>
+        ensures { IfOk result (λ keys. map (λ key. key.now) keys.items ≡ keys_of self.now table) }
+    {
+        queries::live_keys(alloc, &self.rows, table, self.moment)
+    }
+
+    #[tactic(auto, unfolding(fleet_model::specs::Machine::counts_now))]
+    fn counts(&self, event: &Event) -> bool
+        ensures exact { result ≡ counts_now self.now event.now }
+    {
+        let due = seats::number_of(&self.seats, event.seat);
+        let free = has_free_seat(&self.seats);
+        let fits = self.config.fits(&event.what);
+        let next = is_next(
+            &event.what,
+            event.seat,
+            event.seq,
+            free,
+            self.next_seat,
+            due,
+        );
+        fits && next
+    }
+
+    // Whether an event counts, and then what its number and its seat are.
+    fn is_due(&self, event: &Event) -> bool
+        ensures exact { result ≡ counts_now self.now event.now }
+        ensures sits { IsTrue result → IsDue event.now.what event.now.seat event.now.seq (number_of self.now event.now.seat) }
+    {
+        self.counts(event)
+    }
+}
+
+impl Book {
+    // One event, as the machine of one event says; nothing has changed after NoMemory.
+    #[tactic(auto, unfolding(fleet_model::specs::Machine::after, fleet_model::specs::Machine::happened, fleet_model::specs::Machine::with_put, fleet_model::specs::Rows::clears_at))]
+    fn apply(&mut self, event: &Event) -> Result<(), NoMemory>
+        ensures ok { OnOk result (self.new ≡ after self.old event.now) }
+        ensures err { OnErr result (self.new ≡ self.old) }
+    {
+        if !self.is_due(event) {
+            return Ok(());
+        }
+        match &event.what {
+            What::Sit => {
+                sit_down(&mut self.seats, event.seat)?;
+                self.next_seat = event.seat + 1;
+                Ok(())
+            }
+            What::Open(peer) => {
+                open_session(&mut self.sessions, *peer, event.seat)?;
+                count_up(&mut self.seats, event.seat, event.seq);
+                Ok(())
+            }
+            What::Put {
+                peer,
+                table,
+                key,
+                life,
+                cells,
+            } => {
+                let (place, row) = row_of(
+                    self.alloc,
+                    *table,
+                    key,
+                    *peer,
+                    *life,
+                    cells,
+                    self.moment,
+                )?;
+                let session = seats::session_of(&self.sessions, *peer);
+                put(
+                    &mut self.rows,
+                    self.config.tables.as_slice(),
+                    session,
+                    event.seat,
+                    self.moment,
+                    place,
+                    row,
+                )?;
+                count_up(&mut self.seats, event.seat, event.seq);
+                Ok(())
+            }
+            What::Clear { table, sel } => {
+                clear(
+                    self.alloc,
+                    &mut self.rows,
+                    self.config.tables.as_slice(),
+                    *table,
+                    self.moment,
+                    sel,
+                )?;
+                count_up(&mut self.seats, event.seat, event.seq);
+                Ok(())
+            }
+            What::AddFilter(filter) => {
+                add_filter(self.alloc, &mut self.config.filters, filter)?;
+                count_up(&mut self.seats, event.seat, event.seq);
+                Ok(())
+            }
+            What::Moment(moment) => {
+                self.moment = self.moment.max(*moment);
+                end_rows(&mut self.rows, self.moment);
+                count_up(&mut self.seats, event.seat, event.seq);
+                Ok(())
+            }
+            What::Leave => {
+                stand_up(&mut self.seats, event.seat);
+                end_sessions(&mut self.sessions, event.seat);
+                Ok(())
+            }
+        }
+    }
+}
+
+/// The columns of a table; none where there is no such table.
+pub fn cols_of(tables: &[Shape], table: usize) -> &[(Col, u32)]
+    ensures { result.now ≡ cols_of tables.now table }
+{
+    match tables.get(table) {
+        None => &[],
+        Some(shape) => shape.cols.as_slice(),
+    }
+}
+
+/// Takes away the rows that a clear selects, judged by the values that stand before it.
+fn clear(
+    alloc: Global,
+    rows: &mut Rows,
+    tables: &[Shape],
+    table: usize,
+    t: u64,
+    sel: &Select,
+) -> Result<(), NoMemory>
+    ensures ok { OnOk result (rows.new.entries
+        ≡ filter (λ row. not ((row.0.table == table) && selects (cols_of tables.now table) rows.old.entries table t sel.now row.0.key)) rows.old.entries) }
+    ensures err { OnErr result (rows.new.entries ≡ rows.old.entries) }
+{
+    match sel {
+        Select::All => {
+            clear_table(rows, table);
+            Ok(())
+        }
+        Select::One(key) => {
+            clear_key(rows, table, key);
+            Ok(())
+        }
+        Select::Conds(conds) => clear_where(
+            alloc,
+            rows,
+            cols_of(tables, table),
+            table,
+            t,
+            conds.as_slice(),
+        ),
+    }
+}
+
+/// Puts a row, if its seat is the session in force and there is room.
+fn put(
+    rows: &mut Rows,
+    tables: &[Shape],
+    session: Option<u64>,
+    seat: u64,
+    t: u64,
+    place: Place,
+    row: Arrival,
+) -> Result<(), NoMemory>
+    ensures ok { OnOk result (rows.new.entries
+        ≡ (if is_number session seat && has_room tables.now rows.old.entries place then with_row t rows.old.entries place row else rows.old.entries)) }
+    ensures err { OnErr result (rows.new.entries ≡ rows.old.entries) }
+{
+    if is_number(session, seat) && has_room(tables, rows, &place) {
+        put_row(rows, t, place, row)
+    } else {
+        Ok(())
+    }
+}
+
+/// The place and the row that a put tells of.
+fn row_of(
+    alloc: Global,
+    table: usize,
+    key: &Key,
+    peer: usize,
+    life: Option<u64>,
+    cells: &Items<Cell>,
+    arrived: u64,
+) -> Result<(Place, Arrival), NoMemory>
+    ensures { IfOk result (λ made. (made.0 ≡ record { table = table; key = key.now; peer = peer }) × (made.1 ≡ record { arrived = arrived; life = life; cells = cells.now })) }
+{
+    let place = Place {
+        table,
+        key: key.duplicate(alloc)?,
+        peer,
+    };
+    let row = Arrival {
+        arrived,
+        life,
+        cells: cells.duplicate(alloc)?,
+    };
+    Ok((place, row))
+}
+
+/// Adds a filter behind the others, if it is new.
+fn add_filter(alloc: Global, filters: &mut Items<Filter>, filter: &Filter) -> Result<(), NoMemory>
+    ensures ok { OnOk result (filters.new ≡ (if is_new filters.old filter.now then filters.old ++ filter.now ∷ [] else filters.old)) }
+    ensures err { OnErr result (filters.new ≡ filters.old) }
+{
+    if is_new(filters.as_slice(), filter) {
+        filters.push(filter.duplicate(alloc)?)
+    } else {
+        Ok(())
+    }
+}
+
+/// Whether a filter may be added: fewer stand than may, and none has its name.
+fn is_new(filters: &[Filter], filter: &Filter) -> bool
+    ensures { result ≡ is_new filters.now filter.now }
+{
+    let named = is_named(filters, filter.name.as_slice());
+    filters.len() < MOST_FILTERS && !named
+}
+
+fn is_named(filters: &[Filter], name: &[u8]) -> bool
+    ensures { result ≡ list_any (λ other. bytes_eq other.name name.now) filters.now }
+{
+    filters.iter().any(|other| other.name.is(name))
+}

@@ -1,0 +1,118 @@
+//! What is answered of the rows, by scanning them.
+
+ghost use Rattle.std.specs.Prelude.{◌≡◌, ◌&&◌, ◌==◌, not, length, map, filter, IfOk};
+ghost use Rattle.fleet_model.specs.Answers.{longer, left_of, sum_up, tally};
+ghost use Rattle.fleet_model.specs.Values.{is_of, live_keys, value};
+ghost use Rattle.agg_types.specs.Col.{all_cols};
+ghost use Rattle.plain_book.specs.Distinct.{is_other};
+
+use crate::rows::Rows;
+use crate::values::{is_live, is_of, value};
+use agg_types::{Col, Key, NoMemory};
+use fleet_model::{Arrival, Summed};
+use std::alloc::Global;
+
+/// The keys of a table with a row that lives at a moment, in order, each once.
+#[tactic(auto, unfolding(fleet_model::specs::Values::live_keys))]
+pub fn live_keys(alloc: Global, rows: &Rows, table: usize, t: u64) -> Result<Vec<&Key>, NoMemory>
+    ensures { IfOk result (λ keys. map (λ key. key.now) keys.items ≡ live_keys rows.now.entries table t) }
+{
+    let mut keys = Vec::new(alloc);
+    let mut last: Option<&Key> = None;
+    for (place, row) in rows {
+        let here = place.table == table && is_live(t, row);
+        if here && is_other(last, &place.key) {
+            if let Some(key) = last {
+                keys.push(key)?;
+            }
+            last = Some(&place.key);
+        }
+    }
+    if let Some(key) = last {
+        keys.push(key)?;
+    }
+    Ok(keys)
+}
+
+/// Whether a key isn't the last one.
+fn is_other(last: Option<&Key>, key: &Key) -> bool
+    ensures { result ≡ is_other last.entry key.now }
+{
+    match last {
+        None => true,
+        Some(last) => *key != *last,
+    }
+}
+
+/// What the rows of a key sum up to at a moment, or none where the key has none.
+pub fn summed(rows: &Rows, cols: &[(Col, u32)], table: usize, key: &Key, t: u64) -> Option<Summed>
+    ensures { result ≡ sum_up (map (λ col. value cols.now rows.now.entries table key.now col t) all_cols) t (filter (is_of table key.now t) rows.now.entries) }
+{
+    let (peers, left) = tally(rows, table, key, t)?;
+    Some(Summed {
+        peers,
+        left,
+        values: values(rows, cols, table, key, t),
+    })
+}
+
+// How many rows a key has, and the longest life left of them.
+fn tally(rows: &Rows, table: usize, key: &Key, t: u64) -> Option<(usize, Option<u64>)>
+    ensures { result ≡ tally t (filter (is_of table key.now t) rows.now.entries) }
+{
+    let mut so_far: Option<(usize, Option<u64>)> = None;
+    for (place, row) in rows {
+        if is_of(table, key, t, place, row) {
+            so_far = match so_far {
+                None => Some((1, left_of(t, row))),
+                Some((peers, left)) => Some((peers + 1, longer(left, left_of(t, row)))),
+            };
+        }
+    }
+    so_far
+}
+
+fn left_of(t: u64, row: &Arrival) -> Option<u64>
+    ensures { result ≡ left_of t row.now }
+{
+    match row.life {
+        None => None,
+        Some(life) => Some(life.saturating_sub(t.saturating_sub(row.arrived))),
+    }
+}
+
+fn longer(left: Option<u64>, other: Option<u64>) -> Option<u64>
+    ensures { result ≡ longer left other }
+{
+    match left {
+        None => None,
+        Some(left) => match other {
+            None => None,
+            Some(other) => Some(left.max(other)),
+        },
+    }
+}
+
+fn values(rows: &Rows, cols: &[(Col, u32)], table: usize, key: &Key, t: u64) -> [u128; 17]
+    ensures { result ≡ map (λ col. value cols.now rows.now.entries table key.now col t) all_cols }
+{
+    [
+        value(cols, rows, table, key, Col::Gpc0, t),
+        value(cols, rows, table, key, Col::Gpc0Rate, t),
+        value(cols, rows, table, key, Col::ConnCnt, t),
+        value(cols, rows, table, key, Col::ConnRate, t),
+        value(cols, rows, table, key, Col::ConnCur, t),
+        value(cols, rows, table, key, Col::SessCnt, t),
+        value(cols, rows, table, key, Col::SessRate, t),
+        value(cols, rows, table, key, Col::HttpReqCnt, t),
+        value(cols, rows, table, key, Col::HttpReqRate, t),
+        value(cols, rows, table, key, Col::HttpErrCnt, t),
+        value(cols, rows, table, key, Col::HttpErrRate, t),
+        value(cols, rows, table, key, Col::BytesInCnt, t),
+        value(cols, rows, table, key, Col::BytesInRate, t),
+        value(cols, rows, table, key, Col::BytesOutCnt, t),
+        value(cols, rows, table, key, Col::BytesOutRate, t),
+        value(cols, rows, table, key, Col::Gpc1, t),
+        value(cols, rows, table, key, Col::Gpc1Rate, t),
+    ]
+}
