@@ -1,15 +1,15 @@
 -- Lists of entries in the order of their keys: what a look-up finds after each change, and that equal
 -- look-ups make equal lists.
-use Rattle.std.proofs.Common.{◌≡◌, Bool, true, false, cond, not, ◌&&◌, List, [], ◌∷◌, ◌++◌, Option, None, Some, T, is_some, refl, sym, ap, ◌∙◌, subst}
-use Rattle.std.specs.Bool.{then_some}
+use Rattle.std.proofs.Common.{◌≡◌, Bool, true, false, cond, not, ◌&&◌, List, [], ◌∷◌, Option, None, Some, T, is_some, refl, sym, ap, ◌∙◌, subst}
+use Rattle.std.proofs.lemmas.Bool.{and_parts, and_from}
 use Rattle.std.specs.BTreeMap.{insert_entry, is_at}
-use Rattle.std.specs.Cmp.{IsTotalOrder, alike_right, eq_by_cmp_equiv}
+use Rattle.std.specs.Bool.{then_some}
+use Rattle.std.specs.Cmp.{IsTotalOrder, eq_by_cmp_equiv}
 use Rattle.std.specs.FinMap.Entries.{find, put, is_sorted, below_all, by_order, find-put, is_sorted-put, same_entries}
 use Rattle.std.specs.List.{filter, fold, list_all}
 use Rattle.std.specs.Map.{lookup, remove_entry}
-use Rattle.std.specs.Ordering.{is_eq, is_lt, eq_by_cmp, match_ordering}
+use Rattle.std.specs.Ordering.{is_eq, is_lt, match_ordering}
 use Rattle.std.specs.declared.cmp.Ordering.{Ordering}
-use Rattle.std.proofs.lemmas.Bool.{and_parts, and_from}
 use Rattle.std.specs.declared.cmp.Ordering.TheVariants.{Less, Equal, Greater}
 
 -- what an option holds, if it passes a test
@@ -110,9 +110,9 @@ module _ {K X : Type 0} (R : K → K → Ordering) where
     pub lookup-insert : (q : K) (es : List (K × X)) (k : K) (v : X) → lookup (is_at (R q)) (insert_entry R es k v) ≡ cond (is_eq (R q k)) (Some v) (lookup (is_at (R q)) es)
     lookup-insert q es k v =
         ap (lookup (is_at (R q))) (sym (put_is k v es))
-          ∙ sym (find_is q (put R k v es))
-          ∙ find-put R o q k v es
-          ∙ ap (cond (is_eq (R q k)) (Some v)) (find_is q es)
+        ∙ sym (find_is q (put R k v es))
+        ∙ find-put R o q k v es
+        ∙ ap (cond (is_eq (R q k)) (Some v)) (find_is q es)
 
     -- lists in order with equal look-ups are equal
     pub same_lookups : (es fs : List (K × X)) → T (is_sorted R es) → T (is_sorted R fs) → ((q : K) → lookup (is_at (R q)) es ≡ lookup (is_at (R q)) fs) → es ≡ fs
@@ -122,7 +122,7 @@ module _ {K X : Type 0} (R : K → K → Ordering) where
     none_below q x [] t h = refl
     none_below q x (e ∷ es) t h =
         ap (λ b. cond b (Some e.1) (lookup (is_at (R q)) es)) (ap is_eq (o.congr q x e.0 t) ∙ not_equal _ (first _ _ h))
-          ∙ none_below q x es t (second _ _ h)
+        ∙ none_below q x es t (second _ _ h)
 
     pub lookup-filter : (q : K) (p : K × X → Bool) (es : List (K × X)) → T (is_sorted R es) → lookup (is_at (R q)) (filter p es) ≡ keep (λ v. p (q, v)) (lookup (is_at (R q)) es)
     lookup-filter q p [] h = refl
@@ -153,7 +153,7 @@ module _ {K X : Type 0} (R : K → K → Ordering) where
     insert-filter : (p : K × X → Bool) (es : List (K × X)) (x : K × X) → T (is_sorted R es) → lookup (is_at (R x.0)) es ≡ None → filter p (insert_entry R es x.0 x.1) ≡ cond (p x) (insert_entry R (filter p es) x.0 x.1) (filter p es)
     insert-filter p es x h none =
         let found : (q : K) → lookup (is_at (R q)) (filter p (insert_entry R es x.0 x.1)) ≡ keep (λ v. p (q, v)) (cond (is_eq (R q x.0)) (Some x.1) (lookup (is_at (R q)) es)) =
-            λ q. lookup-filter q p (insert_entry R es x.0 x.1) (sorted-insert es x.0 x.1 h) ∙ ap (keep (λ v. p (q, v))) (lookup-insert q es x.0 x.1) in
+        λ q. lookup-filter q p (insert_entry R es x.0 x.1) (sorted-insert es x.0 x.1 h) ∙ ap (keep (λ v. p (q, v))) (lookup-insert q es x.0 x.1) in
         let in_order : T (is_sorted R (filter p (insert_entry R es x.0 x.1))) = sorted-filter p (insert_entry R es x.0 x.1) (sorted-insert es x.0 x.1 h) in
         let left : T (is_sorted R (filter p es)) = sorted-filter p es h in
         elim (p x) as (λ b. p x ≡ b → filter p (insert_entry R es x.0 x.1) ≡ cond b (insert_entry R (filter p es) x.0 x.1) (filter p es)) [
@@ -171,9 +171,9 @@ module _ {K X : Type 0} (R : K → K → Ordering) where
     insert-others es k v h =
         let others : K × X → Bool = λ e. not (is_eq (R k e.0)) in
         same_lookups _ _ (sorted-insert (filter others es) k v (sorted-filter others es h)) (sorted-insert es k v h)
-          (λ q. lookup-insert q (filter others es) k v
-            ∙ covered (is_eq (R q k)) (is_eq (R k q)) v (lookup (is_at (R q)) es) (lookup (is_at (R q)) (filter others es)) ((eq_by_cmp_equiv o).symm k q) (lookup-filter q others es h)
-            ∙ sym (lookup-insert q es k v))
+        (λ q. lookup-insert q (filter others es) k v
+        ∙ covered (is_eq (R q k)) (is_eq (R k q)) v (lookup (is_at (R q)) es) (lookup (is_at (R q)) (filter others es)) ((eq_by_cmp_equiv o).symm k q) (lookup-filter q others es h)
+        ∙ sym (lookup-insert q es k v))
 
     -- entries that differ from x in key are still absent once x is there
     all_still_absent : (es : List (K × X)) (x : K × X) (ys : List (K × X)) → list_all (λ y. not (is_eq (R x.0 y.0))) ys ≡ true → list_all (absent es) ys ≡ true → list_all (absent (insert_entry R es x.0 x.1)) ys ≡ true
@@ -182,8 +182,8 @@ module _ {K X : Type 0} (R : K → K → Ordering) where
         let d' = and_parts (not (is_eq (R x.0 y.0))) (list_all (λ y. not (is_eq (R x.0 y.0))) ys) d in
         let h' = and_parts (absent es y) (list_all (absent es) ys) h in
         and_from _ _
-          (ap (λ l. not (is_some l)) (lookup-insert y.0 es x.0 x.1) ∙ still_absent (is_eq (R y.0 x.0)) (is_eq (R x.0 y.0)) x.1 (lookup (is_at (R y.0)) es) ((eq_by_cmp_equiv o).symm y.0 x.0) d'.0 h'.0)
-          (all_still_absent es x ys d'.1 h'.1)
+        (ap (λ l. not (is_some l)) (lookup-insert y.0 es x.0 x.1) ∙ still_absent (is_eq (R y.0 x.0)) (is_eq (R x.0 y.0)) x.1 (lookup (is_at (R y.0)) es) ((eq_by_cmp_equiv o).symm y.0 x.0) d'.0 h'.0)
+        (all_still_absent es x ys d'.1 h'.1)
 
     -- a filter before entries are gathered in order is a filter afterwards
     pub gather-filter : (p : K × X → Bool) (es xs : List (K × X)) → T (is_sorted R es) → are_apart xs ≡ true → list_all (absent es) xs ≡ true → gather (filter p es) (filter p xs) ≡ filter p (gather es xs)
@@ -193,7 +193,7 @@ module _ {K X : Type 0} (R : K → K → Ordering) where
         let new' = and_parts (absent es x) (list_all (absent es) xs) new in
         let one : filter p (insert_entry R es x.0 x.1) ≡ cond (p x) (insert_entry R (filter p es) x.0 x.1) (filter p es) = insert-filter p es x h (none_from_absent _ new'.0) in
         let rest : gather (filter p (insert_entry R es x.0 x.1)) (filter p xs) ≡ filter p (gather (insert_entry R es x.0 x.1) xs) =
-            gather-filter p (insert_entry R es x.0 x.1) xs (sorted-insert es x.0 x.1 h) d'.1 (all_still_absent es x xs d'.0 new'.1) in
+        gather-filter p (insert_entry R es x.0 x.1) xs (sorted-insert es x.0 x.1 h) d'.1 (all_still_absent es x xs d'.0 new'.1) in
         moved (p x) x (filter p es) (filter p xs) _ one ∙ rest
       where
         moved : (b : Bool) (x : K × X) (es xs fs : List (K × X)) → fs ≡ cond b (insert_entry R es x.0 x.1) es → gather es (cond b (x ∷ xs) xs) ≡ gather fs xs

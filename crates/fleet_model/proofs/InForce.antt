@@ -1,17 +1,17 @@
 -- The rows in force after one more judged event.
-use Rattle.std.proofs.Common.{◌≡◌, ℕ, ◌+◌, ◌≤◌, Bool, true, false, cond, not, ◌&&◌, nat_lt, List, [], ◌∷◌, ◌++◌, Option, None, Some, T, refl, sym, ap, ◌∙◌, subst, arith}
+use Rattle.std.proofs.Common.{◌≡◌, ℕ, ◌≤◌, Bool, true, false, cond, not, ◌&&◌, List, [], ◌∷◌, ◌++◌, Option, None, Some, T, refl, sym, ap, ◌∙◌, arith}
 use Rattle.std.proofs.lemmas.Bool.{and_parts, and_from}
 use Rattle.std.proofs.lemmas.Bool.Decides.{nat_tests}
 use Rattle.std.proofs.lemmas.Cmp.{nat_cmp_total, nat_list_cmp_total, on_total, then_total}
 use Rattle.std.proofs.lemmas.List.Folds.{list_all-append}
 use Rattle.std.proofs.lemmas.List.Sums.{fold-append}
 use Rattle.std.proofs.lemmas.Map.Lookups.{exact_unsigned, exact_bytes}
-use Rattle.std.specs.Bool.{then_some}
 use Rattle.std.specs.BTreeMap.{insert_entry, is_at}
+use Rattle.std.specs.Bool.{then_some}
 use Rattle.std.specs.Cmp.{IsTotalOrder, eq_by_cmp_equiv}
 use Rattle.std.specs.Cmp.Lexicographic.{slice_cmp}
 use Rattle.std.specs.FinMap.Entries.{is_sorted}
-use Rattle.std.specs.List.{cons_option, filter, fold, list_all}
+use Rattle.std.specs.List.{cons_option, filter, list_all}
 use Rattle.std.specs.Map.{remove_entry}
 use Rattle.std.specs.Option.{option_to_list}
 use Rattle.std.specs.Ordering.{is_eq, nat_cmp, ordering_then}
@@ -28,7 +28,7 @@ use Rattle.fleet_model.specs.declared.arrival.Arrival.{Arrival}
 pub place_cmp_total : IsTotalOrder place_cmp
 place_cmp_total =
     then_total (on_total (λ (p : Place). p.table) nat_cmp_total)
-      (then_total (on_total (λ (p : Place). p.key) nat_list_cmp_total) (on_total (λ (p : Place). p.peer) nat_cmp_total))
+    (then_total (on_total (λ (p : Place). p.key) nat_list_cmp_total) (on_total (λ (p : Place). p.peer) nat_cmp_total))
 
 first_equal : (a b : Ordering) → ordering_then a b ≡ Equal → a ≡ Equal
 first_equal Less b e = e
@@ -66,8 +66,8 @@ unfolding if_in_force
 one_event t t' p j same later xs ys o e None = e
 one_event t t' p j same later xs ys o e (Some r) =
     ap (λ b. cons_option (then_some (is_live t' r.1 && b) r) xs) (list_all-append (leaves_alone r.0) later (j ∷ []))
-      ∙ ap (cons_option (then_some (is_live t' r.1 && (list_all (leaves_alone r.0) later && (leaves_alone r.0 j && true))) r)) e
-      ∙ one_kept p r (is_live t' r.1) (list_all (leaves_alone r.0) later) (leaves_alone r.0 j) (is_live t r.1) ys o (same r)
+    ∙ ap (cons_option (then_some (is_live t' r.1 && (list_all (leaves_alone r.0) later && (leaves_alone r.0 j && true))) r)) e
+    ∙ one_kept p r (is_live t' r.1) (list_all (leaves_alone r.0) later) (leaves_alone r.0 j) (is_live t r.1) ys o (same r)
 
 -- the rows in force after one more event: of those before, each of which it leaves alone and that still
 -- lives, and its own
@@ -122,8 +122,8 @@ rows-push : (t t' : ℕ) (p : Place × Arrival → Bool) (j : Judged) → ((r : 
 unfolding by_place
 rows-push t t' p j same h =
     ap by_place (in_force-push t t' p j same h)
-      ∙ fold-append (λ (es : List (Place × Arrival)) x. insert_entry place_cmp es x.0 x.1) [] (filter p (in_force t h)) (option_to_list (if_in_force t' [] j.row))
-      ∙ ap (λ es. gather place_cmp es (option_to_list (if_in_force t' [] j.row))) (gather-filter place_cmp place_cmp_total place_cmp_exact p [] (in_force t h) tt (in_force-apart t h) (all_absent (in_force t h)))
+    ∙ fold-append (λ (es : List (Place × Arrival)) x. insert_entry place_cmp es x.0 x.1) [] (filter p (in_force t h)) (option_to_list (if_in_force t' [] j.row))
+    ∙ ap (λ es. gather place_cmp es (option_to_list (if_in_force t' [] j.row))) (gather-filter place_cmp place_cmp_total place_cmp_exact p [] (in_force t h) tt (in_force-apart t h) (all_absent (in_force t h)))
 
 filter_all : {X : Type 0} (xs : List X) → filter (λ _. true) xs ≡ xs
 filter_all [] = refl
@@ -137,15 +137,15 @@ pub rows-same : (t : ℕ) (j : Judged) → j.row ≡ None → Clears_none j → 
 unfolding if_in_force
 rows-same t j none clears h =
     rows-push t t (λ _. true) j (λ r i. is_live t r.1 && (not (puts_at (none i) r.0) && not (clears r.0 i))) h
-      ∙ ap (λ o. gather place_cmp (filter (λ _. true) (by_place (in_force t h))) (option_to_list (if_in_force t [] o))) none
-      ∙ filter_all (by_place (in_force t h))
+    ∙ ap (λ o. gather place_cmp (filter (λ _. true) (by_place (in_force t h))) (option_to_list (if_in_force t [] o))) none
+    ∙ filter_all (by_place (in_force t h))
 
 -- an event that clears
 pub rows-cleared : (t : ℕ) (j : Judged) → j.row ≡ None → (h : List Judged) → by_place (in_force t (h ++ j ∷ [])) ≡ filter (λ r. not (j.clears r.0)) (by_place (in_force t h))
 unfolding if_in_force
 rows-cleared t j none h =
     rows-push t t (λ r. not (j.clears r.0)) j (λ r i. is_live t r.1 && (not (puts_at (none i) r.0) && not (j.clears r.0))) h
-      ∙ ap (λ o. gather place_cmp (filter (λ r. not (j.clears r.0)) (by_place (in_force t h))) (option_to_list (if_in_force t [] o))) none
+    ∙ ap (λ o. gather place_cmp (filter (λ r. not (j.clears r.0)) (by_place (in_force t h))) (option_to_list (if_in_force t [] o))) none
 
 still_lives : (life : Option ℕ) (arrived t t' : ℕ) → t ≤ t' → (lives life arrived t' && true) ≡ (lives life arrived t && lives life arrived t')
 still_lives None arrived t t' h = refl
@@ -156,7 +156,7 @@ pub rows-later : (t t' : ℕ) → t ≤ t' → (j : Judged) → j.row ≡ None �
 unfolding if_in_force
 rows-later t t' le j none clears h =
     rows-push t t' (λ r. is_live t' r.1) j (λ r. ap (λ b. is_live t' r.1 && b) (λ i. not (puts_at (none i) r.0) && not (clears r.0 i)) ∙ still_lives r.1.life r.1.arrived t t' le) h
-      ∙ ap (λ o. gather place_cmp (filter (λ r. is_live t' r.1) (by_place (in_force t h))) (option_to_list (if_in_force t' [] o))) none
+    ∙ ap (λ o. gather place_cmp (filter (λ r. is_live t' r.1) (by_place (in_force t h))) (option_to_list (if_in_force t' [] o))) none
 
 and_true : (a : Bool) → (a && true) ≡ a
 and_true true = refl
@@ -171,5 +171,5 @@ pub rows-put : (t : ℕ) (j : Judged) (row : Place × Arrival) → j.row ≡ Som
 unfolding if_in_force with_row
 rows-put t j row put clears h =
     rows-push t t (elsewhere row.0) j (λ r. ap (λ b. is_live t r.1 && b) ((λ i. not (puts_at (put i) r.0) && not (clears r.0 i)) ∙ and_true (not (is_eq (place_cmp r.0 row.0))) ∙ ap not ((eq_by_cmp_equiv place_cmp_total).symm r.0 row.0))) h
-      ∙ ap (λ o. gather place_cmp (filter (elsewhere row.0) (by_place (in_force t h))) (option_to_list (if_in_force t [] o))) put
-      ∙ put_or_removed (is_live t row.1) row (by_place (in_force t h)) (by_place-sorted (in_force t h))
+    ∙ ap (λ o. gather place_cmp (filter (elsewhere row.0) (by_place (in_force t h))) (option_to_list (if_in_force t [] o))) put
+    ∙ put_or_removed (is_live t row.1) row (by_place (in_force t h)) (by_place-sorted (in_force t h))

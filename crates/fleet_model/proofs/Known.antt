@@ -1,5 +1,5 @@
 -- What is found in `known`, and when two of them are one insert, removal or filter apart.
-use Rattle.std.proofs.Common.{◌≡◌, ℕ, Bool, true, false, cond, not, ◌&&◌, ◌||◌, List, [], ◌∷◌, Option, None, Some, T, refl, sym, ap, ◌∙◌, subst}
+use Rattle.std.proofs.Common.{◌≡◌, ℕ, Bool, true, false, cond, not, ◌||◌, List, [], ◌∷◌, Option, None, Some, T, refl, sym, ap, ◌∙◌}
 use Rattle.std.proofs.lemmas.Cmp.{nat_cmp_total}
 use Rattle.std.proofs.lemmas.Map.Lookups.{exact_unsigned}
 use Rattle.std.specs.BTreeMap.{insert_entry, is_at}
@@ -38,8 +38,8 @@ found-known_on : {X : Type 0} (g : ℕ → Option X) (q : ℕ) (es : List (ℕ �
 found-known_on g q es [] = refl
 found-known_on g q es (n ∷ ns) =
     found-known_on g q (put_some es n (g n)) ns
-      ∙ ap (λ o. cond (is_among q ns) (option_or (g q) o) o) (found-put_some q es n (g n))
-      ∙ joined (is_eq (nat_cmp q n)) (is_among q ns) (g q) (g n) (found q es) (λ e. ap g (sym (exact_unsigned q n (equal_from _ e))))
+    ∙ ap (λ o. cond (is_among q ns) (option_or (g q) o) o) (found-put_some q es n (g n))
+    ∙ joined (is_eq (nat_cmp q n)) (is_among q ns) (g q) (g n) (found q es) (λ e. ap g (sym (exact_unsigned q n (equal_from _ e))))
 
 or_none : {X : Type 0} (x : Option X) → option_or x None ≡ x
 or_none None = refl
@@ -69,16 +69,16 @@ same_known g g' ns ns' is = same_lookups nat_cmp nat_cmp_total exact_unsigned _ 
 pub known-insert : {X : Type 0} (g g' : ℕ → Option X) (ns ns' : List ℕ) (k : ℕ) (x : X) → ((q : ℕ) → found q (known g' ns') ≡ cond (is_eq (nat_cmp q k)) (Some x) (found q (known g ns))) → known g' ns' ≡ insert_entry nat_cmp (known g ns) k x
 known-insert g g' ns ns' k x is =
     same_lookups nat_cmp nat_cmp_total exact_unsigned _ _ (known-sorted g' ns') (sorted-insert nat_cmp nat_cmp_total exact_unsigned (known g ns) k x (known-sorted g ns))
-      (λ q. is q ∙ sym (lookup-insert nat_cmp nat_cmp_total exact_unsigned q (known g ns) k x))
+    (λ q. is q ∙ sym (lookup-insert nat_cmp nat_cmp_total exact_unsigned q (known g ns) k x))
 
 -- those that pass a test
 pub known-filter : {X : Type 0} (g g' : ℕ → Option X) (ns ns' : List ℕ) (p : ℕ × X → Bool) → ((q : ℕ) → found q (known g' ns') ≡ keep (λ x. p (q, x)) (found q (known g ns))) → known g' ns' ≡ filter p (known g ns)
 known-filter g g' ns ns' p is =
     same_lookups nat_cmp nat_cmp_total exact_unsigned _ _ (known-sorted g' ns') (sorted-filter nat_cmp p (known g ns) (known-sorted g ns))
-      (λ q. is q ∙ sym (lookup-filter nat_cmp nat_cmp_total exact_unsigned q p (known g ns) (known-sorted g ns)))
+    (λ q. is q ∙ sym (lookup-filter nat_cmp nat_cmp_total exact_unsigned q p (known g ns) (known-sorted g ns)))
 
 -- one number of which nothing is known any more
 pub known-remove : {X : Type 0} (g g' : ℕ → Option X) (ns ns' : List ℕ) (k : ℕ) → ((q : ℕ) → found q (known g' ns') ≡ keep (λ _. not (is_eq (nat_cmp k q))) (found q (known g ns))) → known g' ns' ≡ remove_entry (is_at (nat_cmp k)) (known g ns)
 known-remove g g' ns ns' k is =
     known-filter g g' ns ns' (λ e. not (is_eq (nat_cmp k e.0))) is
-      ∙ sym (remove_is nat_cmp nat_cmp_total exact_unsigned k (known g ns) (known-sorted g ns))
+    ∙ sym (remove_is nat_cmp nat_cmp_total exact_unsigned k (known g ns) (known-sorted g ns))

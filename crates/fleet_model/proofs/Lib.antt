@@ -5,3 +5,15 @@ pub mod Seats
 pub mod Sessions
 pub mod Step
 pub mod Order
+pub mod Runs
+pub mod Sizes
+pub mod Unchanged
+pub mod Older
+pub mod Members
+pub mod Sets
+pub mod Ranks
+pub mod Changes
+pub mod Falls
+pub mod Sums
+pub mod Running
+pub mod Positions

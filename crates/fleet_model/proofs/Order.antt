@@ -1,11 +1,12 @@
 -- What a list of events leaves is in order, and each of its rows lives.
-use Rattle.std.proofs.Common.{◌≡◌, ℕ, Bool, true, false, cond, ◌&&◌, List, [], ◌∷◌, length, Option, None, Some, T, refl, sym, ap, ◌∙◌, subst}
+use Rattle.std.proofs.Common.{◌≡◌, ℕ, Bool, true, false, cond, ◌&&◌, List, [], ◌∷◌, length, Option, None, Some, T, refl, ◌∙◌}
 use Rattle.std.proofs.lemmas.Cmp.{nat_cmp_total}
+use Rattle.std.proofs.lemmas.Map.Keys.{IsDistinct-from_sorted}
 use Rattle.std.proofs.lemmas.Map.Lookups.{exact_unsigned}
-use Rattle.std.specs.Bool.{then_some}
 use Rattle.std.specs.BTreeMap.{insert_entry}
+use Rattle.std.specs.Bool.{then_some}
 use Rattle.std.specs.FinMap.Entries.{below_all, is_sorted}
-use Rattle.std.specs.List.{AllByRecursion, cons_option, list_all, range_with_len}
+use Rattle.std.specs.List.{AllByRecursion, IsDistinct, cons_option, list_all, range_with_len}
 use Rattle.std.specs.List.Sorted.{IsStrictlySortedBy}
 use Rattle.std.specs.Map.{keys_of}
 use Rattle.std.specs.Ordering.{is_lt, match_ordering, nat_cmp}
@@ -26,7 +27,8 @@ use Rattle.fleet_model.specs.Moments.{is_live, now_of}
 use Rattle.fleet_model.specs.Rows.{Judged, by_place, counted_of, if_in_force, in_force, leaves_alone, rows_in}
 use Rattle.fleet_model.specs.Seats.{known, number, seats_in, seats_of}
 use Rattle.fleet_model.specs.Sessions.{session, sessions_in}
-use Rattle.fleet_model.specs.State.{State, state_of}
+use Rattle.fleet_model.specs.State.{state_of}
+use Rattle.fleet_model.specs.Values.{same_place}
 use Rattle.fleet_model.specs.declared.arrival.Arrival.{Arrival}
 
 -- ---- no events
@@ -43,7 +45,7 @@ unfolding sessions_in
 no_sessions config =
     let peers = range_with_len 0 (length config.peers) in
     same_lookups nat_cmp nat_cmp_total exact_unsigned (known (session []) peers) [] (known-sorted (session []) peers) tt
-      (λ q. found-known (session []) q peers ∙ both_none (is_among q peers) (session [] q) (no_session q))
+    (λ q. found-known (session []) q peers ∙ both_none (is_among q peers) (session [] q) (no_session q))
 
 pub no_events : (config : Config) (opening : ℕ) → state_of config opening [] ≡ opened config opening
 unfolding state_of opened judged counted_of rows_in by_place in_force now_of seats_in seats_of known filters_in
@@ -81,8 +83,11 @@ ordered config opening events =
     record {
       rows = sorted_keys place_cmp (by_place (in_force (now_of opening counted) history)) (by_place-sorted (in_force (now_of opening counted) history));
       sessions = sorted_keys nat_cmp (known (session counted) (range_with_len 0 (length config.peers))) (known-sorted (session counted) (range_with_len 0 (length config.peers)));
-      seats = sorted_keys nat_cmp (known (number counted) (seats_of counted)) (known-sorted (number counted) (seats_of counted))
+      seats = sorted_keys nat_cmp (known (number counted) (seats_of counted)) (known-sorted (number counted) (seats_of counted));
     }
+
+pub distinct : (config : Config) (opening : ℕ) (events : List Event) → IsDistinct same_place (keys_of (state_of config opening events).rows)
+distinct config opening events = IsDistinct-from_sorted place_cmp (keys_of (state_of config opening events).rows) (ordered config opening events).rows
 
 -- ---- rows live
 abbrev Live : ℕ → List (Place × Arrival) → Type 0

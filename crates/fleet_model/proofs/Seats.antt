@@ -1,21 +1,21 @@
 -- The seats after one more event that counts.
-use Rattle.std.proofs.Common.{◌≡◌, ℕ, ◌+◌, ◌≤◌, ◌⊎◌, ⊎_elim, Bool, true, false, cond, not, ◌&&◌, ◌||◌, ◌==◌, nat_lt, nat_le, max, List, [], ◌∷◌, ◌++◌, map, Option, None, Some, T, refl, sym, ap, ◌∙◌, subst, arith, add-zero}
-use Rattle.std.proofs.lemmas.Bool.{and_parts, and_from, or_parts, eqb-true, leb-true, ne_eqb}
+use Rattle.std.proofs.Common.{◌≡◌, ℕ, ◌+◌, ◌≤◌, ◌⊎◌, ⊎_elim, Bool, true, false, cond, not, ◌&&◌, ◌||◌, ◌==◌, max, List, [], ◌∷◌, ◌++◌, map, Option, None, Some, T, refl, sym, ap, ◌∙◌, subst, arith, add-zero}
+use Rattle.std.proofs.lemmas.Bool.{or_parts, eqb-true, ne_eqb}
 use Rattle.std.proofs.lemmas.Bool.Decides.{nat_tests}
+use Rattle.std.proofs.lemmas.List.{append-nil, map-append}
+use Rattle.std.proofs.lemmas.List.Elements.{filter-append}
 use Rattle.std.proofs.lemmas.List.Folds.{list_any-append}
 use Rattle.std.proofs.lemmas.List.Sums.{fold-append}
-use Rattle.std.proofs.lemmas.List.Elements.{filter-append}
-use Rattle.std.proofs.lemmas.List.{append-nil, map-append}
 use Rattle.std.proofs.lemmas.Option.{none-some, same_Some}
-use Rattle.std.specs.Bool.{then_some}
 use Rattle.std.specs.BTreeMap.{insert_entry, is_at}
+use Rattle.std.specs.Bool.{then_some}
 use Rattle.std.specs.List.{count_by, filter, fold, list_any}
 use Rattle.std.specs.Map.{remove_entry}
 use Rattle.std.specs.Ordering.{is_eq, nat_cmp}
 use Rattle.agg_types.specs.declared.event.Event.{Event}
 use Rattle.fleet_model.proofs.Entries.{keep}
 use Rattle.fleet_model.proofs.Known.{found, found-known, is_among, known-insert, known-remove}
-use Rattle.fleet_model.specs.Seats.{above_all, is_leave, is_number, is_sit, known, number, seats_in, seats_of, sits}
+use Rattle.fleet_model.specs.Seats.{above_all, is_leave, is_number, is_sit, number, seats_in, seats_of, sits}
 
 abbrev pub ever_sat : ℕ → List Event → Bool
 ever_sat q counted = list_any (λ e. (e.seat == q) && is_sit e.what) counted
@@ -70,8 +70,8 @@ pub found-seats : (q : ℕ) (counted : List Event) → found q (seats_in counted
 unfolding seats_in number sits
 found-seats q counted =
     found-known (number counted) q (seats_of counted)
-      ∙ ap (λ b. cond b (number counted q) None) (sat_is_among q counted)
-      ∙ covers (ever_sat q counted) (ever_left q counted) (events_of q counted)
+    ∙ ap (λ b. cond b (number counted q) None) (sat_is_among q counted)
+    ∙ covers (ever_sat q counted) (ever_left q counted) (events_of q counted)
 
 -- ---- an event more
 number-push : (q : ℕ) (counted : List Event) (e : Event) → number (counted ++ e ∷ []) q ≡ then_some ((ever_sat q counted || (((e.seat == q) && is_sit e.what) || false)) && not (ever_left q counted || (((e.seat == q) && is_leave e.what) || false))) (events_of q counted + cond (e.seat == q) 1 0)
@@ -98,7 +98,7 @@ sit_number : (here sat left : Bool) (n seq : ℕ) → seq ≡ 0 → (here ≡ tr
 sit_number true sat left n seq zero h =
     let new = h refl in
     (λ i. then_some ((new.0 i || true) && not (new.1 i || false)) (new.2 i + 1))
-      ∙ ap (λ m. Some (m + 1)) (sym zero)
+    ∙ ap (λ m. Some (m + 1)) (sym zero)
 sit_number false true true n seq zero h = refl
 sit_number false true false n seq zero h = ap Some (add-zero n)
 sit_number false false left n seq zero h = refl
@@ -134,37 +134,37 @@ found_is q counted = found-seats q counted ∙ number_is q counted
 found-push : (q : ℕ) (counted : List Event) (e : Event) (s l : Bool) → is_sit e.what ≡ s → is_leave e.what ≡ l → found q (seats_in (counted ++ e ∷ [])) ≡ then_some ((ever_sat q counted || (((e.seat == q) && s) || false)) && not (ever_left q counted || (((e.seat == q) && l) || false))) (events_of q counted + cond (e.seat == q) 1 0)
 found-push q counted e s l sit leave =
     found-seats q (counted ++ e ∷ [])
-      ∙ number-push q counted e
-      ∙ (λ i. then_some ((ever_sat q counted || (((e.seat == q) && sit i) || false)) && not (ever_left q counted || (((e.seat == q) && leave i) || false))) (events_of q counted + cond (e.seat == q) 1 0))
+    ∙ number-push q counted e
+    ∙ (λ i. then_some ((ever_sat q counted || (((e.seat == q) && sit i) || false)) && not (ever_left q counted || (((e.seat == q) && leave i) || false))) (events_of q counted + cond (e.seat == q) 1 0))
 
 -- an event that neither sits down nor leaves
 pub seats-plain : (counted : List Event) (e : Event) → is_sit e.what ≡ false → is_leave e.what ≡ false → is_number (number counted e.seat) e.seq ≡ true → seats_in (counted ++ e ∷ []) ≡ insert_entry nat_cmp (seats_in counted) e.seat (e.seq + 1)
 unfolding seats_in
 seats-plain counted e sit leave due =
     known-insert (number counted) (number (counted ++ e ∷ [])) (seats_of counted) (seats_of (counted ++ e ∷ [])) e.seat (e.seq + 1)
-      (λ q. found-push q counted e false false sit leave
-        ∙ plain_number (e.seat == q) (ever_sat q counted) (ever_left q counted) (events_of q counted) e.seq
-            (λ t. sym (number_is q counted) ∙ ap (number counted) (sym (eqb-true e.seat q t)) ∙ number_from (number counted e.seat) e.seq due)
-        ∙ sym (λ i. cond (is_eq_back q e.seat i) (Some (e.seq + 1)) (found_is q counted i)))
+    (λ q. found-push q counted e false false sit leave
+    ∙ plain_number (e.seat == q) (ever_sat q counted) (ever_left q counted) (events_of q counted) e.seq
+    (λ t. sym (number_is q counted) ∙ ap (number counted) (sym (eqb-true e.seat q t)) ∙ number_from (number counted e.seat) e.seq due)
+    ∙ sym (λ i. cond (is_eq_back q e.seat i) (Some (e.seq + 1)) (found_is q counted i)))
 
 -- a seat that sits down, of which no event counted yet
 pub seats-sit : (counted : List Event) (e : Event) → is_sit e.what ≡ true → is_leave e.what ≡ false → e.seq ≡ 0 → ever_seen e.seat counted ≡ false → seats_in (counted ++ e ∷ []) ≡ insert_entry nat_cmp (seats_in counted) e.seat (e.seq + 1)
 unfolding seats_in
 seats-sit counted e sit leave zero new =
     known-insert (number counted) (number (counted ++ e ∷ [])) (seats_of counted) (seats_of (counted ++ e ∷ [])) e.seat (e.seq + 1)
-      (λ q. found-push q counted e true false sit leave
-        ∙ sit_number (e.seat == q) (ever_sat q counted) (ever_left q counted) (events_of q counted) e.seq zero
-            (λ t. let unseen : ever_seen q counted ≡ false = ap (λ n. ever_seen n counted) (sym (eqb-true e.seat q t)) ∙ new in
-              (unseen_any (λ e. is_sit e.what) q counted unseen, unseen_any (λ e. is_leave e.what) q counted unseen, unseen_count q counted unseen))
-        ∙ sym (λ i. cond (is_eq_back q e.seat i) (Some (e.seq + 1)) (found_is q counted i)))
+    (λ q. found-push q counted e true false sit leave
+    ∙ sit_number (e.seat == q) (ever_sat q counted) (ever_left q counted) (events_of q counted) e.seq zero
+    (λ t. let unseen : ever_seen q counted ≡ false = ap (λ n. ever_seen n counted) (sym (eqb-true e.seat q t)) ∙ new in
+    (unseen_any (λ e. is_sit e.what) q counted unseen, unseen_any (λ e. is_leave e.what) q counted unseen, unseen_count q counted unseen))
+    ∙ sym (λ i. cond (is_eq_back q e.seat i) (Some (e.seq + 1)) (found_is q counted i)))
 
 pub seats-leave : (counted : List Event) (e : Event) → is_sit e.what ≡ false → is_leave e.what ≡ true → seats_in (counted ++ e ∷ []) ≡ remove_entry (is_at (nat_cmp e.seat)) (seats_in counted)
 unfolding seats_in
 seats-leave counted e sit leave =
     known-remove (number counted) (number (counted ++ e ∷ [])) (seats_of counted) (seats_of (counted ++ e ∷ [])) e.seat
-      (λ q. found-push q counted e false true sit leave
-        ∙ leave_number (e.seat == q) (ever_sat q counted) (ever_left q counted) (events_of q counted)
-        ∙ sym (λ i. keep (λ _. not (is_eq_same e.seat q i)) (found_is q counted i)))
+    (λ q. found-push q counted e false true sit leave
+    ∙ leave_number (e.seat == q) (ever_sat q counted) (ever_left q counted) (events_of q counted)
+    ∙ sym (λ i. keep (λ _. not (is_eq_same e.seat q i)) (found_is q counted i)))
 
 -- ---- a seat sits down first
 sat_from_number : (sat left : Bool) (n m : ℕ) → is_number (then_some (sat && not left) n) m ≡ true → sat ≡ true
@@ -210,13 +210,13 @@ pub above-sit : (counted : List Event) (e : Event) → is_sit e.what ≡ true �
 unfolding seats_of
 above-sit counted e sit le =
     ap (λ es. above_all (map (λ (e : Event). e.seat) es)) (filter-append (λ (e : Event). is_sit e.what) counted (e ∷ []))
-      ∙ ap (λ b. above_all (map (λ (e : Event). e.seat) (filter (λ e. is_sit e.what) counted ++ cond b (e ∷ []) []))) sit
-      ∙ ap above_all (map-append (λ (e : Event). e.seat) (filter (λ e. is_sit e.what) counted) (e ∷ []))
-      ∙ above_all-push (seats_of counted) e.seat le
+    ∙ ap (λ b. above_all (map (λ (e : Event). e.seat) (filter (λ e. is_sit e.what) counted ++ cond b (e ∷ []) []))) sit
+    ∙ ap above_all (map-append (λ (e : Event). e.seat) (filter (λ e. is_sit e.what) counted) (e ∷ []))
+    ∙ above_all-push (seats_of counted) e.seat le
 
 pub seats_of-other : (counted : List Event) (e : Event) → is_sit e.what ≡ false → seats_of (counted ++ e ∷ []) ≡ seats_of counted
 unfolding seats_of
 seats_of-other counted e sit =
     ap (map (λ (e : Event). e.seat)) (filter-append (λ (e : Event). is_sit e.what) counted (e ∷ [])
-      ∙ ap (λ b. filter (λ e. is_sit e.what) counted ++ cond b (e ∷ []) []) sit
-      ∙ append-nil (filter (λ e. is_sit e.what) counted))
+    ∙ ap (λ b. filter (λ e. is_sit e.what) counted ++ cond b (e ∷ []) []) sit
+    ∙ append-nil (filter (λ e. is_sit e.what) counted))

@@ -1,5 +1,5 @@
 -- One more event: recomputing from the longer list gives what the event makes of the state before it.
-use Rattle.std.proofs.Common.{◌≡◌, ℕ, ◌+◌, ◌^◌, ◌<◌, ◌≤◌, ◌⊎◌, ⊎_elim, inl, inr, Bool, true, false, cond, not, ◌&&◌, ◌==◌, nat_lt, nat_le, max, List, [], ◌∷◌, ◌++◌, map, length, Option, None, Some, T, refl, sym, ap, ◌∙◌, subst, arith}
+use Rattle.std.proofs.Common.{◌≡◌, ℕ, ◌<◌, ◌≤◌, ◌⊎◌, inl, inr, Bool, true, false, cond, not, ◌&&◌, ◌==◌, nat_lt, nat_le, max, List, [], ◌∷◌, ◌++◌, map, length, Option, refl, sym, ap, ◌∙◌, subst, arith}
 use Rattle.std.proofs.lemmas.Bool.{and_parts, eqb-true, leb-true, ltb-true}
 use Rattle.std.proofs.lemmas.List.{append-nil, map-append}
 use Rattle.std.proofs.lemmas.List.Elements.{filter-append}
@@ -13,13 +13,13 @@ use Rattle.agg_types.specs.declared.event.Event.{Event}
 use Rattle.agg_types.specs.declared.event.What.{What}
 use Rattle.agg_types.specs.declared.event.What.TheVariants.{Sit, Open, Put, Clear, AddFilter, Moment, Leave}
 use Rattle.agg_types.specs.declared.place.Place.{Place}
-use Rattle.fleet_model.proofs.InForce.{Clears_none, by_place-sorted, rows-cleared, rows-later, rows-put, rows-same}
+use Rattle.fleet_model.proofs.InForce.{Clears_none, rows-cleared, rows-later, rows-put, rows-same}
 use Rattle.fleet_model.proofs.Seats.{SitFirst, SitFirst-push, above-sit, ever_sat, ever_sat-from_number, ever_seen, found-seats, new_seat, seats-leave, seats-plain, seats-sit, seats_of-other}
 use Rattle.fleet_model.proofs.Sessions.{found-session, sessions-leave, sessions-open, sessions-plain, sessions-sit, sits_from_number}
 use Rattle.fleet_model.specs.Filters.{filters_after, filters_in}
 use Rattle.fleet_model.specs.History.{judge, judged}
 use Rattle.fleet_model.specs.Machine.{after, counts_now, happened, with_put, with_row}
-use Rattle.fleet_model.specs.Moments.{is_live, moment_after, now_of}
+use Rattle.fleet_model.specs.Moments.{moment_after, now_of}
 use Rattle.fleet_model.specs.Rows.{Judged, by_place, clears_at, counted_of, has_room, if_counted, in_force, judge_at, putter, row_of, rows_in}
 use Rattle.fleet_model.specs.Seats.{above_all, counts, is_leave, is_next, is_number, is_sit, most_seats, number, seats_in, seats_of}
 use Rattle.fleet_model.specs.Sessions.{opens, session, sessions_in}
@@ -85,17 +85,17 @@ by_kind config opening h counted e j Sit is row clears first fit next =
     let down = sits_down e.seat e.seq (above_all (seats_of counted)) _ _ next in
     let new : ever_seen e.seat counted ≡ false = new_seat counted e.seat first down.above_others in
     by_parts config opening h counted e j Sit is
-      (rows-same (now_of opening counted) j row clears h)
-      (sessions-sit config counted e (ap is_sit is) (ap is_leave is) (λ peer. ap (opens peer) is) new)
-      (seats-sit counted e (ap is_sit is) (ap is_leave is) down.at_zero new)
-      (above-sit counted e (ap is_sit is) down.above_others)
+    (rows-same (now_of opening counted) j row clears h)
+    (sessions-sit config counted e (ap is_sit is) (ap is_leave is) (λ peer. ap (opens peer) is) new)
+    (seats-sit counted e (ap is_sit is) (ap is_leave is) down.at_zero new)
+    (above-sit counted e (ap is_sit is) down.above_others)
 by_kind config opening h counted e j (Open peer) is row clears first fit next =
     let due = number_due (is_number (number counted e.seat) e.seq) _ next in
     by_parts config opening h counted e j (Open peer) is
-      (rows-same (now_of opening counted) j row clears h)
-      (sessions-open config counted e peer (ap is_sit is) (ap is_leave is) (λ p. ap (opens p) is) (ltb-true peer (length config.peers) fit) (sits_from_number e.seat e.seq counted due))
-      (seats-plain counted e (ap is_sit is) (ap is_leave is) due)
-      (ap above_all (seats_of-other counted e (ap is_sit is)))
+    (rows-same (now_of opening counted) j row clears h)
+    (sessions-open config counted e peer (ap is_sit is) (ap is_leave is) (λ p. ap (opens p) is) (ltb-true peer (length config.peers) fit) (sits_from_number e.seat e.seq counted due))
+    (seats-plain counted e (ap is_sit is) (ap is_leave is) due)
+    (ap above_all (seats_of-other counted e (ap is_sit is)))
 by_kind config opening h counted e j (Put peer table key life cells) is row clears first fit next =
     let due = number_due (is_number (number counted e.seat) e.seq) _ next in
     let rows = rows_before opening h counted in
@@ -103,39 +103,39 @@ by_kind config opening h counted e j (Put peer table key life cells) is row clea
     let arrival : Arrival = record { arrived = now_of opening counted; life = life; cells = cells } in
     let in_range : peer < length config.peers = ltb-true peer (length config.peers) (and_parts (nat_lt peer (length config.peers)) _ (and_parts _ _ fit).0).0 in
     by_parts config opening h counted e j (Put peer table key life cells) is
-      (put_or_same (now_of opening counted) j h (is_number (session counted peer) e.seat && has_room config.tables rows place) (place, arrival) row clears
-        ∙ ap (λ seated. cond (is_number seated e.seat && has_room config.tables rows place) (with_row (now_of opening counted) rows place arrival) rows) (sym (found-session config counted peer in_range)))
-      (sessions-plain config counted e (ap is_sit is) (ap is_leave is) (λ p. ap (opens p) is))
-      (seats-plain counted e (ap is_sit is) (ap is_leave is) due)
-      (ap above_all (seats_of-other counted e (ap is_sit is)))
+    (put_or_same (now_of opening counted) j h (is_number (session counted peer) e.seat && has_room config.tables rows place) (place, arrival) row clears
+    ∙ ap (λ seated. cond (is_number seated e.seat && has_room config.tables rows place) (with_row (now_of opening counted) rows place arrival) rows) (sym (found-session config counted peer in_range)))
+    (sessions-plain config counted e (ap is_sit is) (ap is_leave is) (λ p. ap (opens p) is))
+    (seats-plain counted e (ap is_sit is) (ap is_leave is) due)
+    (ap above_all (seats_of-other counted e (ap is_sit is)))
 by_kind config opening h counted e j (Clear table sel) is row clears first fit next =
     let due = number_due (is_number (number counted e.seat) e.seq) _ next in
     by_parts config opening h counted e j (Clear table sel) is
-      (rows-cleared (now_of opening counted) j row h ∙ (λ i. filter (λ r. not (clears r.0 i)) (rows_before opening h counted)))
-      (sessions-plain config counted e (ap is_sit is) (ap is_leave is) (λ p. ap (opens p) is))
-      (seats-plain counted e (ap is_sit is) (ap is_leave is) due)
-      (ap above_all (seats_of-other counted e (ap is_sit is)))
+    (rows-cleared (now_of opening counted) j row h ∙ (λ i. filter (λ r. not (clears r.0 i)) (rows_before opening h counted)))
+    (sessions-plain config counted e (ap is_sit is) (ap is_leave is) (λ p. ap (opens p) is))
+    (seats-plain counted e (ap is_sit is) (ap is_leave is) due)
+    (ap above_all (seats_of-other counted e (ap is_sit is)))
 by_kind config opening h counted e j (AddFilter added) is row clears first fit next =
     let due = number_due (is_number (number counted e.seat) e.seq) _ next in
     by_parts config opening h counted e j (AddFilter added) is
-      (rows-same (now_of opening counted) j row clears h)
-      (sessions-plain config counted e (ap is_sit is) (ap is_leave is) (λ p. ap (opens p) is))
-      (seats-plain counted e (ap is_sit is) (ap is_leave is) due)
-      (ap above_all (seats_of-other counted e (ap is_sit is)))
+    (rows-same (now_of opening counted) j row clears h)
+    (sessions-plain config counted e (ap is_sit is) (ap is_leave is) (λ p. ap (opens p) is))
+    (seats-plain counted e (ap is_sit is) (ap is_leave is) due)
+    (ap above_all (seats_of-other counted e (ap is_sit is)))
 by_kind config opening h counted e j (Moment told) is row clears first fit next =
     let due = number_due (is_number (number counted e.seat) e.seq) _ next in
     let later : now_of opening counted ≤ max (now_of opening counted) told = omega arith in
     by_parts config opening h counted e j (Moment told) is
-      (rows-later (now_of opening counted) (max (now_of opening counted) told) later j row clears h)
-      (sessions-plain config counted e (ap is_sit is) (ap is_leave is) (λ p. ap (opens p) is))
-      (seats-plain counted e (ap is_sit is) (ap is_leave is) due)
-      (ap above_all (seats_of-other counted e (ap is_sit is)))
+    (rows-later (now_of opening counted) (max (now_of opening counted) told) later j row clears h)
+    (sessions-plain config counted e (ap is_sit is) (ap is_leave is) (λ p. ap (opens p) is))
+    (seats-plain counted e (ap is_sit is) (ap is_leave is) due)
+    (ap above_all (seats_of-other counted e (ap is_sit is)))
 by_kind config opening h counted e j Leave is row clears first fit next =
     by_parts config opening h counted e j Leave is
-      (rows-same (now_of opening counted) j row clears h)
-      (sessions-leave config counted e (ap is_sit is) (ap is_leave is) (λ p. ap (opens p) is))
-      (seats-leave counted e (ap is_sit is) (ap is_leave is))
-      (ap above_all (seats_of-other counted e (ap is_sit is)))
+    (rows-same (now_of opening counted) j row clears h)
+    (sessions-leave config counted e (ap is_sit is) (ap is_leave is) (λ p. ap (opens p) is))
+    (seats-leave counted e (ap is_sit is) (ap is_leave is))
+    (ap above_all (seats_of-other counted e (ap is_sit is)))
 
 -- ---- events that don't count, and those that do
 fits_same : (config : Config) (filters : List Filter) (w : What) → fits (record config { filters = filters }) w ≡ fits config w
@@ -151,8 +151,8 @@ counted-push : (h : List Judged) (j : Judged) → counted_of (h ++ j ∷ []) ≡
 unfolding counted_of
 counted-push h j =
     ap (map (λ (j : Judged). j.event)) (filter-append (λ (j : Judged). j.counted) h (j ∷ []))
-      ∙ map-append (λ (j : Judged). j.event) (filter (λ j. j.counted) h) (cond j.counted (j ∷ []) [])
-      ∙ ap (λ es. counted_of h ++ es) (elim j.counted as (λ b. map (λ (j : Judged). j.event) (cond b (j ∷ []) []) ≡ cond b (j.event ∷ []) []) [ true ↦ refl | false ↦ refl ])
+    ∙ map-append (λ (j : Judged). j.event) (filter (λ j. j.counted) h) (cond j.counted (j ∷ []) [])
+    ∙ ap (λ es. counted_of h ++ es) (elim j.counted as (λ b. map (λ (j : Judged). j.event) (cond b (j ∷ []) []) ≡ cond b (j.event ∷ []) []) [ true ↦ refl | false ↦ refl ])
 
 judged_counts : (config : Config) (opening : ℕ) (h : List Judged) (e : Event) (b : Bool) → counts config (counted_of h) e ≡ b → counted_of (h ++ judge config opening h e ∷ []) ≡ counted_of h ++ cond b (e ∷ []) []
 unfolding judge judge_at
@@ -186,12 +186,12 @@ history-push config opening h e first =
       | true ↦ λ does.
           let parts = counts_parts config (counted_of h) e does in
           ap (longer config opening h (judge config opening h e)) (judged_counts config opening h e true does)
-            ∙ by_kind config opening h (counted_of h) e (judge config opening h e) e.what refl (judged_row config opening h e true does) (judged_clears config opening h e true does) first parts.0 parts.1
-            ∙ sym (after_is (shorter config opening h (counted_of h)) e true (counts_same config opening h (counted_of h) e ∙ does))
+          ∙ by_kind config opening h (counted_of h) e (judge config opening h e) e.what refl (judged_row config opening h e true does) (judged_clears config opening h e true does) first parts.0 parts.1
+          ∙ sym (after_is (shorter config opening h (counted_of h)) e true (counts_same config opening h (counted_of h) e ∙ does))
       | false ↦ λ does.
           ap (longer config opening h (judge config opening h e)) (judged_counts config opening h e false does ∙ append-nil (counted_of h))
-            ∙ same_state refl refl (rows-same (now_of opening (counted_of h)) (judge config opening h e) (judged_row config opening h e false does) (judged_clears config opening h e false does) h) refl refl refl
-            ∙ sym (after_is (shorter config opening h (counted_of h)) e false (counts_same config opening h (counted_of h) e ∙ does))
+          ∙ same_state refl refl (rows-same (now_of opening (counted_of h)) (judge config opening h e) (judged_row config opening h e false does) (judged_clears config opening h e false does) h) refl refl refl
+          ∙ sym (after_is (shorter config opening h (counted_of h)) e false (counts_same config opening h (counted_of h) e ∙ does))
     ] refl
 
 sits_or_sat : (config : Config) (counted : List Event) (e : Event) → counts config counted e ≡ true → (is_sit e.what ≡ true) ⊎ (ever_sat e.seat counted ≡ true)
@@ -230,13 +230,12 @@ judged-push : (config : Config) (opening : ℕ) (events : List Event) (e : Event
 unfolding judged
 judged-push config opening events e = fold-append (λ (history : List Judged) (e : Event). history ++ judge config opening history e ∷ []) [] events (e ∷ [])
 
-
 -- recomputing from a list with one more event gives what the event makes of the state that the list leaves
 pub one_more : (config : Config) (opening : ℕ) (events : List Event) (e : Event) → state_of config opening (events ++ e ∷ []) ≡ after (state_of config opening events) e
 unfolding state_of rows_in
 one_more config opening events e =
     ap (λ h. state_after config opening h (counted_of h)) (judged-push config opening events e)
-      ∙ history-push config opening (judged config opening events) e (sit_first config opening events)
+    ∙ history-push config opening (judged config opening events) e (sit_first config opening events)
 
 pub stands_more : (state : State) (config : Config) (opening : ℕ) (events : List Event) (e : Event) → Stands state config opening events → Stands (after state e) config opening (events ++ e ∷ [])
 unfolding Stands

@@ -1,8 +1,7 @@
 -- What is answered of a state.
-use Rattle.std.specs.Prelude.{ℕ, ◌+◌, ◌-◌, Bool, true, false, ◌==◌, if◌then◌else◌, List, [], ◌∷◌, length, Option, None, Some, map, filter, fold, max, take}
+use Rattle.std.specs.Prelude.{ℕ, ◌+◌, ◌-◌, List, [], ◌∷◌, length, Option, None, Some, map, filter, fold, max}
 use Rattle.std.specs.Option.{option_map}
 use Rattle.agg_types.specs.Col.{all_cols}
-use Rattle.agg_types.specs.declared.column.Col.{Col}
 use Rattle.agg_types.specs.declared.config.Filter.{Filter}
 use Rattle.agg_types.specs.declared.place.Place.{Place}
 use Rattle.fleet_model.specs.declared.arrival.Arrival.{Arrival}

@@ -9,3 +9,6 @@ pub mod State
 pub mod Machine
 pub mod Answers
 pub mod Laws
+pub mod Worked
+pub mod Ranking
+pub mod Next

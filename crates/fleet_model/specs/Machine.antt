@@ -1,5 +1,5 @@
 -- The machine of one event, which bodies are compared with.
-use Rattle.std.specs.Prelude.{ℕ, ◌+◌, Bool, true, false, ◌&&◌, ◌||◌, not, if◌then◌else◌, ◌==◌, nat_lt, List, [], ◌∷◌, length, Option, None, Some, filter, max}
+use Rattle.std.specs.Prelude.{ℕ, ◌+◌, Bool, ◌&&◌, not, if◌then◌else◌, ◌==◌, nat_lt, List, [], length, Option, filter, max}
 use Rattle.std.specs.BTreeMap.{insert_entry, is_at}
 use Rattle.std.specs.Map.{lookup, remove_entry}
 use Rattle.std.specs.Ordering.{nat_cmp}
@@ -50,7 +50,7 @@ happened state e (Open peer) = record state { seats = with_event state e; sessio
 happened state e (Put peer table key life cells) =
     record state {
       seats = with_event state e;
-      rows = with_put state e.seat (record { table = table; key = key; peer = peer }) (record { arrived = state.moment; life = life; cells = cells })
+      rows = with_put state e.seat (record { table = table; key = key; peer = peer }) (record { arrived = state.moment; life = life; cells = cells });
     }
 happened state e (Clear table sel) =
     record state { seats = with_event state e; rows = filter (λ row. not (clears_at state.config state.rows state.moment (Clear table sel) row.0)) state.rows }
@@ -60,12 +60,12 @@ happened state e (Moment moment) =
     record state {
       seats = with_event state e;
       moment = max state.moment moment;
-      rows = filter (λ row. is_live (max state.moment moment) row.1) state.rows
+      rows = filter (λ row. is_live (max state.moment moment) row.1) state.rows;
     }
 happened state e Leave =
     record state {
       seats = remove_entry (is_at (nat_cmp e.seat)) state.seats;
-      sessions = filter (λ session. not (session.1 == e.seat)) state.sessions
+      sessions = filter (λ session. not (session.1 == e.seat)) state.sessions;
     }
 
 -- the state after one more event; one that doesn't count changes nothing

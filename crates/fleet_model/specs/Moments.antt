@@ -1,5 +1,5 @@
 -- The book's moment.
-use Rattle.std.specs.Prelude.{ℕ, ◌+◌, Bool, true, nat_lt, List, [], ◌∷◌, Option, None, Some, fold, max}
+use Rattle.std.specs.Prelude.{ℕ, ◌+◌, Bool, true, nat_lt, List, Option, None, Some, fold, max}
 use Rattle.agg_types.specs.declared.event.Event.{Event}
 use Rattle.agg_types.specs.declared.event.What.{What}
 use Rattle.agg_types.specs.declared.event.What.TheVariants.{Sit, Open, Put, Clear, AddFilter, Moment, Leave}

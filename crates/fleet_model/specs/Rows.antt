@@ -1,6 +1,6 @@
 -- Which rows are in force: each event is judged once by the list before it, then the rows are chosen
 -- from the whole list.
-use Rattle.std.specs.Prelude.{ℕ, ◌+◌, Bool, true, false, ◌&&◌, ◌||◌, not, ◌==◌, nat_lt, List, [], ◌∷◌, ◌++◌, Option, None, Some, map, filter, fold, count_by, slice_get}
+use Rattle.std.specs.Prelude.{ℕ, Bool, true, false, ◌&&◌, ◌||◌, not, ◌==◌, nat_lt, List, [], ◌∷◌, Option, None, Some, map, filter, fold, count_by, slice_get}
 use Rattle.std.specs.Bool.{then_some}
 use Rattle.std.specs.BTreeMap.{insert_entry}
 use Rattle.std.specs.List.{list_all, list_any, cons_option}
@@ -81,7 +81,7 @@ judge_at config counted rows t e =
       event = e;
       counted = does;
       row = if_counted does (row_of config (session counted (putter e.what)) rows t e e.what);
-      clears = λ place. does && clears_at config rows t e.what place
+      clears = λ place. does && clears_at config rows t e.what place;
     }
 
 abbrev pub puts_at : Option (Place × Arrival) → Place → Bool

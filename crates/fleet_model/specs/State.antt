@@ -36,7 +36,7 @@ state_after config opening history counted =
       rows = rows_in opening history;
       sessions = sessions_in config counted;
       seats = seats_in counted;
-      next_seat = above_all (seats_of counted)
+      next_seat = above_all (seats_of counted);
     }
 
 -- what recomputing from the whole list gives

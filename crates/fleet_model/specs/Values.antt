@@ -1,6 +1,6 @@
 -- Values of keys, from the rows in force, which stand in the order of their places.
-use Rattle.std.specs.Prelude.{ℕ, ◌+◌, ◌-◌, Bool, true, ◌&&◌, if◌then◌else◌, ◌==◌, nat_lt, List, [], ◌∷◌, length, Option, None, Some, map, filter, fold, sum_by, count_by, slice_get, max}
-use Rattle.std.specs.List.{list_all, list_any, dedup}
+use Rattle.std.specs.Prelude.{ℕ, ◌+◌, ◌-◌, Bool, true, ◌&&◌, if◌then◌else◌, ◌==◌, List, [], ◌∷◌, map, filter, sum_by, slice_get}
+use Rattle.std.specs.List.{list_all, dedup}
 use Rattle.std.specs.Option.{option_map_or}
 use Rattle.std.specs.Cmp.Lexicographic.{slice_cmp}
 use Rattle.std.specs.Ordering.{is_eq, nat_cmp}

@@ -1,41 +1,160 @@
-//! What the definitions promise of each other. Each law stands on a function that does nothing: its clause
-//! is the law, over every configuration, opening moment and list of events.
+//! What the definitions promise. Each law stands on a function that does nothing: its clause is the law,
+//! over every configuration, opening moment and list of events.
 
-ghost use Rattle.std.specs.Prelude.{◌≡◌, ℕ, List, [], ◌∷◌, ◌++◌};
+ghost use Rattle.std.specs.Prelude.{◌≡◌, ◌≢◌, ℕ, ◌+◌, ◌<◌, ◌≤◌, Bool, not, true, false, length, List, [], ◌∷◌, ◌++◌, Option, Some, filter, fold, sum_by};
+ghost use Rattle.std.specs.BTreeMap.{insert_entry, is_at};
+ghost use Rattle.std.specs.List.{IsDistinct, list_any};
+ghost use Rattle.std.specs.List.Sorted.{IsStrictlySortedBy};
+ghost use Rattle.std.specs.Map.{keys_of, lookup, remove_entry};
+ghost use Rattle.agg_types.specs.Place.{place_cmp};
+ghost use Rattle.agg_types.specs.declared.column.Col.{Col};
 ghost use Rattle.agg_types.specs.declared.config.Config.{Config};
+ghost use Rattle.agg_types.specs.declared.config.Filter.{Filter};
 ghost use Rattle.agg_types.specs.declared.event.Event.{Event};
-ghost use Rattle.fleet_model.specs.Laws.{IsOrdered, AreLive};
-ghost use Rattle.fleet_model.specs.Machine.{after, opened};
+ghost use Rattle.agg_types.specs.declared.event.What.TheVariants.{Open, Moment, Leave};
+ghost use Rattle.agg_types.specs.declared.place.Place.{Place};
+ghost use Rattle.fleet_model.specs.Answers.{set_at, summed};
+ghost use Rattle.fleet_model.specs.Answers as answers;
+ghost use Rattle.fleet_model.specs.History.{judged};
+ghost use Rattle.fleet_model.specs.Laws.{AnswersAlike, AreLive, IsInForce, IsKeyList, IsOrdered, IsRanking, IsSetAt, IsSummedRow, IsWithinSizes, SaysNothing, opens_at, worth_at};
+ghost use Rattle.fleet_model.specs.Machine.{after, counts_now, number_of, opened, session_of};
+ghost use Rattle.fleet_model.specs.Next.{IsNextChange};
+ghost use Rattle.fleet_model.specs.Ranking.{ranking};
+ghost use Rattle.fleet_model.specs.Rows.{counted_of};
+ghost use Rattle.fleet_model.specs.Seats.{number};
+ghost use Rattle.fleet_model.specs.Sessions.{session};
 ghost use Rattle.fleet_model.specs.State.{Stands, State, state_of};
+ghost use Rattle.fleet_model.specs.Values.{same_place, value};
+ghost use Rattle.fleet_model.specs.declared.arrival.Arrival.{Arrival};
+
+/// No events leave the opened fleet: no rows, sessions and seats, at the opening moment.
+pub fn nothing_happened()
+    ensures { (config : Config) (opening : ℕ) → state_of config opening [] ≡ opened config opening }
+{}
 
 /// Recomputing from a list of events with one more at its end gives what that event makes of the state
 /// that recomputing from the list gives: for every kind of event, whether it counts or not.
 pub fn one_event_more()
     ensures { (config : Config) (opening : ℕ) (events : List Event) (e : Event) → state_of config opening (events ++ e ∷ []) ≡ after (state_of config opening events) e }
-{
-}
+{}
 
 /// A state that a list of events leaves becomes, by one more event, the one that the longer list leaves.
 pub fn stands_after_one_more()
     ensures { (state : State) (config : Config) (opening : ℕ) (events : List Event) (e : Event) → Stands state config opening events → Stands (after state e) config opening (events ++ e ∷ []) }
-{
-}
+{}
 
-/// No events leave the opened fleet: no rows, sessions and seats, at the opening moment.
-pub fn nothing_happened()
-    ensures { (config : Config) (opening : ℕ) → state_of config opening [] ≡ opened config opening }
-{
-}
+/// Recomputing from a whole list gives what the machine leaves that takes its events one by one.
+pub fn step_by_step()
+    ensures { (config : Config) (opening : ℕ) (events : List Event) → state_of config opening events ≡ fold after (opened config opening) events }
+{}
 
-/// What a list of events leaves is in order: rows strictly by place, so that a peer has at most one row of a
-/// table and key, sessions by peer and seats by number.
+/// An event that doesn't count changes nothing.
+pub fn uncounted_events_change_nothing()
+    ensures { (config : Config) (opening : ℕ) (events : List Event) (e : Event) → counts_now (state_of config opening events) e ≡ false → state_of config opening (events ++ e ∷ []) ≡ state_of config opening events }
+{}
+
+/// What a state says of a seat is the number of its next event, which is how many of its events counted; and
+/// what it says of a peer is the seat that last opened it, if that seat still sits.
+pub fn seats_and_sessions_are_found()
+    ensures numbers { (config : Config) (opening : ℕ) (events : List Event) (seat : ℕ) → number_of (state_of config opening events) seat ≡ number (counted_of (judged config opening events)) seat }
+    ensures sessions { (config : Config) (opening : ℕ) (events : List Event) (peer : ℕ) → peer < length config.peers → session_of (state_of config opening events) peer ≡ session (counted_of (judged config opening events)) peer }
+{}
+
+/// What a list of events leaves is in order: rows strictly by place, sessions by peer and seats by number.
 pub fn states_are_ordered()
     ensures { (config : Config) (opening : ℕ) (events : List Event) → IsOrdered (state_of config opening events) }
-{
-}
+{}
 
-/// Each row that a list of events leaves lives at the last moment.
+/// At most one row is in force of a peer, table and key.
+pub fn one_row_of_a_place()
+    ensures { (config : Config) (opening : ℕ) (events : List Event) → IsDistinct same_place (keys_of (state_of config opening events).rows) }
+{}
+
+/// A row is in force exactly where some event put it, as a Put of its peer's session in force with room at
+/// that event's place in the list; it lives at the last moment; and no later event put another row at its
+/// place or cleared it, each judged at its own place in the list.
+pub fn rows_in_force_are_exact()
+    ensures put { (config : Config) (opening : ℕ) (events : List Event) (row : Place × Arrival) → lookup (is_at (place_cmp row.0)) (state_of config opening events).rows ≡ Some row.1 → IsInForce config opening events row }
+    ensures found { (config : Config) (opening : ℕ) (events : List Event) (row : Place × Arrival) → IsInForce config opening events row → lookup (is_at (place_cmp row.0)) (state_of config opening events).rows ≡ Some row.1 }
+{}
+
+/// Each row in force lives at the last moment.
 pub fn rows_in_force_live()
     ensures { (config : Config) (opening : ℕ) (events : List Event) → AreLive (state_of config opening events) }
-{
-}
+{}
+
+/// A peer never holds more rows of a table than the table's size.
+pub fn sizes_hold()
+    ensures { (config : Config) (opening : ℕ) (events : List Event) → IsWithinSizes (state_of config opening events) }
+{}
+
+/// A moment that isn't later, a row of a seat that isn't its peer's session in force, a row past the table's
+/// size, and a filter that isn't taken change no summed row, set or ranked list.
+pub fn some_events_say_nothing()
+    ensures { (config : Config) (opening : ℕ) (events : List Event) (e : Event) → SaysNothing (state_of config opening events) e.seat e.what → AnswersAlike (state_of config opening events) (state_of config opening (events ++ e ∷ [])) }
+{}
+
+/// A lost session keeps its rows: a seat that leaves touches none, and changes no answer.
+pub fn lost_sessions_keep_rows()
+    ensures { (config : Config) (opening : ℕ) (events : List Event) (e : Event) → e.what ≡ Leave → AnswersAlike (state_of config opening events) (state_of config opening (events ++ e ∷ [])) }
+{}
+
+/// A seat becomes the session in force of a peer by opening it, and in no other way.
+pub fn in_force_by_opening()
+    ensures { (config : Config) (opening : ℕ) (events later : List Event) (peer seat : ℕ) → list_any (opens_at seat peer) later ≡ false → session_of (state_of config opening events) peer ≢ Some seat → session_of (state_of config opening (events ++ later)) peer ≢ Some seat }
+{}
+
+/// A session never comes back once another seat opened its peer, unless its own seat opens the peer again.
+pub fn older_sessions_stay_out()
+    ensures { (config : Config) (opening : ℕ) (events : List Event) (e : Event) (later : List Event) (peer seat : ℕ) → counts_now (state_of config opening events) e ≡ true → e.what ≡ Open peer → e.seat ≢ seat → list_any (opens_at seat peer) later ≡ false → session_of (state_of config opening ((events ++ e ∷ []) ++ later)) peer ≢ Some seat }
+{}
+
+/// The summed row of a key is none exactly where no row of it lives. Else it has how many do, the most ms that
+/// one of them has left, or none where one never ends, and the value of each column.
+pub fn sums_are_exact()
+    ensures { (state : State) (table : ℕ) (key : List ℕ) → IsSummedRow state table key (summed state table key) }
+{}
+
+/// A key's value of a column never rises by the clock alone.
+pub fn values_never_rise()
+    ensures { (cols : List (Col × ℕ)) (state : State) (table : ℕ) (key : List ℕ) (col : Col) (t later : ℕ) → t ≤ later → value cols state.rows table key col later ≤ value cols state.rows table key col t }
+{}
+
+/// Sets and values at a moment to come are the same before and after an earlier moment is told: what is
+/// foreseen by the clock alone comes true.
+pub fn the_clock_alone()
+    ensures sets { (config : Config) (opening : ℕ) (events : List Event) (e : Event) (told : ℕ) → e.what ≡ Moment told → (filtering : Filter) (t : ℕ) → (state_of config opening events).moment ≤ t → told ≤ t → set_at (state_of config opening (events ++ e ∷ [])) filtering t ≡ set_at (state_of config opening events) filtering t }
+    ensures values { (config : Config) (opening : ℕ) (events : List Event) (e : Event) (told : ℕ) → e.what ≡ Moment told → (cols : List (Col × ℕ)) (table : ℕ) (key : List ℕ) (col : Col) (t : ℕ) → (state_of config opening events).moment ≤ t → told ≤ t → value cols (state_of config opening (events ++ e ∷ [])).rows table key col t ≡ value cols (state_of config opening events).rows table key col t }
+{}
+
+/// The keys of a table are exactly those of which a row lives, each once, in the order of their bytes.
+pub fn keys_are_exact()
+    ensures { (config : Config) (opening : ℕ) (events : List Event) (table : ℕ) → IsKeyList (state_of config opening events) table (answers.keys_of (state_of config opening events) table) }
+{}
+
+/// A filter's set at a moment is exactly the keys with a row that lives then and for which each of its
+/// conditions holds, each once, in the order of their bytes. There is no other such list.
+pub fn sets_are_exact()
+    ensures is_one { (config : Config) (opening : ℕ) (events : List Event) (filtering : Filter) (t : ℕ) → IsSetAt (state_of config opening events) filtering t (set_at (state_of config opening events) filtering t) }
+    ensures only { (state : State) (filtering : Filter) (t : ℕ) (keys others : List (List ℕ)) → IsSetAt state filtering t keys → IsSetAt state filtering t others → keys ≡ others }
+{}
+
+/// The ranking of a table has each key with a row once, with its value: a larger value before a smaller
+/// one, and of equal values the smaller key first. There is no other such list.
+pub fn rankings_are_exact()
+    ensures is_one { (config : Config) (opening : ℕ) (events : List Event) (table : ℕ) (col : Col) → IsRanking (state_of config opening events) table col (ranking (state_of config opening events) table col) }
+    ensures only { (state : State) (table : ℕ) (col : Col) (entries others : List (List ℕ × ℕ)) → IsRanking state table col entries → IsRanking state table col others → entries ≡ others }
+{}
+
+/// A filter's next change is one moment, or none.
+pub fn next_change_is_one()
+    ensures { (state : State) (filtering : Filter) (one other : Option ℕ) → IsNextChange state filtering one → IsNextChange state filtering other → one ≡ other }
+{}
+
+/// A sum over rows in order as rows come and go: with one more, without one, and without those that fail a
+/// test. So running sums of a key's values need look at no other row.
+pub fn sums_follow_rows()
+    ensures put { (f : Place × Arrival → ℕ) (rows : List (Place × Arrival)) (place : Place) (row : Arrival) → IsStrictlySortedBy place_cmp (keys_of rows) → sum_by f (insert_entry place_cmp rows place row) + worth_at f rows place ≡ sum_by f rows + f (place, row) }
+    ensures taken { (f : Place × Arrival → ℕ) (rows : List (Place × Arrival)) (place : Place) → sum_by f (remove_entry (is_at (place_cmp place)) rows) + worth_at f rows place ≡ sum_by f rows }
+    ensures split { (f : Place × Arrival → ℕ) (p : Place × Arrival → Bool) (rows : List (Place × Arrival)) → sum_by f (filter p rows) + sum_by f (filter (λ row. not (p row)) rows) ≡ sum_by f rows }
+{}

@@ -7,6 +7,7 @@
 mod arrival;
 pub mod laws;
 mod summed;
+pub mod worked;
 
 pub use arrival::Arrival;
 pub use summed::Summed;

@@ -1,4 +1,4 @@
-ghost use Rattle.std.specs.Prelude.{◌≡◌, ℕ, List, map, [], ◌∷◌, ◌++◌, ◌&&◌, ◌==◌, not, if◌then◌else◌, filter, IsTrue, IfOk, OnOk, OnErr};
+ghost use Rattle.std.specs.Prelude.{◌≡◌, ℕ, List, map, length, nat_lt, [], ◌∷◌, ◌++◌, ◌&&◌, ◌==◌, not, if◌then◌else◌, filter, IsTrue, IfOk, OnOk, OnErr};
 ghost use Rattle.std.specs.BTreeMap.{is_at};
 ghost use Rattle.std.specs.List.{list_any};
 ghost use Rattle.std.specs.Map.{lookup};
@@ -11,7 +11,7 @@ ghost use Rattle.fleet_model.specs.Filters.{is_new};
 ghost use Rattle.fleet_model.specs.State.{Stands};
 ghost use Rattle.fleet_model.specs.Machine.{after, counts_now, number_of, opened, session_of, with_row};
 ghost use Rattle.fleet_model.specs.Rows.{has_room};
-ghost use Rattle.fleet_model.specs.Seats.{is_number};
+ghost use Rattle.fleet_model.specs.Seats.{is_number, most_seats};
 ghost use Rattle.fleet_model.specs.Values.{cols_of, selects};
 ghost use Rattle.plain_book.specs.Due.{IsDue};
 
@@ -96,7 +96,22 @@ impl Book {
         ensures err { OnErr result (self.new ≡ self.old) }
     {
         fleet_model::laws::stands_after_one_more();
-        self.apply(event)
+        self.take(event.seat, event.seq, &event.what)
+    }
+
+    /// Takes one event by its parts, as `step` does.
+    pub fn take(&mut self, seat: u64, seq: u64, what: &What) -> Result<(), NoMemory>
+        ensures ok { OnOk result (self.new ≡ after self.old (record { seat = seat; seq = seq; what = what.now })) }
+        ensures err { OnErr result (self.new ≡ self.old) }
+    {
+        self.apply(seat, seq, what)
+    }
+
+    /// Whether fewer seats sit than may. Takes no memory.
+    pub fn has_free_seat(&self) -> bool
+        ensures { result ≡ nat_lt (length self.now.seats) most_seats }
+    {
+        has_free_seat(&self.seats)
     }
 
     /// The configuration, with the filters that stand. Takes no memory.
@@ -145,51 +160,44 @@ impl Book {
     }
 
     #[tactic(auto, unfolding(fleet_model::specs::Machine::counts_now))]
-    fn counts(&self, event: &Event) -> bool
-        ensures exact { result ≡ counts_now self.now event.now }
+    fn counts(&self, seat: u64, seq: u64, what: &What) -> bool
+        ensures exact { result ≡ counts_now self.now (record { seat = seat; seq = seq; what = what.now }) }
     {
-        let due = seats::number_of(&self.seats, event.seat);
+        let due = seats::number_of(&self.seats, seat);
         let free = has_free_seat(&self.seats);
-        let fits = self.config.fits(&event.what);
-        let next = is_next(
-            &event.what,
-            event.seat,
-            event.seq,
-            free,
-            self.next_seat,
-            due,
-        );
+        let fits = self.config.fits(what);
+        let next = is_next(what, seat, seq, free, self.next_seat, due);
         fits && next
     }
 
     // Whether an event counts, and then what its number and its seat are.
-    fn is_due(&self, event: &Event) -> bool
-        ensures exact { result ≡ counts_now self.now event.now }
-        ensures sits { IsTrue result → IsDue event.now.what event.now.seat event.now.seq (number_of self.now event.now.seat) }
+    fn is_due(&self, seat: u64, seq: u64, what: &What) -> bool
+        ensures exact { result ≡ counts_now self.now (record { seat = seat; seq = seq; what = what.now }) }
+        ensures sits { IsTrue result → IsDue what.now seat seq (number_of self.now seat) }
     {
-        self.counts(event)
+        self.counts(seat, seq, what)
     }
 }
 
 impl Book {
     // One event, as the machine of one event says; nothing has changed after NoMemory.
     #[tactic(auto, unfolding(fleet_model::specs::Machine::after, fleet_model::specs::Machine::happened, fleet_model::specs::Machine::with_put, fleet_model::specs::Rows::clears_at))]
-    fn apply(&mut self, event: &Event) -> Result<(), NoMemory>
-        ensures ok { OnOk result (self.new ≡ after self.old event.now) }
+    fn apply(&mut self, seat: u64, seq: u64, what: &What) -> Result<(), NoMemory>
+        ensures ok { OnOk result (self.new ≡ after self.old (record { seat = seat; seq = seq; what = what.now })) }
         ensures err { OnErr result (self.new ≡ self.old) }
     {
-        if !self.is_due(event) {
+        if !self.is_due(seat, seq, what) {
             return Ok(());
         }
-        match &event.what {
+        match what {
             What::Sit => {
-                sit_down(&mut self.seats, event.seat)?;
-                self.next_seat = event.seat + 1;
+                sit_down(&mut self.seats, seat)?;
+                self.next_seat = seat + 1;
                 Ok(())
             }
             What::Open(peer) => {
-                open_session(&mut self.sessions, *peer, event.seat)?;
-                count_up(&mut self.seats, event.seat, event.seq);
+                open_session(&mut self.sessions, *peer, seat)?;
+                count_up(&mut self.seats, seat, seq);
                 Ok(())
             }
             What::Put {
@@ -213,12 +221,12 @@ impl Book {
                     &mut self.rows,
                     self.config.tables.as_slice(),
                     session,
-                    event.seat,
+                    seat,
                     self.moment,
                     place,
                     row,
                 )?;
-                count_up(&mut self.seats, event.seat, event.seq);
+                count_up(&mut self.seats, seat, seq);
                 Ok(())
             }
             What::Clear { table, sel } => {
@@ -230,23 +238,23 @@ impl Book {
                     self.moment,
                     sel,
                 )?;
-                count_up(&mut self.seats, event.seat, event.seq);
+                count_up(&mut self.seats, seat, seq);
                 Ok(())
             }
             What::AddFilter(filter) => {
                 add_filter(self.alloc, &mut self.config.filters, filter)?;
-                count_up(&mut self.seats, event.seat, event.seq);
+                count_up(&mut self.seats, seat, seq);
                 Ok(())
             }
             What::Moment(moment) => {
                 self.moment = self.moment.max(*moment);
                 end_rows(&mut self.rows, self.moment);
-                count_up(&mut self.seats, event.seat, event.seq);
+                count_up(&mut self.seats, seat, seq);
                 Ok(())
             }
             What::Leave => {
-                stand_up(&mut self.seats, event.seat);
-                end_sessions(&mut self.sessions, event.seat);
+                stand_up(&mut self.seats, seat);
+                end_sessions(&mut self.sessions, seat);
                 Ok(())
             }
         }

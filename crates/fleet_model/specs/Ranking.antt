@@ -1,0 +1,36 @@
+-- The keys of a table by their values of a column.
+use Rattle.std.specs.Prelude.{ℕ, if◌then◌else◌, List, [], ◌∷◌, map, take}
+use Rattle.std.specs.Cmp.Lexicographic.{slice_cmp}
+use Rattle.std.specs.Ordering.{is_lt, nat_cmp, ordering_then}
+use Rattle.std.specs.declared.cmp.Ordering.{Ordering}
+use Rattle.agg_types.specs.declared.column.Col.{Col}
+use Rattle.agg_types.specs.declared.config.Rank.{Rank}
+use Rattle.fleet_model.specs.Answers.{keys_of}
+use Rattle.fleet_model.specs.State.{State}
+use Rattle.fleet_model.specs.Values.{cols_of, value}
+
+-- a larger value stands first, and of equal ones the smaller key
+abbrev pub rank_cmp : List ℕ × ℕ → List ℕ × ℕ → Ordering
+rank_cmp a b = ordering_then (nat_cmp b.1 a.1) (slice_cmp nat_cmp a.0 b.0)
+
+-- an item in its place among items in order
+abbrev pub put_in_order : {X : Type 0} → (X → X → Ordering) → X → List X → List X
+put_in_order cmp x [] = x ∷ []
+put_in_order cmp x (y ∷ ys) = if is_lt (cmp x y) then x ∷ y ∷ ys else y ∷ put_in_order cmp x ys
+
+-- the items in order
+abbrev pub in_order : {X : Type 0} → (X → X → Ordering) → List X → List X
+in_order cmp [] = []
+in_order cmp (x ∷ xs) = put_in_order cmp x (in_order cmp xs)
+
+-- a key with its value
+abbrev pub with_value : State → ℕ → Col → List ℕ → List ℕ × ℕ
+with_value state table col key = (key, value (cols_of state.config.tables table) state.rows table key col state.moment)
+
+-- all keys of a table with a row, each with its value of a column, by rank
+unfoldable pub ranking : State → ℕ → Col → List (List ℕ × ℕ)
+ranking state table col = in_order rank_cmp (map (with_value state table col) (keys_of state table))
+
+-- a ranked list: the first keys of its table by its column
+unfoldable pub ranked : State → Rank → List (List ℕ × ℕ)
+ranked state rank = take rank.n (ranking state rank.table rank.col)

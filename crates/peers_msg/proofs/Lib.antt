@@ -1,0 +1,14 @@
+pub mod Integers
+pub mod Payloads
+pub mod Frames
+pub mod Readings
+pub mod Bounds
+pub mod Appended
+pub mod Streams
+pub mod Spellings
+pub mod Numerals
+pub mod Again
+pub mod Exact
+pub mod Says
+pub mod SaysAll
+pub mod ReadsAll

@@ -1,0 +1,41 @@
+-- What a piece gives from what is kept is what the whole stream's reading has beyond the earlier one.
+use Rattle.std.proofs.Common.{◌≡◌, ℕ, List, ◌++◌, Result, Ok, Err, refl, sym, ap, ◌∙◌}
+use Rattle.peers_msg.specs.declared.message.Message.{Message}
+use Rattle.peers_msg.specs.declared.fault.WireCause.{WireCause}
+use Rattle.peers_msg.specs.declared.fault.WireCause.TheVariants.{TooLong, BadInteger, BadField, NoMemory}
+use Rattle.peers_msg.specs.declared.fault.WireFault.{WireFault}
+use Rattle.peers_msg.specs.Message.{Reading, with_front, reading_of}
+use Rattle.peers_msg.specs.Kept.{Kept}
+use Rattle.peers_msg.specs.Feed.{feed_of, fed, kept_after, kept_after_fault, Answers, FaultAnswers, GoesOn, FaultGoesOn}
+use Rattle.peers_msg.proofs.Appended.{reading_more}
+
+fault_goes_on : (cause : WireCause) (before : List Message) (earlier next : Reading) → FaultAnswers cause before next → FaultGoesOn cause before earlier (with_front earlier.messages next)
+fault_goes_on TooLong before earlier next h = (h.0, ap (λ (ms : List Message). earlier.messages ++ ms) (sym h.1))
+fault_goes_on BadInteger before earlier next h = (h.0, ap (λ (ms : List Message). earlier.messages ++ ms) (sym h.1))
+fault_goes_on BadField before earlier next h = (h.0, ap (λ (ms : List Message). earlier.messages ++ ms) (sym h.1))
+fault_goes_on NoMemory before earlier next h = h
+
+answer_goes_on : (result : Result (List Message) WireFault) (earlier next : Reading) → Answers result next → GoesOn result earlier (with_front earlier.messages next)
+answer_goes_on (Ok messages) earlier next h = (h.0, ap (λ (ms : List Message). earlier.messages ++ ms) (sym h.1))
+answer_goes_on (Err fault) earlier next h = fault_goes_on fault.cause fault.before earlier next h
+
+whole_stream : (old : Kept) (taken piece : List ℕ) → old ≡ feed_of taken → reading_of (taken ++ piece) ≡ with_front (reading_of taken).messages (fed old piece)
+whole_stream old taken piece is = reading_more taken piece ∙ ap (λ (kept : Kept). with_front (reading_of taken).messages (fed kept piece)) (sym is)
+
+pub goes_on_stream : (result : Result (List Message) WireFault) (old : Kept) (piece : List ℕ) → Answers result (fed old piece) → (taken : List ℕ) → old ≡ feed_of taken → GoesOn result (reading_of taken) (reading_of (taken ++ piece))
+goes_on_stream result old piece h taken is =
+    rw (whole_stream old taken piece is) (answer_goes_on result (reading_of taken) (fed old piece) h)
+
+kept_fault_same : (cause : WireCause) (old : Kept) (front : List Message) (next : Reading) → kept_after_fault cause old next ≡ kept_after_fault cause old (with_front front next)
+kept_fault_same TooLong old front next = refl
+kept_fault_same BadInteger old front next = refl
+kept_fault_same BadField old front next = refl
+kept_fault_same NoMemory old front next = refl
+
+kept_same : (result : Result (List Message) WireFault) (old : Kept) (front : List Message) (next : Reading) → kept_after result old next ≡ kept_after result old (with_front front next)
+kept_same (Ok messages) old front next = refl
+kept_same (Err fault) old front next = kept_fault_same fault.cause old front next
+
+pub stands_for_stream : (result : Result (List Message) WireFault) (old new : Kept) (piece : List ℕ) → new ≡ kept_after result old (fed old piece) → (taken : List ℕ) → old ≡ feed_of taken → new ≡ kept_after result (feed_of taken) (reading_of (taken ++ piece))
+stands_for_stream result old new piece h taken is =
+    h ∙ kept_same result old (reading_of taken).messages (fed old piece) ∙ ap (kept_after result old) (sym (whole_stream old taken piece is)) ∙ ap (λ (kept : Kept). kept_after result kept (reading_of (taken ++ piece))) is

@@ -1,0 +1,5 @@
+use Rattle.peers_msg.proofs.Again.{reading_again}
+use Rattle.peers_msg.proofs.laws.written_is_read.Goals as goal
+
+pub returns : goal.returns
+returns c = reading_again

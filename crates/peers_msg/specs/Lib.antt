@@ -1,0 +1,9 @@
+pub mod Numeral
+pub mod Payload
+pub mod Message
+pub mod Gives
+pub mod Decoded
+pub mod Spelling
+pub mod Reads
+pub mod Kept
+pub mod Feed

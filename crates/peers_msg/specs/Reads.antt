@@ -1,0 +1,94 @@
+-- What a text says, message by message: relations between whole texts and what they stand for.
+use Rattle.std.specs.Prelude.{◌≡◌, ◌≢◌, ◌⊎◌, ℕ, ◌^◌, ◌<◌, ◌≤◌, List, [], ◌∷◌, ◌++◌, length, slice_index, Option, Some, None}
+use Rattle.std.specs.Int.{w32, from_be_bytes}
+use Rattle.peers_msg.specs.declared.message.Definition.{Definition}
+use Rattle.peers_msg.specs.declared.message.Message.{Message}
+use Rattle.peers_msg.specs.declared.message.Message.TheVariants as messages
+use Rattle.peers_msg.specs.declared.fault.WireCause.{WireCause}
+use Rattle.peers_msg.specs.declared.fault.WireCause.TheVariants.{TooLong, BadInteger, BadField}
+use Rattle.peers_msg.specs.Numeral.{value, IsSpelling, IsIntegerAt, IsCut, IsTooLarge}
+use Rattle.peers_msg.specs.Message.{control_of, error_of}
+use Rattle.peers_msg.specs.Spelling.{update_kind}
+
+abbrev pub AreBytes : List ℕ → Type 0
+AreBytes bytes = (i : ℕ) → slice_index bytes i < 256
+
+-- the text spells the number
+abbrev pub Spells : List ℕ → ℕ → Type 0
+Spells text n = IsSpelling text × (value text ≡ n) × (n < 2 ^ 64)
+
+-- four bytes, big-endian, where there is a number
+abbrev pub SpellsWord : List ℕ → Option ℕ → Type 0
+SpellsWord text None = text ≡ []
+SpellsWord text (Some n) = (length text ≡ 4) × (from_be_bytes w32 text ≡ n)
+
+-- a data type's id up to 18, and its period
+abbrev pub SpellsPair : List ℕ → ℕ × ℕ → Type 0
+SpellsPair text p = (id period : List ℕ) × (text ≡ id ++ period) × Spells id p.0 × Spells period p.1 × (p.0 ≤ 18)
+
+-- these pairs stand at the front, and no further one behind them
+abbrev pub BeginsWithPairs : List ℕ → List (ℕ × ℕ) → Type 0
+BeginsWithPairs bytes [] = (p : ℕ × ℕ) (text rest : List ℕ) → bytes ≡ text ++ rest → SpellsPair text p → ⊥
+BeginsWithPairs bytes (p ∷ ps) = (text rest : List ℕ) × (bytes ≡ text ++ rest) × SpellsPair text p × BeginsWithPairs rest ps
+
+-- the payload of a definition: its fields, one after the other, and the pairs behind them
+pub record Defines (payload : List ℕ) (d : Definition) : Type 0 where
+  pub id : List ℕ
+  pub name_len : List ℕ
+  pub kind : List ℕ
+  pub len : List ℕ
+  pub bits : List ℕ
+  pub expiry : List ℕ
+  pub behind : List ℕ
+  pub whole : payload ≡ id ++ (name_len ++ (d.name ++ (kind ++ (len ++ (bits ++ (expiry ++ behind))))))
+  pub id_is : Spells id d.id
+  pub name_len_is : Spells name_len (length d.name)
+  pub kind_is : Spells kind d.kind
+  pub len_is : Spells len d.len
+  pub bits_is : Spells bits d.bits
+  pub expiry_is : Spells expiry d.expiry
+  pub pairs : BeginsWithPairs behind d.periods
+
+-- what a payload of class 10 says under a type
+abbrev pub SaysOfTable : ℕ → List ℕ → Message → Type 0
+SaysOfTable kind payload (messages.Update id life rest) = (kind ≡ update_kind id life) × ((a b : List ℕ) × (payload ≡ a ++ (b ++ rest)) × SpellsWord a id × SpellsWord b life)
+SaysOfTable kind payload (messages.Define d) = (kind ≡ 130) × Defines payload d
+SaysOfTable kind payload (messages.Switch id) = (kind ≡ 131) × ((a more : List ℕ) × (payload ≡ a ++ more) × Spells a id)
+SaysOfTable kind payload (messages.Acked id last) = (kind ≡ 132) × ((a b more : List ℕ) × (payload ≡ a ++ (b ++ more)) × Spells a id × SpellsWord b (Some last))
+SaysOfTable kind payload (messages.Other class other) = (class ≡ 10) × (other ≡ kind) × ((kind < 128) ⊎ (134 < kind))
+SaysOfTable kind payload message = ⊥
+
+-- what a payload says under a class and a type
+abbrev pub Says : ℕ → ℕ → List ℕ → Message → Type 0
+Says class kind payload message =
+    ((class ≡ 0) × (message ≡ control_of kind)) ⊎ (((class ≡ 1) × (message ≡ error_of kind)) ⊎ (((class ≡ 10) × SaysOfTable kind payload message) ⊎ ((class ≢ 0) × (class ≢ 1) × (class ≢ 10) × (message ≡ messages.Other class kind))))
+
+-- the text is a class, a type, and from type 128 on the payload's length and the payload, which is within the limit
+abbrev pub Frames : List ℕ → ℕ → ℕ → List ℕ → Type 0
+Frames text class kind payload =
+    ((kind < 128) × (payload ≡ []) × (text ≡ class ∷ kind ∷ [])) ⊎ ((128 ≤ kind) × (length payload ≤ 16384) × ((size : List ℕ) × Spells size (length payload) × (text ≡ class ∷ kind ∷ (size ++ payload))))
+
+-- the whole text is this message
+abbrev pub SpellsMessage : List ℕ → Message → Type 0
+SpellsMessage text message = (class kind : ℕ) × (payload : List ℕ) × Frames text class kind payload × Says class kind payload message
+
+-- neither a whole message nor a fault: the length is cut short, or the payload is
+abbrev pub IsRest : List ℕ → Type 0
+IsRest [] = Unit {0}
+IsRest (class ∷ []) = Unit {0}
+IsRest (class ∷ kind ∷ bytes) =
+    (128 ≤ kind) × (IsCut bytes ⊎ ((size part : List ℕ) × (n : ℕ) × (bytes ≡ size ++ part) × Spells size n × (n ≤ 16384) × (length part < n)))
+
+-- this fault stands at the front
+abbrev pub IsFaultAt : WireCause → List ℕ → Type 0
+IsFaultAt TooLong (class ∷ kind ∷ bytes) = (128 ≤ kind) × ((n len : ℕ) × IsIntegerAt bytes n len × (16384 < n))
+IsFaultAt BadInteger (class ∷ kind ∷ bytes) = (128 ≤ kind) × IsTooLarge bytes
+IsFaultAt BadField bytes =
+    (text more : List ℕ) × (class kind : ℕ) × (payload : List ℕ) × (bytes ≡ text ++ more) × Frames text class kind payload × ((message : Message) → Says class kind payload message → ⊥)
+IsFaultAt cause bytes = ⊥
+
+-- the bytes are these messages, one after the other, and then the fault, if one is said, or else a rest
+abbrev pub Reads : List ℕ → List Message → Option WireCause → Type 0
+Reads bytes [] None = IsRest bytes
+Reads bytes [] (Some cause) = IsFaultAt cause bytes
+Reads bytes (message ∷ others) end = (text more : List ℕ) × (bytes ≡ text ++ more) × SpellsMessage text message × Reads more others end

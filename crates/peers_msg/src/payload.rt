@@ -1,0 +1,170 @@
+//! The fields of a message's payload.
+
+ghost use Rattle.std.specs.Prelude.{◌≡◌, ◌<◌, length, IfOk, IfSome, option_map};
+ghost use Rattle.peers_msg.specs.Gives.{Gives, GivesBefore};
+ghost use Rattle.peers_msg.specs.Payload.{number_at, word_at, word_if, string_at, pair_at, pairs_at, definition_of, switch_of, acked_of, update_of};
+
+use crate::integer::read_int;
+use crate::{Definition, Message, WireCause};
+use agg_types::{Items, NoMemory};
+use bytes::Bytes;
+use std::alloc::Global;
+
+/// The greatest id of a data type whose period is kept.
+const LAST_TYPE: u64 = 18;
+
+/// Takes the encoded integer at the front.
+#[inline]
+#[tactic(auto, unfolding(crate::specs::Payload::number_at))]
+fn take_number(rest: &mut Bytes) -> Result<u64, WireCause>
+    ensures { GivesBefore result rest.new (number_at rest.old) }
+{
+    match read_int(rest.as_slice()) {
+        Ok(Some((number, len))) => {
+            rest.advance(len);
+            Ok(number)
+        }
+        Ok(None) => Err(WireCause::BadField),
+        Err(_) => Err(WireCause::BadField),
+    }
+}
+
+/// Takes the four bytes at the front, big-endian.
+#[inline]
+#[tactic(auto, unfolding(crate::specs::Payload::word_at))]
+fn take_word(rest: &mut Bytes) -> Result<u32, WireCause>
+    ensures { GivesBefore result rest.new (word_at rest.old) }
+{
+    if rest.len() < 4 {
+        return Err(WireCause::BadField);
+    }
+    let bytes = rest.as_slice();
+    let word = u32::from_be_bytes([bytes[0], bytes[1], bytes[2], bytes[3]]);
+    rest.advance(4);
+    Ok(word)
+}
+
+/// Takes four bytes where a word is to stand.
+#[inline]
+fn take_word_if(wanted: bool, rest: &mut Bytes) -> Result<Option<u32>, WireCause>
+    ensures { GivesBefore result rest.new (word_if wanted rest.old) }
+{
+    if wanted {
+        Ok(Some(take_word(rest)?))
+    } else {
+        Ok(None)
+    }
+}
+
+/// Takes the length at the front and so many bytes.
+#[tactic(auto, unfolding(crate::specs::Payload::string_at))]
+fn take_string(rest: &mut Bytes) -> Result<Bytes, WireCause>
+    ensures { GivesBefore result rest.new (string_at rest.old) }
+{
+    let len = take_number(rest)? as usize;
+    if rest.len() < len {
+        return Err(WireCause::BadField);
+    }
+    Ok(rest.split_to(len)?)
+}
+
+/// The encoded integer at the front, and the bytes after it.
+#[tactic(auto, unfolding(crate::specs::Payload::number_at))]
+fn number(bytes: &[u8]) -> Option<(u64, &[u8])>
+    ensures exact { option_map (λ x. (x.0, x.1.now)) result ≡ number_at bytes.now }
+    ensures shorter { IfSome result (λ x. length x.1.now < length bytes.now) }
+{
+    match read_int(bytes) {
+        Ok(Some((number, len))) => Some((number, &bytes[len..])),
+        Ok(None) => None,
+        Err(_) => None,
+    }
+}
+
+/// The pair at the front of a data type's id and its period, and the bytes after it.
+#[tactic(auto, unfolding(crate::specs::Payload::pair_at))]
+fn pair(bytes: &[u8]) -> Option<((u64, u64), &[u8])>
+    ensures exact { option_map (λ x. (x.0, x.1.now)) result ≡ pair_at bytes.now }
+    ensures shorter { IfSome result (λ x. length x.1.now < length bytes.now) }
+{
+    let (id, rest) = number(bytes)?;
+    let (period, rest) = number(rest)?;
+    if id > LAST_TYPE {
+        return None;
+    }
+    Some(((id, period), rest))
+}
+
+/// The whole pairs at the front.
+fn pairs(alloc: Global, bytes: &[u8]) -> Result<Items<(u64, u64)>, NoMemory>
+    ensures { IfOk result (λ found. found ≡ pairs_at bytes.now) }
+{
+    let mut found = Vec::new(alloc);
+    let mut rest = bytes;
+    while let Some((next, after)) = pair(rest) {
+        found.push(next)?;
+        rest = after;
+    }
+    Ok(Items::from_vec(found))
+}
+
+/// Reads a definition.
+#[tactic(auto, unfolding(crate::specs::Payload::definition_of))]
+pub(crate) fn read_definition(alloc: Global, payload: Bytes) -> Result<Definition, WireCause>
+    ensures { Gives result (definition_of payload) }
+{
+    let mut rest = payload;
+    let id = take_number(&mut rest)?;
+    let name = take_string(&mut rest)?;
+    let kind = take_number(&mut rest)?;
+    let len = take_number(&mut rest)?;
+    let bits = take_number(&mut rest)?;
+    let expiry = take_number(&mut rest)?;
+    let periods = pairs(alloc, rest.as_slice())?;
+    Ok(Definition {
+        id,
+        name,
+        kind,
+        len,
+        bits,
+        expiry,
+        periods,
+    })
+}
+
+/// Reads a switch.
+#[tactic(auto, unfolding(crate::specs::Payload::switch_of))]
+pub(crate) fn read_switch(payload: Bytes) -> Result<Message, WireCause>
+    ensures { Gives result (switch_of payload) }
+{
+    let mut rest = payload;
+    let id = take_number(&mut rest)?;
+    Ok(Message::Switch(id))
+}
+
+/// Reads an acknowledgement.
+#[tactic(auto, unfolding(crate::specs::Payload::acked_of))]
+pub(crate) fn read_acked(payload: Bytes) -> Result<Message, WireCause>
+    ensures { Gives result (acked_of payload) }
+{
+    let mut rest = payload;
+    let id = take_number(&mut rest)?;
+    let last = take_word(&mut rest)?;
+    Ok(Message::Acked { id, last })
+}
+
+/// Reads an update with or without an id and a remaining life.
+#[inline]
+#[tactic(auto, unfolding(crate::specs::Payload::update_of))]
+pub(crate) fn read_update(
+    has_id: bool,
+    has_life: bool,
+    payload: Bytes,
+) -> Result<Message, WireCause>
+    ensures { Gives result (update_of has_id has_life payload) }
+{
+    let mut rest = payload;
+    let id = take_word_if(has_id, &mut rest)?;
+    let life = take_word_if(has_life, &mut rest)?;
+    Ok(Message::Update { id, life, rest })
+}
