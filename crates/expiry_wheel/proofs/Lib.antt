@@ -1,0 +1,6 @@
+pub mod Steps
+pub mod Left
+pub mod Lists
+pub mod Slotted
+pub mod Turning
+pub mod Grouped

@@ -1,0 +1,7 @@
+pub mod Entries
+pub mod Items
+pub mod Lent
+pub mod Merge
+pub mod Moments
+pub mod Planned
+pub mod Slots

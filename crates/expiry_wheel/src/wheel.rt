@@ -1,0 +1,210 @@
+ghost use Rattle.std.specs.Prelude.{◌≡◌, ◌<◌, ◌≤◌, ◌^◌, [], ◌++◌, ◌+◌, ◌*◌, length, take, drop, Some, IfOk, IfSome, IfNone, MatchOption};
+ghost use Rattle.std.specs.Option.{option_map};
+ghost use Rattle.expiry_wheel.specs.Entries.{first_entry};
+ghost use Rattle.expiry_wheel.specs.Lent.{lent_entry};
+ghost use Rattle.expiry_wheel.specs.Slots.{slot_of, start_of, entries_in, IsFirstOccupied};
+
+use crate::{DueIndex, OrderedDue};
+use agg_types::NoMemory;
+use std::alloc::Global;
+use std::marker::Model;
+use std::mem;
+
+// Levels of 64 slots for every `u64` moment: 64 ^ 11 is above 2 ^ 64.
+const LEVELS: u32 = 11;
+
+const SLOTS: usize = 704;
+
+/// A due index kept as a wheel: levels of 64 slots, each with the entries of its own moments.
+///
+/// The wheel counts from a moment `now`. The entries up to its `near_end` stand together, and each
+/// later one in the slot that its moment has: the level is the highest digit, in base 64, in which
+/// the moment differs from `now`, and the slot that digit. So a slot of the lowest level is one
+/// moment, and a slot of any other is 64 times as long as one of the level below.
+///
+/// When nothing near is left, the first slot with entries is taken near as it is. Each `plan` moves
+/// one more part of what is near back to a slot of its own, until `near_end` is `now` again; where
+/// memory for that is refused, the part stays near.
+#[derive(Drop)]
+pub struct Wheel<T: Ord> {
+    now: u64,
+    near_end: u64,
+    near: OrderedDue<T>,
+    slots: Vec<OrderedDue<T>>,
+}
+
+impl<T: Ord> Model for Wheel<T> {
+    ghost use Rattle.std.specs.Prelude.{List, ℕ, ◌++◌};
+    ghost use Rattle.std.specs.Coded.{coded_list, coded×, coded_ℕ};
+    ghost use Rattle.expiry_wheel.specs.Slots.{entries_in, IsWheel};
+
+    ghost Value = { List (ℕ × T) };
+
+    ghost coded = { coded_list (coded× coded_ℕ T.code) };
+
+    ghost view = { λ a. a.near ++ entries_in a.slots.items };
+
+    ghost invariant = { λ a. IsWheel T.cmp a.now a.near_end a.near a.slots.items };
+}
+
+impl<T: Ord + Drop> Wheel<T> {
+    /// A wheel with no entry that counts from `now`.
+    pub fn new(alloc: Global, now: u64) -> Result<Wheel<T>, NoMemory>
+        ensures { IfOk result (λ wheel. wheel ≡ []) }
+    {
+        let mut slots = Vec::new(alloc);
+        for _ in 0..SLOTS {
+            slots.push(OrderedDue::new(alloc))?;
+        }
+        Ok(Wheel {
+            now,
+            near_end: now,
+            near: OrderedDue::new(alloc),
+            slots,
+        })
+    }
+
+    // Moves the last slot's part of what is near to that slot.
+    fn refine(&mut self)
+        ensures { self.new ≡ self.old }
+    {
+        if self.near_end <= self.now {
+            return;
+        }
+        let slot = slot_at(self.now, self.near_end);
+        if !self.slots[slot].is_empty() {
+            return;
+        }
+        let start = slot_start(LEVELS - 1, self.now, self.near_end);
+        if let Ok(part) = self.near.split_off(start) {
+            self.slots[slot] = part;
+            self.near_end = start - 1;
+        }
+    }
+}
+
+impl<T: Ord + Drop> DueIndex<T> for Wheel<T> {
+    ghost planned = { λ a. a };
+
+    fn plan(&mut self, at: u64, item: T) -> Result<(), NoMemory> {
+        self.refine();
+        if at <= self.near_end {
+            self.near.plan(at, item)
+        } else {
+            let slot = slot_at(self.now, at);
+            self.slots[slot].plan(at, item)
+        }
+    }
+
+    fn cancel(&mut self, at: u64, item: &T) -> bool {
+        if at <= self.near_end {
+            self.near.cancel(at, item)
+        } else {
+            let slot = slot_at(self.now, at);
+            self.slots[slot].cancel(at, item)
+        }
+    }
+
+    fn next_at(&self) -> Option<u64> {
+        let (at, _) = self.after(None)?;
+        Some(at)
+    }
+
+    fn take_due(&mut self, t: u64) -> Option<(u64, T)> {
+        if !self.near.is_empty() {
+            return self.near.take_due(t);
+        }
+        let slot = first_occupied(&self.slots)?;
+        let (first, last) = self.slots[slot].ends()?;
+        if first > t {
+            return None;
+        }
+        mem::swap(&mut self.near, &mut self.slots[slot]);
+        self.now = first;
+        self.near_end = last;
+        self.near.take_due(t)
+    }
+
+    fn after<'a>(&'a self, given: Option<(u64, &'a T)>) -> Option<(u64, &'a T)> {
+        let Some((at, item)) = given else {
+            return match self.near.after(None) {
+                Some(next) => Some(next),
+                None => first_from(&self.slots, 0),
+            };
+        };
+        if at <= self.near_end {
+            return match self.near.after(Some((at, item))) {
+                Some(next) => Some(next),
+                None => first_from(&self.slots, 0),
+            };
+        }
+        let slot = slot_at(self.now, at);
+        match self.slots[slot].after(Some((at, item))) {
+            Some(next) => Some(next),
+            None => first_from(&self.slots, slot + 1),
+        }
+    }
+}
+
+// The first slot with entries.
+fn first_occupied<T: Ord + Drop>(slots: &[OrderedDue<T>]) -> Option<usize>
+    ensures { MatchOption result (entries_in slots.now ≡ []) (IsFirstOccupied slots.now) }
+{
+    for (slot, entries) in slots.iter().enumerate() {
+        if !entries.is_empty() {
+            return Some(slot);
+        }
+    }
+    None
+}
+
+// The first entry of the slots from one on.
+fn first_from<T: Ord + Drop>(slots: &[OrderedDue<T>], from: usize) -> Option<(u64, &T)>
+    requires { from ≤ length slots.now }
+    ensures { option_map lent_entry result ≡ first_entry (entries_in (drop from slots.now)) }
+{
+    for slot in &slots[from..] {
+        if let Some(first) = slot.after(None) {
+            return Some(first);
+        }
+    }
+    None
+}
+
+// The slot of a moment on a wheel that counts from `now`.
+fn slot_at(now: u64, at: u64) -> usize
+    ensures slot { result ≡ slot_of 10 now at }
+    ensures within { result < 704 }
+{
+    slot_below(LEVELS - 1, now, at)
+}
+
+fn slot_below(levels: u32, now: u64, at: u64) -> usize
+    requires few { levels ≤ 10 }
+    requires fits { at < 64 ^ (levels + 1) }
+    ensures slot { result ≡ slot_of levels now at }
+    ensures within { result < 64 * (levels + 1) }
+{
+    if levels == 0 {
+        at as usize
+    } else if at / 64 == now / 64 {
+        (at % 64) as usize
+    } else {
+        64 + slot_below(levels - 1, now / 64, at / 64)
+    }
+}
+
+// The first moment after `now` with the slot of `at`.
+fn slot_start(levels: u32, now: u64, at: u64) -> u64
+    requires { levels ≤ 10 }
+    ensures start { result ≡ start_of levels now at }
+    ensures up_to { result ≤ at }
+{
+    if levels == 0 {
+        at
+    } else if at / 64 == now / 64 {
+        at
+    } else {
+        64 * slot_start(levels - 1, now / 64, at / 64)
+    }
+}

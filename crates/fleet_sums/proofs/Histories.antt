@@ -1,0 +1,232 @@
+-- Sums after a history of rows added and dropped.
+use Rattle.std.proofs.Common.{◌≡◌, ◌≢◌, ℕ, zero, suc, ◌+◌, ◌-◌, ◌<◌, ◌≤◌, Bool, true, false, cond, List, [], ◌∷◌, ◌++◌, length, refl, sym, ◌∙◌, ap, arith, get_or, replicate, ⊎_elim}
+use Rattle.std.specs.Prelude.{Option, Some, None, slice_get, slice_index, sum_by, count_by, remove, unwrap_or}
+use Rattle.std.specs.declared.cmp.Ordering.{Ordering}
+use Rattle.std.specs.declared.cmp.Ordering.TheVariants.{Less, Equal, Greater}
+use Rattle.std.specs.Ordering.{match_ordering, is_eq, nat_cmp, ordering_reverse}
+use Rattle.std.specs.Cmp.{IsTotalOrder, nat_cmp_total, then_total, on_total, eq_by_cmp_equiv}
+use Rattle.std.specs.Cmp.Lexicographic.{slice_cmp, nat_list_cmp_total}
+use Rattle.std.specs.Map.{keys_of, lookup}
+use Rattle.std.specs.BTreeMap.{insert_entry, is_at}
+use Rattle.std.specs.List.Sorted.{IsStrictlySortedBy}
+use Rattle.std.proofs.lemmas.List.{length-replicate, get_or_past, get_or-replicate}
+use Rattle.std.proofs.lemmas.List.Sums.{sum_by-append, sum_by-remove}
+use Rattle.std.proofs.lemmas.Map.{lookup-remove_entry}
+use Rattle.std.proofs.lemmas.Map.Keys.{IsDistinct-from_sorted}
+use Rattle.std.proofs.lemmas.Map.Lookups.{exact_bytes, exact_unsigned, exact_pairs}
+use Rattle.std.proofs.lemmas.Bool.{cases_lt, cases_eq}
+use Rattle.peer_rows.specs.declared.row.Held.{Held}
+use Rattle.peer_rows.proofs.Sorted.{sorted-insert_entry, sorted-remove_entry}
+use Rattle.fleet_sums.specs.Totals.{KeyTotals, no_sums, with_row, without_row, counted_at}
+use Rattle.fleet_sums.specs.Sums.{SumMap, TableKey, table_key_cmp, put_or_take, sums_of, added, dropped}
+use Rattle.fleet_sums.specs.History.{SummedRow, Change, Adds, Drops, standing, IsFair, dropped_row, sums_after, is_row_of, sum_over, empty_sums, TotalsAreSums}
+use Rattle.fleet_sums.proofs.Columns.{get_or-totals_less, get_or-totals_more, length-totals_by}
+use Rattle.fleet_sums.proofs.Keeping.{last_row, not_last_row}
+
+pub table_key_cmp_total : IsTotalOrder table_key_cmp
+table_key_cmp_total = then_total (on_total (λ (q : TableKey). q.0) nat_cmp_total) (on_total (λ (q : TableKey). q.1) nat_list_cmp_total)
+
+-- what is found after an insertion
+pub lookup-insert_entry : {K X : Type 0} {C : K → K → Ordering} → IsTotalOrder C → (es : List (K × X)) (k q : K) (v : X) → lookup (is_at (C q)) (insert_entry C es k v) ≡ cond (is_eq (C q k)) (Some v) (lookup (is_at (C q)) es)
+lookup-insert_entry o [] k q v = refl
+lookup-insert_entry {K} {X} {C} o (e ∷ es) k q v = by (lookup-insert_entry o es k q v) (C k e.0) refl
+  where
+    either : (b : Bool) (rest : Option X) → cond b (Some v) rest ≡ cond b (Some v) (cond b (Some e.1) rest)
+    either true rest = refl
+    either false rest = refl
+
+    above : (r : Ordering) → C q k ≡ r → C k e.0 ≡ Greater → (rest : Option X) → cond (is_eq (C q e.0)) (Some e.1) (cond (is_eq r) (Some v) rest) ≡ cond (is_eq r) (Some v) (cond (is_eq (C q e.0)) (Some e.1) rest)
+    above Less is more rest = refl
+    above Equal is more rest = let far : C q e.0 ≡ Greater = o.congr q k e.0 is ∙ more in rw far refl
+    above Greater is more rest = refl
+
+    by : lookup (is_at (C q)) (insert_entry C es k v) ≡ cond (is_eq (C q k)) (Some v) (lookup (is_at (C q)) es) → (r : Ordering) → C k e.0 ≡ r → lookup (is_at (C q)) (match_ordering r ((k, v) ∷ e ∷ es) ((e.0, v) ∷ es) (e ∷ insert_entry C es k v)) ≡ cond (is_eq (C q k)) (Some v) (cond (is_eq (C q e.0)) (Some e.1) (lookup (is_at (C q)) es))
+    by more Less is = refl
+    by more Equal is = let same : C q e.0 ≡ C q k = o.antisymm q e.0 ∙ ap ordering_reverse (sym (o.congr k e.0 q is)) ∙ sym (o.antisymm q k) in rw same (either (is_eq (C q k)) (lookup (is_at (C q)) es))
+    by more Greater is = rw more (above (C q k) refl is (lookup (is_at (C q)) es))
+
+-- either order of two keys tells whether they are the same
+turned_eq : {K : Type 0} {C : K → K → Ordering} → IsTotalOrder C → (x y : K) → is_eq (C x y) ≡ is_eq (C y x)
+turned_eq {K} {C} o x y = ap is_eq (o.antisymm x y) ∙ by (C y x)
+  where
+    by : (r : Ordering) → is_eq (ordering_reverse r) ≡ is_eq r
+    by Less = refl
+    by Equal = refl
+    by Greater = refl
+
+-- what is found after a value was put or taken out
+lookup-put_or_take : {K X : Type 0} {C : K → K → Ordering} → IsTotalOrder C → (es : List (K × X)) (k q : K) (v : Option X) → IsStrictlySortedBy C (keys_of es) → lookup (is_at (C q)) (put_or_take C es k v) ≡ cond (is_eq (C q k)) v (lookup (is_at (C q)) es)
+lookup-put_or_take o es k q (Some v) s = lookup-insert_entry o es k q v
+lookup-put_or_take {K} {X} {C} o es k q None s =
+    lookup-remove_entry (eq_by_cmp_equiv o) (is_at (C k)) (λ x y e. ap is_eq (o.congr k x y (equal (C k x) e))) q es (IsDistinct-from_sorted C (keys_of es) s)
+    ∙ ap (λ b. cond b None (lookup (is_at (C q)) es)) (turned_eq o k q)
+  where
+    equal : (r : Ordering) → is_eq r ≡ true → r ≡ Equal
+    equal Less e = cc
+    equal Equal e = refl
+    equal Greater e = cc
+
+sorted-put_or_take : {K X : Type 0} {C : K → K → Ordering} → IsTotalOrder C → (es : List (K × X)) (k : K) (v : Option X) → IsStrictlySortedBy C (keys_of es) → IsStrictlySortedBy C (keys_of (put_or_take C es k v))
+sorted-put_or_take {K} {X} {C} o es k None s = sorted-remove_entry C (is_at (C k)) es s
+sorted-put_or_take {K} {X} {C} o es k (Some v) s = sorted-insert_entry C o es k v s
+
+-- a row of a table and key has just these
+same_place : (table : ℕ) (key : List ℕ) (r : SummedRow) → is_row_of table key r ≡ true → (table ≡ r.table) × (key ≡ r.key)
+same_place table key r e =
+    let pairs : (table, key) ≡ (r.table, r.key) = exact_pairs nat_cmp (slice_cmp nat_cmp) exact_unsigned exact_bytes (table, key) (r.table, r.key) (equal (table_key_cmp (table, key) (r.table, r.key)) e) in
+    (ap (λ (q : TableKey). q.0) pairs, ap (λ (q : TableKey). q.1) pairs)
+  where
+    equal : (o : Ordering) → is_eq o ≡ true → o ≡ Equal
+    equal Less w = cc
+    equal Equal w = refl
+    equal Greater w = cc
+
+-- the sums of a key after a row was added: its own, with the row where it is one of the key
+sums_of-added : (s : SumMap) (r : SummedRow) (table : ℕ) (key : List ℕ) → sums_of (added s r.table r.key r.cells) table key ≡ cond (is_row_of table key r) (with_row (sums_of s table key) r.cells) (sums_of s table key)
+sums_of-added s r table key =
+    ap (λ o. unwrap_or o (no_sums (slice_index s.widths table))) (lookup-insert_entry table_key_cmp_total s.entries (r.table, r.key) (table, key) (with_row (sums_of s r.table r.key) r.cells))
+    ∙ by (is_row_of table key r) refl
+  where
+    by : (b : Bool) → is_row_of table key r ≡ b → unwrap_or (cond b (Some (with_row (sums_of s r.table r.key) r.cells)) (lookup (is_at (table_key_cmp (table, key))) s.entries)) (no_sums (slice_index s.widths table)) ≡ cond b (with_row (sums_of s table key) r.cells) (sums_of s table key)
+    by true is = let place = same_place table key r is in rw (place.0, place.1) refl
+    by false is = refl
+
+-- the same after a row was dropped
+sums_of-dropped : (s : SumMap) (r : SummedRow) (table : ℕ) (key : List ℕ) → IsStrictlySortedBy table_key_cmp (keys_of s.entries) → sums_of (dropped s r.table r.key r.cells) table key ≡ cond (is_row_of table key r) (unwrap_or (without_row (sums_of s table key) r.cells) (no_sums (slice_index s.widths table))) (sums_of s table key)
+sums_of-dropped s r table key sorted =
+    ap (λ o. unwrap_or o (no_sums (slice_index s.widths table))) (lookup-put_or_take table_key_cmp_total s.entries (r.table, r.key) (table, key) (without_row (sums_of s r.table r.key) r.cells) sorted)
+    ∙ by (is_row_of table key r) refl
+  where
+    by : (b : Bool) → is_row_of table key r ≡ b → unwrap_or (cond b (without_row (sums_of s r.table r.key) r.cells) (lookup (is_at (table_key_cmp (table, key))) s.entries)) (no_sums (slice_index s.widths table)) ≡ cond b (unwrap_or (without_row (sums_of s table key) r.cells) (no_sums (slice_index s.widths table))) (sums_of s table key)
+    by true is = let place = same_place table key r is in rw (place.0, place.1) refl
+    by false is = refl
+
+-- ---- sums over lists
+sum_by-push : {X : Type 0} (f : X → ℕ) (xs : List X) (x : X) → sum_by f (xs ++ x ∷ []) ≡ sum_by f xs + f x
+sum_by-push f xs x = sum_by-append f xs (x ∷ []) ∙ omega arith
+
+sum_by-cons : {X : Type 0} (f : X → ℕ) (x : X) (xs : List X) → sum_by f (x ∷ xs) ≡ f x + sum_by f xs
+sum_by-cons f x xs = sum_by-append f (x ∷ []) xs ∙ omega arith
+
+-- where no row counts the sum over those that count is 0
+nothing_counted : {X : Type 0} (test : X → Bool) (f : X → ℕ) (xs : List X) → count_by test xs ≡ 0 → sum_by (λ x. cond (test x) (f x) 0) xs ≡ 0
+nothing_counted test f [] e = refl
+nothing_counted {X} test f (x ∷ xs) e = by (nothing_counted test f xs) (test x) (sum_by-cons (λ y. cond (test y) 1 0) x xs) (sum_by-cons (λ y. cond (test y) (f y) 0) x xs)
+  where
+    by : (count_by test xs ≡ 0 → sum_by (λ y. cond (test y) (f y) 0) xs ≡ 0) → (b : Bool) → count_by test (x ∷ xs) ≡ cond b 1 0 + count_by test xs → sum_by (λ y. cond (test y) (f y) 0) (x ∷ xs) ≡ cond b (f x) 0 + sum_by (λ y. cond (test y) (f y) 0) xs → sum_by (λ y. cond (test y) (f y) 0) (x ∷ xs) ≡ 0
+    by more true counts sums = absurd (omega (arith, counts, e))
+    by more false counts sums = let rest = more (omega (arith, counts, e)) in omega (arith, sums, rest)
+
+get_or-found : (rows : List SummedRow) (i : ℕ) (r : SummedRow) → slice_get rows i ≡ Some r → (i < length rows) × (get_or rows i r ≡ r)
+get_or-found [] i r e = cc
+get_or-found (x ∷ rows) zero r e = let first : x ≡ r = cc in (omega arith, first)
+get_or-found (x ∷ rows) (suc i) r e = let more = get_or-found rows i r e in (omega (arith, more.0), more.1)
+
+found_row : (rows : List SummedRow) (i : ℕ) → i < length rows → (r : SummedRow) × (slice_get rows i ≡ Some r)
+found_row [] i h = absurd (omega (arith, h))
+found_row (x ∷ rows) zero h = (x, refl)
+found_row (x ∷ rows) (suc i) h = found_row rows i (omega (arith, h))
+
+-- ---- sums that are those of rows
+record Agrees (widths : List ℕ) (s : SumMap) (rows : List SummedRow) : Type 0 where
+  are : s.widths ≡ widths
+  ordered : IsStrictlySortedBy table_key_cmp (keys_of s.entries)
+  numbers : (table : ℕ) (key : List ℕ) → (sums_of s table key).rows ≡ count_by (is_row_of table key) rows
+  long : (table : ℕ) (key : List ℕ) → length (sums_of s table key).totals ≡ slice_index widths table
+  sums : (table : ℕ) (key : List ℕ) (col : ℕ) → col < slice_index widths table → slice_index (sums_of s table key).totals col ≡ sum_over table key col rows
+
+more_rows : (b : Bool) (k : KeyTotals) (cells : List Held) → (cond b (with_row k cells) k).rows ≡ k.rows + cond b 1 0
+more_rows true k cells = refl
+more_rows false k cells = omega arith
+
+more_long : (b : Bool) (k : KeyTotals) (cells : List Held) → length (cond b (with_row k cells) k).totals ≡ length k.totals
+more_long true k cells = length-totals_by (λ t n. t + n) k.totals cells
+more_long false k cells = refl
+
+more_total : (b : Bool) (k : KeyTotals) (cells : List Held) (col : ℕ) → col < length k.totals → get_or (cond b (with_row k cells) k).totals col 0 ≡ get_or k.totals col 0 + cond b (counted_at cells col) 0
+more_total true k cells col h = get_or-totals_more k.totals cells col h
+more_total false k cells col h = omega arith
+
+agrees-added : (widths : List ℕ) (s : SumMap) (rows : List SummedRow) (r : SummedRow) → Agrees widths s rows → Agrees widths (added s r.table r.key r.cells) (rows ++ r ∷ [])
+agrees-added widths s rows r a = record {
+  are = a.are;
+  ordered = sorted-insert_entry table_key_cmp table_key_cmp_total s.entries (r.table, r.key) (with_row (sums_of s r.table r.key) r.cells) a.ordered;
+  numbers = λ table key. ap (λ (k : KeyTotals). k.rows) (sums_of-added s r table key) ∙ more_rows (is_row_of table key r) (sums_of s table key) r.cells
+      ∙ ap (λ n. n + cond (is_row_of table key r) 1 0) (a.numbers table key) ∙ sym (sum_by-push (λ x. cond (is_row_of table key x) 1 0) rows r);
+  long = λ table key. ap (λ (k : KeyTotals). length k.totals) (sums_of-added s r table key) ∙ more_long (is_row_of table key r) (sums_of s table key) r.cells ∙ a.long table key;
+  sums = λ table key col h. ap (λ (k : KeyTotals). get_or k.totals col 0) (sums_of-added s r table key)
+      ∙ more_total (is_row_of table key r) (sums_of s table key) r.cells col (omega (arith, h, a.long table key))
+      ∙ ap (λ n. n + cond (is_row_of table key r) (counted_at r.cells col) 0) (a.sums table key col h)
+      ∙ sym (sum_by-push (λ x. cond (is_row_of table key x) (counted_at x.cells col) 0) rows r);
+}
+
+zeros : (n i : ℕ) → get_or {A = ℕ} (replicate n 0) i 0 ≡ 0
+zeros n i = ⊎_elim
+    (λ (inside : i < n). get_or-replicate {A = ℕ} n i 0 0 inside)
+    (λ (past : n ≤ i). get_or_past (replicate n 0) i 0 (omega (arith, past, length-replicate {A = ℕ} n 0)))
+    (cases_lt i n)
+
+-- a key's sums after a row of it was dropped
+less : (b : Bool) (k : KeyTotals) (cells : List Held) (width : ℕ) (rows less_rows : ℕ) → k.rows ≡ rows → less_rows + cond b 1 0 ≡ rows → (cond b (unwrap_or (without_row k cells) (no_sums width)) k).rows ≡ less_rows
+less false k cells width rows less_rows is e = omega (arith, is, e)
+less true k cells width rows less_rows is e = ⊎_elim
+    (λ (one : k.rows ≡ 1). let last = last_row k cells one in rw last (omega (arith, one, is, e)))
+    (λ (more : k.rows ≢ 1). let rest = not_last_row k cells more in rw rest (omega (arith, is, e)))
+    (cases_eq k.rows 1)
+
+less_long : (b : Bool) (k : KeyTotals) (cells : List Held) (width : ℕ) → length k.totals ≡ width → length (cond b (unwrap_or (without_row k cells) (no_sums width)) k).totals ≡ width
+less_long false k cells width is = is
+less_long true k cells width is = ⊎_elim
+    (λ (one : k.rows ≡ 1). let last = last_row k cells one in rw last (length-replicate width 0))
+    (λ (more : k.rows ≢ 1). let rest = not_last_row k cells more in rw rest (length-totals_by (λ t n. t - n) k.totals cells ∙ is))
+    (cases_eq k.rows 1)
+
+less_total : (b : Bool) (k : KeyTotals) (cells : List Held) (width : ℕ) (rows : ℕ) (col total less_sum : ℕ) → k.rows ≡ rows + cond b 1 0 → (rows ≡ 0 → less_sum ≡ 0) → get_or k.totals col 0 ≡ total → less_sum + cond b (counted_at cells col) 0 ≡ total → get_or (cond b (unwrap_or (without_row k cells) (no_sums width)) k).totals col 0 ≡ less_sum
+less_total false k cells width rows col total less_sum number none is e = omega (arith, is, e)
+less_total true k cells width rows col total less_sum number none is e = ⊎_elim
+    (λ (one : k.rows ≡ 1). let last = last_row k cells one in rw last (zeros width col ∙ sym (none (omega (arith, number, one)))))
+    (λ (more : k.rows ≢ 1). let rest = not_last_row k cells more in rw (rest, get_or-totals_less k.totals cells col) (omega (arith, is, e)))
+    (cases_eq k.rows 1)
+
+removed : (f : SummedRow → ℕ) (rows : List SummedRow) (i : ℕ) (r : SummedRow) → slice_get rows i ≡ Some r → sum_by f (remove rows i) + f r ≡ sum_by f rows
+removed f rows i r found = let at = get_or-found rows i r found in ap (λ x. sum_by f (remove rows i) + f x) (sym at.1) ∙ sum_by-remove f rows i r at.0
+
+agrees-dropped : (widths : List ℕ) (s : SumMap) (rows : List SummedRow) (i : ℕ) (r : SummedRow) → slice_get rows i ≡ Some r → Agrees widths s rows → Agrees widths (dropped s r.table r.key r.cells) (remove rows i)
+agrees-dropped widths s rows i r found a = record {
+  are = a.are;
+  ordered = sorted-put_or_take table_key_cmp_total s.entries (r.table, r.key) (without_row (sums_of s r.table r.key) r.cells) a.ordered;
+  numbers = λ table key. ap (λ (k : KeyTotals). k.rows) (sums_of-dropped s r table key a.ordered)
+      ∙ less (is_row_of table key r) (sums_of s table key) r.cells (slice_index s.widths table) (count_by (is_row_of table key) rows) (count_by (is_row_of table key) (remove rows i)) (a.numbers table key) (removed (λ x. cond (is_row_of table key x) 1 0) rows i r found);
+  long = λ table key. ap (λ (k : KeyTotals). length k.totals) (sums_of-dropped s r table key a.ordered)
+      ∙ less_long (is_row_of table key r) (sums_of s table key) r.cells (slice_index s.widths table) (a.long table key ∙ ap (λ ws. slice_index ws table) (sym a.are))
+      ∙ ap (λ ws. slice_index ws table) a.are;
+  sums = λ table key col h. ap (λ (k : KeyTotals). get_or k.totals col 0) (sums_of-dropped s r table key a.ordered)
+      ∙ less_total (is_row_of table key r) (sums_of s table key) r.cells (slice_index s.widths table) (count_by (is_row_of table key) (remove rows i)) col (sum_over table key col rows) (sum_over table key col (remove rows i))
+      (a.numbers table key ∙ sym (removed (λ x. cond (is_row_of table key x) 1 0) rows i r found))
+      (nothing_counted (is_row_of table key) (λ x. counted_at x.cells col) (remove rows i))
+      (a.sums table key col h)
+      (removed (λ x. cond (is_row_of table key x) (counted_at x.cells col) 0) rows i r found);
+}
+
+agrees-after : (widths : List ℕ) (changes : List Change) (s : SumMap) (rows : List SummedRow) → Agrees widths s rows → IsFair widths rows changes → Agrees widths (sums_after s rows changes) (standing rows changes)
+agrees-after widths [] s rows a fair = a
+agrees-after widths (Adds r ∷ changes) s rows a fair = agrees-after widths changes (added s r.table r.key r.cells) (rows ++ r ∷ []) (agrees-added widths s rows r a) fair.1
+agrees-after widths (Drops i ∷ changes) s rows a fair =
+    let r = found_row rows i fair.0 in
+    let agrees : Agrees widths (dropped_row s (slice_get rows i)) (remove rows i) = rw r.1 (agrees-dropped widths s rows i r.0 r.1 a) in
+    agrees-after widths changes (dropped_row s (slice_get rows i)) (remove rows i) agrees fair.1
+
+agrees-empty : (widths : List ℕ) → Agrees widths (empty_sums widths) []
+unfolding IsStrictlySortedBy
+agrees-empty widths = record {
+  are = refl;
+  ordered = tt;
+  numbers = λ table key. refl;
+  long = λ table key. length-replicate (slice_index widths table) 0;
+  sums = λ table key col h. zeros (slice_index widths table) col;
+}
+
+pub totals_are_sums_lem : TotalsAreSums
+totals_are_sums_lem widths changes fair table key =
+    let a : Agrees widths (sums_after (empty_sums widths) [] changes) (standing [] changes) = agrees-after widths changes (empty_sums widths) [] (agrees-empty widths) fair in
+    (a.numbers table key, λ col h. a.sums table key col h)

@@ -1,0 +1,4 @@
+pub mod Columns
+pub mod Histories
+pub mod Keeping
+pub mod Placing

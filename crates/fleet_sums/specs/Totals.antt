@@ -1,0 +1,45 @@
+use Rattle.std.specs.Prelude.{ℕ, zero, suc, ◌+◌, ◌-◌, ◌==◌, ◌≤◌, ◌*◌, ◌^◌, List, [], ◌∷◌, Option, Some, None, if◌then◌else◌, replicate, slice_index}
+use Rattle.peer_rows.specs.declared.row.Held.{Held}
+use Rattle.peer_rows.specs.declared.row.Held.TheVariants.{Count, Rate}
+
+-- what a cell adds to a total: a count its number, a rate nothing
+abbrev pub counted : Held → ℕ
+counted (Count n) = n
+counted (Rate r) = 0
+
+-- what a row adds in a column
+abbrev pub counted_at : List Held → ℕ → ℕ
+counted_at [] col = 0
+counted_at (c ∷ cs) zero = counted c
+counted_at (c ∷ cs) (suc col) = counted_at cs col
+
+-- totals, each with its cell's count worked in
+abbrev pub totals_by : (ℕ → ℕ → ℕ) → List ℕ → List Held → List ℕ
+totals_by f [] cells = []
+totals_by f (t ∷ ts) [] = t ∷ ts
+totals_by f (t ∷ ts) (c ∷ cs) = f t (counted c) ∷ totals_by f ts cs
+
+-- the sums of a key: how many rows it has, and the total of each column
+pub record KeyTotals : Type 0 where
+  pub rows : ℕ
+  pub totals : List ℕ
+
+-- no row, and nothing in any column
+abbrev pub no_sums : ℕ → KeyTotals
+no_sums width = record { rows = 0; totals = replicate width 0 }
+
+-- the sums with one row more
+abbrev pub with_row : KeyTotals → List Held → KeyTotals
+with_row k cells = record { rows = k.rows + 1; totals = totals_by (λ t n. t + n) k.totals cells }
+
+-- the sums with one row less
+abbrev pub with_row_less : KeyTotals → List Held → KeyTotals
+with_row_less k cells = record { rows = k.rows - 1; totals = totals_by (λ t n. t - n) k.totals cells }
+
+-- the same, or none where it was the last row
+abbrev pub without_row : KeyTotals → List Held → Option KeyTotals
+without_row k cells = if k.rows == 1 then None else Some (with_row_less k cells)
+
+-- each total is at most what so many rows can have counted
+abbrev pub IsBounded : KeyTotals → Type 0
+IsBounded k = (col : ℕ) → slice_index k.totals col ≤ k.rows * (2 ^ 64 - 1)

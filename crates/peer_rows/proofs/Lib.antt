@@ -1,0 +1,6 @@
+pub mod Sorted
+pub mod Selecting
+pub mod Spreading
+pub mod Keying
+pub mod Kept
+pub mod Placing

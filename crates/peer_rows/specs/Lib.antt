@@ -1,0 +1,4 @@
+pub mod Listing
+pub mod Spread
+pub mod Table
+pub mod Rows

@@ -1,0 +1,61 @@
+ghost use Rattle.std.specs.Prelude.{◌≡◌, length};
+ghost use Rattle.std.specs.Iterator.{at_most};
+ghost use Rattle.std.specs.Map.Iter.{TakesFirst};
+ghost use Rattle.peer_rows.specs.Listing.{spot_and_row};
+ghost use Rattle.peer_rows.specs.Table.{rows_in};
+
+use crate::Row;
+use crate::key_rows::KeyRows;
+use agg_types::Key;
+use std::collections::btree_map::Iter;
+use std::marker::Model;
+
+/// Lends the rows of a table, each with its key and the peer that holds it, by key, then by peer.
+/// Takes no memory.
+///
+/// Contracts see the list of what it has left.
+#[derive(Drop)]
+pub struct ByKey<'a> {
+    at: Option<(&'a Key, Iter<'a, usize, Row>)>,
+    keys: Iter<'a, Key, KeyRows>,
+}
+
+impl<'a> Model for ByKey<'a> {
+    ghost use Rattle.std.specs.Prelude.{List, ◌++◌};
+    ghost use Rattle.peer_rows.specs.declared.row.Row.{Row};
+    ghost use Rattle.peer_rows.specs.Table.{Spot, rows_in};
+    ghost use Rattle.peer_rows.specs.Listing.{left_at};
+
+    ghost Value = { List (Spot × Row) };
+
+    ghost view = { λ rows. left_at rows.at ++ rows_in rows.keys };
+}
+
+impl<'a> ByKey<'a> {
+    // All rows of these keys.
+    pub(crate) fn new(keys: Iter<'a, Key, KeyRows>) -> ByKey<'a>
+        ensures { result ≡ rows_in keys.entry }
+    {
+        ByKey { at: None, keys }
+    }
+}
+
+impl<'a> Iterator for ByKey<'a> {
+    type Item = (&'a Key, usize, &'a Row);
+
+    ghost next_gives = { TakesFirst spot_and_row };
+
+    ghost remaining = { λ rows. at_most (length rows) };
+
+    fn next(&mut self) -> Option<(&'a Key, usize, &'a Row)> {
+        if let Some(at) = &mut self.at {
+            if let Some((peer, row)) = at.1.next() {
+                return Some((at.0, *peer, row));
+            }
+        }
+        let (key, rows) = self.keys.next()?;
+        let ((peer, row), more) = rows.split_first();
+        self.at = Some((key, more));
+        Some((key, peer, row))
+    }
+}

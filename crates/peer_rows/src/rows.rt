@@ -1,0 +1,131 @@
+ghost use Rattle.std.specs.Prelude.{◌≡◌, ◌<◌, [], length, filter, count_by, not, map, IsOk, IsSome, IfOk, OnOk, OnErr};
+ghost use Rattle.std.specs.Option.{option_copied};
+ghost use Rattle.std.specs.Map.{lookup, remove_entry};
+ghost use Rattle.std.specs.BTreeMap.{insert_entry, is_at};
+ghost use Rattle.agg_types.specs.Place.{place_cmp};
+
+use crate::table::Table;
+use crate::{ByKey, OfKey, Row};
+use agg_types::{Key, NoMemory};
+use std::alloc::Global;
+use std::marker::Model;
+
+/// The rows of a fleet: for each peer, table and key at most one.
+///
+/// Peers and tables are named by their positions. Contracts see the numbers of peers and tables, and
+/// the rows as the list of the entries of a finite map, by table, then by key, then by peer.
+#[derive(Debug, Drop)]
+pub struct Rows {
+    peers: usize,
+    tables: Vec<Table>,
+}
+
+impl Model for Rows {
+    ghost use Rattle.std.specs.Prelude.{length};
+    ghost use Rattle.peer_rows.specs.Rows.{RowMap, placed, AreTables};
+
+    ghost Value = { RowMap };
+
+    ghost view = { λ rows. record { peers = rows.peers; tables = length rows.tables.items; entries = placed rows.tables.items } };
+
+    ghost invariant = { λ rows. AreTables rows.peers rows.tables.items };
+}
+
+impl Rows {
+    ghost use Rattle.peer_rows.specs.Rows.{place_of, in_table, of_table_key, of_table_peer, AreInOrder};
+
+    /// No rows, for these numbers of peers and of tables.
+    pub fn new(alloc: Global, peers: usize, tables: usize) -> Result<Rows, NoMemory>
+        ensures { IfOk result (λ rows. rows ≡ record { peers = peers; tables = tables; entries = [] }) }
+    {
+        let mut empty = Vec::new(alloc);
+        for _table in 0..tables {
+            empty.push(Table::new(alloc, peers)?)?;
+        }
+        Ok(Rows {
+            peers,
+            tables: empty,
+        })
+    }
+
+    /// The row of a peer, table and key, if there is one. Takes no memory.
+    pub fn get(&self, peer: usize, table: usize, key: &Key) -> Option<&Row>
+        requires peer_in { peer < self.now.peers }
+        requires table_in { table < self.now.tables }
+        ensures value { option_copied result ≡ lookup (is_at (place_cmp (place_of table key.now peer))) self.now.entries }
+        ensures ordered { AreInOrder self.now.entries }
+    {
+        self.tables[table].get(peer, key)
+    }
+
+    /// How many rows a peer holds of a table, in constant time. Takes no memory.
+    pub fn count(&self, peer: usize, table: usize) -> usize
+        requires peer_in { peer < self.now.peers }
+        requires table_in { table < self.now.tables }
+        ensures value { result ≡ count_by (λ e. of_table_peer table peer e.0) self.now.entries }
+        ensures ordered { AreInOrder self.now.entries }
+    {
+        self.tables[table].count(peer)
+    }
+
+    /// Puts a row in the place of the row that stood there, which comes back.
+    ///
+    /// Takes no memory where there was one. After `NoMemory` no row has changed.
+    pub fn put(
+        &mut self,
+        peer: usize,
+        table: usize,
+        key: Key,
+        row: Row,
+    ) -> Result<Option<Row>, NoMemory>
+        requires peer_in { peer < self.old.peers }
+        requires table_in { table < self.old.tables }
+        ensures ok { OnOk result (self.new ≡ record self.old { entries = insert_entry place_cmp self.old.entries (place_of table key peer) row }) }
+        ensures old { IfOk result (λ old. old ≡ lookup (is_at (place_cmp (place_of table key peer))) self.old.entries) }
+        ensures held { IsSome (lookup (is_at (place_cmp (place_of table key peer))) self.old.entries) → IsOk result }
+        ensures err { OnErr result (self.new ≡ self.old) }
+        ensures ordered { AreInOrder self.new.entries }
+    {
+        self.tables[table].put(peer, key, row)
+    }
+
+    /// Takes the row of a peer, table and key out, if there is one. Takes no memory.
+    pub fn take(&mut self, peer: usize, table: usize, key: &Key) -> Option<Row>
+        requires peer_in { peer < self.old.peers }
+        requires table_in { table < self.old.tables }
+        ensures value { result ≡ lookup (is_at (place_cmp (place_of table key.now peer))) self.old.entries }
+        ensures after { self.new ≡ record self.old { entries = remove_entry (is_at (place_cmp (place_of table key.now peer))) self.old.entries } }
+        ensures ordered { AreInOrder self.new.entries }
+    {
+        self.tables[table].take(peer, key)
+    }
+
+    /// Takes the rows of a table and key out, over all peers, and says how many. Takes no memory.
+    pub fn clear_key(&mut self, table: usize, key: &Key) -> usize
+        requires { table < self.old.tables }
+        ensures after { self.new ≡ record self.old { entries = filter (λ e. not (of_table_key table key.now e.0)) self.old.entries } }
+        ensures value { result ≡ count_by (λ e. of_table_key table key.now e.0) self.old.entries }
+        ensures ordered { AreInOrder self.new.entries }
+    {
+        self.tables[table].clear_key(key)
+    }
+
+    /// Lends the rows of a table, each once, by key, then by peer. Takes no memory.
+    pub fn by_key(&self, table: usize) -> ByKey<'_>
+        requires { table < self.now.tables }
+        ensures value { result ≡ map (λ e. ((e.0.key, e.0.peer), e.1)) (filter (λ e. in_table table e.0) self.now.entries) }
+        ensures ordered { AreInOrder self.now.entries }
+    {
+        self.tables[table].by_key()
+    }
+
+    /// Lends the rows of a table and key over all peers, by peer: one search, and then the rows that
+    /// there are. Takes no memory.
+    pub fn of_key(&self, table: usize, key: &Key) -> OfKey<'_>
+        requires { table < self.now.tables }
+        ensures value { result ≡ map (λ e. (e.0.peer, e.1)) (filter (λ e. of_table_key table key.now e.0) self.now.entries) }
+        ensures ordered { AreInOrder self.now.entries }
+    {
+        self.tables[table].of_key(key)
+    }
+}

@@ -1,0 +1,130 @@
+ghost use Rattle.std.specs.Prelude.{◌≡◌, ◌+◌, ◌<◌, ◌≤◌, ℕ, [], length, filter, not, map, slice_index, IsOk, IsSome, IfOk, OnOk, OnErr};
+ghost use Rattle.std.specs.Option.{option_copied};
+ghost use Rattle.std.specs.Map.{lookup, remove_entry};
+ghost use Rattle.std.specs.BTreeMap.{insert_entry, is_at};
+ghost use Rattle.peer_rows.specs.Table.{rows_at_peer};
+
+use crate::key_rows::KeyRows;
+use crate::keyed::{Keyed, put_row, row_at, take_row};
+use crate::{ByKey, OfKey, Row};
+use agg_types::{Key, NoMemory};
+use std::alloc::Global;
+use std::collections::BTreeMap;
+use std::marker::Model;
+
+/// The rows of a table: by key, then by peer, with the number of each peer's rows beside.
+#[derive(Debug, Drop)]
+pub(crate) struct Table {
+    keys: Keyed,
+    counts: Vec<usize>,
+}
+
+impl Model for Table {
+    ghost use Rattle.std.specs.Prelude.{length};
+    ghost use Rattle.peer_rows.specs.Table.{TableRows, rows_in, IsKept};
+
+    ghost Value = { TableRows };
+
+    ghost view = { λ table. record { peers = length table.counts.items; entries = rows_in table.keys.entries } };
+
+    ghost invariant = { λ table. IsKept table.keys.entries table.counts.items };
+}
+
+impl Table {
+    ghost use Rattle.peer_rows.specs.Table.{spot_cmp, same_key, rows_of_peer};
+
+    /// A table without rows.
+    pub(crate) fn new(alloc: Global, peers: usize) -> Result<Table, NoMemory>
+        ensures { IfOk result (λ table. table ≡ record { peers = peers; entries = [] }) }
+    {
+        Ok(Table {
+            keys: BTreeMap::new(alloc),
+            counts: vec![in alloc; 0; peers]?,
+        })
+    }
+
+    /// The row of a peer and key.
+    pub(crate) fn get(&self, peer: usize, key: &Key) -> Option<&Row>
+        ensures { option_copied result ≡ lookup (is_at (spot_cmp (key.now, peer))) self.now.entries }
+    {
+        row_at(&self.keys, peer, key)
+    }
+
+    /// How many rows a peer holds.
+    pub(crate) fn count(&self, peer: usize) -> usize
+        requires { peer < self.now.peers }
+        ensures { result ≡ rows_of_peer peer self.now.entries }
+    {
+        self.counts[peer]
+    }
+
+    /// Puts a row in the place of an older one, which comes back.
+    pub(crate) fn put(&mut self, peer: usize, key: Key, row: Row) -> Result<Option<Row>, NoMemory>
+        requires { peer < self.old.peers }
+        ensures ok { OnOk result (self.new ≡ record self.old { entries = insert_entry spot_cmp self.old.entries (key, peer) row }) }
+        ensures old { IfOk result (λ old. old ≡ lookup (is_at (spot_cmp (key, peer))) self.old.entries) }
+        ensures held { IsSome (lookup (is_at (spot_cmp (key, peer))) self.old.entries) → IsOk result }
+        ensures err { OnErr result (self.new ≡ self.old) }
+    {
+        let alloc = *self.counts.allocator();
+        let old = put_row(alloc, &mut self.keys, peer, key, row)?;
+        if old.is_none() {
+            self.counts[peer] += 1;
+        }
+        Ok(old)
+    }
+
+    /// Takes a row out.
+    pub(crate) fn take(&mut self, peer: usize, key: &Key) -> Option<Row>
+        requires { peer < self.old.peers }
+        ensures value { result ≡ lookup (is_at (spot_cmp (key.now, peer))) self.old.entries }
+        ensures after { self.new ≡ record self.old { entries = remove_entry (is_at (spot_cmp (key.now, peer))) self.old.entries } }
+    {
+        let old = take_row(&mut self.keys, peer, key);
+        if old.is_some() {
+            self.counts[peer] -= 1;
+        }
+        old
+    }
+
+    /// Takes all rows of a key out, and says how many.
+    pub(crate) fn clear_key(&mut self, key: &Key) -> usize
+        ensures after { self.new ≡ record self.old { entries = filter (λ e. not (same_key key.now e.0.0)) self.old.entries } }
+        ensures value { result ≡ length (filter (λ e. same_key key.now e.0.0) self.old.entries) }
+    {
+        match self.keys.remove(key) {
+            Some(rows) => {
+                count_down(&mut self.counts, &rows);
+                rows.len()
+            }
+            None => 0,
+        }
+    }
+
+    /// The rows of a key, by peer.
+    pub(crate) fn of_key(&self, key: &Key) -> OfKey<'_>
+        ensures { result ≡ map (λ e. (e.0.1, e.1)) (filter (λ e. same_key key.now e.0.0) self.now.entries) }
+    {
+        match self.keys.get(key) {
+            Some(rows) => rows.iter(),
+            None => OfKey::none(),
+        }
+    }
+
+    /// All rows, by key, then by peer.
+    pub(crate) fn by_key(&self) -> ByKey<'_>
+        ensures { result ≡ self.now.entries }
+    {
+        ByKey::new(self.keys.iter())
+    }
+}
+
+// Counts each of a key's rows one down at its peer.
+fn count_down(counts: &mut [usize], rows: &KeyRows)
+    requires { (peer : ℕ) → rows_at_peer peer rows.now ≤ slice_index counts.old peer }
+    ensures { (peer : ℕ) → slice_index counts.new peer + rows_at_peer peer rows.now ≡ slice_index counts.old peer }
+{
+    for (peer, _) in rows.iter() {
+        counts[peer] -= 1;
+    }
+}

@@ -1,0 +1,10 @@
+pub mod ValueLemmas
+pub mod RunLemmas
+pub mod PieceLemmas
+pub mod TrackLemmas
+pub mod HearLemmas
+pub mod TalkLemmas
+pub mod HelloLemmas
+pub mod PieceTalk
+pub mod ToldLemmas
+pub mod FitLemmas

@@ -1,0 +1,7 @@
+use Rattle.std.proofs.Common.{ap, ◌∙◌}
+use Rattle.session_core.specs.declared.stage.Stage.TheVariants.{Greeting}
+use Rattle.session_core.proofs.ToldLemmas.{stage_of_none}
+use Rattle.session_core.proofs.session.Session.accept.Goals as goal
+
+pub returns-clause-stands : goal.returns-clause-stands
+returns-clause-stands c = λ setup. ap (λ bytes. Greeting bytes) (c.from_vec.ensures ∙ c.new.ensures.items) ∙ stage_of_none setup c.args.seated

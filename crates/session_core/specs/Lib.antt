@@ -1,0 +1,12 @@
+pub mod Hello
+pub mod Values
+pub mod Cause
+pub mod Tracked
+pub mod Run
+pub mod Batched
+pub mod Piece
+pub mod Silence
+pub mod Standing
+pub mod InForce
+pub mod Talk
+pub mod Told

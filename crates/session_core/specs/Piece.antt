@@ -1,0 +1,117 @@
+-- What a piece of the stream gives, from what is kept before it.
+use Rattle.std.specs.Prelude.{◌≡◌, ℕ, Bool, List, [], ◌∷◌, ◌++◌, codes, Option, Some, None, Result, Ok, Err}
+use Rattle.std.specs.Option.{option_map}
+use Rattle.peers_msg.specs.declared.fault.WireCause.TheVariants.{TooLong, BadInteger, BadField, NoMemory}
+use Rattle.peers_msg.specs.declared.fault.WireCause.{WireCause}
+use Rattle.peers_msg.specs.declared.message.Message.{Message}
+use Rattle.peers_msg.specs.Kept.{Kept}
+use Rattle.peers_msg.specs.Message.{Reading, reading_of}
+use Rattle.peers_msg.specs.Feed.{fed, feed_of, kept_of}
+use Rattle.agg_types.specs.declared.config.Config.{Config}
+use Rattle.agg_types.specs.declared.config.Shape.{Shape}
+use Rattle.agg_types.specs.declared.event.What.{What}
+use Rattle.agg_types.specs.declared.event.What.TheVariants.{Open}
+use Rattle.session_core.specs.declared.cause.Status.{Status}
+use Rattle.session_core.specs.declared.cause.Status.TheVariants as status
+use Rattle.session_core.specs.declared.cause.End.{End}
+use Rattle.session_core.specs.declared.cause.End.TheVariants as ends
+use Rattle.session_core.specs.declared.stage.Dialogue.{Dialogue}
+use Rattle.session_core.specs.declared.stage.Stage.{Stage}
+use Rattle.session_core.specs.declared.stage.Stage.TheVariants.{Greeting, Talking, Over}
+use Rattle.session_core.specs.declared.stage.Taken.{Taken}
+use Rattle.session_core.specs.Batched.{Batched}
+use Rattle.session_core.specs.Hello.{hello_of}
+use Rattle.session_core.specs.Tracked.{Tracked}
+use Rattle.session_core.specs.Run.{Run, run, acks_of, settled}
+
+-- what a session uses of a configuration
+pub record Setup : Type 0 where
+  pub me : List ℕ
+  pub peers : List (List ℕ)
+  pub tables : List Shape
+
+abbrev pub setup_of : Config → Setup
+setup_of config = record { me = config.me; peers = config.peers; tables = config.tables }
+
+-- the line that answers a hello
+abbrev pub status_text : Status → List ℕ
+status_text status.Accepted = codes "200\n"
+status_text status.TryLater = codes "300\n"
+status_text status.Protocol = codes "501\n"
+status_text status.Version = codes "502\n"
+status_text status.LocalName = codes "503\n"
+status_text status.RemoteName = codes "504\n"
+
+-- what is sent at the end of a stream of messages: size limit reached, or protocol error
+abbrev pub end_text : End → List ℕ
+end_text (ends.Wire TooLong) = 1 ∷ 1 ∷ []
+end_text (ends.Wire BadInteger) = 1 ∷ 0 ∷ []
+end_text (ends.Wire BadField) = 1 ∷ 0 ∷ []
+end_text (ends.Wire NoMemory) = []
+end_text (ends.Refused status) = []
+end_text ends.PeerError = []
+end_text ends.TimedOut = []
+
+abbrev pub nothing : Batched
+nothing = record { facts = []; replies = []; acks = [] }
+
+abbrev pub first_end : Option End → Option End → Option End
+first_end None other = other
+first_end (Some end) other = Some end
+
+-- the end that a message shows, or else that of the stream
+abbrev pub end_of : Run → Reading → Option End
+end_of run reading = first_end run.end (option_map (λ wire. ends.Wire wire) reading.fault)
+
+-- what a piece of messages gives, where it ends the session and where it doesn't
+abbrev pub conversed : ℕ → Kept → Run → Option End → Taken
+conversed peer kept run None =
+    record {
+      stage = Talking (record { peer = peer; feed = kept; track = record { entries = settled run.track.entries; current = run.track.current } });
+      batch = record { facts = run.facts; replies = run.replies; acks = acks_of run.track.entries };
+      end = None;
+    }
+conversed peer kept run (Some end) =
+    record {
+      stage = Over end (Some peer);
+      batch = record { facts = run.facts; replies = run.replies ++ end_text end; acks = acks_of run.track.entries };
+      end = Some end;
+    }
+
+unfoldable pub talked : List Shape → ℕ → Tracked → Reading → Taken
+talked tables peer track reading =
+    conversed peer (kept_of reading) (run tables peer track reading.messages) (end_of (run tables peer track reading.messages) reading)
+
+-- behind what was said before it in the same piece
+abbrev pub said_before : List What → List ℕ → Taken → Taken
+said_before facts replies taken =
+    record { stage = taken.stage; batch = record { facts = facts ++ taken.batch.facts; replies = replies ++ taken.batch.replies; acks = taken.batch.acks }; end = taken.end }
+
+-- what answers an accepted hello: 200, and a resync request
+abbrev pub welcome : List ℕ
+welcome = codes "200\n" ++ (0 ∷ 0 ∷ [])
+
+abbrev pub untracked : Tracked
+untracked = record { entries = []; current = None }
+
+abbrev pub opened : List Shape → ℕ × List ℕ → Taken
+opened tables hello = said_before (Open hello.0 ∷ []) welcome (talked tables hello.0 untracked (reading_of hello.1))
+
+abbrev pub refused : Status → Taken
+refused status =
+    record { stage = Over (ends.Refused status) None; batch = record { facts = []; replies = status_text status; acks = [] }; end = Some (ends.Refused status) }
+
+abbrev pub greeted : List Shape → List ℕ → Result (Option (ℕ × List ℕ)) Status → Taken
+greeted tables bytes (Ok None) = record { stage = Greeting bytes; batch = nothing; end = None }
+greeted tables bytes (Err status) = refused status
+greeted tables bytes (Ok (Some hello)) = opened tables hello
+
+-- what a piece gives, from what is kept
+unfoldable pub piece_of : Setup → Bool → Stage → List ℕ → Taken
+piece_of setup seated (Greeting bytes) piece = greeted setup.tables (bytes ++ piece) (hello_of setup.me setup.peers seated (bytes ++ piece))
+piece_of setup seated (Talking dialogue) piece = talked setup.tables dialogue.peer dialogue.track (fed dialogue.feed piece)
+piece_of setup seated (Over end peer) piece = record { stage = Over end peer; batch = nothing; end = Some end }
+
+-- messages, fault and rest are those of the reading
+abbrev pub Reads : List Message → Option WireCause → Kept → Reading → Type 0
+Reads messages fault kept reading = (messages ≡ reading.messages) × (fault ≡ reading.fault) × (kept ≡ kept_of reading)

@@ -1,0 +1,134 @@
+-- What a session keeps of its sender's tables: for each id that was ever followed its last update id and its definition.
+use Rattle.std.specs.Prelude.{◌≡◌, ℕ, zero, suc, ◌+◌, ◌%◌, ◌^◌, Bool, true, false, nat_le, nat_lt, ◌==◌, ◌&&◌, if◌then◌else◌, List, [], ◌∷◌, ◌++◌, length, map, insert, position, slice_get, slice_set, unwrap_or, Option, Some, None}
+use Rattle.std.specs.Option.{option_map}
+use Rattle.std.specs.Str.{bytes_eq}
+use Rattle.peers_msg.specs.declared.fault.WireCause.TheVariants.{BadField}
+use Rattle.peers_msg.specs.declared.message.Definition.{Definition}
+use Rattle.peers_msg.specs.declared.message.Message.{Message}
+use Rattle.peers_msg.specs.declared.message.Message.TheVariants as messages
+use Rattle.peers_msg.specs.Payload.{◌>>=◌}
+use Rattle.agg_types.specs.declared.config.KeyKind.{KeyKind}
+use Rattle.agg_types.specs.declared.config.KeyKind.TheVariants.{Integer, Ip, Ipv6, Str, Binary}
+use Rattle.agg_types.specs.declared.config.Shape.{Shape}
+use Rattle.agg_types.specs.declared.event.What.{What}
+use Rattle.agg_types.specs.declared.event.What.TheVariants.{Put}
+use Rattle.session_core.specs.declared.cause.End.TheVariants.{Wire, PeerError}
+use Rattle.session_core.specs.declared.track.Followed.{Followed}
+use Rattle.session_core.specs.declared.track.Entry.{Entry}
+use Rattle.session_core.specs.declared.track.Heard.{Heard}
+use Rattle.session_core.specs.declared.track.Heard.TheVariants.{Nothing, Confirm, Partial, Fact, End}
+use Rattle.session_core.specs.Values.{key_at, sents_at, periods_of, cells_of, life_of}
+
+-- the ids' entries, ascending by id, and the place of the one in force, if it is followed
+pub record Tracked : Type 0 where
+  pub entries : List Entry
+  pub current : Option ℕ
+
+-- whether a definition's key is that of a table; the length of a string key isn't compared
+abbrev pub is_key_of : KeyKind → ℕ → ℕ → Bool
+is_key_of Integer kind len = kind == 2 && len == 4
+is_key_of Ip kind len = kind == 4 && len == 4
+is_key_of Ipv6 kind len = kind == 5 && len == 16
+is_key_of (Str most) kind len = kind == 6
+is_key_of (Binary exact) kind len = kind == 7 && len == exact
+
+-- what a definition says for the table at this position, if its key is that table's
+unfoldable pub followed_at : ℕ → Definition → Shape → Option Followed
+followed_at table definition shape =
+    if is_key_of shape.kind definition.kind definition.len then Some (record { table = table; bits = definition.bits; expiry = definition.expiry; periods = periods_of definition.periods }) else None
+
+-- a definition is followed if its name is configured and its key is that table's
+unfoldable pub followed_of : List Shape → Definition → Option Followed
+followed_of tables definition = do
+  table ← position (λ shape. bytes_eq shape.name definition.name) tables
+  shape ← slice_get tables table
+  followed_at table definition shape
+
+-- the row that an update gives; None where its key or a value is cut short or over
+unfoldable pub put_of : List Shape → ℕ → Followed → Option ℕ → List ℕ → Option What
+put_of tables peer followed life bytes = do
+  shape ← slice_get tables followed.table
+  key ← key_at shape.kind bytes
+  sents ← sents_at followed.bits key.1
+  Some (Put peer followed.table key.0 (life_of followed.expiry life) (cells_of sents followed.periods shape.cols))
+
+-- an update's id: the explicit one, or the one after the last
+abbrev pub id_after : ℕ → Option ℕ → ℕ
+id_after last None = (last + 1) % 2 ^ 32
+id_after last (Some id) = id
+
+-- the place of an id among ascending entries: how many have a smaller one
+abbrev pub place : ℕ → List Entry → ℕ
+place id [] = 0
+place id (entry ∷ entries) = if nat_lt entry.id id then 1 + place id entries else 0
+
+abbrev pub if_own : ℕ → Option Entry → Option Entry
+if_own id None = None
+if_own id (Some entry) = if entry.id == id then Some entry else None
+
+-- the entry of an id
+abbrev pub entry_of : ℕ → List Entry → Option Entry
+entry_of id entries = if_own id (slice_get entries (place id entries))
+
+-- what a message does, and what is kept after it
+pub record Step : Type 0 where
+  pub track : Tracked
+  pub heard : Heard
+
+-- a place, if what stands there is followed
+abbrev pub place_if : Option Followed → ℕ → Option ℕ
+place_if followed at = option_map (λ _. at) followed
+
+-- a definition of an id that has this entry
+abbrev pub defined : Tracked → ℕ → Option Followed → Option Entry → Step
+defined t id followed (Some entry) =
+    record { track = record { entries = slice_set t.entries (place id t.entries) (record entry { followed = followed }); current = place_if followed (place id t.entries) }; heard = Nothing }
+defined t id None None = record { track = record { entries = t.entries; current = None }; heard = Nothing }
+defined t id (Some followed) None =
+    if nat_le 256 (length t.entries) then record { track = t; heard = End (Wire BadField) } else record { track = record { entries = insert t.entries (place id t.entries) (record { id = id; last = 0; updated = false; followed = Some followed }); current = Some (place id t.entries) }; heard = Nothing }
+
+-- the place of an entry that may be followed
+abbrev pub place_of : Option Entry → ℕ → Option ℕ
+place_of None at = None
+place_of (Some entry) at = place_if entry.followed at
+
+abbrev pub switched : Tracked → ℕ → Step
+switched t id = record { track = record { entries = t.entries; current = place_of (entry_of id t.entries) (place id t.entries) }; heard = Nothing }
+
+-- a row under the entry at this place, or the end where it can't be read
+abbrev pub updated_by : Tracked → ℕ → Entry → Option ℕ → Option What → Step
+updated_by t at entry id None = record { track = t; heard = End (Wire BadField) }
+updated_by t at entry id (Some put) =
+    record { track = record { entries = slice_set t.entries at (record entry { last = id_after entry.last id; updated = true }); current = t.current }; heard = Fact put }
+
+-- an update under the entry at this place, if it is followed
+abbrev pub updated_at : List Shape → ℕ → Tracked → ℕ → Entry → Option Followed → Option ℕ → Option ℕ → List ℕ → Step
+updated_at tables peer t at entry None id life bytes = record { track = t; heard = Nothing }
+updated_at tables peer t at entry (Some followed) id life bytes = updated_by t at entry id (put_of tables peer followed life bytes)
+
+abbrev pub updated_if : List Shape → ℕ → Tracked → ℕ → Option Entry → Option ℕ → Option ℕ → List ℕ → Step
+updated_if tables peer t at None id life bytes = record { track = t; heard = Nothing }
+updated_if tables peer t at (Some entry) id life bytes = updated_at tables peer t at entry entry.followed id life bytes
+
+abbrev pub updated_under : List Shape → ℕ → Tracked → Option ℕ → Option ℕ → Option ℕ → List ℕ → Step
+updated_under tables peer t None id life bytes = record { track = t; heard = Nothing }
+updated_under tables peer t (Some at) id life bytes = updated_if tables peer t at (slice_get t.entries at) id life bytes
+
+-- what a message does to what is kept
+unfoldable pub hear : List Shape → ℕ → Tracked → Message → Step
+hear tables peer t messages.Request = record { track = t; heard = Partial }
+hear tables peer t messages.Finished = record { track = t; heard = Confirm }
+hear tables peer t messages.Partial = record { track = t; heard = Confirm }
+hear tables peer t messages.Confirm = record { track = t; heard = Nothing }
+hear tables peer t messages.Heartbeat = record { track = t; heard = Nothing }
+hear tables peer t messages.ProtocolError = record { track = t; heard = End PeerError }
+hear tables peer t messages.SizeError = record { track = t; heard = End PeerError }
+hear tables peer t (messages.Update id life rest) = updated_under tables peer t t.current id life rest
+hear tables peer t (messages.Define definition) = defined t definition.id (followed_of tables definition) (entry_of definition.id t.entries)
+hear tables peer t (messages.Switch id) = switched t id
+hear tables peer t (messages.Acked id last) = record { track = t; heard = Nothing }
+hear tables peer t (messages.Other class kind) = record { track = t; heard = Nothing }
+
+-- what was heard, and what is kept after it, are those of the step
+abbrev pub Gave : Tracked → Heard → Step → Type 0
+Gave track heard step = (track ≡ step.track) × (heard ≡ step.heard)

@@ -1,0 +1,75 @@
+//! The messages of a piece, one after the other.
+
+ghost use Rattle.std.specs.Prelude.{◌≡◌, ◌++◌, List, [], ◌∷◌, IfOk, OnOk, vec_len};
+ghost use Rattle.session_core.specs.Tracked.{Tracked};
+ghost use Rattle.session_core.specs.Run.{Ran, run, ack_of, acks_of, settled};
+
+use crate::cause::End;
+use crate::track::{Entry, Heard, Track};
+use agg_types::{NoMemory, Shape, What};
+use peers_msg::{Message, write_message};
+use std::alloc::Global;
+
+/// The answer to a resync request: partial.
+const RESYNC_PARTIAL: &[u8] = &[0, 2];
+
+/// The answer to the end of a resync.
+const RESYNC_CONFIRM: &[u8] = &[0, 3];
+
+/// What the messages do, up to the first that ends the session; its cause is returned. The facts and
+/// replies are added to those that are there.
+pub(crate) fn run(
+    alloc: Global,
+    tables: &[Shape],
+    peer: usize,
+    track: &mut Track,
+    messages: &[Message],
+    facts: &mut Vec<What>,
+    replies: &mut Vec<u8>,
+) -> Result<Option<End>, NoMemory>
+    ensures { IfOk result (λ end. Ran end track.new facts.old.items facts.new.items replies.old.items replies.new.items (run tables.now peer track.old messages.now)) }
+{
+    for message in messages {
+        match track.hear(alloc, tables, peer, message)? {
+            Heard::Nothing => {}
+            Heard::Confirm => replies.extend_from_slice(RESYNC_CONFIRM)?,
+            Heard::Partial => replies.extend_from_slice(RESYNC_PARTIAL)?,
+            Heard::Fact(fact) => facts.push(fact)?,
+            Heard::End(cause) => return Ok(Some(cause)),
+        }
+    }
+    Ok(None)
+}
+
+/// Adds the acknowledgements of the ids that had an update.
+#[tactic(auto, unfolding(crate::specs::Run::acks_of))]
+pub(crate) fn write_acks(entries: &[Entry], out: &mut Vec<u8>) -> Result<(), NoMemory>
+    ensures { OnOk result (out.new.items ≡ out.old.items ++ acks_of entries.now) }
+{
+    for entry in entries {
+        write_ack(entry, out)?;
+    }
+    Ok(())
+}
+
+fn write_ack(entry: &Entry, out: &mut Vec<u8>) -> Result<(), NoMemory>
+    ensures { OnOk result (out.new.items ≡ out.old.items ++ ack_of entry.now) }
+{
+    if !entry.updated {
+        return Ok(());
+    }
+    let ack = Message::Acked {
+        id: entry.id,
+        last: entry.last,
+    };
+    write_message(&ack, out)
+}
+
+/// No entry has an update yet.
+pub(crate) fn settle(entries: &mut [Entry])
+    ensures { entries.new ≡ settled entries.old }
+{
+    for entry in entries.iter_mut() {
+        entry.updated = false;
+    }
+}

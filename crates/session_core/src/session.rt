@@ -1,0 +1,172 @@
+//! A session: one connection of a peer.
+
+ghost use Rattle.std.specs.Prelude.{◌≡◌, ◌≤◌, ◌-◌, ◌++◌, ◌==◌, ◌&&◌, ◌||◌, nat_le, ℕ, List, [], length, if◌then◌else◌, IfOk, MatchResult, Some, None, true, false, Bool};
+ghost use Rattle.session_core.specs.Silence.{end_by_silence, peer_of};
+
+use crate::SessionCause;
+use crate::batch::{Batch, SessionFault};
+use crate::cause::End;
+use crate::stage::{Stage, Taken, take_piece};
+use agg_types::{Config, Items, NoMemory};
+use std::alloc::Global;
+use std::marker::Model;
+
+/// How long a session may be silent, in ms, before it is ended.
+const LONGEST_SILENCE: u64 = 5000;
+
+/// How long nothing may be sent, in ms, before a heartbeat is.
+const BEAT_AFTER: u64 = 3000;
+
+/// What is to be done when nothing was read.
+#[derive(Clone, Copy, Debug, PartialEq, Eq)]
+pub enum Idle {
+    /// Nothing.
+    Nothing,
+    /// A heartbeat is to be sent.
+    Beat,
+    /// The session is over: nothing came for 5,000 ms.
+    Ended,
+}
+
+/// One connection of a peer, from its first byte on.
+///
+/// It stands for the bytes that it has taken. Moments are in ms.
+#[derive(Debug, Drop)]
+pub struct Session {
+    seated: bool,
+    stage: Stage,
+    heard: u64,
+    spoke: u64,
+    late: bool,
+    alloc: Global,
+}
+
+impl Model for Session {
+    ghost use Rattle.session_core.specs.Standing.{Standing};
+
+    ghost Value = { Standing };
+
+    ghost view = { λ session. record { seated = session.seated; stage = session.stage; heard = session.heard; spoke = session.spoke; late = session.late } };
+}
+
+impl Session {
+    ghost use Rattle.session_core.specs.Batched.{Batched};
+    ghost use Rattle.session_core.specs.Piece.{Setup, setup_of, piece_of};
+    ghost use Rattle.session_core.specs.Talk.{stage_of, talk};
+    ghost use Rattle.session_core.specs.Told.{FactsFit, OpensWith, Tells};
+    ghost use Rattle.session_core.specs.Standing.{accepted, Answers, after_piece, idle_of, after_idle};
+
+    /// A connection that has sent nothing yet. It has a seat, or will be refused once its hello is
+    /// whole. Takes no memory.
+    pub fn accept(alloc: Global, seated: bool, now: u64) -> Session
+        ensures new { result ≡ accepted seated now }
+        // It stands for no bytes.
+        ensures stands { (setup : Setup) → result.stage ≡ stage_of setup seated [] }
+    {
+        Session {
+            seated,
+            stage: Stage::Greeting(Items::from_vec(Vec::new(alloc))),
+            heard: now,
+            spoke: now,
+            late: false,
+            alloc,
+        }
+    }
+
+    /// Takes the next piece of the stream, whatever it is cut from, with the configuration that each
+    /// call of the session gets: the same name, peers and tables.
+    ///
+    /// A fault comes with what the piece gave before it, and is answered for good from then on, with
+    /// an empty batch. `NoMemory` comes with an empty batch and leaves the session as it was.
+    pub fn feed(&mut self, config: &Config, piece: &[u8], now: u64) -> Result<Batch, SessionFault>
+        // What the piece gives, from what is kept; want of memory leaves all as it was.
+        ensures exact { Answers result self.old self.new piece.now now
+            (piece_of (setup_of config.now) self.old.seated self.old.stage piece.now) }
+
+        // For all the bytes that the session stands for: what it gives is what the talk of the
+        // bytes with the piece has beyond the talk without it.
+        ensures talk { (taken : List ℕ) → self.old.stage ≡ stage_of (setup_of config.now) self.old.seated taken
+            → Tells result (setup_of config.now) self.old.seated taken piece.now self.new.stage }
+        ensures fits { (taken : List ℕ) → self.old.stage ≡ stage_of (setup_of config.now) self.old.seated taken
+            → FactsFit config.now result }
+    {
+        self.take(config, piece, now)
+    }
+
+    fn take(&mut self, config: &Config, piece: &[u8], now: u64) -> Result<Batch, SessionFault>
+        ensures { Answers result self.old self.new piece.now now
+            (piece_of (setup_of config.now) self.old.seated self.old.stage piece.now) }
+    {
+        let taken = match take_piece(self.alloc, config, self.seated, &self.stage, piece) {
+            Ok(taken) => taken,
+            Err(NoMemory) => {
+                return Err(SessionFault {
+                    cause: SessionCause::NoMemory,
+                    batch: Batch::empty(self.alloc),
+                });
+            }
+        };
+        let Taken { stage, batch, end } = taken;
+        self.stage = stage;
+        if !piece.is_empty() {
+            self.heard = now;
+        }
+        if !batch.is_silent() {
+            self.spoke = now;
+        }
+        match end {
+            None => Ok(batch),
+            Some(end) => Err(SessionFault {
+                cause: end.cause(),
+                batch,
+            }),
+        }
+    }
+
+    /// What is to be done at a moment at which nothing was read. Takes no memory.
+    pub fn idle(&mut self, now: u64) -> Idle
+        ensures answer { result ≡ idle_of self.old now }
+        ensures after { self.new ≡ after_idle self.old now (idle_of self.old now) }
+    {
+        if self.late || now.saturating_sub(self.heard) >= LONGEST_SILENCE {
+            self.late = true;
+            self.stage = Stage::Over(end_by_silence(&self.stage), peer_at(&self.stage));
+            return Idle::Ended;
+        }
+        if peer_at(&self.stage).is_some() && now.saturating_sub(self.spoke) >= BEAT_AFTER {
+            self.spoke = now;
+            return Idle::Beat;
+        }
+        Idle::Nothing
+    }
+
+    /// The peer of an accepted hello. Takes no memory.
+    pub fn peer(&self) -> Option<usize>
+        ensures kept { result ≡ peer_of self.now.stage }
+        ensures opened { (setup : Setup) (taken : List ℕ) → self.now.stage ≡ stage_of setup self.now.seated taken
+            → OpensWith result (talk setup self.now.seated taken).facts }
+    {
+        peer_at(&self.stage)
+    }
+}
+
+/// Why a session is over that was silent too long: that, unless it was over before.
+fn end_by_silence(stage: &Stage) -> End
+    ensures { result ≡ end_by_silence stage.now }
+{
+    match stage {
+        Stage::Greeting(_) | Stage::Talking(_) => End::TimedOut,
+        Stage::Over(end, _) => *end,
+    }
+}
+
+/// The peer of an accepted hello.
+fn peer_at(stage: &Stage) -> Option<usize>
+    ensures { result ≡ peer_of stage.now }
+{
+    match stage {
+        Stage::Greeting(_) => None,
+        Stage::Talking(dialogue) => Some(dialogue.peer),
+        Stage::Over(_, peer) => *peer,
+    }
+}

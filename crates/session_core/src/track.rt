@@ -1,0 +1,320 @@
+//! What a session keeps of its sender's tables, and what a message does to it.
+
+ghost use Rattle.std.specs.Prelude.{◌≡◌, ◌≤◌, [], length, position, IfOk};
+ghost use Rattle.std.specs.Str.{bytes_eq};
+ghost use Rattle.session_core.specs.Run.{settled};
+ghost use Rattle.session_core.specs.Tracked.{is_key_of, followed_at, followed_of, put_of, id_after, place, entry_of, Gave, defined, switched, updated_under, hear};
+
+use crate::cause::End;
+use crate::run::settle;
+use crate::values::{TYPES, cells_of, key_at, life_of, periods_of, sents_at};
+use agg_types::{Key, KeyKind, NoMemory, Shape, What};
+use peers_msg::{Definition, Message, WireCause};
+use std::alloc::Global;
+
+/// The most ids that are ever followed in a session.
+const MOST_FOLLOWED: usize = 256;
+
+/// What is kept of a definition that is followed.
+#[derive(Clone, Copy, Debug)]
+pub(crate) struct Followed {
+    /// The position of the configured table.
+    pub(crate) table: usize,
+    /// The data types that are sent, a bit for each.
+    pub(crate) bits: u64,
+    /// The life of a row in ms; 0 for no end.
+    pub(crate) expiry: u64,
+    /// The period of each data type in ms; 0 where none is given.
+    pub(crate) periods: [u64; TYPES],
+}
+
+/// What is kept of a sender's table id that was once followed.
+#[derive(Clone, Copy, Debug)]
+pub(crate) struct Entry {
+    pub(crate) id: u64,
+    /// The last update id.
+    pub(crate) last: u32,
+    /// Whether an update came in this piece.
+    pub(crate) updated: bool,
+    /// The last definition, if it is followed.
+    pub(crate) followed: Option<Followed>,
+}
+
+/// What a message means for the session.
+#[derive(Debug, Drop)]
+pub(crate) enum Heard {
+    Nothing,
+    /// The end of a resync is to be confirmed.
+    Confirm,
+    /// A resync is to be answered as partial.
+    Partial,
+    /// Something for the fleet.
+    Fact(What),
+    /// The session ends here.
+    End(End),
+}
+
+/// The sender's table ids that were ever followed, and the one in force.
+#[derive(Debug, Drop)]
+pub(crate) struct Track {
+    entries: Vec<Entry>,
+    current: Option<usize>,
+}
+
+impl std::marker::Model for Track {
+    ghost use Rattle.session_core.specs.Tracked.{Tracked};
+
+    ghost Value = { Tracked };
+
+    ghost view = { λ track. record { entries = track.entries.items; current = track.current } };
+}
+
+fn is_key_of(kind: KeyKind, sent: u64, len: u64) -> bool
+    ensures { result ≡ is_key_of kind sent len }
+{
+    match kind {
+        KeyKind::Integer => sent == 2 && len == 4,
+        KeyKind::Ip => sent == 4 && len == 4,
+        KeyKind::Ipv6 => sent == 5 && len == 16,
+        KeyKind::Str(_) => sent == 6,
+        KeyKind::Binary(exact) => sent == 7 && len == exact,
+    }
+}
+
+/// What is kept of a definition, if it is followed: its table's name is configured, and its key is
+/// that table's.
+#[tactic(auto, unfolding(crate::specs::Tracked::followed_of))]
+fn followed_of(tables: &[Shape], definition: &Definition) -> Option<Followed>
+    ensures { result ≡ followed_of tables.now definition.now }
+{
+    let table = table_named(tables, definition.name.as_slice())?;
+    let shape = tables.get(table)?;
+    followed_at(table, definition, shape)
+}
+
+#[tactic(auto, unfolding(crate::specs::Tracked::followed_at))]
+fn followed_at(table: usize, definition: &Definition, shape: &Shape) -> Option<Followed>
+    ensures { result ≡ followed_at table definition.now shape.now }
+{
+    if !is_key_of(shape.kind, definition.kind, definition.len) {
+        return None;
+    }
+    Some(Followed {
+        table,
+        bits: definition.bits,
+        expiry: definition.expiry,
+        periods: periods_of(definition.periods.as_slice()),
+    })
+}
+
+fn table_named(tables: &[Shape], name: &[u8]) -> Option<usize>
+    ensures { result ≡ position (λ shape. bytes_eq shape.name name.now) tables.now }
+{
+    tables.iter().position(|shape| shape.name.is(name))
+}
+
+/// The row that an update gives; `None` where its key or a value is cut or too large.
+#[tactic(auto, unfolding(crate::specs::Tracked::put_of))]
+fn put_of(
+    alloc: Global,
+    tables: &[Shape],
+    peer: usize,
+    followed: &Followed,
+    life: Option<u32>,
+    bytes: &[u8],
+) -> Result<Option<What>, NoMemory>
+    ensures { IfOk result (λ put. put ≡ put_of tables.now peer followed.now life bytes.now) }
+{
+    let Some(shape) = tables.get(followed.table) else {
+        return Ok(None);
+    };
+    let Some((key, values)) = key_at(shape.kind, bytes) else {
+        return Ok(None);
+    };
+    let Some(sents) = sents_at(followed.bits, values) else {
+        return Ok(None);
+    };
+    let cols = shape.cols.as_slice();
+    Ok(Some(What::Put {
+        peer,
+        table: followed.table,
+        key: Key::copy(alloc, key)?,
+        life: life_of(followed.expiry, life),
+        cells: cells_of(alloc, &sents, &followed.periods, cols)?,
+    }))
+}
+
+fn id_after(last: u32, id: Option<u32>) -> u32
+    ensures { result ≡ id_after last id }
+{
+    match id {
+        Some(id) => id,
+        None => last.wrapping_add(1),
+    }
+}
+
+/// How many entries have a smaller id: the place of this one.
+fn place(entries: &[Entry], id: u64) -> usize
+    ensures count { result ≡ place id entries.now }
+    ensures within { result ≤ length entries.now }
+{
+    match entries {
+        [] => 0,
+        [first, rest @ ..] => {
+            if first.id < id {
+                1 + place(rest, id)
+            } else {
+                0
+            }
+        }
+    }
+}
+
+fn entry_of(entries: &[Entry], id: u64) -> Option<Entry>
+    ensures { result ≡ entry_of id entries.now }
+{
+    let entry = entries.get(place(entries, id)).copied()?;
+    if entry.id == id { Some(entry) } else { None }
+}
+
+impl Track {
+    /// Nothing is followed yet. Takes no memory.
+    pub(crate) fn new(alloc: Global) -> Track
+        ensures { result ≡ record { entries = []; current = None } }
+    {
+        Track {
+            entries: Vec::new(alloc),
+            current: None,
+        }
+    }
+
+    /// An equal track, in memory of its own.
+    pub(crate) fn duplicate(&self, alloc: Global) -> Result<Track, NoMemory>
+        ensures { IfOk result (λ track. track ≡ self.now) }
+    {
+        Ok(Track {
+            entries: Vec::from_slice(alloc, self.entries.as_slice())?,
+            current: self.current,
+        })
+    }
+
+    /// The entries, ascending by id.
+    pub(crate) fn entries(&self) -> &[Entry]
+        ensures { result.now ≡ self.now.entries }
+    {
+        self.entries.as_slice()
+    }
+
+    /// No entry has an update yet.
+    pub(crate) fn settle(&mut self)
+        ensures { self.new ≡ record { entries = settled self.old.entries; current = self.old.current } }
+    {
+        settle(&mut self.entries);
+    }
+
+    /// What a message does. After `NoMemory` nothing is said of what is kept.
+    #[tactic(auto, unfolding(crate::specs::Tracked::hear))]
+    pub(crate) fn hear(
+        &mut self,
+        alloc: Global,
+        tables: &[Shape],
+        peer: usize,
+        message: &Message,
+    ) -> Result<Heard, NoMemory>
+        ensures { IfOk result (λ heard. Gave self.new heard (hear tables.now peer self.old message.now)) }
+    {
+        match message {
+            Message::Request => Ok(Heard::Partial),
+            Message::Finished | Message::Partial => Ok(Heard::Confirm),
+            Message::ProtocolError | Message::SizeError => Ok(Heard::End(End::PeerError)),
+            Message::Update { id, life, rest } => {
+                self.update(alloc, tables, peer, *id, *life, rest.as_slice())
+            }
+            Message::Define(definition) => {
+                self.define(definition.id, followed_of(tables, definition))
+            }
+            Message::Switch(id) => Ok(self.switch(*id)),
+            Message::Confirm | Message::Heartbeat | Message::Acked { .. } | Message::Other { .. } =>
+                Ok(Heard::Nothing),
+        }
+    }
+
+    /// An id gets a definition, and is in force.
+    fn define(&mut self, id: u64, followed: Option<Followed>) -> Result<Heard, NoMemory>
+        ensures { IfOk result (λ heard. Gave self.new heard (defined self.old id followed (entry_of id self.old.entries))) }
+    {
+        let at = place(self.entries.as_slice(), id);
+        match entry_of(self.entries.as_slice(), id) {
+            Some(entry) => {
+                self.entries[at] = Entry { followed, ..entry };
+                self.current = followed.map(|_| at);
+            }
+            None => {
+                if followed.is_none() {
+                    self.current = None;
+                    return Ok(Heard::Nothing);
+                }
+                if self.entries.len() >= MOST_FOLLOWED {
+                    return Ok(Heard::End(End::Wire(WireCause::BadField)));
+                }
+                let entry = Entry {
+                    id,
+                    last: 0,
+                    updated: false,
+                    followed,
+                };
+                self.entries.insert(at, entry)?;
+                self.current = Some(at);
+            }
+        }
+        Ok(Heard::Nothing)
+    }
+
+    /// An id is in force, with its last definition.
+    fn switch(&mut self, id: u64) -> Heard
+        ensures { Gave self.new result (switched self.old id) }
+    {
+        self.current = match entry_of(self.entries.as_slice(), id) {
+            Some(
+                Entry {
+                    followed: Some(_),
+                    ..
+                },
+            ) => Some(place(self.entries.as_slice(), id)),
+            _ => None,
+        };
+        Heard::Nothing
+    }
+
+    /// An update under the id in force.
+    fn update(
+        &mut self,
+        alloc: Global,
+        tables: &[Shape],
+        peer: usize,
+        id: Option<u32>,
+        life: Option<u32>,
+        bytes: &[u8],
+    ) -> Result<Heard, NoMemory>
+        ensures { IfOk result (λ heard. Gave self.new heard (updated_under tables.now peer self.old self.old.current id life bytes.now)) }
+    {
+        let Some(at) = self.current else {
+            return Ok(Heard::Nothing);
+        };
+        let Some(entry) = self.entries.get(at).copied() else {
+            return Ok(Heard::Nothing);
+        };
+        let Some(followed) = entry.followed else {
+            return Ok(Heard::Nothing);
+        };
+        let Some(put) = put_of(alloc, tables, peer, &followed, life, bytes)? else {
+            return Ok(Heard::End(End::Wire(WireCause::BadField)));
+        };
+        self.entries[at] = Entry {
+            last: id_after(entry.last, id),
+            updated: true,
+            ..entry
+        };
+        Ok(Heard::Fact(put))
+    }
+}
