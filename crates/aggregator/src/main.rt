@@ -21,8 +21,8 @@ fn main(rt: HostRuntime) -> io::Result<ExitCode> {
             _ => Ok(ExitCode::from(2)),
         },
         Err(error) => {
-            eprintln!(rt; "{error}")?;
-            Ok(ExitCode::from(2))
+            error.print(&rt)?;
+            Ok(ExitCode::from(if error.use_stderr() { 2 } else { 0 }))
         }
     }
 }

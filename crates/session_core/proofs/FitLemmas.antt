@@ -1,7 +1,6 @@
 -- Every fact fits the configuration.
-use Rattle.std.proofs.Common.{inl, inr, ◌≡◌, ℕ, zero, suc, ◌+◌, ◌-◌, ◌%◌, ◌^◌, ◌<◌, ◌≤◌, Bool, true, false, cond, eqb, ltb, leb, ◌==◌, ◌&&◌, not, min, nat_lt, nat_le, if◌then◌else◌, List, [], ◌∷◌, ◌++◌, length, take, drop, map, position, slice_get, is_some, Option, Some, None, Result, Ok, Err, refl, sym, ap, ◌∙◌, arith, lit<}
+use Rattle.std.proofs.Common.{inl, inr, ◌≡◌, ℕ, ◌%◌, ◌^◌, ◌<◌, ◌≤◌, Bool, true, false, ◌==◌, ◌&&◌, if◌then◌else◌, List, [], ◌∷◌, ◌++◌, length, take, slice_get, is_some, Option, Some, None, Result, Ok, Err, refl, sym, ap, ◌∙◌, arith, lit<}
 use Rattle.std.specs.List.{list_all}
-use Rattle.std.specs.Option.{option_map, option_map_or}
 use Rattle.std.specs.Str.{bytes_eq}
 use Rattle.std.proofs.Math.Nat.{mod-lt}
 use Rattle.std.proofs.lemmas.Bool.{false≢true, lt-ltb, le-leb, eq-eqb}
@@ -11,16 +10,15 @@ use Rattle.std.proofs.lemmas.List.Quantifiers.{position-Some}
 use Rattle.peers_msg.specs.Payload.{◌>>=◌, string_at}
 use Rattle.peers_msg.specs.declared.message.Message.{Message}
 use Rattle.peers_msg.specs.declared.message.Message.TheVariants as messages
-use Rattle.agg_types.specs.Col.{col_id, is_rate, is_wide}
-use Rattle.agg_types.specs.Fits.{at_table, cell_fits, cells_fit, fits, key_fits, life_fits}
+use Rattle.agg_types.specs.Col.{is_rate, is_wide}
+use Rattle.agg_types.specs.Fits.{cell_fits, cells_fit, fits, key_fits, life_fits}
 use Rattle.agg_types.specs.declared.column.Col.{Col}
 use Rattle.agg_types.specs.declared.config.Config.{Config}
 use Rattle.agg_types.specs.declared.config.KeyKind.{KeyKind}
 use Rattle.agg_types.specs.declared.config.KeyKind.TheVariants.{Integer, Ip, Ipv6, Str, Binary}
 use Rattle.agg_types.specs.declared.config.Shape.{Shape}
-use Rattle.agg_types.specs.declared.event.Cell.{Cell}
 use Rattle.agg_types.specs.declared.event.What.{What}
-use Rattle.agg_types.specs.declared.event.What.TheVariants.{Put, Open}
+use Rattle.agg_types.specs.declared.event.What.TheVariants.{Put}
 use Rattle.peers_msg.specs.Message.{reading_of}
 use Rattle.peers_msg.specs.declared.fault.WireCause.TheVariants.{BadField}
 use Rattle.session_core.specs.declared.batch.SessionFault.{SessionFault}
@@ -46,7 +44,7 @@ use Rattle.session_core.specs.Talk.{Words, is_too_many, meaning, row_or_end, tal
 use Rattle.session_core.specs.Told.{FactsFit, FaultTells, Tells}
 use Rattle.session_core.specs.Tracked.{followed_of, put_of}
 use Rattle.session_core.specs.Values.{bytes_at, cell_of, cells_of, count_cell, key_at, life_of, rate_cell, sents_at, text_at}
-use Rattle.session_core.proofs.HearLemmas.{bool_tells, none_some, some_of}
+use Rattle.session_core.proofs.HearLemmas.{bool_tells, none_some}
 use Rattle.session_core.proofs.TrackLemmas.{lt_tells}
 
 -- ---- cells

@@ -1,14 +1,12 @@
 -- One message more: what is kept goes on to be what the messages say.
-use Rattle.std.proofs.Common.{inl, inr, ◌⊎◌, ◌≡◌, ℕ, zero, suc, ◌+◌, ◌<◌, ◌≤◌, Bool, true, false, cond, eqb, ltb, leb, ◌==◌, ◌&&◌, ◌||◌, not, nat_le, if◌then◌else◌, List, [], ◌∷◌, ◌++◌, length, map, insert, slice_set, slice_get, is_some, Option, Some, None, refl, sym, ap, ◌∙◌, arith}
-use Rattle.std.specs.List.{list_any}
-use Rattle.std.proofs.lemmas.Bool.{ne_eqb, eq-eqb, eqb-true, eqb-false, false≢true, le-ltb}
+use Rattle.std.proofs.Common.{inl, inr, ◌⊎◌, ◌≡◌, ℕ, zero, suc, Bool, true, false, eqb, ltb, ◌&&◌, nat_le, if◌then◌else◌, List, [], ◌∷◌, length, map, insert, slice_set, slice_get, is_some, Option, Some, None, refl, sym, ap, ◌∙◌, arith}
+use Rattle.std.proofs.lemmas.Bool.{ne_eqb, eq-eqb, eqb-false, false≢true, le-ltb}
 use Rattle.std.proofs.lemmas.Bool.Decides.{eqb_tells}
 use Rattle.std.proofs.lemmas.List.{length-map}
 use Rattle.peers_msg.specs.declared.message.Definition.{Definition}
 use Rattle.peers_msg.specs.declared.message.Message.{Message}
 use Rattle.peers_msg.specs.declared.message.Message.TheVariants as messages
 use Rattle.peers_msg.specs.declared.fault.WireCause.TheVariants.{BadField}
-use Rattle.peers_msg.specs.Payload.{◌>>=◌}
 use Rattle.agg_types.specs.declared.config.Shape.{Shape}
 use Rattle.agg_types.specs.declared.event.What.{What}
 use Rattle.session_core.specs.declared.cause.End.TheVariants.{Wire}
@@ -16,10 +14,10 @@ use Rattle.session_core.specs.declared.track.Entry.{Entry}
 use Rattle.session_core.specs.declared.track.Followed.{Followed}
 use Rattle.session_core.specs.declared.track.Heard.{Heard}
 use Rattle.session_core.specs.declared.track.Heard.TheVariants.{Nothing, Confirm, Partial, Fact, End}
-use Rattle.session_core.specs.InForce.{definition_of_id, defined_by, followed_ids, followed_under, id_given, id_in_force, is_under, is_updated, last_id, or_else, table_in_force, update_of_message, with_followed, with_id}
-use Rattle.session_core.specs.Talk.{current_for, entries_for, entry_for, is_too_many, meaning, row_or_end, track_for, update_under}
-use Rattle.session_core.specs.Tracked.{Step, Tracked, defined, entry_of, followed_of, hear, id_after, if_own, place, place_if, place_of, put_of, updated_under, updated_if, updated_at, updated_by}
-use Rattle.session_core.proofs.TrackLemmas.{AllAbove, Ascends, HasIds, found_in, insert_in, is_in, lt_tells, map_apart, map_same, not_found, place_in, place_map, set_in, with_id_ascends, with_id_in, or_false}
+use Rattle.session_core.specs.InForce.{followed_ids, followed_under, id_given, id_in_force, is_under, is_updated, last_id, table_in_force, update_of_message, with_followed, with_id}
+use Rattle.session_core.specs.Talk.{current_for, entries_for, entry_for, meaning, row_or_end, track_for, update_under}
+use Rattle.session_core.specs.Tracked.{Step, Tracked, defined, entry_of, followed_of, hear, id_after, place, place_if, place_of, put_of, updated_under, updated_if, updated_at, updated_by}
+use Rattle.session_core.proofs.TrackLemmas.{Ascends, HasIds, found_in, insert_in, is_in, lt_tells, map_same, not_found, place_in, place_map, set_in, with_id_ascends, with_id_in, or_false}
 
 pub bool_tells : (b : Bool) → (b ≡ true) ⊎ (b ≡ false)
 bool_tells true = inl refl

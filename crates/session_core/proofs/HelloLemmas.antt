@@ -1,12 +1,12 @@
 -- A hello's verdict stands, whatever follows.
-use Rattle.std.proofs.Common.{inl, inr, ◌⊎◌, ◌≡◌, ℕ, zero, suc, ◌+◌, ◌<◌, ◌≤◌, Bool, true, false, cond, eqb, ltb, ◌==◌, not, nat_lt, if◌then◌else◌, List, [], ◌∷◌, ◌++◌, length, take, drop, position, Option, Some, None, Result, Ok, Err, refl, sym, ap, ◌∙◌, arith, length-append}
+use Rattle.std.proofs.Common.{inl, inr, ◌≡◌, ℕ, ◌+◌, ◌<◌, ◌≤◌, Bool, true, false, ◌==◌, not, if◌then◌else◌, List, [], ◌∷◌, ◌++◌, length, take, drop, Option, Some, None, Result, Ok, Err, refl, ap, arith, length-append}
 use Rattle.std.specs.List.{position_or_len, prefix_len}
 use Rattle.std.specs.Str.{bytes_eq}
-use Rattle.std.proofs.lemmas.Bool.{lt-ltb, le-ltb}
+use Rattle.std.proofs.lemmas.Bool.{lt-ltb}
 use Rattle.std.proofs.lemmas.List.{take-append-le, drop-append-le}
 use Rattle.session_core.specs.declared.cause.Status.{Status}
-use Rattle.session_core.specs.declared.cause.Status.TheVariants.{Protocol, LocalName, RemoteName, TryLater}
-use Rattle.session_core.specs.Hello.{◌>>=◌, admitted, hello_of, line_at, peer_of, receiver_line, sender_line, sender_of, split_line, unless, version_fault, without_cr}
+use Rattle.session_core.specs.declared.cause.Status.TheVariants.{LocalName}
+use Rattle.session_core.specs.Hello.{◌>>=◌, admitted, hello_of, line_at, peer_of, receiver_line, sender_line, sender_of, split_line, unless, version_fault}
 use Rattle.session_core.proofs.TrackLemmas.{lt_tells}
 use Rattle.session_core.proofs.HearLemmas.{bool_tells}
 

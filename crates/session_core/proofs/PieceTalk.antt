@@ -1,5 +1,5 @@
 -- What a piece gives is what the talk of all bytes has with it beyond the talk without it.
-use Rattle.std.proofs.Common.{inl, inr, if◌then◌else◌, ◌≡◌, ℕ, zero, suc, ◌+◌, ◌-◌, Bool, true, false, List, [], ◌∷◌, ◌++◌, length, Option, Some, None, Result, Ok, Err, refl, sym, ap, ◌∙◌, arith, append_assoc, append-nil, zero-add}
+use Rattle.std.proofs.Common.{inl, inr, if◌then◌else◌, ◌≡◌, ℕ, ◌+◌, ◌-◌, Bool, List, [], ◌∷◌, ◌++◌, Option, Some, None, Result, Ok, Err, refl, sym, ap, ◌∙◌, arith, append_assoc, append-nil, zero-add}
 use Rattle.std.specs.List.{flat_map}
 use Rattle.std.specs.Option.{option_map}
 use Rattle.peers_msg.specs.declared.fault.WireCause.{WireCause}
@@ -14,15 +14,14 @@ use Rattle.agg_types.specs.declared.config.Shape.{Shape}
 use Rattle.agg_types.specs.declared.event.What.{What}
 use Rattle.agg_types.specs.declared.event.What.TheVariants.{Open}
 use Rattle.session_core.specs.declared.cause.End.{End as Ending}
-use Rattle.session_core.specs.declared.cause.End.TheVariants.{Wire, Refused}
+use Rattle.session_core.specs.declared.cause.End.TheVariants.{Wire}
 use Rattle.session_core.specs.declared.cause.Status.{Status}
 use Rattle.session_core.specs.declared.stage.Stage.{Stage}
-use Rattle.session_core.specs.declared.stage.Stage.TheVariants.{Greeting, Talking, Over}
+use Rattle.session_core.specs.declared.stage.Stage.TheVariants.{Talking, Over}
 use Rattle.session_core.specs.declared.stage.Taken.{Taken}
-use Rattle.session_core.specs.Batched.{Batched}
 use Rattle.session_core.specs.Hello.{hello_of}
-use Rattle.session_core.specs.Piece.{Setup, conversed, end_of, end_text, first_end, greeted, opened, piece_of, said_before, status_text, talked, untracked, welcome}
-use Rattle.session_core.specs.Run.{Run, acks_of, run, settled}
+use Rattle.session_core.specs.Piece.{Setup, conversed, end_of, end_text, first_end, greeted, opened, piece_of, said_before, status_text, talked, welcome}
+use Rattle.session_core.specs.Run.{Run, acks_of}
 use Rattle.session_core.specs.Talk.{Grows, Talk, Words, accepted_talk, acks_among, end_read, said_at, stage_after, stage_at, stage_of, talk, talk_after, talk_read, track_for, words_of, words_read}
 use Rattle.session_core.specs.InForce.{followed_ids, is_updated, last_id}
 use Rattle.session_core.specs.Tracked.{Tracked}

@@ -1,14 +1,13 @@
 -- The messages of a piece, one at a time.
-use Rattle.std.proofs.Common.{◌≡◌, ℕ, ◌+◌, ◌<◌, List, [], ◌∷◌, ◌++◌, length, drop, get_or, Option, Some, None, refl, sym, ap, arith, ◌∙◌, append_assoc, append-nil}
+use Rattle.std.proofs.Common.{◌≡◌, ℕ, ◌+◌, ◌<◌, List, [], ◌∷◌, ◌++◌, length, drop, get_or, Option, None, refl, sym, ap, arith, ◌∙◌, append_assoc, append-nil}
 use Rattle.std.proofs.lemmas.List.{at_drop_more, at_drop_all}
 use Rattle.peers_msg.specs.declared.message.Message.{Message}
 use Rattle.agg_types.specs.declared.config.Shape.{Shape}
 use Rattle.agg_types.specs.declared.event.What.{What}
 use Rattle.session_core.specs.declared.cause.End.{End as Ending}
 use Rattle.session_core.specs.declared.track.Heard.{Heard}
-use Rattle.session_core.specs.declared.track.Heard.TheVariants.{Nothing, Confirm, Partial, Fact, End}
 use Rattle.session_core.specs.Tracked.{Tracked, Step, hear, Gave}
-use Rattle.session_core.specs.Run.{Run, Ran, run, run_step, run_on, behind, resync_partial, resync_confirm}
+use Rattle.session_core.specs.Run.{Run, Ran, run, run_step, run_on, behind}
 
 -- What is there, and what the messages that are left give behind it, is what all of them give behind what was there.
 pub record GoesOn (old_facts facts : List What) (old_replies replies : List ℕ) (left all : Run) : Type 0 where

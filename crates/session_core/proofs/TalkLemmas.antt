@@ -1,27 +1,19 @@
 -- The messages of a piece behind those before it.
-use Rattle.std.proofs.Common.{inl, inr, ◌⊎◌, ◌≡◌, ℕ, zero, suc, ◌+◌, ◌-◌, ◌<◌, ◌≤◌, Bool, true, false, List, [], ◌∷◌, ◌++◌, length, map, is_some, Option, Some, None, refl, sym, ap, ◌∙◌, arith, append_assoc, append-nil, add-zero, zero-add}
+use Rattle.std.proofs.Common.{◌≡◌, ℕ, suc, ◌+◌, List, [], ◌∷◌, ◌++◌, map, Option, Some, None, refl, sym, ap, ◌∙◌, arith, append_assoc, add-zero, zero-add}
 use Rattle.std.specs.List.{flat_map}
-use Rattle.std.specs.Option.{option_map}
-use Rattle.std.proofs.lemmas.Bool.{false≢true}
-use Rattle.peers_msg.specs.declared.fault.WireCause.{WireCause}
 use Rattle.peers_msg.specs.declared.message.Message.{Message}
-use Rattle.peers_msg.specs.Feed.{fed, kept_of}
-use Rattle.peers_msg.specs.Kept.{Kept}
-use Rattle.peers_msg.specs.Message.{Reading}
 use Rattle.agg_types.specs.declared.config.Shape.{Shape}
 use Rattle.agg_types.specs.declared.event.What.{What}
 use Rattle.session_core.specs.declared.cause.End.{End as Ending}
-use Rattle.session_core.specs.declared.cause.End.TheVariants.{Wire}
 use Rattle.session_core.specs.declared.track.Entry.{Entry}
 use Rattle.session_core.specs.declared.track.Heard.{Heard}
 use Rattle.session_core.specs.declared.track.Heard.TheVariants.{Nothing, Confirm, Partial, Fact, End}
 use Rattle.session_core.specs.InForce.{followed_ids, id_in_force}
-use Rattle.session_core.specs.Piece.{conversed, end_of, first_end, talked}
 use Rattle.session_core.specs.Run.{Run, ack_of, acks_of, behind, run, run_on, run_step, settled, settled_entry, resync_confirm, resync_partial}
 use Rattle.session_core.specs.Talk.{Words, acks_among, after_one, current_for, entries_for, entry_for, meaning, track_for, words_of, words_on}
-use Rattle.session_core.specs.Tracked.{Tracked, hear, place, place_if}
+use Rattle.session_core.specs.Tracked.{Tracked, place, place_if}
 use Rattle.session_core.specs.InForce.{followed_under}
-use Rattle.session_core.proofs.HearLemmas.{hear_is, kept_by, place_for, some_of, step_for}
+use Rattle.session_core.proofs.HearLemmas.{hear_is, kept_by, place_for}
 
 -- a run that says these words
 abbrev pub run_for : List Shape → ℕ → Words → Run

@@ -1,8 +1,7 @@
 -- What a call answers, against the talk of all the bytes.
-use Rattle.std.proofs.Common.{◌≡◌, ℕ, Bool, true, false, List, [], ◌∷◌, ◌++◌, Option, Some, None, Result, Ok, Err, refl, sym, ap, ◌∙◌, append-nil}
+use Rattle.std.proofs.Common.{◌≡◌, ℕ, Bool, List, [], ◌++◌, Option, Some, None, Result, Ok, Err, refl, sym, ap, ◌∙◌, append-nil}
 use Rattle.std.specs.Option.{option_map}
 use Rattle.session_core.specs.declared.batch.SessionFault.{SessionFault}
-use Rattle.session_core.specs.declared.cause.End.{End}
 use Rattle.session_core.specs.declared.cause.SessionCause.{SessionCause}
 use Rattle.session_core.specs.declared.cause.SessionCause.TheVariants as cause
 use Rattle.session_core.specs.declared.cause.Status.{Status}
@@ -13,9 +12,9 @@ use Rattle.session_core.specs.Batched.{Batched}
 use Rattle.session_core.specs.Cause.{cause_of}
 use Rattle.session_core.specs.Hello.{hello_of, line_at}
 use Rattle.session_core.specs.Piece.{Setup, nothing, piece_of}
-use Rattle.session_core.specs.Standing.{Answers, Ends, FaultAnswers, Standing, after_piece}
+use Rattle.session_core.specs.Standing.{Answers, Ends, FaultAnswers, Standing}
 use Rattle.session_core.specs.Silence.{peer_of}
-use Rattle.session_core.specs.Talk.{Grows, Talk, end_read, stage_after, stage_at, stage_of, talk, talk_after}
+use Rattle.session_core.specs.Talk.{end_read, stage_after, stage_at, stage_of, talk, talk_after}
 use Rattle.session_core.specs.Told.{FaultTells, OpensWith, Stands, Tells}
 use Rattle.session_core.proofs.FitLemmas.{some_same}
 use Rattle.session_core.proofs.HearLemmas.{none_some}

@@ -1,15 +1,11 @@
 -- What is kept of the sender's tables is what the messages so far say of them.
-use Rattle.std.proofs.Common.{inl, inr, ◌⊎◌, ◌≡◌, ℕ, zero, suc, ◌+◌, ◌<◌, ◌≤◌, Bool, true, false, cond, ltb, leb, eqb, ◌==◌, ◌&&◌, ◌||◌, not, nat_lt, nat_le, if◌then◌else◌, List, [], ◌∷◌, ◌++◌, length, map, insert, slice_set, slice_get, is_some, Option, Some, None, refl, sym, ap, ◌∙◌, arith}
+use Rattle.std.proofs.Common.{inl, inr, ◌⊎◌, ◌≡◌, ℕ, suc, ◌+◌, ◌<◌, ◌≤◌, Bool, true, false, ltb, eqb, ◌==◌, ◌||◌, nat_lt, if◌then◌else◌, List, [], ◌∷◌, map, insert, slice_set, slice_get, Some, None, refl, sym, ap, ◌∙◌, arith}
 use Rattle.std.specs.List.{list_any}
 use Rattle.std.proofs.lemmas.Bool.{ltb-true, ltb-false, ne_eqb, false≢true}
 use Rattle.std.proofs.lemmas.Bool.Decides.{eqb_tells}
-use Rattle.peers_msg.specs.declared.message.Message.{Message}
-use Rattle.peers_msg.specs.declared.message.Message.TheVariants as messages
-use Rattle.agg_types.specs.declared.config.Shape.{Shape}
 use Rattle.session_core.specs.declared.track.Entry.{Entry}
-use Rattle.session_core.specs.declared.track.Followed.{Followed}
-use Rattle.session_core.specs.InForce.{followed_ids, followed_under, id_in_force, is_under, is_updated, last_id, with_id}
-use Rattle.session_core.specs.Tracked.{Tracked, place, place_if, entry_of, if_own}
+use Rattle.session_core.specs.InForce.{with_id}
+use Rattle.session_core.specs.Tracked.{place, if_own}
 
 -- ---- ascending ids
 

@@ -1,9 +1,8 @@
 -- What an update's values and a definition's periods are, one at a time.
-use Rattle.std.proofs.Common.{◌≡◌, ℕ, zero, suc, ◌+◌, ◌-◌, ◌<◌, ◌≤◌, List, [], ◌∷◌, ◌++◌, length, take, drop, slice_set, get_or, Option, Some, None, refl, sym, ap, ◌∙◌, arith, append_assoc, append-nil, add-one}
-use Rattle.std.specs.Option.{option_map}
+use Rattle.std.proofs.Common.{◌≡◌, ℕ, suc, ◌+◌, ◌-◌, ◌<◌, List, [], ◌∷◌, ◌++◌, Option, Some, None, refl, sym, ap, arith, append_assoc, append-nil, add-one}
 use Rattle.peers_msg.specs.Payload.{◌>>=◌}
 use Rattle.session_core.specs.declared.values.Sent.{Sent}
-use Rattle.session_core.specs.Values.{sent_at, sents_from, sents_at, periods_after, periods_of}
+use Rattle.session_core.specs.Values.{sent_at, sents_from, sents_at}
 
 -- all values, of which those in front are read
 abbrev pub with_front : List Sent → Option (List Sent) → Option (List Sent)

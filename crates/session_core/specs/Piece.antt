@@ -6,7 +6,7 @@ use Rattle.peers_msg.specs.declared.fault.WireCause.{WireCause}
 use Rattle.peers_msg.specs.declared.message.Message.{Message}
 use Rattle.peers_msg.specs.Kept.{Kept}
 use Rattle.peers_msg.specs.Message.{Reading, reading_of}
-use Rattle.peers_msg.specs.Feed.{fed, feed_of, kept_of}
+use Rattle.peers_msg.specs.Feed.{fed, kept_of}
 use Rattle.agg_types.specs.declared.config.Config.{Config}
 use Rattle.agg_types.specs.declared.config.Shape.{Shape}
 use Rattle.agg_types.specs.declared.event.What.{What}
@@ -15,7 +15,6 @@ use Rattle.session_core.specs.declared.cause.Status.{Status}
 use Rattle.session_core.specs.declared.cause.Status.TheVariants as status
 use Rattle.session_core.specs.declared.cause.End.{End}
 use Rattle.session_core.specs.declared.cause.End.TheVariants as ends
-use Rattle.session_core.specs.declared.stage.Dialogue.{Dialogue}
 use Rattle.session_core.specs.declared.stage.Stage.{Stage}
 use Rattle.session_core.specs.declared.stage.Stage.TheVariants.{Greeting, Talking, Over}
 use Rattle.session_core.specs.declared.stage.Taken.{Taken}

@@ -1,5 +1,5 @@
 -- A session that was silent too long.
-use Rattle.std.specs.Prelude.{ℕ, List, Option, Some, None}
+use Rattle.std.specs.Prelude.{ℕ, Option, Some, None}
 use Rattle.session_core.specs.declared.cause.End.{End}
 use Rattle.session_core.specs.declared.cause.End.TheVariants.{TimedOut}
 use Rattle.session_core.specs.declared.stage.Stage.{Stage}

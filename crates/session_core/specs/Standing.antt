@@ -1,12 +1,12 @@
 -- Where a session stands, and its silence.
-use Rattle.std.specs.Prelude.{◌≡◌, ℕ, ◌-◌, Bool, true, false, nat_le, ◌==◌, ◌&&◌, ◌||◌, not, is_some, if◌then◌else◌, List, [], ◌∷◌, ◌++◌, length, Option, Some, None, Result, Ok, Err}
+use Rattle.std.specs.Prelude.{◌≡◌, ℕ, ◌-◌, Bool, true, false, nat_le, ◌==◌, ◌&&◌, ◌||◌, is_some, if◌then◌else◌, List, [], ◌++◌, length, Some, None, Result, Ok, Err}
 use Rattle.session_core.specs.declared.batch.SessionFault.{SessionFault}
 use Rattle.session_core.specs.declared.cause.SessionCause.{SessionCause}
 use Rattle.session_core.specs.declared.cause.SessionCause.TheVariants as cause
 use Rattle.session_core.specs.declared.session.Idle.{Idle}
 use Rattle.session_core.specs.declared.session.Idle.TheVariants.{Nothing, Beat, Ended}
 use Rattle.session_core.specs.declared.stage.Stage.{Stage}
-use Rattle.session_core.specs.declared.stage.Stage.TheVariants.{Greeting, Talking, Over}
+use Rattle.session_core.specs.declared.stage.Stage.TheVariants.{Greeting, Over}
 use Rattle.session_core.specs.declared.stage.Taken.{Taken}
 use Rattle.std.specs.Option.{option_map}
 use Rattle.session_core.specs.Batched.{Batched}

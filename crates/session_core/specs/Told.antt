@@ -1,5 +1,5 @@
 -- What a call answers, against the talk of all the bytes.
-use Rattle.std.specs.Prelude.{◌≡◌, ℕ, ◌<◌, Bool, List, ◌++◌, length, slice_get, Option, Some, None, Result, Ok, Err, IsTrue}
+use Rattle.std.specs.Prelude.{◌≡◌, ℕ, Bool, List, ◌++◌, slice_get, Option, Some, None, Result, Ok, Err, IsTrue}
 use Rattle.std.specs.List.{list_all}
 use Rattle.std.specs.Option.{option_map}
 use Rattle.agg_types.specs.Fits.{fits}
@@ -7,14 +7,13 @@ use Rattle.agg_types.specs.declared.config.Config.{Config}
 use Rattle.agg_types.specs.declared.event.What.{What}
 use Rattle.agg_types.specs.declared.event.What.TheVariants.{Open}
 use Rattle.session_core.specs.declared.batch.SessionFault.{SessionFault}
-use Rattle.session_core.specs.declared.cause.End.{End}
 use Rattle.session_core.specs.declared.cause.SessionCause.{SessionCause}
 use Rattle.session_core.specs.declared.cause.SessionCause.TheVariants as cause
 use Rattle.session_core.specs.declared.stage.Stage.{Stage}
 use Rattle.session_core.specs.Batched.{Batched}
 use Rattle.session_core.specs.Cause.{cause_of}
 use Rattle.session_core.specs.Piece.{Setup}
-use Rattle.session_core.specs.Talk.{Grows, Talk, stage_of, talk}
+use Rattle.session_core.specs.Talk.{Grows, stage_of, talk}
 
 -- the batch is what the talk has grown by, this is its end, and the session stands for all the bytes
 pub record Stands (setup : Setup) (seated : Bool) (taken piece : List ℕ) (batch : Batched) (end : Option SessionCause) (stage : Stage) : Type 0 where

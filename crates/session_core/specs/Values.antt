@@ -1,5 +1,5 @@
 -- The key and the values of an update, as they stand behind its id and its life.
-use Rattle.std.specs.Prelude.{ℕ, zero, suc, ◌+◌, ◌-◌, ◌/◌, ◌%◌, ◌^◌, Bool, true, false, nat_lt, ◌==◌, ◌||◌, not, if◌then◌else◌, List, [], ◌∷◌, ◌++◌, length, take, drop, map, min, slice_get, slice_set, slice_index, unwrap_or, replicate, Option, Some, None}
+use Rattle.std.specs.Prelude.{ℕ, zero, suc, ◌/◌, ◌%◌, ◌^◌, Bool, true, false, nat_lt, ◌==◌, ◌||◌, if◌then◌else◌, List, [], ◌∷◌, length, take, drop, map, min, slice_get, slice_set, unwrap_or, replicate, Option, Some, None}
 use Rattle.peers_msg.specs.Payload.{◌>>=◌, number_at, string_at}
 use Rattle.agg_types.specs.Col.{col_id, is_rate, is_wide}
 use Rattle.agg_types.specs.declared.column.Col.{Col}

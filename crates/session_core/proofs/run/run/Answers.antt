@@ -1,7 +1,6 @@
-use Rattle.std.proofs.Common.{◌≡◌, ◌+◌, drop, sym, ◌∙◌, length, arith, append-nil}
+use Rattle.std.proofs.Common.{◌+◌, drop, arith}
 use Rattle.session_core.specs.Run.{run, resync_confirm, resync_partial}
-use Rattle.agg_types.specs.declared.event.What.{What}
-use Rattle.session_core.proofs.RunLemmas.{run_next, run_nil, goes_on_reply, goes_on_fact, ran_all, goes_on_none}
+use Rattle.session_core.proofs.RunLemmas.{run_next, run_nil, goes_on_reply, goes_on_fact, ran_all}
 use Rattle.session_core.proofs.run.run.Goals as goal
 use Rattle.session_core.proofs.run.run.Goals.{in-Nothing, in-Confirm+in_ok-extend_from_slice-in-Confirm, in-Partial+in_ok-extend_from_slice-in-Partial, in-Fact+in_ok-push-in-Fact}
 

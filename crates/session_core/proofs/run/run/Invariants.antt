@@ -1,4 +1,4 @@
-use Rattle.std.proofs.Common.{◌≡◌, ◌++◌, drop}
+use Rattle.std.proofs.Common.{drop}
 use Rattle.session_core.specs.Run.{run}
 use Rattle.session_core.proofs.RunLemmas.{GoesOn}
 use Rattle.session_core.proofs.run.run.Given as goal
