@@ -1,5 +1,5 @@
 -- An index kept by moment: what an edit at one moment does to the entries.
-use Rattle.std.proofs.Common.{◌≡◌, ℕ, ◌<◌, ◌≤◌, Bool, true, false, cond, List, [], ◌∷◌, ◌++◌, ◌-◌, suc, length, refl, ap, sym, ◌∙◌, subst, arith, append_assoc, inl, inr}
+use Rattle.std.proofs.Common.{◌≡◌, ℕ, ◌<◌, ◌≤◌, Bool, true, false, cond, List, [], ◌∷◌, ◌++◌, ◌-◌, suc, length, refl, ap, sym, ◌∙◌, subst, arith, append_assoc, length-append, inl, inr}
 use Rattle.std.specs.Prelude.{Option, Some, None, nat_lt, nat_le, ◌==◌, ◌||◌, filter}
 use Rattle.std.specs.Option.{option_map, option_copied_mut}
 use Rattle.std.specs.Borrow.{MutBor}
@@ -499,6 +499,16 @@ pub some_shown : {T : Type 0} (cmp : T → T → Ordering) (at : ℕ) (xs : List
 some_shown cmp at xs ms h e = let (rest, is) = shown_head cmp (at, xs) ms e in (subst (AreGroups cmp) is h).0
 
 -- ---- what a wheel does with its slots
+
+module _ {T : Type 0} (cmp : T → T → Ordering) where
+  -- each moment has an entry or more
+  pub as_many_entries : (ms : List (ℕ × List T)) → AreGroups cmp ms → length ms ≤ length (entries_of ms)
+  as_many_entries [] h = omega arith
+  as_many_entries (m ∷ ms) h = one_more m.1 h.0 (as_many_entries ms h.3)
+    where
+      one_more : (xs : List T) → 0 < length xs → length ms ≤ length (entries_of ms) → length (m ∷ ms) ≤ length (entries_at m.0 xs ++ entries_of ms)
+      one_more [] some rest = absurd (omega arith)
+      one_more (x ∷ xs) some rest = omega (arith, length-append (entries_at m.0 xs) (entries_of ms))
 
 module _ {T : Type 0} (cmp : T → T → Ordering) where
   pub none-entries_of : (ms : List (ℕ × List T)) → AreGroups cmp ms → entries_of ms ≡ [] → ms ≡ []

@@ -4,3 +4,5 @@ pub mod Lists
 pub mod Slotted
 pub mod Turning
 pub mod Grouped
+pub mod Firsts
+pub mod Marked

@@ -1,6 +1,8 @@
 -- The entries of slots: in order, and where an edit or a search at one moment stands.
-use Rattle.std.proofs.Common.{◌≡◌, ℕ, zero, suc, ◌+◌, ◌<◌, ◌≤◌, Bool, true, false, cond, List, [], ◌∷◌, ◌++◌, length, refl, ap, sym, ◌∙◌, subst, arith, append_assoc, length-append, inl, inr}
+use Rattle.std.proofs.Common.{◌≡◌, ℕ, zero, suc, ◌+◌, ◌≢◌, ◌<◌, ◌≤◌, Bool, true, false, cond, List, [], ◌∷◌, ◌++◌, length, refl, ap, sym, ◌∙◌, subst, arith, append_assoc, inl, inr}
 use Rattle.std.specs.Prelude.{Some, None, slice_set, slice_index_or, take, drop, ◌==◌, nat_le}
+use Rattle.std.proofs.Common.{length-take}
+use Rattle.std.proofs.lemmas.List.{get_or-take, get_or-set_same, get_or-set_other, length-set}
 use Rattle.std.proofs.lemmas.Bool.{cases_eq, ne_eqb}
 use Rattle.std.proofs.lemmas.Bool.Decides.{nat_tests}
 use Rattle.std.specs.declared.cmp.Ordering.{Ordering}
@@ -13,7 +15,8 @@ use Rattle.std.specs.BTreeSet.{insert_key}
 use Rattle.std.specs.Set.{remove_key}
 use Rattle.expiry_wheel.specs.Entries.{entry_cmp, IsInOrder, has_entry, with_entry, without_entry, first_moment, first_due, without_due, first_above}
 use Rattle.expiry_wheel.specs.Items.{first_item}
-use Rattle.expiry_wheel.specs.Slots.{slot_of, entries_in, AreSlotted, IsWheel, SpansEntries}
+use Rattle.expiry_wheel.specs.Marks.{mark_of, AreUnmarked, IsFirstMarked, AreMarked}
+use Rattle.expiry_wheel.specs.Slots.{slot_of, entries_in, AreSlotted, IsWheel, SpansEntries, IsFirstOccupied}
 use Rattle.expiry_wheel.proofs.Lists.{all-append, all-imply, insert-front, insert-back, remove-front, remove-back, any-front, any-back, find-front, find-first, find-append_found, find-append_none, sorted-append}
 use Rattle.expiry_wheel.proofs.Grouped.{earlier, before_moments, after_moments}
 use Rattle.expiry_wheel.proofs.Turning.{earlier_slot, slots_rise, slots_stay}
@@ -330,13 +333,9 @@ same_again o near = ap (λ l. near ++ entries_in l) (o.written o.here ∙ sym o.
 -- ---- the first entries, in two parts
 
 module _ {X : Type 0} where
-  pub first-append_some : (xs ys : List X) (e : X) → first_item xs ≡ Some e → first_item (xs ++ ys) ≡ Some e
-  first-append_some [] ys e h = cc
-  first-append_some (x ∷ xs) ys e h = h
-
-  pub first-append_none : (xs ys : List X) → first_item xs ≡ None → first_item (xs ++ ys) ≡ first_item ys
-  first-append_none [] ys h = refl
-  first-append_none (x ∷ xs) ys h = cc
+  pub first-append_held : (xs ys : List X) → (xs ≡ [] → ⊥) → first_item (xs ++ ys) ≡ first_item xs
+  first-append_held [] ys h = absurd (h refl)
+  first-append_held (x ∷ xs) ys h = refl
 
 not_yet : (t n : ℕ) → t < n → nat_le n t ≡ false
 not_yet t n h = grind (arith, nat_tests)
@@ -383,23 +382,6 @@ module _ {T : Type 0} (t : ℕ) where
 -- ---- slots that hold nothing
 
 module _ {T : Type 0} where
-  pub none_more : (slots : List (List (ℕ × T))) (k : ℕ) (d : List (ℕ × T)) → k < length slots → slice_index_or slots k d ≡ [] → entries_in (take k slots) ≡ [] → entries_in (take (suc k) slots) ≡ []
-  none_more [] k d h e n = absurd (omega arith)
-  none_more (s ∷ slots) zero d h e n = ap (λ l. l ++ []) e
-  none_more (s ∷ slots) (suc k) d h e n = none_cons s (take k slots) (take (suc k) slots) n (λ m. none_more slots k d (omega arith) e m)
-    where
-      none_cons : (s : List (ℕ × T)) (xs ys : List (List (ℕ × T))) → s ++ entries_in xs ≡ [] → (entries_in xs ≡ [] → entries_in ys ≡ []) → s ++ entries_in ys ≡ []
-      none_cons [] xs ys n f = f n
-      none_cons (x ∷ s) xs ys n f = cc
-
-  -- the first entry of slots, when those before k hold none
-  pub first_at_slot : (slots : List (List (ℕ × T))) (k : ℕ) (o : Opened slots k) → entries_in (take k slots) ≡ [] → (e : ℕ × T) → first_item o.here ≡ Some e → first_item (entries_in slots) ≡ Some e
-  first_at_slot slots k o n e f =
-      ap (λ l. first_item (entries_in l)) o.is
-      ∙ ap first_item (entries_in-append (λ _ _. Equal) 0 0 o.before (o.here ∷ o.after))
-      ∙ ap (λ l. first_item (l ++ (o.here ++ entries_in o.after))) (ap entries_in (sym o.taken) ∙ n)
-      ∙ first-append_some o.here (entries_in o.after) e f
-
   -- a list of empty slots
   pub record AreEmpty (slots : List (List (ℕ × T))) (n : ℕ) : Type 0 where
     pub count : length slots ≡ n
@@ -409,24 +391,66 @@ module _ {T : Type 0} where
   no_entries [] h = refl
   no_entries (s ∷ slots) h = ap (λ l. l ++ entries_in slots) h.0 ∙ no_entries slots h.1
 
-pub empty_wheel : {T : Type 0} (cmp : T → T → Ordering) (now : ℕ) (near : List (ℕ × T)) (slots : List (List (ℕ × T))) → near ≡ [] → length slots ≡ 704 → AllByRecursion (λ s. s ≡ []) slots → IsWheel cmp now now near slots
+pub empty_wheel : {T : Type 0} (cmp : T → T → Ordering) (now : ℕ) (near : List (ℕ × T)) (slots : List (List (ℕ × T))) → near ≡ [] → length slots ≡ 704 → entries_in slots ≡ [] → IsWheel cmp now now near slots
 unfolding IsStrictlySortedBy
 empty_wheel cmp now near slots e count none =
     subst (λ l. IsWheel cmp now now l slots) (sym e)
-    record { counted = omega arith; complete = count; ordered = tt; until = tt; slotted = slotted_none cmp now now 0 slots (no_entries slots none) }
+    record { counted = omega arith; complete = count; ordered = tt; until = tt; slotted = slotted_none cmp now now 0 slots none }
 
-pub one_more_empty : {T : Type 0} (slots : List (List (ℕ × T))) (n : ℕ) (s : List (ℕ × T)) → s ≡ [] → AreEmpty slots n → AreEmpty (slots ++ s ∷ []) (n + 1)
-one_more_empty slots n s e h = record { count = omega (arith, length-append slots (s ∷ []), h.count); none = all-append (λ s. s ≡ []) slots (s ∷ []) h.none (e, tt) }
+-- ---- the first slot, from one on, that holds entries
 
-pub take_whole : {X : Type 0} (xs : List X) (n : ℕ) → length xs ≤ n → take n xs ≡ xs
-take_whole [] zero h = refl
-take_whole [] (suc n) h = refl
-take_whole (x ∷ xs) zero h = absurd (omega arith)
-take_whole (x ∷ xs) (suc n) h = ap (λ l. x ∷ l) (take_whole xs n (omega arith))
+module _ {T : Type 0} where
+  pub none_from : (slots : List (List (ℕ × T))) (from : ℕ) → ((k : ℕ) → from ≤ k → k < length slots → slice_index_or slots k [] ≡ []) → entries_in (drop from slots) ≡ []
+  none_from [] zero h = refl
+  none_from [] (suc from) h = refl
+  none_from (s ∷ slots) zero h = ap (λ l. l ++ entries_in slots) (h 0 (omega arith) (omega arith)) ∙ none_from slots 0 (λ k l m. h (suc k) (omega arith) (omega arith))
+  none_from (s ∷ slots) (suc from) h = none_from slots from (λ k l m. h (suc k) (omega arith) (omega arith))
 
-pub none_first : {X : Type 0} (xs : List X) → first_item xs ≡ None → xs ≡ []
-none_first [] h = refl
-none_first (x ∷ xs) h = cc
+  from_occupied : (slots : List (List (ℕ × T))) (from k : ℕ) → from ≤ k → k < length slots → entries_in (drop from (take k slots)) ≡ [] → entries_in (drop from slots) ≡ slice_index_or slots k [] ++ entries_in (drop (suc k) slots)
+  from_occupied [] from k h l none = absurd (omega arith)
+  from_occupied (s ∷ slots) zero zero h l none = refl
+  from_occupied (s ∷ slots) zero (suc k) h l none = first_none s (λ n. from_occupied slots 0 k (omega arith) (omega arith) n) none
+    where
+      first_none : (s : List (ℕ × T)) → (entries_in (take k slots) ≡ [] → entries_in slots ≡ slice_index_or slots k [] ++ entries_in (drop (suc k) slots)) → s ++ entries_in (take k slots) ≡ [] → s ++ entries_in slots ≡ slice_index_or slots k [] ++ entries_in (drop (suc k) slots)
+      first_none [] rest none = rest none
+      first_none (x ∷ s) rest none = cc
+  from_occupied (s ∷ slots) (suc from) zero h l none = absurd (omega arith)
+  from_occupied (s ∷ slots) (suc from) (suc k) h l none = from_occupied slots from k (omega arith) (omega arith) none
+
+  -- its first entry is the first of all from there on
+  pub first_at_slot : (slots : List (List (ℕ × T))) (from k : ℕ) (o : Opened slots k) → IsFirstOccupied slots from k → first_item (entries_in (drop from slots)) ≡ first_item o.here
+  first_at_slot slots from k o f =
+      ap first_item (from_occupied slots from k f.since f.within f.none_before)
+      ∙ first-append_held (slice_index_or slots k []) (entries_in (drop (suc k) slots)) f.some_here
+      ∙ ap first_item (o.read [])
+
+  -- as the marks say
+  module _ (words : List ℕ) (slots : List (List (ℕ × T))) (m : AreMarked words slots) (from : ℕ) where
+    pub none_held : AreUnmarked words from 704 → entries_in (drop from slots) ≡ []
+    none_held none = none_from slots from (λ k h l. (m.exact k).0 (none k h (omega (arith, m.complete))))
+
+    pub first_held : (k : ℕ) → IsFirstMarked words from k → IsFirstOccupied slots from k
+    first_held k f = record {
+      since = f.since;
+      within = omega (arith, f.within, m.complete);
+      none_before = none_from (take k slots) from (λ j h l. let lt : j < k = omega (arith, length-take k slots) in get_or-take k slots j [] lt ∙ (m.exact j).0 (f.none_before j h lt));
+      some_here = λ e. omega (arith, f.marked, (m.exact k).1 e);
+    }
+
+-- what a mark that is set keeps
+pub marked_there : {X : Type 0} (words new : List ℕ) (slots : List (List X)) (slot : ℕ) (items : List X) → AreMarked words slots → slot < 704 → mark_of new slot ≡ 1 → ((other : ℕ) → other ≢ slot → mark_of new other ≡ mark_of words other) → 0 < length items → AreMarked new (slice_set slots slot items)
+marked_there words new slots slot items m within one others some = record {
+  complete = length-set slots slot items ∙ m.complete;
+  exact = λ k. elim (cases_eq k slot) [
+    | inl same ↦ (λ e. absurd (omega (arith, one, ap (mark_of new) same, e)), λ e. absurd (omega (arith, some, ap length (sym (held k same) ∙ e))))
+    | inr apart ↦
+        let there : slice_index_or (slice_set slots slot items) k [] ≡ slice_index_or slots k [] = get_or-set_other slots slot k items [] apart in
+        (λ e. there ∙ (m.exact k).0 (sym (others k apart) ∙ e), λ e. others k apart ∙ (m.exact k).1 (sym there ∙ e))
+  ];
+}
+  where
+    held : (k : ℕ) → k ≡ slot → slice_index_or (slice_set slots slot items) k [] ≡ items
+    held k same = ap (λ n. slice_index_or (slice_set slots slot items) n []) same ∙ get_or-set_same slots slot items [] (omega (arith, m.complete))
 
 -- ---- a turn to the first slot that holds entries
 

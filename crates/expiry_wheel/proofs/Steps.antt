@@ -43,3 +43,15 @@ if_some_by (Some x) f = f x refl
 pub if_none_by : {X : Type 0} (o : Option X) {P : Type 0} → (o ≡ None → P) → IfNone o P
 if_none_by None f = f refl
 if_none_by (Some x) f = tt
+
+pub if_some : {X : Type 0} (o : Option X) {P Q : X → Type 0} → IfSome o P → ((x : X) → P x → Q x) → IfSome o Q
+if_some None h f = tt
+if_some (Some x) h f = f x h
+
+pub if_none : {X : Type 0} (o : Option X) {P Q : Type 0} → IfNone o P → (P → Q) → IfNone o Q
+if_none None h f = f h
+if_none (Some x) h f = tt
+
+pub match_option : {X : Type 0} (o : Option X) {P P' : Type 0} {Q Q' : X → Type 0} → IfNone o P → IfSome o Q → (P → P') → ((x : X) → Q x → Q' x) → MatchOption o P' Q'
+match_option None h k f g = f h
+match_option (Some x) h k f g = g x k

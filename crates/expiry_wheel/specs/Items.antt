@@ -1,8 +1,9 @@
 -- The items of one moment, in order.
-use Rattle.std.specs.Prelude.{List, [], ◌∷◌, Option, Some, None}
+use Rattle.std.specs.Prelude.{◌≡◌, List, [], ◌∷◌, Option, Some, None, IfNone}
 use Rattle.std.specs.declared.cmp.Ordering.{Ordering}
 use Rattle.std.specs.Ordering.{is_lt}
 use Rattle.std.specs.List.{find}
+use Rattle.std.specs.List.Sorted.{IsStrictlySortedBy}
 
 abbrev pub first_item : {T : Type 0} → List T → Option T
 first_item [] = None
@@ -15,3 +16,13 @@ without_first (x ∷ xs) = xs
 -- the first item above the given one
 abbrev pub first_item_above : {T : Type 0} → (T → T → Ordering) → T → List T → Option T
 first_item_above cmp given items = find (λ x. is_lt (cmp given x)) items
+
+-- a first item, if there is one, and the others
+abbrev pub items_of : {T : Type 0} → Option T → List T → List T
+items_of None others = others
+items_of (Some x) others = x ∷ others
+
+-- items ascend, the first and the others, and with no first there are no others
+pub record AreTogether {T : Type 0} (cmp : T → T → Ordering) (first : Option T) (others : List T) : Type 0 where
+  pub ordered : IsStrictlySortedBy cmp (items_of first others)
+  pub none : IfNone first (others ≡ [])

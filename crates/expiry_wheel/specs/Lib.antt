@@ -1,6 +1,7 @@
 pub mod Entries
 pub mod Items
 pub mod Lent
+pub mod Marks
 pub mod Merge
 pub mod Moments
 pub mod Planned

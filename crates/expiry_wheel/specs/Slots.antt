@@ -1,5 +1,5 @@
 -- The slots of a wheel, and what stands in them.
-use Rattle.std.specs.Prelude.{◌≡◌, ℕ, zero, suc, ◌+◌, ◌*◌, ◌/◌, ◌%◌, ◌==◌, ◌<◌, ◌≤◌, true, List, [], ◌∷◌, ◌++◌, length, take, slice_index_or, if◌then◌else◌, Some, ⊤}
+use Rattle.std.specs.Prelude.{◌≡◌, ℕ, zero, suc, ◌+◌, ◌*◌, ◌/◌, ◌%◌, ◌==◌, ◌<◌, ◌≤◌, true, List, [], ◌∷◌, ◌++◌, length, take, drop, slice_index_or, if◌then◌else◌, Some, ⊤}
 use Rattle.std.specs.declared.cmp.Ordering.{Ordering}
 use Rattle.std.specs.List.{AllByRecursion, list_any}
 use Rattle.expiry_wheel.specs.Entries.{IsInOrder, first_moment}
@@ -40,8 +40,9 @@ pub record SpansEntries {T : Type 0} (entries : List (ℕ × T)) (ends : ℕ × 
   pub last : list_any (λ e. e.0 == ends.1) entries ≡ true
   pub bound : AllByRecursion (λ e. e.0 ≤ ends.1) entries
 
--- the first slot that holds entries
-pub record IsFirstOccupied {T : Type 0} (slots : List (List (ℕ × T))) (k : ℕ) : Type 0 where
+-- the first slot, from one on, that holds entries
+pub record IsFirstOccupied {T : Type 0} (slots : List (List (ℕ × T))) (from k : ℕ) : Type 0 where
+  pub since : from ≤ k
   pub within : k < length slots
-  pub none_before : entries_in (take k slots) ≡ []
+  pub none_before : entries_in (drop from (take k slots)) ≡ []
   pub some_here : slice_index_or slots k [] ≡ [] → ⊥

@@ -6,7 +6,9 @@
 
 mod due;
 mod index;
+mod marks;
 mod ordered;
+mod slots;
 mod together;
 mod wheel;
 

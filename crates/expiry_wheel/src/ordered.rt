@@ -1,4 +1,4 @@
-ghost use Rattle.std.specs.Prelude.{◌≡◌, ◌<◌, ◌≤◌, ◌↔◌, [], ◌++◌, IsTrue, IfSome, IfNone, IfOk, OnOk, OnErr};
+ghost use Rattle.std.specs.Prelude.{◌≡◌, ◌<◌, ◌≤◌, ◌↔◌, [], ◌++◌, length, IsTrue, IfSome, IfNone, IfOk, OnOk, OnErr};
 ghost use Rattle.std.specs.List.{AllByRecursion};
 ghost use Rattle.expiry_wheel.specs.Slots.{SpansEntries};
 ghost use Rattle.std.specs.Option.{option_map};
@@ -15,6 +15,9 @@ use std::alloc::Global;
 use std::collections::BTreeMap;
 use std::marker::Model;
 use std::ops::Bound;
+
+// A map of more moments than this takes longer to search than to part.
+const CROWD: usize = 128;
 
 /// A due index kept as one ordered map, from each moment to the items that stand at it.
 #[derive(Drop)]
@@ -56,7 +59,7 @@ impl<T: Ord + Drop> DueIndex<T> for OrderedDue<T> {
         if let Some(together) = self.moments.get_mut(&at) {
             return together.insert(item);
         }
-        let together = Together::one(self.alloc, item)?;
+        let together = Together::one(self.alloc, item);
         self.moments.insert(at, together)?;
         Ok(())
     }
@@ -147,6 +150,13 @@ impl<T: Ord + Drop> OrderedDue<T> {
         ensures { IsTrue result ↔ (self.now ≡ []) }
     {
         self.moments.is_empty()
+    }
+
+    // Whether so many moments stand here that some are better kept apart.
+    pub(crate) fn is_crowded(&self) -> bool
+        ensures { IsTrue result → 128 < length self.now }
+    {
+        self.moments.len() > CROWD
     }
 
     // The first moment and the last.

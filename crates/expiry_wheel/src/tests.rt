@@ -116,6 +116,61 @@ fn both_kinds_give_the_same_answers(rt: HostRuntime) -> Result<(), Fail> {
     Ok(())
 }
 
+// Plans an entry, and again where memory is refused.
+fn plan_twice<D: DueIndex<u32>>(index: &mut D, at: u64, item: u32) -> Result<(), NoMemory> {
+    if index.plan(at, item).is_ok() {
+        return Ok(());
+    }
+    index.plan(at, item)
+}
+
+#[test]
+fn a_crowded_slot_is_parted_again(rt: HostRuntime) -> Result<(), Fail> {
+    let mut ordered = OrderedDue::new(rt.alloc());
+    let mut wheel = new_wheel(rt.alloc(), 0)?;
+    for item in 0..400 {
+        plan_twice(&mut ordered, 4096 + 10 * u64::from(item), item)?;
+        plan_twice(&mut wheel, 4096 + 10 * u64::from(item), item)?;
+    }
+    assert_eq!(rt; wheel.take_due(4096), ordered.take_due(4096));
+    for item in 0..80 {
+        plan_through(&rt, &mut wheel, 4100 + 31 * u64::from(item), item)?;
+        plan_twice(&mut ordered, 4100 + 31 * u64::from(item), item)?;
+    }
+    assert_eq!(rt; summary(&wheel), summary(&ordered));
+    for step in 0..500 {
+        let at = 4096 + 8 * u64::from(step);
+        assert_eq!(rt; wheel.cancel(at, &step), ordered.cancel(at, &step));
+        assert_eq!(rt; wheel.take_due(at), ordered.take_due(at));
+    }
+    Ok(())
+}
+
+fn keeps_items_of_one_moment<D: DueIndex<u32>>(
+    rt: &impl Abort,
+    index: &mut D,
+) -> Result<(), NoMemory> {
+    for item in [30, 20, 40, 10, 20] {
+        plan_through(rt, index, 7, item)?;
+    }
+    assert!(rt; !index.cancel(7, &5));
+    assert!(rt; index.cancel(7, &10));
+    assert!(rt; index.cancel(7, &30));
+    assert_eq!(rt; index.after(Some((7, &10))), Some((7, &20)));
+    assert_eq!(rt; index.after(Some((7, &20))), Some((7, &40)));
+    for due in [Some((7, 20)), Some((7, 40)), None] {
+        assert_eq!(rt; index.take_due(7), due);
+    }
+    Ok(())
+}
+
+#[test]
+fn both_kinds_keep_items_of_one_moment(rt: HostRuntime) -> Result<(), Fail> {
+    keeps_items_of_one_moment(&rt, &mut OrderedDue::new(rt.alloc()))?;
+    keeps_items_of_one_moment(&rt, &mut new_wheel(rt.alloc(), 0)?)?;
+    Ok(())
+}
+
 #[test]
 fn two_indexes_merge_by_moment(rt: HostRuntime) -> Result<(), Fail> {
     let mut firsts = OrderedDue::new(rt.alloc());

@@ -1,19 +1,11 @@
-ghost use Rattle.std.specs.Prelude.{◌≡◌, ◌<◌, ◌≤◌, ◌^◌, [], ◌++◌, ◌+◌, ◌*◌, length, take, drop, Some, IfOk, IfSome, IfNone, MatchOption};
-ghost use Rattle.std.specs.Option.{option_map};
-ghost use Rattle.expiry_wheel.specs.Entries.{first_entry};
-ghost use Rattle.expiry_wheel.specs.Lent.{lent_entry};
-ghost use Rattle.expiry_wheel.specs.Slots.{slot_of, start_of, entries_in, IsFirstOccupied};
+ghost use Rattle.std.specs.Prelude.{◌≡◌, ◌<◌, ◌≤◌, ◌^◌, [], ◌++◌, ◌+◌, ◌*◌, IfOk};
+ghost use Rattle.expiry_wheel.specs.Slots.{slot_of, start_of};
 
+use crate::slots::{LEVELS, Slots};
 use crate::{DueIndex, OrderedDue};
 use agg_types::NoMemory;
 use std::alloc::Global;
 use std::marker::Model;
-use std::mem;
-
-// Levels of 64 slots for every `u64` moment: 64 ^ 11 is above 2 ^ 64.
-const LEVELS: u32 = 11;
-
-const SLOTS: usize = 704;
 
 /// A due index kept as a wheel: levels of 64 slots, each with the entries of its own moments.
 ///
@@ -22,15 +14,15 @@ const SLOTS: usize = 704;
 /// the moment differs from `now`, and the slot that digit. So a slot of the lowest level is one
 /// moment, and a slot of any other is 64 times as long as one of the level below.
 ///
-/// When nothing near is left, the first slot with entries is taken near as it is. Each `plan` moves
-/// one more part of what is near back to a slot of its own, until `near_end` is `now` again; where
-/// memory for that is refused, the part stays near.
+/// When nothing near is left, the first slot with entries is taken near as it is. While many moments
+/// are near, each `plan` moves one more part of them back to a slot of its own; where memory for
+/// that is refused, the part stays near.
 #[derive(Drop)]
 pub struct Wheel<T: Ord> {
     now: u64,
     near_end: u64,
     near: OrderedDue<T>,
-    slots: Vec<OrderedDue<T>>,
+    slots: Slots<T>,
 }
 
 impl<T: Ord> Model for Wheel<T> {
@@ -42,9 +34,9 @@ impl<T: Ord> Model for Wheel<T> {
 
     ghost coded = { coded_list (coded× coded_ℕ T.code) };
 
-    ghost view = { λ a. a.near ++ entries_in a.slots.items };
+    ghost view = { λ a. a.near ++ entries_in a.slots };
 
-    ghost invariant = { λ a. IsWheel T.cmp a.now a.near_end a.near a.slots.items };
+    ghost invariant = { λ a. IsWheel T.cmp a.now a.near_end a.near a.slots };
 }
 
 impl<T: Ord + Drop> Wheel<T> {
@@ -52,15 +44,11 @@ impl<T: Ord + Drop> Wheel<T> {
     pub fn new(alloc: Global, now: u64) -> Result<Wheel<T>, NoMemory>
         ensures { IfOk result (λ wheel. wheel ≡ []) }
     {
-        let mut slots = Vec::new(alloc);
-        for _ in 0..SLOTS {
-            slots.push(OrderedDue::new(alloc))?;
-        }
         Ok(Wheel {
             now,
             near_end: now,
             near: OrderedDue::new(alloc),
-            slots,
+            slots: Slots::new(alloc)?,
         })
     }
 
@@ -68,16 +56,16 @@ impl<T: Ord + Drop> Wheel<T> {
     fn refine(&mut self)
         ensures { self.new ≡ self.old }
     {
-        if self.near_end <= self.now {
+        if self.near_end <= self.now || !self.near.is_crowded() {
             return;
         }
         let slot = slot_at(self.now, self.near_end);
-        if !self.slots[slot].is_empty() {
+        if !self.slots.slot(slot).is_empty() {
             return;
         }
         let start = slot_start(LEVELS - 1, self.now, self.near_end);
-        if let Ok(part) = self.near.split_off(start) {
-            self.slots[slot] = part;
+        if let Ok(mut part) = self.near.split_off(start) {
+            self.slots.swap(slot, &mut part);
             self.near_end = start - 1;
         }
     }
@@ -92,7 +80,7 @@ impl<T: Ord + Drop> DueIndex<T> for Wheel<T> {
             self.near.plan(at, item)
         } else {
             let slot = slot_at(self.now, at);
-            self.slots[slot].plan(at, item)
+            self.slots.plan(slot, at, item)
         }
     }
 
@@ -101,7 +89,7 @@ impl<T: Ord + Drop> DueIndex<T> for Wheel<T> {
             self.near.cancel(at, item)
         } else {
             let slot = slot_at(self.now, at);
-            self.slots[slot].cancel(at, item)
+            self.slots.cancel(slot, at, item)
         }
     }
 
@@ -114,12 +102,12 @@ impl<T: Ord + Drop> DueIndex<T> for Wheel<T> {
         if !self.near.is_empty() {
             return self.near.take_due(t);
         }
-        let slot = first_occupied(&self.slots)?;
-        let (first, last) = self.slots[slot].ends()?;
+        let slot = self.slots.first_occupied(0)?;
+        let (first, last) = self.slots.slot(slot).ends()?;
         if first > t {
             return None;
         }
-        mem::swap(&mut self.near, &mut self.slots[slot]);
+        self.slots.swap(slot, &mut self.near);
         self.now = first;
         self.near_end = last;
         self.near.take_due(t)
@@ -129,46 +117,21 @@ impl<T: Ord + Drop> DueIndex<T> for Wheel<T> {
         let Some((at, item)) = given else {
             return match self.near.after(None) {
                 Some(next) => Some(next),
-                None => first_from(&self.slots, 0),
+                None => self.slots.first_from(0),
             };
         };
         if at <= self.near_end {
             return match self.near.after(Some((at, item))) {
                 Some(next) => Some(next),
-                None => first_from(&self.slots, 0),
+                None => self.slots.first_from(0),
             };
         }
         let slot = slot_at(self.now, at);
-        match self.slots[slot].after(Some((at, item))) {
+        match self.slots.slot(slot).after(Some((at, item))) {
             Some(next) => Some(next),
-            None => first_from(&self.slots, slot + 1),
+            None => self.slots.first_from(slot + 1),
         }
     }
-}
-
-// The first slot with entries.
-fn first_occupied<T: Ord + Drop>(slots: &[OrderedDue<T>]) -> Option<usize>
-    ensures { MatchOption result (entries_in slots.now ≡ []) (IsFirstOccupied slots.now) }
-{
-    for (slot, entries) in slots.iter().enumerate() {
-        if !entries.is_empty() {
-            return Some(slot);
-        }
-    }
-    None
-}
-
-// The first entry of the slots from one on.
-fn first_from<T: Ord + Drop>(slots: &[OrderedDue<T>], from: usize) -> Option<(u64, &T)>
-    requires { from ≤ length slots.now }
-    ensures { option_map lent_entry result ≡ first_entry (entries_in (drop from slots.now)) }
-{
-    for slot in &slots[from..] {
-        if let Some(first) = slot.after(None) {
-            return Some(first);
-        }
-    }
-    None
 }
 
 // The slot of a moment on a wheel that counts from `now`.
@@ -179,7 +142,7 @@ fn slot_at(now: u64, at: u64) -> usize
     slot_below(LEVELS - 1, now, at)
 }
 
-fn slot_below(levels: u32, now: u64, at: u64) -> usize
+fn slot_below(levels: usize, now: u64, at: u64) -> usize
     requires few { levels ≤ 10 }
     requires fits { at < 64 ^ (levels + 1) }
     ensures slot { result ≡ slot_of levels now at }
@@ -195,7 +158,7 @@ fn slot_below(levels: u32, now: u64, at: u64) -> usize
 }
 
 // The first moment after `now` with the slot of `at`.
-fn slot_start(levels: u32, now: u64, at: u64) -> u64
+fn slot_start(levels: usize, now: u64, at: u64) -> u64
     requires { levels ≤ 10 }
     ensures start { result ≡ start_of levels now at }
     ensures up_to { result ≤ at }

@@ -48,20 +48,20 @@ returns-in-Some-clause-err g c =
     ∙ c.self.view_is)
 
 -- with no items at the moment, the new map has the one item there
-anew : (g : given.Over) (c : goal.Joined-branch-3 g) → c.insert-2.new.self.entries ≡ insert_entry nat_cmp c.self.inside.moments.entries c.args.at (c.args.item ∷ [])
+anew : (g : given.Over) (c : goal.Joined-branch-2 g) → c.insert-2.new.self.entries ≡ insert_entry nat_cmp c.self.inside.moments.entries c.args.at (c.args.item ∷ [])
 anew g c =
     c.in_ok-insert.ensures.entries
-    ∙ ap (λ m. insert_entry nat_cmp m.entries c.args.at c.in_ok-together.together) c.get_mut.follows.holds-at-none
-    ∙ ap (λ w. insert_entry nat_cmp c.self.inside.moments.entries c.args.at w) c.in_ok-together.ensures.item
+    ∙ ap (λ m. insert_entry nat_cmp m.entries c.args.at c.one-together.result) c.get_mut.follows.holds-at-none
+    ∙ ap (λ w. insert_entry nat_cmp c.self.inside.moments.entries c.args.at w) c.one-together.ensures
 
-gap_at : (g : given.Over) (c : goal.Joined-branch-3 g) → Vacant c.args.at c.self.inside.moments.entries
+gap_at : (g : given.Over) (c : goal.Joined-branch-2 g) → Vacant c.args.at c.self.inside.moments.entries
 gap_at g c = vacant g.T.Ord.cmp c.args.at c.self.inside.moments.entries c.self.invariant (sym c.get_mut.follows.claims.0 ∙ ap option_copied_mut c.in_default.is)
 
 pub invariant_of-self-2 : goal.invariant_of-self-2
+unfolding IsStrictlySortedBy
 invariant_of-self-2 g c =
     subst (AreGroups g.T.Ord.cmp) (sym (anew g c))
-    (groups_inserted g.T.Ord.cmp c.args.at (c.args.item ∷ []) c.self.inside.moments.entries (gap_at g c) c.self.invariant (omega arith)
-    (subst (IsStrictlySortedBy g.T.Ord.cmp) c.in_ok-together.ensures.item c.in_ok-together.ensures.ordered))
+    (groups_inserted g.T.Ord.cmp c.args.at (c.args.item ∷ []) c.self.inside.moments.entries (gap_at g c) c.self.invariant (omega arith) (tt, tt))
 
 pub returns-clause-ok : goal.returns-clause-ok
 returns-clause-ok g c =

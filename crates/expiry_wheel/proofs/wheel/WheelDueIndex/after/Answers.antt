@@ -1,4 +1,4 @@
-use Rattle.std.proofs.Common.{◌≡◌, ◌+◌, ap, subst, sym, ◌∙◌, add-one, drop, arith}
+use Rattle.std.proofs.Common.{◌≡◌, [], ap, subst, sym, ◌∙◌, add-one, drop, arith}
 use Rattle.std.specs.Prelude.{Some}
 use Rattle.std.specs.Option.{option_map}
 use Rattle.expiry_wheel.specs.Entries.{IsInOrder, first_above}
@@ -9,22 +9,22 @@ use Rattle.expiry_wheel.proofs.Slotted.{Opened, opened, wheel_in_order, above_ne
 use Rattle.expiry_wheel.proofs.wheel.WheelDueIndex.after.Goals as goal
 
 pub returns-in-Some-after-clause-ordered : goal.returns-in-Some-after-clause-ordered
-returns-in-Some-after-clause-ordered g c = let i = c.self.inside in subst (IsInOrder g.T.Ord.cmp) c.self.view_is (wheel_in_order g.T.Ord.cmp i.now i.near_end i.near i.slots.items c.self.invariant)
+returns-in-Some-after-clause-ordered g c = let i = c.self.inside in subst (IsInOrder g.T.Ord.cmp) c.self.view_is (wheel_in_order g.T.Ord.cmp i.now i.near_end i.near i.slots c.self.invariant)
 
 pub returns-in-None-clause-ordered : goal.returns-in-None-clause-ordered
-returns-in-None-clause-ordered g c = let i = c.self.inside in subst (IsInOrder g.T.Ord.cmp) c.self.view_is (wheel_in_order g.T.Ord.cmp i.now i.near_end i.near i.slots.items c.self.invariant)
+returns-in-None-clause-ordered g c = let i = c.self.inside in subst (IsInOrder g.T.Ord.cmp) c.self.view_is (wheel_in_order g.T.Ord.cmp i.now i.near_end i.near i.slots c.self.invariant)
 
 pub returns-in-Some-after-2-clause-ordered : goal.returns-in-Some-after-2-clause-ordered
-returns-in-Some-after-2-clause-ordered g c = let i = c.self.inside in subst (IsInOrder g.T.Ord.cmp) c.self.view_is (wheel_in_order g.T.Ord.cmp i.now i.near_end i.near i.slots.items c.self.invariant)
+returns-in-Some-after-2-clause-ordered g c = let i = c.self.inside in subst (IsInOrder g.T.Ord.cmp) c.self.view_is (wheel_in_order g.T.Ord.cmp i.now i.near_end i.near i.slots c.self.invariant)
 
 pub returns-in-None-after-clause-ordered : goal.returns-in-None-after-clause-ordered
-returns-in-None-after-clause-ordered g c = let i = c.self.inside in subst (IsInOrder g.T.Ord.cmp) c.self.view_is (wheel_in_order g.T.Ord.cmp i.now i.near_end i.near i.slots.items c.self.invariant)
+returns-in-None-after-clause-ordered g c = let i = c.self.inside in subst (IsInOrder g.T.Ord.cmp) c.self.view_is (wheel_in_order g.T.Ord.cmp i.now i.near_end i.near i.slots c.self.invariant)
 
 pub returns-in-Some-after-3-clause-ordered : goal.returns-in-Some-after-3-clause-ordered
-returns-in-Some-after-3-clause-ordered g c = let i = c.self.inside in subst (IsInOrder g.T.Ord.cmp) c.self.view_is (wheel_in_order g.T.Ord.cmp i.now i.near_end i.near i.slots.items c.self.invariant)
+returns-in-Some-after-3-clause-ordered g c = let i = c.self.inside in subst (IsInOrder g.T.Ord.cmp) c.self.view_is (wheel_in_order g.T.Ord.cmp i.now i.near_end i.near i.slots c.self.invariant)
 
 pub returns-in-None-after-2-clause-ordered : goal.returns-in-None-after-2-clause-ordered
-returns-in-None-after-2-clause-ordered g c = let i = c.self.inside in subst (IsInOrder g.T.Ord.cmp) c.self.view_is (wheel_in_order g.T.Ord.cmp i.now i.near_end i.near i.slots.items c.self.invariant)
+returns-in-None-after-2-clause-ordered g c = let i = c.self.inside in subst (IsInOrder g.T.Ord.cmp) c.self.view_is (wheel_in_order g.T.Ord.cmp i.now i.near_end i.near i.slots c.self.invariant)
 
 pub returns-in-Some-after-2-clause-next : goal.returns-in-Some-after-2-clause-next
 returns-in-Some-after-2-clause-next g c =
@@ -32,7 +32,7 @@ returns-in-Some-after-2-clause-next g c =
     let i = c.self.inside in
     let at = c.in-Some.at in
     let item = c.in-Some.item.now in
-    sym (above_near cmp i.now i.near_end i.near i.slots.items c.self.invariant at item c.if-at-self.true (lent_entry c.in-Some-after-2.next)
+    sym (above_near cmp i.now i.near_end i.near i.slots c.self.invariant at item c.if-at-self.true (lent_entry c.in-Some-after-2.next)
     (sym c.after-then-at-self.ensures.next ∙ ap (option_map lent_entry) c.in-Some-after-2.is))
     ∙ ap (first_above cmp (Some (at, item))) c.self.view_is
     ∙ ap (λ given. first_above cmp (option_map lent_entry given) c.args.self.now) (sym c.in-Some.is)
@@ -44,8 +44,7 @@ returns-in-None-after-clause-next g c =
     let at = c.in-Some.at in
     let item = c.in-Some.item.now in
     c.first_from-in-None-after.ensures
-    ∙ ap (λ l. first_item (entries_in l)) c.deref-in-None-after.ensures.value
-    ∙ sym (above_near_none cmp i.now i.near_end i.near i.slots.items c.self.invariant at item c.if-at-self.true
+    ∙ sym (above_near_none cmp i.now i.near_end i.near i.slots c.self.invariant at item c.if-at-self.true
     (sym c.after-then-at-self.ensures.next ∙ ap (option_map lent_entry) c.in-None-after.is))
     ∙ ap (first_above cmp (Some (at, item))) c.self.view_is
     ∙ ap (λ given. first_above cmp (option_map lent_entry given) c.args.self.now) (sym c.in-Some.is)
@@ -57,9 +56,9 @@ returns-in-Some-after-3-clause-next g c =
     let at = c.in-Some.at in
     let item = c.in-Some.item.now in
     let k = c.slot_at-slot.result in
-    let o : Opened i.slots.items k = opened i.slots.items k (omega (arith, c.slot_at-slot.ensures.within, c.self.invariant.complete)) in
-    let held : c.index.result.now ≡ o.here = c.index.ensures ∙ o.read c.index.result.now in
-    sym (above_slot cmp i.now i.near_end i.near i.slots.items c.self.invariant k o at item c.if-at-self.false (sym c.slot_at-slot.ensures.slot) (lent_entry c.in-Some-after-3.next)
+    let o : Opened i.slots k = opened i.slots k (omega (arith, c.slot_at-slot.ensures.within, c.self.invariant.complete)) in
+    let held : c.slot.result.now ≡ o.here = c.slot.ensures ∙ o.read [] in
+    sym (above_slot cmp i.now i.near_end i.near i.slots c.self.invariant k o at item c.if-at-self.false (sym c.slot_at-slot.ensures.slot) (lent_entry c.in-Some-after-3.next)
     (ap (first_above cmp (Some (at, item))) (sym held) ∙ sym c.after-2.ensures.next ∙ ap (option_map lent_entry) c.in-Some-after-3.is))
     ∙ ap (first_above cmp (Some (at, item))) c.self.view_is
     ∙ ap (λ given. first_above cmp (option_map lent_entry given) c.args.self.now) (sym c.in-Some.is)
@@ -71,13 +70,12 @@ returns-in-None-after-2-clause-next g c =
     let at = c.in-Some.at in
     let item = c.in-Some.item.now in
     let k = c.slot_at-slot.result in
-    let o : Opened i.slots.items k = opened i.slots.items k (omega (arith, c.slot_at-slot.ensures.within, c.self.invariant.complete)) in
-    let held : c.index.result.now ≡ o.here = c.index.ensures ∙ o.read c.index.result.now in
+    let o : Opened i.slots k = opened i.slots k (omega (arith, c.slot_at-slot.ensures.within, c.self.invariant.complete)) in
+    let held : c.slot.result.now ≡ o.here = c.slot.ensures ∙ o.read [] in
     c.first_from-in-None-after-2.ensures
-    ∙ ap (λ l. first_item (entries_in (drop (k + 1) l))) c.deref-in-None-after-2.ensures.value
-    ∙ ap (λ n. first_item (entries_in (drop n i.slots.items))) (add-one k)
+    ∙ ap (λ n. first_item (entries_in (drop n i.slots))) (add-one k)
     ∙ ap (λ l. first_item (entries_in l)) o.dropped
-    ∙ sym (above_slot_none cmp i.now i.near_end i.near i.slots.items c.self.invariant k o at item c.if-at-self.false (sym c.slot_at-slot.ensures.slot)
+    ∙ sym (above_slot_none cmp i.now i.near_end i.near i.slots c.self.invariant k o at item c.if-at-self.false (sym c.slot_at-slot.ensures.slot)
     (ap (first_above cmp (Some (at, item))) (sym held) ∙ sym c.after-2.ensures.next ∙ ap (option_map lent_entry) c.in-None-after-2.is))
     ∙ ap (first_above cmp (Some (at, item))) c.self.view_is
     ∙ ap (λ given. first_above cmp (option_map lent_entry given) c.args.self.now) (sym c.in-Some.is)
