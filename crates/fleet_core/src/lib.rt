@@ -2,6 +2,7 @@
 #![tactic(auto)]
 
 mod connection;
+mod connections;
 mod fleet;
 mod runs;
 mod step;
@@ -10,3 +11,6 @@ mod waiting;
 pub use fleet::Fleet;
 pub use runs::{Ran, RunFault, run};
 pub use step::{FleetFault, Replies, Step};
+
+#[cfg(test)]
+mod tests;

@@ -1,3 +1,11 @@
+ghost use Rattle.std.specs.Prelude.{◌≡◌, [], not, ℕ, List, IfOk, IfErr};
+ghost use Rattle.agg_types.specs.declared.config.Config.{Config};
+ghost use Rattle.fleet_core.specs.declared.step.Step.{Step};
+ghost use Rattle.fleet_core.specs.Runs.{Goes, IsFault, IsRan, is_unfit, outcome, sent_in};
+ghost use Rattle.fleet_core.specs.Standing.{StandsFor};
+ghost use Rattle.fleet_core.specs.Steps.{conn_of};
+
+use crate::fleet::what_at;
 use crate::{Fleet, FleetFault, Replies, Step};
 use agg_types::{Config, ConfigFault, Items, LAST_MOMENT, NoMemory};
 use std::alloc::Global;
@@ -27,50 +35,89 @@ pub enum RunFault {
     Unfit,
 }
 
-impl From<NoMemory> for RunFault {
-    fn from(_refused: NoMemory) -> RunFault {
-        RunFault::NoMemory
-    }
-}
-
 /// Opens a fleet and does the steps, in turn. A step of a connection that isn't open is passed over, and
 /// the end of a session ends nothing else. At Ok no event waits.
-pub fn run(alloc: Global, config: Config, moment: u64, steps: &[Step]) -> Result<Ran, RunFault> {
-    config.check().map_err(RunFault::Config)?;
+pub fn run(alloc: Global, config: Config, moment: u64, steps: &[Step]) -> Result<Ran, RunFault>
+    ensures ok { IfOk result (λ ran. IsRan ran config moment steps.now) }
+    ensures err { IfErr result (λ fault. IsFault fault config moment steps.now) }
+{
+    if let Err(fault) = config.check() {
+        return Err(RunFault::Config(fault));
+    }
     if moment > LAST_MOMENT {
         return Err(RunFault::Unfit);
     }
-    let mut fleet = Fleet::new(alloc, config, moment)?;
+    let Ok(mut fleet) = Fleet::new(alloc, config, moment) else {
+        return Err(RunFault::NoMemory);
+    };
     let mut sent = Items::from_vec(Vec::new(alloc));
     for step in steps {
-        if !fleet.fits(step)? {
-            return Err(RunFault::Unfit);
-        }
-        if let Some(replies) = done(fleet.step(step), step)? {
-            sent.push(replies)?;
-        }
-        if fleet.waiting() > 0 {
-            return Err(RunFault::NoMemory);
-        }
+        advance(alloc, &mut fleet, &mut sent, step)?;
     }
     Ok(Ran { fleet, sent })
 }
 
-// What a step that was done sends, or none where it was passed over.
-fn done(answer: Result<Replies, FleetFault>, step: &Step) -> Result<Option<Replies>, RunFault> {
-    match answer {
-        Ok(replies) => Ok(Some(replies)),
-        Err(FleetFault::NoConn) => Ok(None),
-        Err(FleetFault::Spent) => Err(RunFault::Spent),
-        Err(FleetFault::NoMemory) => Err(RunFault::NoMemory),
-        Err(FleetFault::Session { out, .. }) => Ok(Some(Replies {
-            conn: conn_of(step),
-            out,
-        })),
+// Does a step of a run, and adds what it sends; or passes it over.
+fn advance(
+    alloc: Global,
+    fleet: &mut Fleet,
+    sent: &mut Items<Replies>,
+    step: &Step,
+) -> Result<(), RunFault>
+    ensures { (config : Config) (opening : ℕ) (past : List Step) → StandsFor fleet.old config opening past → fleet.old.waiting ≡ []
+        → sent.old ≡ sent_in config opening past → Goes result fleet.new sent.new config opening past step.now }
+{
+    match fits(alloc, fleet.book().config(), step) {
+        Ok(true) => {}
+        Ok(false) => return Err(RunFault::Unfit),
+        Err(NoMemory) => return Err(RunFault::NoMemory),
+    }
+    match outcome(fleet.step(step), step) {
+        Err(fault) => Err(fault),
+        Ok(None) => Ok(()),
+        Ok(Some(replies)) => {
+            if fleet.waiting() > 0 {
+                return Err(RunFault::NoMemory);
+            }
+            match sent.push(replies) {
+                Ok(()) => Ok(()),
+                Err(NoMemory) => Err(RunFault::NoMemory),
+            }
+        }
     }
 }
 
-fn conn_of(step: &Step) -> u64 {
+// What a run makes of what a step answers: what is sent, or none where it is passed over.
+fn outcome(answer: Result<Replies, FleetFault>, step: &Step) -> Result<Option<Replies>, RunFault>
+    ensures { result ≡ outcome answer step.now }
+{
+    match answer {
+        Ok(replies) => Ok(Some(replies)),
+        Err(fault) => match fault {
+            FleetFault::NoConn => Ok(None),
+            FleetFault::Spent => Err(RunFault::Spent),
+            FleetFault::NoMemory => Err(RunFault::NoMemory),
+            FleetFault::Session { out, .. } => Ok(Some(Replies {
+                conn: conn_of(step),
+                out,
+            })),
+        },
+    }
+}
+
+// Whether a step fits the configuration: a clear, an added filter or a moment may not.
+fn fits(alloc: Global, config: &Config, step: &Step) -> Result<bool, NoMemory>
+    ensures { IfOk result (λ fits. is_unfit config.now step.now ≡ not fits) }
+{
+    match what_at(alloc, step)? {
+        None => Ok(true),
+        Some(what) => Ok(config.fits(&what)),
+    }
+}
+
+fn conn_of(step: &Step) -> u64
+    ensures { result ≡ conn_of step.now }
+{
     match step {
         Step::Bytes(conn, _) | Step::Lost(conn) => *conn,
         _ => 0,

@@ -1,9 +1,17 @@
+//! Events that the book is still to take.
+
+ghost use Rattle.std.specs.Prelude.{◌≡◌, ◌<◌, ◌+◌, ◌^◌, ◌++◌, [], length, IfSome, OnOk, OnErr};
+ghost use Rattle.std.specs.Option.{option_map_or};
+ghost use Rattle.fleet_core.specs.Events.{numbered};
+ghost use Rattle.fleet_core.specs.Waiting.{AreTaken, IsOneTaken, leave_if};
+
 use agg_types::{Items, NoMemory, What};
 use plain_book::Book;
 use std::alloc::Global;
+use std::marker::Model;
 
 /// Events of one seat that the book is still to take, in order: some facts, and then a leave, if the
-/// seat gets free.
+/// seat gets free. Contracts see the list of the events.
 #[derive(Drop)]
 pub struct Waiting {
     seat: u64,
@@ -13,20 +21,33 @@ pub struct Waiting {
     leaves: bool,
 }
 
+impl Model for Waiting {
+    ghost use Rattle.std.specs.Prelude.{List, ◌++◌, ◌≤◌, ◌<◌, ◌+◌, ◌-◌, ◌^◌, drop, length};
+    ghost use Rattle.agg_types.specs.declared.event.Event.{Event};
+    ghost use Rattle.fleet_core.specs.Events.{numbered};
+    ghost use Rattle.fleet_core.specs.Waiting.{leave_if};
+
+    ghost Value = { List Event };
+
+    ghost view = { λ waiting. numbered waiting.seat waiting.seq (drop waiting.taken waiting.facts ++ leave_if waiting.leaves) };
+
+    ghost invariant = { λ waiting. (waiting.taken ≤ length waiting.facts) × (waiting.seq + (length waiting.facts - waiting.taken) < 2 ^ 64) × (length waiting.facts < 2 ^ 63) };
+}
+
 impl Waiting {
     /// No events. Takes no memory.
-    pub fn none(alloc: Global) -> Waiting {
-        Waiting {
-            seat: 0,
-            seq: 0,
-            facts: Items::from_vec(Vec::new(alloc)),
-            taken: 0,
-            leaves: false,
-        }
+    pub fn none(alloc: Global) -> Waiting
+        ensures { result ≡ [] }
+    {
+        Waiting::new(0, 0, Items::from_vec(Vec::new(alloc)), false)
     }
 
     /// These facts of a seat, the first under the number `seq`, and behind them a leave or none.
-    pub fn new(seat: u64, seq: u64, facts: Items<What>, leaves: bool) -> Waiting {
+    pub fn new(seat: u64, seq: u64, facts: Items<What>, leaves: bool) -> Waiting
+        requires numbers { seq + length facts < 2 ^ 64 }
+        requires short { length facts < 2 ^ 63 }
+        ensures { result ≡ numbered seat seq (facts ++ leave_if leaves) }
+    {
         Waiting {
             seat,
             seq,
@@ -36,35 +57,62 @@ impl Waiting {
         }
     }
 
-    /// How many events wait.
-    pub fn len(&self) -> usize {
-        let facts = self.facts.len().saturating_sub(self.taken);
-        if self.leaves {
-            facts.saturating_add(1)
-        } else {
-            facts
+    /// These facts of a connection's seat, if it has one, and behind them a leave or none.
+    pub fn at_seat(
+        alloc: Global,
+        conn: u64,
+        seat: Option<u64>,
+        facts: Items<What>,
+        leaves: bool,
+    ) -> Waiting
+        requires numbers { IfSome seat (λ seq. seq + length facts < 2 ^ 64) }
+        requires short { length facts < 2 ^ 63 }
+        ensures { result ≡ option_map_or (λ seq. numbered conn seq (facts ++ leave_if leaves)) seat [] }
+    {
+        match seat {
+            None => Waiting::none(alloc),
+            Some(seq) => Waiting::new(conn, seq, facts, leaves),
         }
+    }
+
+    /// How many events wait.
+    pub fn len(&self) -> usize
+        ensures { result ≡ length self.now }
+    {
+        let facts = self.facts.len() - self.taken;
+        if self.leaves { facts + 1 } else { facts }
     }
 
     /// Hands the events to the book, one after the other. After NoMemory those that it has not taken
     /// wait as before.
-    pub fn settle(&mut self, book: &mut Book) -> Result<(), NoMemory> {
-        for _ in self.taken..self.facts.len() {
+    pub fn settle(&mut self, book: &mut Book) -> Result<(), NoMemory>
+        ensures ok { OnOk result (self.new ≡ []) }
+        ensures taken { AreTaken self.old book.old self.new book.new }
+    {
+        for _ in 0..self.len() {
             self.hand_over(book)?;
-        }
-        if self.leaves {
-            book.take(self.seat, self.seq, &What::Leave)?;
-            self.leaves = false;
         }
         Ok(())
     }
 
-    // Hands over the first fact that waits.
-    fn hand_over(&mut self, book: &mut Book) -> Result<(), NoMemory> {
-        if let Some(what) = self.facts.as_slice().get(self.taken) {
-            book.take(self.seat, self.seq, what)?;
-            self.taken = self.taken.saturating_add(1);
-            self.seq = self.seq.saturating_add(1);
+    // Hands over the first event that waits.
+    fn hand_over(&mut self, book: &mut Book) -> Result<(), NoMemory>
+        ensures ok { OnOk result (IsOneTaken self.old book.old self.new book.new) }
+        ensures err { OnErr result (self.new ≡ self.old) }
+        ensures kept { OnErr result (book.new ≡ book.old) }
+    {
+        match self.facts.as_slice().get(self.taken) {
+            Some(what) => {
+                book.take(self.seat, self.seq, what)?;
+                self.taken += 1;
+                self.seq += 1;
+            }
+            None => {
+                if self.leaves {
+                    book.take(self.seat, self.seq, &What::Leave)?;
+                    self.leaves = false;
+                }
+            }
         }
         Ok(())
     }

@@ -1,0 +1,9 @@
+pub mod Counts
+pub mod Links
+pub mod Taken
+pub mod Opened
+pub mod Front
+pub mod Heard
+pub mod Accepted
+pub mod Steps
+pub mod Running

@@ -1,0 +1,13 @@
+use Rattle.std.proofs.Common.{refl}
+use Rattle.fleet_core.proofs.Opened.{opened_stands}
+use Rattle.fleet_core.proofs.fleet.Fleet.new.Goals as goal
+
+pub returns-clause-stands : goal.returns-clause-stands
+returns-clause-stands c =
+    opened_stands _ c.new-book.result c.args.config c.args.moment
+    (c.in_ok-take.ensures.ok)
+    c.new-book.ensures.stands
+    c.none.ensures
+    c.new.ensures.empty
+    refl
+    refl
