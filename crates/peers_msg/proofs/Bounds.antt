@@ -7,7 +7,6 @@ use Rattle.peers_msg.specs.declared.message.Message.{Message}
 use Rattle.peers_msg.specs.declared.fault.WireCause.TheVariants.{TooLong}
 use Rattle.peers_msg.specs.Numeral.{integer_at, weight, value_from, value, tail_front, tail_ends, spelling_front, spelling_ends}
 use Rattle.peers_msg.specs.Message.{Frame, Short, Wrong, Framed, framed, frame_at, First, Unfinished, Faulty, Whole, whole_or_bad, first_in, first_of, message_of, Reading, reading_by, reading_within, reading_of}
-use Rattle.peers_msg.specs.Decoded.{reading_made}
 use Rattle.peers_msg.proofs.Frames.{first_shorter}
 
 high_front : (b : ℕ) (bytes : List ℕ) → ltb b 128 ≡ false → tail_front (b ∷ bytes) ≡ b ∷ tail_front bytes
@@ -159,7 +158,7 @@ unfolding reading_of
 reading_rest bytes = rest_within (length bytes) bytes (omega arith)
 
 -- what is kept after a reading that ends with its rest
-pub kept_short : (messages : List Message) (left bytes : List ℕ) → reading_made messages None left ≡ reading_of bytes → length left < 12 + 16384
+pub kept_short : (messages : List Message) (left bytes : List ℕ) → reading_of bytes ≡ record { messages = messages; fault = None; rest = left } → length left < 12 + 16384
 kept_short messages left bytes e =
-    let r : left ≡ (reading_of bytes).rest = ap (λ (reading : Reading). reading.rest) e in
+    let r : (reading_of bytes).rest ≡ left = ap (λ (reading : Reading). reading.rest) e in
     omega (arith, reading_rest bytes, ap length r)

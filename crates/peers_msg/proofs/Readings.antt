@@ -1,11 +1,11 @@
 -- A reading is the first message and the reading of what follows it.
-use Rattle.std.proofs.Common.{◌≡◌, ℕ, zero, suc, ◌+◌, ◌-◌, ◌≤◌, List, [], ◌∷◌, ◌++◌, length, drop, Some, None, refl, sym, ap, ◌∙◌, append_assoc, arith}
-use Rattle.std.proofs.lemmas.List.{append-nil, drop-drop}
+use Rattle.std.proofs.Common.{◌≡◌, ℕ, zero, suc, ◌≤◌, List, [], ◌∷◌, ◌++◌, length, Some, None, refl, sym, ap, ◌∙◌, append_assoc, arith}
+use Rattle.std.proofs.lemmas.List.{append-nil}
 use Rattle.peers_msg.specs.declared.message.Message.{Message}
 use Rattle.peers_msg.specs.declared.fault.WireCause.{WireCause}
 use Rattle.peers_msg.specs.declared.fault.WireCause.TheVariants.{TooLong, BadInteger, BadField, NoMemory}
 use Rattle.peers_msg.specs.Message.{Short, frame_at, First, Unfinished, Faulty, Whole, first_in, first_of, Reading, with_front, after_message, reading_by, reading_within, reading_of}
-use Rattle.peers_msg.specs.Decoded.{FaultIsFirst, IsWireFault, reading_made}
+use Rattle.peers_msg.specs.Decoded.{FaultIsFirst, IsWireFault}
 use Rattle.peers_msg.proofs.Frames.{first_shorter}
 
 same_reading : (next other : List ℕ → Reading) (bytes : List ℕ) (f : First) → ((message : Message) (rest : List ℕ) → f ≡ Whole message rest → next rest ≡ other rest) → reading_by next bytes f ≡ reading_by other bytes f
@@ -32,31 +32,20 @@ unfolding reading_of reading_within
 reading_step bytes =
     reading_enough (length bytes) (suc (length bytes)) bytes (omega arith) (omega arith) ∙ same_reading (reading_within (length bytes)) (λ rest. reading_within (length rest) rest) bytes (first_of bytes) (λ message rest e. reading_enough (length bytes) (length rest) rest (omega (arith, first_shorter bytes message rest e)) (omega arith))
 
--- the messages are those of the bytes up to the rest
-pub record IsSoFar (bytes rest : List ℕ) (messages : List Message) : Type 0 where
-  pub so_far : with_front messages (reading_of rest) ≡ reading_of bytes
-  pub back : rest ≡ drop (length bytes - length rest) bytes
-  pub within : length rest ≤ length bytes
+-- the messages, and the reading of the rest behind them, are the reading of the bytes
+abbrev pub IsSoFar : List ℕ → List ℕ → List Message → Type 0
+IsSoFar bytes rest messages = with_front messages (reading_of rest) ≡ reading_of bytes
 
-pub so_far_none : (bytes : List ℕ) → IsSoFar bytes bytes []
-so_far_none bytes = record { so_far = refl; back = ap (λ n. drop n bytes) (let e : 0 ≡ length bytes - length bytes = omega arith in e); within = omega arith }
-
-pub so_far_more : (bytes rest after : List ℕ) (messages : List Message) (message : Message) → IsSoFar bytes rest messages → first_of rest ≡ Whole message after → after ≡ drop (length rest - length after) rest → IsSoFar bytes after (messages ++ message ∷ [])
-so_far_more bytes rest after messages message h e back =
-    let shorter = first_shorter rest message after e in
+pub so_far_more : (bytes rest after : List ℕ) (messages : List Message) (message : Message) → IsSoFar bytes rest messages → first_of rest ≡ Whole message after → IsSoFar bytes after (messages ++ message ∷ [])
+so_far_more bytes rest after messages message h e =
     let s : reading_of rest ≡ after_message message (reading_of after) = reading_step rest ∙ ap (reading_by reading_of rest) e in
     let regrouped : with_front (messages ++ message ∷ []) (reading_of after) ≡ with_front messages (after_message message (reading_of after)) = ap (λ (ms : List Message). record { messages = ms; fault = (reading_of after).fault; rest = (reading_of after).rest }) (append_assoc messages (message ∷ []) (reading_of after).messages) in
-    let n : length bytes - length rest + (length rest - length after) ≡ length bytes - length after = omega (arith, h.within, shorter) in
-    record {
-      so_far = regrouped ∙ ap (with_front messages) (sym s) ∙ h.so_far;
-      back = back ∙ ap (drop (length rest - length after)) h.back ∙ drop-drop (length rest - length after) (length bytes - length rest) bytes ∙ ap (λ k. drop k bytes) n;
-      within = omega (arith, h.within, shorter);
-    }
+    regrouped ∙ ap (with_front messages) (sym s) ∙ h
 
-pub so_far_done : (bytes rest : List ℕ) (messages : List Message) → IsSoFar bytes rest messages → first_of rest ≡ Unfinished → reading_made messages None (drop (length bytes - length rest) bytes) ≡ reading_of bytes
+pub so_far_done : (bytes rest : List ℕ) (messages : List Message) → IsSoFar bytes rest messages → first_of rest ≡ Unfinished → reading_of bytes ≡ record { messages = messages; fault = None; rest = rest }
 so_far_done bytes rest messages h e =
     let s : reading_of rest ≡ record { messages = []; fault = None; rest = rest } = reading_step rest ∙ ap (reading_by reading_of rest) e in
-    ap (reading_made messages None) (sym h.back) ∙ ap (λ (ms : List Message). record { messages = ms; fault = None; rest = rest }) (sym (append-nil messages)) ∙ ap (with_front messages) (sym s) ∙ h.so_far
+    sym h ∙ ap (with_front messages) s ∙ ap (λ (ms : List Message). record { messages = ms; fault = None; rest = rest }) (append-nil messages)
 
 faulty : (cause : WireCause) (f : First) → FaultIsFirst cause f → (cause ≡ NoMemory → ⊥) → f ≡ Faulty cause
 faulty TooLong f h not = h
@@ -70,15 +59,15 @@ wire_fault BadInteger not = tt
 wire_fault BadField not = tt
 wire_fault NoMemory not = not refl
 
-pub so_far_faulty : (bytes rest left : List ℕ) (messages : List Message) (cause : WireCause) → IsSoFar bytes rest messages → FaultIsFirst cause (first_of rest) → (cause ≡ NoMemory → ⊥) → reading_made messages (Some cause) left ≡ reading_of bytes
-so_far_faulty bytes rest left messages cause h is not =
+pub so_far_faulty : (bytes rest : List ℕ) (messages : List Message) (cause : WireCause) → IsSoFar bytes rest messages → FaultIsFirst cause (first_of rest) → (cause ≡ NoMemory → ⊥) → reading_of bytes ≡ record { messages = messages; fault = Some cause; rest = [] }
+so_far_faulty bytes rest messages cause h is not =
     let e = faulty cause (first_of rest) is not in
     let s : reading_of rest ≡ record { messages = []; fault = Some cause; rest = [] } = reading_step rest ∙ ap (reading_by reading_of rest) e in
-    ap (λ (ms : List Message). record { messages = ms; fault = Some cause; rest = [] }) (sym (append-nil messages)) ∙ ap (with_front messages) (sym s) ∙ h.so_far
+    sym h ∙ ap (with_front messages) s ∙ ap (λ (ms : List Message). record { messages = ms; fault = Some cause; rest = [] }) (append-nil messages)
 
 -- bytes that are less than a message and hold no fault are the rest
-pub reading_short : (bytes : List ℕ) → frame_at bytes ≡ Short → reading_made [] None bytes ≡ reading_of bytes
+pub reading_short : (bytes : List ℕ) → frame_at bytes ≡ Short → reading_of bytes ≡ record { messages = []; fault = None; rest = bytes }
 unfolding first_of
 reading_short bytes e =
     let f : first_of bytes ≡ Unfinished = ap first_in e in
-    sym (reading_step bytes ∙ ap (reading_by reading_of bytes) f)
+    reading_step bytes ∙ ap (reading_by reading_of bytes) f

@@ -1,13 +1,15 @@
 -- What a piece gives from what is kept is what the whole stream's reading has beyond the earlier one.
-use Rattle.std.proofs.Common.{◌≡◌, ℕ, List, ◌++◌, Result, Ok, Err, refl, sym, ap, ◌∙◌}
+use Rattle.std.proofs.Common.{◌≡◌, ℕ, List, [], ◌++◌, Option, None, Result, Ok, Err, refl, sym, ap, ◌∙◌}
 use Rattle.peers_msg.specs.declared.message.Message.{Message}
 use Rattle.peers_msg.specs.declared.fault.WireCause.{WireCause}
 use Rattle.peers_msg.specs.declared.fault.WireCause.TheVariants.{TooLong, BadInteger, BadField, NoMemory}
 use Rattle.peers_msg.specs.declared.fault.WireFault.{WireFault}
-use Rattle.peers_msg.specs.Message.{Reading, with_front, reading_of}
-use Rattle.peers_msg.specs.Kept.{Kept}
+use Rattle.peers_msg.specs.Message.{Short, frame_at, Reading, with_front, reading_of}
+use Rattle.peers_msg.specs.Kept.{Kept, IsKept}
 use Rattle.peers_msg.specs.Feed.{feed_of, fed, kept_after, kept_after_fault, Answers, FaultAnswers, GoesOn, FaultGoesOn}
 use Rattle.peers_msg.proofs.Appended.{reading_more}
+use Rattle.peers_msg.proofs.Bounds.{frame_short}
+use Rattle.peers_msg.proofs.Readings.{reading_short}
 
 fault_goes_on : (cause : WireCause) (before : List Message) (earlier next : Reading) → FaultAnswers cause before next → FaultGoesOn cause before earlier (with_front earlier.messages next)
 fault_goes_on TooLong before earlier next h = (h.0, ap (λ (ms : List Message). earlier.messages ++ ms) (sym h.1))
@@ -39,3 +41,10 @@ kept_same (Err fault) old front next = kept_fault_same fault.cause old front nex
 pub stands_for_stream : (result : Result (List Message) WireFault) (old new : Kept) (piece : List ℕ) → new ≡ kept_after result old (fed old piece) → (taken : List ℕ) → old ≡ feed_of taken → new ≡ kept_after result (feed_of taken) (reading_of (taken ++ piece))
 stands_for_stream result old new piece h taken is =
     h ∙ kept_same result old (reading_of taken).messages (fed old piece) ∙ ap (kept_after result old) (sym (whole_stream old taken piece is)) ∙ ap (λ (kept : Kept). kept_after result kept (reading_of (taken ++ piece))) is
+
+-- bytes that are less than a message and hold no fault
+pub short_read : (old : Kept) (piece frozen growing : List ℕ) → old.fault ≡ None → frozen ≡ [] → growing ≡ old.rest ++ piece → frame_at growing ≡ Short → fed old piece ≡ record { messages = []; fault = None; rest = frozen ++ growing }
+short_read old piece frozen growing none empty is short = rw (none, empty, ← is) (reading_short growing short)
+
+pub short_kept : (fault : Option WireCause) (frozen growing : List ℕ) → fault ≡ None → frozen ≡ [] → frame_at growing ≡ Short → IsKept (frozen ++ growing) fault
+short_kept fault frozen growing none empty short = rw (none, empty) (frame_short growing short)

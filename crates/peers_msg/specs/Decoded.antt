@@ -1,11 +1,11 @@
 -- What the steps of the decoder return, against what is read.
-use Rattle.std.specs.Prelude.{◌≡◌, ℕ, ◌+◌, ◌≤◌, ◌<◌, List, [], length, take, drop, Option, Some, None, Result, Ok, Err}
+use Rattle.std.specs.Prelude.{◌≡◌, ℕ, ◌+◌, ◌≤◌, ◌<◌, List, length, take, drop, Option, Some, None, Result, Ok, Err}
 use Rattle.peers_msg.specs.declared.message.Message.{Message}
 use Rattle.peers_msg.specs.declared.framing.Head.{Head}
 use Rattle.peers_msg.specs.declared.framing.Head.TheVariants as heads
 use Rattle.peers_msg.specs.declared.fault.WireCause.{WireCause}
 use Rattle.peers_msg.specs.declared.fault.WireCause.TheVariants.{TooLong, BadInteger, BadField, NoMemory}
-use Rattle.peers_msg.specs.Message.{Frame, Short, Wrong, Framed, First, Unfinished, Faulty, Whole, Reading}
+use Rattle.peers_msg.specs.Message.{Frame, Short, Wrong, Framed, First, Unfinished, Faulty, Whole}
 
 -- what a head says of the frame at the front of bytes
 abbrev pub IsHead : Head → List ℕ → Frame → Type 0
@@ -37,8 +37,3 @@ abbrev pub IsFirst : Result (Option Message) WireCause → List ℕ → List ℕ
 IsFirst (Ok None) bytes left first = (first ≡ Unfinished) × (left ≡ bytes)
 IsFirst (Ok (Some message)) bytes left first = first ≡ Whole message left
 IsFirst (Err cause) bytes left first = FaultIsFirst cause first
-
--- a reading of messages and an end; after a fault nothing is left
-abbrev pub reading_made : List Message → Option WireCause → List ℕ → Reading
-reading_made messages None rest = record { messages = messages; fault = None; rest = rest }
-reading_made messages (Some cause) rest = record { messages = messages; fault = Some cause; rest = [] }

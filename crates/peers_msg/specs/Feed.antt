@@ -4,6 +4,7 @@ use Rattle.peers_msg.specs.declared.message.Message.{Message}
 use Rattle.peers_msg.specs.declared.fault.WireCause.{WireCause}
 use Rattle.peers_msg.specs.declared.fault.WireCause.TheVariants.{TooLong, BadInteger, BadField, NoMemory}
 use Rattle.peers_msg.specs.declared.fault.WireFault.{WireFault}
+use Rattle.agg_types.specs.declared.no_memory.NoMemory.{NoMemory as Refused}
 use Rattle.peers_msg.specs.Message.{Reading, with_front, reading_of}
 use Rattle.peers_msg.specs.Kept.{Kept}
 
@@ -54,3 +55,9 @@ FaultGoesOn cause before old new = (new.fault ≡ Some cause) × (new.messages �
 abbrev pub GoesOn : Result (List Message) WireFault → Reading → Reading → Type 0
 GoesOn (Ok messages) old new = (new.fault ≡ None) × (new.messages ≡ old.messages ++ messages)
 GoesOn (Err fault) old new = FaultGoesOn fault.cause fault.before old new
+
+-- What a piece gives was read, with the feed as it was; or there is no message and no fault, and the piece is taken. Want of memory leaves the feed as it was.
+abbrev pub HasRead : Result (Option Reading) Refused → Kept → Kept → Reading → Type 0
+HasRead (Ok (Some given)) old new reading = (given ≡ reading) × (new ≡ old)
+HasRead (Ok None) old new reading = (reading ≡ record { messages = []; fault = None; rest = new.rest }) × (new ≡ kept_of reading)
+HasRead (Err refused) old new reading = new ≡ old

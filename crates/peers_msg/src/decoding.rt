@@ -1,15 +1,16 @@
 //! Messages, one after the other.
 
-ghost use Rattle.std.specs.Prelude.{◌≡◌, ◌-◌, ◌<◌, ◌≤◌, length, drop, IfOk, IfSome};
+ghost use Rattle.std.specs.Prelude.{◌≡◌, ◌<◌, length, IfOk, IfSome};
 ghost use Rattle.peers_msg.specs.Gives.{Gives};
 ghost use Rattle.peers_msg.specs.Message.{control_of, error_of, table_of, message_of, first_of, reading_of};
-ghost use Rattle.peers_msg.specs.Decoded.{IsFirst, IsWireFault, reading_made};
+ghost use Rattle.peers_msg.specs.Decoded.{IsFirst};
 
 use crate::framing::{Head, head_of};
+use crate::given::Given;
 use crate::payload::{read_acked, read_definition, read_switch, read_update};
 use crate::{Message, WireCause};
 use agg_types::{Items, NoMemory};
-use bytes::Bytes;
+use bytes::{Bytes, BytesMut};
 use std::alloc::Global;
 
 /// The message of a type in class 0.
@@ -76,7 +77,6 @@ fn message(alloc: Global, class: u8, kind: u8, payload: Bytes) -> Result<Message
 #[tactic(auto, unfolding(crate::specs::Message::first_of))]
 fn take_message(alloc: Global, rest: &mut Bytes) -> Result<Option<Message>, WireCause>
     ensures first { IsFirst result rest.old rest.new (first_of rest.old) }
-    ensures back { rest.new ≡ drop (length rest.old - length rest.new) rest.old }
     ensures shorter { IfOk result (λ taken. IfSome taken (λ _. length rest.new < length rest.old)) }
 {
     match head_of(rest.as_slice()) {
@@ -95,52 +95,22 @@ fn take_message(alloc: Global, rest: &mut Bytes) -> Result<Option<Message>, Wire
     }
 }
 
-/// What bytes say.
-#[derive(Debug, Drop)]
-pub(crate) struct Decoded {
-    /// The whole messages, in order.
-    pub(crate) messages: Items<Message>,
-    /// The fault behind them, if one stands there.
-    pub(crate) fault: Option<WireCause>,
-    /// How many bytes the messages take.
-    pub(crate) taken: usize,
-}
-
 /// Reads all whole messages. Takes no time for a message's payload that isn't whole.
-pub(crate) fn decode(alloc: Global, bytes: &[u8]) -> Result<Decoded, NoMemory>
-    ensures exact { IfOk result
-        (λ d. reading_made d.messages d.fault (drop d.taken bytes.now) ≡ reading_of bytes.now) }
-    ensures within { IfOk result (λ d. d.taken ≤ length bytes.now) }
-    ensures fault { IfOk result (λ d. IfSome d.fault IsWireFault) }
+pub(crate) fn decode(alloc: Global, bytes: &Bytes) -> Result<Given, NoMemory>
+    ensures { IfOk result (λ given. given ≡ reading_of bytes.now) }
 {
     let mut messages = Vec::new(alloc);
-    if let Head::Short = head_of(bytes) {
-        return Ok(Decoded {
-            messages: Items::from_vec(messages),
-            fault: None,
-            taken: 0,
-        });
-    }
-    let mut rest = Bytes::copy_from_slice(alloc, bytes)?;
+    let mut rest = bytes.clone()?;
     loop {
         match take_message(alloc, &mut rest) {
             Ok(Some(message)) => messages.push(message)?,
             Ok(None) => {
-                return Ok(Decoded {
-                    messages: Items::from_vec(messages),
-                    fault: None,
-                    taken: bytes.len() - rest.len(),
-                });
+                let rest = BytesMut::copy_from_slice(alloc, rest.as_slice())?;
+                return Ok(Given::whole(Items::from_vec(messages), rest));
             }
             Err(cause) => match cause {
                 WireCause::NoMemory => return Err(NoMemory),
-                _ => {
-                    return Ok(Decoded {
-                        messages: Items::from_vec(messages),
-                        fault: Some(cause),
-                        taken: bytes.len() - rest.len(),
-                    });
-                }
+                _ => return Ok(Given::faulty(alloc, Items::from_vec(messages), cause)),
             },
         }
     }

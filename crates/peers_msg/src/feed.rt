@@ -1,10 +1,13 @@
 //! A stream of messages that comes in pieces.
 
-ghost use Rattle.std.specs.Prelude.{◌≡◌, ◌+◌, ◌++◌, ◌<◌, ◌≤◌, ℕ, List, [], length, drop, IfOk};
+ghost use Rattle.std.specs.Prelude.{◌≡◌, ◌+◌, ◌++◌, ◌<◌, ℕ, List, [], length, take, IfOk, OnOk, OnErr};
 
 use crate::decoding::decode;
+use crate::framing::{Head, head_of};
+use crate::given::Given;
 use crate::{Message, WireCause, WireFault};
 use agg_types::{Items, NoMemory};
+use bytes::{Bytes, BytesMut};
 use std::alloc::Global;
 use std::marker::Model;
 
@@ -14,31 +17,37 @@ use std::marker::Model;
 /// stream. Contracts see these two.
 #[derive(Debug, Drop)]
 pub struct Feed {
-    kept: Vec<u8>,
+    /// Kept bytes that share memory with what was last read from them. There are none once that is
+    /// committed.
+    frozen: Bytes,
+    /// The kept bytes behind those.
+    growing: BytesMut,
     fault: Option<WireCause>,
     alloc: Global,
 }
 
 impl Model for Feed {
+    ghost use Rattle.std.specs.Prelude.{◌++◌};
     ghost use Rattle.peers_msg.specs.Kept.{Kept, IsKept};
 
     ghost Value = { Kept };
 
-    ghost view = { λ feed. record { rest = feed.kept.items; fault = feed.fault } };
+    ghost view = { λ feed. record { rest = feed.frozen ++ feed.growing.items; fault = feed.fault } };
 
-    ghost invariant = { λ feed. IsKept feed.kept.items feed.fault };
+    ghost invariant = { λ feed. IsKept (feed.frozen ++ feed.growing.items) feed.fault };
 }
 
 impl Feed {
     ghost use Rattle.peers_msg.specs.Message.{reading_of};
-    ghost use Rattle.peers_msg.specs.Feed.{feed_of, fed, kept_after, Answers, GoesOn};
+    ghost use Rattle.peers_msg.specs.Feed.{feed_of, fed, kept_of, kept_after, Answers, GoesOn, HasRead};
 
     /// A feed that has taken no byte. Takes no memory.
     pub fn new(alloc: Global) -> Feed
         ensures { result ≡ feed_of [] }
     {
         Feed {
-            kept: Vec::new(alloc),
+            frozen: Bytes::new(),
+            growing: BytesMut::new(alloc),
             fault: None,
             alloc,
         }
@@ -65,70 +74,112 @@ impl Feed {
     {
         let handed_out = self.take_piece(piece);
         // What every feed keeps of itself is known here: the last clause.
-        let _ = &self.kept;
+        let _ = &self.growing;
         handed_out
     }
 
-    /// An equal feed, in memory of its own.
-    pub fn duplicate(&self) -> Result<Feed, NoMemory>
-        ensures { IfOk result (λ feed. feed ≡ self.now) }
+    /// Reads the next piece, for a caller that can still fail before it has dealt with the messages.
+    ///
+    /// `Some` is what the piece gives, with the feed as it was: `commit` takes the piece, and the
+    /// piece may be read again where nothing was committed. `None` where there is no message and no
+    /// fault: then the piece is taken. `NoMemory` leaves the feed as it was.
+    pub fn read(&mut self, piece: &[u8]) -> Result<Option<Given>, NoMemory>
+        ensures { HasRead result self.old self.new (fed self.old piece.now) }
     {
-        Ok(Feed {
-            kept: Vec::from_slice(self.alloc, self.kept.as_slice())?,
-            fault: self.fault,
-            alloc: self.alloc,
-        })
+        if let Some(cause) = self.fault {
+            let none = Items::from_vec(Vec::new(self.alloc));
+            return Ok(Some(Given::faulty(self.alloc, none, cause)));
+        }
+        let len = join(self.alloc, &mut self.frozen, &mut self.growing, piece)?;
+        if let Head::Short = head_of(self.growing.as_slice()) {
+            return Ok(None);
+        }
+        let all = freeze(&mut self.growing, len)?;
+        let given = decode(self.alloc, &all);
+        self.frozen = all;
+        self.frozen.truncate(len);
+        Ok(Some(given?))
     }
 
-    /// Reads the bytes that are kept and the piece behind them.
+    /// Takes what was read, and hands its messages out. Takes no memory.
+    pub fn commit(&mut self, given: Given) -> Items<Message>
+        ensures messages { result ≡ given.messages }
+        ensures after { self.new ≡ kept_of given }
+    {
+        let (messages, fault, rest) = given.into_parts();
+        self.frozen = Bytes::new();
+        self.growing = rest;
+        self.fault = fault;
+        messages
+    }
+
+    /// Reads a piece and takes it.
     fn take_piece(&mut self, piece: &[u8]) -> Result<Items<Message>, WireFault>
         ensures answer { Answers result (fed self.old piece.now) }
         ensures after { self.new ≡ kept_after result self.old (fed self.old piece.now) }
     {
         let none = Items::from_vec(Vec::new(self.alloc));
-        if let Some(cause) = self.fault {
-            return Err(WireFault {
-                cause,
-                before: none,
-            });
-        }
-        let len = self.kept.len();
-        if self.kept.extend_from_slice(piece).is_err() {
-            return Err(WireFault {
+        match self.read(piece) {
+            Ok(Some(given)) => self.hand_out(given),
+            Ok(None) => Ok(none),
+            Err(NoMemory) => Err(WireFault {
                 cause: WireCause::NoMemory,
                 before: none,
-            });
+            }),
         }
-        match decode(self.alloc, &self.kept) {
-            Ok(decoded) => match decoded.fault {
-                None => {
-                    drop_front(&mut self.kept, decoded.taken);
-                    Ok(decoded.messages)
-                }
-                Some(cause) => {
-                    self.kept.clear();
-                    self.fault = Some(cause);
-                    Err(WireFault {
-                        cause,
-                        before: decoded.messages,
-                    })
-                }
-            },
-            Err(NoMemory) => {
-                self.kept.truncate(len);
-                Err(WireFault {
-                    cause: WireCause::NoMemory,
-                    before: none,
-                })
-            }
+    }
+
+    fn hand_out(&mut self, given: Given) -> Result<Items<Message>, WireFault>
+        ensures answer { Answers result given }
+        ensures after { self.new ≡ kept_after result self.old given }
+    {
+        let fault = given.fault();
+        let messages = self.commit(given);
+        match fault {
+            None => Ok(messages),
+            Some(cause) => Err(WireFault {
+                cause,
+                before: messages,
+            }),
         }
     }
 }
 
-/// Takes so many bytes away from the front.
-fn drop_front(bytes: &mut Vec<u8>, count: usize)
-    requires { count ≤ length bytes.old.items }
-    ensures { bytes.new.items ≡ drop count bytes.old.items }
+/// Moves the kept bytes into one buffer with the piece behind them, and gives how many they are.
+/// After `NoMemory` they are as they were, though they may lie elsewhere.
+fn join(
+    alloc: Global,
+    frozen: &mut Bytes,
+    growing: &mut BytesMut,
+    piece: &[u8],
+) -> Result<usize, NoMemory>
+    ensures count { IfOk result (λ len. len ≡ length (frozen.old ++ growing.old.items)) }
+    ensures ok { OnOk result ((frozen.new ≡ [])
+        × (growing.new.items ≡ (frozen.old ++ growing.old.items) ++ piece.now)) }
+    ensures err { OnErr result (frozen.new ++ growing.new.items ≡ frozen.old ++ growing.old.items) }
 {
-    drop(bytes.drain(..count));
+    if !frozen.is_empty() {
+        let mut whole = BytesMut::copy_from_slice(alloc, frozen.as_slice())?;
+        whole.extend_from_slice(growing.as_slice())?;
+        *growing = whole;
+        frozen.clear();
+    }
+    let len = growing.len();
+    growing.extend_from_slice(piece)?;
+    Ok(len)
+}
+
+/// Freezes all bytes; after `NoMemory` the first `len` are left.
+fn freeze(growing: &mut BytesMut, len: usize) -> Result<Bytes, NoMemory>
+    ensures frozen { IfOk result (λ all. all ≡ growing.old.items) }
+    ensures ok { OnOk result (growing.new.items ≡ []) }
+    ensures err { OnErr result (growing.new.items ≡ take len growing.old.items) }
+{
+    match growing.freeze_to(growing.len()) {
+        Ok(all) => Ok(all),
+        Err(_) => {
+            growing.truncate(len);
+            Err(NoMemory)
+        }
+    }
 }

@@ -5,6 +5,7 @@ mod decoding;
 mod fault;
 mod feed;
 mod framing;
+mod given;
 mod integer;
 pub mod laws;
 mod message;
@@ -13,6 +14,7 @@ mod writing;
 
 pub use fault::{WireCause, WireFault};
 pub use feed::Feed;
+pub use given::Given;
 pub use integer::{IntTooLarge, get_int, put_int};
 pub use message::{Definition, Message};
 pub use writing::write_message;

@@ -1,8 +1,9 @@
 -- What an update's values and a definition's periods are, one at a time.
-use Rattle.std.proofs.Common.{◌≡◌, ℕ, suc, ◌+◌, ◌-◌, ◌<◌, List, [], ◌∷◌, ◌++◌, Option, Some, None, refl, sym, ap, arith, append_assoc, append-nil, add-one}
+use Rattle.std.proofs.Common.{◌≡◌, ℕ, suc, ◌+◌, ◌-◌, ◌<◌, false, List, [], ◌∷◌, ◌++◌, Option, Some, None, refl, sym, ap, arith, append_assoc, append-nil, add-one}
 use Rattle.peers_msg.specs.Payload.{◌>>=◌}
 use Rattle.session_core.specs.declared.values.Sent.{Sent}
-use Rattle.session_core.specs.Values.{sent_at, sents_from, sents_at}
+use Rattle.session_core.specs.declared.values.Sent.TheVariants.{Absent}
+use Rattle.session_core.specs.Values.{has_type, sent_at, sents_from, sents_at}
 
 -- all values, of which those in front are read
 abbrev pub with_front : List Sent → Option (List Sent) → Option (List Sent)
@@ -31,3 +32,7 @@ sents_cut bits kind front bytes lt is =
 pub sents_all : (bits : ℕ) (front : List Sent) (bytes : List ℕ) → with_front front (sents_from bits (19 - 19) 19 bytes) ≡ Some front
 unfolding sents_from
 sents_all bits front bytes = ap Some (append-nil front)
+
+pub sent_absent : (bits kind : ℕ) (bytes : List ℕ) → has_type bits kind ≡ false → sent_at bits kind bytes ≡ Some (Absent, bytes)
+unfolding sent_at
+sent_absent bits kind bytes none = rw none refl

@@ -2,8 +2,6 @@
 use Rattle.std.specs.Prelude.{◌≡◌, ℕ, Bool, List, [], ◌∷◌, ◌++◌, codes, Option, Some, None, Result, Ok, Err}
 use Rattle.std.specs.Option.{option_map}
 use Rattle.peers_msg.specs.declared.fault.WireCause.TheVariants.{TooLong, BadInteger, BadField, NoMemory}
-use Rattle.peers_msg.specs.declared.fault.WireCause.{WireCause}
-use Rattle.peers_msg.specs.declared.message.Message.{Message}
 use Rattle.peers_msg.specs.Kept.{Kept}
 use Rattle.peers_msg.specs.Message.{Reading, reading_of}
 use Rattle.peers_msg.specs.Feed.{fed, kept_of}
@@ -17,7 +15,9 @@ use Rattle.session_core.specs.declared.cause.End.{End}
 use Rattle.session_core.specs.declared.cause.End.TheVariants as ends
 use Rattle.session_core.specs.declared.stage.Stage.{Stage}
 use Rattle.session_core.specs.declared.stage.Stage.TheVariants.{Greeting, Talking, Over}
+use Rattle.session_core.specs.declared.stage.Said.{Said}
 use Rattle.session_core.specs.declared.stage.Taken.{Taken}
+use Rattle.session_core.specs.declared.track.Entry.{Entry}
 use Rattle.session_core.specs.Batched.{Batched}
 use Rattle.session_core.specs.Hello.{hello_of}
 use Rattle.session_core.specs.Tracked.{Tracked}
@@ -111,6 +111,26 @@ piece_of setup seated (Greeting bytes) piece = greeted setup.tables (bytes ++ pi
 piece_of setup seated (Talking dialogue) piece = talked setup.tables dialogue.peer dialogue.track (fed dialogue.feed piece)
 piece_of setup seated (Over end peer) piece = record { stage = Over end peer; batch = nothing; end = Some end }
 
--- messages, fault and rest are those of the reading
-abbrev pub Reads : List Message → Option WireCause → Kept → Reading → Type 0
-Reads messages fault kept reading = (messages ≡ reading.messages) × (fault ≡ reading.fault) × (kept ≡ kept_of reading)
+-- what a piece gives, and where the session stands after it
+abbrev pub taken : Said → Stage → Taken
+taken said stage = record { stage = stage; batch = said.batch; end = said.end }
+
+-- where a peer's session stands after a piece that showed this end, or none
+abbrev pub ended : Stage → ℕ → Option End → Stage
+ended stage peer None = stage
+ended stage peer (Some end) = Over end (Some peer)
+
+-- what is sent at an end
+abbrev pub ending : Option End → List ℕ
+ending None = []
+ending (Some end) = end_text end
+
+-- no id has an update that wasn't acknowledged
+abbrev pub AreSettled : List Entry → Type 0
+AreSettled entries = settled entries ≡ entries
+
+-- so it is between two pieces
+abbrev pub IsSettled : Stage → Type 0
+IsSettled (Greeting bytes) = Unit {0}
+IsSettled (Talking dialogue) = AreSettled dialogue.track.entries
+IsSettled (Over end peer) = Unit {0}

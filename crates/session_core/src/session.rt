@@ -6,7 +6,7 @@ ghost use Rattle.session_core.specs.Silence.{end_by_silence, peer_of};
 use crate::SessionCause;
 use crate::batch::{Batch, SessionFault};
 use crate::cause::End;
-use crate::stage::{Stage, Taken, take_piece};
+use crate::stage::{Said, Stage, take_piece};
 use agg_types::{Config, Items, NoMemory};
 use std::alloc::Global;
 use std::marker::Model;
@@ -45,6 +45,10 @@ impl Model for Session {
     ghost use Rattle.session_core.specs.Standing.{Standing};
 
     ghost Value = { Standing };
+
+    ghost use Rattle.session_core.specs.Piece.{IsSettled};
+
+    ghost invariant = { λ session. IsSettled session.stage };
 
     ghost view = { λ session. record { seated = session.seated; stage = session.stage; heard = session.heard; spoke = session.spoke; late = session.late } };
 }
@@ -97,8 +101,8 @@ impl Session {
         ensures { Answers result self.old self.new piece.now now
             (piece_of (setup_of config.now) self.old.seated self.old.stage piece.now) }
     {
-        let taken = match take_piece(self.alloc, config, self.seated, &self.stage, piece) {
-            Ok(taken) => taken,
+        let said = match take_piece(self.alloc, config, self.seated, &mut self.stage, piece) {
+            Ok(said) => said,
             Err(NoMemory) => {
                 return Err(SessionFault {
                     cause: SessionCause::NoMemory,
@@ -106,8 +110,7 @@ impl Session {
                 });
             }
         };
-        let Taken { stage, batch, end } = taken;
-        self.stage = stage;
+        let Said { batch, end } = said;
         if !piece.is_empty() {
             self.heard = now;
         }

@@ -1,10 +1,10 @@
 //! Where a session stands, and what a piece does to it.
 
-ghost use Rattle.std.specs.Prelude.{◌≡◌, ◌++◌, IfOk};
+ghost use Rattle.std.specs.Prelude.{◌≡◌, ◌++◌, IfOk, OnOk, OnErr};
 ghost use Rattle.std.specs.Option.{option_map};
 ghost use Rattle.peers_msg.specs.Feed.{fed};
 ghost use Rattle.session_core.specs.Hello.{hello_of};
-ghost use Rattle.session_core.specs.Piece.{Reads, setup_of, status_text, end_text, first_end, piece_of, talked, said_before, greeted, opened, refused};
+ghost use Rattle.session_core.specs.Piece.{taken, ended, ending, AreSettled, IsSettled, setup_of, status_text, end_text, first_end, piece_of, talked, said_before, greeted, opened, refused};
 
 use crate::Status;
 use crate::batch::Batch;
@@ -13,7 +13,7 @@ use crate::hello::hello_of;
 use crate::run::{run, write_acks};
 use crate::track::Track;
 use agg_types::{Config, Items, NoMemory, Shape, What};
-use peers_msg::{Feed, Message, WireCause, WireFault};
+use peers_msg::{Feed, Given, WireCause};
 use std::alloc::Global;
 
 /// What is sent behind the status line of an accepted hello: a resync request.
@@ -37,6 +37,13 @@ pub(crate) enum Stage {
     Over(End, Option<usize>),
 }
 
+/// What a piece gives.
+#[derive(Debug, Drop)]
+pub(crate) struct Said {
+    pub(crate) batch: Batch,
+    pub(crate) end: Option<End>,
+}
+
 /// What a piece gives, and where the session stands after it.
 #[derive(Debug, Drop)]
 pub(crate) struct Taken {
@@ -45,38 +52,46 @@ pub(crate) struct Taken {
     pub(crate) end: Option<End>,
 }
 
-/// What a piece gives, from where the session stands.
+/// What a piece gives, from where the session stands. After `NoMemory` it stands where it did.
 #[tactic(auto, unfolding(crate::specs::Piece::piece_of))]
 pub(crate) fn take_piece(
     alloc: Global,
     config: &Config,
     seated: bool,
-    stage: &Stage,
+    stage: &mut Stage,
     piece: &[u8],
-) -> Result<Taken, NoMemory>
-    ensures { IfOk result (λ taken. taken ≡ piece_of (setup_of config.now) seated stage.now piece.now) }
+) -> Result<Said, NoMemory>
+    requires { IsSettled stage.old }
+    ensures ok { IfOk result (λ said. taken said stage.new
+        ≡ piece_of (setup_of config.now) seated stage.old piece.now) }
+    ensures err { OnErr result (stage.new ≡ stage.old) }
+    ensures settled { IsSettled stage.new }
 {
     match stage {
-        Stage::Greeting(bytes) => greet(
-            alloc,
-            config,
-            seated,
-            joined(alloc, bytes.as_slice(), piece)?,
-        ),
-        Stage::Talking(dialogue) => converse(
-            alloc,
-            config.tables.as_slice(),
-            Dialogue {
-                peer: dialogue.peer,
-                feed: dialogue.feed.duplicate()?,
-                track: dialogue.track.duplicate(alloc)?,
-            },
-            Vec::new(alloc),
-            Vec::new(alloc),
-            piece,
-        ),
-        Stage::Over(end, peer) => Ok(Taken {
-            stage: Stage::Over(*end, *peer),
+        Stage::Greeting(bytes) => {
+            let bytes = joined(alloc, bytes.as_slice(), piece)?;
+            let Taken {
+                stage: next,
+                batch,
+                end,
+            } = greet(alloc, config, seated, bytes)?;
+            *stage = next;
+            Ok(Said { batch, end })
+        }
+        Stage::Talking(dialogue) => {
+            let peer = dialogue.peer;
+            let said = converse(
+                alloc,
+                config.tables.as_slice(),
+                dialogue,
+                Vec::new(alloc),
+                Vec::new(alloc),
+                piece,
+            )?;
+            end_stage(stage, peer, said.end);
+            Ok(said)
+        }
+        Stage::Over(end, _) => Ok(Said {
             batch: Batch::empty(alloc),
             end: Some(*end),
         }),
@@ -93,7 +108,8 @@ fn joined(alloc: Global, front: &[u8], back: &[u8]) -> Result<Vec<u8>, NoMemory>
 
 /// The bytes of a hello, and what may follow it.
 fn greet(alloc: Global, config: &Config, seated: bool, bytes: Vec<u8>) -> Result<Taken, NoMemory>
-    ensures { IfOk result (λ taken. taken ≡ greeted config.now.tables bytes.items (hello_of config.now.me config.now.peers seated bytes.items)) }
+    ensures greeted { IfOk result (λ taken. taken ≡ greeted config.now.tables bytes.items (hello_of config.now.me config.now.peers seated bytes.items)) }
+    ensures settled { IfOk result (λ taken. IsSettled taken.stage) }
 {
     match hello_of(config, seated, bytes.as_slice()) {
         Ok(None) => Ok(Taken {
@@ -136,71 +152,103 @@ fn status_text(status: Status) -> &'static [u8]
 
 /// An accepted hello, and the bytes after it.
 fn open(alloc: Global, tables: &[Shape], peer: usize, rest: &[u8]) -> Result<Taken, NoMemory>
-    ensures { IfOk result (λ taken. taken ≡ opened tables.now (peer, rest.now)) }
+    ensures opened { IfOk result (λ taken. taken ≡ opened tables.now (peer, rest.now)) }
+    ensures settled { IfOk result (λ taken. IsSettled taken.stage) }
 {
     let mut facts = Vec::new(alloc);
     facts.push(What::Open(peer))?;
     let mut replies = Vec::from_slice(alloc, status_text(Status::Accepted))?;
     replies.extend_from_slice(RESYNC_REQUEST)?;
-    let dialogue = Dialogue {
+    let mut dialogue = Dialogue {
         peer,
         feed: Feed::new(alloc),
         track: Track::new(alloc),
     };
-    converse(alloc, tables, dialogue, facts, replies, rest)
+    let Said { batch, end } = converse(alloc, tables, &mut dialogue, facts, replies, rest)?;
+    let mut stage = Stage::Talking(dialogue);
+    end_stage(&mut stage, peer, end);
+    Ok(Taken { stage, batch, end })
 }
 
-/// What a piece of messages gives, behind the facts and replies that are there.
+/// Where a piece showed an end, the dialogue of this peer is over.
+fn end_stage(stage: &mut Stage, peer: usize, end: Option<End>)
+    ensures { stage.new ≡ ended stage.old peer end }
+{
+    if let Some(end) = end {
+        *stage = Stage::Over(end, Some(peer));
+    }
+}
+
+/// What a piece of messages gives, behind the facts and replies that are there. After `NoMemory` the
+/// dialogue is as it was, and where the piece showed an end it is over.
 #[tactic(auto, unfolding(crate::specs::Piece::talked))]
 fn converse(
     alloc: Global,
     tables: &[Shape],
-    dialogue: Dialogue,
+    dialogue: &mut Dialogue,
     facts: Vec<What>,
     replies: Vec<u8>,
     piece: &[u8],
-) -> Result<Taken, NoMemory>
-    ensures { IfOk result (λ taken. taken ≡ said_before facts.items replies.items (talked tables.now dialogue.peer dialogue.track (fed dialogue.feed piece.now))) }
+) -> Result<Said, NoMemory>
+    requires { AreSettled dialogue.old.track.entries }
+    ensures ok { IfOk result (λ said. taken said (ended (Stage.Talking dialogue.new) dialogue.old.peer said.end)
+        ≡ said_before facts.items replies.items (talked tables.now dialogue.old.peer dialogue.old.track (fed dialogue.old.feed piece.now))) }
+    ensures err { OnErr result (dialogue.new ≡ dialogue.old) }
+    ensures settled { AreSettled dialogue.new.track.entries }
 {
-    let Dialogue {
-        peer,
-        mut feed,
-        mut track,
-    } = dialogue;
-    let mut facts = facts;
-    let mut out = replies;
-    let (messages, fault) = read(&mut feed, piece)?;
-    let end = run(
-        alloc,
-        tables,
-        peer,
-        &mut track,
-        messages.as_slice(),
-        &mut facts,
-        &mut out,
-    )?;
-    match first_end(end, fault) {
+    match dialogue.feed.read(piece)? {
+        Some(given) => answer(alloc, tables, dialogue, given, facts, replies),
         None => {
-            let split = out.len();
-            write_acks(track.entries(), &mut out)?;
-            track.settle();
-            Ok(Taken {
-                stage: Stage::Talking(Dialogue { peer, feed, track }),
-                batch: Batch::new(facts, out, split),
+            let split = replies.len();
+            Ok(Said {
+                batch: Batch::new(facts, replies, split),
                 end: None,
             })
         }
-        Some(end) => {
-            out.extend_from_slice(end_text(end))?;
-            let split = out.len();
-            write_acks(track.entries(), &mut out)?;
-            Ok(Taken {
-                stage: Stage::Over(end, Some(peer)),
-                batch: Batch::new(facts, out, split),
-                end: Some(end),
-            })
-        }
     }
+}
+
+/// The same for messages that were read.
+#[tactic(auto, unfolding(crate::specs::Piece::talked))]
+fn answer(
+    alloc: Global,
+    tables: &[Shape],
+    dialogue: &mut Dialogue,
+    given: Given,
+    facts: Vec<What>,
+    replies: Vec<u8>,
+) -> Result<Said, NoMemory>
+    requires { AreSettled dialogue.old.track.entries }
+    ensures ok { IfOk result (λ said. taken said (ended (Stage.Talking dialogue.new) dialogue.old.peer said.end)
+        ≡ said_before facts.items replies.items (talked tables.now dialogue.old.peer dialogue.old.track given)) }
+    ensures err { OnErr result (dialogue.new ≡ dialogue.old) }
+    ensures settled { AreSettled dialogue.new.track.entries }
+{
+    let mut facts = facts;
+    // A message is a fact at most.
+    facts.reserve(given.messages().len())?;
+    let mut out = replies;
+    let mut track = dialogue.track.duplicate(alloc)?;
+    let end = run(
+        alloc,
+        tables,
+        dialogue.peer,
+        &mut track,
+        given.messages(),
+        &mut facts,
+        &mut out,
+    )?;
+    let end = first_end(end, given.fault());
+    say_end(end, &mut out)?;
+    let split = out.len();
+    write_acks(track.entries(), &mut out)?;
+    track.settle();
+    dialogue.track = track;
+    dialogue.feed.commit(given);
+    Ok(Said {
+        batch: Batch::new(facts, out, split),
+        end,
+    })
 }
 
 /// The end that a message showed, or else that of the stream.
@@ -213,6 +261,16 @@ fn first_end(end: Option<End>, fault: Option<WireCause>) -> Option<End>
     }
 }
 
+/// Adds what is sent at an end.
+fn say_end(end: Option<End>, out: &mut Vec<u8>) -> Result<(), NoMemory>
+    ensures { OnOk result (out.new.items ≡ out.old.items ++ ending end) }
+{
+    if let Some(end) = end {
+        out.extend_from_slice(end_text(end))?;
+    }
+    Ok(())
+}
+
 /// What is sent where a session of messages ends: size limit reached, or protocol error.
 fn end_text(end: End) -> &'static [u8]
     ensures { result.now ≡ end_text end }
@@ -222,20 +280,5 @@ fn end_text(end: End) -> &'static [u8]
         End::Wire(WireCause::BadInteger) => &[1, 0],
         End::Wire(WireCause::BadField) => &[1, 0],
         End::Wire(WireCause::NoMemory) | End::Refused(_) | End::PeerError | End::TimedOut => &[],
-    }
-}
-
-/// The messages of a piece, and the fault behind them, if there is one.
-fn read(feed: &mut Feed, piece: &[u8]) -> Result<(Items<Message>, Option<WireCause>), NoMemory>
-    ensures { IfOk result (λ given. Reads given.0 given.1 feed.new (fed feed.old piece.now)) }
-{
-    match feed.feed(piece) {
-        Ok(messages) => Ok((messages, None)),
-        Err(WireFault { cause, before }) => match cause {
-            WireCause::NoMemory => Err(NoMemory),
-            WireCause::TooLong => Ok((before, Some(WireCause::TooLong))),
-            WireCause::BadInteger => Ok((before, Some(WireCause::BadInteger))),
-            WireCause::BadField => Ok((before, Some(WireCause::BadField))),
-        },
     }
 }

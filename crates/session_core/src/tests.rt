@@ -25,11 +25,37 @@ fn counts(alloc: Global) -> Result<Config, NoMemory> {
     })
 }
 
+/// The same, made again after `NoMemory`.
+fn config(alloc: Global) -> Result<Config, NoMemory> {
+    match counts(alloc) {
+        Err(NoMemory) => counts(alloc),
+        made => made,
+    }
+}
+
+/// Feeds a piece, again after `NoMemory`.
+fn feed_piece(
+    session: &mut Session,
+    config: &Config,
+    piece: &[u8],
+    now: u64,
+) -> Result<Batch, SessionFault> {
+    match session.feed(config, piece, now) {
+        Err(
+            SessionFault {
+                cause: SessionCause::NoMemory,
+                batch: _,
+            },
+        ) => session.feed(config, piece, now),
+        answer => answer,
+    }
+}
+
 /// Whether a new session tells so many facts of these bytes, and sends this.
 fn says(alloc: Global, bytes: &[u8], count: usize, sent: &[u8]) -> Result<bool, NoMemory> {
-    let config = counts(alloc)?;
+    let config = config(alloc)?;
     let mut session = Session::accept(alloc, true, 0);
-    let batch = match session.feed(&config, bytes, 0) {
+    let batch = match feed_piece(&mut session, &config, bytes, 0) {
         Ok(batch) => batch,
         Err(fault) => fault.batch,
     };
@@ -72,9 +98,9 @@ fn worked_rows(rt: HostRuntime) -> Result<(), Fail> {
 
 #[test]
 fn idleness(rt: HostRuntime) -> Result<(), Fail> {
-    let config = counts(rt.alloc())?;
+    let config = config(rt.alloc())?;
     let mut session = Session::accept(rt.alloc(), true, 0);
-    assert!(rt; session.feed(&config, HELLO, 100).is_ok());
+    assert!(rt; feed_piece(&mut session, &config, HELLO, 100).is_ok());
     for (now, idle) in [
         (3099, Idle::Nothing),
         (3100, Idle::Beat),

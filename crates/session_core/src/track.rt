@@ -1,13 +1,13 @@
 //! What a session keeps of its sender's tables, and what a message does to it.
 
-ghost use Rattle.std.specs.Prelude.{◌≡◌, ◌≤◌, [], length, position, IfOk};
+ghost use Rattle.std.specs.Prelude.{◌≡◌, ◌≤◌, [], length, position, IfOk, true};
 ghost use Rattle.std.specs.Str.{bytes_eq};
 ghost use Rattle.session_core.specs.Run.{settled};
 ghost use Rattle.session_core.specs.Tracked.{is_key_of, followed_at, followed_of, put_of, id_after, place, entry_of, Gave, defined, switched, updated_under, hear};
 
 use crate::cause::End;
 use crate::run::settle;
-use crate::values::{TYPES, cells_of, key_at, life_of, periods_of, sents_at};
+use crate::values::{Sent, TYPES, cells_of, key_at, life_of, periods_of, read_sents};
 use agg_types::{Key, KeyKind, NoMemory, Shape, What};
 use peers_msg::{Definition, Message, WireCause};
 use std::alloc::Global;
@@ -131,7 +131,8 @@ fn put_of(
     let Some((key, values)) = key_at(shape.kind, bytes) else {
         return Ok(None);
     };
-    let Some(sents) = sents_at(followed.bits, values) else {
+    let mut sents = [Sent::Absent; TYPES];
+    let Some(()) = read_sents(followed.bits, values, &mut sents) else {
         return Ok(None);
     };
     let cols = shape.cols.as_slice();
@@ -301,20 +302,24 @@ impl Track {
         let Some(at) = self.current else {
             return Ok(Heard::Nothing);
         };
-        let Some(entry) = self.entries.get(at).copied() else {
+        let Some(entry) = self.entries.get(at) else {
             return Ok(Heard::Nothing);
         };
-        let Some(followed) = entry.followed else {
+        let Some(followed) = &entry.followed else {
             return Ok(Heard::Nothing);
         };
-        let Some(put) = put_of(alloc, tables, peer, &followed, life, bytes)? else {
+        let Some(put) = put_of(alloc, tables, peer, followed, life, bytes)? else {
             return Ok(Heard::End(End::Wire(WireCause::BadField)));
         };
-        self.entries[at] = Entry {
-            last: id_after(entry.last, id),
-            updated: true,
-            ..entry
-        };
+        note_update(&mut self.entries[at], id);
         Ok(Heard::Fact(put))
     }
+}
+
+/// Keeps an update's id, and that it came in this piece.
+fn note_update(entry: &mut Entry, id: Option<u32>)
+    ensures { entry.new ≡ record entry.old { last = id_after entry.old.last id; updated = true } }
+{
+    entry.last = id_after(entry.last, id);
+    entry.updated = true;
 }

@@ -119,18 +119,21 @@ fn sent_at(bits: u64, kind: usize, bytes: &[u8]) -> Option<(Sent, &[u8])>
     }
 }
 
-/// The values of an update behind its key; `None` where one is cut or too large.
-pub(crate) fn sents_at(bits: u64, bytes: &[u8]) -> Option<[Sent; TYPES]>
-    ensures { result ≡ sents_at bits bytes.now }
+/// Reads the values of an update behind its key; `None` where one is cut or too large.
+pub(crate) fn read_sents(bits: u64, bytes: &[u8], sents: &mut [Sent; TYPES]) -> Option<()>
+    ensures { option_map (λ _. sents.new) result ≡ sents_at bits bytes.now }
 {
-    let mut sents = [Sent::Absent; TYPES];
     let mut rest = bytes;
     for kind in 0..TYPES {
+        if !has_type(bits, kind) {
+            sents[kind] = Sent::Absent;
+            continue;
+        }
         let (sent, after) = sent_at(bits, kind, rest)?;
         sents[kind] = sent;
         rest = after;
     }
-    Some(sents)
+    Some(())
 }
 
 /// The period of each data type, in ms; 0 where the pairs give none.

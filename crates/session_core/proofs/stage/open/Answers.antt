@@ -1,9 +1,15 @@
-use Rattle.std.proofs.Common.{◌∙◌, ap, [], ◌∷◌, ◌++◌}
-use Rattle.std.proofs.lemmas.Result.{IfOk-weaker}
+use Rattle.std.proofs.Common.{◌∙◌, refl, ap, [], ◌∷◌, ◌++◌}
 use Rattle.agg_types.specs.declared.event.What.TheVariants.{Open}
+use Rattle.session_core.specs.declared.stage.Stage.{Stage}
+use Rattle.session_core.specs.Piece.{taken}
+use Rattle.session_core.specs.Run.{settled}
 use Rattle.session_core.proofs.PieceLemmas.{opened_is}
 use Rattle.session_core.proofs.stage.open.Goals as goal
 
-pub returns : goal.returns
-returns c =
-    IfOk-weaker c.converse.result _ _ (λ taken same. same ∙ opened_is c.args.tables.now c.args.peer c.args.rest.now _ _ _ _ (c.in_ok-push.ensures.items ∙ ap (λ xs. xs ++ Open c.args.peer ∷ []) c.new-facts.ensures.items) (c.in_ok-extend_from_slice.ensures.items ∙ ap (λ xs. xs ++ 0 ∷ 0 ∷ []) (c.in_ok-replies.ensures.items ∙ c.status_text.ensures)) c.new.ensures c.new-2.ensures) c.converse.ensures
+pub converse-requires : goal.converse-requires
+unfolding settled
+converse-requires c = rw c.new-2.ensures refl
+
+pub returns-clause-opened : goal.returns-clause-opened
+returns-clause-opened c =
+    ap (λ (stage : Stage). taken c.in_ok-batch.field-0 stage) c.end_stage.ensures ∙ c.in_ok-batch.ensures.ok ∙ opened_is c.args.tables.now c.args.peer c.args.rest.now _ _ _ _ (c.in_ok-push.ensures.items ∙ ap (λ xs. xs ++ Open c.args.peer ∷ []) c.new-facts.ensures.items) (c.in_ok-extend_from_slice.ensures.items ∙ ap (λ xs. xs ++ 0 ∷ 0 ∷ []) (c.in_ok-replies.ensures.items ∙ c.status_text.ensures)) c.new.ensures c.new-2.ensures

@@ -1,7 +1,7 @@
 use Rattle.std.proofs.Common.{◌≡◌, ◌-◌, take, length}
 use Rattle.session_core.specs.Values.{sents_from, sents_at}
 use Rattle.session_core.proofs.ValueLemmas.{with_front}
-use Rattle.session_core.proofs.values.sents_at.Given as goal
+use Rattle.session_core.proofs.values.read_sents.Given as goal
 
 abbrev pub invariant-loop-kind : goal.invariant-loop-kind
 invariant-loop-kind l =

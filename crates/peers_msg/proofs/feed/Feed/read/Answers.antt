@@ -1,0 +1,19 @@
+use Rattle.std.proofs.Common.{◌≡◌, ◌++◌, ◌∙◌, ap, sym}
+use Rattle.peers_msg.specs.Message.{Short, frame_at, Reading}
+use Rattle.peers_msg.specs.Kept.{Kept}
+use Rattle.peers_msg.specs.Feed.{fed, kept_of}
+use Rattle.peers_msg.proofs.Streams.{short_read, short_kept}
+use Rattle.peers_msg.proofs.feed.Feed.read.Goals as goal
+
+pub invariant_of-self-in-Short : goal.invariant_of-self-in-Short
+invariant_of-self-in-Short c =
+    let short : frame_at c.join.new.growing.items ≡ Short = ap frame_at (sym c.as_slice.ensures) ∙ c.in-Short.ensures.exact in
+    short_kept c.self.inside.fault c.join.new.frozen c.join.new.growing.items c.in_default.is c.in_ok-len.ensures.ok.0 short
+
+pub returns-in-Short : goal.returns-in-Short
+returns-in-Short c =
+    let short : frame_at c.join.new.growing.items ≡ Short = ap frame_at (sym c.as_slice.ensures) ∙ c.in-Short.ensures.exact in
+    let old : Kept = record { rest = c.self.inside.frozen ++ c.self.inside.growing.items; fault = c.self.inside.fault } in
+    let same : c.args.self.now ≡ old = sym c.self.view_is in
+    let read = ap (λ (kept : Kept). fed kept c.args.piece.now) same ∙ short_read old c.args.piece.now c.join.new.frozen c.join.new.growing.items c.in_default.is c.in_ok-len.ensures.ok.0 c.in_ok-len.ensures.ok.1 short in
+    (read, ap (λ fault. let kept : Kept = record { rest = c.join.new.frozen ++ c.join.new.growing.items; fault = fault } in kept) c.in_default.is ∙ ap (λ (reading : Reading). kept_of reading) (sym read))
