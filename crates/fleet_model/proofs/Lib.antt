@@ -17,3 +17,7 @@ pub mod Falls
 pub mod Sums
 pub mod Running
 pub mod Positions
+pub mod Listed
+pub mod Flat
+pub mod Bounded
+pub mod Small

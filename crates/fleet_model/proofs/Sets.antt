@@ -91,7 +91,7 @@ rows_of_key table t key (row ∷ rows) =
     pushed false = refl
 
 -- a key is among the live ones exactly where a row of it lives
-live_keys-exact : (rows : List (Place × Arrival)) (table t : ℕ) (key : List ℕ) → is_key_among key (live_keys rows table t) ≡ has_live_row rows table key t
+pub live_keys-exact : (rows : List (Place × Arrival)) (table t : ℕ) (key : List ℕ) → is_key_among key (live_keys rows table t) ≡ has_live_row rows table key t
 unfolding live_keys
 live_keys-exact rows table t key =
     among-dedup key_cmp nat_list_cmp_total exact_bytes same_key (λ x y. refl) key (map (λ row. row.0.key) (filter (lives_in table t) rows))

@@ -1,5 +1,5 @@
 -- What is answered of a state.
-use Rattle.std.specs.Prelude.{ℕ, ◌+◌, ◌-◌, List, [], ◌∷◌, length, Option, None, Some, map, filter, fold, max}
+use Rattle.std.specs.Prelude.{ℕ, ◌+◌, ◌-◌, List, [], ◌∷◌, length, Option, None, Some, map, filter, fold, max, slice_index_or}
 use Rattle.std.specs.Option.{option_map}
 use Rattle.agg_types.specs.Col.{all_cols}
 use Rattle.agg_types.specs.declared.config.Filter.{Filter}
@@ -45,7 +45,18 @@ summed state table key =
 unfoldable pub keys_of : State → ℕ → List (List ℕ)
 keys_of state table = live_keys state.rows table state.moment
 
+-- the keys of a table with a row, each with its summed row, in order
+unfoldable pub listed : State → ℕ → List (List ℕ × Option Summed)
+listed state table = map (λ key. (key, summed state table key)) (keys_of state table)
+
 -- the keys that a filter holds at t: those with a row that lives then and for which all conditions hold
 unfoldable pub set_at : State → Filter → ℕ → List (List ℕ)
 set_at state filtering t =
     filter (λ key. meets (cols_of state.config.tables filtering.table) state.rows filtering.table key t filtering.conds) (live_keys state.rows filtering.table t)
+
+abbrev pub no_filter : Filter
+no_filter = record { name = []; table = 0; conds = [] }
+
+-- the standing filter at a position
+abbrev pub filter_of : State → ℕ → Filter
+filter_of state position = slice_index_or state.config.filters position no_filter

@@ -1,9 +1,10 @@
 -- The keys of a table by their values of a column.
-use Rattle.std.specs.Prelude.{ℕ, if◌then◌else◌, List, [], ◌∷◌, map, take}
+use Rattle.std.specs.Prelude.{ℕ, if◌then◌else◌, List, [], ◌∷◌, map, take, slice_index_or}
 use Rattle.std.specs.Cmp.Lexicographic.{slice_cmp}
 use Rattle.std.specs.Ordering.{is_lt, nat_cmp, ordering_then}
 use Rattle.std.specs.declared.cmp.Ordering.{Ordering}
 use Rattle.agg_types.specs.declared.column.Col.{Col}
+use Rattle.agg_types.specs.declared.column.Col.TheVariants.{Gpc0}
 use Rattle.agg_types.specs.declared.config.Rank.{Rank}
 use Rattle.fleet_model.specs.Answers.{keys_of}
 use Rattle.fleet_model.specs.State.{State}
@@ -34,3 +35,10 @@ ranking state table col = in_order rank_cmp (map (with_value state table col) (k
 -- a ranked list: the first keys of its table by its column
 unfoldable pub ranked : State → Rank → List (List ℕ × ℕ)
 ranked state rank = take rank.n (ranking state rank.table rank.col)
+
+abbrev pub no_rank : Rank
+no_rank = record { name = []; table = 0; col = Gpc0; n = 0 }
+
+-- the ranked list at a position of the configuration
+abbrev pub rank_of : State → ℕ → Rank
+rank_of state position = slice_index_or state.config.ranks position no_rank

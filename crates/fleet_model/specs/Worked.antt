@@ -2,16 +2,18 @@
 use Rattle.std.specs.Prelude.{ℕ, ◌==◌, if◌then◌else◌, List, [], ◌∷◌, ◌++◌, codes, Option, None, Some, map, fold, count_by}
 use Rattle.agg_types.specs.Col.{all_cols, same_col}
 use Rattle.agg_types.specs.declared.column.Col.{Col}
+use Rattle.agg_types.specs.declared.column.Col.TheVariants.{Gpc0}
 use Rattle.agg_types.specs.declared.config.Config.{Config}
 use Rattle.agg_types.specs.declared.config.Filter.{Filter}
 use Rattle.agg_types.specs.declared.config.KeyKind.TheVariants.{Ip}
 use Rattle.agg_types.specs.declared.config.Op.{Op}
+use Rattle.agg_types.specs.declared.config.Op.TheVariants.{Ge}
 use Rattle.agg_types.specs.declared.config.Rank.{Rank}
 use Rattle.agg_types.specs.declared.event.Cell.{Cell}
 use Rattle.agg_types.specs.declared.event.Cell.TheVariants.{Count, Rate}
 use Rattle.agg_types.specs.declared.event.Event.{Event}
 use Rattle.agg_types.specs.declared.event.What.{What}
-use Rattle.agg_types.specs.declared.event.What.TheVariants.{Sit, Open, Put, Moment, Leave}
+use Rattle.agg_types.specs.declared.event.What.TheVariants.{Sit, Open, Put, AddFilter, Moment, Leave}
 use Rattle.fleet_model.specs.Answers.{keys_of, summed}
 use Rattle.fleet_model.specs.State.{State, state_of}
 use Rattle.fleet_model.specs.declared.summed.Summed.{Summed}
@@ -90,6 +92,16 @@ summed_rates = (0, Sit) ∷ joined 1 0 ++ joined 2 1 ++ (1, row 0 1 None (Rate 0
 -- the first of these two rows alone
 unfoldable pub one_rate : List (ℕ × What)
 one_rate = (0, Sit) ∷ joined 1 0 ++ (1, row 0 1 None (Rate 0 0 3)) ∷ []
+
+-- a rate that runs on for ten seconds
+unfoldable pub slow_rate : List (ℕ × What)
+slow_rate = (0, Sit) ∷ joined 1 0 ++ (1, row 0 1 None (Rate 0 30 100)) ∷ []
+
+-- two keys, and then a filter that is added
+unfoldable pub added_late : List (ℕ × What)
+added_late =
+    (0, Sit) ∷ joined 1 0
+    ++ (1, row 0 1 None (Count 5)) ∷ (1, row 0 2 None (Count 4)) ∷ (0, AddFilter (filter_on Gpc0 Ge 5)) ∷ []
 
 -- three keys with one value
 unfoldable pub equal_keys : List (ℕ × What)

@@ -1,9 +1,9 @@
 //! What the definitions promise. Each law stands on a function that does nothing: its clause is the law,
 //! over every configuration, opening moment and list of events.
 
-ghost use Rattle.std.specs.Prelude.{◌≡◌, ◌≢◌, ℕ, ◌+◌, ◌<◌, ◌≤◌, Bool, not, true, false, length, List, [], ◌∷◌, ◌++◌, Option, Some, filter, fold, sum_by};
+ghost use Rattle.std.specs.Prelude.{◌≡◌, ◌≢◌, ℕ, ◌+◌, ◌<◌, ◌≤◌, ◌^◌, Bool, not, true, false, is_some, length, List, [], ◌∷◌, ◌++◌, Option, Some, filter, fold, sum_by};
 ghost use Rattle.std.specs.BTreeMap.{insert_entry, is_at};
-ghost use Rattle.std.specs.List.{IsDistinct, list_any};
+ghost use Rattle.std.specs.List.{AllByRecursion, IsDistinct, list_any};
 ghost use Rattle.std.specs.List.Sorted.{IsStrictlySortedBy};
 ghost use Rattle.std.specs.Map.{keys_of, lookup, remove_entry};
 ghost use Rattle.agg_types.specs.Place.{place_cmp};
@@ -18,13 +18,13 @@ ghost use Rattle.fleet_model.specs.Answers as answers;
 ghost use Rattle.fleet_model.specs.History.{judged};
 ghost use Rattle.fleet_model.specs.Laws.{AnswersAlike, AreLive, IsInForce, IsKeyList, IsOrdered, IsRanking, IsSetAt, IsSummedRow, IsWithinSizes, SaysNothing, opens_at, worth_at};
 ghost use Rattle.fleet_model.specs.Machine.{after, counts_now, number_of, opened, session_of};
-ghost use Rattle.fleet_model.specs.Next.{IsNextChange};
+ghost use Rattle.fleet_model.specs.Next.{IsNextChange, IsNextChangeBy, longest_period, table_flat_from};
 ghost use Rattle.fleet_model.specs.Ranking.{ranking};
 ghost use Rattle.fleet_model.specs.Rows.{counted_of};
 ghost use Rattle.fleet_model.specs.Seats.{number};
 ghost use Rattle.fleet_model.specs.Sessions.{session};
 ghost use Rattle.fleet_model.specs.State.{Stands, State, state_of};
-ghost use Rattle.fleet_model.specs.Values.{same_place, value};
+ghost use Rattle.fleet_model.specs.Values.{cols_of, same_place, value};
 ghost use Rattle.fleet_model.specs.declared.arrival.Arrival.{Arrival};
 
 /// No events leave the opened fleet: no rows, sessions and seats, at the opening moment.
@@ -144,6 +144,29 @@ pub fn sets_are_exact()
 pub fn rankings_are_exact()
     ensures is_one { (config : Config) (opening : ℕ) (events : List Event) (table : ℕ) (col : Col) → IsRanking (state_of config opening events) table col (ranking (state_of config opening events) table col) }
     ensures only { (state : State) (table : ℕ) (col : Col) (entries others : List (List ℕ × ℕ)) → IsRanking state table col entries → IsRanking state table col others → entries ≡ others }
+{}
+
+/// Each key of a table with a row has a summed row.
+pub fn listed_keys_have_sums()
+    ensures { (state : State) (table : ℕ) → AllByRecursion (λ key. is_some (summed state table key) ≡ true) (answers.keys_of state table) }
+{}
+
+/// From the moment from which each row of a table has ended, or its rates are 0, the clock changes no set of
+/// its filters.
+pub fn sets_stay_once_flat()
+    ensures { (state : State) (filtering : Filter) (t later : ℕ) → table_flat_from state filtering.table ≤ t → t ≤ later → set_at state filtering later ≡ set_at state filtering t }
+{}
+
+/// A next change that was looked for up to such a moment is the next change; where none was found up to then,
+/// there is none.
+pub fn next_change_comes_before_flat()
+    ensures { (state : State) (filtering : Filter) (last : ℕ) (next : Option ℕ) → table_flat_from state filtering.table ≤ last → IsNextChangeBy state filtering last next → IsNextChange state filtering next }
+{}
+
+/// That moment has 64 bits, as moments and lives are small: the opening moment at most 2^62, and periods below
+/// 2^32.
+pub fn sets_are_flat_in_time()
+    ensures { (config : Config) (opening : ℕ) (events : List Event) (table : ℕ) → opening ≤ 2 ^ 62 → longest_period (cols_of config.tables table) < 2 ^ 32 → table_flat_from (state_of config opening events) table < 2 ^ 64 }
 {}
 
 /// A filter's next change is one moment, or none.

@@ -3,14 +3,14 @@
 
 ghost use Rattle.std.specs.Prelude.{◌≡◌, ℕ, List, [], ◌∷◌, ◌++◌, Option, None, Some};
 ghost use Rattle.agg_types.specs.declared.column.Col.TheVariants.{Gpc0, HttpReqRate};
-ghost use Rattle.agg_types.specs.declared.config.Op.TheVariants.{Eq, Ge};
+ghost use Rattle.agg_types.specs.declared.config.Op.TheVariants.{Eq, Ge, Gt};
 ghost use Rattle.agg_types.specs.declared.event.Cell.TheVariants.{Count, Rate};
 ghost use Rattle.agg_types.specs.declared.event.Select.TheVariants.{All, Conds};
 ghost use Rattle.agg_types.specs.declared.event.What.TheVariants.{Sit, Open, Clear, AddFilter, Moment, Leave};
-ghost use Rattle.fleet_model.specs.Answers.{set_at};
+ghost use Rattle.fleet_model.specs.Answers.{filter_of, set_at};
 ghost use Rattle.fleet_model.specs.Machine.{session_of};
 ghost use Rattle.fleet_model.specs.Ranking.{ranked, ranking};
-ghost use Rattle.fleet_model.specs.Worked.{fleet_of, ip, filter_on, row, left_by, shown, sums_to, joined, full_table, reconnected, lives_over, cleared_on_sums, summed_rates, one_rate, equal_keys, falling_keys, first_two};
+ghost use Rattle.fleet_model.specs.Worked.{fleet_of, ip, filter_on, row, left_by, shown, sums_to, joined, full_table, reconnected, lives_over, cleared_on_sums, summed_rates, one_rate, slow_rate, added_late, equal_keys, falling_keys, first_two};
 
 /// A table holds two rows of a peer. A third key isn't taken, until the row that lives 100 ms has ended.
 pub fn size_limit()
@@ -66,6 +66,19 @@ pub fn passing_set()
 pub fn added_filters()
     ensures taken { (left_by (fleet_of 100 Gpc0 0 []) ((0, Sit) ∷ (0, AddFilter (filter_on Gpc0 Ge 1)) ∷ [])).config.filters ≡ filter_on Gpc0 Ge 1 ∷ [] }
     ensures twice { (left_by (fleet_of 100 Gpc0 0 (filter_on Gpc0 Eq 5 ∷ [])) ((0, Sit) ∷ (0, AddFilter (filter_on Gpc0 Ge 1)) ∷ [])).config.filters ≡ filter_on Gpc0 Eq 5 ∷ [] }
+{}
+
+/// An added filter holds at once what a configured one would. A second one of its name changes nothing.
+pub fn added_sets()
+    ensures added { set_at (left_by (fleet_of 100 Gpc0 0 []) added_late) (filter_of (left_by (fleet_of 100 Gpc0 0 []) added_late) 0) 0 ≡ ip 1 ∷ [] }
+    ensures configured { set_at (left_by (fleet_of 100 Gpc0 0 (filter_on Gpc0 Ge 5 ∷ [])) added_late) (filter_of (left_by (fleet_of 100 Gpc0 0 (filter_on Gpc0 Ge 5 ∷ [])) added_late) 0) 0 ≡ ip 1 ∷ [] }
+    ensures once { (left_by (fleet_of 100 Gpc0 0 []) (added_late ++ (0, AddFilter (filter_on Gpc0 Ge 1)) ∷ [])).config.filters ≡ filter_on Gpc0 Ge 5 ∷ [] }
+{}
+
+/// A filter's set follows a rate as it falls, at the very ms at which it reaches the bound.
+pub fn rate_values()
+    ensures held { set_at (left_by (fleet_of 100 HttpReqRate 10000 []) slow_rate) (filter_on HttpReqRate Gt 100) 2900 ≡ ip 1 ∷ [] }
+    ensures dropped { set_at (left_by (fleet_of 100 HttpReqRate 10000 []) slow_rate) (filter_on HttpReqRate Gt 100) 2901 ≡ [] }
 {}
 
 /// A ranked list has its first keys by value, of equal values the smaller key first; rates count as they

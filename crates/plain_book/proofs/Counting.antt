@@ -1,5 +1,5 @@
 -- What an event that counts has.
-use Rattle.std.proofs.Common.{◌≡◌, ℕ, ◌==◌, nat_le, ◌^◌, ◌<◌, ◌≤◌, Bool, true, false, ◌&&◌, nat_lt, length, Option, refl, arith}
+use Rattle.std.proofs.Common.{◌≡◌, ℕ, ◌==◌, nat_le, ◌^◌, Bool, true, ◌&&◌, nat_lt, length, Option, arith}
 use Rattle.std.proofs.lemmas.Bool.Decides.{nat_tests}
 use Rattle.agg_types.specs.Fits.{fits}
 use Rattle.agg_types.specs.declared.event.Event.{Event}

@@ -1,2 +1,4 @@
 pub mod Chosen
 pub mod Counting
+pub mod Listings
+pub mod Clock

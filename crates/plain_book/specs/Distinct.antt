@@ -12,3 +12,8 @@ is_other (Some last) key = not (same_key key last.now)
 abbrev pub to_come : Option (Bor (List ℕ)) → List (List ℕ) → List (List ℕ)
 to_come None keys = dedup same_key keys
 to_come (Some last) keys = dedup_from same_key last.now keys
+
+-- how many keys a last one is
+abbrev pub as_one : Option (Bor (List ℕ)) → ℕ
+as_one None = 0
+as_one (Some last) = 1

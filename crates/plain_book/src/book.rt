@@ -1,26 +1,33 @@
-ghost use Rattle.std.specs.Prelude.{◌≡◌, ℕ, List, map, length, nat_lt, [], ◌∷◌, ◌++◌, ◌&&◌, ◌==◌, not, if◌then◌else◌, filter, IsTrue, IfOk, OnOk, OnErr};
+ghost use Rattle.std.specs.Prelude.{◌≡◌, ◌<◌, ◌^◌, ◌-◌, min, ℕ, List, map, length, nat_lt, [], ◌∷◌, ◌++◌, ◌&&◌, ◌==◌, not, if◌then◌else◌, filter, IsTrue, IfOk, OnOk, OnErr};
 ghost use Rattle.std.specs.BTreeMap.{is_at};
-ghost use Rattle.std.specs.List.{list_any};
+ghost use Rattle.std.specs.List.{filter_map, list_any};
 ghost use Rattle.std.specs.Map.{lookup};
 ghost use Rattle.std.specs.Ordering.{nat_cmp};
 ghost use Rattle.std.specs.Str.{bytes_eq};
 ghost use Rattle.agg_types.specs.declared.config.Config.{Config};
 ghost use Rattle.agg_types.specs.declared.event.Event.{Event};
-ghost use Rattle.fleet_model.specs.Answers.{keys_of, summed};
+ghost use Rattle.fleet_model.specs.Answers.{filter_of, keys_of, listed, set_at, summed};
 ghost use Rattle.fleet_model.specs.Filters.{is_new};
 ghost use Rattle.fleet_model.specs.State.{Stands};
 ghost use Rattle.fleet_model.specs.Machine.{after, counts_now, number_of, opened, session_of, with_row};
+ghost use Rattle.fleet_model.specs.Next.{IsNextChange, IsNextChangeBy, table_flat_from};
+ghost use Rattle.fleet_model.specs.Ranking.{rank_of, ranked};
 ghost use Rattle.fleet_model.specs.Rows.{has_room};
 ghost use Rattle.fleet_model.specs.Seats.{is_number, most_seats};
 ghost use Rattle.fleet_model.specs.Values.{cols_of, selects};
 ghost use Rattle.plain_book.specs.Due.{IsDue};
+ghost use Rattle.plain_book.specs.Shown.{key_and_sums, shown_row, with_sums};
 
 use crate::clears::clear_where;
+use crate::listing::{BookRows, push_found};
+use crate::next::{are_same, flat_moment, longest_period};
+use crate::ranking::{Ranked, first_by_rank, rank_at};
 use crate::rows::{Rows, clear_key, clear_table, end_rows, has_room, put_row};
 use crate::seats::{
     Seats, Sessions, count_up, end_sessions, has_free_seat, is_next, is_number, open_session,
     sit_down, stand_up,
 };
+use crate::sets::{filter_at, keys_held};
 use crate::{queries, seats};
 use agg_types::{
     Cell, Col, Config, Event, Filter, Items, Key, MOST_FILTERS, NoMemory, Place, Select, Shape,
@@ -157,6 +164,122 @@ impl Book {
         ensures { IfOk result (λ keys. map (λ key. key.now) keys.items ≡ keys_of self.now table) }
     {
         queries::live_keys(alloc, &self.rows, table, self.moment)
+    }
+
+    /// How many keys of a table have a row. Takes no memory.
+    #[tactic(auto, unfolding(fleet_model::specs::Answers::keys_of))]
+    pub fn used(&self, table: usize) -> u64
+        ensures { result ≡ length (keys_of self.now table) }
+    {
+        queries::count_live(&self.rows, table, self.moment)
+    }
+
+    /// The keys of a table with a row, each with its summed row, in order.
+    pub fn rows(&self, alloc: Global, table: usize) -> Result<BookRows<'_>, NoMemory>
+        ensures { IfOk result (λ rows. map shown_row rows ≡ listed self.now table) }
+    {
+        fleet_model::laws::listed_keys_have_sums();
+        let keys = self.keys(alloc, table)?;
+        Ok(BookRows::new(self.sum_up(alloc, table, keys.as_slice())?))
+    }
+
+    // Keys of a table, each with its summed row.
+    fn sum_up<'a>(
+        &self,
+        alloc: Global,
+        table: usize,
+        keys: &[&'a Key],
+    ) -> Result<Vec<(&'a Key, Summed)>, NoMemory>
+        ensures { IfOk result (λ rows. map key_and_sums rows.items ≡ filter_map (λ key. with_sums key (summed self.now table key)) (map (λ key. key.now) keys.now)) }
+    {
+        let mut rows = Vec::new(alloc);
+        for key in keys {
+            push_found(&mut rows, *key, self.summed(table, *key))?;
+        }
+        Ok(rows)
+    }
+
+    /// The keys that a standing filter holds, in order.
+    pub fn filter_keys(&self, alloc: Global, filter: usize) -> Result<Vec<&Key>, NoMemory>
+        requires { filter < length self.now.config.filters }
+        ensures { IfOk result (λ keys. map (λ key. key.now) keys.items ≡ set_at self.now (filter_of self.now filter) self.now.moment) }
+    {
+        self.filter_keys_at(alloc, filter, self.moment)
+    }
+
+    /// The keys that a standing filter holds at a moment, in ms, if only the clock goes on until then.
+    #[tactic(auto, unfolding(fleet_model::specs::Answers::set_at))]
+    pub fn filter_keys_at(
+        &self,
+        alloc: Global,
+        filter: usize,
+        t: u64,
+    ) -> Result<Vec<&Key>, NoMemory>
+        requires { filter < length self.now.config.filters }
+        ensures { IfOk result (λ keys. map (λ key. key.now) keys.items ≡ set_at self.now (filter_of self.now filter) t) }
+    {
+        let standing = filter_at(self.config.filters.as_slice(), filter);
+        let cols = cols_of(self.config.tables.as_slice(), standing.table);
+        keys_held(alloc, &self.rows, cols, standing, t)
+    }
+
+    /// The ranked list at a position of the configuration.
+    #[tactic(auto, unfolding(fleet_model::specs::Ranking::ranked, fleet_model::specs::Ranking::ranking))]
+    pub fn top(&self, alloc: Global, rank: usize) -> Result<Ranked<'_>, NoMemory>
+        requires { rank < length self.now.config.ranks }
+        ensures { IfOk result (λ entries. entries ≡ ranked self.now (rank_of self.now rank)) }
+    {
+        let rank = rank_at(self.config.ranks.as_slice(), rank);
+        let cols = cols_of(self.config.tables.as_slice(), rank.table);
+        let keys = self.keys(alloc, rank.table)?;
+        let entries = first_by_rank(alloc, &self.rows, cols, rank, self.moment, keys)?;
+        Ok(Ranked::new(entries))
+    }
+
+    /// The first moment above the book's, up to a last one, both in ms, at which a filter holds other keys
+    /// than now, if only the clock goes on; none where it holds the same up to then. Judges each moment on
+    /// the way, so it is for small inputs.
+    pub fn next_change_until(
+        &self,
+        alloc: Global,
+        filter: usize,
+        last: u64,
+    ) -> Result<Option<u64>, NoMemory>
+        requires { filter < length self.now.config.filters }
+        ensures { IfOk result (IsNextChangeBy self.now (filter_of self.now filter) last) }
+    {
+        let now = self.filter_keys(alloc, filter)?;
+        for ms in 0..last.saturating_sub(self.moment) {
+            let t = self.moment + ms + 1;
+            let then = self.filter_keys_at(alloc, filter, t)?;
+            if !are_same(now.as_slice(), then.as_slice()) {
+                return Ok(Some(t));
+            }
+        }
+        Ok(None)
+    }
+
+    /// The first moment above the book's, in ms, at which a filter holds other keys than now, if only the
+    /// clock goes on; none where it always holds the same. Looks no further than moments of 64 bits go.
+    /// Judges each moment on the way, so it is for small inputs.
+    pub fn next_change(&self, alloc: Global, filter: usize) -> Result<Option<u64>, NoMemory>
+        requires { filter < length self.now.config.filters }
+        ensures whole { table_flat_from self.now (filter_of self.now filter).table < 2 ^ 64 → IfOk result (IsNextChange self.now (filter_of self.now filter)) }
+        ensures bounded { IfOk result (IsNextChangeBy self.now (filter_of self.now filter) (2 ^ 64 - 1)) }
+    {
+        fleet_model::laws::next_change_comes_before_flat();
+        let last = self.flat_from(filter);
+        self.next_change_until(alloc, filter, last)
+    }
+
+    // The moment from which the clock changes no set of a filter.
+    fn flat_from(&self, filter: usize) -> u64
+        requires { filter < length self.now.config.filters }
+        ensures { result ≡ min (table_flat_from self.now (filter_of self.now filter).table) (2 ^ 64 - 1) }
+    {
+        let standing = filter_at(self.config.filters.as_slice(), filter);
+        let cols = cols_of(self.config.tables.as_slice(), standing.table);
+        flat_moment(&self.rows, longest_period(cols))
     }
 
     #[tactic(auto, unfolding(fleet_model::specs::Machine::counts_now))]

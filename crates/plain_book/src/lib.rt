@@ -5,10 +5,18 @@
 
 mod book;
 mod clears;
+mod listing;
+mod next;
 mod queries;
+mod ranking;
 mod rows;
 mod seats;
+mod sets;
+#[cfg(test)]
+mod tests;
 mod values;
 
 pub use book::Book;
 pub use fleet_model::Summed;
+pub use listing::BookRows;
+pub use ranking::Ranked;

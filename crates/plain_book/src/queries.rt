@@ -34,6 +34,23 @@ pub fn live_keys(alloc: Global, rows: &Rows, table: usize, t: u64) -> Result<Vec
     Ok(keys)
 }
 
+/// How many keys of a table have a row that lives at a moment.
+#[tactic(auto, unfolding(fleet_model::specs::Values::live_keys))]
+pub fn count_live(rows: &Rows, table: usize, t: u64) -> u64
+    ensures { result ≡ length (live_keys rows.now.entries table t) }
+{
+    let mut keys = 0u64;
+    let mut last: Option<&Key> = None;
+    for (place, row) in rows {
+        let live = place.table == table && is_live(t, row);
+        if live && is_other(last, &place.key) {
+            keys += 1;
+            last = Some(&place.key);
+        }
+    }
+    keys
+}
+
 /// Whether a key isn't the last one.
 fn is_other(last: Option<&Key>, key: &Key) -> bool
     ensures { result ≡ is_other last.entry key.now }

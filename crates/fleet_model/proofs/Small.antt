@@ -1,0 +1,122 @@
+-- Moments and lives stay so small that no set changes behind moments of 64 bits.
+use Rattle.std.proofs.Common.{◌≡◌, ℕ, ◌^◌, ◌<◌, ◌≤◌, Bool, true, false, cond, ◌&&◌, nat_lt, List, [], ◌∷◌, Option, None, Some, refl, sym, subst, arith, length}
+use Rattle.std.proofs.lemmas.Bool.Decides.{nat_tests}
+use Rattle.std.specs.BTreeMap.{insert_entry, is_at}
+use Rattle.std.specs.List.{AllByRecursion, filter}
+use Rattle.std.specs.Map.{remove_entry}
+use Rattle.std.specs.Option.{unwrap_or}
+use Rattle.std.specs.Ordering.{match_ordering}
+use Rattle.std.specs.declared.cmp.Ordering.TheVariants.{Less, Equal, Greater}
+use Rattle.agg_types.specs.Fits.{at_table, cells_fit, fits, key_fits, life_fits}
+use Rattle.agg_types.specs.Place.{place_cmp}
+use Rattle.agg_types.specs.declared.config.Config.{Config}
+use Rattle.agg_types.specs.declared.config.Shape.{Shape}
+use Rattle.agg_types.specs.declared.event.Event.{Event}
+use Rattle.agg_types.specs.declared.event.What.{What}
+use Rattle.agg_types.specs.declared.event.What.TheVariants.{Sit, Open, Put, Clear, AddFilter, Moment, Leave}
+use Rattle.agg_types.specs.declared.place.Place.{Place}
+use Rattle.fleet_model.proofs.Runs.{along}
+use Rattle.fleet_model.specs.Machine.{after, counts_now, happened, number_of, opened, session_of, with_put, with_row}
+use Rattle.fleet_model.specs.Moments.{is_live}
+use Rattle.fleet_model.specs.Next.{flat_moment, longest_period, table_flat_from}
+use Rattle.fleet_model.specs.Rows.{has_room}
+use Rattle.fleet_model.specs.Seats.{is_next, is_number, most_seats}
+use Rattle.fleet_model.specs.State.{State, state_of}
+use Rattle.fleet_model.specs.Values.{cols_of}
+use Rattle.fleet_model.specs.declared.arrival.Arrival.{Arrival}
+
+abbrev IsSmall : Place × Arrival → Type 0
+IsSmall row = (row.1.arrived ≤ 2 ^ 62) × (unwrap_or row.1.life 0 < 2 ^ 32)
+
+record Small (state : State) : Type 0 where
+  moment : state.moment ≤ 2 ^ 62
+  rows : AllByRecursion IsSmall state.rows
+
+left_part : (a b : Bool) → a && b ≡ true → a ≡ true
+left_part true b h = refl
+left_part false b h = cc
+
+right_part : (a b : Bool) → a && b ≡ true → b ≡ true
+right_part true b h = h
+right_part false b h = cc
+
+small_kept : (b : Bool) (row : Place × Arrival) (rows : List (Place × Arrival)) → IsSmall row → AllByRecursion IsSmall rows → AllByRecursion IsSmall (cond b (row ∷ rows) rows)
+small_kept true row rows own h = (own, h)
+small_kept false row rows own h = h
+
+small_filter : (p : Place × Arrival → Bool) (rows : List (Place × Arrival)) → AllByRecursion IsSmall rows → AllByRecursion IsSmall (filter p rows)
+small_filter p [] h = tt
+small_filter p (row ∷ rows) h = small_kept (p row) row (filter p rows) h.0 (small_filter p rows h.1)
+
+small_insert : (rows : List (Place × Arrival)) (place : Place) (row : Arrival) → AllByRecursion IsSmall rows → IsSmall (place, row) → AllByRecursion IsSmall (insert_entry place_cmp rows place row)
+small_insert [] place row h own = (own, tt)
+small_insert (other ∷ rows) place row h own =
+    elim (place_cmp place other.0) as (λ r. AllByRecursion IsSmall (match_ordering r ((place, row) ∷ other ∷ rows) ((other.0, row) ∷ rows) (other ∷ insert_entry place_cmp rows place row))) [
+      | Less ↦ (own, h)
+      | Equal ↦ (own, h.1)
+      | Greater ↦ (h.0, small_insert rows place row h.1 own)
+    ]
+
+small_remove : (test : Place → Bool) (rows : List (Place × Arrival)) → AllByRecursion IsSmall rows → AllByRecursion IsSmall (remove_entry test rows)
+small_remove test [] h = tt
+small_remove test (row ∷ rows) h = elim (test row.0) as (λ b. AllByRecursion IsSmall (cond b rows (row ∷ remove_entry test rows))) [ true ↦ h.1 | false ↦ (h.0, small_remove test rows h.1) ]
+
+small_life : (life : Option ℕ) → life_fits life ≡ true → unwrap_or life 0 < 2 ^ 32
+small_life None h = omega arith
+small_life (Some life) h = grind (arith, nat_tests)
+
+small_put : (taken live : Bool) (rows : List (Place × Arrival)) (place : Place) (row : Arrival) → AllByRecursion IsSmall rows → IsSmall (place, row) → AllByRecursion IsSmall (cond taken (cond live (insert_entry place_cmp rows place row) (remove_entry (is_at (place_cmp place)) rows)) rows)
+small_put true true rows place row h own = small_insert rows place row h own
+small_put true false rows place row h own = small_remove (is_at (place_cmp place)) rows h
+small_put false live rows place row h own = h
+
+small_happened : (state : State) (e : Event) (what : What) → fits state.config what ≡ true → Small state → Small (happened state e what)
+unfolding happened with_put with_row
+small_happened state e Sit fit h = record { moment = h.moment; rows = h.rows }
+small_happened state e (Open peer) fit h = record { moment = h.moment; rows = h.rows }
+small_happened state e (Put peer table key life cells) fit h =
+    let place : Place = record { table = table; key = key; peer = peer } in
+    let row : Arrival = record { arrived = state.moment; life = life; cells = cells } in
+    record {
+      moment = h.moment;
+      rows = small_put (is_number (session_of state peer) e.seat && has_room state.config.tables state.rows place) (is_live state.moment row) state.rows place row h.rows
+          (h.moment, small_life life (right_part (nat_lt peer (length state.config.peers)) (life_fits life) (left_part (nat_lt peer (length state.config.peers) && life_fits life) (at_table state.config.tables table (λ shape. key_fits shape.kind key && cells_fit shape.cols cells)) fit)));
+    }
+small_happened state e (Clear table sel) fit h = record { moment = h.moment; rows = small_filter _ state.rows h.rows }
+small_happened state e (AddFilter filter) fit h = record { moment = h.moment; rows = h.rows }
+small_happened state e (Moment moment) fit h =
+    let told : moment ≤ 2 ^ 62 = grind (arith, nat_tests) in
+    let now : state.moment ≤ 2 ^ 62 = h.moment in
+    record { moment = omega arith; rows = small_filter _ state.rows h.rows }
+small_happened state e Leave fit h = record { moment = h.moment; rows = h.rows }
+
+small_after : (state : State) (e : Event) → Small state → Small (after state e)
+unfolding after counts_now
+small_after state e h =
+    elim (counts_now state e) as (λ b. counts_now state e ≡ b → Small (cond b (happened state e e.what) state)) [
+      | true ↦ λ counts. small_happened state e e.what (left_part (fits state.config e.what) (is_next e.what e.seat e.seq (nat_lt (length state.seats) most_seats) state.next_seat (number_of state e.seat)) counts) h
+      | false ↦ λ not. h
+    ] refl
+
+small_opened : (config : Config) (opening : ℕ) → opening ≤ 2 ^ 62 → Small (opened config opening)
+unfolding opened
+small_opened config opening small = record { moment = small; rows = tt }
+
+small_flat : (longest : ℕ) (rows : List (Place × Arrival)) → longest < 2 ^ 32 → AllByRecursion IsSmall rows → flat_moment longest rows < 2 ^ 64
+small_flat longest [] short h = omega arith
+small_flat longest (row ∷ rows) short h =
+    let arrived : row.1.arrived ≤ 2 ^ 62 = h.0.0 in
+    let life : unwrap_or row.1.life 0 < 2 ^ 32 = h.0.1 in
+    let rest : flat_moment longest rows < 2 ^ 64 = small_flat longest rows short h.1 in
+    omega arith
+
+same_tables : (config : Config) (opening : ℕ) (events : List Event) → (state_of config opening events).config.tables ≡ config.tables
+unfolding state_of
+same_tables config opening events = refl
+
+-- no set changes by the clock behind moments of 64 bits
+pub flat_in_time : (config : Config) (opening : ℕ) (events : List Event) (table : ℕ) → opening ≤ 2 ^ 62 → longest_period (cols_of config.tables table) < 2 ^ 32 → table_flat_from (state_of config opening events) table < 2 ^ 64
+flat_in_time config opening events table small short =
+    let state = state_of config opening events in
+    let all : Small state = along config opening Small (small_opened config opening small) (λ before e h. small_after (state_of config opening before) e h) events in
+    small_flat (longest_period (cols_of state.config.tables table)) state.rows (subst (λ (tables : List Shape). longest_period (cols_of tables table) < 2 ^ 32) (sym (same_tables config opening events)) short) all.rows
