@@ -55,7 +55,7 @@ turned_eq {K} {C} o x y = ap is_eq (o.antisymm x y) ∙ by (C y x)
     by Greater = refl
 
 -- what is found after a value was put or taken out
-lookup-put_or_take : {K X : Type 0} {C : K → K → Ordering} → IsTotalOrder C → (es : List (K × X)) (k q : K) (v : Option X) → IsStrictlySortedBy C (keys_of es) → lookup (is_at (C q)) (put_or_take C es k v) ≡ cond (is_eq (C q k)) v (lookup (is_at (C q)) es)
+pub lookup-put_or_take : {K X : Type 0} {C : K → K → Ordering} → IsTotalOrder C → (es : List (K × X)) (k q : K) (v : Option X) → IsStrictlySortedBy C (keys_of es) → lookup (is_at (C q)) (put_or_take C es k v) ≡ cond (is_eq (C q k)) v (lookup (is_at (C q)) es)
 lookup-put_or_take o es k q (Some v) s = lookup-insert_entry o es k q v
 lookup-put_or_take {K} {X} {C} o es k q None s =
     lookup-remove_entry (eq_by_cmp_equiv o) (is_at (C k)) (λ x y e. ap is_eq (o.congr k x y (equal (C k x) e))) q es (IsDistinct-from_sorted C (keys_of es) s)
@@ -66,7 +66,7 @@ lookup-put_or_take {K} {X} {C} o es k q None s =
     equal Equal e = refl
     equal Greater e = cc
 
-sorted-put_or_take : {K X : Type 0} {C : K → K → Ordering} → IsTotalOrder C → (es : List (K × X)) (k : K) (v : Option X) → IsStrictlySortedBy C (keys_of es) → IsStrictlySortedBy C (keys_of (put_or_take C es k v))
+pub sorted-put_or_take : {K X : Type 0} {C : K → K → Ordering} → IsTotalOrder C → (es : List (K × X)) (k : K) (v : Option X) → IsStrictlySortedBy C (keys_of es) → IsStrictlySortedBy C (keys_of (put_or_take C es k v))
 sorted-put_or_take {K} {X} {C} o es k None s = sorted-remove_entry C (is_at (C k)) es s
 sorted-put_or_take {K} {X} {C} o es k (Some v) s = sorted-insert_entry C o es k v s
 

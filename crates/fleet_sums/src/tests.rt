@@ -22,7 +22,7 @@ fn new_sums(alloc: Global) -> Result<Sums, NoMemory>
 }
 
 fn row(alloc: Global, count: u64) -> Result<Row, NoMemory>
-    ensures { IfOk result (λ row. length row.cells ≡ 2) }
+    ensures { IfOk result (λ row. (rate : Rate) × (row.cells ≡ Held.Count count ∷ Held.Rate rate ∷ [])) }
 {
     let rate = Rate::arrive(1000, 0, 3, 1, 0);
     Ok(Row {
@@ -82,5 +82,32 @@ fn adds_counts_of_each_key(rt: HostRuntime) -> Result<(), Fail> {
     assert_eq!(rt; first, (2, 12, 0));
     let third = totals(alloc, &sums, 3).or_else(|_| totals(alloc, &sums, 3))?;
     assert_eq!(rt; third, (0, 0, 0));
+    Ok(())
+}
+
+// Adds two rows of a key and drops the second.
+fn try_drop(alloc: Global, sums: &mut Sums) -> Result<(), NoMemory>
+    requires { sums.old ≡ record { widths = 2 ∷ []; entries = [] } }
+    ensures { sums.new.widths ≡ 2 ∷ [] }
+{
+    let key = Key::copy(alloc, &[10, 0, 0, 1])?;
+    let first = row(alloc, 5)?;
+    let second = row(alloc, 7)?;
+    sums.add_row(0, &key, &first)?;
+    sums.add_row(0, &key, &second)?;
+    sums.drop_row(0, &key, &second);
+    Ok(())
+}
+
+#[test]
+fn drops_a_row(rt: HostRuntime) -> Result<(), Fail> {
+    let alloc = rt.alloc();
+    let mut sums = new_sums(alloc).or_else(|_| new_sums(alloc))?;
+    if try_drop(alloc, &mut sums).is_err() {
+        sums = new_sums(alloc)?;
+        try_drop(alloc, &mut sums)?;
+    }
+    let left = totals(alloc, &sums, 1).or_else(|_| totals(alloc, &sums, 1))?;
+    assert_eq!(rt; left, (1, 5, 0));
     Ok(())
 }

@@ -1,5 +1,6 @@
 pub mod Sorted
 pub mod Selecting
+pub mod Peers
 pub mod Spreading
 pub mod Keying
 pub mod Kept

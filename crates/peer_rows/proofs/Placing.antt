@@ -56,7 +56,7 @@ pub placed-empty : (n peers i : ℕ) → spread place (numbered i (replicate n (
 placed-empty zero peers i = refl
 placed-empty (suc n) peers i = placed-empty n peers (i + 1)
 
-place_cmp_total : IsTotalOrder place_cmp
+pub place_cmp_total : IsTotalOrder place_cmp
 place_cmp_total = then_total (on_total (λ (p : Place). p.table) nat_cmp_total) (then_total (on_total (λ (p : Place). p.key) nat_list_cmp_total) (on_total (λ (p : Place). p.peer) nat_cmp_total))
 
 -- the tests of places, by their tables and spots

@@ -1,4 +1,5 @@
 pub mod Listing
+pub mod Peers
 pub mod Spread
 pub mod Table
 pub mod Rows

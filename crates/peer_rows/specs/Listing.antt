@@ -8,16 +8,6 @@ use Rattle.peer_rows.specs.Table.{Spot, spot}
 abbrev pub peer_and_row : ℕ × Bor Row → ℕ × Row
 peer_and_row p = (p.0, p.1.now)
 
--- the first row, where it hasn't been lent yet
-abbrev pub first_left : Option (ℕ × Bor Row) → List (ℕ × Row)
-first_left None = []
-first_left (Some p) = peer_and_row p ∷ []
-
--- the rows after it
-abbrev pub more_left : Option (List (ℕ × Row)) → List (ℕ × Row)
-more_left None = []
-more_left (Some rows) = rows
-
 -- what an item of a listing by key shows: the key and the peer, and their row
 abbrev pub spot_and_row : Bor (List ℕ) × ℕ × Bor Row → Spot × Row
 spot_and_row p = ((p.0.now, p.1), p.2.now)

@@ -4,8 +4,8 @@ ghost use Rattle.std.specs.Map.Iter.{TakesFirst};
 ghost use Rattle.peer_rows.specs.Listing.{spot_and_row};
 ghost use Rattle.peer_rows.specs.Table.{rows_in};
 
-use crate::Row;
 use crate::key_rows::KeyRows;
+use crate::{OfKey, Row};
 use agg_types::Key;
 use std::collections::btree_map::Iter;
 use std::marker::Model;
@@ -16,7 +16,7 @@ use std::marker::Model;
 /// Contracts see the list of what it has left.
 #[derive(Drop)]
 pub struct ByKey<'a> {
-    at: Option<(&'a Key, Iter<'a, usize, Row>)>,
+    at: Option<(&'a Key, OfKey<'a>)>,
     keys: Iter<'a, Key, KeyRows>,
 }
 
@@ -50,12 +50,13 @@ impl<'a> Iterator for ByKey<'a> {
     fn next(&mut self) -> Option<(&'a Key, usize, &'a Row)> {
         if let Some(at) = &mut self.at {
             if let Some((peer, row)) = at.1.next() {
-                return Some((at.0, *peer, row));
+                return Some((at.0, peer, row));
             }
         }
         let (key, rows) = self.keys.next()?;
-        let ((peer, row), more) = rows.split_first();
-        self.at = Some((key, more));
+        let mut rows = rows.iter();
+        let (peer, row) = rows.next()?;
+        self.at = Some((key, rows));
         Some((key, peer, row))
     }
 }

@@ -1,42 +1,46 @@
-ghost use Rattle.std.specs.Prelude.{◌≡◌, ◌≢◌, ◌+◌, ◌<◌, List, [], ◌∷◌, length, slice_get, IsTrue, ◌↔◌, IsOk, IsSome, IfOk, IfSome, OnOk, OnErr};
-ghost use Rattle.std.specs.Option.{option_copied};
+ghost use Rattle.std.specs.Prelude.{◌≡◌, ◌≢◌, ◌-◌, List, [], ◌∷◌, length, slice_get, IsTrue, ◌↔◌, IsOk, IsSome, IfOk, OnOk, OnErr, MatchResult};
+ghost use Rattle.std.specs.Option.{option_copied, option_map};
 ghost use Rattle.std.specs.Ordering.{nat_cmp};
 ghost use Rattle.std.specs.Map.{keys_of, lookup, remove_entry};
 ghost use Rattle.std.specs.BTreeMap.{insert_entry, is_at};
 ghost use Rattle.std.specs.List.Sorted.{IsStrictlySortedBy};
-ghost use Rattle.peer_rows.specs.Listing.{peer_and_row};
+ghost use Rattle.peer_rows.specs.Peers.{IsFound, IsGap, IsOne, ArePeers, held_by};
 
 use crate::{OfKey, Row};
 use agg_types::NoMemory;
 use std::alloc::Global;
 use std::cmp::Ordering;
-use std::collections::BTreeMap;
-use std::collections::btree_map::Iter;
 use std::marker::Model;
-use std::mem;
+use std::{mem, slice};
+
+/// A row with the peer that holds it.
+pub(crate) type PeerRow = (usize, Row);
 
 /// The rows of one key: at least one, each with the peer that holds it, by peer.
 ///
-/// The first row lies in the value itself, so a key that one peer holds takes no memory beside it.
+/// A single row lies in the value itself and takes no memory beside it; several lie side by side.
 #[derive(Debug, Drop)]
 pub(crate) struct KeyRows {
-    peer: usize,
-    row: Row,
-    more: BTreeMap<usize, Row>,
+    peers: Peers,
+    alloc: Global,
+}
+
+#[derive(Debug, Drop)]
+enum Peers {
+    One(PeerRow),
+    Many(Vec<PeerRow>),
 }
 
 impl Model for KeyRows {
-    ghost use Rattle.std.specs.Prelude.{List, ℕ, ◌∷◌};
-    ghost use Rattle.std.specs.Ordering.{nat_cmp};
-    ghost use Rattle.std.specs.Map.{keys_of};
-    ghost use Rattle.std.specs.List.Sorted.{IsStrictlySortedBy};
+    ghost use Rattle.std.specs.Prelude.{List, ℕ};
     ghost use Rattle.peer_rows.specs.declared.row.Row.{Row};
+    ghost use Rattle.peer_rows.specs.Peers.{held_by, ArePeers};
 
     ghost Value = { List (ℕ × Row) };
 
-    ghost view = { λ rows. (rows.peer, rows.row) ∷ rows.more.entries };
+    ghost view = { λ rows. held_by rows.peers };
 
-    ghost invariant = { λ rows. IsStrictlySortedBy nat_cmp (keys_of ((rows.peer, rows.row) ∷ rows.more.entries)) };
+    ghost invariant = { λ rows. ArePeers (held_by rows.peers) };
 }
 
 impl KeyRows {
@@ -45,9 +49,19 @@ impl KeyRows {
         ensures { result ≡ (peer, row) ∷ [] }
     {
         KeyRows {
-            peer,
-            row,
-            more: BTreeMap::new(alloc),
+            peers: Peers::One((peer, row)),
+            alloc,
+        }
+    }
+
+    /// The rows, by peer.
+    fn as_slice(&self) -> &[PeerRow]
+        ensures rows { result.now ≡ self.now }
+        ensures are { ArePeers self.now }
+    {
+        match &self.peers {
+            Peers::One(held) => slice::from_ref(held),
+            Peers::Many(rows) => rows.as_slice(),
         }
     }
 
@@ -55,10 +69,10 @@ impl KeyRows {
     pub(crate) fn get(&self, peer: usize) -> Option<&Row>
         ensures { option_copied result ≡ lookup (is_at (nat_cmp peer)) self.now }
     {
-        if peer == self.peer {
-            Some(&self.row)
-        } else {
-            self.more.get(&peer)
+        let rows = self.as_slice();
+        match find(rows, peer) {
+            Ok(at) => Some(&rows[at].1),
+            Err(_) => None,
         }
     }
 
@@ -70,33 +84,13 @@ impl KeyRows {
         ensures err { OnErr result (self.new ≡ self.old) }
         ensures sorted { IsStrictlySortedBy nat_cmp (keys_of self.new) }
     {
-        match peer.cmp(&self.peer) {
-            Ordering::Equal => Ok(Some(mem::replace(&mut self.row, row))),
-            Ordering::Greater => Ok(self.more.insert(peer, row)?),
-            Ordering::Less => {
-                self.put_first(peer, row)?;
+        match &mut self.peers {
+            Peers::One(held) if held.0 == peer => Ok(Some(mem::replace(&mut held.1, row))),
+            Peers::One(_) => {
+                put_second(self.alloc, &mut self.peers, (peer, row))?;
                 Ok(None)
             }
-        }
-    }
-
-    // Puts the row of a peer that comes before all that hold one.
-    fn put_first(&mut self, peer: usize, row: Row) -> Result<(), NoMemory>
-        requires { IsStrictlySortedBy nat_cmp (peer ∷ keys_of self.old) }
-        ensures ok { OnOk result (self.new ≡ (peer, row) ∷ self.old) }
-        ensures err { OnErr result (self.new ≡ self.old) }
-    {
-        let first = mem::replace(&mut self.row, row);
-        match self.more.insert(self.peer, first) {
-            Ok(_) => {
-                self.peer = peer;
-                Ok(())
-            }
-            Err(refused) => {
-                let (_, first) = refused.value;
-                self.row = first;
-                Err(NoMemory)
-            }
+            Peers::Many(rows) => put_among(rows, peer, row),
         }
     }
 
@@ -104,7 +98,7 @@ impl KeyRows {
     pub(crate) fn is_only(&self, peer: usize) -> bool
         ensures { IsTrue result ↔ (keys_of self.now ≡ peer ∷ []) }
     {
-        peer == self.peer && self.more.is_empty()
+        matches!(self.as_slice(), [only] if only.0 == peer)
     }
 
     /// Takes a peer's row out, which isn't the only one.
@@ -114,41 +108,104 @@ impl KeyRows {
         ensures after { self.new ≡ remove_entry (is_at (nat_cmp peer)) self.old }
         ensures sorted { IsStrictlySortedBy nat_cmp (keys_of self.new) }
     {
-        if peer != self.peer {
-            return self.more.remove(&peer);
-        }
-        let (next, row) = self.more.pop_first()?;
-        self.peer = next;
-        Some(mem::replace(&mut self.row, row))
+        let Peers::Many(rows) = &mut self.peers else {
+            return None;
+        };
+        take_among(rows, peer)
     }
 
-    /// Gives the first row back, and drops what comes after it.
-    pub(crate) fn into_first(self) -> Row
-        ensures { IfSome (slice_get self 0) (λ first. result ≡ first.1) }
+    /// Gives the last row back, and drops the others.
+    pub(crate) fn into_last(self) -> Option<Row>
+        ensures { result ≡ option_map (λ last. last.1) (slice_get self (length self - 1)) }
     {
-        let KeyRows { row, .. } = self;
-        row
+        let KeyRows { peers, .. } = self;
+        match peers {
+            Peers::One((_, row)) => Some(row),
+            Peers::Many(mut rows) => {
+                let (_, row) = rows.pop()?;
+                Some(row)
+            }
+        }
     }
 
     /// How many rows there are.
     pub(crate) fn len(&self) -> usize
         ensures { result ≡ length self.now }
     {
-        1 + self.more.len()
-    }
-
-    /// The first row with its peer, and what comes after it.
-    pub(crate) fn split_first(&self) -> ((usize, &Row), Iter<'_, usize, Row>)
-        ensures { self.now ≡ peer_and_row result.0 ∷ result.1 }
-    {
-        ((self.peer, &self.row), self.more.iter())
+        self.as_slice().len()
     }
 
     /// The rows with their peers, by peer.
     pub(crate) fn iter(&self) -> OfKey<'_>
-        ensures { result ≡ self.now }
+        ensures rows { result ≡ self.now }
+        ensures some { self.now ≢ [] }
     {
-        let (first, more) = self.split_first();
-        OfKey::new(first, more)
+        OfKey::new(self.as_slice())
     }
+}
+
+// Puts the row of a second peer beside the one of the first.
+fn put_second(alloc: Global, peers: &mut Peers, new: PeerRow) -> Result<(), NoMemory>
+    requires one { IsOne peers.old }
+    requires apart { keys_of (held_by peers.old) ≢ new.0 ∷ [] }
+    ensures ok { OnOk result (held_by peers.new ≡ insert_entry nat_cmp (held_by peers.old) new.0 new.1) }
+    ensures err { OnErr result (peers.new ≡ peers.old) }
+{
+    let mut rows = Vec::with_capacity(alloc, 2)?;
+    let Peers::One(held) = mem::replace(peers, Peers::Many(Vec::new(alloc))) else {
+        unreachable!();
+    };
+    let (first, second) = if held.0 < new.0 {
+        (held, new)
+    } else {
+        (new, held)
+    };
+    let _ = rows.push(first);
+    let _ = rows.push(second);
+    *peers = Peers::Many(rows);
+    Ok(())
+}
+
+// Puts a row among those of several peers.
+fn put_among(rows: &mut Vec<PeerRow>, peer: usize, row: Row) -> Result<Option<Row>, NoMemory>
+    requires { ArePeers rows.old.items }
+    ensures ok { OnOk result (rows.new.items ≡ insert_entry nat_cmp rows.old.items peer row) }
+    ensures old { IfOk result (λ old. old ≡ lookup (is_at (nat_cmp peer)) rows.old.items) }
+    ensures held { IsSome (lookup (is_at (nat_cmp peer)) rows.old.items) → IsOk result }
+    ensures err { OnErr result (rows.new.items ≡ rows.old.items) }
+{
+    match find(rows.as_slice(), peer) {
+        Ok(at) => Ok(Some(mem::replace(&mut rows[at].1, row))),
+        Err(at) => {
+            rows.reserve_exact(1)?;
+            rows.insert(at, (peer, row))?;
+            Ok(None)
+        }
+    }
+}
+
+// Takes the row of a peer out.
+fn take_among(rows: &mut Vec<PeerRow>, peer: usize) -> Option<Row>
+    requires { ArePeers rows.old.items }
+    ensures value { result ≡ lookup (is_at (nat_cmp peer)) rows.old.items }
+    ensures after { rows.new.items ≡ remove_entry (is_at (nat_cmp peer)) rows.old.items }
+{
+    match find(rows.as_slice(), peer) {
+        Ok(at) => Some(rows.remove(at).1),
+        Err(_) => None,
+    }
+}
+
+// Where the row of a peer stands among rows by peer, or else where it would stand.
+fn find(rows: &[PeerRow], peer: usize) -> Result<usize, usize>
+    ensures { MatchResult result (IsFound peer rows.now) (IsGap peer rows.now) }
+{
+    for (at, held) in rows.iter().enumerate() {
+        match held.0.cmp(&peer) {
+            Ordering::Less => {}
+            Ordering::Equal => return Ok(at),
+            Ordering::Greater => return Err(at),
+        }
+    }
+    Err(rows.len())
 }

@@ -61,7 +61,7 @@ pub(crate) fn take_row(keys: &mut Keyed, peer: usize, key: &Key) -> Option<Row>
     ensures once { EachPeerOnce keys.new.entries }
 {
     if keys.get(key)?.is_only(peer) {
-        Some(keys.remove(key)?.into_first())
+        keys.remove(key)?.into_last()
     } else {
         keys.get_mut(key)?.take(peer)
     }

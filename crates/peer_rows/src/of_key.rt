@@ -1,10 +1,10 @@
-ghost use Rattle.std.specs.Prelude.{◌≡◌, List, [], ◌∷◌, length};
+ghost use Rattle.std.specs.Prelude.{◌≡◌, [], length};
 ghost use Rattle.std.specs.Iterator.{at_most};
 ghost use Rattle.std.specs.Map.Iter.{TakesFirst};
 ghost use Rattle.peer_rows.specs.Listing.{peer_and_row};
 
 use crate::Row;
-use std::collections::btree_map::Iter;
+use crate::key_rows::PeerRow;
 use std::marker::Model;
 
 /// Lends the rows of one key, each with the peer that holds it, by peer. Takes no memory.
@@ -12,18 +12,16 @@ use std::marker::Model;
 /// Contracts see the list of what it has left.
 #[derive(Drop)]
 pub struct OfKey<'a> {
-    first: Option<(usize, &'a Row)>,
-    more: Option<Iter<'a, usize, Row>>,
+    rows: &'a [PeerRow],
 }
 
 impl<'a> Model for OfKey<'a> {
-    ghost use Rattle.std.specs.Prelude.{List, ℕ, ◌++◌};
+    ghost use Rattle.std.specs.Prelude.{List, ℕ};
     ghost use Rattle.peer_rows.specs.declared.row.Row.{Row};
-    ghost use Rattle.peer_rows.specs.Listing.{first_left, more_left};
 
     ghost Value = { List (ℕ × Row) };
 
-    ghost view = { λ rows. first_left rows.first ++ more_left rows.more };
+    ghost view = { λ rows. rows.rows.now };
 }
 
 impl<'a> OfKey<'a> {
@@ -31,20 +29,14 @@ impl<'a> OfKey<'a> {
     pub(crate) fn none() -> OfKey<'a>
         ensures { result ≡ [] }
     {
-        OfKey {
-            first: None,
-            more: None,
-        }
+        OfKey { rows: &[] }
     }
 
-    // A first row, and what comes after it.
-    pub(crate) fn new(first: (usize, &'a Row), more: Iter<'a, usize, Row>) -> OfKey<'a>
-        ensures { result ≡ peer_and_row first.entry ∷ more.entry }
+    // These rows.
+    pub(crate) fn new(rows: &'a [PeerRow]) -> OfKey<'a>
+        ensures { result ≡ rows.now }
     {
-        OfKey {
-            first: Some(first),
-            more: Some(more),
-        }
+        OfKey { rows }
     }
 }
 
@@ -56,13 +48,8 @@ impl<'a> Iterator for OfKey<'a> {
     ghost remaining = { λ rows. at_most (length rows) };
 
     fn next(&mut self) -> Option<(usize, &'a Row)> {
-        if let Some(first) = self.first.take() {
-            return Some(first);
-        }
-        let Some(more) = &mut self.more else {
-            return None;
-        };
-        let (peer, row) = more.next()?;
-        Some((*peer, row))
+        let (first, others) = self.rows.split_first()?;
+        self.rows = others;
+        Some((first.0, &first.1))
     }
 }

@@ -94,8 +94,10 @@ impl Table {
     {
         match self.keys.remove(key) {
             Some(rows) => {
+                let count = rows.len();
                 count_down(&mut self.counts, &rows);
-                rows.len()
+                drop(rows);
+                count
             }
             None => 0,
         }

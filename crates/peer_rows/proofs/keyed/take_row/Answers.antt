@@ -18,7 +18,7 @@ returns-in_ok-remove-clause-value c =
     let found : lookup (is_at (slice_cmp nat_cmp c.args.key.now)) c.args.keys.now.entries ≡ Some c.in_ok-remove.field-0 = sym c.in_ok-remove.ensures.value in
     let same : c.in_ok-get.field-0.now ≡ c.in_ok-remove.field-0 = let first = c.in_ok-get.ensures.value in cc in
     let only = rw same at (c.is_only.ensures.0 c.if-is_only.true) in
-    sym (lookup_held c.args.keys.now.entries c.args.key.now c.args.peer c.in_ok-remove.field-0 c.requires.ordered found ∙ value_last c.args.peer c.in_ok-remove.field-0 c.into_first.result only c.into_first.ensures)
+    sym (lookup_held c.args.keys.now.entries c.args.key.now c.args.peer c.in_ok-remove.field-0 c.requires.ordered found ∙ value_last c.args.peer c.in_ok-remove.field-0 only ∙ sym c.into_last.ensures)
 
 pub returns-in_ok-remove-clause-after : goal.returns-in_ok-remove-clause-after
 returns-in_ok-remove-clause-after c =

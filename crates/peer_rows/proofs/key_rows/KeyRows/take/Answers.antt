@@ -1,16 +1,17 @@
-use Rattle.std.specs.Ordering.{nat_cmp}
-use Rattle.std.specs.BTreeMap.{is_at}
-use Rattle.peer_rows.proofs.Sorted.{sorted-cons-remove_entry, sorted_others}
+use Rattle.std.proofs.Common.{◌≢◌, ◌∷◌, []}
+use Rattle.std.specs.Map.{keys_of}
+use Rattle.peer_rows.specs.Peers.{ArePeers, held_by}
+use Rattle.peer_rows.proofs.Peers.{are-taken}
 use Rattle.peer_rows.proofs.key_rows.KeyRows.take.Goals as goal
 
-pub invariant_of-self : goal.invariant_of-self
-invariant_of-self c = sorted-cons-remove_entry nat_cmp c.self.inside.peer (is_at (nat_cmp c.args.peer)) c.self.inside.more.entries _ c.remove.ensures.entries c.self.invariant
-
-pub returns-then-peer-self-clause-sorted : goal.returns-then-peer-self-clause-sorted
-returns-then-peer-self-clause-sorted c = sorted-cons-remove_entry nat_cmp c.self.inside.peer (is_at (nat_cmp c.args.peer)) c.self.inside.more.entries _ c.remove.ensures.entries c.self.invariant
-
 pub invariant_of-self-2 : goal.invariant_of-self-2
-invariant_of-self-2 c = rw c.in_ok-next.ensures.removal at (sorted_others nat_cmp c.self.inside.peer c.self.inside.more.entries c.self.invariant)
+invariant_of-self-2 c =
+    let are : ArePeers (held_by c.self.inside.peers) = c.self.invariant in
+    let several : keys_of (held_by c.self.inside.peers) ≢ c.args.peer ∷ [] = rw (← c.self.view_is) at c.requires in
+    are-taken c.args.peer c.in-Many.rows.items c.take_among.new.rows.items (rw c.in-Many.is at are) (rw c.in-Many.is at several) c.take_among.ensures.after
 
 pub returns-clause-sorted : goal.returns-clause-sorted
-returns-clause-sorted c = rw c.in_ok-next.ensures.removal at (sorted_others nat_cmp c.self.inside.peer c.self.inside.more.entries c.self.invariant)
+returns-clause-sorted c =
+    let are : ArePeers (held_by c.self.inside.peers) = c.self.invariant in
+    let several : keys_of (held_by c.self.inside.peers) ≢ c.args.peer ∷ [] = rw (← c.self.view_is) at c.requires in
+    (are-taken c.args.peer c.in-Many.rows.items c.take_among.new.rows.items (rw c.in-Many.is at are) (rw c.in-Many.is at several) c.take_among.ensures.after).sorted

@@ -21,7 +21,7 @@ returns-in-Some-clause-after c =
     rw (← c.self.view_is) (same_rows _ _ _ _ peers entries)
 
 pub returns-in-Some-clause-value : goal.returns-in-Some-clause-value
-returns-in-Some-clause-value c = rw (← c.self.view_is) (c.len.ensures ∙ sym (length-rows_of_key c.self.inside.keys.entries c.args.key.now c.in-Some.rows c.self.invariant.ordered (sym c.in-Some.ensures.value)))
+returns-in-Some-clause-value c = rw (← c.self.view_is) (c.len-count.ensures ∙ sym (length-rows_of_key c.self.inside.keys.entries c.args.key.now c.in-Some.rows c.self.invariant.ordered (sym c.in-Some.ensures.value)))
 
 pub returns-in-None-clause-after : goal.returns-in-None-clause-after
 returns-in-None-clause-after c =
