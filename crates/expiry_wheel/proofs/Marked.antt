@@ -1,9 +1,8 @@
 -- Marks of slots: what a change of one word changes, and the first mark from a slot on.
-use Rattle.std.proofs.Common.{◌≡◌, ◌≢◌, ℕ, ◌+◌, ◌-◌, ◌*◌, ◌/◌, ◌%◌, ◌<◌, ◌≤◌, List, [], ◌∷◌, length, zero, suc, refl, ap, sym, ◌∙◌, arith, inl, inr}
+use Rattle.std.proofs.Common.{◌≡◌, ◌≢◌, Bool, true, false, ℕ, ◌+◌, ◌-◌, ◌*◌, ◌/◌, ◌%◌, ◌<◌, ◌≤◌, List, [], ◌∷◌, length, zero, suc, refl, ap, sym, ◌∙◌, arith, inl, inr}
 use Rattle.std.specs.Prelude.{slice_index, slice_set}
 use Rattle.std.specs.Int.{bit_at}
-use Rattle.std.specs.List.{AllByRecursion}
-use Rattle.std.proofs.lemmas.Bool.{cases_eq, cases_lt}
+use Rattle.std.proofs.lemmas.Bool.{cases_eq, cases_lt, false≢true}
 use Rattle.std.proofs.lemmas.List.{get_or-set_same, get_or-set_other}
 use Rattle.std.proofs.lemmas.Nat.Bits.{bit_at-zero}
 use Rattle.expiry_wheel.specs.Marks.{mark_of, AreUnmarked, IsFirstMarked}
@@ -15,14 +14,21 @@ mark_at words level bit h =
     let rest : (64 * level + bit) % 64 ≡ bit = omega arith in
     ap (λ n. bit_at (slice_index words n) ((64 * level + bit) % 64)) place ∙ ap (λ n. bit_at (slice_index words level) n) rest
 
-pub zeros_unmarked : (words : List ℕ) → AllByRecursion (λ word. word ≡ 0) words → (slot : ℕ) → mark_of words slot ≡ 0
+-- whether all words are 0
+abbrev pub are_zeros : List ℕ → Bool
+are_zeros [] = true
+are_zeros (zero ∷ words) = are_zeros words
+are_zeros (suc n ∷ words) = false
+
+pub zeros_unmarked : (words : List ℕ) → are_zeros words ≡ true → (slot : ℕ) → mark_of words slot ≡ 0
 unfolding mark_of
 zeros_unmarked words h slot = ap (λ n. bit_at n (slot % 64)) (each words h (slot / 64)) ∙ bit_at-zero (slot % 64)
   where
-    each : (words : List ℕ) → AllByRecursion (λ word. word ≡ 0) words → (n : ℕ) → slice_index words n ≡ 0
+    each : (words : List ℕ) → are_zeros words ≡ true → (n : ℕ) → slice_index words n ≡ 0
     each [] h n = refl
-    each (word ∷ words) h zero = h.0
-    each (word ∷ words) h (suc n) = each words h.1 n
+    each (zero ∷ words) h zero = refl
+    each (zero ∷ words) h (suc n) = each words h n
+    each (suc word ∷ words) h n = absurd (false≢true h)
 
 module _ (words : List ℕ) (slot word : ℕ) (within : slot / 64 < length words) where
   pub mark_written : mark_of (slice_set words (slot / 64) word) slot ≡ bit_at word (slot % 64)
@@ -47,7 +53,7 @@ module _ (words : List ℕ) (level low from word : ℕ) (start : from ≡ 64 * l
       let place : slot ≡ 64 * level + (slot - 64 * level) = omega arith in
       ap (mark_of words) place ∙ mark_at words level (slot - 64 * level) (omega arith) ∙ sym (kept (slot - 64 * level) (omega arith) (omega arith))
 
-  pub found_in_word : level < 11 → (bit : ℕ) → bit < 64 → bit_at word bit ≡ 1 → ((other : ℕ) → other < bit → bit_at word other ≡ 0) → IsFirstMarked words from (64 * level + bit)
+  pub found_in_word : level < 32 → (bit : ℕ) → bit < 64 → bit_at word bit ≡ 1 → ((other : ℕ) → other < bit → bit_at word other ≡ 0) → IsFirstMarked words from (64 * level + bit)
   found_in_word h bit k one before = elim (cases_lt bit low) [
     | inl lt ↦ absurd (omega (arith, below bit lt, one))
     | inr ge ↦ record {

@@ -108,18 +108,18 @@ module _ {T : Type 0} (cmp : T → T → Ordering) (now end : ℕ) where
   slotted-append k j (x ∷ xs) ys e h l = (h.0, h.1, slotted-append (suc k) j xs ys (omega arith) h.2 l)
 
   -- entries of slots from k on, and of slots before j
-  pub from_slot : (k : ℕ) (xs : List (List (ℕ × T))) → AreSlotted cmp now end k xs → AllByRecursion (λ e. (end < e.0) × (k ≤ slot_of 10 now e.0)) (entries_in xs)
+  pub from_slot : (k : ℕ) (xs : List (List (ℕ × T))) → AreSlotted cmp now end k xs → AllByRecursion (λ e. (end < e.0) × (k ≤ slot_of 7 now e.0)) (entries_in xs)
   from_slot k [] h = tt
   from_slot k (x ∷ xs) h =
-      all-append (λ e. (end < e.0) × (k ≤ slot_of 10 now e.0)) x (entries_in xs)
-      (all-imply (λ e. (end < e.0) × (slot_of 10 now e.0 ≡ k)) (λ e. (end < e.0) × (k ≤ slot_of 10 now e.0)) (λ e p. (p.0, omega (arith, p.1))) x h.1)
-      (all-imply (λ e. (end < e.0) × (suc k ≤ slot_of 10 now e.0)) (λ e. (end < e.0) × (k ≤ slot_of 10 now e.0)) (λ e p. (p.0, omega (arith, p.1))) (entries_in xs) (from_slot (suc k) xs h.2))
+      all-append (λ e. (end < e.0) × (k ≤ slot_of 7 now e.0)) x (entries_in xs)
+      (all-imply (λ e. (end < e.0) × (slot_of 7 now e.0 ≡ k)) (λ e. (end < e.0) × (k ≤ slot_of 7 now e.0)) (λ e p. (p.0, omega (arith, p.1))) x h.1)
+      (all-imply (λ e. (end < e.0) × (suc k ≤ slot_of 7 now e.0)) (λ e. (end < e.0) × (k ≤ slot_of 7 now e.0)) (λ e p. (p.0, omega (arith, p.1))) (entries_in xs) (from_slot (suc k) xs h.2))
 
-  pub up_to_slot : (k j : ℕ) (xs : List (List (ℕ × T))) → k + length xs ≤ j → AreSlotted cmp now end k xs → AllByRecursion (λ e. (end < e.0) × (slot_of 10 now e.0 < j)) (entries_in xs)
+  pub up_to_slot : (k j : ℕ) (xs : List (List (ℕ × T))) → k + length xs ≤ j → AreSlotted cmp now end k xs → AllByRecursion (λ e. (end < e.0) × (slot_of 7 now e.0 < j)) (entries_in xs)
   up_to_slot k j [] b h = tt
   up_to_slot k j (x ∷ xs) b h =
-      all-append (λ e. (end < e.0) × (slot_of 10 now e.0 < j)) x (entries_in xs)
-      (all-imply (λ e. (end < e.0) × (slot_of 10 now e.0 ≡ k)) (λ e. (end < e.0) × (slot_of 10 now e.0 < j)) (λ e p. (p.0, omega (arith, p.1))) x h.1)
+      all-append (λ e. (end < e.0) × (slot_of 7 now e.0 < j)) x (entries_in xs)
+      (all-imply (λ e. (end < e.0) × (slot_of 7 now e.0 ≡ k)) (λ e. (end < e.0) × (slot_of 7 now e.0 < j)) (λ e p. (p.0, omega (arith, p.1))) x h.1)
       (up_to_slot (suc k) j xs (omega arith) h.2)
 
   -- all the entries of slots ascend
@@ -128,11 +128,11 @@ module _ {T : Type 0} (cmp : T → T → Ordering) (now end : ℕ) where
   sorted-entries_in c k [] h = tt
   sorted-entries_in c k (x ∷ xs) h = sorted-append (entry_cmp cmp) x (entries_in xs) h.0 (sorted-entries_in c (suc k) xs h.2) (each x h.1)
     where
-      each : (es : List (ℕ × T)) → AllByRecursion (λ e. (end < e.0) × (slot_of 10 now e.0 ≡ k)) es → AllByRecursion (λ e. AllByRecursion (λ d. entry_cmp cmp e d ≡ Less) (entries_in xs)) es
+      each : (es : List (ℕ × T)) → AllByRecursion (λ e. (end < e.0) × (slot_of 7 now e.0 ≡ k)) es → AllByRecursion (λ e. AllByRecursion (λ d. entry_cmp cmp e d ≡ Less) (entries_in xs)) es
       each [] l = tt
       each (e ∷ es) l = (
         before_moments cmp e (entries_in xs)
-            (all-imply (λ d. (end < d.0) × (suc k ≤ slot_of 10 now d.0)) (λ d. e.0 < d.0) (λ d p. earlier_slot 10 now e.0 d.0 (omega (arith, p.0)) (omega (arith, p.1, l.0.1))) (entries_in xs) (from_slot (suc k) xs h.2)),
+            (all-imply (λ d. (end < d.0) × (suc k ≤ slot_of 7 now d.0)) (λ d. e.0 < d.0) (λ d p. earlier_slot 7 now e.0 d.0 (omega (arith, p.0)) (omega (arith, p.1, l.0.1))) (entries_in xs) (from_slot (suc k) xs h.2)),
         each es l.1,
       )
 
@@ -161,7 +161,7 @@ module _ {T : Type 0} (cmp : T → T → Ordering) where
   ends_earlier : (now end earlier : ℕ) → earlier ≤ end → (k : ℕ) (xs : List (List (ℕ × T))) → AreSlotted cmp now end k xs → AreSlotted cmp now earlier k xs
   ends_earlier now end earlier le k [] h = tt
   ends_earlier now end earlier le k (x ∷ xs) h =
-      (h.0, all-imply (λ e. (end < e.0) × (slot_of 10 now e.0 ≡ k)) (λ e. (earlier < e.0) × (slot_of 10 now e.0 ≡ k)) (λ e p. (omega (arith, p.0), p.1)) x h.1, ends_earlier now end earlier le (suc k) xs h.2)
+      (h.0, all-imply (λ e. (end < e.0) × (slot_of 7 now e.0 ≡ k)) (λ e. (earlier < e.0) × (slot_of 7 now e.0 ≡ k)) (λ e p. (omega (arith, p.0), p.1)) x h.1, ends_earlier now end earlier le (suc k) xs h.2)
 
   slotted_none : (now end k : ℕ) (xs : List (List (ℕ × T))) → entries_in xs ≡ [] → AreSlotted cmp now end k xs
   unfolding IsStrictlySortedBy
@@ -169,14 +169,14 @@ module _ {T : Type 0} (cmp : T → T → Ordering) where
   slotted_none now end k ([] ∷ xs) e = (tt, tt, slotted_none now end (suc k) xs e)
   slotted_none now end k ((y ∷ ys) ∷ xs) e = cc
 
-  turns : (now end first last k : ℕ) → now ≤ first → now ≤ end → slot_of 10 now first ≡ k → slot_of 10 now last ≡ k → first ≤ last → (j : ℕ) → k < j → (xs : List (List (ℕ × T))) → AreSlotted cmp now end j xs → AreSlotted cmp first last j xs
+  turns : (now end first last k : ℕ) → now ≤ first → now ≤ end → slot_of 7 now first ≡ k → slot_of 7 now last ≡ k → first ≤ last → (j : ℕ) → k < j → (xs : List (List (ℕ × T))) → AreSlotted cmp now end j xs → AreSlotted cmp first last j xs
   turns now end first last k a b f l s j lt [] h = tt
   turns now end first last k a b f l s j lt (x ∷ xs) h = (
     h.0,
-    all-imply (λ e. (end < e.0) × (slot_of 10 now e.0 ≡ j)) (λ e. (last < e.0) × (slot_of 10 first e.0 ≡ j))
+    all-imply (λ e. (end < e.0) × (slot_of 7 now e.0 ≡ j)) (λ e. (last < e.0) × (slot_of 7 first e.0 ≡ j))
         (λ e p.
-        let beyond : last < e.0 = earlier_slot 10 now last e.0 (omega (arith, p.0)) (omega (arith, p.1)) in
-        (beyond, slots_stay 10 now first e.0 a (omega arith) (omega (arith, p.1)) ∙ p.1)) x h.1,
+        let beyond : last < e.0 = earlier_slot 7 now last e.0 (omega (arith, p.0)) (omega (arith, p.1)) in
+        (beyond, slots_stay 7 now first e.0 a (omega arith) (omega (arith, p.1)) ∙ p.1)) x h.1,
     turns now end first last k a b f l s (suc j) (omega arith) xs h.2,
   )
 
@@ -184,7 +184,7 @@ module _ {T : Type 0} (cmp : T → T → Ordering) where
 
 module _ {T : Type 0} (cmp : T → T → Ordering) (now end : ℕ) (near : List (ℕ × T)) (slots : List (List (ℕ × T))) (w : IsWheel cmp now end near slots) where
   beyond_end : AllByRecursion (λ e. end < e.0) (entries_in slots)
-  beyond_end = all-imply (λ e. (end < e.0) × (0 ≤ slot_of 10 now e.0)) (λ e. end < e.0) (λ e p. p.0) (entries_in slots) (from_slot cmp now end 0 slots w.slotted)
+  beyond_end = all-imply (λ e. (end < e.0) × (0 ≤ slot_of 7 now e.0)) (λ e. end < e.0) (λ e p. p.0) (entries_in slots) (from_slot cmp now end 0 slots w.slotted)
 
   -- the whole is in order
   pub wheel_in_order : IsInOrder cmp (near ++ entries_in slots)
@@ -228,11 +228,11 @@ module _ {T : Type 0} (cmp : T → T → Ordering) (now end : ℕ) (near : List 
   pub here_ordered : IsInOrder cmp o.here
   here_ordered = here_on.0
 
-  pub here_slotted : AllByRecursion (λ e. (end < e.0) × (slot_of 10 now e.0 ≡ k)) o.here
+  pub here_slotted : AllByRecursion (λ e. (end < e.0) × (slot_of 7 now e.0 ≡ k)) o.here
   here_slotted = here_on.1
 
   -- another set of entries for the slot
-  pub slotted_written : (other : List (ℕ × T)) → IsInOrder cmp other → AllByRecursion (λ e. (end < e.0) × (slot_of 10 now e.0 ≡ k)) other → AreSlotted cmp now end 0 (slice_set slots k other)
+  pub slotted_written : (other : List (ℕ × T)) → IsInOrder cmp other → AllByRecursion (λ e. (end < e.0) × (slot_of 7 now e.0 ≡ k)) other → AreSlotted cmp now end 0 (slice_set slots k other)
   slotted_written other h l =
       rw (o.written other) (slotted-append cmp now end 0 k o.before (other ∷ o.after) (omega (arith, o.place)) (slotted-left cmp now end 0 o.before (o.here ∷ o.after) parts) (h, l, here_on.2))
 
@@ -243,26 +243,26 @@ module _ {T : Type 0} (cmp : T → T → Ordering) (now end : ℕ) (near : List 
       same [] = omega arith
       same (s ∷ front) = omega (arith, same front)
 
-  pub wheel_written : (other : List (ℕ × T)) → IsInOrder cmp other → AllByRecursion (λ e. (end < e.0) × (slot_of 10 now e.0 ≡ k)) other → IsWheel cmp now end near (slice_set slots k other)
+  pub wheel_written : (other : List (ℕ × T)) → IsInOrder cmp other → AllByRecursion (λ e. (end < e.0) × (slot_of 7 now e.0 ≡ k)) other → IsWheel cmp now end near (slice_set slots k other)
   wheel_written other h l = record { counted = w.counted; complete = length_written other ∙ w.complete; ordered = w.ordered; until = w.until; slotted = slotted_written other h l }
 
   -- other entries for the slot, where what is near ends earlier
-  pub slotted_other : (earlier : ℕ) → earlier ≤ end → (other : List (ℕ × T)) → IsInOrder cmp other → AllByRecursion (λ e. (earlier < e.0) × (slot_of 10 now e.0 ≡ k)) other → AreSlotted cmp now earlier 0 (slice_set slots k other)
+  pub slotted_other : (earlier : ℕ) → earlier ≤ end → (other : List (ℕ × T)) → IsInOrder cmp other → AllByRecursion (λ e. (earlier < e.0) × (slot_of 7 now e.0 ≡ k)) other → AreSlotted cmp now earlier 0 (slice_set slots k other)
   slotted_other earlier le other h l =
       rw (o.written other) (slotted-append cmp now earlier 0 k o.before (other ∷ o.after) (omega (arith, o.place))
       (ends_earlier cmp now end earlier le 0 o.before (slotted-left cmp now end 0 o.before (o.here ∷ o.after) parts)) (h, l, ends_earlier cmp now end earlier le (suc k) o.after here_on.2))
 
   -- no slot before that of the last near moment holds entries
-  pub none_before_end : slot_of 10 now end ≡ k → entries_in o.before ≡ []
-  none_before_end s = none_all (λ e. (end < e.0) × (slot_of 10 now e.0 < k)) (λ e p. omega (arith, p.1, slots_rise 10 now end e.0 w.counted (omega (arith, p.0)))) (entries_in o.before)
+  pub none_before_end : slot_of 7 now end ≡ k → entries_in o.before ≡ []
+  none_before_end s = none_all (λ e. (end < e.0) × (slot_of 7 now e.0 < k)) (λ e p. omega (arith, p.1, slots_rise 7 now end e.0 w.counted (omega (arith, p.0)))) (entries_in o.before)
       (up_to_slot cmp now end 0 k o.before (omega (arith, o.place)) (slotted-left cmp now end 0 o.before (o.here ∷ o.after) parts))
 
   -- the slots as a wheel that has turned to this one sees them
   pub slotted_turned : (first last : ℕ) → SpansEntries o.here (first, last) → entries_in o.before ≡ [] → AreSlotted cmp first last 0 (slice_set slots k [])
   unfolding IsStrictlySortedBy
   slotted_turned first last spans none =
-      let first_in : (end < first) × (slot_of 10 now first ≡ k) = first_holds (λ n. (end < n) × (slot_of 10 now n ≡ k)) first o.here here_on.1 spans.first in
-      let last_in : (end < last) × (slot_of 10 now last ≡ k) = any_holds (λ n. (end < n) × (slot_of 10 now n ≡ k)) last o.here here_on.1 spans.last in
+      let first_in : (end < first) × (slot_of 7 now first ≡ k) = first_holds (λ n. (end < n) × (slot_of 7 now n ≡ k)) first o.here here_on.1 spans.first in
+      let last_in : (end < last) × (slot_of 7 now last ≡ k) = any_holds (λ n. (end < n) × (slot_of 7 now n ≡ k)) last o.here here_on.1 spans.last in
       rw (o.written []) (slotted-append cmp first last 0 k o.before ([] ∷ o.after) (omega (arith, o.place))
       (slotted_none cmp first last 0 o.before none)
       (tt, tt, turns cmp now end first last k (omega (arith, first_in.0, w.counted)) (omega (arith, w.counted)) first_in.1 last_in.1 (first_holds (λ n. n ≤ last) first o.here spans.bound spans.first) (suc k) (omega arith) o.after here_on.2))
@@ -277,7 +277,7 @@ module _ {T : Type 0} (cmp : T → T → Ordering) (now end : ℕ) (near : List 
   put_back : (other : List (ℕ × T)) → (near ++ entries_in o.before) ++ (other ++ entries_in o.after) ≡ near ++ entries_in (slice_set slots k other)
   put_back other = sym (shape other) ∙ ap (λ l. near ++ entries_in l) (sym (o.written other))
 
-  module _ (at : ℕ) (x : T) (h : end < at) (s : slot_of 10 now at ≡ k) where
+  module _ (at : ℕ) (x : T) (h : end < at) (s : slot_of 7 now at ≡ k) where
     now_before : now ≤ at
     now_before = omega (arith, w.counted)
 
@@ -285,12 +285,12 @@ module _ {T : Type 0} (cmp : T → T → Ordering) (now end : ℕ) (near : List 
     earlier_all = after_moments cmp (at, x) (near ++ entries_in o.before)
         (all-append (λ e. e.0 < at) near (entries_in o.before)
         (all-imply (λ e. e.0 ≤ end) (λ e. e.0 < at) (λ e p. omega (arith, p)) near w.until)
-        (all-imply (λ e. (end < e.0) × (slot_of 10 now e.0 < k)) (λ e. e.0 < at) (λ e p. earlier_slot 10 now e.0 at now_before (omega (arith, p.1, s))) (entries_in o.before)
+        (all-imply (λ e. (end < e.0) × (slot_of 7 now e.0 < k)) (λ e. e.0 < at) (λ e p. earlier_slot 7 now e.0 at now_before (omega (arith, p.1, s))) (entries_in o.before)
         (up_to_slot cmp now end 0 k o.before (omega (arith, o.place)) (slotted-left cmp now end 0 o.before (o.here ∷ o.after) parts))))
 
     later_all : AllByRecursion (λ e. entry_cmp cmp (at, x) e ≡ Less) (entries_in o.after)
     later_all = before_moments cmp (at, x) (entries_in o.after)
-        (all-imply (λ e. (end < e.0) × (suc k ≤ slot_of 10 now e.0)) (λ e. at < e.0) (λ e p. earlier_slot 10 now at e.0 (omega (arith, p.0, w.counted)) (omega (arith, p.1, s))) (entries_in o.after)
+        (all-imply (λ e. (end < e.0) × (suc k ≤ slot_of 7 now e.0)) (λ e. at < e.0) (λ e p. earlier_slot 7 now at e.0 (omega (arith, p.0, w.counted)) (omega (arith, p.1, s))) (entries_in o.after)
         (from_slot cmp now end (suc k) o.after here_on.2))
 
     pub with_slot : with_entry cmp (near ++ entries_in slots) (at, x) ≡ near ++ entries_in (slice_set slots k (with_entry cmp o.here (at, x)))
@@ -391,7 +391,7 @@ module _ {T : Type 0} where
   no_entries [] h = refl
   no_entries (s ∷ slots) h = ap (λ l. l ++ entries_in slots) h.0 ∙ no_entries slots h.1
 
-pub empty_wheel : {T : Type 0} (cmp : T → T → Ordering) (now : ℕ) (near : List (ℕ × T)) (slots : List (List (ℕ × T))) → near ≡ [] → length slots ≡ 704 → entries_in slots ≡ [] → IsWheel cmp now now near slots
+pub empty_wheel : {T : Type 0} (cmp : T → T → Ordering) (now : ℕ) (near : List (ℕ × T)) (slots : List (List (ℕ × T))) → near ≡ [] → length slots ≡ 2048 → entries_in slots ≡ [] → IsWheel cmp now now near slots
 unfolding IsStrictlySortedBy
 empty_wheel cmp now near slots e count none =
     subst (λ l. IsWheel cmp now now l slots) (sym e)
@@ -426,7 +426,7 @@ module _ {T : Type 0} where
 
   -- as the marks say
   module _ (words : List ℕ) (slots : List (List (ℕ × T))) (m : AreMarked words slots) (from : ℕ) where
-    pub none_held : AreUnmarked words from 704 → entries_in (drop from slots) ≡ []
+    pub none_held : AreUnmarked words from 2048 → entries_in (drop from slots) ≡ []
     none_held none = none_from slots from (λ k h l. (m.exact k).0 (none k h (omega (arith, m.complete))))
 
     pub first_held : (k : ℕ) → IsFirstMarked words from k → IsFirstOccupied slots from k
@@ -438,7 +438,7 @@ module _ {T : Type 0} where
     }
 
 -- what a mark that is set keeps
-pub marked_there : {X : Type 0} (words new : List ℕ) (slots : List (List X)) (slot : ℕ) (items : List X) → AreMarked words slots → slot < 704 → mark_of new slot ≡ 1 → ((other : ℕ) → other ≢ slot → mark_of new other ≡ mark_of words other) → 0 < length items → AreMarked new (slice_set slots slot items)
+pub marked_there : {X : Type 0} (words new : List ℕ) (slots : List (List X)) (slot : ℕ) (items : List X) → AreMarked words slots → slot < 2048 → mark_of new slot ≡ 1 → ((other : ℕ) → other ≢ slot → mark_of new other ≡ mark_of words other) → 0 < length items → AreMarked new (slice_set slots slot items)
 marked_there words new slots slot items m within one others some = record {
   complete = length-set slots slot items ∙ m.complete;
   exact = λ k. elim (cases_eq k slot) [

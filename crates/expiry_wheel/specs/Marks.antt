@@ -13,11 +13,11 @@ AreUnmarked words from until = (slot : ℕ) → from ≤ slot → slot < until �
 -- the first marked slot from one on
 pub record IsFirstMarked (words : List ℕ) (from slot : ℕ) : Type 0 where
   pub since : from ≤ slot
-  pub within : slot < 704
+  pub within : slot < 2048
   pub marked : mark_of words slot ≡ 1
   pub none_before : AreUnmarked words from slot
 
--- there are 704 slots, and exactly those that hold something are marked
+-- there are 2048 slots, and exactly those that hold something are marked
 pub record AreMarked {X : Type 0} (words : List ℕ) (slots : List (List X)) : Type 0 where
-  pub complete : length slots ≡ 704
+  pub complete : length slots ≡ 2048
   pub exact : (slot : ℕ) → (mark_of words slot ≡ 0) ↔ (slice_index_or slots slot [] ≡ [])

@@ -2,23 +2,24 @@ ghost use Rattle.std.specs.Prelude.{◌≡◌, ◌≢◌, ℕ, ◌<◌, ◌≤�
 ghost use Rattle.std.specs.Int.{bit_at};
 ghost use Rattle.expiry_wheel.specs.Marks.{mark_of, AreUnmarked, IsFirstMarked};
 
-use crate::slots::LEVELS;
+// How many words there are, a bit for each slot.
+const WORDS: usize = 32;
 
-// A mark for each slot of a wheel, the 64 of a level in one word.
+// A mark for each slot of a wheel, 64 in a word.
 #[derive(Clone, Copy, Debug, Drop)]
 pub(crate) struct Marks {
-    words: [u64; LEVELS],
+    words: [u64; WORDS],
 }
 
 impl Marks {
     pub(crate) fn none() -> Marks
         ensures { (slot : ℕ) → mark_of result.words slot ≡ 0 }
     {
-        Marks { words: [0; LEVELS] }
+        Marks { words: [0; WORDS] }
     }
 
     pub(crate) fn set(&mut self, slot: usize)
-        requires { slot < 704 }
+        requires { slot < 2048 }
         ensures here { mark_of self.new.words slot ≡ 1 }
         ensures others { (other : ℕ) → other ≢ slot → mark_of self.new.words other ≡ mark_of self.old.words other }
     {
@@ -27,7 +28,7 @@ impl Marks {
     }
 
     pub(crate) fn clear(&mut self, slot: usize)
-        requires { slot < 704 }
+        requires { slot < 2048 }
         ensures here { mark_of self.new.words slot ≡ 0 }
         ensures others { (other : ℕ) → other ≢ slot → mark_of self.new.words other ≡ mark_of self.old.words other }
     {
@@ -37,28 +38,28 @@ impl Marks {
 
     // The first marked slot of those from one on.
     pub(crate) fn first_from(&self, from: usize) -> Option<usize>
-        requires { from ≤ 704 }
-        ensures none { IfNone result (AreUnmarked self.now.words from 704) }
+        requires { from ≤ 2048 }
+        ensures none { IfNone result (AreUnmarked self.now.words from 2048) }
         ensures some { IfSome result (IsFirstMarked self.now.words from) }
     {
-        let level = from / 64;
-        if level == LEVELS {
+        let word = from / 64;
+        if word == WORDS {
             return None;
         }
-        match lowest_bit(bits_from(self.words[level], from % 64)) {
-            Some(bit) => Some(64 * level + bit),
-            None => self.first_from_level(level + 1),
+        match lowest_bit(bits_from(self.words[word], from % 64)) {
+            Some(bit) => Some(64 * word + bit),
+            None => self.first_from_word(word + 1),
         }
     }
 
-    fn first_from_level(&self, from: usize) -> Option<usize>
-        requires { from ≤ 11 }
-        ensures none { IfNone result (AreUnmarked self.now.words (64 * from) 704) }
+    fn first_from_word(&self, from: usize) -> Option<usize>
+        requires { from ≤ 32 }
+        ensures none { IfNone result (AreUnmarked self.now.words (64 * from) 2048) }
         ensures some { IfSome result (IsFirstMarked self.now.words (64 * from)) }
     {
-        for level in from..LEVELS {
-            if let Some(bit) = lowest_bit(self.words[level]) {
-                return Some(64 * level + bit);
+        for word in from..WORDS {
+            if let Some(bit) = lowest_bit(self.words[word]) {
+                return Some(64 * word + bit);
             }
         }
         None

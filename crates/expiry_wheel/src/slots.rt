@@ -11,10 +11,10 @@ use std::alloc::Global;
 use std::marker::Model;
 use std::mem;
 
-// Levels of 64 slots for every `u64` moment: 64 ^ 11 is above 2 ^ 64.
-pub(crate) const LEVELS: usize = 11;
+// Levels of 256 slots for every `u64` moment: 256 ^ 8 is 2 ^ 64.
+pub(crate) const LEVELS: usize = 8;
 
-const SLOTS: usize = 64 * LEVELS;
+const SLOTS: usize = 256 * LEVELS;
 
 // The slots of a wheel, which contracts see as the list of their entries.
 #[derive(Drop)]
@@ -40,7 +40,7 @@ impl<T: Ord> Model for Slots<T> {
 
 impl<T: Ord + Drop> Slots<T> {
     pub(crate) fn new(alloc: Global) -> Result<Slots<T>, NoMemory>
-        ensures complete { IfOk result (λ slots. length slots ≡ 704) }
+        ensures complete { IfOk result (λ slots. length slots ≡ 2048) }
         ensures none { IfOk result (λ slots. entries_in slots ≡ []) }
     {
         let mut each = Vec::new(alloc);
@@ -54,14 +54,14 @@ impl<T: Ord + Drop> Slots<T> {
     }
 
     pub(crate) fn slot(&self, slot: usize) -> &OrderedDue<T>
-        requires { slot < 704 }
+        requires { slot < 2048 }
         ensures { result.now ≡ slice_index_or self.now slot [] }
     {
         &self.each[slot]
     }
 
     pub(crate) fn plan(&mut self, slot: usize, at: u64, item: T) -> Result<(), NoMemory>
-        requires { slot < 704 }
+        requires { slot < 2048 }
         ensures ok { OnOk result (self.new ≡ slice_set self.old slot (with_entry T.cmp (slice_index_or self.old slot []) (at, item))) }
         ensures err { OnErr result (self.new ≡ self.old) }
     {
@@ -71,7 +71,7 @@ impl<T: Ord + Drop> Slots<T> {
     }
 
     pub(crate) fn cancel(&mut self, slot: usize, at: u64, item: &T) -> bool
-        requires { slot < 704 }
+        requires { slot < 2048 }
         ensures found { result ≡ has_entry T.cmp (slice_index_or self.old slot []) (at, item.now) }
         ensures removed { self.new ≡ slice_set self.old slot (without_entry T.cmp (slice_index_or self.old slot []) (at, item.now)) }
     {
@@ -84,7 +84,7 @@ impl<T: Ord + Drop> Slots<T> {
 
     // Exchanges the entries of a slot for others.
     pub(crate) fn swap(&mut self, slot: usize, entries: &mut OrderedDue<T>)
-        requires { slot < 704 }
+        requires { slot < 2048 }
         ensures put { self.new ≡ slice_set self.old slot entries.old }
         ensures taken { entries.new ≡ slice_index_or self.old slot [] }
     {
@@ -98,7 +98,7 @@ impl<T: Ord + Drop> Slots<T> {
 
     // The first slot with entries of those from one on.
     pub(crate) fn first_occupied(&self, from: usize) -> Option<usize>
-        requires { from ≤ 704 }
+        requires { from ≤ 2048 }
         ensures { MatchOption result (entries_in (drop from self.now) ≡ []) (IsFirstOccupied self.now from) }
     {
         self.marks.first_from(from)
@@ -106,7 +106,7 @@ impl<T: Ord + Drop> Slots<T> {
 
     // The first entry of the slots from one on.
     pub(crate) fn first_from(&self, from: usize) -> Option<(u64, &T)>
-        requires { from ≤ 704 }
+        requires { from ≤ 2048 }
         ensures { option_map lent_entry result ≡ first_entry (entries_in (drop from self.now)) }
     {
         let slot = self.first_occupied(from)?;

@@ -67,14 +67,14 @@ fn both_kinds_give_the_least_first(rt: HostRuntime) -> Result<(), Fail> {
 #[test]
 fn a_wheel_crosses_its_levels(rt: HostRuntime) -> Result<(), Fail> {
     let mut wheel = new_wheel(rt.alloc(), 0)?;
-    for (item, at) in [0, 63, 64, 4095, 4096, 1 << 62].into_iter().enumerate() {
+    for (item, at) in [0, 255, 256, 65_535, 65_536, 1 << 62].into_iter().enumerate() {
         plan_through(&rt, &mut wheel, at, item as u32)?;
     }
-    for due in [Some((0, 0)), Some((63, 1)), Some((64, 2)), None] {
-        assert_eq!(rt; wheel.take_due(64), due);
+    for due in [Some((0, 0)), Some((255, 1)), Some((256, 2)), None] {
+        assert_eq!(rt; wheel.take_due(256), due);
     }
-    assert_eq!(rt; wheel.next_at(), Some(4095));
-    for due in [Some((4095, 3)), Some((4096, 4)), Some((1 << 62, 5)), None] {
+    assert_eq!(rt; wheel.next_at(), Some(65_535));
+    for due in [Some((65_535, 3)), Some((65_536, 4)), Some((1 << 62, 5)), None] {
         assert_eq!(rt; wheel.take_due(u64::MAX), due);
     }
     Ok(())
@@ -90,7 +90,7 @@ fn both_kinds_give_the_same_answers(rt: HostRuntime) -> Result<(), Fail> {
         seed = seed
             .wrapping_mul(6_364_136_223_846_793_005)
             .wrapping_add(1_442_695_040_888_963_407);
-        let reach = [3, 63, 4095, 262_143, u64::MAX][((seed >> 20) % 5) as usize];
+        let reach = [3, 255, 65_535, 16_777_215, u64::MAX][((seed >> 20) % 5) as usize];
         let at = clock.wrapping_add((seed >> 24) & reach).wrapping_sub(2);
         let item = ((seed >> 33) % 4) as u32;
         match (seed >> 40) % 8 {

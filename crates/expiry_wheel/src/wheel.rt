@@ -7,12 +7,12 @@ use agg_types::NoMemory;
 use std::alloc::Global;
 use std::marker::Model;
 
-/// A due index kept as a wheel: levels of 64 slots, each with the entries of its own moments.
+/// A due index kept as a wheel: levels of 256 slots, each with the entries of its own moments.
 ///
 /// The wheel counts from a moment `now`. The entries up to its `near_end` stand together, and each
-/// later one in the slot that its moment has: the level is the highest digit, in base 64, in which
+/// later one in the slot that its moment has: the level is the highest digit, in base 256, in which
 /// the moment differs from `now`, and the slot that digit. So a slot of the lowest level is one
-/// moment, and a slot of any other is 64 times as long as one of the level below.
+/// moment, and a slot of any other is 256 times as long as one of the level below.
 ///
 /// When nothing near is left, the first slot with entries is taken near as it is. While many moments
 /// are near, each `plan` moves one more part of them back to a slot of its own; where memory for
@@ -136,38 +136,38 @@ impl<T: Ord + Drop> DueIndex<T> for Wheel<T> {
 
 // The slot of a moment on a wheel that counts from `now`.
 fn slot_at(now: u64, at: u64) -> usize
-    ensures slot { result ≡ slot_of 10 now at }
-    ensures within { result < 704 }
+    ensures slot { result ≡ slot_of 7 now at }
+    ensures within { result < 2048 }
 {
     slot_below(LEVELS - 1, now, at)
 }
 
 fn slot_below(levels: usize, now: u64, at: u64) -> usize
-    requires few { levels ≤ 10 }
-    requires fits { at < 64 ^ (levels + 1) }
+    requires few { levels ≤ 7 }
+    requires fits { at < 256 ^ (levels + 1) }
     ensures slot { result ≡ slot_of levels now at }
-    ensures within { result < 64 * (levels + 1) }
+    ensures within { result < 256 * (levels + 1) }
 {
     if levels == 0 {
         at as usize
-    } else if at / 64 == now / 64 {
-        (at % 64) as usize
+    } else if at / 256 == now / 256 {
+        (at % 256) as usize
     } else {
-        64 + slot_below(levels - 1, now / 64, at / 64)
+        256 + slot_below(levels - 1, now / 256, at / 256)
     }
 }
 
 // The first moment after `now` with the slot of `at`.
 fn slot_start(levels: usize, now: u64, at: u64) -> u64
-    requires { levels ≤ 10 }
+    requires { levels ≤ 7 }
     ensures start { result ≡ start_of levels now at }
     ensures up_to { result ≤ at }
 {
     if levels == 0 {
         at
-    } else if at / 64 == now / 64 {
+    } else if at / 256 == now / 256 {
         at
     } else {
-        64 * slot_start(levels - 1, now / 64, at / 64)
+        256 * slot_start(levels - 1, now / 256, at / 256)
     }
 }

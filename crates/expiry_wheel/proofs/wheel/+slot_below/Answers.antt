@@ -9,4 +9,4 @@ pub returns-then-at-now-clause-slot : goal.returns-then-at-now-clause-slot
 returns-then-at-now-clause-slot t c = sym (slot_here c.args.levels c.args.now c.args.at (omega arith) (omega arith))
 
 pub returns-else-at-now-clause-slot : goal.returns-else-at-now-clause-slot
-returns-else-at-now-clause-slot t c = ap (λ s. 64 + s) c.slot_below.ensures.slot ∙ sym (slot_beyond c.args.levels c.args.now c.args.at (omega arith) (λ e. omega arith))
+returns-else-at-now-clause-slot t c = ap (λ s. 256 + s) c.slot_below.ensures.slot ∙ sym (slot_beyond c.args.levels c.args.now c.args.at (omega arith) (λ e. omega arith))

@@ -9,4 +9,4 @@ pub returns-then-at-now-clause-start : goal.returns-then-at-now-clause-start
 returns-then-at-now-clause-start t c = sym (start_here c.args.levels c.args.now c.args.at (omega arith))
 
 pub returns-else-at-now-clause-start : goal.returns-else-at-now-clause-start
-returns-else-at-now-clause-start t c = ap (λ s. 64 * s) c.slot_start.ensures.start ∙ sym (start_beyond c.args.levels c.args.now c.args.at (omega arith) (λ e. omega arith))
+returns-else-at-now-clause-start t c = ap (λ s. 256 * s) c.slot_start.ensures.start ∙ sym (start_beyond c.args.levels c.args.now c.args.at (omega arith) (λ e. omega arith))

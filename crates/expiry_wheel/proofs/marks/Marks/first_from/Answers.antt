@@ -14,11 +14,11 @@ returns-in-None-clause-none c =
     let words = c.args.self.now.words in
     let from = c.args.from in
     let here : AreUnmarked words from (64 * (from / 64 + 1)) = none_in_word words (from / 64) (from % 64) from c.bits_from.result (omega arith) c.bits_from.ensures.below c.bits_from.ensures.from c.in-None.ensures.none in
-    if_none c.first_from_level.result c.first_from_level.ensures.none (unmarked_on words from (64 * (from / 64 + 1)) here 704)
+    if_none c.first_from_word.result c.first_from_word.ensures.none (unmarked_on words from (64 * (from / 64 + 1)) here 2048)
 
 pub returns-in-None-clause-some : goal.returns-in-None-clause-some
 returns-in-None-clause-some c =
     let words = c.args.self.now.words in
     let from = c.args.from in
     let here : AreUnmarked words from (64 * (from / 64 + 1)) = none_in_word words (from / 64) (from % 64) from c.bits_from.result (omega arith) c.bits_from.ensures.below c.bits_from.ensures.from c.in-None.ensures.none in
-    if_some c.first_from_level.result c.first_from_level.ensures.some (first_further words from (64 * (from / 64 + 1)) here (omega arith))
+    if_some c.first_from_word.result c.first_from_word.ensures.some (first_further words from (64 * (from / 64 + 1)) here (omega arith))

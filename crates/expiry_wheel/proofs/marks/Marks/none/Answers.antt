@@ -3,4 +3,4 @@ use Rattle.expiry_wheel.proofs.Marked.{zeros_unmarked}
 use Rattle.expiry_wheel.proofs.marks.Marks.none.Goals as goal
 
 pub returns : goal.returns
-returns c = zeros_unmarked _ (refl, (refl, (refl, (refl, (refl, (refl, (refl, (refl, (refl, (refl, (refl, tt)))))))))))
+returns c = zeros_unmarked _ refl

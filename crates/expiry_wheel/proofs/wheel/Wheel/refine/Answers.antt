@@ -10,7 +10,7 @@ use Rattle.expiry_wheel.proofs.wheel.Wheel.refine.Given as given
 use Rattle.expiry_wheel.proofs.wheel.Wheel.refine.Goals as goal
 
 pub overflow_sub-self : goal.overflow_sub-self
-overflow_sub-self g c = omega (arith, c.slot_start-start.ensures.start, start_after 10 c.self.inside.now c.self.inside.near_end (omega arith))
+overflow_sub-self g c = omega (arith, c.slot_start-start.ensures.start, start_after 7 c.self.inside.now c.self.inside.near_end (omega arith))
 
 -- the slot that the code fills, which is empty
 slot_here : (g : given.Over) (c : goal.After-drop-part-inside g) → Opened c.self.inside.slots c.slot_at-slot.result
@@ -30,12 +30,12 @@ invariant_of-self g c =
     let part = c.in-Ok.part in
     let near = c.split_off.new.self in
     let split : i.near ≡ near ++ part = c.in-Ok.ensures.parts in
-    let from_now : i.now < start = omega (arith, c.slot_start-start.ensures.start, start_after 10 i.now i.near_end (omega arith)) in
+    let from_now : i.now < start = omega (arith, c.slot_start-start.ensures.start, start_after 7 i.now i.near_end (omega arith)) in
     let sorted : IsInOrder cmp (near ++ part) = subst (IsInOrder cmp) split w.ordered in
     let bounded : AllByRecursion (λ e. e.0 ≤ i.near_end) part = all-right (λ e. e.0 ≤ i.near_end) near part (subst (AllByRecursion (λ e. e.0 ≤ i.near_end)) split w.until) in
-    let slotted : AllByRecursion (λ e. (start - 1 < e.0) × (slot_of 10 i.now e.0 ≡ k)) part =
-    all_both (λ e. start ≤ e.0) (λ e. e.0 ≤ i.near_end) (λ e. (start - 1 < e.0) × (slot_of 10 i.now e.0 ≡ k))
-    (λ e p q. (omega (arith, p), slot_from_start 10 i.now i.near_end e.0 (omega arith) (omega (arith, p, c.slot_start-start.ensures.start)) q ∙ sym c.slot_at-slot.ensures.slot))
+    let slotted : AllByRecursion (λ e. (start - 1 < e.0) × (slot_of 7 i.now e.0 ≡ k)) part =
+    all_both (λ e. start ≤ e.0) (λ e. e.0 ≤ i.near_end) (λ e. (start - 1 < e.0) × (slot_of 7 i.now e.0 ≡ k))
+    (λ e p q. (omega (arith, p), slot_from_start 7 i.now i.near_end e.0 (omega arith) (omega (arith, p, c.slot_start-start.ensures.start)) q ∙ sym c.slot_at-slot.ensures.slot))
     part c.in-Ok.ensures.after bounded in
     let wheel : IsWheel cmp i.now (start - 1) near (slice_set i.slots k part) = record {
       counted = omega arith;

@@ -52,7 +52,7 @@ invariant_of-self-else-at-self g c =
     subst (IsWheel cmp i.now i.near_end i.near) (sym (left g c))
     (wheel_written cmp i.now i.near_end i.near i.slots w k o (without_entry cmp o.here (c.args.at, c.args.item.now))
     (sorted-remove_key test (entry_cmp cmp) o.here (here_ordered cmp i.now i.near_end i.near i.slots w k o))
-    (all-remove_key test (λ e. (i.near_end < e.0) × (slot_of 10 i.now e.0 ≡ k)) o.here (here_slotted cmp i.now i.near_end i.near i.slots w k o)))
+    (all-remove_key test (λ e. (i.near_end < e.0) × (slot_of 7 i.now e.0 ≡ k)) o.here (here_slotted cmp i.now i.near_end i.near i.slots w k o)))
 
 pub returns-else-at-self-clause-found : goal.returns-else-at-self-clause-found
 returns-else-at-self-clause-found g c =

@@ -51,7 +51,7 @@ invariant_of-self-else-at-self g c =
     let kept : IsWheel cmp i.now i.near_end i.near (slice_set i.slots k (with_entry cmp o.here (c.args.at, c.args.item))) =
     wheel_written cmp i.now i.near_end i.near i.slots w k o (with_entry cmp o.here (c.args.at, c.args.item))
     (sorted-insert_key (entry_cmp cmp) (entries_total cmp g.met.T.Ord.total) o.here (c.args.at, c.args.item) (here_ordered cmp i.now i.near_end i.near i.slots w k o))
-    (all-insert_key (entry_cmp cmp) (λ e. (i.near_end < e.0) × (slot_of 10 i.now e.0 ≡ k)) o.here (c.args.at, c.args.item) (here_slotted cmp i.now i.near_end i.near i.slots w k o) (c.if-at-self.false, sym c.slot_at-slot.ensures.slot)) in
+    (all-insert_key (entry_cmp cmp) (λ e. (i.near_end < e.0) × (slot_of 7 i.now e.0 ≡ k)) o.here (c.args.at, c.args.item) (here_slotted cmp i.now i.near_end i.near i.slots w k o) (c.if-at-self.false, sym c.slot_at-slot.ensures.slot)) in
     either_way c.plan-else-at-self.result c.plan-else-at-self.ensures.ok c.plan-else-at-self.ensures.err
     (λ e. subst (IsWheel cmp i.now i.near_end i.near) (sym (e ∙ put g c)) kept)
     (λ e. subst (IsWheel cmp i.now i.near_end i.near) (sym e) w)
