@@ -1,6 +1,7 @@
 pub mod Check
 pub mod Col
 pub mod Fits
+pub mod Key
 pub mod Name
 pub mod Op
 pub mod Place

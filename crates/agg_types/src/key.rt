@@ -5,19 +5,28 @@ ghost use Rattle.std.specs.Cmp.Rules.{comparing};
 ghost use Rattle.std.specs.Cmp.Lexicographic.{slice_cmp};
 ghost use Rattle.std.specs.Ordering.{nat_cmp, as_partial_cmp, eq_by_cmp};
 
-use crate::NoMemory;
-use smallvec::SmallVec;
+use crate::short_key::{SHORT, ShortKey};
+use crate::{Items, NoMemory};
 use std::alloc::Global;
 use std::cmp::Ordering;
+use std::fmt;
 use std::marker::Model;
 
 /// A key of a stick table: its bytes, as the peers protocol sends them.
 ///
 /// Keys are ordered by their bytes, a prefix before what it begins. A key of up to 16 bytes lies in
-/// the value itself and takes no memory beside it.
-#[derive(Debug, Drop)]
+/// the value itself and takes no memory beside it; a longer one lies in a block.
+#[derive(Drop)]
 pub struct Key {
-    bytes: SmallVec<u8, 16>,
+    form: Form,
+}
+
+const _: () = prove!(size_of::<Key>() == 24);
+
+#[derive(Drop)]
+enum Form {
+    Short(ShortKey),
+    Long(Box<Items<u8>>),
 }
 
 impl Model for Key {
@@ -25,7 +34,9 @@ impl Model for Key {
 
     ghost Value = { List ℕ };
 
-    ghost view = { λ key. key.bytes.items };
+    ghost use Rattle.agg_types.specs.Key.{form_bytes};
+
+    ghost view = { λ key. form_bytes key.form };
 }
 
 impl Key {
@@ -34,7 +45,7 @@ impl Key {
         ensures { IfOk result (λ key. key ≡ bytes.now) }
     {
         Ok(Key {
-            bytes: SmallVec::from_slice(alloc, bytes)?,
+            form: Form::copy(alloc, bytes)?,
         })
     }
 
@@ -46,10 +57,33 @@ impl Key {
     }
 
     /// The key's bytes.
+    #[inline]
     pub fn as_slice(&self) -> &[u8]
         ensures { result.now ≡ self.now }
     {
-        self.bytes.as_slice()
+        match &self.form {
+            Form::Short(key) => key.as_slice(),
+            Form::Long(bytes) => bytes.as_slice(),
+        }
+    }
+}
+
+impl Form {
+    ghost use Rattle.agg_types.specs.Key.{form_bytes};
+
+    fn copy(alloc: Global, bytes: &[u8]) -> Result<Form, NoMemory>
+        ensures { IfOk result (λ form. form_bytes form ≡ bytes.now) }
+    {
+        if bytes.len() <= SHORT {
+            return Ok(Form::Short(ShortKey::copy(bytes)));
+        }
+        Ok(Form::Long(Box::new(alloc, Items::copy(alloc, bytes)?)?))
+    }
+}
+
+impl fmt::Debug for Key {
+    fn fmt<W: fmt::Write>(&self, f: &mut fmt::Formatter<W>) -> fmt::Result {
+        f.debug_tuple("Key").field(&self.as_slice()).finish()
     }
 }
 
@@ -59,7 +93,10 @@ impl PartialEq for Key {
     ghost laws = { Prim.search (comparing, rules) };
 
     fn eq(&self, other: &Key) -> bool {
-        self.cmp(other) == Ordering::Equal
+        match (&self.form, &other.form) {
+            (Form::Short(own), Form::Short(others)) => own.is(others),
+            _ => self.as_slice() == other.as_slice(),
+        }
     }
 }
 
@@ -87,6 +124,9 @@ impl Ord for Key {
     ghost matches_eq = { Prim.search (comparing, rules) };
 
     fn cmp(&self, other: &Key) -> Ordering {
-        self.as_slice().cmp(&other.as_slice())
+        match (&self.form, &other.form) {
+            (Form::Short(own), Form::Short(others)) => own.order(others),
+            _ => self.as_slice().cmp(&other.as_slice()),
+        }
     }
 }

@@ -13,6 +13,7 @@ mod key;
 mod name;
 mod no_memory;
 mod place;
+mod short_key;
 
 pub use check::{ConfigFault, MOST_FILTERS, MOST_PEERS, MOST_RANKS, MOST_TABLES};
 pub use column::Col;
