@@ -1,2 +1,3 @@
 pub mod Share
 pub mod Rate
+pub mod Words

@@ -1,6 +1,9 @@
 ghost use Rattle.std.specs.Prelude.{◌≡◌, ℕ, ◌+◌, ◌-◌, ◌*◌, ◌^◌, ◌<◌, ◌≤◌};
 ghost use Rattle.period_rate.specs.Share.{rate, while_running, once_ended};
 
+// How many numbers a word has.
+const WORD: u64 = 1 << 32;
+
 /// How many events fell into one period's length, as time goes on with no further event.
 ///
 /// A rate knows the events of its current period, of the period before, and the first moment at
@@ -16,6 +19,7 @@ pub struct Rate {
 
 impl Rate {
     ghost use Rattle.period_rate.specs.Rate.{arrived, value_at, zero_moment};
+    ghost use Rattle.period_rate.specs.Words.{rate_of};
 
     /// The rate that a message of moment `now` tells of: `elapsed` ms of the current period had
     /// passed, with `cur` events in it so far and `prev` in the period before.
@@ -53,6 +57,29 @@ impl Rate {
         ensures { result ≡ zero_moment self.now }
     {
         self.zero_at
+    }
+
+    /// The rate as five words, from which `from_words` makes the same rate.
+    pub fn to_words(&self) -> [u32; 5]
+        ensures { rate_of result ≡ self.now }
+    {
+        let low = (self.zero_at % WORD) as u32;
+        let high = (self.zero_at / WORD) as u32;
+        [self.period, low, high, self.cur, self.prev]
+    }
+
+    /// The rate of five words, as `to_words` gives them.
+    pub fn from_words(words: [u32; 5]) -> Rate
+        ensures { result ≡ rate_of words }
+    {
+        let [period, low, high, cur, prev] = words;
+        let zero_at = u64::from(low) + WORD * u64::from(high);
+        Rate {
+            period,
+            zero_at,
+            cur,
+            prev,
+        }
     }
 }
 
@@ -134,6 +161,9 @@ mod tests {
             assert_eq!(rt; rate.at(t), events, "at {t}");
         }
         assert_eq!(rt; late.zero_at(), 1508);
+        let far = Rate::arrive(1, 0, 2, 3, (1 << 33) + 5);
+        assert_eq!(rt; far.to_words(), [1, 8, 2, 2, 3]);
+        assert_eq!(rt; Rate::from_words(far.to_words()), far);
         assert_eq!(rt; Rate::arrive(1000, 9000, 3, 1, 7).zero_at(), 0);
     }
 }
