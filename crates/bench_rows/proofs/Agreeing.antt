@@ -17,7 +17,8 @@ use Rattle.peer_rows.proofs.Sorted.{equal_itself, sorted-insert_entry}
 use Rattle.peer_rows.proofs.Selecting.{remove_entry-missing}
 use Rattle.peer_rows.proofs.Placing.{place_cmp_total}
 use Rattle.fleet_sums.specs.Sums.{SumMap, table_key_cmp, sums_of, HasRow, CanDrop, added, dropped}
-use Rattle.fleet_sums.specs.Totals.{KeyTotals, no_sums, with_row, without_row, counted_at}
+use Rattle.peer_rows.specs.Counted.{counted_at}
+use Rattle.fleet_sums.specs.Totals.{KeyTotals, no_sums, with_row, without_row}
 use Rattle.fleet_sums.proofs.Histories.{table_key_cmp_total, lookup-insert_entry, lookup-put_or_take, sorted-put_or_take}
 use Rattle.bench_rows.specs.Agree.{AreCells, held, summed, AreOfRow, Agree}
 

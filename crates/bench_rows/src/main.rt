@@ -2,9 +2,10 @@
 //! long it took, and in how much memory, to standard error.
 //!
 //! Arguments: how many rows or planned moments there are, and which part is measured alone (`rows`,
-//! `peers`, `ordered` or `wheel`), since memory is only right for what runs first.
+//! `sums`, `peers`, `ordered` or `wheel`), since memory is only right for what runs first.
 #![tactic(auto)]
 
+mod counted;
 mod due;
 mod fleet;
 mod measure;
@@ -32,6 +33,9 @@ fn main(rt: HostRuntime) -> Result<()> {
     };
     let part = args.next();
     if is_wanted(&part, "rows") {
+        counted::run(&rt, number)?;
+    }
+    if is_wanted(&part, "sums") {
         fleet::run(&rt, number)?;
     }
     if is_wanted(&part, "peers") {

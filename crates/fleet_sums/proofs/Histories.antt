@@ -17,9 +17,10 @@ use Rattle.std.proofs.lemmas.Map.Lookups.{exact_bytes, exact_unsigned, exact_pai
 use Rattle.std.proofs.lemmas.Bool.{cases_lt, cases_eq}
 use Rattle.peer_rows.specs.declared.row.Held.{Held}
 use Rattle.peer_rows.proofs.Sorted.{sorted-insert_entry, sorted-remove_entry}
-use Rattle.fleet_sums.specs.Totals.{KeyTotals, no_sums, with_row, without_row, counted_at}
-use Rattle.fleet_sums.specs.Sums.{SumMap, TableKey, table_key_cmp, put_or_take, sums_of, added, dropped}
-use Rattle.fleet_sums.specs.History.{SummedRow, Change, Adds, Drops, standing, IsFair, dropped_row, sums_after, is_row_of, sum_over, empty_sums, TotalsAreSums}
+use Rattle.peer_rows.specs.Counted.{counted_at}
+use Rattle.fleet_sums.specs.Totals.{KeyTotals, no_sums, with_row, with_row_less, without_row, totals_by}
+use Rattle.fleet_sums.specs.Sums.{SumMap, TableKey, table_key_cmp, put_or_take, sums_of, added, dropped, replaced}
+use Rattle.fleet_sums.specs.History.{SummedRow, Change, Adds, Drops, Replaces, with_other_cells, standing, IsFair, dropped_row, replaced_row, sums_after, is_row_of, sum_over, empty_sums, TotalsAreSums}
 use Rattle.fleet_sums.proofs.Columns.{get_or-totals_less, get_or-totals_more, length-totals_by}
 use Rattle.fleet_sums.proofs.Keeping.{last_row, not_last_row}
 
@@ -98,6 +99,16 @@ sums_of-dropped s r table key sorted =
     ∙ by (is_row_of table key r) refl
   where
     by : (b : Bool) → is_row_of table key r ≡ b → unwrap_or (cond b (without_row (sums_of s r.table r.key) r.cells) (lookup (is_at (table_key_cmp (table, key))) s.entries)) (no_sums (slice_index s.widths table)) ≡ cond b (unwrap_or (without_row (sums_of s table key) r.cells) (no_sums (slice_index s.widths table))) (sums_of s table key)
+    by true is = let place = same_place table key r is in rw (place.0, place.1) refl
+    by false is = refl
+
+-- the same after a row gave way to another
+sums_of-replaced : (s : SumMap) (r : SummedRow) (cells : List Held) (table : ℕ) (key : List ℕ) → sums_of (replaced s r.table r.key r.cells cells) table key ≡ cond (is_row_of table key r) (with_row (with_row_less (sums_of s table key) r.cells) cells) (sums_of s table key)
+sums_of-replaced s r cells table key =
+    ap (λ o. unwrap_or o (no_sums (slice_index s.widths table))) (lookup-insert_entry table_key_cmp_total s.entries (r.table, r.key) (table, key) (with_row (with_row_less (sums_of s r.table r.key) r.cells) cells))
+    ∙ by (is_row_of table key r) refl
+  where
+    by : (b : Bool) → is_row_of table key r ≡ b → unwrap_or (cond b (Some (with_row (with_row_less (sums_of s r.table r.key) r.cells) cells)) (lookup (is_at (table_key_cmp (table, key))) s.entries)) (no_sums (slice_index s.widths table)) ≡ cond b (with_row (with_row_less (sums_of s table key) r.cells) cells) (sums_of s table key)
     by true is = let place = same_place table key r is in rw (place.0, place.1) refl
     by false is = refl
 
@@ -208,6 +219,48 @@ agrees-dropped widths s rows i r found a = record {
       (removed (λ x. cond (is_row_of table key x) (counted_at x.cells col) 0) rows i r found);
 }
 
+-- a sum over rows of which one has other cells
+other_cells : (f : SummedRow → ℕ) (rows : List SummedRow) (i : ℕ) (r : SummedRow) (cells : List Held) → slice_get rows i ≡ Some r → sum_by f (with_other_cells rows i cells) + f r ≡ sum_by f rows + f (record r { cells = cells })
+other_cells f [] i r cells found = cc
+other_cells f (x ∷ rows) zero r cells found =
+    let first : x ≡ r = cc in
+    rw (← first) (omega (arith, sum_by-cons f x rows, sum_by-cons f (record x { cells = cells }) rows))
+other_cells f (x ∷ rows) (suc i) r cells found =
+    omega (arith, other_cells f rows i r cells found, sum_by-cons f x rows, sum_by-cons f x (with_other_cells rows i cells))
+
+-- a key's sums after a row of it gave way to another
+swapped : (b : Bool) (k : KeyTotals) (olds news : List Held) (rows rest : ℕ) → k.rows ≡ rows → rest + cond b 1 0 ≡ rows → (cond b (with_row (with_row_less k olds) news) k).rows ≡ rows
+swapped false k olds news rows rest is e = is
+swapped true k olds news rows rest is e = omega (arith, is, e)
+
+swapped_long : (b : Bool) (k : KeyTotals) (olds news : List Held) → length (cond b (with_row (with_row_less k olds) news) k).totals ≡ length k.totals
+swapped_long false k olds news = refl
+swapped_long true k olds news = length-totals_by (λ t n. t + n) (totals_by (λ t n. t - n) k.totals olds) news ∙ length-totals_by (λ t n. t - n) k.totals olds
+
+swapped_total : (b : Bool) (k : KeyTotals) (olds news : List Held) (col total rest sum : ℕ) → col < length k.totals → get_or k.totals col 0 ≡ total → rest + cond b (counted_at olds col) 0 ≡ total → sum + cond b (counted_at olds col) 0 ≡ total + cond b (counted_at news col) 0 → get_or (cond b (with_row (with_row_less k olds) news) k).totals col 0 ≡ sum
+swapped_total false k olds news col total rest sum inside is e swap = omega (arith, is, swap)
+swapped_total true k olds news col total rest sum inside is e swap =
+    get_or-totals_more (totals_by (λ t n. t - n) k.totals olds) news col (omega (arith, inside, length-totals_by (λ t n. t - n) k.totals olds))
+    ∙ ap (λ n. n + counted_at news col) (get_or-totals_less k.totals olds col)
+    ∙ omega (arith, is, e, swap)
+
+agrees-replaced : (widths : List ℕ) (s : SumMap) (rows : List SummedRow) (i : ℕ) (r : SummedRow) (cells : List Held) → slice_get rows i ≡ Some r → Agrees widths s rows → Agrees widths (replaced s r.table r.key r.cells cells) (with_other_cells rows i cells)
+agrees-replaced widths s rows i r cells found a = record {
+  are = a.are;
+  ordered = sorted-insert_entry table_key_cmp table_key_cmp_total s.entries (r.table, r.key) (with_row (with_row_less (sums_of s r.table r.key) r.cells) cells) a.ordered;
+  numbers = λ table key. ap (λ (k : KeyTotals). k.rows) (sums_of-replaced s r cells table key)
+      ∙ swapped (is_row_of table key r) (sums_of s table key) r.cells cells (count_by (is_row_of table key) rows) (count_by (is_row_of table key) (remove rows i)) (a.numbers table key) (removed (λ x. cond (is_row_of table key x) 1 0) rows i r found)
+      ∙ (let same = other_cells (λ x. cond (is_row_of table key x) 1 0) rows i r cells found in omega (arith, same));
+  long = λ table key. ap (λ (k : KeyTotals). length k.totals) (sums_of-replaced s r cells table key)
+      ∙ swapped_long (is_row_of table key r) (sums_of s table key) r.cells cells ∙ a.long table key;
+  sums = λ table key col h. ap (λ (k : KeyTotals). get_or k.totals col 0) (sums_of-replaced s r cells table key)
+      ∙ swapped_total (is_row_of table key r) (sums_of s table key) r.cells cells col (sum_over table key col rows) (sum_over table key col (remove rows i)) (sum_over table key col (with_other_cells rows i cells))
+      (omega (arith, h, a.long table key))
+      (a.sums table key col h)
+      (removed (λ x. cond (is_row_of table key x) (counted_at x.cells col) 0) rows i r found)
+      (other_cells (λ x. cond (is_row_of table key x) (counted_at x.cells col) 0) rows i r cells found);
+}
+
 agrees-after : (widths : List ℕ) (changes : List Change) (s : SumMap) (rows : List SummedRow) → Agrees widths s rows → IsFair widths rows changes → Agrees widths (sums_after s rows changes) (standing rows changes)
 agrees-after widths [] s rows a fair = a
 agrees-after widths (Adds r ∷ changes) s rows a fair = agrees-after widths changes (added s r.table r.key r.cells) (rows ++ r ∷ []) (agrees-added widths s rows r a) fair.1
@@ -215,6 +268,10 @@ agrees-after widths (Drops i ∷ changes) s rows a fair =
     let r = found_row rows i fair.0 in
     let agrees : Agrees widths (dropped_row s (slice_get rows i)) (remove rows i) = rw r.1 (agrees-dropped widths s rows i r.0 r.1 a) in
     agrees-after widths changes (dropped_row s (slice_get rows i)) (remove rows i) agrees fair.1
+agrees-after widths (Replaces i cells ∷ changes) s rows a fair =
+    let r = found_row rows i fair.0 in
+    let agrees : Agrees widths (replaced_row s (slice_get rows i) cells) (with_other_cells rows i cells) = rw r.1 (agrees-replaced widths s rows i r.0 cells r.1 a) in
+    agrees-after widths changes (replaced_row s (slice_get rows i) cells) (with_other_cells rows i cells) agrees fair.1
 
 agrees-empty : (widths : List ℕ) → Agrees widths (empty_sums widths) []
 unfolding IsStrictlySortedBy

@@ -18,8 +18,8 @@ use Rattle.peer_rows.specs.Spread.{spread}
 use Rattle.peer_rows.proofs.Sorted.{equal_itself, AllAbove}
 use Rattle.peer_rows.proofs.Selecting.{PassesOnce}
 use Rattle.peer_rows.proofs.Spreading.{PassesOnce-sorted, lookup-spread, remove_entry-spread, map-filter-spread, insert_entry-spread}
-use Rattle.fleet_sums.specs.Totals.{KeyTotals, with_row, without_row}
-use Rattle.fleet_sums.specs.Sums.{TableSums, TableKey, table_key, table_key_cmp, put_or_take, numbered, placed, sums_of, sums_of_key, SumMap, keys_in, added, dropped}
+use Rattle.fleet_sums.specs.Totals.{KeyTotals, with_row, with_row_less, without_row}
+use Rattle.fleet_sums.specs.Sums.{TableSums, TableKey, table_key, table_key_cmp, put_or_take, numbered, placed, sums_of, sums_of_key, SumMap, keys_in, added, dropped, replaced}
 
 -- a table in another's place
 numbered-set : (ts : List TableSums) (i t n : ℕ) (new : TableSums) → t ≡ n + i → numbered n (set ts i new) ≡ set_value (is_at (nat_cmp t)) (numbered n ts) new.entries
@@ -154,6 +154,11 @@ added-placed ts i table found key new cells (Ok done) is =
     put-placed ts i table found key new (ap (λ (t : TableSums). t.width) is) (with_row (sums_of_key table key) cells) (ap (λ (t : TableSums). t.entries) is)
     ∙ ap (λ k. sum_map (widths_of ts) (insert_entry table_key_cmp (placed ts) (i, key) (with_row k cells))) (sym (sums-placed ts i table found key))
 added-placed ts i table found key new cells (Err refused) is = is
+
+pub replaced-placed : (ts : List TableSums) (i : ℕ) (table : TableSums) (found : slice_get ts i ≡ Some table) (key : List ℕ) (new : TableSums) (olds news : List Held) → new ≡ record table { entries = insert_entry (slice_cmp nat_cmp) table.entries key (with_row (with_row_less (sums_of_key table key) olds) news) } → sums_in (set ts i new) ≡ replaced (sums_in ts) i key olds news
+replaced-placed ts i table found key new olds news is =
+    put-placed ts i table found key new (ap (λ (t : TableSums). t.width) is) (with_row (with_row_less (sums_of_key table key) olds) news) (ap (λ (t : TableSums). t.entries) is)
+    ∙ ap (λ k. sum_map (widths_of ts) (insert_entry table_key_cmp (placed ts) (i, key) (with_row (with_row_less k olds) news))) (sym (sums-placed ts i table found key))
 
 pub dropped-placed : (ts : List TableSums) (i : ℕ) (table : TableSums) (found : slice_get ts i ≡ Some table) (key : List ℕ) (new : TableSums) (cells : List Held) → new ≡ record table { entries = put_or_take (slice_cmp nat_cmp) table.entries key (without_row (sums_of_key table key) cells) } → sums_in (set ts i new) ≡ dropped (sums_in ts) i key cells
 dropped-placed ts i table found key new cells is =

@@ -8,7 +8,8 @@ use Rattle.std.specs.List.{AllByRecursion}
 use Rattle.std.specs.List.Sorted.{IsStrictlySortedBy}
 use Rattle.peer_rows.specs.Spread.{spread}
 use Rattle.peer_rows.specs.declared.row.Held.{Held}
-use Rattle.fleet_sums.specs.Totals.{KeyTotals, no_sums, with_row, without_row, counted_at}
+use Rattle.peer_rows.specs.Counted.{counted_at}
+use Rattle.fleet_sums.specs.Totals.{KeyTotals, no_sums, with_row, with_row_less, without_row}
 
 -- ---- one table
 
@@ -71,6 +72,10 @@ added s table key cells = record s { entries = insert_entry table_key_cmp s.entr
 -- the sums with one row less at a key, which goes with its last row
 abbrev pub dropped : SumMap → ℕ → List ℕ → List Held → SumMap
 dropped s table key cells = record s { entries = put_or_take table_key_cmp s.entries (table, key) (without_row (sums_of s table key) cells) }
+
+-- the sums with one row of a key in the place of another
+abbrev pub replaced : SumMap → ℕ → List ℕ → List Held → List Held → SumMap
+replaced s table key old new = record s { entries = insert_entry table_key_cmp s.entries (table, key) (with_row (with_row_less (sums_of s table key) old) new) }
 
 -- the keys of a table that have a row, in order
 abbrev pub keys_in : SumMap → ℕ → List (List ℕ)

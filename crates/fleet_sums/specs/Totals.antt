@@ -1,17 +1,6 @@
-use Rattle.std.specs.Prelude.{ℕ, zero, suc, ◌+◌, ◌-◌, ◌==◌, ◌≤◌, ◌*◌, ◌^◌, List, [], ◌∷◌, Option, Some, None, if◌then◌else◌, replicate, slice_index}
+use Rattle.std.specs.Prelude.{ℕ, ◌+◌, ◌-◌, ◌==◌, ◌≤◌, ◌*◌, ◌^◌, List, [], ◌∷◌, Option, Some, None, if◌then◌else◌, replicate, slice_index}
 use Rattle.peer_rows.specs.declared.row.Held.{Held}
-use Rattle.peer_rows.specs.declared.row.Held.TheVariants.{Count, Rate}
-
--- what a cell adds to a total: a count its number, a rate nothing
-abbrev pub counted : Held → ℕ
-counted (Count n) = n
-counted (Rate r) = 0
-
--- what a row adds in a column
-abbrev pub counted_at : List Held → ℕ → ℕ
-counted_at [] col = 0
-counted_at (c ∷ cs) zero = counted c
-counted_at (c ∷ cs) (suc col) = counted_at cs col
+use Rattle.peer_rows.specs.Counted.{counted}
 
 -- totals, each with its cell's count worked in
 abbrev pub totals_by : (ℕ → ℕ → ℕ) → List ℕ → List Held → List ℕ
@@ -40,6 +29,7 @@ with_row_less k cells = record { rows = k.rows - 1; totals = totals_by (λ t n. 
 abbrev pub without_row : KeyTotals → List Held → Option KeyTotals
 without_row k cells = if k.rows == 1 then None else Some (with_row_less k cells)
 
--- each total is at most what so many rows can have counted
-abbrev pub IsBounded : KeyTotals → Type 0
-IsBounded k = (col : ℕ) → slice_index k.totals col ≤ k.rows * (2 ^ 64 - 1)
+-- there are at most 2^32 rows, and each total is at most what so many can have counted
+pub record IsBounded (k : KeyTotals) : Type 0 where
+  pub few : k.rows ≤ 2 ^ 32
+  pub bound : (col : ℕ) → slice_index k.totals col ≤ k.rows * (2 ^ 64 - 1)

@@ -1,8 +1,10 @@
-ghost use Rattle.std.specs.Prelude.{◌≡◌, ◌+◌, ◌-◌, ◌*◌, ◌^◌, ◌<◌, ◌≤◌, ℕ, length, slice_index, IfOk};
-ghost use Rattle.fleet_sums.specs.Totals.{counted, counted_at, totals_by};
+ghost use Rattle.std.specs.Prelude.{◌≡◌, ◌+◌, ◌-◌, ◌*◌, ◌^◌, ◌<◌, ◌≤◌, ℕ, length, replicate, slice_index, IfOk};
+ghost use Rattle.peer_rows.specs.Counted.{counted_at};
+ghost use Rattle.fleet_sums.specs.Totals.{totals_by};
 
+use crate::total::Total;
 use agg_types::NoMemory;
-use peer_rows::Held;
+use peer_rows::Cells;
 use std::alloc::Global;
 use std::marker::Model;
 
@@ -10,7 +12,7 @@ use std::marker::Model;
 #[derive(Debug, Drop)]
 pub(crate) struct KeySums {
     rows: u64,
-    totals: Vec<u128>,
+    totals: Vec<Total>,
 }
 
 impl Model for KeySums {
@@ -25,6 +27,7 @@ impl Model for KeySums {
 
 impl KeySums {
     ghost use Rattle.fleet_sums.specs.Totals.{no_sums, with_row, with_row_less};
+    ghost use Rattle.fleet_sums.specs.Sums.{CanDrop};
 
     /// The sums of no row.
     pub(crate) fn new(alloc: Global, width: usize) -> Result<KeySums, NoMemory>
@@ -32,7 +35,7 @@ impl KeySums {
     {
         Ok(KeySums {
             rows: 0,
-            totals: vec![in alloc; 0; width]?,
+            totals: no_totals(alloc, width)?,
         })
     }
 
@@ -48,11 +51,11 @@ impl KeySums {
         requires { col < length self.now.totals }
         ensures { result ≡ slice_index self.now.totals col }
     {
-        self.totals[col]
+        self.totals[col].value()
     }
 
     /// Adds a row.
-    pub(crate) fn add(&mut self, cells: &[Held])
+    pub(crate) fn add(&mut self, cells: &Cells)
         requires width { length cells.now ≡ length self.old.totals }
         requires few { self.old.rows < 2 ^ 32 }
         ensures { self.new ≡ with_row self.old cells.now }
@@ -62,7 +65,7 @@ impl KeySums {
     }
 
     /// Takes a row away.
-    pub(crate) fn drop_row(&mut self, cells: &[Held])
+    pub(crate) fn drop_row(&mut self, cells: &Cells)
         requires width { length cells.now ≡ length self.old.totals }
         requires some { 1 ≤ self.old.rows }
         requires enough { (col : ℕ) → counted_at cells.now col ≤ slice_index self.old.totals col }
@@ -72,35 +75,58 @@ impl KeySums {
         take_counts(&mut self.totals, cells);
         self.rows -= 1;
     }
-}
 
-// What a cell adds to a total.
-fn count_in(cell: &Held) -> u64
-    ensures { result ≡ counted cell.now }
-{
-    match cell {
-        Held::Count(count) => *count,
-        Held::Rate(_) => 0,
+    /// Puts a row in the place of another.
+    pub(crate) fn replace_row(&mut self, old: &Cells, new: &Cells)
+        requires old_width { length old.now ≡ length self.old.totals }
+        requires new_width { length new.now ≡ length self.old.totals }
+        requires can { CanDrop self.old old.now }
+        ensures { self.new ≡ with_row (with_row_less self.old old.now) new.now }
+    {
+        replace_counts(&mut self.totals, old, new);
     }
 }
 
-fn add_counts(totals: &mut [u128], cells: &[Held])
+// So many totals of 0.
+fn no_totals(alloc: Global, width: usize) -> Result<Vec<Total>, NoMemory>
+    ensures { IfOk result (λ totals. totals.items ≡ replicate width 0) }
+{
+    let mut totals = Vec::with_capacity(alloc, width)?;
+    for _col in 0..width {
+        totals.push(Total::new(0))?;
+    }
+    Ok(totals)
+}
+
+fn add_counts(totals: &mut [Total], cells: &Cells)
     requires width { length cells.now ≡ length totals.old }
-    requires room { (col : ℕ) → slice_index totals.old col < 2 ^ 127 }
+    requires room { (col : ℕ) → slice_index totals.old col + (2 ^ 64 - 1) < 2 ^ 96 }
     ensures sums { totals.new ≡ totals_by (λ t n. t + n) totals.old cells.now }
     ensures bound { (col : ℕ) → slice_index totals.new col ≤ slice_index totals.old col + (2 ^ 64 - 1) }
 {
     for col in 0..totals.len() {
-        totals[col] += u128::from(count_in(&cells[col]));
+        totals[col].add(cells.count(col));
     }
 }
 
-fn take_counts(totals: &mut [u128], cells: &[Held])
+fn take_counts(totals: &mut [Total], cells: &Cells)
     requires width { length cells.now ≡ length totals.old }
     requires enough { (col : ℕ) → counted_at cells.now col ≤ slice_index totals.old col }
     ensures { totals.new ≡ totals_by (λ t n. t - n) totals.old cells.now }
 {
     for col in 0..totals.len() {
-        totals[col] -= u128::from(count_in(&cells[col]));
+        totals[col].take(cells.count(col));
     }
+}
+
+fn replace_counts(totals: &mut [Total], old: &Cells, new: &Cells)
+    requires old_width { length old.now ≡ length totals.old }
+    requires new_width { length new.now ≡ length totals.old }
+    requires enough { (col : ℕ) → counted_at old.now col ≤ slice_index totals.old col }
+    requires room { (col : ℕ) → slice_index totals.old col - counted_at old.now col + (2 ^ 64 - 1) < 2 ^ 96 }
+    ensures sums { totals.new ≡ totals_by (λ t n. t + n) (totals_by (λ t n. t - n) totals.old old.now) new.now }
+    ensures bound { (col : ℕ) → slice_index totals.new col ≤ slice_index totals.old col - counted_at old.now col + (2 ^ 64 - 1) }
+{
+    take_counts(totals, old);
+    add_counts(totals, new);
 }

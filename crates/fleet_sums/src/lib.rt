@@ -9,6 +9,7 @@ mod sums;
 mod table_sums;
 #[cfg(test)]
 mod tests;
+mod total;
 
 pub use keys::Keys;
 pub use law::totals_are_sums;

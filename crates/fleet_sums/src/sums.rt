@@ -10,8 +10,8 @@ use std::marker::Model;
 /// The running sums of a fleet: for each table and key the number of rows that were added and not
 /// dropped, and for each column the total of their counts.
 ///
-/// Tables and columns are named by their positions. A column of rates has the total 0. Totals have
-/// 128 bits, so those of fewer than 2^32 rows can't overflow.
+/// Tables and columns are named by their positions. A column of rates has the total 0. A key has at
+/// most 2^32 rows, so a total is below 2^96 and can't overflow.
 #[derive(Debug, Drop)]
 pub struct Sums {
     tables: Vec<Table>,
@@ -27,7 +27,7 @@ impl Model for Sums {
 }
 
 impl Sums {
-    ghost use Rattle.fleet_sums.specs.Sums.{sums_of, keys_in, HasRow, CanDrop, added, dropped};
+    ghost use Rattle.fleet_sums.specs.Sums.{sums_of, keys_in, HasRow, CanDrop, added, dropped, replaced};
 
     /// The sums of no row, for tables of these columns.
     pub fn new(alloc: Global, tables: &[Shape]) -> Result<Sums, NoMemory>
@@ -51,7 +51,7 @@ impl Sums {
         ensures held { HasRow self.old table key.now → IsOk result }
         ensures err { OnErr result (self.new ≡ self.old) }
     {
-        self.tables[table].add(key, row.cells.as_slice())
+        self.tables[table].add(key, &row.cells)
     }
 
     /// Takes a row of a table and key away that was added before. Takes no memory.
@@ -62,7 +62,19 @@ impl Sums {
         requires can { CanDrop (sums_of self.old table key.now) row.now.cells }
         ensures { self.new ≡ dropped self.old table key.now row.now.cells }
     {
-        self.tables[table].drop_row(key, row.cells.as_slice())
+        self.tables[table].drop_row(key, &row.cells)
+    }
+
+    /// Puts a row of a table and key in the place of one that was added before. Takes no memory.
+    pub fn replace_row(&mut self, table: usize, key: &Key, old: &Row, new: &Row)
+        requires table_in { table < length self.old.widths }
+        requires old_width { length old.now.cells ≡ slice_index self.old.widths table }
+        requires new_width { length new.now.cells ≡ slice_index self.old.widths table }
+        requires there { HasRow self.old table key.now }
+        requires can { CanDrop (sums_of self.old table key.now) old.now.cells }
+        ensures { self.new ≡ replaced self.old table key.now old.now.cells new.now.cells }
+    {
+        self.tables[table].replace_row(key, &old.cells, &new.cells)
     }
 
     /// How many rows of a table and key stand. Takes no memory.

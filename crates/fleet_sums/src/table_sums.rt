@@ -7,7 +7,7 @@ ghost use Rattle.std.specs.BTreeMap.{insert_entry, is_at, IsOrdered};
 use crate::Keys;
 use crate::key_sums::KeySums;
 use agg_types::{Key, NoMemory};
-use peer_rows::Held;
+use peer_rows::Cells;
 use std::alloc::Global;
 use std::collections::BTreeMap;
 use std::marker::Model;
@@ -32,7 +32,7 @@ impl Model for Table {
 
 impl Table {
     ghost use Rattle.fleet_sums.specs.Sums.{sums_of_key, put_or_take, CanDrop};
-    ghost use Rattle.fleet_sums.specs.Totals.{with_row, without_row};
+    ghost use Rattle.fleet_sums.specs.Totals.{with_row, with_row_less, without_row};
 
     /// A table of this many columns, without a row.
     pub(crate) fn new(alloc: Global, width: usize) -> Table
@@ -46,7 +46,7 @@ impl Table {
     }
 
     /// Adds a row of a key.
-    pub(crate) fn add(&mut self, key: &Key, cells: &[Held]) -> Result<(), NoMemory>
+    pub(crate) fn add(&mut self, key: &Key, cells: &Cells) -> Result<(), NoMemory>
         requires width { length cells.now ≡ self.old.width }
         requires few { (sums_of_key self.old key.now).rows < 2 ^ 32 }
         ensures ok { OnOk result (self.new ≡ record self.old { entries = insert_entry (slice_cmp nat_cmp) self.old.entries key.now (with_row (sums_of_key self.old key.now) cells.now) }) }
@@ -64,7 +64,7 @@ impl Table {
     }
 
     /// Takes a row of a key away, and the key with its last row.
-    pub(crate) fn drop_row(&mut self, key: &Key, cells: &[Held])
+    pub(crate) fn drop_row(&mut self, key: &Key, cells: &Cells)
         requires width { length cells.now ≡ self.old.width }
         requires there { IsSome (lookup (is_at (slice_cmp nat_cmp key.now)) self.old.entries) }
         requires can { CanDrop (sums_of_key self.old key.now) cells.now }
@@ -78,6 +78,20 @@ impl Table {
         } else {
             sums.drop_row(cells);
         }
+    }
+
+    /// Puts a row of a key in the place of another.
+    pub(crate) fn replace_row(&mut self, key: &Key, old: &Cells, new: &Cells)
+        requires old_width { length old.now ≡ self.old.width }
+        requires new_width { length new.now ≡ self.old.width }
+        requires there { IsSome (lookup (is_at (slice_cmp nat_cmp key.now)) self.old.entries) }
+        requires can { CanDrop (sums_of_key self.old key.now) old.now }
+        ensures { self.new ≡ record self.old { entries = insert_entry (slice_cmp nat_cmp) self.old.entries key.now (with_row (with_row_less (sums_of_key self.old key.now) old.now) new.now) } }
+    {
+        let Some(sums) = self.keys.get_mut(key) else {
+            return;
+        };
+        sums.replace_row(old, new);
     }
 
     /// How many rows a key has.

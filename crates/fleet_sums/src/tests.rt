@@ -111,3 +111,29 @@ fn drops_a_row(rt: HostRuntime) -> Result<(), Fail> {
     assert_eq!(rt; left, (1, 5, 0));
     Ok(())
 }
+
+// Adds a row of a key and puts another in its place.
+fn try_replace(alloc: Global, sums: &mut Sums) -> Result<(), NoMemory>
+    requires { sums.old ≡ record { widths = 2 ∷ []; entries = [] } }
+    ensures { sums.new.widths ≡ 2 ∷ [] }
+{
+    let key = Key::copy(alloc, &[10, 0, 0, 1])?;
+    let first = row(alloc, 5)?;
+    let second = row(alloc, 7)?;
+    sums.add_row(0, &key, &first)?;
+    sums.replace_row(0, &key, &first, &second);
+    Ok(())
+}
+
+#[test]
+fn replaces_a_row(rt: HostRuntime) -> Result<(), Fail> {
+    let alloc = rt.alloc();
+    let mut sums = new_sums(alloc).or_else(|_| new_sums(alloc))?;
+    if try_replace(alloc, &mut sums).is_err() {
+        sums = new_sums(alloc)?;
+        try_replace(alloc, &mut sums)?;
+    }
+    let left = totals(alloc, &sums, 1).or_else(|_| totals(alloc, &sums, 1))?;
+    assert_eq!(rt; left, (1, 7, 0));
+    Ok(())
+}

@@ -1,3 +1,4 @@
+pub mod Counting
 pub mod Sorted
 pub mod Selecting
 pub mod Peers

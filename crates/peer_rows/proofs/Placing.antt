@@ -1,7 +1,7 @@
 -- What becomes of all rows where those of one table change.
 use Rattle.std.proofs.Common.{◌≡◌, ℕ, zero, suc, ◌+◌, ◌<◌, Bool, true, false, cond, ◌&&◌, List, [], ◌∷◌, length, refl, sym, ◌∙◌, ap, arith, get_or, set, replicate}
 use Rattle.std.specs.Option.{option_and_then}
-use Rattle.std.specs.Prelude.{Option, Some, not, filter, map, ◌==◌, slice_get, count_by, Result, Ok, Err, OnOk, OnErr}
+use Rattle.std.specs.Prelude.{Option, Some, not, filter, map, ◌==◌, slice_get, count_by, sum_by, Result, Ok, Err, OnOk, OnErr}
 use Rattle.agg_types.specs.declared.no_memory.NoMemory.{NoMemory}
 use Rattle.std.specs.declared.cmp.Ordering.{Ordering}
 use Rattle.std.specs.declared.cmp.Ordering.TheVariants.{Less, Equal, Greater}
@@ -22,6 +22,7 @@ use Rattle.peer_rows.specs.declared.row.Row.{Row}
 use Rattle.peer_rows.specs.Spread.{spread}
 use Rattle.peer_rows.specs.Table.{Spot, spot_cmp, same_key, rows_of_peer, TableRows}
 use Rattle.peer_rows.specs.Rows.{place, place_of, in_table, of_table_key, of_table_peer, numbered, placed, AreInOrder, AreTables, RowMap}
+use Rattle.peer_rows.proofs.Counting.{sum_by-map}
 use Rattle.peer_rows.proofs.Sorted.{equal_itself, AllAbove, sorted-insert_entry, sorted-remove_entry}
 use Rattle.peer_rows.proofs.Selecting.{PassesOnce}
 use Rattle.peer_rows.proofs.Spreading.{PassesOnce-sorted, lookup-spread, remove_entry-spread, filter_not-spread, map-filter-spread, insert_entry-spread}
@@ -123,6 +124,11 @@ module _ (ts : List TableRows) (i : ℕ) (table : TableRows) (found : slice_get 
       ∙ sym (length-map {B = ℕ × Row} (filter (λ (e : Place × Row). of_table_key i key e.0) (placed ts)) (λ e. (e.0.peer, e.1)))
       ∙ ap length (of_key-placed key)
       ∙ length-map {B = ℕ × Row} (filter (λ (e : Spot × Row). same_key key e.0.0) table.entries) (λ e. (e.0.1, e.1))
+
+  pub sum-key-placed : (key : List ℕ) (f : Row → ℕ) → sum_by (λ e. f e.1) (filter (λ e. of_table_key i key e.0) (placed ts)) ≡ sum_by (λ e. f e.1) (filter (λ e. same_key key e.0.0) table.entries)
+  sum-key-placed key f = sym (sum_by-map (λ (r : ℕ × Row). f r.1) (λ (e : Place × Row). (e.0.peer, e.1)) (filter (λ (e : Place × Row). of_table_key i key e.0) (placed ts)))
+      ∙ ap (λ rs. sum_by (λ (r : ℕ × Row). f r.1) rs) (of_key-placed key)
+      ∙ sum_by-map (λ (r : ℕ × Row). f r.1) (λ (e : Spot × Row). (e.0.1, e.1)) (filter (λ (e : Spot × Row). same_key key e.0.0) table.entries)
 
   pub count-peer-placed : (peer : ℕ) → count_by (λ e. of_table_peer i peer e.0) (placed ts) ≡ rows_of_peer peer table.entries
   count-peer-placed peer = sym (length-filter (λ (e : Place × Row). of_table_peer i peer e.0) (placed ts))

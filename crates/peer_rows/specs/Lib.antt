@@ -1,4 +1,6 @@
+pub mod Counted
 pub mod Listing
+pub mod Packed
 pub mod Peers
 pub mod Spread
 pub mod Table

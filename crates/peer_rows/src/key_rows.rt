@@ -1,9 +1,10 @@
-ghost use Rattle.std.specs.Prelude.{◌≡◌, ◌≢◌, ◌-◌, List, [], ◌∷◌, length, slice_get, IsTrue, ◌↔◌, IsOk, IsSome, IfOk, OnOk, OnErr, MatchResult};
+ghost use Rattle.std.specs.Prelude.{◌≡◌, ◌≢◌, ◌-◌, List, [], ◌∷◌, length, slice_get, sum_by, IsTrue, ◌↔◌, IsOk, IsSome, IfOk, OnOk, OnErr, MatchResult};
 ghost use Rattle.std.specs.Option.{option_copied, option_map};
 ghost use Rattle.std.specs.Ordering.{nat_cmp};
 ghost use Rattle.std.specs.Map.{keys_of, lookup, remove_entry};
 ghost use Rattle.std.specs.BTreeMap.{insert_entry, is_at};
 ghost use Rattle.std.specs.List.Sorted.{IsStrictlySortedBy};
+ghost use Rattle.peer_rows.specs.Counted.{counted_at};
 ghost use Rattle.peer_rows.specs.Peers.{IsFound, IsGap, IsOne, ArePeers, held_by};
 
 use crate::{OfKey, Row};
@@ -133,6 +134,18 @@ impl KeyRows {
         ensures { result ≡ length self.now }
     {
         self.as_slice().len()
+    }
+
+    /// The sum of what the rows count in a column.
+    pub(crate) fn count_of(&self, col: usize) -> u128
+        ensures { result ≡ sum_by (λ r. counted_at r.1.cells col) self.now }
+    {
+        let rows = self.as_slice();
+        let mut total = 0;
+        for held in rows {
+            total += u128::from(held.1.cells.count(col));
+        }
+        total
     }
 
     /// The rows with their peers, by peer.

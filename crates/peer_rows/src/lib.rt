@@ -8,6 +8,7 @@ mod by_key;
 mod key_rows;
 mod keyed;
 mod of_key;
+mod packed;
 mod row;
 mod rows;
 mod table;

@@ -1,8 +1,9 @@
-ghost use Rattle.std.specs.Prelude.{◌≡◌, ◌<◌, [], length, filter, count_by, not, map, IsOk, IsSome, IfOk, OnOk, OnErr};
+ghost use Rattle.std.specs.Prelude.{◌≡◌, ◌<◌, [], length, filter, count_by, sum_by, not, map, IsOk, IsSome, IfOk, OnOk, OnErr};
 ghost use Rattle.std.specs.Option.{option_copied};
 ghost use Rattle.std.specs.Map.{lookup, remove_entry};
 ghost use Rattle.std.specs.BTreeMap.{insert_entry, is_at};
 ghost use Rattle.agg_types.specs.Place.{place_cmp};
+ghost use Rattle.peer_rows.specs.Counted.{counted_at};
 
 use crate::table::Table;
 use crate::{ByKey, OfKey, Row};
@@ -127,5 +128,16 @@ impl Rows {
         ensures ordered { AreInOrder self.now.entries }
     {
         self.tables[table].of_key(key)
+    }
+
+    /// The sum of a count column over the rows of a table and key, of all peers: one search, and then
+    /// the rows that there are. A rate counts nothing, and neither does a column that a row doesn't
+    /// have. Takes no memory.
+    pub fn count_of(&self, table: usize, key: &Key, col: usize) -> u128
+        requires { table < self.now.tables }
+        ensures value { result ≡ sum_by (λ e. counted_at e.1.cells col) (filter (λ e. of_table_key table key.now e.0) self.now.entries) }
+        ensures ordered { AreInOrder self.now.entries }
+    {
+        self.tables[table].count_of(key, col)
     }
 }

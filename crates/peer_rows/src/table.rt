@@ -1,7 +1,8 @@
-ghost use Rattle.std.specs.Prelude.{◌≡◌, ◌+◌, ◌<◌, ◌≤◌, ℕ, [], length, filter, not, map, slice_index, IsOk, IsSome, IfOk, OnOk, OnErr};
+ghost use Rattle.std.specs.Prelude.{◌≡◌, ◌+◌, ◌<◌, ◌≤◌, ℕ, [], length, filter, not, map, sum_by, slice_index, IsOk, IsSome, IfOk, OnOk, OnErr};
 ghost use Rattle.std.specs.Option.{option_copied};
 ghost use Rattle.std.specs.Map.{lookup, remove_entry};
 ghost use Rattle.std.specs.BTreeMap.{insert_entry, is_at};
+ghost use Rattle.peer_rows.specs.Counted.{counted_at};
 ghost use Rattle.peer_rows.specs.Table.{rows_at_peer};
 
 use crate::key_rows::KeyRows;
@@ -111,6 +112,16 @@ impl Table {
             Some(rows) => rows.iter(),
             None => OfKey::none(),
         }
+    }
+
+    /// The sum of what the rows of a key count in a column.
+    pub(crate) fn count_of(&self, key: &Key, col: usize) -> u128
+        ensures { result ≡ sum_by (λ e. counted_at e.1.cells col) (filter (λ e. same_key key.now e.0.0) self.now.entries) }
+    {
+        let Some(rows) = self.keys.get(key) else {
+            return 0;
+        };
+        rows.count_of(col)
     }
 
     /// All rows, by key, then by peer.

@@ -89,9 +89,17 @@ fn takes_and_clears(rt: HostRuntime) -> Result<(), Fail> {
     ))?;
     let row = rows.get(0, 0, &first).ok_or("no row")?;
     assert_eq!(rt; row.arrived, 7);
-    assert_eq!(rt; row.cells.as_slice().first(), Some(&Held::Count(5)));
+    assert_eq!(rt; row.cells.get(0), Some(Held::Count(5)));
+    assert_eq!(rt;
+        row.cells.get(1),
+        Some(Held::Rate(Rate::arrive(1000, 0, 3, 1, 0)))
+    );
+    assert_eq!(rt; row.cells.get(2), None);
     let peers = rows.of_key(0, &first).map(|(peer, _)| peer);
     assert!(rt; peers.eq([0, 1]));
+    assert_eq!(rt; rows.count_of(0, &first, 0), 10);
+    assert_eq!(rt; rows.count_of(0, &first, 1), 0);
+    assert_eq!(rt; rows.count_of(0, &first, 2), 0);
     assert_eq!(rt; rows.count(0, 0), 2);
     assert_eq!(rt; rows.clear_key(0, &first), 2);
     assert_eq!(rt; rows.count(0, 0), 1);
@@ -101,7 +109,7 @@ fn takes_and_clears(rt: HostRuntime) -> Result<(), Fail> {
         &[10, 0, 0, 3],
     ))?;
     let taken = rows.take(0, 0, &third).ok_or("no row")?;
-    assert_eq!(rt; taken.cells.into_vec().len(), 2);
+    assert_eq!(rt; taken.cells.len(), 2);
     assert_eq!(rt; rows.count(0, 0), 0);
     Ok(())
 }

@@ -13,7 +13,7 @@ pub returns-clause-ok : goal.returns-clause-ok
 returns-clause-ok c =
     let found : slice_get c.self.inside.tables.items c.args.table ≡ Some c.index_mut.result.now = found_at c.self.inside.tables.items c.args.table c.index_mut.result.now (rw (← c.self.view_is, length-widths) at c.requires.table_in) c.index_mut.ensures.value in
     let same = sums-placed c.self.inside.tables.items c.args.table c.index_mut.result.now found c.args.key.now in
-    rw (← c.self.view_is) (added-placed c.self.inside.tables.items c.args.table c.index_mut.result.now found c.args.key.now c.add.new.self c.args.row.now.cells c.add.result (rw c.as_slice.ensures at c.add.ensures.ok))
+    rw (← c.self.view_is) (added-placed c.self.inside.tables.items c.args.table c.index_mut.result.now found c.args.key.now c.add.new.self c.args.row.now.cells c.add.result c.add.ensures.ok)
 
 pub returns-clause-held : goal.returns-clause-held
 returns-clause-held c =

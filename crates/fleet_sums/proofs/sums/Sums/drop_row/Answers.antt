@@ -13,10 +13,10 @@ pub drop_row-requires-clause-can : goal.drop_row-requires-clause-can
 drop_row-requires-clause-can c =
     let found : slice_get c.self.inside.tables.items c.args.table ≡ Some c.index_mut.result.now = found_at c.self.inside.tables.items c.args.table c.index_mut.result.now (rw (← c.self.view_is, length-widths) at c.requires.table_in) c.index_mut.ensures.value in
     let same = sums-placed c.self.inside.tables.items c.args.table c.index_mut.result.now found c.args.key.now in
-    rw (← same, c.as_slice.ensures) (rw (← c.self.view_is) at c.requires.can)
+    rw (← same) (rw (← c.self.view_is) at c.requires.can)
 
 pub returns : goal.returns
 returns c =
     let found : slice_get c.self.inside.tables.items c.args.table ≡ Some c.index_mut.result.now = found_at c.self.inside.tables.items c.args.table c.index_mut.result.now (rw (← c.self.view_is, length-widths) at c.requires.table_in) c.index_mut.ensures.value in
     let same = sums-placed c.self.inside.tables.items c.args.table c.index_mut.result.now found c.args.key.now in
-    rw (← c.self.view_is) (dropped-placed c.self.inside.tables.items c.args.table c.index_mut.result.now found c.args.key.now c.drop_row.new.self c.args.row.now.cells (rw c.as_slice.ensures at c.drop_row.ensures))
+    rw (← c.self.view_is) (dropped-placed c.self.inside.tables.items c.args.table c.index_mut.result.now found c.args.key.now c.drop_row.new.self c.args.row.now.cells c.drop_row.ensures)
