@@ -43,13 +43,16 @@ fn size_of(tables: &[Shape], table: usize) -> u64
     }
 }
 
-/// Whether a peer may put a row at a place: it holds one there, or fewer of the table than its size.
+/// Whether a peer may put a row at a place: it holds one there, or fewer of the table than its size. Counts
+/// the peer's rows only where the book has as many in all.
 #[tactic(auto, unfolding(fleet_model::specs::Rows::has_room))]
 pub fn has_room(tables: &[Shape], rows: &Rows, place: &Place) -> bool
     ensures { result ≡ has_room tables.now rows.now.entries place.now }
 {
-    has_row(rows, place)
-        || (held(rows, place.table, place.peer) as u64) < size_of(tables, place.table)
+    let size = size_of(tables, place.table);
+    (rows.len() as u64) < size
+        || has_row(rows, place)
+        || (held(rows, place.table, place.peer) as u64) < size
 }
 
 /// Puts a row at a place, in place of an older one; a row whose life is over takes the older one away.
