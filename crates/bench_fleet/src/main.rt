@@ -6,10 +6,11 @@
 //! standard error.
 #![tactic(auto)]
 
-use agg_types::{Col, Config, Items, KeyKind, Name, Shape};
+use agg_types::{Col, Config, Items, KeyKind, Name, NoMemory, Shape};
 use anyhow::{Result, anyhow};
-use fleet_core::{Fleet, FleetFault, Step};
+use fleet_core::{Fleet, Step};
 use std::alloc::Global;
+use std::marker::Model;
 use std::time::Instant;
 use std::{env, fs};
 
@@ -29,13 +30,6 @@ const OPENING: &[u8] =
 struct Load {
     keys: u32,
     updates: u32,
-}
-
-/// How many bytes a part of the load was answered, and how long it took.
-#[derive(Clone, Copy)]
-struct Part {
-    sent: u64,
-    micros: u128,
 }
 
 /// The collector `agg` of the proxy `lb1`, with the table that it sends.
@@ -63,6 +57,13 @@ fn config(alloc: Global) -> Result<Config> {
     Ok(config)
 }
 
+/// A fleet of such a collector.
+fn fleet(alloc: Global) -> Result<Fleet> {
+    let config = config(alloc)?;
+    config.check()?;
+    Ok(Fleet::new(alloc, config, 0)?)
+}
+
 /// So many updates with ids from 0, over the keys in turn.
 fn updates(alloc: Global, keys: u32, count: u32) -> Result<Vec<u8>> {
     let keys = keys.max(1);
@@ -77,30 +78,97 @@ fn updates(alloc: Global, keys: u32, count: u32) -> Result<Vec<u8>> {
     Ok(bytes)
 }
 
-/// Sends bytes on a connection. Gives how many bytes they were answered.
-fn send(alloc: Global, fleet: &mut Fleet, conn: u64, bytes: &[u8]) -> Result<u64, FleetFault> {
-    let mut sent = 0u64;
-    for piece in bytes.chunks(PIECE_BYTES) {
-        let piece = Items::copy(alloc, piece).map_err(|_| FleetFault::NoMemory)?;
-        let replies = fleet.step(&Step::Bytes(conn, piece))?;
-        sent = sent.saturating_add(replies.out.len() as u64);
-    }
-    Ok(sent)
+/// A proxy on the one connection of a fleet. Contracts see nothing of it.
+#[derive(Drop)]
+struct Proxy {
+    fleet: Fleet,
+    conn: u64,
+    answered: u64,
 }
 
-/// Sends so many updates, and takes the time of it.
-fn run(rt: HostRuntime, fleet: &mut Fleet, conn: u64, keys: u32, count: u32) -> Result<Part> {
-    let bytes = updates(rt.alloc(), keys, count)?;
-    let start = Instant::now(&rt)?;
-    let sent = send(rt.alloc(), fleet, conn, bytes.as_slice())?;
-    let micros = start.elapsed(&rt)?.as_micros().max(1);
-    Ok(Part { sent, micros })
+impl Model for Proxy {
+    ghost Value = { Unit {0} };
+
+    ghost view = { λ _. tt };
+}
+
+impl Proxy {
+    /// Connects to a new fleet.
+    fn connect(alloc: Global) -> Result<Proxy> {
+        let mut fleet = fleet(alloc)?;
+        let conn = fleet.step(&Step::Connect)?.conn;
+        Ok(Proxy {
+            fleet,
+            conn,
+            answered: 0,
+        })
+    }
+
+    /// Sends one piece of bytes, and counts the bytes that it is answered.
+    fn send_piece(&mut self, alloc: Global, piece: &[u8]) -> Result<()> {
+        let piece = Items::copy(alloc, piece)?;
+        let replies = self.fleet.step(&Step::Bytes(self.conn, piece))?;
+        self.answered = self.answered.saturating_add(replies.out.len() as u64);
+        Ok(())
+    }
+
+    /// Sends bytes in pieces.
+    fn send(&mut self, alloc: Global, bytes: &[u8]) -> Result<()> {
+        for piece in bytes.chunks(PIECE_BYTES) {
+            self.send_piece(alloc, piece)?;
+        }
+        Ok(())
+    }
+
+    /// Sends bytes, and gives how long that took, in µs.
+    fn time(&mut self, rt: HostRuntime, bytes: &[u8]) -> Result<u128> {
+        let start = Instant::now(&rt)?;
+        self.send(rt.alloc(), bytes)?;
+        Ok(start.elapsed(&rt)?.as_micros())
+    }
+
+    /// Sends so many updates, and gives how long that took, in µs.
+    fn run(&mut self, rt: HostRuntime, keys: u32, count: u32) -> Result<u128> {
+        let bytes = updates(rt.alloc(), keys, count)?;
+        self.time(rt, bytes.as_slice())
+    }
+
+    /// How many keys the fleet has rows of.
+    fn keys(&self, alloc: Global) -> Result<usize, NoMemory> {
+        Ok(self.fleet.book().keys(alloc, 0)?.len())
+    }
+
+    /// Runs a load and tells of it.
+    fn measure(&mut self, rt: HostRuntime, load: Load) -> Result<()> {
+        self.send(rt.alloc(), OPENING)?;
+        let before = resident(rt);
+        let new = self.run(rt, load.keys, load.keys)?;
+        let after = resident(rt);
+        let held = self.run(rt, load.keys, load.updates)?;
+        let keys = self.keys(rt.alloc())?;
+        println!(rt;
+            "{keys} keys, then {} updates: {} bytes answered",
+            load.updates, self.answered
+        )?;
+        tell_speed(rt, load.keys, "new", load.keys, new)?;
+        tell_speed(rt, load.keys, "held", load.updates, held)?;
+        tell_memory(rt, load.keys, before, after)
+    }
 }
 
 /// Tells how fast so many updates were taken.
-fn tell(rt: HostRuntime, keys: u32, what: &str, count: u32, part: Part) -> Result<()> {
-    let per_second = u128::from(count) * 1_000_000 / part.micros.max(1);
+fn tell_speed(rt: HostRuntime, keys: u32, what: &str, count: u32, micros: u128) -> Result<()> {
+    let per_second = u128::from(count) * 1_000_000 / micros.max(1);
     eprintln!(rt; "{keys} keys: {per_second} {what} updates/s")?;
+    Ok(())
+}
+
+/// Tells what a key costs in memory, where the system told it before and after.
+fn tell_memory(rt: HostRuntime, keys: u32, before: Option<u64>, after: Option<u64>) -> Result<()> {
+    if let (Some(before), Some(after)) = (before, after) {
+        let each = after.saturating_sub(before) / u64::from(keys.max(1));
+        eprintln!(rt; "{keys} keys: {each} bytes of resident memory a key")?;
+    }
     Ok(())
 }
 
@@ -127,24 +195,6 @@ fn main(rt: HostRuntime) -> Result<()> {
     let Some(load) = asked(rt)? else {
         return Err(anyhow!("bench_fleet <keys> <updates>"));
     };
-    let config = config(rt.alloc())?;
-    config.check()?;
-    let mut fleet = Fleet::new(rt.alloc(), config, 0)?;
-    let conn = fleet.step(&Step::Connect)?.conn;
-    let opened = send(rt.alloc(), &mut fleet, conn, OPENING)?;
-    let before = resident(rt);
-    let new = run(rt, &mut fleet, conn, load.keys, load.keys)?;
-    let after = resident(rt);
-    let held = run(rt, &mut fleet, conn, load.keys, load.updates)?;
-    let keys = fleet.book().keys(rt.alloc(), 0)?.len();
-    let sent = opened.saturating_add(new.sent).saturating_add(held.sent);
-    let updates = load.updates;
-    println!(rt; "{keys} keys, then {updates} updates: {sent} bytes answered")?;
-    tell(rt, load.keys, "new", load.keys, new)?;
-    tell(rt, load.keys, "held", load.updates, held)?;
-    if let (Some(before), Some(after)) = (before, after) {
-        let each = after.saturating_sub(before) / u64::from(load.keys.max(1));
-        eprintln!(rt; "{} keys: {each} bytes of resident memory a key", load.keys)?;
-    }
-    Ok(())
+    let mut proxy = Proxy::connect(rt.alloc())?;
+    proxy.measure(rt, load)
 }
