@@ -67,14 +67,22 @@ fn both_kinds_give_the_least_first(rt: HostRuntime) -> Result<(), Fail> {
 #[test]
 fn a_wheel_crosses_its_levels(rt: HostRuntime) -> Result<(), Fail> {
     let mut wheel = new_wheel(rt.alloc(), 0)?;
-    for (item, at) in [0, 255, 256, 65_535, 65_536, 1 << 62].into_iter().enumerate() {
+    for (item, at) in [0, 255, 256, 65_535, 65_536, 1 << 62]
+        .into_iter()
+        .enumerate()
+    {
         plan_through(&rt, &mut wheel, at, item as u32)?;
     }
     for due in [Some((0, 0)), Some((255, 1)), Some((256, 2)), None] {
         assert_eq!(rt; wheel.take_due(256), due);
     }
     assert_eq!(rt; wheel.next_at(), Some(65_535));
-    for due in [Some((65_535, 3)), Some((65_536, 4)), Some((1 << 62, 5)), None] {
+    for due in [
+        Some((65_535, 3)),
+        Some((65_536, 4)),
+        Some((1 << 62, 5)),
+        None,
+    ] {
         assert_eq!(rt; wheel.take_due(u64::MAX), due);
     }
     Ok(())
