@@ -119,7 +119,9 @@ struct Heard {
     acknowledged: u64,
 }
 
-/// Lets a session hear a hello, a definition, and the bytes in pieces.
+/// Lets a session hear a hello, a definition, and the bytes in pieces. What a piece gave is kept until
+/// the next is heard, as a fleet keeps its rows: else the C library would give the memory of each
+/// piece back to the system and ask for it again.
 fn hear(alloc: Global, config: &Config, defined: &[u8], bytes: &[u8]) -> Result<Heard> {
     let mut session = Session::accept(alloc, true, 0);
     session.feed(config, HELLO, 0)?;
@@ -128,11 +130,14 @@ fn hear(alloc: Global, config: &Config, defined: &[u8], bytes: &[u8]) -> Result<
         facts: 0,
         acknowledged: 0,
     };
+    let mut last = None;
     for piece in bytes.chunks(SESSION_PIECE) {
         let batch = session.feed(config, piece, 0)?;
         heard.facts = heard.facts.saturating_add(batch.facts().len() as u64);
         heard.acknowledged = heard.acknowledged.saturating_add(batch.acks().len() as u64);
+        last = Some(batch);
     }
+    drop(last);
     Ok(heard)
 }
 
