@@ -13,4 +13,4 @@ mod parts;
 
 pub use numbers::{NumberFault, number};
 pub use operators::operator;
-pub use parts::{is_comment, next_line, next_part, next_word};
+pub use parts::{is_comment, next_line, next_part, next_word, place_of};

@@ -59,8 +59,8 @@ pub fn next_word(line: &[u8]) -> Option<(&[u8], &[u8])>
     }
 }
 
-// Where a byte stands first.
-fn place_of(text: &[u8], wanted: u8) -> Option<usize>
+/// Where a byte stands first, or none where it doesn't stand.
+pub fn place_of(text: &[u8], wanted: u8) -> Option<usize>
     ensures first { result ≡ position (λ byte. byte == wanted) text.now }
     ensures within { IfSome result (λ place. place < length text.now) }
 {

@@ -1,0 +1,5 @@
+pub mod Columns
+pub mod Declarations
+pub mod Filters
+pub mod Front
+pub mod Reading

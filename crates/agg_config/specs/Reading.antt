@@ -1,0 +1,136 @@
+-- A text's configuration: what each line declares, behind the lines before it.
+use Rattle.std.specs.Prelude.{◌≡◌, ℕ, ◌+◌, ◌<◌, ◌≤◌, Bool, true, false, ◌&&◌, ◌||◌, List, [], ◌∷◌, ◌++◌, length, take, map, fold, position, unwrap_or, slice_get, slice_index_or, Option, None, Some, Result, Ok, Err, ◌⊎◌}
+use Rattle.std.specs.List.{list_any}
+use Rattle.std.specs.Str.{bytes_eq}
+use Rattle.agg_types.specs.Check.{config_faults, fault_if}
+use Rattle.agg_types.specs.declared.check.ConfigFault.TheVariants.{Duplicate}
+use Rattle.agg_types.specs.declared.config.Config.{Config}
+use Rattle.agg_types.specs.declared.config.Filter as Filters
+use Rattle.agg_types.specs.declared.config.Rank as Ranks
+use Rattle.agg_types.specs.declared.config.Shape.{Shape}
+use Rattle.line_words.specs.Words.{words}
+use Rattle.agg_config.specs.Declarations.{declared}
+use Rattle.agg_config.specs.declared.causes.LineCause.{LineCause}
+use Rattle.agg_config.specs.declared.causes.LineCause.TheVariants.{Syntax, Number, Check, NoMemory}
+use Rattle.agg_config.specs.declared.causes.LineFault.{LineFault}
+use Rattle.agg_config.specs.declared.declarations.Declaration.{Declaration}
+use Rattle.agg_config.specs.declared.declarations.Declaration.TheVariants.{Me, Peer, Table, Filter, Rank}
+
+-- the position of the table of this name; past the last where there is none
+abbrev pub table_at : List Shape → List ℕ → ℕ
+table_at tables name =
+    unwrap_or (position (λ shape. bytes_eq shape.name name) tables) (length tables)
+
+-- a configuration with one more declaration
+abbrev pub declaring : Config → Declaration → Config
+declaring config (Me name) = record config { me = name }
+declaring config (Peer name) = record config { peers = config.peers ++ name ∷ [] }
+declaring config (Table shape) = record config { tables = config.tables ++ shape ∷ [] }
+declaring config (Filter name table conds) =
+    let at = table_at config.tables table in
+    let filter : Filters.Filter = record { name = name; table = at; conds = conds } in
+    record config { filters = config.filters ++ filter ∷ [] }
+declaring config (Rank name table col n) =
+    let at = table_at config.tables table in
+    let rank : Ranks.Rank = record { name = name; table = at; col = col; n = n } in
+    record config { ranks = config.ranks ++ rank ∷ [] }
+
+-- whether it is the collector's name
+abbrev pub is_me : Declaration → Bool
+is_me (Me name) = true
+is_me (Peer name) = false
+is_me (Table shape) = false
+is_me (Filter name table conds) = false
+is_me (Rank name table col n) = false
+
+-- what a line says: a declaration, or nothing, or what is wrong with its words
+abbrev pub Meaning : Type 0
+Meaning = Result (Option Declaration) LineCause
+
+abbrev pub meaning : List ℕ → Meaning
+meaning line = declared (words line)
+
+-- a configuration behind a line, where it is read
+abbrev pub behind : Config → Meaning → Config
+behind config (Err cause) = config
+behind config (Ok None) = config
+behind config (Ok (Some declaration)) = declaring config declaration
+
+-- whether a line gives the collector its name
+abbrev pub names : Meaning → Bool
+names (Err cause) = false
+names (Ok None) = false
+names (Ok (Some declaration)) = is_me declaration
+
+-- before the first line: nothing, under the name `-` until it has one
+abbrev pub opening : Config
+opening = record { me = 45 ∷ []; peers = []; tables = []; filters = []; ranks = [] }
+
+-- what lines write
+unfoldable pub written : List (List ℕ) → Config
+written lines = fold (λ config line. behind config (meaning line)) opening lines
+
+-- whether one of the lines gives the collector its name
+unfoldable pub is_named : List (List ℕ) → Bool
+is_named lines = list_any (λ line. names (meaning line)) lines
+
+-- the faults of a line behind a configuration that has its name already or not
+abbrev pub faults_behind : Config → Bool → Meaning → List LineCause
+faults_behind config named (Err cause) = cause ∷ []
+faults_behind config named (Ok None) = []
+faults_behind config named (Ok (Some declaration)) =
+    let second = fault_if (named && is_me declaration) Duplicate in
+    map Check (config_faults (declaring config declaration) ++ second)
+
+-- a line is read without a fault: what it leaves
+pub record Passes (config : Config) (named : Bool) (line : Meaning) (after : Config)
+    (named_after : Bool) : Type 0 where
+  pub faultless : faults_behind config named line ≡ []
+  pub whole : after ≡ behind config line
+  pub told : named_after ≡ (named || names line)
+
+-- a cause is the first of these faults, unless memory was refused
+abbrev pub FailsFirst : LineCause → List LineCause → Type 0
+FailsFirst NoMemory faults = Unit {0}
+FailsFirst Syntax faults = slice_get faults 0 ≡ Some Syntax
+FailsFirst Number faults = slice_get faults 0 ≡ Some Number
+FailsFirst (Check fault) faults = slice_get faults 0 ≡ Some (Check fault)
+
+-- the first fault of a line behind others, if it has one
+unfoldable pub line_fault : List (List ℕ) → List ℕ → Option LineCause
+line_fault before line =
+    slice_get (faults_behind (written before) (is_named before) (meaning line)) 0
+
+-- the first lines, this many, have no fault
+abbrev pub AreSound : List (List ℕ) → ℕ → Type 0
+AreSound lines n = (k : ℕ) → k < n → line_fault (take k lines) (slice_index_or lines k []) ≡ None
+
+-- the lines write this configuration, and none has a fault
+pub record Write (lines : List (List ℕ)) (config : Config) : Type 0 where
+  pub sound : AreSound lines (length lines)
+  pub named : is_named lines ≡ true
+  pub whole : config ≡ written lines
+
+-- this many lines have no fault, and the next one has this, its first
+pub record FaultyLine (lines : List (List ℕ)) (before : ℕ) (cause : LineCause) : Type 0 where
+  pub sound : AreSound lines before
+  pub there : before < length lines
+  pub first : line_fault (take before lines) (slice_index_or lines before []) ≡ Some cause
+
+-- no line has a fault, but none gives the collector its name
+pub record Nameless (lines : List (List ℕ)) (before : ℕ) : Type 0 where
+  pub sound : AreSound lines (length lines)
+  pub last : before ≡ length lines
+  pub nameless : is_named lines ≡ false
+
+-- what is wrong at the line behind this many; where memory was refused none of these has a fault
+abbrev pub FaultBehind : List (List ℕ) → ℕ → LineCause → Type 0
+FaultBehind lines before NoMemory = (before ≤ length lines) × AreSound lines before
+FaultBehind lines before Syntax = FaultyLine lines before Syntax ⊎ Nameless lines before
+FaultBehind lines before Number = FaultyLine lines before Number
+FaultBehind lines before (Check fault) = FaultyLine lines before (Check fault)
+
+-- the first fault of the lines, which are counted from 1
+abbrev pub IsFirstFault : List (List ℕ) → LineFault → Type 0
+IsFirstFault lines fault =
+    (before : ℕ) × (fault.line ≡ before + 1) × FaultBehind lines before fault.cause
