@@ -1,0 +1,105 @@
+//! Reads each configuration on standard input, and prints what it declares, or its first faulty line.
+//!
+//! Rows begin with `~` and a title, which fills the line; the configuration follows.
+#![tactic(auto)]
+
+use agg_config::LineFault;
+use agg_types::{Col, Config, Filter, KeyKind, Rank, Shape};
+use line_words::{next_line, next_part};
+use std::alloc::Global;
+use std::io;
+use std::io::{BufReader, BufWriter, Read, Write};
+
+fn main(rt: HostRuntime) -> io::Result<()> {
+    let mut rows = Vec::new(rt.alloc());
+    BufReader::new(rt.alloc(), rt.reader())?.read_to_end(&mut rows)?;
+    let mut out = BufWriter::new(rt.alloc(), io::writer(&rt))?;
+    let mut left = Some(rows.as_slice());
+    for _ in 0..rows.len() {
+        let Some(text) = left else {
+            return out.flush();
+        };
+        let (row, rest) = next_part(text, b'~');
+        if let Some((title, text)) = next_line(row) {
+            print_row(rt.alloc(), title, text, &mut out)?;
+        }
+        left = rest;
+    }
+    out.flush()
+}
+
+fn print_row<W: Write>(alloc: Global, title: &[u8], text: &[u8], out: &mut W) -> io::Result<()> {
+    out.write_all(b"== ")?;
+    out.write_all(title)?;
+    out.write_all(b": ")?;
+    match agg_config::read(alloc, text) {
+        Ok(config) => print_config(&config, out),
+        Err(LineFault { line, cause }) => writeln!(out, "config line {line}: {cause}"),
+    }
+}
+
+fn print_config<W: Write>(config: &Config, out: &mut W) -> io::Result<()> {
+    out.write_all(config.me.as_slice())?;
+    for peer in config.peers.as_slice() {
+        print_named(" peer ", peer.as_slice(), out)?;
+    }
+    writeln!(out)?;
+    for shape in config.tables.as_slice() {
+        print_table(shape, out)?;
+    }
+    for filter in config.filters.as_slice() {
+        print_filter(filter, out)?;
+    }
+    for rank in config.ranks.as_slice() {
+        print_rank(rank, out)?;
+    }
+    Ok(())
+}
+
+fn print_named<W: Write>(kind: &str, name: &[u8], out: &mut W) -> io::Result<()> {
+    out.write_all(kind.as_bytes())?;
+    out.write_all(name)
+}
+
+fn print_table<W: Write>(shape: &Shape, out: &mut W) -> io::Result<()> {
+    print_named("table ", shape.name.as_slice(), out)?;
+    let size = shape.size;
+    match shape.kind {
+        KeyKind::Integer => write!(out, " integer size {size}")?,
+        KeyKind::Ip => write!(out, " ip size {size}")?,
+        KeyKind::Ipv6 => write!(out, " ipv6 size {size}")?,
+        KeyKind::Str(len) => write!(out, " string {len} size {size}")?,
+        KeyKind::Binary(len) => write!(out, " binary {len} size {size}")?,
+    }
+    for col in shape.cols.as_slice() {
+        print_col(*col, out)?;
+    }
+    writeln!(out)
+}
+
+fn print_col<W: Write>(col: (Col, u32), out: &mut W) -> io::Result<()> {
+    let name = col.0.name();
+    let period = col.1;
+    write!(out, " {name}({period})")
+}
+
+fn print_filter<W: Write>(filter: &Filter, out: &mut W) -> io::Result<()> {
+    print_named("filter ", filter.name.as_slice(), out)?;
+    let table = filter.table;
+    write!(out, " of table {table}")?;
+    for cond in filter.conds.as_slice() {
+        let name = cond.col.name();
+        let op = cond.op;
+        let bound = cond.bound;
+        write!(out, ", {name} {op:?} {bound}")?;
+    }
+    writeln!(out)
+}
+
+fn print_rank<W: Write>(rank: &Rank, out: &mut W) -> io::Result<()> {
+    print_named("rank ", rank.name.as_slice(), out)?;
+    let table = rank.table;
+    let name = rank.col.name();
+    let n = rank.n;
+    writeln!(out, " of table {table}: {n} by {name}")
+}
