@@ -1,4 +1,5 @@
-//! The types that every other crate speaks of: keys, columns, a fleet's configuration and its events.
+//! The types that every other crate speaks of: keys, columns, a fleet's configuration and its
+//! events.
 //!
 //! Contracts see plain data: a key is the list of its bytes, a collection the list of its items.
 #![tactic(auto)]
