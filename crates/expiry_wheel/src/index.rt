@@ -17,13 +17,15 @@ pub trait DueIndex<T: Ord> {
     fn plan(&mut self, at: u64, item: T) -> Result<(), NoMemory>
         ensures ok { OnOk result
             (planned self.new ≡ with_entry T.cmp (planned self.old) (at, item)) }
-        ensures err { OnErr result (planned self.new ≡ planned self.old) };
+        ensures err { OnErr result (planned self.new ≡ planned self.old) }
+        ensures ordered { IsInOrder T.cmp (planned self.old) };
 
     /// Takes an entry away, and answers whether it was there.
     fn cancel(&mut self, at: u64, item: &T) -> bool
         ensures found { result ≡ has_entry T.cmp (planned self.old) (at, item.now) }
         ensures removed { planned self.new
-            ≡ without_entry T.cmp (planned self.old) (at, item.now) };
+            ≡ without_entry T.cmp (planned self.old) (at, item.now) }
+        ensures ordered { IsInOrder T.cmp (planned self.old) };
 
     /// The moment of the least entry.
     fn next_at(&self) -> Option<u64>
