@@ -7,24 +7,24 @@ use Rattle.session_core.specs.declared.cause.SessionCause.TheVariants as cause
 use Rattle.session_core.specs.declared.cause.Status.{Status}
 use Rattle.session_core.specs.declared.stage.Stage.{Stage}
 use Rattle.session_core.specs.declared.stage.Stage.TheVariants.{Greeting, Over}
-use Rattle.session_core.specs.declared.stage.Taken.{Taken}
+use Rattle.session_core.specs.declared.stage.StageOutcome.{StageOutcome}
 use Rattle.session_core.specs.Batched.{Batched}
 use Rattle.session_core.specs.Cause.{cause_of}
 use Rattle.session_core.specs.Hello.{hello_of, line_at}
 use Rattle.session_core.specs.Piece.{Setup, nothing, piece_of}
-use Rattle.session_core.specs.Standing.{Answers, Ends, FaultAnswers, Standing}
+use Rattle.session_core.specs.State.{Answers, Ends, FaultAnswers, SessionState}
 use Rattle.session_core.specs.Silence.{peer_of}
 use Rattle.session_core.specs.Talk.{end_read, stage_after, stage_at, stage_of, talk, talk_after}
-use Rattle.session_core.specs.Told.{FaultTells, OpensWith, Stands, Tells}
+use Rattle.session_core.specs.TalkAnswers.{FaultAnswersTalk, OpensWith, Stands, AnswersTalk}
 use Rattle.session_core.proofs.FitLemmas.{some_same}
-use Rattle.session_core.proofs.HearLemmas.{none_some}
+use Rattle.session_core.proofs.MeaningLemmas.{none_some}
 use Rattle.session_core.proofs.PieceTalk.{Gives, piece_gives}
 use Rattle.peers_msg.specs.Message.{Reading, reading_of}
 use Rattle.agg_types.specs.declared.config.Shape.{Shape}
 use Rattle.agg_types.specs.declared.event.What.TheVariants.{Open}
 use Rattle.session_core.specs.declared.cause.End.{End as Ending}
 
-stands_for : (setup : Setup) (seated : Bool) (taken piece : List ℕ) (x : Taken) (batch : Batched) (end : Option SessionCause) (stage : Stage) → Gives setup (talk setup seated taken) (talk setup seated (taken ++ piece)) x (stage_of setup seated (taken ++ piece)) → option_map cause_of x.end ≡ end → batch ≡ x.batch → stage ≡ x.stage → Stands setup seated taken piece batch end stage
+stands_for : (setup : Setup) (seated : Bool) (taken piece : List ℕ) (x : StageOutcome) (batch : Batched) (end : Option SessionCause) (stage : Stage) → Gives setup (talk setup seated taken) (talk setup seated (taken ++ piece)) x (stage_of setup seated (taken ++ piece)) → option_map cause_of x.end ≡ end → batch ≡ x.batch → stage ≡ x.stage → Stands setup seated taken piece batch end stage
 stands_for setup seated taken piece x batch end stage gives is_end is_batch is_stage =
     record {
       grows = rw is_batch gives.grows;
@@ -32,26 +32,26 @@ stands_for setup seated taken piece x batch end stage gives is_end is_batch is_s
       stands = is_stage ∙ gives.stage_is;
     }
 
-ends_tell : (setup : Setup) (taken piece : List ℕ) (now : ℕ) (old new : Standing) (cause : SessionCause) (batch : Batched) → old.stage ≡ stage_of setup old.seated taken → Ends cause batch old new piece now (piece_of setup old.seated old.stage piece) → Stands setup old.seated taken piece batch (Some cause) new.stage
+ends_tell : (setup : Setup) (taken piece : List ℕ) (now : ℕ) (old new : SessionState) (cause : SessionCause) (batch : Batched) → old.stage ≡ stage_of setup old.seated taken → Ends cause batch old new piece now (piece_of setup old.seated old.stage piece) → Stands setup old.seated taken piece batch (Some cause) new.stage
 ends_tell setup taken piece now old new cause batch stands h =
     let gives = piece_gives setup old.seated taken piece in
     let same = ap (λ (s : Stage). piece_of setup old.seated s piece) stands in
     stands_for setup old.seated taken piece (piece_of setup old.seated (stage_of setup old.seated taken) piece) batch (Some cause) new.stage gives
-    (ap (λ (x : Taken). option_map cause_of x.end) (sym same) ∙ h.0) (h.1 ∙ ap (λ (x : Taken). x.batch) same) (ap (λ (s : Standing). s.stage) h.2 ∙ ap (λ (x : Taken). x.stage) same)
+    (ap (λ (x : StageOutcome). option_map cause_of x.end) (sym same) ∙ h.0) (h.1 ∙ ap (λ (x : StageOutcome). x.batch) same) (ap (λ (s : SessionState). s.stage) h.2 ∙ ap (λ (x : StageOutcome). x.stage) same)
 
-fault_tells : (setup : Setup) (taken piece : List ℕ) (now : ℕ) (old new : Standing) (cause : SessionCause) (batch : Batched) → old.stage ≡ stage_of setup old.seated taken → FaultAnswers cause batch old new piece now (piece_of setup old.seated old.stage piece) → FaultTells cause batch setup old.seated taken piece new.stage
-fault_tells setup taken piece now old new cause.NoMemory batch stands h = ap (λ (s : Standing). s.stage) h.1 ∙ stands
+fault_tells : (setup : Setup) (taken piece : List ℕ) (now : ℕ) (old new : SessionState) (cause : SessionCause) (batch : Batched) → old.stage ≡ stage_of setup old.seated taken → FaultAnswers cause batch old new piece now (piece_of setup old.seated old.stage piece) → FaultAnswersTalk cause batch setup old.seated taken piece new.stage
+fault_tells setup taken piece now old new cause.NoMemory batch stands h = ap (λ (s : SessionState). s.stage) h.1 ∙ stands
 fault_tells setup taken piece now old new (cause.Refused status) batch stands h = ends_tell setup taken piece now old new (cause.Refused status) batch stands h
 fault_tells setup taken piece now old new (cause.Wire wire) batch stands h = ends_tell setup taken piece now old new (cause.Wire wire) batch stands h
 fault_tells setup taken piece now old new cause.PeerError batch stands h = ends_tell setup taken piece now old new cause.PeerError batch stands h
 fault_tells setup taken piece now old new cause.TimedOut batch stands h = ends_tell setup taken piece now old new cause.TimedOut batch stands h
 
-pub tells : (setup : Setup) (taken piece : List ℕ) (now : ℕ) (old new : Standing) (result : Result Batched SessionFault) → Answers result old new piece now (piece_of setup old.seated old.stage piece) → old.stage ≡ stage_of setup old.seated taken → Tells result setup old.seated taken piece new.stage
+pub tells : (setup : Setup) (taken piece : List ℕ) (now : ℕ) (old new : SessionState) (result : Result Batched SessionFault) → Answers result old new piece now (piece_of setup old.seated old.stage piece) → old.stage ≡ stage_of setup old.seated taken → AnswersTalk result setup old.seated taken piece new.stage
 tells setup taken piece now old new (Ok batch) h stands =
     let gives = piece_gives setup old.seated taken piece in
     let same = ap (λ (s : Stage). piece_of setup old.seated s piece) stands in
     stands_for setup old.seated taken piece (piece_of setup old.seated (stage_of setup old.seated taken) piece) batch None new.stage gives
-    (ap (λ (x : Taken). option_map cause_of x.end) (sym same) ∙ ap (option_map cause_of) h.0) (h.1 ∙ ap (λ (x : Taken). x.batch) same) (ap (λ (s : Standing). s.stage) h.2 ∙ ap (λ (x : Taken). x.stage) same)
+    (ap (λ (x : StageOutcome). option_map cause_of x.end) (sym same) ∙ ap (option_map cause_of) h.0) (h.1 ∙ ap (λ (x : StageOutcome). x.batch) same) (ap (λ (s : SessionState). s.stage) h.2 ∙ ap (λ (x : StageOutcome). x.stage) same)
 tells setup taken piece now old new (Err fault) h stands = fault_tells setup taken piece now old new fault.cause fault.batch stands h
 
 -- a session that has taken no byte
@@ -98,7 +98,7 @@ ended_stays setup seated bytes more end is =
     let over = stage_of_over setup seated bytes end is in
     let gives = piece_gives setup seated bytes more in
     let piece = ap (λ (s : Stage). piece_of setup seated s more) over.1 ∙ over_piece setup seated end over.0 more in (
-      gives.end ∙ ap (λ (x : Taken). x.end) piece,
-      gives.grows.facts ∙ ap (λ (x : Taken). (talk setup seated bytes).facts ++ x.batch.facts) piece ∙ append-nil (talk setup seated bytes).facts,
-      gives.grows.replies ∙ ap (λ (x : Taken). (talk setup seated bytes).replies ++ x.batch.replies) piece ∙ append-nil (talk setup seated bytes).replies,
+      gives.end ∙ ap (λ (x : StageOutcome). x.end) piece,
+      gives.grows.facts ∙ ap (λ (x : StageOutcome). (talk setup seated bytes).facts ++ x.batch.facts) piece ∙ append-nil (talk setup seated bytes).facts,
+      gives.grows.replies ∙ ap (λ (x : StageOutcome). (talk setup seated bytes).replies ++ x.batch.replies) piece ∙ append-nil (talk setup seated bytes).replies,
     )

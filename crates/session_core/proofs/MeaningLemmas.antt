@@ -12,11 +12,11 @@ use Rattle.agg_types.specs.declared.event.What.{What}
 use Rattle.session_core.specs.declared.cause.End.TheVariants.{Wire}
 use Rattle.session_core.specs.declared.track.Entry.{Entry}
 use Rattle.session_core.specs.declared.track.Followed.{Followed}
-use Rattle.session_core.specs.declared.track.Heard.{Heard}
-use Rattle.session_core.specs.declared.track.Heard.TheVariants.{Nothing, Confirm, Partial, Fact, End}
+use Rattle.session_core.specs.declared.track.Meaning.{Meaning}
+use Rattle.session_core.specs.declared.track.Meaning.TheVariants.{Nothing, Confirm, Partial, Fact, End}
 use Rattle.session_core.specs.InForce.{followed_ids, followed_under, id_given, id_in_force, is_under, is_updated, last_id, table_in_force, update_of_message, with_followed, with_id}
 use Rattle.session_core.specs.Talk.{current_for, entries_for, entry_for, meaning, row_or_end, track_for, update_under}
-use Rattle.session_core.specs.Tracked.{Step, Tracked, defined, entry_of, followed_of, hear, id_after, place, place_if, place_of, put_of, updated_under, updated_if, updated_at, updated_by}
+use Rattle.session_core.specs.Tracked.{Step, Tracked, defined, entry_of, followed_of, step_of, id_after, place, place_if, place_of, put_of, updated_under, updated_if, updated_at, updated_by}
 use Rattle.session_core.proofs.TrackLemmas.{Ascends, HasIds, found_in, insert_in, is_in, lt_tells, map_same, not_found, place_in, place_map, set_in, with_id_ascends, with_id_in, or_false}
 
 pub bool_tells : (b : Bool) → (b ≡ true) ⊎ (b ≡ false)
@@ -138,7 +138,7 @@ not_updated tables id (suc newest) (message ∷ past) e =
 -- ---- one message more
 
 -- what is kept after a message of this meaning
-abbrev pub kept_by : Heard → Tracked → Tracked → Tracked
+abbrev pub kept_by : Meaning → Tracked → Tracked → Tracked
 kept_by (End end) old new = old
 kept_by Nothing old new = new
 kept_by Confirm old new = new
@@ -150,7 +150,7 @@ abbrev pub step_for : List Shape → ℕ → ℕ → List Message → Message �
 step_for tables peer newest past message =
     record {
       track = kept_by (meaning tables peer past message) (track_for tables newest past) (track_for tables (suc newest) (message ∷ past));
-      heard = meaning tables peer past message;
+      meaning = meaning tables peer past message;
     }
 
 has_ids : (tables : List Shape) (newest : ℕ) (past : List Message) → HasIds (entry_for tables newest past)
@@ -175,10 +175,10 @@ place_switched tables id newest past at =
       | inr e ↦ rw (entry_unknown tables id newest past e, unfollowed tables id past e) refl
     ]
 
-switch_is : (tables : List Shape) (peer newest : ℕ) (past : List Message) (id : ℕ) → hear tables peer (track_for tables newest past) (messages.Switch id) ≡ step_for tables peer newest past (messages.Switch id)
-unfolding hear meaning
+switch_is : (tables : List Shape) (peer newest : ℕ) (past : List Message) (id : ℕ) → step_of tables peer (track_for tables newest past) (messages.Switch id) ≡ step_for tables peer newest past (messages.Switch id)
+unfolding step_of meaning
 switch_is tables peer newest past id =
-    ap (λ (c : Option ℕ). let t : Tracked = record { entries = entries_for tables newest past; current = c } in let s : Step = record { track = t; heard = Nothing } in s) (place_switched tables id newest past (place id (entries_for tables newest past)))
+    ap (λ (c : Option ℕ). let t : Tracked = record { entries = entries_for tables newest past; current = c } in let s : Step = record { track = t; meaning = Nothing } in s) (place_switched tables id newest past (place id (entries_for tables newest past)))
 
 -- ---- a definition
 
@@ -208,7 +208,7 @@ own_entry tables newest definition past = rw (eq-eqb definition.id definition.id
 other_entry : (tables : List Shape) (newest : ℕ) (definition : Definition) (past : List Message) (x : ℕ) → eqb x definition.id ≡ false → entry_for tables (suc newest) (messages.Define definition ∷ past) x ≡ entry_for tables newest past x
 other_entry tables newest definition past x e = rw (ne_eqb definition.id x (λ s. eqb-false x definition.id e (sym s))) refl
 
-quiet_same : {a b : List Entry} {c d : Option ℕ} → a ≡ b → c ≡ d → (let t : Tracked = record { entries = a; current = c } in let s : Step = record { track = t; heard = Nothing } in s) ≡ (let t : Tracked = record { entries = b; current = d } in let s : Step = record { track = t; heard = Nothing } in s)
+quiet_same : {a b : List Entry} {c d : Option ℕ} → a ≡ b → c ≡ d → (let t : Tracked = record { entries = a; current = c } in let s : Step = record { track = t; meaning = Nothing } in s) ≡ (let t : Tracked = record { entries = b; current = d } in let s : Step = record { track = t; meaning = Nothing } in s)
 quiet_same e f = rw (e, f) refl
 
 -- the place that a definition puts in force
@@ -221,7 +221,7 @@ define_place tables newest definition past =
     let f = defined_own tables newest definition past in
     ap (place_if (followed_of tables definition)) e ∙ ap (λ (o : Option Followed). place_if o (place definition.id (entries_for tables (suc newest) new))) (sym f)
 
-define_known : (tables : List Shape) (newest : ℕ) (definition : Definition) (past : List Message) → is_in definition.id (followed_ids tables past) ≡ true → defined (track_for tables newest past) definition.id (followed_of tables definition) (Some (entry_for tables newest past definition.id)) ≡ record { track = track_for tables (suc newest) (messages.Define definition ∷ past); heard = Nothing }
+define_known : (tables : List Shape) (newest : ℕ) (definition : Definition) (past : List Message) → is_in definition.id (followed_ids tables past) ≡ true → defined (track_for tables newest past) definition.id (followed_of tables definition) (Some (entry_for tables newest past definition.id)) ≡ record { track = track_for tables (suc newest) (messages.Define definition ∷ past); meaning = Nothing }
 define_known tables newest definition past e =
     let new = messages.Define definition ∷ past in
     let ids = followed_ids tables past in
@@ -231,7 +231,7 @@ define_known tables newest definition past e =
     rw (place_for tables definition.id newest past, ← own_entry tables newest definition past) (set ∙ ap (map (entry_for tables (suc newest) new)) (sym same)) in
     quiet_same entries (define_place tables newest definition past)
 
-define_skipped : (tables : List Shape) (newest : ℕ) (definition : Definition) (past : List Message) → is_in definition.id (followed_ids tables past) ≡ false → followed_of tables definition ≡ None → defined (track_for tables newest past) definition.id (followed_of tables definition) None ≡ record { track = track_for tables (suc newest) (messages.Define definition ∷ past); heard = Nothing }
+define_skipped : (tables : List Shape) (newest : ℕ) (definition : Definition) (past : List Message) → is_in definition.id (followed_ids tables past) ≡ false → followed_of tables definition ≡ None → defined (track_for tables newest past) definition.id (followed_of tables definition) None ≡ record { track = track_for tables (suc newest) (messages.Define definition ∷ past); meaning = Nothing }
 define_skipped tables newest definition past e none =
     let new = messages.Define definition ∷ past in
     let own : entry_for tables (suc newest) new definition.id ≡ entry_for tables newest past definition.id =
@@ -248,7 +248,7 @@ define_skipped tables newest definition past e none =
     rw (defined_own tables newest definition past, none) refl in
     ap (λ (o : Option Followed). defined (track_for tables newest past) definition.id o None) none ∙ quiet_same entries current
 
-define_more : (tables : List Shape) (newest : ℕ) (definition : Definition) (past : List Message) (followed : Followed) → is_in definition.id (followed_ids tables past) ≡ false → followed_of tables definition ≡ Some followed → nat_le 256 (length (entries_for tables newest past)) ≡ false → defined (track_for tables newest past) definition.id (followed_of tables definition) None ≡ record { track = track_for tables (suc newest) (messages.Define definition ∷ past); heard = Nothing }
+define_more : (tables : List Shape) (newest : ℕ) (definition : Definition) (past : List Message) (followed : Followed) → is_in definition.id (followed_ids tables past) ≡ false → followed_of tables definition ≡ Some followed → nat_le 256 (length (entries_for tables newest past)) ≡ false → defined (track_for tables newest past) definition.id (followed_of tables definition) None ≡ record { track = track_for tables (suc newest) (messages.Define definition ∷ past); meaning = Nothing }
 define_more tables newest definition past followed e some room =
     let new = messages.Define definition ∷ past in
     let ids = followed_ids tables past in
@@ -262,7 +262,7 @@ define_more tables newest definition past followed e some room =
     ap (λ (o : Option Followed). place_if o (place definition.id (entries_for tables newest past))) (sym some) ∙ define_place tables newest definition past in
     ap (λ (o : Option Followed). defined (track_for tables newest past) definition.id o None) some ∙ rw room (quiet_same entries current)
 
-define_full : (tables : List Shape) (newest : ℕ) (definition : Definition) (past : List Message) (followed : Followed) → followed_of tables definition ≡ Some followed → nat_le 256 (length (entries_for tables newest past)) ≡ true → defined (track_for tables newest past) definition.id (followed_of tables definition) None ≡ record { track = track_for tables newest past; heard = End (Wire BadField) }
+define_full : (tables : List Shape) (newest : ℕ) (definition : Definition) (past : List Message) (followed : Followed) → followed_of tables definition ≡ Some followed → nat_le 256 (length (entries_for tables newest past)) ≡ true → defined (track_for tables newest past) definition.id (followed_of tables definition) None ≡ record { track = track_for tables newest past; meaning = End (Wire BadField) }
 define_full tables newest definition past followed some full =
     ap (λ (o : Option Followed). defined (track_for tables newest past) definition.id o None) some ∙ rw full refl
 
@@ -282,15 +282,15 @@ meaning_new : (tables : List Shape) (peer : ℕ) (definition : Definition) (past
 unfolding meaning
 meaning_new tables peer definition past followed full e some is = rw (some, e, is) refl
 
-step_same : {s : Step} {h : Heard} (old new : Tracked) (m : Heard) → m ≡ h → s ≡ record { track = kept_by h old new; heard = h } → s ≡ record { track = kept_by m old new; heard = m }
+step_same : {s : Step} {h : Meaning} (old new : Tracked) (m : Meaning) → m ≡ h → s ≡ record { track = kept_by h old new; meaning = h } → s ≡ record { track = kept_by m old new; meaning = m }
 step_same old new m e f = rw e f
 
 pub some_of : {A : Type 0} (o : Option A) → (o ≡ None) ⊎ ((x : A) × (o ≡ Some x))
 some_of None = inl refl
 some_of (Some x) = inr (x, refl)
 
-define_is : (tables : List Shape) (peer newest : ℕ) (past : List Message) (definition : Definition) → hear tables peer (track_for tables newest past) (messages.Define definition) ≡ step_for tables peer newest past (messages.Define definition)
-unfolding hear
+define_is : (tables : List Shape) (peer newest : ℕ) (past : List Message) (definition : Definition) → step_of tables peer (track_for tables newest past) (messages.Define definition) ≡ step_for tables peer newest past (messages.Define definition)
+unfolding step_of
 define_is tables peer newest past definition =
     let t = track_for tables newest past in
     let u = track_for tables (suc newest) (messages.Define definition ∷ past) in
@@ -322,7 +322,7 @@ update_entry tables newest past id life rest x e = rw e refl
 pub none_some : {A : Type 0} (x : A) → None ≡ Some x → ⊥
 none_some x e = cc
 
-fact_same : {a b : List Entry} {c d : Option ℕ} (put : What) → a ≡ b → c ≡ d → (let t : Tracked = record { entries = a; current = c } in let s : Step = record { track = t; heard = Fact put } in s) ≡ (let t : Tracked = record { entries = b; current = d } in let s : Step = record { track = t; heard = Fact put } in s)
+fact_same : {a b : List Entry} {c d : Option ℕ} (put : What) → a ≡ b → c ≡ d → (let t : Tracked = record { entries = a; current = c } in let s : Step = record { track = t; meaning = Fact put } in s) ≡ (let t : Tracked = record { entries = b; current = d } in let s : Step = record { track = t; meaning = Fact put } in s)
 fact_same put e f = rw (e, f) refl
 
 -- an update that is skipped changes nothing that is kept
@@ -333,11 +333,11 @@ update_skipped tables newest past id life rest none =
     sym (map_same (entry_for tables newest past) (entry_for tables (suc newest) new) (followed_ids tables past) (λ x. update_entry tables newest past id life rest x (none x))) in
     ap (λ (es : List Entry). let t : Tracked = record { entries = es; current = current_for tables past es (id_in_force past) } in t) entries
 
-update_none : (tables : List Shape) (peer newest : ℕ) (past : List Message) (id life : Option ℕ) (rest : List ℕ) → track_for tables newest past ≡ track_for tables (suc newest) (messages.Update id life rest ∷ past) → (track_for tables newest past).current ≡ None → meaning tables peer past (messages.Update id life rest) ≡ Nothing → hear tables peer (track_for tables newest past) (messages.Update id life rest) ≡ step_for tables peer newest past (messages.Update id life rest)
-unfolding hear
+update_none : (tables : List Shape) (peer newest : ℕ) (past : List Message) (id life : Option ℕ) (rest : List ℕ) → track_for tables newest past ≡ track_for tables (suc newest) (messages.Update id life rest ∷ past) → (track_for tables newest past).current ≡ None → meaning tables peer past (messages.Update id life rest) ≡ Nothing → step_of tables peer (track_for tables newest past) (messages.Update id life rest) ≡ step_for tables peer newest past (messages.Update id life rest)
+unfolding step_of
 update_none tables peer newest past id life rest same none means =
     step_same (track_for tables newest past) (track_for tables (suc newest) (messages.Update id life rest ∷ past)) (meaning tables peer past (messages.Update id life rest)) means
-    (ap (λ (at : Option ℕ). updated_under tables peer (track_for tables newest past) at id life rest) none ∙ ap (λ (t : Tracked). let s : Step = record { track = t; heard = Nothing } in s) same)
+    (ap (λ (at : Option ℕ). updated_under tables peer (track_for tables newest past) at id life rest) none ∙ ap (λ (t : Tracked). let s : Step = record { track = t; meaning = Nothing } in s) same)
 
 other_under : (tables : List Shape) (past : List Message) (id x : ℕ) → id_in_force past ≡ Some id → eqb id x ≡ false → is_under tables x past ≡ false
 other_under tables past id x force apart = rw (force, apart) refl
@@ -370,7 +370,7 @@ known_id tables past id followed is =
     ]
 
 -- what an update does under the followed id in force
-update_done : (tables : List Shape) (peer newest : ℕ) (past : List Message) (explicit life : Option ℕ) (rest : List ℕ) (id : ℕ) (followed : Followed) (put : Option What) → id_in_force past ≡ Some id → followed_under tables id past ≡ Some followed → updated_by (track_for tables newest past) (place id (entries_for tables newest past)) (entry_for tables newest past id) explicit put ≡ record { track = kept_by (row_or_end put) (track_for tables newest past) (track_for tables (suc newest) (messages.Update explicit life rest ∷ past)); heard = row_or_end put }
+update_done : (tables : List Shape) (peer newest : ℕ) (past : List Message) (explicit life : Option ℕ) (rest : List ℕ) (id : ℕ) (followed : Followed) (put : Option What) → id_in_force past ≡ Some id → followed_under tables id past ≡ Some followed → updated_by (track_for tables newest past) (place id (entries_for tables newest past)) (entry_for tables newest past id) explicit put ≡ record { track = kept_by (row_or_end put) (track_for tables newest past) (track_for tables (suc newest) (messages.Update explicit life rest ∷ past)); meaning = row_or_end put }
 update_done tables peer newest past explicit life rest id followed None force is = refl
 update_done tables peer newest past explicit life rest id followed (Some put) force is =
     let new = messages.Update explicit life rest ∷ past in
@@ -386,8 +386,8 @@ update_done tables peer newest past explicit life rest id followed (Some put) fo
     rw force (ap (place_if (followed_under tables id past)) e) in
     fact_same put entries current
 
-update_is : (tables : List Shape) (peer newest : ℕ) (past : List Message) (id life : Option ℕ) (rest : List ℕ) → hear tables peer (track_for tables newest past) (messages.Update id life rest) ≡ step_for tables peer newest past (messages.Update id life rest)
-unfolding hear
+update_is : (tables : List Shape) (peer newest : ℕ) (past : List Message) (id life : Option ℕ) (rest : List ℕ) → step_of tables peer (track_for tables newest past) (messages.Update id life rest) ≡ step_for tables peer newest past (messages.Update id life rest)
+unfolding step_of
 update_is tables peer newest past explicit life rest =
     let t = track_for tables newest past in
     let u = track_for tables (suc newest) (messages.Update explicit life rest ∷ past) in
@@ -414,8 +414,8 @@ update_is tables peer newest past explicit life rest =
     ]
 
 -- any message
-pub hear_is : (tables : List Shape) (peer newest : ℕ) (past : List Message) (message : Message) → hear tables peer (track_for tables newest past) message ≡ step_for tables peer newest past message
-unfolding hear meaning
+pub hear_is : (tables : List Shape) (peer newest : ℕ) (past : List Message) (message : Message) → step_of tables peer (track_for tables newest past) message ≡ step_for tables peer newest past message
+unfolding step_of meaning
 hear_is tables peer newest past messages.Request = refl
 hear_is tables peer newest past messages.Finished = refl
 hear_is tables peer newest past messages.Partial = refl
