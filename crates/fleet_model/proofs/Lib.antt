@@ -21,3 +21,7 @@ pub mod Listed
 pub mod Flat
 pub mod Bounded
 pub mod Small
+pub mod Cells
+pub mod Every
+pub mod Checked
+pub mod Sound

@@ -70,7 +70,7 @@ module _ {K X : Type 0} (R : K → K → Ordering) where
   below_keys x [] h = tt
   below_keys x (e ∷ es) h = (less_from (R x e.0) (first _ _ h), below_keys x es (second _ _ h))
 
-  sorted_keys : (es : List (K × X)) → T (is_sorted R es) → IsStrictlySortedBy R (keys_of es)
+  pub sorted_keys : (es : List (K × X)) → T (is_sorted R es) → IsStrictlySortedBy R (keys_of es)
   unfolding IsStrictlySortedBy
   sorted_keys [] h = tt
   sorted_keys (e ∷ es) h = (below_keys e.0 es (first _ _ h), sorted_keys es (second _ _ h))
@@ -93,7 +93,7 @@ distinct config opening events = IsDistinct-from_sorted place_cmp (keys_of (stat
 abbrev Live : ℕ → List (Place × Arrival) → Type 0
 Live t rows = AllByRecursion (λ row. is_live t row.1 ≡ true) rows
 
-live-insert : (t : ℕ) (es : List (Place × Arrival)) (place : Place) (arrival : Arrival) → Live t es → is_live t arrival ≡ true → Live t (insert_entry place_cmp es place arrival)
+pub live-insert : (t : ℕ) (es : List (Place × Arrival)) (place : Place) (arrival : Arrival) → Live t es → is_live t arrival ≡ true → Live t (insert_entry place_cmp es place arrival)
 live-insert t [] place arrival h live = (live, tt)
 live-insert t (e ∷ es) place arrival h live =
     elim (place_cmp place e.0) as (λ r. Live t (match_ordering r ((place, arrival) ∷ e ∷ es) ((e.0, arrival) ∷ es) (e ∷ insert_entry place_cmp es place arrival))) [

@@ -15,7 +15,7 @@ use Rattle.fleet_model.specs.Laws.{AnswersAlike, AreLive, SaysNothing}
 use Rattle.fleet_model.specs.Machine.{after, counts_now, happened, session_of, with_put, with_row}
 use Rattle.fleet_model.specs.Moments.{is_live}
 use Rattle.fleet_model.specs.Ranking.{ranked, ranking}
-use Rattle.fleet_model.specs.Rows.{has_room}
+use Rattle.fleet_model.specs.Rows.{has_room, arrival_of}
 use Rattle.fleet_model.specs.Seats.{is_number}
 use Rattle.fleet_model.specs.State.{State, state_of}
 use Rattle.fleet_model.specs.declared.arrival.Arrival.{Arrival}
@@ -50,7 +50,7 @@ says_nothing s e Sit lives h = absurd h
 says_nothing s e (Open peer) lives h = absurd h
 says_nothing s e (Put peer table key life cells) lives h =
     let place : Place = record { table = table; key = key; peer = peer } in
-    let arrival : Arrival = record { arrived = s.moment; life = life; cells = cells } in
+    let arrival : Arrival = arrival_of s.config.tables table s.moment life cells in
     let no : (is_number (session_of s peer) e.seat && has_room s.config.tables s.rows place) ≡ false =
     and_no (is_number (session_of s peer) e.seat) (has_room s.config.tables s.rows place) (⊎_elim (λ ne. inl (not_number (session_of s peer) e.seat ne)) (λ full. inr full) h) in
     alike s _ refl refl (ap (λ b. cond b (with_row s.moment s.rows place arrival) s.rows) no)

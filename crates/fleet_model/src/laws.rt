@@ -6,16 +6,19 @@ ghost use Rattle.std.specs.BTreeMap.{insert_entry, is_at};
 ghost use Rattle.std.specs.List.{AllByRecursion, IsDistinct, list_any};
 ghost use Rattle.std.specs.List.Sorted.{IsStrictlySortedBy};
 ghost use Rattle.std.specs.Map.{keys_of, lookup, remove_entry};
+ghost use Rattle.agg_types.specs.Check.{config_faults};
 ghost use Rattle.agg_types.specs.Place.{place_cmp};
 ghost use Rattle.agg_types.specs.declared.column.Col.{Col};
 ghost use Rattle.agg_types.specs.declared.config.Config.{Config};
 ghost use Rattle.agg_types.specs.declared.config.Filter.{Filter};
+ghost use Rattle.agg_types.specs.declared.event.Cell.{Cell};
 ghost use Rattle.agg_types.specs.declared.event.Event.{Event};
 ghost use Rattle.agg_types.specs.declared.event.What.TheVariants.{Open, Moment, Leave};
 ghost use Rattle.agg_types.specs.declared.place.Place.{Place};
 ghost use Rattle.fleet_model.specs.Answers.{set_at, summed};
 ghost use Rattle.fleet_model.specs.Answers as answers;
 ghost use Rattle.fleet_model.specs.History.{judged};
+ghost use Rattle.fleet_model.specs.Kept.{GivesElapsedBack, kept_cells};
 ghost use Rattle.fleet_model.specs.Laws.{AnswersAlike, AreLive, IsInForce, IsKeyList, IsOrdered, IsRanking, IsSetAt, IsSummedRow, IsWithinSizes, SaysNothing, opens_at, worth_at};
 ghost use Rattle.fleet_model.specs.Machine.{after, counts_now, number_of, opened, session_of};
 ghost use Rattle.fleet_model.specs.Next.{IsNextChange, IsNextChangeBy, longest_period, table_flat_from};
@@ -23,8 +26,9 @@ ghost use Rattle.fleet_model.specs.Ranking.{ranking};
 ghost use Rattle.fleet_model.specs.Rows.{counted_of};
 ghost use Rattle.fleet_model.specs.Seats.{number};
 ghost use Rattle.fleet_model.specs.Sessions.{session};
+ghost use Rattle.fleet_model.specs.Sound.{IsSound};
 ghost use Rattle.fleet_model.specs.State.{Stands, State, state_of};
-ghost use Rattle.fleet_model.specs.Values.{cols_of, same_place, value};
+ghost use Rattle.fleet_model.specs.Values.{cols_of, column_worth, same_place, value};
 ghost use Rattle.fleet_model.specs.declared.arrival.Arrival.{Arrival};
 
 /// No events leave the opened fleet: no rows, sessions and seats, at the opening moment.
@@ -163,10 +167,13 @@ pub fn next_change_comes_before_flat()
     ensures { (state : State) (filtering : Filter) (last : ℕ) (next : Option ℕ) → table_flat_from state filtering.table ≤ last → IsNextChangeBy state filtering last next → IsNextChange state filtering next }
 {}
 
-/// That moment has 64 bits, as moments and lives are small: the opening moment at most 2^62, and periods below
-/// 2^32.
+/// That moment has 64 bits, as moments and lives are small: in every sound state, and where the opening moment
+/// is at most 2^62 and periods are below 2^32.
 pub fn sets_are_flat_in_time()
-    ensures { (config : Config) (opening : ℕ) (events : List Event) (table : ℕ) → opening ≤ 2 ^ 62 → longest_period (cols_of config.tables table) < 2 ^ 32 → table_flat_from (state_of config opening events) table < 2 ^ 64 }
+    ensures sound { (state : State) (table : ℕ) → IsSound state → table_flat_from state table < 2 ^ 64 }
+    ensures listed { (config : Config) (opening : ℕ) (events : List Event) (table : ℕ)
+        → opening ≤ 2 ^ 62 → longest_period (cols_of config.tables table) < 2 ^ 32
+        → table_flat_from (state_of config opening events) table < 2 ^ 64 }
 {}
 
 /// A filter's next change is one moment, or none.
@@ -180,4 +187,24 @@ pub fn sums_follow_rows()
     ensures put { (f : Place × Arrival → ℕ) (rows : List (Place × Arrival)) (place : Place) (row : Arrival) → IsStrictlySortedBy place_cmp (keys_of rows) → sum_by f (insert_entry place_cmp rows place row) + worth_at f rows place ≡ sum_by f rows + f (place, row) }
     ensures taken { (f : Place × Arrival → ℕ) (rows : List (Place × Arrival)) (place : Place) → sum_by f (remove_entry (is_at (place_cmp place)) rows) + worth_at f rows place ≡ sum_by f rows }
     ensures split { (f : Place × Arrival → ℕ) (p : Place × Arrival → Bool) (rows : List (Place × Arrival)) → sum_by f (filter p rows) + sum_by f (filter (λ row. not (p row)) rows) ≡ sum_by f rows }
+{}
+
+/// What a row keeps of its cells says the same as they did at every later moment. It is one form: the elapsed
+/// time of a rate is at most two periods and 1 ms, so the moment from which the rate is 0 gives it back.
+pub fn kept_cells_say_the_same()
+    ensures worth { (cols : List (Col × ℕ)) (cells : List Cell) (col : Col) (since : ℕ)
+        → column_worth col since cols (kept_cells cols cells) ≡ column_worth col since cols cells }
+    ensures once { (cols : List (Col × ℕ)) (cells : List Cell)
+        → kept_cells cols (kept_cells cols cells) ≡ kept_cells cols cells }
+    ensures from_zero { (period elapsed cur prev t : ℕ) → GivesElapsedBack period elapsed cur prev t }
+{}
+
+/// A checked configuration opened at a moment up to 2^62 ms is sound, and every event keeps a state so: so what
+/// any list of events leaves is sound.
+pub fn states_are_sound()
+    ensures opened { (config : Config) (opening : ℕ) → config_faults config ≡ [] → opening ≤ 2 ^ 62
+        → IsSound (opened config opening) }
+    ensures kept { (state : State) (e : Event) → IsSound state → IsSound (after state e) }
+    ensures whole { (config : Config) (opening : ℕ) (events : List Event) → config_faults config ≡ [] → opening ≤ 2 ^ 62
+        → IsSound (state_of config opening events) }
 {}
