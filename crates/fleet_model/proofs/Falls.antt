@@ -16,11 +16,10 @@ use Rattle.agg_types.specs.declared.event.Event.{Event}
 use Rattle.agg_types.specs.declared.event.What.{What}
 use Rattle.agg_types.specs.declared.event.What.TheVariants.{Moment}
 use Rattle.agg_types.specs.declared.place.Place.{Place}
-use Rattle.fleet_model.proofs.Step.{one_more}
 use Rattle.fleet_model.specs.Answers.{set_at}
 use Rattle.fleet_model.specs.Machine.{after, counts_now, happened}
 use Rattle.fleet_model.specs.Moments.{is_live, lives}
-use Rattle.fleet_model.specs.State.{State, state_of}
+use Rattle.fleet_model.specs.State.{State}
 use Rattle.fleet_model.specs.Values.{cell_worth, cols_of, column_worth, live_keys, meets, same_key, share, value}
 use Rattle.fleet_model.specs.declared.arrival.Arrival.{Arrival}
 
@@ -132,7 +131,8 @@ moved_config : (s : State) (e : Event) (w : What) (told : ℕ) → w ≡ Moment 
 unfolding happened
 moved_config s e w told is = ap (λ w. (happened s e w).config) is
 
-sets_stay : (s : State) (e : Event) (told : ℕ) → e.what ≡ Moment told → (filtering : Filter) (t : ℕ) → s.moment ≤ t → told ≤ t → set_at (after s e) filtering t ≡ set_at s filtering t
+-- what a filter holds from a moment on doesn't depend on whether that moment was told
+pub sets_stay : (s : State) (e : Event) (told : ℕ) → e.what ≡ Moment told → (filtering : Filter) (t : ℕ) → s.moment ≤ t → told ≤ t → set_at (after s e) filtering t ≡ set_at s filtering t
 unfolding after set_at
 sets_stay s e told is filtering t now later =
     let h : max s.moment told ≤ t = omega arith in
@@ -142,7 +142,7 @@ sets_stay s e told is filtering t now later =
       | false ↦ refl
     ]
 
-values_stay : (s : State) (e : Event) (told : ℕ) → e.what ≡ Moment told → (cols : List (Col × ℕ)) (table : ℕ) (key : List ℕ) (col : Col) (t : ℕ) → s.moment ≤ t → told ≤ t → value cols (after s e).rows table key col t ≡ value cols s.rows table key col t
+pub values_stay : (s : State) (e : Event) (told : ℕ) → e.what ≡ Moment told → (cols : List (Col × ℕ)) (table : ℕ) (key : List ℕ) (col : Col) (t : ℕ) → s.moment ≤ t → told ≤ t → value cols (after s e).rows table key col t ≡ value cols s.rows table key col t
 unfolding after
 values_stay s e told is cols table key col t now later =
     let h : max s.moment told ≤ t = omega arith in
@@ -150,12 +150,3 @@ values_stay s e told is cols table key col t now later =
       | true ↦ ap (λ (rows : List (Place × Arrival)). value cols rows table key col t) (moved_rows s e e.what told is) ∙ value-later cols s.rows table key col (max s.moment told) t h
       | false ↦ refl
     ]
-
--- what a filter will hold from a moment on doesn't depend on whether that moment was told
-pub sets_foreseen : (config : Config) (opening : ℕ) (events : List Event) (e : Event) (told : ℕ) → e.what ≡ Moment told → (filtering : Filter) (t : ℕ) → (state_of config opening events).moment ≤ t → told ≤ t → set_at (state_of config opening (events ++ e ∷ [])) filtering t ≡ set_at (state_of config opening events) filtering t
-sets_foreseen config opening events e told is filtering t now later =
-    ap (λ s. set_at s filtering t) (one_more config opening events e) ∙ sets_stay (state_of config opening events) e told is filtering t now later
-
-pub values_foreseen : (config : Config) (opening : ℕ) (events : List Event) (e : Event) (told : ℕ) → e.what ≡ Moment told → (cols : List (Col × ℕ)) (table : ℕ) (key : List ℕ) (col : Col) (t : ℕ) → (state_of config opening events).moment ≤ t → told ≤ t → value cols (state_of config opening (events ++ e ∷ [])).rows table key col t ≡ value cols (state_of config opening events).rows table key col t
-values_foreseen config opening events e told is cols table key col t now later =
-    ap (λ (s : State). value cols s.rows table key col t) (one_more config opening events e) ∙ values_stay (state_of config opening events) e told is cols table key col t now later

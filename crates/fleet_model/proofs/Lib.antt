@@ -25,3 +25,5 @@ pub mod Cells
 pub mod Every
 pub mod Checked
 pub mod Sound
+pub mod KeyRows
+pub mod KeyCounts

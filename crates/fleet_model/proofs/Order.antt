@@ -27,7 +27,7 @@ use Rattle.fleet_model.specs.Moments.{is_live, now_of}
 use Rattle.fleet_model.specs.Rows.{Judged, by_place, counted_of, if_in_force, in_force, leaves_alone, rows_in}
 use Rattle.fleet_model.specs.Seats.{known, number, seats_in, seats_of}
 use Rattle.fleet_model.specs.Sessions.{session, sessions_in}
-use Rattle.fleet_model.specs.State.{state_of}
+use Rattle.fleet_model.specs.State.{State, state_of}
 use Rattle.fleet_model.specs.Values.{same_place}
 use Rattle.fleet_model.specs.declared.arrival.Arrival.{Arrival}
 
@@ -86,8 +86,8 @@ ordered config opening events =
       seats = sorted_keys nat_cmp (known (number counted) (seats_of counted)) (known-sorted (number counted) (seats_of counted));
     }
 
-pub distinct : (config : Config) (opening : ℕ) (events : List Event) → IsDistinct same_place (keys_of (state_of config opening events).rows)
-distinct config opening events = IsDistinct-from_sorted place_cmp (keys_of (state_of config opening events).rows) (ordered config opening events).rows
+pub distinct : (state : State) → IsOrdered state → IsDistinct same_place (keys_of state.rows)
+distinct state h = IsDistinct-from_sorted place_cmp (keys_of state.rows) h.rows
 
 -- ---- rows live
 abbrev Live : ℕ → List (Place × Arrival) → Type 0

@@ -12,15 +12,13 @@ use Rattle.std.specs.Ordering.{is_eq, is_lt, nat_cmp, ordering_reverse, ordering
 use Rattle.std.specs.declared.cmp.Ordering.{Ordering}
 use Rattle.std.specs.declared.cmp.Ordering.TheVariants.{Less, Equal, Greater}
 use Rattle.agg_types.specs.declared.column.Col.{Col}
-use Rattle.agg_types.specs.declared.config.Config.{Config}
-use Rattle.agg_types.specs.declared.event.Event.{Event}
 use Rattle.fleet_model.proofs.Entries.{equal_from}
 use Rattle.fleet_model.proofs.Members.{among, any-map, same_members}
 use Rattle.fleet_model.proofs.Sets.{key_lists}
 use Rattle.fleet_model.specs.Answers.{keys_of}
-use Rattle.fleet_model.specs.Laws.{IsRanking, is_key_among}
+use Rattle.fleet_model.specs.Laws.{IsOrdered, IsRanking, is_key_among}
 use Rattle.fleet_model.specs.Ranking.{in_order, put_in_order, rank_cmp, ranking}
-use Rattle.fleet_model.specs.State.{State, state_of}
+use Rattle.fleet_model.specs.State.{State}
 use Rattle.fleet_model.specs.Values.{cols_of, same_key, value}
 
 any-put : {X : Type 0} (cmp : X → X → Ordering) (p : X → Bool) (x : X) (xs : List X) → list_any p (put_in_order cmp x xs) ≡ (p x || list_any p xs)
@@ -129,13 +127,12 @@ valued v (key ∷ keys) = (refl, valued v keys)
 abbrev value_in : State → ℕ → Col → List ℕ → ℕ
 value_in state table col key = value (cols_of state.config.tables table) state.rows table key col state.moment
 
-pub rankings : (config : Config) (opening : ℕ) (events : List Event) (table : ℕ) (col : Col) → IsRanking (state_of config opening events) table col (ranking (state_of config opening events) table col)
+pub rankings : (state : State) (table : ℕ) (col : Col) → IsOrdered state → IsRanking state table col (ranking state table col)
 unfolding ranking
-rankings config opening events table col =
-    let state = state_of config opening events in
+rankings state table col h =
     let v = value_in state table col in
     let keys = keys_of state table in
-    let list = key_lists config opening events table in
+    let list = key_lists state table h in
     record {
       in_order = sorted-in_order rank_cmp_total (map (λ key. (key, v key)) keys) (untied v keys list.in_order);
       keys = λ key. any-map (same_key key) (λ (e : List ℕ × ℕ). e.0) (in_order rank_cmp (map (λ key. (key, v key)) keys))

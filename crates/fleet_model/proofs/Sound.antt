@@ -94,15 +94,15 @@ sound-put config t false rows place row own h = h
 sound-put config t true rows place row own h =
     elim (is_live t row) as (λ b. is_live t row ≡ b → AreSound config t (cond b (insert_entry place_cmp rows place row) (remove_entry (is_at (place_cmp place)) rows))) [
       | true ↦ λ live. record {
-          ordered = ordered-insert place_cmp place_cmp_total place_cmp_exact rows place row h.ordered;
-          live = every-insert (λ row. is_live t row.1 ≡ true) place_cmp place_cmp_exact rows place row h.live live;
-          each = every-insert (IsSoundRow config t) place_cmp place_cmp_exact rows place row h.each own;
-        }
+        ordered = ordered-insert place_cmp place_cmp_total place_cmp_exact rows place row h.ordered;
+        live = every-insert (λ row. is_live t row.1 ≡ true) place_cmp place_cmp_exact rows place row h.live live;
+        each = every-insert (IsSoundRow config t) place_cmp place_cmp_exact rows place row h.each own;
+      }
       | false ↦ λ over. record {
-          ordered = ordered-remove place_cmp place_cmp_total place_cmp_exact rows place h.ordered;
-          live = every-remove (λ row. is_live t row.1 ≡ true) (is_at (place_cmp place)) rows h.live;
-          each = every-remove (IsSoundRow config t) (is_at (place_cmp place)) rows h.each;
-        }
+        ordered = ordered-remove place_cmp place_cmp_total place_cmp_exact rows place h.ordered;
+        live = every-remove (λ row. is_live t row.1 ≡ true) (is_at (place_cmp place)) rows h.live;
+        each = every-remove (IsSoundRow config t) (is_at (place_cmp place)) rows h.each;
+      }
     ] refl
 
 -- what the clock leaves

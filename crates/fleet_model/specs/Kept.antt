@@ -22,4 +22,4 @@ abbrev pub GivesElapsedBack : ℕ → ℕ → ℕ → ℕ → ℕ → Type 0
 GivesElapsedBack period elapsed cur prev t =
     let kept : ℕ = min elapsed (2 * period + 1) in
     kept_cell period (Rate elapsed cur prev)
-        ≡ Rate (t + 2 * period + 1 - zero_moment (arrived period kept cur prev t)) cur prev
+    ≡ Rate (t + 2 * period + 1 - zero_moment (arrived period kept cur prev t)) cur prev

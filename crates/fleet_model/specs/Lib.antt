@@ -14,3 +14,4 @@ pub mod Worked
 pub mod Ranking
 pub mod Next
 pub mod Sound
+pub mod Keys

@@ -33,8 +33,8 @@ number_of state seat = lookup (is_at (nat_cmp seat)) state.seats
 unfoldable pub counts_now : State → Event → Bool
 counts_now state e =
     fits state.config e.what
-        && is_next e.what e.seat e.seq (nat_lt (length state.seats) most_seats) state.next_seat
-        (number_of state e.seat)
+    && is_next e.what e.seat e.seq (nat_lt (length state.seats) most_seats) state.next_seat
+    (number_of state e.seat)
 
 -- the rows with another one at a place: in place of an older one, and gone at once if its life is
 -- over
@@ -46,8 +46,8 @@ with_row t rows place row = if is_live t row
 unfoldable pub with_put : State → ℕ → Place → Arrival → List (Place × Arrival)
 with_put state seat place row =
     if is_number (session_of state place.peer) seat
-        && has_room state.config.tables state.rows place
-        then with_row state.moment state.rows place row else state.rows
+    && has_room state.config.tables state.rows place
+    then with_row state.moment state.rows place row else state.rows
 
 -- the seats with one more event of one of them
 abbrev pub with_event : State → Event → List (ℕ × ℕ)
@@ -57,8 +57,11 @@ with_event state e = insert_entry nat_cmp state.seats e.seat (e.seq + 1)
 unfoldable pub happened : State → Event → What → State
 happened state e Sit = record state { seats = with_event state e; next_seat = e.seat + 1 }
 happened state e (Open peer) =
-    record state { seats = with_event state e; sessions =
-    insert_entry nat_cmp state.sessions peer e.seat }
+    record state {
+      seats = with_event state e;
+      sessions =
+          insert_entry nat_cmp state.sessions peer e.seat;
+    }
 happened state e (Put peer table key life cells) =
     record state {
       seats = with_event state e;
@@ -66,12 +69,18 @@ happened state e (Put peer table key life cells) =
           (arrival_of state.config.tables table state.moment life cells);
     }
 happened state e (Clear table sel) =
-    record state { seats = with_event state e; rows =
-        filter (λ row. not (clears_at state.config state.rows state.moment (Clear table sel)
-        row.0)) state.rows }
+    record state {
+      seats = with_event state e;
+      rows =
+          filter (λ row. not (clears_at state.config state.rows state.moment (Clear table sel)
+          row.0)) state.rows;
+    }
 happened state e (AddFilter filter) =
-    record state { seats = with_event state e; config =
-        record state.config { filters = filters_after state.config.filters (AddFilter filter) } }
+    record state {
+      seats = with_event state e;
+      config =
+          record state.config { filters = filters_after state.config.filters (AddFilter filter) };
+    }
 happened state e (Moment moment) =
     record state {
       seats = with_event state e;

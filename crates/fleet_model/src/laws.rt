@@ -31,6 +31,9 @@ ghost use Rattle.fleet_model.specs.State.{Stands, State, state_of};
 ghost use Rattle.fleet_model.specs.Values.{cols_of, column_worth, same_place, value};
 ghost use Rattle.fleet_model.specs.declared.arrival.Arrival.{Arrival};
 
+pub mod keys;
+pub mod rows;
+
 /// No events leave the opened fleet: no rows, sessions and seats, at the opening moment.
 pub fn nothing_happened()
     ensures { (config : Config) (opening : ℕ) → state_of config opening [] ≡ opened config opening }
@@ -69,9 +72,9 @@ pub fn states_are_ordered()
     ensures { (config : Config) (opening : ℕ) (events : List Event) → IsOrdered (state_of config opening events) }
 {}
 
-/// At most one row is in force of a peer, table and key.
+/// At most one row is in force of a peer, table and key: in every state that is in order.
 pub fn one_row_of_a_place()
-    ensures { (config : Config) (opening : ℕ) (events : List Event) → IsDistinct same_place (keys_of (state_of config opening events).rows) }
+    ensures { (state : State) → IsOrdered state → IsDistinct same_place (keys_of state.rows) }
 {}
 
 /// A row is in force exactly where some event put it, as a Put of its peer's session in force with room at
@@ -95,12 +98,13 @@ pub fn sizes_hold()
 /// A moment that isn't later, a row of a seat that isn't its peer's session in force, a row past the table's
 /// size, and a filter that isn't taken change no summed row, set or ranked list.
 pub fn some_events_say_nothing()
-    ensures { (config : Config) (opening : ℕ) (events : List Event) (e : Event) → SaysNothing (state_of config opening events) e.seat e.what → AnswersAlike (state_of config opening events) (state_of config opening (events ++ e ∷ [])) }
+    ensures { (state : State) (e : Event)
+        → AreLive state → SaysNothing state e.seat e.what → AnswersAlike state (after state e) }
 {}
 
 /// A lost session keeps its rows: a seat that leaves touches none, and changes no answer.
 pub fn lost_sessions_keep_rows()
-    ensures { (config : Config) (opening : ℕ) (events : List Event) (e : Event) → e.what ≡ Leave → AnswersAlike (state_of config opening events) (state_of config opening (events ++ e ∷ [])) }
+    ensures { (state : State) (e : Event) → e.what ≡ Leave → AnswersAlike state (after state e) }
 {}
 
 /// A seat becomes the session in force of a peer by opening it, and in no other way.
@@ -127,26 +131,34 @@ pub fn values_never_rise()
 /// Sets and values at a moment to come are the same before and after an earlier moment is told: what is
 /// foreseen by the clock alone comes true.
 pub fn the_clock_alone()
-    ensures sets { (config : Config) (opening : ℕ) (events : List Event) (e : Event) (told : ℕ) → e.what ≡ Moment told → (filtering : Filter) (t : ℕ) → (state_of config opening events).moment ≤ t → told ≤ t → set_at (state_of config opening (events ++ e ∷ [])) filtering t ≡ set_at (state_of config opening events) filtering t }
-    ensures values { (config : Config) (opening : ℕ) (events : List Event) (e : Event) (told : ℕ) → e.what ≡ Moment told → (cols : List (Col × ℕ)) (table : ℕ) (key : List ℕ) (col : Col) (t : ℕ) → (state_of config opening events).moment ≤ t → told ≤ t → value cols (state_of config opening (events ++ e ∷ [])).rows table key col t ≡ value cols (state_of config opening events).rows table key col t }
+    ensures sets { (state : State) (e : Event) (told : ℕ) → e.what ≡ Moment told
+        → (filtering : Filter) (t : ℕ) → state.moment ≤ t → told ≤ t
+        → set_at (after state e) filtering t ≡ set_at state filtering t }
+    ensures values { (state : State) (e : Event) (told : ℕ) → e.what ≡ Moment told
+        → (cols : List (Col × ℕ)) (table : ℕ) (key : List ℕ) (col : Col) (t : ℕ)
+        → state.moment ≤ t → told ≤ t
+        → value cols (after state e).rows table key col t ≡ value cols state.rows table key col t }
 {}
 
 /// The keys of a table are exactly those of which a row lives, each once, in the order of their bytes.
 pub fn keys_are_exact()
-    ensures { (config : Config) (opening : ℕ) (events : List Event) (table : ℕ) → IsKeyList (state_of config opening events) table (answers.keys_of (state_of config opening events) table) }
+    ensures { (state : State) (table : ℕ)
+        → IsOrdered state → IsKeyList state table (answers.keys_of state table) }
 {}
 
 /// A filter's set at a moment is exactly the keys with a row that lives then and for which each of its
 /// conditions holds, each once, in the order of their bytes. There is no other such list.
 pub fn sets_are_exact()
-    ensures is_one { (config : Config) (opening : ℕ) (events : List Event) (filtering : Filter) (t : ℕ) → IsSetAt (state_of config opening events) filtering t (set_at (state_of config opening events) filtering t) }
+    ensures is_one { (state : State) (filtering : Filter) (t : ℕ)
+        → IsOrdered state → IsSetAt state filtering t (set_at state filtering t) }
     ensures only { (state : State) (filtering : Filter) (t : ℕ) (keys others : List (List ℕ)) → IsSetAt state filtering t keys → IsSetAt state filtering t others → keys ≡ others }
 {}
 
 /// The ranking of a table has each key with a row once, with its value: a larger value before a smaller
 /// one, and of equal values the smaller key first. There is no other such list.
 pub fn rankings_are_exact()
-    ensures is_one { (config : Config) (opening : ℕ) (events : List Event) (table : ℕ) (col : Col) → IsRanking (state_of config opening events) table col (ranking (state_of config opening events) table col) }
+    ensures is_one { (state : State) (table : ℕ) (col : Col)
+        → IsOrdered state → IsRanking state table col (ranking state table col) }
     ensures only { (state : State) (table : ℕ) (col : Col) (entries others : List (List ℕ × ℕ)) → IsRanking state table col entries → IsRanking state table col others → entries ≡ others }
 {}
 
