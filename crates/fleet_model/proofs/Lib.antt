@@ -27,3 +27,4 @@ pub mod Checked
 pub mod Sound
 pub mod KeyRows
 pub mod KeyCounts
+pub mod KeyChanges

@@ -15,3 +15,4 @@ pub mod Ranking
 pub mod Next
 pub mod Sound
 pub mod Keys
+pub mod Changes

@@ -31,6 +31,7 @@ ghost use Rattle.fleet_model.specs.State.{Stands, State, state_of};
 ghost use Rattle.fleet_model.specs.Values.{cols_of, column_worth, same_place, value};
 ghost use Rattle.fleet_model.specs.declared.arrival.Arrival.{Arrival};
 
+pub mod changes;
 pub mod keys;
 pub mod rows;
 
