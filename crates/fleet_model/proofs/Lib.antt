@@ -28,3 +28,5 @@ pub mod Sound
 pub mod KeyRows
 pub mod KeyCounts
 pub mod KeyChanges
+pub mod RankStarts
+pub mod Named

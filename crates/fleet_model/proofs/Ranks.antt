@@ -86,7 +86,7 @@ sorted-in_order o [] apart = tt
 sorted-in_order {cmp = cmp} o (x ∷ xs) apart = sorted-put o x (in_order cmp xs) (all-in_order cmp (λ y. is_eq (cmp x y) ≡ false) xs apart.0) (sorted-in_order o xs apart.1)
 
 -- ---- keys with their values
-rank_cmp_total : IsTotalOrder rank_cmp
+pub rank_cmp_total : IsTotalOrder rank_cmp
 rank_cmp_total =
     then_total (on_total (λ (e : List ℕ × ℕ). e.1) (back_total nat_cmp_total)) (on_total (λ (e : List ℕ × ℕ). e.0) nat_list_cmp_total)
 
@@ -100,7 +100,7 @@ second_equal Less b e = cc
 second_equal Equal b e = e
 second_equal Greater b e = cc
 
-rank_cmp_exact : (a b : List ℕ × ℕ) → rank_cmp a b ≡ Equal → a ≡ b
+pub rank_cmp_exact : (a b : List ℕ × ℕ) → rank_cmp a b ≡ Equal → a ≡ b
 rank_cmp_exact a b e =
     let values : b.1 ≡ a.1 = exact_unsigned b.1 a.1 (first_equal (nat_cmp b.1 a.1) _ e) in
     let keys : a.0 ≡ b.0 = exact_bytes a.0 b.0 (second_equal (nat_cmp b.1 a.1) _ e) in
@@ -124,7 +124,7 @@ valued : (v : List ℕ → ℕ) (keys : List (List ℕ)) → AllByRecursion (λ 
 valued v [] = tt
 valued v (key ∷ keys) = (refl, valued v keys)
 
-abbrev value_in : State → ℕ → Col → List ℕ → ℕ
+abbrev pub value_in : State → ℕ → Col → List ℕ → ℕ
 value_in state table col key = value (cols_of state.config.tables table) state.rows table key col state.moment
 
 pub rankings : (state : State) (table : ℕ) (col : Col) → IsOrdered state → IsRanking state table col (ranking state table col)
@@ -163,7 +163,7 @@ tied_entry v q e is =
     turned false true b h = refl
     turned false false b h = refl
 
-entry_among : (v : List ℕ → ℕ) (q : List ℕ × ℕ) (es : List (List ℕ × ℕ)) → AllByRecursion (λ (e : List ℕ × ℕ). e.1 ≡ v e.0) es → among rank_cmp q es ≡ (is_key_among q.0 (map (λ e. e.0) es) && (v q.0 == q.1))
+pub entry_among : (v : List ℕ → ℕ) (q : List ℕ × ℕ) (es : List (List ℕ × ℕ)) → AllByRecursion (λ (e : List ℕ × ℕ). e.1 ≡ v e.0) es → among rank_cmp q es ≡ (is_key_among q.0 (map (λ e. e.0) es) && (v q.0 == q.1))
 entry_among v q [] h = refl
 entry_among v q (e ∷ es) h =
     (λ i. tied_entry v q e h.0 i || entry_among v q es h.1 i) ∙ shared (same_key q.0 e.0) (is_key_among q.0 (map (λ e. e.0) es)) (v q.0 == q.1)

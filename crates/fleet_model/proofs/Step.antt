@@ -166,7 +166,7 @@ judged_clears : (config : Config) (opening : ℕ) (h : List Judged) (e : Event) 
 unfolding judge judge_at rows_in
 judged_clears config opening h e b does place = ap (λ b. b && clears_at config (rows_before opening h (counted_of h)) (now_of opening (counted_of h)) e.what place) does
 
-counts_same : (config : Config) (opening : ℕ) (h : List Judged) (counted : List Event) (e : Event) → counts_now (shorter config opening h counted) e ≡ counts config counted e
+pub counts_same : (config : Config) (opening : ℕ) (h : List Judged) (counted : List Event) (e : Event) → counts_now (shorter config opening h counted) e ≡ counts config counted e
 unfolding counts_now counts
 counts_same config opening h counted e =
     λ i. fits_same config (filters_in config counted) e.what i && is_next e.what e.seat e.seq (nat_lt (length (seats_in counted)) most_seats) (above_all (seats_of counted)) (found-seats e.seat counted i)

@@ -1,7 +1,7 @@
 //! What the definitions promise. Each law stands on a function that does nothing: its clause is the law,
 //! over every configuration, opening moment and list of events.
 
-ghost use Rattle.std.specs.Prelude.{◌≡◌, ◌≢◌, ℕ, ◌+◌, ◌<◌, ◌≤◌, ◌^◌, Bool, not, true, false, is_some, length, List, [], ◌∷◌, ◌++◌, Option, Some, filter, fold, sum_by};
+ghost use Rattle.std.specs.Prelude.{◌≡◌, ◌≢◌, ℕ, ◌+◌, ◌<◌, ◌≤◌, ◌^◌, Bool, not, true, false, is_some, length, List, [], ◌∷◌, ◌++◌, Option, Some, filter, fold, min, sum_by, take, ◌-◌};
 ghost use Rattle.std.specs.BTreeMap.{insert_entry, is_at};
 ghost use Rattle.std.specs.List.{AllByRecursion, IsDistinct, list_any};
 ghost use Rattle.std.specs.List.Sorted.{IsStrictlySortedBy};
@@ -11,20 +11,22 @@ ghost use Rattle.agg_types.specs.Place.{place_cmp};
 ghost use Rattle.agg_types.specs.declared.column.Col.{Col};
 ghost use Rattle.agg_types.specs.declared.config.Config.{Config};
 ghost use Rattle.agg_types.specs.declared.config.Filter.{Filter};
+ghost use Rattle.agg_types.specs.declared.config.Rank.{Rank};
 ghost use Rattle.agg_types.specs.declared.event.Cell.{Cell};
 ghost use Rattle.agg_types.specs.declared.event.Event.{Event};
 ghost use Rattle.agg_types.specs.declared.event.What.TheVariants.{Open, Moment, Leave};
 ghost use Rattle.agg_types.specs.declared.place.Place.{Place};
 ghost use Rattle.fleet_model.specs.Answers.{set_at, summed};
 ghost use Rattle.fleet_model.specs.Answers as answers;
+ghost use Rattle.fleet_model.specs.Filters.{added_by, first_named, most_filters};
 ghost use Rattle.fleet_model.specs.History.{judged};
 ghost use Rattle.fleet_model.specs.Kept.{GivesElapsedBack, kept_cells};
-ghost use Rattle.fleet_model.specs.Laws.{AnswersAlike, AreLive, IsInForce, IsKeyList, IsOrdered, IsRanking, IsSetAt, IsSummedRow, IsWithinSizes, SaysNothing, opens_at, worth_at};
+ghost use Rattle.fleet_model.specs.Laws.{AnswersAlike, AreLive, IsInForce, IsKeyList, IsOrdered, IsRanking, IsRankingStart, IsSetAt, IsSummedRow, IsWithinSizes, SaysNothing, opens_at, worth_at};
 ghost use Rattle.fleet_model.specs.Machine.{after, counts_now, number_of, opened, session_of};
 ghost use Rattle.fleet_model.specs.Next.{IsNextChange, IsNextChangeBy, longest_period, table_flat_from};
-ghost use Rattle.fleet_model.specs.Ranking.{ranking};
+ghost use Rattle.fleet_model.specs.Ranking.{ranked, ranking};
 ghost use Rattle.fleet_model.specs.Rows.{counted_of};
-ghost use Rattle.fleet_model.specs.Seats.{number};
+ghost use Rattle.fleet_model.specs.Seats.{counts, number};
 ghost use Rattle.fleet_model.specs.Sessions.{session};
 ghost use Rattle.fleet_model.specs.Sound.{IsSound};
 ghost use Rattle.fleet_model.specs.State.{Stands, State, state_of};
@@ -59,6 +61,22 @@ pub fn step_by_step()
 /// An event that doesn't count changes nothing.
 pub fn uncounted_events_change_nothing()
     ensures { (config : Config) (opening : ℕ) (events : List Event) (e : Event) → counts_now (state_of config opening events) e ≡ false → state_of config opening (events ++ e ∷ []) ≡ state_of config opening events }
+{}
+
+/// Whether an event counts after a list is said of the list: by the events in it that counted.
+pub fn counting_is_of_the_list()
+    ensures { (config : Config) (opening : ℕ) (events : List Event) (e : Event)
+        → counts_now (state_of config opening events) e
+        ≡ counts config (counted_of (judged config opening events)) e }
+{}
+
+/// The filters that stand are the configured ones, and behind them the first of each name that was added
+/// and isn't configured, while fewer than 32 stand.
+pub fn filters_are_the_first_of_each_name()
+    ensures { (config : Config) (opening : ℕ) (events : List Event)
+        → (state_of config opening events).config.filters
+        ≡ config.filters ++ take (most_filters - length config.filters)
+        (first_named config.filters (added_by (counted_of (judged config opening events)))) }
 {}
 
 /// What a state says of a seat is the number of its next event, which is how many of its events counted; and
@@ -161,6 +179,18 @@ pub fn rankings_are_exact()
     ensures is_one { (state : State) (table : ℕ) (col : Col)
         → IsOrdered state → IsRanking state table col (ranking state table col) }
     ensures only { (state : State) (table : ℕ) (col : Col) (entries others : List (List ℕ × ℕ)) → IsRanking state table col entries → IsRanking state table col others → entries ≡ others }
+{}
+
+/// A list of keys with a row, each with its value, is the ranking's beginning if it is in order and every
+/// other key with a row stands behind it. So it is a ranked list, if it has as many as that asks, or all.
+pub fn a_ranking_begins_so()
+    ensures start { (state : State) (table : ℕ) (col : Col) (entries : List (List ℕ × ℕ)) → IsOrdered state
+        → IsRankingStart state table col entries
+        → entries ≡ take (length entries) (ranking state table col) }
+    ensures whole { (state : State) (rank : Rank) (entries : List (List ℕ × ℕ)) → IsOrdered state
+        → IsRankingStart state rank.table rank.col entries
+        → length entries ≡ min rank.n (length (answers.keys_of state rank.table))
+        → entries ≡ ranked state rank }
 {}
 
 /// Each key of a table with a row has a summed row.

@@ -49,7 +49,7 @@ pub fn a_moment_keeps_what_is_foreseen()
 pub fn a_key_is_flat_in_time()
     ensures stays { (state : State) (filtering : Filter) (key : List ℕ) (t later : ℕ)
         → rows_flat_from (cols_of state.config.tables filtering.table)
-            (key_rows state.rows filtering.table key) ≤ t
+        (key_rows state.rows filtering.table key) ≤ t
         → t ≤ later → holds state filtering key later ≡ holds state filtering key t }
     ensures within { (cols : List (Col × ℕ)) (rows : Rows) (table : ℕ) (key : List ℕ)
         → rows_flat_from cols (key_rows rows table key) ≤ flat_moment (longest_period cols) rows }
