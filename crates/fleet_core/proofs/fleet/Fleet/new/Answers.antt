@@ -1,5 +1,5 @@
 use Rattle.std.proofs.Common.{refl}
-use Rattle.fleet_core.proofs.Opened.{opened_stands}
+use Rattle.fleet_core.proofs.Begun.{opened_stands}
 use Rattle.fleet_core.proofs.fleet.Fleet.new.Goals as goal
 
 pub returns-clause-stands : goal.returns-clause-stands
