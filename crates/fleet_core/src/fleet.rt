@@ -64,7 +64,7 @@ impl Fleet {
         ensures stands { IfOk result (λ fleet. StandsFor fleet config moment []) }
         ensures waiting { IfOk result (λ fleet. fleet.waiting ≡ []) }
     {
-        let mut book = Book::new(alloc, config, moment);
+        let mut book = Book::new(alloc, config, moment)?;
         book.take(0, 0, &What::Sit)?;
         Ok(Fleet {
             alloc,

@@ -24,7 +24,7 @@ returns c = λ config opening past h.
     c.in_ok-settle.ensures.ok
     (rw (sym c.settle.ensures.links) at c.requires.open)
     c.requires.unspent
-    (rw (c.config.ensures, ap (λ f. f.links) c.self-2.view_is, ap (λ f. f.book) c.self-2.view_is) at c.in_ok-facts.ensures.ok)
+    (rw (c.config.ensures.value, ap (λ f. f.links) c.self-2.view_is, ap (λ f. f.book) c.self-2.view_is) at c.in_ok-facts.ensures.ok)
     (rw c.is_some-ended.ensures at c.close_if.ensures)
     (rw c.is_some-ended.ensures at c.at_seat-events.ensures)
     (rw (ap (λ f. f.book) c.self-2.view_is) at c.queue.ensures.handed)
