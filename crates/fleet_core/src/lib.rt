@@ -17,5 +17,6 @@ mod step;
 mod waiting;
 
 pub use fleet::Fleet;
+pub use plain_book::Book;
 pub use runs::{Ran, RunFault, run};
 pub use step::{FleetFault, Replies, Step};

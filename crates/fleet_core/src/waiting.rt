@@ -5,8 +5,8 @@ ghost use Rattle.std.specs.Option.{option_map_or};
 ghost use Rattle.fleet_core.specs.Events.{numbered};
 ghost use Rattle.fleet_core.specs.Waiting.{AreHandedOver, IsOneHandedOver, leave_if};
 
+use crate::Book;
 use agg_types::{Items, NoMemory, What};
-use plain_book::Book;
 use std::alloc::Global;
 use std::marker::Model;
 
