@@ -14,22 +14,22 @@ use Rattle.session_core.specs.Talk.{acks_among, stage_of, talk}
 use Rattle.session_core.specs.declared.cause.End.{End}
 use Rattle.session_core.specs.declared.cause.SessionCause.{SessionCause}
 use Rattle.fleet_core.specs.declared.connection.Connection.{Connection}
-use Rattle.fleet_core.specs.declared.connection.Told.{Told}
+use Rattle.fleet_core.specs.declared.connection.Outcome.{Outcome}
 use Rattle.fleet_core.specs.declared.step.Step.{Step}
 use Rattle.fleet_core.specs.declared.step.Step.TheVariants.{Bytes, Lost}
-use Rattle.fleet_core.specs.Done.{IsTold, end_by, said, sent_by}
+use Rattle.fleet_core.specs.Possible.{end_by, is_possible, sent_between, sent_by}
 use Rattle.fleet_core.specs.Events.{added, at_seat, count_of, events_of, is_seated, leave_at, news, numbered, talk_of, talk_with}
-use Rattle.fleet_core.specs.Hearing.{Hears, HearsAt, IsClosedIf, IsSet}
-use Rattle.fleet_core.specs.Links.{Link, as_link, found, is_open, link_of, linked, open_link, seat_of}
-use Rattle.fleet_core.specs.Standing.{Collected, StandsFor}
+use Rattle.fleet_core.specs.Feeding.{Feeds, FeedsAt, IsClosedIf, IsSet}
+use Rattle.fleet_core.specs.Links.{Link, as_link, found, is_open, link_of, linked, open_link, next_seq_of}
+use Rattle.fleet_core.specs.StandsFor.{Collected, StandsFor}
 use Rattle.fleet_core.specs.Steps.{connects, is_lost, stream}
 use Rattle.fleet_core.specs.Waiting.{leave_if}
 use Rattle.fleet_core.proofs.Counts.{apart_from_lt, bool_tells, count-append, count-at_other, count-own, eq_self}
 use Rattle.fleet_core.proofs.Links.{is_kept, link_kept}
-use Rattle.fleet_core.proofs.Taken.{done}
+use Rattle.fleet_core.proofs.HandingOver.{Queued, done}
 
 -- what a seat has waiting: its number, and then as many events as things that happen there
-waits : (events : List Event) (conn : ℕ) (whats : List What) → option_map_or (λ seq. numbered conn seq whats) (seat_of conn events) [] ≡ at_seat events conn whats
+waits : (events : List Event) (conn : ℕ) (whats : List What) → option_map_or (λ seq. numbered conn seq whats) (next_seq_of conn events) [] ≡ at_seat events conn whats
 waits events conn whats =
     elim (is_seated conn events) as (λ b. option_map_or (λ seq. numbered conn seq whats) (then_some b (count_of conn events)) [] ≡ (if b then numbered conn (count_of conn events) whats else [])) [ true ↦ refl | false ↦ refl ]
 
@@ -59,15 +59,15 @@ seated_after events conn whats =
       | inr e ↦ rw e e
     ]
 
-seat_after : (events : List Event) (conn : ℕ) (whats : List What) → seat_of conn (events ++ at_seat events conn whats) ≡ option_map (λ seq. seq + length whats) (seat_of conn events)
+seat_after : (events : List Event) (conn : ℕ) (whats : List What) → next_seq_of conn (events ++ at_seat events conn whats) ≡ option_map (λ seq. seq + length whats) (next_seq_of conn events)
 seat_after events conn whats =
     rw (seated_after events conn whats, seat_count events conn whats)
     (elim (is_seated conn events) as (λ b. then_some b (if b then count_of conn events + length whats else count_of conn events) ≡ option_map (λ seq. seq + length whats) (then_some b (count_of conn events))) [ true ↦ refl | false ↦ refl ])
 
 -- the number of the next event at the seat of an open connection
-pub seat_is : (config : Config) (events : List Event) (past : List Step) (conn : ℕ) (before : Connection) → as_link before ≡ open_link config events past conn → before.seat ≡ seat_of conn events
+pub seat_is : (config : Config) (events : List Event) (past : List Step) (conn : ℕ) (before : Connection) → as_link before ≡ open_link config events past conn → before.next_seq ≡ next_seq_of conn events
 unfolding open_link
-seat_is config events past conn before is = ap (λ (link : Link). link.seat) is
+seat_is config events past conn before is = ap (λ (link : Link). link.next_seq) is
 
 open_then : (config : Config) (events : List Event) (past : List Step) (conn : ℕ) → is_open config events past conn ≡ true → link_of config events past conn ≡ Some (open_link config events past conn)
 unfolding link_of
@@ -78,34 +78,34 @@ pub here_stage : (f : Collected) (config : Config) (opening : ℕ) (past : List 
 unfolding open_link
 here_stage f config opening past conn before h is =
     ap (λ (link : Link). link.stage) is
-    ∙ rw (ap (λ state. setup_of state.config) h.book, same_setup config opening h.taken, ap (λ (link : Link). link.seated) is) refl
+    ∙ rw (ap (λ state. setup_of state.config) h.book, same_setup config opening h.handed, ap (λ (link : Link). link.seated) is) refl
 
 -- ---- a piece
 
 -- what the connection heard, in the words of the steps
-record HeardHere (config : Config) (events : List Event) (past : List Step) (conn : ℕ) (piece : List ℕ) (told : Told) (after : Connection) : Type 0 where
-  facts : told.facts ≡ drop (length (talk_of config events past conn).facts) (talk_with config events past conn piece).facts
-  out : told.out ≡ said config (talk_of config events past conn) (talk_with config events past conn piece)
-  end : told.end ≡ option_map cause_of (talk_with config events past conn piece).end
+record FedHere (config : Config) (events : List Event) (past : List Step) (conn : ℕ) (piece : List ℕ) (given : Outcome) (after : Connection) : Type 0 where
+  facts : given.facts ≡ drop (length (talk_of config events past conn).facts) (talk_with config events past conn piece).facts
+  out : given.out ≡ sent_between config (talk_of config events past conn) (talk_with config events past conn piece)
+  end : given.end ≡ option_map cause_of (talk_with config events past conn piece).end
   stage : after.session.stage ≡ stage_of (setup_of config) (is_seated conn events) (stream past conn ++ piece)
   seated : after.session.seated ≡ is_seated conn events
-  seat : after.seat ≡ option_map (λ seq. seq + length told.facts) (seat_of conn events)
+  next_seq : after.next_seq ≡ option_map (λ seq. seq + length given.facts) (next_seq_of conn events)
 
-here : (config config' : Config) (events : List Event) (past : List Step) (conn : ℕ) (piece : List ℕ) (told : Told) (before after : Connection) → setup_of config' ≡ setup_of config → as_link before ≡ open_link config events past conn → Hears told before after config' (stream past conn) piece → HeardHere config events past conn piece told after
+here : (config config' : Config) (events : List Event) (past : List Step) (conn : ℕ) (piece : List ℕ) (given : Outcome) (before after : Connection) → setup_of config' ≡ setup_of config → as_link before ≡ open_link config events past conn → Feeds given before after config' (stream past conn) piece → FedHere config events past conn piece given after
 unfolding talk_of talk_with open_link
-here config config' events past conn piece told before after same is hears =
+here config config' events past conn piece given before after same is feeds =
     let seated : before.session.seated ≡ is_seated conn events = ap (λ (link : Link). link.seated) is in
-    let seat : before.seat ≡ seat_of conn events = ap (λ (link : Link). link.seat) is in
+    let seat : before.next_seq ≡ next_seq_of conn events = ap (λ (link : Link). link.next_seq) is in
     record {
-      facts = rw (same, seated) at hears.facts;
+      facts = rw (same, seated) at feeds.facts;
       out =
-          subst (λ (setup : Setup). told.out ≡ drop (length (talk setup (is_seated conn events) (stream past conn)).replies) (talk setup (is_seated conn events) (stream past conn ++ piece)).replies
+          subst (λ (setup : Setup). given.out ≡ drop (length (talk setup (is_seated conn events) (stream past conn)).replies) (talk setup (is_seated conn events) (stream past conn ++ piece)).replies
           ++ acks_among setup.tables ((talk setup (is_seated conn events) (stream past conn ++ piece)).count - (talk setup (is_seated conn events) (stream past conn)).count) (talk setup (is_seated conn events) (stream past conn ++ piece)).past) same
-          (rw seated at hears.out);
-      end = rw (same, seated) at hears.end;
-      stage = rw (same, seated) at hears.stage;
-      seated = hears.seated ∙ seated;
-      seat = rw seat at hears.seat;
+          (rw seated at feeds.out);
+      end = rw (same, seated) at feeds.end;
+      stage = rw (same, seated) at feeds.stage;
+      seated = feeds.seated ∙ seated;
+      next_seq = rw seat at feeds.next_seq;
     }
 
 leaves : (facts : List What) (end : Option End) (cause : Option SessionCause) → cause ≡ option_map cause_of end → facts ++ leave_if (is_some cause) ≡ facts ++ leave_at end
@@ -158,13 +158,13 @@ has_ended config events past conn piece whats ended =
     never true link = refl
     never false link = refl
 
-link_then : (config : Config) (events : List Event) (past : List Step) (conn : ℕ) (piece : List ℕ) (told : Told) (after : Connection) → HeardHere config events past conn piece told after → (talk_with config events past conn piece).end ≡ None
+link_then : (config : Config) (events : List Event) (past : List Step) (conn : ℕ) (piece : List ℕ) (given : Outcome) (after : Connection) → FedHere config events past conn piece given after → (talk_with config events past conn piece).end ≡ None
     → as_link after ≡ open_link config (events ++ at_seat events conn (news (talk_of config events past conn) (talk_with config events past conn piece))) (Bytes conn piece ∷ past) conn
 unfolding open_link
-link_then config events past conn piece told after heard none =
+link_then config events past conn piece given after heard none =
     let whats : List What = news (talk_of config events past conn) (talk_with config events past conn piece) in
-    let many : length whats ≡ length told.facts = unended _ _ none ∙ ap length (sym heard.facts) in
-    rw (seat_after events conn whats, seated_after events conn whats, stream_with past conn piece, many, heard.seated, heard.stage, heard.seat) refl
+    let many : length whats ≡ length given.facts = unended _ _ none ∙ ap length (sym heard.facts) in
+    rw (seat_after events conn whats, seated_after events conn whats, stream_with past conn piece, many, heard.seated, heard.stage, heard.next_seq) refl
 
 -- what is found of the connection, after it heard and was closed if its stream ended
 found_then : (end : Option SessionCause) (old heard new : List (ℕ × Connection)) (conn : ℕ) (after : Connection) → IsSet old heard conn (Some after) → IsClosedIf (is_some end) heard new conn → found new conn ≡ (if is_some end then None else Some after)
@@ -187,20 +187,28 @@ came config events past conn is =
     let third = and_parts _ _ second.1 in
     (ltb-true 0 conn second.0, leb-true conn (connects past) third.0)
 
-pub heard : (f g : Collected) (config : Config) (opening : ℕ) (past : List Step) (conn : ℕ) (piece : List ℕ) (told : Told) (links : List (ℕ × Connection)) (before : Connection)
-    → StandsFor f config opening past → f.waiting ≡ [] → found f.links conn ≡ Some before → HearsAt told f.links links conn before f.book.config (stream past conn) piece
-    → IsClosedIf (is_some told.end) links g.links conn
-    → g.book ≡ f.book → g.waiting ≡ option_map_or (λ seq. numbered conn seq (told.facts ++ leave_if (is_some told.end))) before.seat [] → g.connected ≡ f.connected → g.front ≡ f.front
-    → IsTold told.out told.end g config opening past conn piece
+-- a piece was fed, and its events wait
+pub record FedQueued (bytes : List ℕ) (end : Option SessionCause) (new : Collected) (config : Config) (opening : ℕ) (past : List Step) (conn : ℕ) (piece : List ℕ) : Type 0 where
+  pub queued : Queued new config opening past (Bytes conn piece)
+  pub ended : end_by config opening past (Bytes conn piece) ≡ end
+  pub out : bytes ≡ (sent_by config opening past (Bytes conn piece)).out
+
+pub heard : (f g : Collected) (config : Config) (opening : ℕ) (past : List Step) (conn : ℕ) (piece : List ℕ) (given : Outcome) (links : List (ℕ × Connection)) (before : Connection)
+    → StandsFor f config opening past → f.waiting ≡ [] → found f.links conn ≡ Some before → FeedsAt given f.links links conn before f.book.config (stream past conn) piece
+    → IsClosedIf (is_some given.end) links g.links conn
+    → g.book ≡ f.book → g.waiting ≡ option_map_or (λ seq. numbered conn seq (given.facts ++ leave_if (is_some given.end))) before.next_seq [] → g.connected ≡ f.connected → g.next_seq ≡ f.next_seq
+    → is_possible config opening past (Bytes conn piece) ≡ true
+    → FedQueued given.out given.end g config opening past conn piece
 unfolding events_of added end_by sent_by
-heard f g config opening past conn piece told links before h none is hears closed book waiting connected front =
+heard f g config opening past conn piece given links before h none is feeds closed book waiting connected front possible =
     record {
-      stands = done f g config opening past (Bytes conn piece) h none book
+      queued = done f g config opening past (Bytes conn piece) h none book
           (ap (λ some. events ++ some) (sym (waiting ∙ waited)))
           kept
           (connected ∙ h.connected)
-          (front ∙ h.front ∙ sym (count-append 0 events added_now ∙ ap (λ n. count_of 0 events + n) (count-at_other events conn 0 whats (eq_sym 0 conn (apart_from_lt 0 conn arrived.0))) ∙ add-zero (count_of 0 events)))
-          (λ other later. rw (apart_from_lt conn other (omega (arith, later, arrived.1))) (h.strangers other later));
+          (front ∙ h.next_seq ∙ sym (count-append 0 events added_now ∙ ap (λ n. count_of 0 events + n) (count-at_other events conn 0 whats (eq_sym 0 conn (apart_from_lt 0 conn arrived.0))) ∙ add-zero (count_of 0 events)))
+          (λ other later. rw (apart_from_lt conn other (omega (arith, later, arrived.1))) (h.strangers other later))
+          possible;
       ended = sym heard_here.end;
       out = heard_here.out;
     }
@@ -221,36 +229,36 @@ heard f g config opening past conn piece told links before h none is hears close
     arrived = came config events past conn kept_here.0
 
     same : setup_of f.book.config ≡ setup_of config
-    same = ap (λ state. setup_of state.config) h.book ∙ same_setup config opening h.taken
+    same = ap (λ state. setup_of state.config) h.book ∙ same_setup config opening h.handed
 
-    heard_here : HeardHere config events past conn piece told hears.after
-    heard_here = here config f.book.config events past conn piece told before hears.after same kept_here.1 hears.hears
+    heard_here : FedHere config events past conn piece given feeds.after
+    heard_here = here config f.book.config events past conn piece given before feeds.after same kept_here.1 feeds.feeds
 
-    waited : option_map_or (λ seq. numbered conn seq (told.facts ++ leave_if (is_some told.end))) before.seat [] ≡ added_now
+    waited : option_map_or (λ seq. numbered conn seq (given.facts ++ leave_if (is_some given.end))) before.next_seq [] ≡ added_now
     waited =
-        rw (leaves told.facts (talk_with config events past conn piece).end told.end heard_here.end, heard_here.facts, seated_at) (waits events conn whats)
+        rw (leaves given.facts (talk_with config events past conn piece).end given.end heard_here.end, heard_here.facts, seated_at) (waits events conn whats)
       where
-        seated_at : before.seat ≡ seat_of conn events
+        seated_at : before.next_seq ≡ next_seq_of conn events
         seated_at = seat_is config events past conn before kept_here.1
 
     kept : (other : ℕ) → linked g.links other ≡ link_of config (events ++ added_now) (Bytes conn piece ∷ past) other
     kept other =
         elim (bool_tells (other == conn)) [
           | inl e ↦ (let at : other ≡ conn = eqb-true other conn e in rw at at_conn)
-          | inr e ↦ ap (option_map as_link) (found_other told.end f.links links g.links conn other hears.after hears.set closed e)
+          | inr e ↦ ap (option_map as_link) (found_other given.end f.links links g.links conn other feeds.after feeds.set closed e)
               ∙ h.links other
               ∙ sym (link_kept config events (events ++ added_now) past (Bytes conn piece) other refl (eq_sym other conn e)
               (count-append other events added_now ∙ ap (λ n. count_of other events + n) (count-at_other events conn other whats (eq_sym other conn e)) ∙ add-zero (count_of other events)))
         ]
       where
         at_conn : linked g.links conn ≡ link_of config (events ++ added_now) (Bytes conn piece ∷ past) conn
-        at_conn = ap (option_map as_link) (found_then told.end f.links links g.links conn hears.after hears.set closed) ∙ ended_or_not told.end heard_here.end
+        at_conn = ap (option_map as_link) (found_then given.end f.links links g.links conn feeds.after feeds.set closed) ∙ ended_or_not given.end heard_here.end
           where
-            ended_or_not : (end : Option SessionCause) → end ≡ option_map cause_of (talk_with config events past conn piece).end → option_map as_link (if is_some end then None else Some hears.after) ≡ link_of config (events ++ added_now) (Bytes conn piece ∷ past) conn
+            ended_or_not : (end : Option SessionCause) → end ≡ option_map cause_of (talk_with config events past conn piece).end → option_map as_link (if is_some end then None else Some feeds.after) ≡ link_of config (events ++ added_now) (Bytes conn piece ∷ past) conn
             ended_or_not None ends =
                 let goes : (talk_with config events past conn piece).end ≡ None = none_cause _ (sym ends) in
                 sym (open_then config (events ++ added_now) (Bytes conn piece ∷ past) conn (goes_on config events past conn piece whats kept_here.0 goes)
-                ∙ ap (λ link. Some link) (sym (link_then config events past conn piece told hears.after heard_here goes)))
+                ∙ ap (λ link. Some link) (sym (link_then config events past conn piece given feeds.after heard_here goes)))
             ended_or_not (Some cause) ends = sym (has_ended config events past conn piece whats (some_cause _ cause (sym ends)))
 
 -- ---- a loss
@@ -264,18 +272,20 @@ lost_now config events past conn = rw (eq_self conn) (never (nat_lt 0 conn) (nat
     never true false c link = refl
     never false b c link = refl
 
-pub parted : (f g : Collected) (config : Config) (opening : ℕ) (past : List Step) (conn : ℕ) (before : Connection)
+pub closed_now : (f g : Collected) (config : Config) (opening : ℕ) (past : List Step) (conn : ℕ) (before : Connection)
     → StandsFor f config opening past → f.waiting ≡ [] → found f.links conn ≡ Some before → IsSet f.links g.links conn None
-    → g.book ≡ f.book → g.waiting ≡ option_map_or (λ seq. numbered conn seq (Leave ∷ [])) before.seat [] → g.connected ≡ f.connected → g.front ≡ f.front
-    → StandsFor g config opening (Lost conn ∷ past)
+    → g.book ≡ f.book → g.waiting ≡ option_map_or (λ seq. numbered conn seq (Leave ∷ [])) before.next_seq [] → g.connected ≡ f.connected → g.next_seq ≡ f.next_seq
+    → is_possible config opening past (Lost conn) ≡ true
+    → Queued g config opening past (Lost conn)
 unfolding events_of added
-parted f g config opening past conn before h none is set book waiting connected front =
+closed_now f g config opening past conn before h none is set book waiting connected front possible =
     done f g config opening past (Lost conn) h none book
     (ap (λ some. events ++ some) (sym (waiting ∙ ap (λ seat. option_map_or (λ seq. numbered conn seq (Leave ∷ [])) seat []) (seat_is config events past conn before kept_here.1) ∙ waits events conn (Leave ∷ []))))
     kept
     (connected ∙ h.connected)
-    (front ∙ h.front ∙ sym (count-append 0 events added_now ∙ ap (λ n. count_of 0 events + n) (count-at_other events conn 0 (Leave ∷ []) (eq_sym 0 conn (apart_from_lt 0 conn arrived.0))) ∙ add-zero (count_of 0 events)))
+    (front ∙ h.next_seq ∙ sym (count-append 0 events added_now ∙ ap (λ n. count_of 0 events + n) (count-at_other events conn 0 (Leave ∷ []) (eq_sym 0 conn (apart_from_lt 0 conn arrived.0))) ∙ add-zero (count_of 0 events)))
     (λ other later. rw (apart_from_lt conn other (omega (arith, later, arrived.1))) (h.strangers other later))
+    possible
   where
     events : List Event
     events = events_of config opening past

@@ -10,8 +10,9 @@ use Rattle.fleet_model.specs.Machine.{after}
 use Rattle.fleet_model.specs.State.{Stands, State, state_of}
 use Rattle.fleet_core.specs.Events.{events_of, talk_of}
 use Rattle.fleet_core.specs.Links.{Link, is_open, link_of, linked, open_link}
+use Rattle.fleet_core.specs.Possible.{are_possible}
 use Rattle.fleet_core.specs.Steps.{is_lost}
-use Rattle.fleet_core.specs.Standing.{Collected, StandsFor}
+use Rattle.fleet_core.specs.StandsFor.{Collected, StandsFor}
 use Rattle.fleet_core.proofs.Counts.{bool_tells}
 
 abbrev first : Event
@@ -33,15 +34,16 @@ no_links config events (suc conn) = rw (late conn) (never (nat_lt 0 (suc conn)) 
     never true b c link = refl
     never false b c link = refl
 
-pub opened_stands : (fleet : Collected) (book : State) (config : Config) (opening : ℕ) → fleet.book ≡ after book (record { seat = 0; seq = 0; what = Sit }) → Stands book config opening [] → fleet.waiting ≡ [] → fleet.links ≡ [] → fleet.connected ≡ 0 → fleet.front ≡ 1 → StandsFor fleet config opening []
-unfolding events_of
+pub opened_stands : (fleet : Collected) (book : State) (config : Config) (opening : ℕ) → fleet.book ≡ after book (record { seat = 0; seq = 0; what = Sit }) → Stands book config opening [] → fleet.waiting ≡ [] → fleet.links ≡ [] → fleet.connected ≡ 0 → fleet.next_seq ≡ 1 → StandsFor fleet config opening []
+unfolding events_of are_possible
 opened_stands fleet book config opening taken stands waiting links connected front =
     record {
-      taken = first ∷ [];
+      handed = first ∷ [];
       split = ap (λ some. first ∷ some) (sym waiting);
       book = taken ∙ ap (λ state. after state first) (state_is book config opening stands) ∙ sym (one_more config opening [] first);
       links = λ conn. ap (λ some. linked some conn) links ∙ sym (no_links config (first ∷ []) conn);
       connected = connected;
-      front = front;
+      next_seq = front;
       strangers = λ conn later. refl;
+      possible = refl;
     }

@@ -1,5 +1,5 @@
 -- What a peer that connects leaves.
-use Rattle.std.proofs.Common.{◌≡◌, inl, inr, ℕ, ◌+◌, ◌<◌, ◌≤◌, Bool, true, false, ◌==◌, List, [], ◌∷◌, ◌++◌, length, Option, None, Some, if◌then◌else◌, nat_le, nat_lt, sym, ap, ◌∙◌, refl, add-zero, zero-add, append-nil, arith, option_map}
+use Rattle.std.proofs.Common.{◌≡◌, inl, inr, ℕ, ◌+◌, ◌^◌, ◌<◌, ◌≤◌, Bool, true, false, ◌==◌, List, [], ◌∷◌, ◌++◌, length, Option, None, Some, if◌then◌else◌, nat_le, nat_lt, sym, ap, ◌∙◌, refl, add-zero, zero-add, append-nil, arith, option_map}
 use Rattle.std.proofs.lemmas.Bool.{eqb-false, eqb-true, le-leb, leb-true, lt-ltb}
 use Rattle.std.specs.Bool.{then_some}
 use Rattle.std.specs.List.{list_any}
@@ -15,14 +15,15 @@ use Rattle.fleet_core.specs.declared.connection.Connection.{Connection}
 use Rattle.fleet_core.specs.declared.step.Step.{Step}
 use Rattle.fleet_core.specs.declared.step.Step.TheVariants.{Connect}
 use Rattle.fleet_core.specs.Events.{added, count_of, events_of, has_free_seat, numbered, talk_of}
-use Rattle.fleet_core.specs.Hearing.{IsSet}
+use Rattle.fleet_core.specs.Feeding.{IsSet}
 use Rattle.fleet_core.specs.Links.{Link, as_link, found, is_open, link_of, linked, open_link}
-use Rattle.fleet_core.specs.Standing.{Collected, StandsFor}
+use Rattle.fleet_core.specs.Possible.{can_be, is_possible, is_spent}
+use Rattle.fleet_core.specs.StandsFor.{Collected, StandsFor}
 use Rattle.fleet_core.specs.Steps.{connects, is_lost, names, stream}
-use Rattle.fleet_core.proofs.Counts.{apart_from_lt, bool_tells, count-append, count-other, count-own, count-to_come, eq_self, none-lost, none-stream, stream_other}
-use Rattle.fleet_core.proofs.Heard.{eq_sym}
+use Rattle.fleet_core.proofs.Counts.{apart_from_lt, bool_tells, count-append, count-other, count-own, count-to_come, eq_self, not_le, none-lost, none-stream, stream_other}
+use Rattle.fleet_core.proofs.Fed.{eq_sym}
 use Rattle.fleet_core.proofs.Links.{link_same}
-use Rattle.fleet_core.proofs.Taken.{done}
+use Rattle.fleet_core.proofs.HandingOver.{Queued, done}
 
 no_talk : (setup : Setup) (seated : Bool) → (talk setup seated []).end ≡ None
 unfolding talk hello_of line_at
@@ -52,12 +53,16 @@ came_too many other apart =
 
 -- the book has taken all events
 pub all_taken : (f : Collected) (config : Config) (opening : ℕ) (past : List Step) → StandsFor f config opening past → f.waiting ≡ [] → f.book ≡ state_of config opening (events_of config opening past)
-all_taken f config opening past h none = h.book ∙ ap (state_of config opening) (sym (h.split ∙ ap (λ waiting. h.taken ++ waiting) none ∙ append-nil h.taken))
+all_taken f config opening past h none = h.book ∙ ap (state_of config opening) (sym (h.split ∙ ap (λ waiting. h.handed ++ waiting) none ∙ append-nil h.handed))
+
+connect_possible : (config : Config) (opening : ℕ) (past : List Step) → nat_le (2 ^ 62) (connects past) ≡ false → is_possible config opening past Connect ≡ true
+unfolding can_be is_spent
+connect_possible config opening past some = rw some refl
 
 -- a new connection is open
 new_link : (config : Config) (events : List Event) (past : List Step) (seated : Bool) (connection : Connection)
     → count_of (connects past + 1) events ≡ 0 → list_any (names (connects past + 1)) past ≡ false
-    → ((setup : Setup) → connection.session.stage ≡ stage_of setup seated []) → connection.session.seated ≡ seated → connection.seat ≡ then_some seated 1
+    → ((setup : Setup) → connection.session.stage ≡ stage_of setup seated []) → connection.session.seated ≡ seated → connection.next_seq ≡ then_some seated 1
     → Some (as_link connection) ≡ link_of config (events ++ (if seated then numbered (connects past + 1) 0 (Sit ∷ []) else [])) (Connect ∷ past) (connects past + 1)
 unfolding link_of is_open open_link talk_of
 new_link config events past seated connection count named stands is_seated_now seat =
@@ -70,25 +75,27 @@ new_link config events past seated connection count named stands is_seated_now s
     let positive : nat_lt 0 conn ≡ true = lt-ltb 0 conn (omega arith) in
     rw (counted, no_stream, unlost, came_now, positive, no_talk (setup_of config) (nat_lt 0 (if seated then 1 else 0)), stands (setup_of config), is_seated_now, seat) (by seated)
   where
-    by : (seated : Bool) → ◌≡◌ {A = Option Link} (Some (record { seated = seated; stage = stage_of (setup_of config) seated []; seat = then_some seated 1 }))
-        (Some (record { seated = nat_lt 0 (if seated then 1 else 0); stage = stage_of (setup_of config) (nat_lt 0 (if seated then 1 else 0)) []; seat = then_some (nat_lt 0 (if seated then 1 else 0)) (if seated then 1 else 0) }))
+    by : (seated : Bool) → ◌≡◌ {A = Option Link} (Some (record { seated = seated; stage = stage_of (setup_of config) seated []; next_seq = then_some seated 1 }))
+        (Some (record { seated = nat_lt 0 (if seated then 1 else 0); stage = stage_of (setup_of config) (nat_lt 0 (if seated then 1 else 0)) []; next_seq = then_some (nat_lt 0 (if seated then 1 else 0)) (if seated then 1 else 0) }))
     by true = refl
     by false = refl
 
 pub accepted : (f g : Collected) (config : Config) (opening : ℕ) (past : List Step) (seated : Bool) (connection : Connection)
     → StandsFor f config opening past → f.waiting ≡ [] → seated ≡ nat_lt (length f.book.seats) most_seats
-    → ((setup : Setup) → connection.session.stage ≡ stage_of setup seated []) → connection.session.seated ≡ seated → connection.seat ≡ then_some seated 1
+    → ((setup : Setup) → connection.session.stage ≡ stage_of setup seated []) → connection.session.seated ≡ seated → connection.next_seq ≡ then_some seated 1
     → IsSet f.links g.links (f.connected + 1) (Some connection)
-    → g.book ≡ f.book → g.waiting ≡ numbered (f.connected + 1) 0 (if seated then Sit ∷ [] else []) → g.connected ≡ f.connected + 1 → g.front ≡ f.front
-    → StandsFor g config opening (Connect ∷ past)
+    → g.book ≡ f.book → g.waiting ≡ numbered (f.connected + 1) 0 (if seated then Sit ∷ [] else []) → g.connected ≡ f.connected + 1 → g.next_seq ≡ f.next_seq
+    → f.connected < 2 ^ 62
+    → Queued g config opening past Connect
 unfolding events_of added
-accepted f g config opening past seated connection h none free stands is_seated_now seat set book waiting connected front =
+accepted f g config opening past seated connection h none free stands is_seated_now seat set book waiting connected front few =
     done f g config opening past Connect h none book
     (ap (λ b. events ++ (if b then numbered conn 0 (Sit ∷ []) else [])) (sym is_free) ∙ ap (λ some. events ++ some) (waited seated ∙ sym (waiting ∙ rw h.connected refl)))
     kept
     (connected ∙ ap (λ n. n + 1) h.connected)
-    (front ∙ h.front ∙ sym (counted 0 (apart_from_zero conn (omega arith))))
+    (front ∙ h.next_seq ∙ sym (counted 0 (apart_from_zero conn (omega arith))))
     (λ other later. h.strangers other (omega (arith, later)))
+    (connect_possible config opening past (not_le _ _ (rw h.connected at few)))
   where
     conn : ℕ
     conn = connects past + 1
