@@ -19,9 +19,11 @@ abbrev pub fault_if : Bool → ConfigFault → List ConfigFault
 fault_if there fault = if there then fault ∷ [] else []
 
 -- the faults of each entry, which are told by the entries before it
-abbrev pub each : {A : Type 0} → (List A → A → List ConfigFault) → List A → List A → List ConfigFault
+abbrev pub each : {A : Type 0} → (List A → A → List ConfigFault) → List A → List A
+    → List ConfigFault
 each faults before [] = []
-each faults before (entry ∷ entries) = faults before entry ++ each faults (before ++ entry ∷ []) entries
+each faults before (entry ∷ entries) = faults before entry
+    ++ each faults (before ++ entry ∷ []) entries
 
 -- the faults of a peer, which are told by those before it
 unfoldable pub peer_faults : List (List ℕ) → List ℕ → List ConfigFault
@@ -61,7 +63,8 @@ unfoldable pub table_faults : List Shape → Shape → List ConfigFault
 table_faults before shape =
     fault_if (nat_le 16 (length before)) TooMany
     ++ fault_if (not (is_name shape.name)) BadName
-    ++ fault_if (list_any (λ other. bytes_eq other.name shape.name) before || not (ascends (map (λ col. col_id col.0) shape.cols))) Duplicate
+    ++ fault_if (list_any (λ other. bytes_eq other.name shape.name) before
+    || not (ascends (map (λ col. col_id col.0) shape.cols))) Duplicate
     ++ fault_if (not (list_all period_fits shape.cols)) BadPeriod
     ++ fault_if (not (is_within shape.size 1000000 && len_fits shape.kind)) BadSize
 
@@ -72,7 +75,8 @@ filter_faults tables before filter =
     ++ fault_if (not (is_name filter.name)) BadName
     ++ fault_if (list_any (λ other. bytes_eq other.name filter.name) before) Duplicate
     ++ fault_if (is_none (slice_get tables filter.table)) UnknownTable
-    ++ fault_if (not (at_table tables filter.table (λ shape. list_all (λ cond. stores shape.cols cond.col) filter.conds))) UnknownColumn
+    ++ fault_if (not (at_table tables filter.table
+    (λ shape. list_all (λ cond. stores shape.cols cond.col) filter.conds))) UnknownColumn
     ++ fault_if (length filter.conds == 0) BadSize
 
 -- the faults of a ranked list, which are told by those before it
@@ -82,7 +86,8 @@ rank_faults tables before rank =
     ++ fault_if (not (is_name rank.name)) BadName
     ++ fault_if (list_any (λ other. bytes_eq other.name rank.name) before) Duplicate
     ++ fault_if (is_none (slice_get tables rank.table)) UnknownTable
-    ++ fault_if (not (at_table tables rank.table (λ shape. stores shape.cols rank.col))) UnknownColumn
+    ++ fault_if (not (at_table tables rank.table (λ shape. stores shape.cols rank.col)))
+    UnknownColumn
     ++ fault_if (not (is_within rank.n 1000)) BadSize
 
 -- the faults of a configuration, in the order in which they count
@@ -96,4 +101,5 @@ config_faults config =
 
 -- Ok where there are no faults, else the first of them
 abbrev pub FindsFirst : Result (Unit {0}) ConfigFault → List ConfigFault → Type 0
-FindsFirst result faults = MatchResult result (λ _. faults ≡ []) (λ fault. slice_get faults 0 ≡ Some fault)
+FindsFirst result faults =
+    MatchResult result (λ _. faults ≡ []) (λ fault. slice_get faults 0 ≡ Some fault)

@@ -88,4 +88,6 @@ same_col a b = col_id a == col_id b
 
 -- every column, in order
 abbrev pub all_cols : List Col
-all_cols = Gpc0 ∷ Gpc0Rate ∷ ConnCnt ∷ ConnRate ∷ ConnCur ∷ SessCnt ∷ SessRate ∷ HttpReqCnt ∷ HttpReqRate ∷ HttpErrCnt ∷ HttpErrRate ∷ BytesInCnt ∷ BytesInRate ∷ BytesOutCnt ∷ BytesOutRate ∷ Gpc1 ∷ Gpc1Rate ∷ []
+all_cols = Gpc0 ∷ Gpc0Rate ∷ ConnCnt ∷ ConnRate ∷ ConnCur ∷ SessCnt ∷ SessRate ∷ HttpReqCnt ∷
+    HttpReqRate ∷ HttpErrCnt ∷ HttpErrRate ∷ BytesInCnt ∷ BytesInRate ∷ BytesOutCnt ∷
+    BytesOutRate ∷ Gpc1 ∷ Gpc1Rate ∷ []

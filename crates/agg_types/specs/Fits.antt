@@ -27,7 +27,8 @@ key_fits (Binary len) key = length key == len
 
 -- whether a column may hold a cell: a rate a rate, a count a count of its width
 abbrev pub cell_fits : Col → Cell → Bool
-cell_fits col (Count count) = not (is_rate col) && nat_lt count (if is_wide col then 2 ^ 64 else 2 ^ 32)
+cell_fits col (Count count) = not (is_rate col)
+    && nat_lt count (if is_wide col then 2 ^ 64 else 2 ^ 32)
 cell_fits col (Rate elapsed cur prev) = is_rate col
 
 -- one cell for each column, which the column may hold
@@ -43,7 +44,8 @@ stores cols col = list_any (λ stored. same_col stored.0 col) cols
 
 -- one to four conditions, each on a stored column
 abbrev pub conds_fit : List (Col × ℕ) → List Cond → Bool
-conds_fit cols conds = nat_le 1 (length conds) && nat_le (length conds) 4 && list_all (λ cond. stores cols cond.col) conds
+conds_fit cols conds = nat_le 1 (length conds) && nat_le (length conds) 4
+    && list_all (λ cond. stores cols cond.col) conds
 
 -- whether a table has such keys or columns
 abbrev pub select_fits : Shape → Select → Bool
@@ -62,14 +64,16 @@ life_fits (Some life) = nat_lt life (2 ^ 32)
 
 -- whether a filter may be added: its name is one, and its conditions fit its table
 abbrev pub filter_fits : List Shape → Filter → Bool
-filter_fits tables filter = is_name filter.name && at_table tables filter.table (λ shape. conds_fit shape.cols filter.conds)
+filter_fits tables filter = is_name filter.name
+    && at_table tables filter.table (λ shape. conds_fit shape.cols filter.conds)
 
 -- whether something may happen in this configuration
 abbrev pub fits : Config → What → Bool
 fits config Sit = true
 fits config (Open peer) = nat_lt peer (length config.peers)
 fits config (Put peer table key life cells) =
-    nat_lt peer (length config.peers) && life_fits life && at_table config.tables table (λ shape. key_fits shape.kind key && cells_fit shape.cols cells)
+    nat_lt peer (length config.peers) && life_fits life && at_table config.tables table
+    (λ shape. key_fits shape.kind key && cells_fit shape.cols cells)
 fits config (Clear table sel) = at_table config.tables table (λ shape. select_fits shape sel)
 fits config (AddFilter filter) = filter_fits config.tables filter
 fits config (Moment moment) = nat_le moment (2 ^ 62)

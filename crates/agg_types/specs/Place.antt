@@ -7,4 +7,5 @@ use Rattle.agg_types.specs.declared.place.Place.{Place}
 -- the order of places: by table, then by key, then by peer
 abbrev pub place_cmp : Place → Place → Ordering
 place_cmp a b =
-    ordering_then (nat_cmp a.table b.table) (ordering_then (slice_cmp nat_cmp a.key b.key) (nat_cmp a.peer b.peer))
+    ordering_then (nat_cmp a.table b.table)
+    (ordering_then (slice_cmp nat_cmp a.key b.key) (nat_cmp a.peer b.peer))

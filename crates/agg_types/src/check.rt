@@ -60,8 +60,8 @@ pub enum ConfigFault {
 
 impl Config {
     /// Whether the configuration is sound. The fault is the first, in the order of the collector's
-    /// name, peers, tables, filters and ranked lists; in an entry TooMany comes first, then BadName,
-    /// Duplicate, UnknownTable, UnknownColumn, BadPeriod, BadSize.
+    /// name, peers, tables, filters and ranked lists; in an entry TooMany comes first, then
+    /// BadName, Duplicate, UnknownTable, UnknownColumn, BadPeriod, BadSize.
     pub fn check(&self) -> Result<(), ConfigFault>
         ensures { FindsFirst result (config_faults self.now) }
     {

@@ -2,6 +2,13 @@ ghost use Rattle.std.specs.Prelude.{◌≡◌, length, find};
 ghost use Rattle.std.specs.Str.{bytes_eq};
 ghost use Rattle.agg_types.specs.Col.{col_id, col_name, is_rate, is_wide, all_cols};
 
+/// How many columns there are.
+pub const COLUMNS: usize = 17;
+
+/// The number of the last data type that is a column. In the peers protocol, values and periods of
+/// data types behind it come last in their message.
+pub const LAST_DATA_TYPE: u64 = 18;
+
 /// A column of stick tables that can be added up over a fleet: the stored data types of
 /// HAProxy's Configuration Manual ("stick-table", `store`), save those that are no sums.
 ///
@@ -47,7 +54,7 @@ pub enum Col {
 
 impl Col {
     /// Every column, in order.
-    pub const ALL: [Col; 17] = [
+    pub const ALL: [Col; COLUMNS] = [
         Col::Gpc0,
         Col::Gpc0Rate,
         Col::ConnCnt,

@@ -16,7 +16,8 @@ pub enum KeyKind {
     Binary(u64),
 }
 
-/// A table: its name, the kind of its keys, how many rows each peer may hold, and the columns stored.
+/// A table: its name, the kind of its keys, how many rows each peer may hold, and the columns
+/// stored.
 ///
 /// A column stands with its period in ms, which is 0 for a count. Columns ascend.
 #[derive(Debug, Drop)]
@@ -80,8 +81,8 @@ pub struct Rank {
     pub n: u64,
 }
 
-/// A collector's configuration: its own name, and its peers, tables, filters and ranked lists, which
-/// events name by position.
+/// A collector's configuration: its own name, and its peers, tables, filters and ranked lists,
+/// which events name by position.
 #[derive(Debug, Drop)]
 pub struct Config {
     pub me: Name,

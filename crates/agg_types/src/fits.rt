@@ -80,7 +80,8 @@ fn life_fits(life: Option<u64>) -> bool
 }
 
 fn row_fits(tables: &[Shape], table: usize, key: &Key, cells: &[Cell]) -> bool
-    ensures { result ≡ at_table tables.now table (λ shape. key_fits shape.kind key.now && cells_fit shape.cols cells.now) }
+    ensures { result ≡ at_table tables.now table
+        (λ shape. key_fits shape.kind key.now && cells_fit shape.cols cells.now) }
 {
     match tables.get(table) {
         None => false,

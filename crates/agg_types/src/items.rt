@@ -4,7 +4,8 @@ use crate::NoMemory;
 use std::alloc::Global;
 use std::marker::Model;
 
-/// A list of items, which contracts see as the list alone, without its room and its place in memory.
+/// A list of items, which contracts see as the list alone, without its room and its place in
+/// memory.
 #[derive(Debug, Drop)]
 pub struct Items<T> {
     items: Vec<T>,

@@ -1,6 +1,14 @@
-//! The types that every other crate speaks of: keys, columns, a fleet's configuration and its events.
+//! The types that every other crate speaks of: keys and names, columns, a fleet's configuration, and
+//! the events of its history, with the limits on their numbers.
 //!
-//! Contracts see plain data: a key is the list of its bytes, a collection the list of its items.
+//! Every crate of the workspace uses it. Contracts see plain data: a key or a name is the list of its
+//! bytes, in their order; a collection is the list of its items; a configuration and an event are
+//! records of these. Promised are the tests: `Config::check` answers the first fault in a stated
+//! order and none exactly where there is none; `Config::fits` holds exactly of what may happen;
+//! `Op::holds` is the comparison; what is copied or duplicated is equal.
+//!
+//! No clause says that a copy succeeds while there is memory, nor how much room a key takes (24 bytes
+//! where it has up to 16).
 #![tactic(auto)]
 
 mod check;
@@ -16,9 +24,9 @@ mod place;
 mod short_key;
 
 pub use check::{ConfigFault, MOST_FILTERS, MOST_PEERS, MOST_RANKS, MOST_TABLES};
-pub use column::Col;
+pub use column::{COLUMNS, Col, LAST_DATA_TYPE};
 pub use config::{Cond, Config, Filter, KeyKind, Op, Rank, Shape};
-pub use event::{Cell, Event, Select, What};
+pub use event::{Cell, Event, LAST_SEAT, Select, What};
 pub use fits::{LAST_MOMENT, MOST_CONDS};
 pub use items::Items;
 pub use key::Key;

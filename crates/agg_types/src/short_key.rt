@@ -25,7 +25,8 @@ impl Model for ShortKey {
 
     ghost view = { λ key. take key.len key.bytes };
 
-    ghost invariant = { λ key. (key.len ≤ 16) × (drop key.len key.bytes ≡ drop key.len (replicate 16 0)) };
+    ghost invariant = { λ key. (key.len ≤ 16)
+        × (drop key.len key.bytes ≡ drop key.len (replicate 16 0)) };
 }
 
 impl ShortKey {

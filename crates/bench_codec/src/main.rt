@@ -1,94 +1,84 @@
-//! Measures how fast a feed reads a million updates of 18 bytes, in pieces of several sizes, and how
-//! fast a session makes facts of them. What was counted goes to standard output, and how fast it went
-//! to standard error.
+//! Measures how fast a feed reads a million updates, and how fast a session makes facts of them: of
+//! three columns, 18 bytes each, and of all columns, in pieces of several sizes. The keys come in a
+//! scattered order. What was counted goes to standard output, and how fast it went to standard error.
 #![tactic(auto)]
 
 ghost use Rattle.std.specs.Prelude.{◌<◌};
 
 use agg_types::{Col, Config, Items, KeyKind, Name, Shape};
 use anyhow::Result;
-use peers_msg::{Feed, Message, put_int};
+use peers_msg::{Feed, put_int};
 use session_core::Session;
 use std::alloc::Global;
+use std::rt::Clock;
 use std::time::Instant;
 
 /// How many updates are read.
 const UPDATES: u32 = 1_000_000;
 
-/// How many bytes an update has.
-const UPDATE_BYTES: u32 = 18;
+/// How many keys they are of.
+const KEYS: u64 = 100_000;
 
-/// How many bytes a piece of the session's stream has.
-const SESSION_PIECE: usize = 16_384;
+/// Far apart from key to key.
+const STRIDE: u64 = 2_147_483_647;
 
 /// The hello of the peer `lb1` to the collector `agg`.
 const HELLO: &[u8] = b"HAProxyS 2.1\nagg\nlb1 100 1\n";
 
-/// The data types of an update: `gpc0`, `conn_cnt` and `http_req_rate`, a bit for each.
-const DATA_TYPES: u64 = (1 << 2) | (1 << 4) | (1 << 10);
-
-/// The period of the rate, in ms.
+/// The period of each rate, in ms.
 const PERIOD: u32 = 10_000;
 
-/// The updates, with ids from 0.
-fn stream(alloc: Global) -> Result<Vec<u8>> {
+/// The columns that are sent, each with its period.
+fn columns(alloc: Global, all: bool) -> Result<Vec<(Col, u32)>> {
+    let mut cols = Vec::new(alloc);
+    for col in Col::ALL {
+        if all || col == Col::Gpc0 || col == Col::ConnCnt || col == Col::HttpReqRate {
+            cols.push((col, if col.is_rate() { PERIOD } else { 0 }))?;
+        }
+    }
+    Ok(cols)
+}
+
+/// The values of an update: the first count has three bytes, and the others one.
+fn values(alloc: Global, cols: &[(Col, u32)]) -> Result<Vec<u8>> {
     let mut bytes = Vec::new(alloc);
-    for id in 0..UPDATES {
-        bytes.extend_from_slice(&[0x0a, 0x80, 15])?;
-        bytes.extend_from_slice(&id.to_be_bytes())?;
-        bytes.extend_from_slice(&[10, 0, 0, 1, 0xf4, 0x8d, 0x00, 0x1e, 0x64, 0x02, 0x05])?;
+    for (col, _) in cols {
+        if col.is_rate() {
+            bytes.extend_from_slice(&[0x64, 0x02, 0x05])?;
+        } else if bytes.is_empty() {
+            bytes.extend_from_slice(&[0xf4, 0x8d, 0x00])?;
+        } else {
+            bytes.push(0x1e)?;
+        }
     }
     Ok(bytes)
 }
 
-/// What was read.
-#[derive(Clone, Copy)]
-struct Counts {
-    updates: u64,
-    bytes: u64,
-}
-
-/// Reads the bytes in pieces of this size.
-fn read(alloc: Global, bytes: &[u8], size: usize) -> Result<Counts>
-    requires { 0 < size }
-{
-    let mut feed = Feed::new(alloc);
-    let mut counts = Counts {
-        updates: 0,
-        bytes: 0,
-    };
-    for piece in bytes.chunks(size) {
-        let messages = feed.feed(piece)?;
-        for message in messages.as_slice() {
-            if let Message::Update {
-                id: _,
-                life: _,
-                rest,
-            } = message
-            {
-                counts.updates = counts.updates.saturating_add(1);
-                counts.bytes = counts.bytes.saturating_add(rest.len() as u64);
-            }
-        }
+/// The updates, with ids from 0.
+fn stream(alloc: Global, values: &[u8]) -> Result<Vec<u8>> {
+    let mut head = Vec::from_slice(alloc, &[0x0a, 0x80])?;
+    put_int((values.len() as u64).saturating_add(8), &mut head)?;
+    let mut bytes = Vec::new(alloc);
+    for id in 0..UPDATES {
+        let key = u64::from(id).wrapping_mul(STRIDE) % KEYS;
+        bytes.extend_from_slice(head.as_slice())?;
+        bytes.extend_from_slice(&id.to_be_bytes())?;
+        bytes.extend_from_slice(&(key as u32).to_be_bytes())?;
+        bytes.extend_from_slice(values)?;
     }
-    Ok(counts)
+    Ok(bytes)
 }
 
-/// The collector `agg` of the peer `lb1`, with the table `t` of two counts and a rate.
-fn config(alloc: Global) -> Result<Config> {
+/// The collector `agg` of the peer `lb1`, with the table `t` of these columns.
+fn config(alloc: Global, cols: &[(Col, u32)]) -> Result<Config> {
     let mut peers = Vec::new(alloc);
     peers.push(Name::copy(alloc, b"lb1")?)?;
-    let cols = [
-        (Col::Gpc0, 0),
-        (Col::ConnCnt, 0),
-        (Col::HttpReqRate, PERIOD),
-    ];
     let mut tables = Vec::new(alloc);
     tables.push(Shape {
         name: Name::copy(alloc, b"t")?,
         kind: KeyKind::Ip,
         size: 1_000_000,
-        cols: Items::copy(alloc, &cols)?,
+        cols: Items::copy(alloc, cols)?,
     })?;
     Ok(Config {
         me: Name::copy(alloc, b"agg")?,
@@ -100,71 +90,94 @@ fn config(alloc: Global) -> Result<Config> {
 }
 
 /// The definition of the table `t` under the id 1.
-fn definition(alloc: Global) -> Result<Vec<u8>> {
+fn definition(alloc: Global, cols: &[(Col, u32)]) -> Result<Vec<u8>> {
+    let mut bits = 0_u64;
+    let mut pairs = Vec::new(alloc);
+    for (col, period) in cols {
+        bits |= 1 << (col.id() % 64);
+        if col.is_rate() {
+            put_int(u64::from(col.id()), &mut pairs)?;
+            put_int(u64::from(*period), &mut pairs)?;
+        }
+    }
     let mut fields = Vec::from_slice(alloc, &[1, 1, b't', 4, 4])?;
-    put_int(DATA_TYPES, &mut fields)?;
+    put_int(bits, &mut fields)?;
     put_int(600_000, &mut fields)?;
-    fields.push(10)?;
-    put_int(u64::from(PERIOD), &mut fields)?;
+    fields.extend_from_slice(pairs.as_slice())?;
     let mut message = Vec::from_slice(alloc, &[0x0a, 0x82])?;
     put_int(fields.len() as u64, &mut message)?;
     message.extend_from_slice(fields.as_slice())?;
     Ok(message)
 }
 
-/// What a session gave.
-#[derive(Clone, Copy)]
-struct Heard {
-    facts: u64,
-    acknowledged: u64,
+/// Reads the bytes in pieces of this size, and counts the messages.
+fn read(alloc: Global, bytes: &[u8], size: usize) -> Result<u64>
+    requires { 0 < size }
+{
+    let mut feed = Feed::new(alloc);
+    let mut count = 0_u64;
+    for piece in bytes.chunks(size) {
+        let messages = feed.feed(piece)?;
+        count = count.saturating_add(messages.len() as u64);
+    }
+    Ok(count)
 }
 
-/// Lets a session hear a hello, a definition, and the bytes in pieces. What a piece gave is kept until
-/// the next is heard, as a fleet keeps its rows: else the C library would give the memory of each
-/// piece back to the system and ask for it again.
-fn hear(alloc: Global, config: &Config, defined: &[u8], bytes: &[u8]) -> Result<Heard> {
+/// Lets a session read a hello, a definition, and the bytes in pieces of this size, and counts the
+/// facts. What a piece gave is kept until the next, as a fleet keeps its rows: else the C library
+/// would give the memory of each piece back to the system and ask for it again.
+fn facts(alloc: Global, config: &Config, defined: &[u8], bytes: &[u8], size: usize) -> Result<u64>
+    requires { 0 < size }
+{
     let mut session = Session::accept(alloc, true, 0);
     session.feed(config, HELLO, 0)?;
     session.feed(config, defined, 0)?;
-    let mut heard = Heard {
-        facts: 0,
-        acknowledged: 0,
-    };
+    let mut count = 0_u64;
     let mut last = None;
-    for piece in bytes.chunks(SESSION_PIECE) {
+    for piece in bytes.chunks(size) {
         let batch = session.feed(config, piece, 0)?;
-        heard.facts = heard.facts.saturating_add(batch.facts().len() as u64);
-        heard.acknowledged = heard.acknowledged.saturating_add(batch.acks().len() as u64);
+        count = count.saturating_add(batch.facts().len() as u64);
         last = Some(batch);
     }
     drop(last);
-    Ok(heard)
+    Ok(count)
+}
+
+/// Says how many there were, and how fast they came since the start.
+fn report<R: Print + Eprint + Clock>(
+    rt: &R,
+    what: &str,
+    size: usize,
+    count: u64,
+    start: Instant,
+) -> Result<()> {
+    let micros = start.elapsed(rt)?.as_micros().max(1);
+    let per_second = u128::from(count) * 1_000_000 / micros;
+    println!(rt; "{what}, pieces of {size}: {count}")?;
+    eprintln!(rt; "{what}, pieces of {size}: {per_second} a second")?;
+    Ok(())
+}
+
+/// Measures updates of some or of all columns.
+fn measure<R: Print + Eprint + Clock>(rt: &R, alloc: Global, all: bool) -> Result<()> {
+    let cols = columns(alloc, all)?;
+    let config = config(alloc, cols.as_slice())?;
+    let defined = definition(alloc, cols.as_slice())?;
+    let values = values(alloc, cols.as_slice())?;
+    let bytes = stream(alloc, values.as_slice())?;
+    println!(rt; "{} columns, {} bytes", cols.len(), bytes.len())?;
+    for size in [16_384, 100] {
+        let start = Instant::now(rt)?;
+        let count = read(alloc, bytes.as_slice(), size)?;
+        report(rt, "updates of a feed", size, count, start)?;
+        let start = Instant::now(rt)?;
+        let count = facts(alloc, &config, defined.as_slice(), bytes.as_slice(), size)?;
+        report(rt, "facts of a session", size, count, start)?;
+    }
+    Ok(())
 }
 
 fn main(rt: HostRuntime) -> Result<()> {
-    let bytes = stream(rt.alloc())?;
-    for size in [16_384, 100, 1] {
-        let start = Instant::now(&rt)?;
-        let counts = read(rt.alloc(), bytes.as_slice(), size)?;
-        let micros = start.elapsed(&rt)?.as_micros().max(1);
-        println!(rt;
-            "pieces of {size}: {} updates, {} bytes behind their ids",
-            counts.updates, counts.bytes
-        )?;
-        let per_second = u128::from(counts.updates) * 1_000_000 / micros;
-        let megabytes = u128::from(UPDATES) * u128::from(UPDATE_BYTES) / micros;
-        eprintln!(rt; "pieces of {size}: {per_second} updates/s, {megabytes} MB/s")?;
-    }
-    let config = config(rt.alloc())?;
-    let defined = definition(rt.alloc())?;
-    let start = Instant::now(&rt)?;
-    let heard = hear(rt.alloc(), &config, defined.as_slice(), bytes.as_slice())?;
-    let micros = start.elapsed(&rt)?.as_micros().max(1);
-    println!(rt;
-        "a session: {} facts, {} bytes of acknowledgements",
-        heard.facts, heard.acknowledged
-    )?;
-    let per_second = u128::from(heard.facts) * 1_000_000 / micros;
-    eprintln!(rt; "a session, pieces of {SESSION_PIECE}: {per_second} updates/s")?;
-    Ok(())
+    measure(&rt, rt.alloc(), false)?;
+    measure(&rt, rt.alloc(), true)
 }

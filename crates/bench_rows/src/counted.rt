@@ -1,11 +1,27 @@
 ghost use Rattle.std.specs.Prelude.{◌≡◌};
 
-use crate::fleet::{key, row};
 use crate::measure::{print_memory, print_time, resident, time_used};
-use agg_types::NoMemory;
+use agg_types::{Key, NoMemory};
 use anyhow::Result;
-use peer_rows::Rows;
+use peer_rows::{Cells, Held, Row, Rows};
+use period_rate::Rate;
 use std::alloc::Global;
+
+/// The key of a row, of 4 bytes. Keys come in no order of theirs.
+pub fn key(alloc: Global, id: u32) -> Result<Key, NoMemory> {
+    Key::copy(alloc, &id.wrapping_mul(2_654_435_761).to_be_bytes())
+}
+
+/// A row of two counts and a rate.
+pub fn row(alloc: Global, id: u32, now: u64) -> Result<Row, NoMemory> {
+    let rate = Rate::arrive(10_000, 3, 100, 5, now.min(1 << 40));
+    let held = [Held::Count(u64::from(id)), Held::Count(7), Held::Rate(rate)];
+    Ok(Row {
+        cells: Cells::copy(alloc, &held)?,
+        arrived: now,
+        ends: Some(now.saturating_add(30_000)),
+    })
+}
 
 /// The rows that one peer holds of one table, with sums that are read off them.
 #[derive(Drop)]
@@ -64,6 +80,18 @@ impl Counted {
     }
 }
 
+/// Makes so many keys and rows and drops them, and answers how many cells and bytes they had.
+fn make_all(alloc: Global, number: u32) -> Result<u64, NoMemory> {
+    let mut bytes = 0u64;
+    for id in 0..number {
+        let key = key(alloc, id)?;
+        let row = row(alloc, id, 5)?;
+        bytes = bytes.saturating_add(row.cells.len() as u64);
+        bytes = bytes.saturating_add(key.as_slice().len() as u64);
+    }
+    Ok(bytes)
+}
+
 /// Measures rows of one peer, put, replaced and taken, whose sums are read off them.
 pub fn run(rt: &HostRuntime, number: u32) -> Result<()> {
     let before = resident(rt)?;
@@ -75,6 +103,10 @@ pub fn run(rt: &HostRuntime, number: u32) -> Result<()> {
     let start = time_used(rt)?;
     let replaced = counted.replace_all(number)?;
     print_time(rt, "rows replaced, their sums read", start, number)?;
+    let start = time_used(rt)?;
+    let made = make_all(rt.alloc(), number)?;
+    print_time(rt, "of which making key and row", start, number)?;
+    println!(rt; "{made} cells and bytes made")?;
     let start = time_used(rt)?;
     let taken = counted.take_all(number)?;
     print_time(rt, "rows taken", start, number)?;

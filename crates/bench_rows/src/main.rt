@@ -1,13 +1,12 @@
-//! Measures what rows, sums and planned moments cost. What was done goes to standard output, and how
-//! long it took, and in how much memory, to standard error.
+//! Measures what rows and planned moments cost. What was done goes to standard output, and how long
+//! it took, and in how much memory, to standard error.
 //!
 //! Arguments: how many rows or planned moments there are, and which part is measured alone (`rows`,
-//! `sums`, `peers`, `ordered` or `wheel`), since memory is only right for what runs first.
+//! `peers`, `ordered` or `wheel`), since memory is only right for what runs first.
 #![tactic(auto)]
 
 mod counted;
 mod due;
-mod fleet;
 mod measure;
 mod peers;
 
@@ -34,9 +33,6 @@ fn main(rt: HostRuntime) -> Result<()> {
     let part = args.next();
     if is_wanted(&part, "rows") {
         counted::run(&rt, number)?;
-    }
-    if is_wanted(&part, "sums") {
-        fleet::run(&rt, number)?;
     }
     if is_wanted(&part, "peers") {
         peers::run(&rt, number)?;

@@ -1,6 +1,6 @@
 ghost use Rattle.std.specs.Prelude.{◌≡◌};
 
-use crate::fleet::{key, row};
+use crate::counted::{key, row};
 use crate::measure::{print_memory, print_time, resident, time_used};
 use agg_types::NoMemory;
 use anyhow::Result;

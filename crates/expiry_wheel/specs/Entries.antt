@@ -53,6 +53,7 @@ abbrev pub first_beyond : {T : Type 0} → ℕ → List (ℕ × T) → Option (�
 first_beyond at entries = find (λ e. nat_lt at e.0) entries
 
 -- the first entry above the given one, or the first of all
-abbrev pub first_above : {T : Type 0} → (T → T → Ordering) → Option (ℕ × T) → List (ℕ × T) → Option (ℕ × T)
+abbrev pub first_above : {T : Type 0} → (T → T → Ordering) → Option (ℕ × T) → List (ℕ × T)
+    → Option (ℕ × T)
 first_above cmp None entries = first_entry entries
 first_above cmp (Some given) entries = find (λ e. is_lt (entry_cmp cmp given e)) entries

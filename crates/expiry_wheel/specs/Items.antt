@@ -23,6 +23,7 @@ items_of None others = others
 items_of (Some x) others = x ∷ others
 
 -- items ascend, the first and the others, and with no first there are no others
-pub record AreTogether {T : Type 0} (cmp : T → T → Ordering) (first : Option T) (others : List T) : Type 0 where
+pub record AreTogether {T : Type 0} (cmp : T → T → Ordering) (first : Option T) (others : List T)
+    : Type 0 where
   pub ordered : IsStrictlySortedBy cmp (items_of first others)
   pub none : IfNone first (others ≡ [])

@@ -22,7 +22,8 @@ merged (e ∷ firsts) seconds =
     map inr (entries_until e.0 seconds) ++ inl e ∷ merged firsts (entries_from e.0 seconds)
 
 -- what is left of a list whose next entry is this
-abbrev pub left_from : {T : Type 0} → (T → T → Ordering) → Option (ℕ × T) → List (ℕ × T) → List (ℕ × T)
+abbrev pub left_from : {T : Type 0} → (T → T → Ordering) → Option (ℕ × T) → List (ℕ × T)
+    → List (ℕ × T)
 left_from cmp None entries = []
 left_from cmp (Some next) entries = next ∷ filter (λ e. is_lt (entry_cmp cmp next e)) entries
 

@@ -17,4 +17,5 @@ entries_of (m ∷ moments) = entries_at m.0 m.1 ++ entries_of moments
 abbrev pub AreGroups : {T : Type 0} → (T → T → Ordering) → List (ℕ × List T) → Type 0
 AreGroups cmp [] = ⊤
 AreGroups cmp (m ∷ moments) =
-    (0 < length m.1) × IsStrictlySortedBy cmp m.1 × AllByRecursion (λ n. m.0 < n.0) moments × AreGroups cmp moments
+    (0 < length m.1) × IsStrictlySortedBy cmp m.1 × AllByRecursion (λ n. m.0 < n.0) moments
+    × AreGroups cmp moments

@@ -4,16 +4,19 @@ use Rattle.std.specs.declared.cmp.Ordering.{Ordering}
 use Rattle.std.specs.List.{AllByRecursion, list_any}
 use Rattle.expiry_wheel.specs.Entries.{IsInOrder, first_moment}
 
--- the slot of a moment, on a wheel that counts from `now` and has this many levels above the lowest.
--- In base 256, the level is the highest place at which the moment differs from `now`, and the slot its digit there.
+-- the slot of a moment, on a wheel that counts from `now` and has this many levels above the
+-- lowest. In base 256, the level is the highest place at which the moment differs from `now`, and
+-- the slot its digit there.
 unfoldable pub slot_of : ℕ → ℕ → ℕ → ℕ
 slot_of zero now at = at
-slot_of (suc levels) now at = if at / 256 == now / 256 then at % 256 else 256 + slot_of levels (now / 256) (at / 256)
+slot_of (suc levels) now at =
+    if at / 256 == now / 256 then at % 256 else 256 + slot_of levels (now / 256) (at / 256)
 
 -- the first moment after `now` that has the slot of `at`
 unfoldable pub start_of : ℕ → ℕ → ℕ → ℕ
 start_of zero now at = at
-start_of (suc levels) now at = if at / 256 == now / 256 then at else 256 * start_of levels (now / 256) (at / 256)
+start_of (suc levels) now at =
+    if at / 256 == now / 256 then at else 256 * start_of levels (now / 256) (at / 256)
 
 -- the entries of slots, one after another
 abbrev pub entries_in : {T : Type 0} → List (List (ℕ × T)) → List (ℕ × T)
@@ -24,10 +27,12 @@ entries_in (slot ∷ slots) = slot ++ entries_in slots
 abbrev pub AreSlotted : {T : Type 0} → (T → T → Ordering) → ℕ → ℕ → ℕ → List (List (ℕ × T)) → Type 0
 AreSlotted cmp now end k [] = ⊤
 AreSlotted cmp now end k (slot ∷ slots) =
-    IsInOrder cmp slot × AllByRecursion (λ e. (end < e.0) × (slot_of 7 now e.0 ≡ k)) slot × AreSlotted cmp now end (suc k) slots
+    IsInOrder cmp slot × AllByRecursion (λ e. (end < e.0) × (slot_of 7 now e.0 ≡ k)) slot
+    × AreSlotted cmp now end (suc k) slots
 
 -- all up to `end` is near, and all beyond it stands in its slot
-pub record IsWheel {T : Type 0} (cmp : T → T → Ordering) (now end : ℕ) (near : List (ℕ × T)) (slots : List (List (ℕ × T))) : Type 0 where
+pub record IsWheel {T : Type 0} (cmp : T → T → Ordering) (now end : ℕ) (near : List (ℕ × T))
+    (slots : List (List (ℕ × T))) : Type 0 where
   pub counted : now ≤ end
   pub complete : length slots ≡ 2048
   pub ordered : IsInOrder cmp near

@@ -40,7 +40,9 @@ impl<'a, T: Ord, U: Ord, A: DueIndex<T>, B: DueIndex<U>> Model for Due<'a, T, U,
 
     ghost coded = { coded_list (coded⊎ (coded× coded_ℕ T.code) (coded× coded_ℕ U.code)) };
 
-    ghost view = { λ a. merged (left_from T.cmp (option_map lent_entry a.first) (A.planned a.firsts.now)) (left_from U.cmp (option_map lent_entry a.second) (B.planned a.seconds.now)) };
+    ghost view = { λ a. merged
+        (left_from T.cmp (option_map lent_entry a.first) (A.planned a.firsts.now))
+        (left_from U.cmp (option_map lent_entry a.second) (B.planned a.seconds.now)) };
 }
 
 impl<'a, T: Ord, U: Ord, A: DueIndex<T>, B: DueIndex<U>> Due<'a, T, U, A, B> {
@@ -80,7 +82,8 @@ impl<'a, T: Ord, U: Ord, A: DueIndex<T>, B: DueIndex<U>> Iterator for Due<'a, T,
 }
 
 fn is_second_next<T, U>(first: Option<(u64, &T)>, second: Option<(u64, &U)>) -> bool
-    ensures { result ≡ second_comes_first (option_map lent_entry first.entry) (option_map lent_entry second.entry) }
+    ensures { result ≡ second_comes_first (option_map lent_entry first.entry)
+        (option_map lent_entry second.entry) }
 {
     let Some((first_at, _)) = first else {
         return true;

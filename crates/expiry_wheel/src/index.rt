@@ -15,13 +15,17 @@ pub trait DueIndex<T: Ord> {
 
     /// Adds an entry. One that is there stays as it is. After `NoMemory` nothing has changed.
     fn plan(&mut self, at: u64, item: T) -> Result<(), NoMemory>
-        ensures ok { OnOk result (planned self.new ≡ with_entry T.cmp (planned self.old) (at, item)) }
-        ensures err { OnErr result (planned self.new ≡ planned self.old) };
+        ensures ok { OnOk result
+            (planned self.new ≡ with_entry T.cmp (planned self.old) (at, item)) }
+        ensures err { OnErr result (planned self.new ≡ planned self.old) }
+        ensures ordered { IsInOrder T.cmp (planned self.old) };
 
     /// Takes an entry away, and answers whether it was there.
     fn cancel(&mut self, at: u64, item: &T) -> bool
         ensures found { result ≡ has_entry T.cmp (planned self.old) (at, item.now) }
-        ensures removed { planned self.new ≡ without_entry T.cmp (planned self.old) (at, item.now) };
+        ensures removed { planned self.new
+            ≡ without_entry T.cmp (planned self.old) (at, item.now) }
+        ensures ordered { IsInOrder T.cmp (planned self.old) };
 
     /// The moment of the least entry.
     fn next_at(&self) -> Option<u64>
@@ -36,6 +40,7 @@ pub trait DueIndex<T: Ord> {
 
     /// The least entry above the given one, which need not be there, or the least of all.
     fn after<'a>(&'a self, given: Option<(u64, &'a T)>) -> Option<(u64, &'a T)>
-        ensures next { option_map lent_entry result ≡ first_above T.cmp (option_map lent_entry given.entry) (planned self.now) }
+        ensures next { option_map lent_entry result
+            ≡ first_above T.cmp (option_map lent_entry given.entry) (planned self.now) }
         ensures ordered { IsInOrder T.cmp (planned self.now) };
 }

@@ -1,7 +1,13 @@
-//! Planned moments: sets of pairs of a moment and an item, least first.
+//! Planned moments: sets of pairs of a moment and an item, the least first.
 //!
-//! `DueIndex` is what callers see; `OrderedDue` and `Wheel` keep one by the same contract, and `Due`
-//! goes through two of them side by side.
+//! Books keep the ends of rows in one, and standing filters the moments at which a key may come or go.
+//! `DueIndex` is what callers see: contracts speak of the list of its entries in order, and `plan`,
+//! `cancel`, `next_at`, `take_due` and `after` answer exactly what that list says; only `plan` takes
+//! memory, and a refused one changes nothing. `OrderedDue` keeps one ordered map; `Wheel` has levels of
+//! 256 slots for every 64-bit moment; both meet one contract. `Due` goes through two indexes side by
+//! side, by moment, the first one's entries first on a tie.
+//!
+//! No clause says what a call costs, nor that a wheel has levels: docs/ARCHITECTURE.md has figures.
 #![tactic(auto)]
 
 mod due;
@@ -16,6 +22,3 @@ pub use due::{Due, Planned};
 pub use index::DueIndex;
 pub use ordered::OrderedDue;
 pub use wheel::Wheel;
-
-#[cfg(test)]
-mod tests;

@@ -21,7 +21,8 @@ impl Marks {
     pub(crate) fn set(&mut self, slot: usize)
         requires { slot < 2048 }
         ensures here { mark_of self.new.words slot ≡ 1 }
-        ensures others { (other : ℕ) → other ≢ slot → mark_of self.new.words other ≡ mark_of self.old.words other }
+        ensures others { (other : ℕ) → other ≢ slot
+            → mark_of self.new.words other ≡ mark_of self.old.words other }
     {
         let word = self.words[slot / 64];
         self.words[slot / 64] = with_bit(word, slot % 64);
@@ -30,7 +31,8 @@ impl Marks {
     pub(crate) fn clear(&mut self, slot: usize)
         requires { slot < 2048 }
         ensures here { mark_of self.new.words slot ≡ 0 }
-        ensures others { (other : ℕ) → other ≢ slot → mark_of self.new.words other ≡ mark_of self.old.words other }
+        ensures others { (other : ℕ) → other ≢ slot
+            → mark_of self.new.words other ≡ mark_of self.old.words other }
     {
         let word = self.words[slot / 64];
         self.words[slot / 64] = without_bit(word, slot % 64);
@@ -77,7 +79,8 @@ fn with_bit(word: u64, bit: usize) -> u64
 fn without_bit(word: u64, bit: usize) -> u64
     requires { bit < 64 }
     ensures here { bit_at result bit ≡ 0 }
-    ensures others { (other : ℕ) → other < 64 → other ≢ bit → bit_at result other ≡ bit_at word other }
+    ensures others { (other : ℕ) → other < 64 → other ≢ bit
+        → bit_at result other ≡ bit_at word other }
 {
     word & !(1 << bit)
 }
@@ -86,7 +89,8 @@ fn without_bit(word: u64, bit: usize) -> u64
 fn bits_from(word: u64, bit: usize) -> u64
     requires { bit < 64 }
     ensures below { (other : ℕ) → other < bit → bit_at result other ≡ 0 }
-    ensures from { (other : ℕ) → bit ≤ other → other < 64 → bit_at result other ≡ bit_at word other }
+    ensures from { (other : ℕ) → bit ≤ other → other < 64
+        → bit_at result other ≡ bit_at word other }
 {
     word & (u64::MAX << bit)
 }

@@ -113,7 +113,8 @@ impl<T: Ord + Drop> OrderedDue<T> {
     }
 
     fn above<'a>(&'a self, at: u64, item: &'a T) -> Option<(u64, &'a T)>
-        ensures above { option_map lent_entry result ≡ first_above T.cmp (Some (at, item.now)) self.now }
+        ensures above { option_map lent_entry result
+            ≡ first_above T.cmp (Some (at, item.now)) self.now }
         ensures ordered { IsInOrder T.cmp self.now }
     {
         match self.above_there(at, item) {
@@ -124,8 +125,10 @@ impl<T: Ord + Drop> OrderedDue<T> {
 
     // The next item of the same moment. With none, the next entry is the first beyond.
     fn above_there<'a>(&'a self, at: u64, item: &'a T) -> Option<&'a T>
-        ensures there { IfSome result (λ next. first_above T.cmp (Some (at, item.now)) self.now ≡ Some (at, next.now)) }
-        ensures beyond { IfNone result (first_above T.cmp (Some (at, item.now)) self.now ≡ first_beyond at self.now) }
+        ensures there { IfSome result
+            (λ next. first_above T.cmp (Some (at, item.now)) self.now ≡ Some (at, next.now)) }
+        ensures beyond { IfNone result
+            (first_above T.cmp (Some (at, item.now)) self.now ≡ first_beyond at self.now) }
         ensures ordered { IsInOrder T.cmp self.now }
     {
         let together = self.moments.get(&at)?;

@@ -62,7 +62,8 @@ impl<T: Ord + Drop> Slots<T> {
 
     pub(crate) fn plan(&mut self, slot: usize, at: u64, item: T) -> Result<(), NoMemory>
         requires { slot < 2048 }
-        ensures ok { OnOk result (self.new ≡ slice_set self.old slot (with_entry T.cmp (slice_index_or self.old slot []) (at, item))) }
+        ensures ok { OnOk result (self.new ≡ slice_set self.old slot
+            (with_entry T.cmp (slice_index_or self.old slot []) (at, item))) }
         ensures err { OnErr result (self.new ≡ self.old) }
     {
         self.each[slot].plan(at, item)?;
@@ -73,7 +74,8 @@ impl<T: Ord + Drop> Slots<T> {
     pub(crate) fn cancel(&mut self, slot: usize, at: u64, item: &T) -> bool
         requires { slot < 2048 }
         ensures found { result ≡ has_entry T.cmp (slice_index_or self.old slot []) (at, item.now) }
-        ensures removed { self.new ≡ slice_set self.old slot (without_entry T.cmp (slice_index_or self.old slot []) (at, item.now)) }
+        ensures removed { self.new ≡ slice_set self.old slot
+            (without_entry T.cmp (slice_index_or self.old slot []) (at, item.now)) }
     {
         let found = self.each[slot].cancel(at, item);
         if self.each[slot].is_empty() {
@@ -99,7 +101,8 @@ impl<T: Ord + Drop> Slots<T> {
     // The first slot with entries of those from one on.
     pub(crate) fn first_occupied(&self, from: usize) -> Option<usize>
         requires { from ≤ 2048 }
-        ensures { MatchOption result (entries_in (drop from self.now) ≡ []) (IsFirstOccupied self.now from) }
+        ensures { MatchOption result (entries_in (drop from self.now) ≡ [])
+            (IsFirstOccupied self.now from) }
     {
         self.marks.first_from(from)
     }

@@ -14,9 +14,9 @@ use std::marker::Model;
 /// the moment differs from `now`, and the slot that digit. So a slot of the lowest level is one
 /// moment, and a slot of any other is 256 times as long as one of the level below.
 ///
-/// When nothing near is left, the first slot with entries is taken near as it is. While many moments
-/// are near, each `plan` moves one more part of them back to a slot of its own; where memory for
-/// that is refused, the part stays near.
+/// When nothing near is left, the first slot with entries is taken near as it is. While many
+/// moments are near, each `plan` moves one more part of them back to a slot of its own; where
+/// memory for that is refused, the part stays near.
 #[derive(Drop)]
 pub struct Wheel<T: Ord> {
     now: u64,

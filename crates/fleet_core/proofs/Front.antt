@@ -1,5 +1,5 @@
 -- What a clear, an added filter or a moment leaves.
-use Rattle.std.proofs.Common.{◌≡◌, ℕ, zero, suc, ◌+◌, false, ◌||◌, List, [], ◌∷◌, ◌++◌, Option, None, Some, if◌then◌else◌, sym, ap, ◌∙◌, refl, add-zero, arith}
+use Rattle.std.proofs.Common.{◌≡◌, ℕ, zero, suc, ◌+◌, false, true, ◌||◌, List, [], ◌∷◌, ◌++◌, Option, None, Some, if◌then◌else◌, sym, ap, ◌∙◌, refl, add-zero, arith}
 use Rattle.std.specs.List.{list_any}
 use Rattle.agg_types.specs.declared.config.Config.{Config}
 use Rattle.agg_types.specs.declared.event.Event.{Event}
@@ -8,11 +8,12 @@ use Rattle.fleet_core.specs.declared.step.Step.{Step}
 use Rattle.fleet_core.specs.declared.step.Step.TheVariants.{Connect, Bytes, Lost, Clear, AddFilter, Moment}
 use Rattle.fleet_core.specs.Events.{added, at_front, count_of, events_of, numbered}
 use Rattle.fleet_core.specs.Links.{link_of, linked}
-use Rattle.fleet_core.specs.Standing.{Collected, StandsFor}
+use Rattle.fleet_core.specs.Possible.{is_possible}
+use Rattle.fleet_core.specs.StandsFor.{Collected, StandsFor}
 use Rattle.fleet_core.specs.Steps.{connects, is_connect, names, what_at}
 use Rattle.fleet_core.proofs.Counts.{apart_from_lt, count-append, count-other, count-own}
 use Rattle.fleet_core.proofs.Links.{link_kept, no_link}
-use Rattle.fleet_core.proofs.Taken.{done}
+use Rattle.fleet_core.proofs.HandingOver.{Queued, done}
 
 some_events : (config : Config) (opening : ℕ) (past : List Step) (step : Step) (what : What) → what_at step ≡ Some what → events_of config opening (step ∷ past) ≡ events_of config opening past ++ at_front (events_of config opening past) what
 unfolding events_of added
@@ -44,15 +45,17 @@ front_quiet (AddFilter filter) what is = (refl, λ conn. refl)
 front_quiet (Moment moment) what is = (refl, λ conn. refl)
 
 pub front_done : (f g : Collected) (config : Config) (opening : ℕ) (past : List Step) (step : Step) (what : What) → what_at step ≡ Some what → StandsFor f config opening past → f.waiting ≡ []
-    → g.book ≡ f.book → g.waiting ≡ numbered 0 f.front (what ∷ []) → g.links ≡ f.links → g.connected ≡ f.connected → g.front ≡ f.front + 1
-    → StandsFor g config opening (step ∷ past)
-front_done f g config opening past step what is h none book waiting links connected front =
+    → g.book ≡ f.book → g.waiting ≡ numbered 0 f.next_seq (what ∷ []) → g.links ≡ f.links → g.connected ≡ f.connected → g.next_seq ≡ f.next_seq + 1
+    → is_possible config opening past step ≡ true
+    → Queued g config opening past step
+front_done f g config opening past step what is h none book waiting links connected front possible =
     done f g config opening past step h none book
-    (events ∙ ap (λ n. before ++ numbered 0 n (what ∷ [])) (sym h.front) ∙ ap (λ some. before ++ some) (sym waiting))
+    (events ∙ ap (λ n. before ++ numbered 0 n (what ∷ [])) (sym h.next_seq) ∙ ap (λ some. before ++ some) (sym waiting))
     kept
     (connected ∙ h.connected ∙ sym came)
-    (front ∙ ap (λ n. n + 1) h.front ∙ sym (counted 0 ∙ ap (λ n. count_of 0 before + n) (count-own 0 (count_of 0 before) (what ∷ []))))
+    (front ∙ ap (λ n. n + 1) h.next_seq ∙ sym (counted 0 ∙ ap (λ n. count_of 0 before + n) (count-own 0 (count_of 0 before) (what ∷ []))))
     (λ conn later. ap (λ b. b || list_any (names conn) past) (quiet.1 conn) ∙ h.strangers conn (rw came at later))
+    possible
   where
     before : List Event
     before = events_of config opening past

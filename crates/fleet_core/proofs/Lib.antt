@@ -1,9 +1,10 @@
 pub mod Counts
 pub mod Links
-pub mod Taken
-pub mod Opened
+pub mod HandingOver
+pub mod Begun
 pub mod Front
-pub mod Heard
-pub mod Accepted
+pub mod Fed
+pub mod Opening
+pub mod Answered
 pub mod Steps
 pub mod Running

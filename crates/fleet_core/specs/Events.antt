@@ -16,7 +16,8 @@ use Rattle.fleet_core.specs.Steps.{connects, stream}
 -- what happens at a seat, one event each, under numbers from this one on
 abbrev pub numbered : ℕ → ℕ → List What → List Event
 numbered seat seq [] = []
-numbered seat seq (what ∷ whats) = record { seat = seat; seq = seq; what = what } ∷ numbered seat (seq + 1) whats
+numbered seat seq (what ∷ whats) =
+    record { seat = seat; seq = seq; what = what } ∷ numbered seat (seq + 1) whats
 
 -- how many events a seat has
 abbrev pub count_of : ℕ → List Event → ℕ
@@ -32,7 +33,8 @@ at_front events what = numbered 0 (count_of 0 events) (what ∷ [])
 
 -- a connection without a seat adds nothing
 abbrev pub at_seat : List Event → ℕ → List What → List Event
-at_seat events conn whats = if is_seated conn events then numbered conn (count_of conn events) whats else []
+at_seat events conn whats =
+    if is_seated conn events then numbered conn (count_of conn events) whats else []
 
 abbrev pub leave_at : Option End → List What
 leave_at None = []
@@ -47,22 +49,36 @@ unfoldable pub talk_of : Config → List Event → List Step → ℕ → Talk
 talk_of config events past conn = talk (setup_of config) (is_seated conn events) (stream past conn)
 
 unfoldable pub talk_with : Config → List Event → List Step → ℕ → List ℕ → Talk
-talk_with config events past conn piece = talk (setup_of config) (is_seated conn events) (stream past conn ++ piece)
+talk_with config events past conn piece =
+    talk (setup_of config) (is_seated conn events) (stream past conn ++ piece)
 
 -- whether fewer seats sit than may
 abbrev pub has_free_seat : Config → ℕ → List Event → Bool
-has_free_seat config opening events = nat_lt (length (state_of config opening events).seats) most_seats
+has_free_seat config opening events =
+    nat_lt (length (state_of config opening events).seats) most_seats
 
--- the events that a step adds to those of the steps before it
+-- the events that a step adds to these, of the steps before it
 unfoldable pub added : Config → ℕ → List Step → List Event → Step → List Event
-added config opening past events Connect = if has_free_seat config opening events then numbered (connects past + 1) 0 (whats.Sit ∷ []) else []
-added config opening past events (Bytes conn piece) = at_seat events conn (news (talk_of config events past conn) (talk_with config events past conn piece))
+added config opening past events Connect =
+    if has_free_seat config opening events
+    then numbered (connects past + 1) 0 (whats.Sit ∷ [])
+    else []
+added config opening past events (Bytes conn piece) =
+    at_seat events conn
+    (news (talk_of config events past conn) (talk_with config events past conn piece))
 added config opening past events (Lost conn) = at_seat events conn (whats.Leave ∷ [])
 added config opening past events (Clear table sel) = at_front events (whats.Clear table sel)
 added config opening past events (AddFilter filter) = at_front events (whats.AddFilter filter)
 added config opening past events (Moment moment) = at_front events (whats.Moment moment)
 
--- the events of a list of steps: first the Sit of seat 0, at which clears, added filters and moments happen
+-- the events of a list of steps: first the Sit of seat 0, at which clears, added filters and
+-- moments happen
 unfoldable pub events_of : Config → ℕ → List Step → List Event
 events_of config opening [] = numbered 0 0 (whats.Sit ∷ [])
-events_of config opening (step ∷ past) = events_of config opening past ++ added config opening past (events_of config opening past) step
+events_of config opening (step ∷ past) =
+    events_of config opening past
+    ++ added config opening past (events_of config opening past) step
+
+-- the events that a step adds to those of the steps before it
+abbrev pub added_by : Config → ℕ → List Step → Step → List Event
+added_by config opening past step = added config opening past (events_of config opening past) step

@@ -1,8 +1,10 @@
 pub mod Steps
 pub mod Events
 pub mod Links
-pub mod Standing
-pub mod Done
-pub mod Hearing
+pub mod Possible
+pub mod StandsFor
 pub mod Waiting
+pub mod Answers
+pub mod Feeding
+pub mod Adds
 pub mod Runs

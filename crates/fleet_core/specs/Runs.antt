@@ -1,9 +1,8 @@
--- What a run of steps leaves. Steps are given oldest first; those that were done are kept newest first.
-use Rattle.std.specs.Prelude.{◌≡◌, ⊤, ℕ, ◌≤◌, ◌^◌, Bool, true, false, not, ◌&&◌, ◌||◌, nat_lt, if◌then◌else◌, List, [], ◌∷◌, ◌++◌, slice_get, Option, None, Some, Result, Ok, Err}
-use Rattle.std.specs.List.{list_any}
-use Rattle.std.specs.Option.{option_map_or}
+-- What a run of steps leaves. Steps are given oldest first; those that were done are kept newest
+-- first.
+use Rattle.std.specs.Prelude.{◌≡◌, ⊤, ℕ, ◌≤◌, ◌^◌, not, nat_lt, if◌then◌else◌, List, [], ◌∷◌, ◌++◌, slice_get, Option, None, Some, Result, Ok, Err}
+use Rattle.std.specs.Option.{option_map, option_or}
 use Rattle.agg_types.specs.Check.{config_faults}
-use Rattle.agg_types.specs.Fits.{fits}
 use Rattle.agg_types.specs.declared.config.Config.{Config}
 use Rattle.fleet_core.specs.declared.runs.Ran.{Ran}
 use Rattle.fleet_core.specs.declared.runs.RunFault.{RunFault}
@@ -12,70 +11,92 @@ use Rattle.fleet_core.specs.declared.step.FleetFault.{FleetFault}
 use Rattle.fleet_core.specs.declared.step.FleetFault.TheVariants.{NoConn, Spent, NoMemory, Session}
 use Rattle.fleet_core.specs.declared.step.Replies.{Replies}
 use Rattle.fleet_core.specs.declared.step.Step.{Step}
-use Rattle.fleet_core.specs.Done.{can_be, is_spent, sent_by}
-use Rattle.fleet_core.specs.Standing.{Collected, StandsFor}
-use Rattle.fleet_core.specs.Steps.{conn_of, what_at}
+use Rattle.fleet_core.specs.Possible.{can_be, does_fit, sent_by, spends_at}
+use Rattle.fleet_core.specs.StandsFor.{Collected, StandsFor}
+use Rattle.fleet_core.specs.Steps.{conn_of}
 
--- a step that can't be done is passed over
+-- a step whose connection isn't open is passed over
 abbrev pub then_done : Config → ℕ → List Step → Step → List Step
 then_done config opening past step = if can_be config opening past step then step ∷ past else past
 
--- the steps that are done: those before, and of these in turn each that can be
+-- the steps that are done: those before, and of these in turn each whose connection is open
 unfoldable pub done : Config → ℕ → List Step → List Step → List Step
 done config opening past [] = past
-done config opening past (step ∷ steps) = done config opening (then_done config opening past step) steps
+done config opening past (step ∷ steps) =
+    done config opening (then_done config opening past step) steps
 
 -- what is sent by steps that were done, oldest first
 unfoldable pub sent_in : Config → ℕ → List Step → List Replies
 sent_in config opening [] = []
-sent_in config opening (step ∷ past) = sent_in config opening past ++ sent_by config opening past step ∷ []
+sent_in config opening (step ∷ past) =
+    sent_in config opening past ++ sent_by config opening past step ∷ []
 
--- a clear, an added filter or a moment that doesn't fit the configuration
-abbrev pub is_unfit : Config → Step → Bool
-is_unfit config step = option_map_or (λ what. not (fits config what)) (what_at step) false
+-- why a step ends a run: it doesn't fit, or else no numbers are left for it
+abbrev pub fault_at : Config → ℕ → List Step → Step → Option RunFault
+fault_at config opening past step =
+    if not (does_fit config step) then Some faults.Unfit
+    else (if spends_at config opening past step then Some faults.Spent else None)
 
--- whether at one of these steps, in turn, no numbers are left for it
-unfoldable pub spends : Config → ℕ → List Step → List Step → Bool
-spends config opening past [] = false
-spends config opening past (step ∷ steps) =
-    (can_be config opening past step && is_spent config opening past step) || spends config opening (then_done config opening past step) steps
+-- why the first of these steps, in turn, that ends a run does so
+unfoldable pub step_fault : Config → ℕ → List Step → List Step → Option RunFault
+step_fault config opening past [] = None
+step_fault config opening past (step ∷ steps) =
+    option_or (fault_at config opening past step)
+    (step_fault config opening (then_done config opening past step) steps)
 
--- the run did all steps that could be done, nothing waits, and each sent what it should; no fault stood in its way
+-- an opening moment that is too late
+abbrev pub late_fault : ℕ → Option RunFault
+late_fault opening = if nat_lt (2 ^ 62) opening then Some faults.Unfit else None
+
+-- why a run ends early, were there memory for all: the first fault of the configuration, then an
+-- opening moment that is too late, then the first step that has a fault
+abbrev pub run_fault : Config → ℕ → List Step → Option RunFault
+run_fault config opening steps =
+    option_or (option_map faults.Config (slice_get (config_faults config) 0))
+    (option_or (late_fault opening) (step_fault config opening [] steps))
+
+-- the run did all steps whose connection was open, nothing waits, and each sent what it should; no
+-- fault stood in its way
 pub record IsRan (ran : Ran) (config : Config) (opening : ℕ) (steps : List Step) : Type 0 where
   pub stands : StandsFor ran.fleet config opening (done config opening [] steps)
   pub waiting : ran.fleet.waiting ≡ []
   pub sent : ran.sent ≡ sent_in config opening (done config opening [] steps)
-  pub sound : config_faults config ≡ []
-  pub early : opening ≤ 2 ^ 62
-  pub fit : list_any (is_unfit config) steps ≡ false
-  pub numbered : spends config opening [] steps ≡ false
+  pub no_fault : run_fault config opening steps ≡ None
 
--- a fault is answered only where there is one
+-- the fault that a run ends by: the one that there is, or want of memory behind the checks of the
+-- opening
 abbrev pub IsFault : RunFault → Config → ℕ → List Step → Type 0
-IsFault (faults.Config fault) config opening steps = slice_get (config_faults config) 0 ≡ Some fault
-IsFault faults.NoMemory config opening steps = config_faults config ≡ []
-IsFault faults.Spent config opening steps = (config_faults config ≡ []) × (spends config opening [] steps ≡ true)
-IsFault faults.Unfit config opening steps = (config_faults config ≡ []) × ((nat_lt (2 ^ 62) opening || list_any (is_unfit config) steps) ≡ true)
+IsFault (faults.Config fault) config opening steps =
+    run_fault config opening steps ≡ Some (faults.Config fault)
+IsFault faults.NoMemory config opening steps = (config_faults config ≡ []) × (opening ≤ 2 ^ 62)
+IsFault faults.Spent config opening steps = run_fault config opening steps ≡ Some faults.Spent
+IsFault faults.Unfit config opening steps = run_fault config opening steps ≡ Some faults.Unfit
 
--- what a run makes of what a step answers: what is sent, or none where it is passed over, or why the run ends
-abbrev pub outcome : Result Replies FleetFault → Step → Result (Option Replies) RunFault
-outcome (Ok replies) step = Ok (Some replies)
-outcome (Err NoConn) step = Ok None
-outcome (Err Spent) step = Err faults.Spent
-outcome (Err NoMemory) step = Err faults.NoMemory
-outcome (Err (Session cause out)) step = Ok (Some (record { conn = conn_of step; out = out }))
+-- what a run makes of what a step answers: what is sent, or none where it is passed over, or why
+-- the run ends
+abbrev pub run_answer : Result Replies FleetFault → Step → Result (Option Replies) RunFault
+run_answer (Ok replies) step = Ok (Some replies)
+run_answer (Err NoConn) step = Ok None
+run_answer (Err Spent) step = Err faults.Spent
+run_answer (Err NoMemory) step = Err faults.NoMemory
+run_answer (Err (Session cause out)) step = Ok (Some (record { conn = conn_of step; out = out }))
 
--- a step more of a run
-pub record IsAdvanced (fleet : Collected) (replies : List Replies) (config : Config) (opening : ℕ) (past : List Step) (step : Step) : Type 0 where
+-- a step more of a run, which has no fault
+pub record IsAdvanced (fleet : Collected) (replies : List Replies) (config : Config)
+    (opening : ℕ) (past : List Step) (step : Step) : Type 0 where
   pub stands : StandsFor fleet config opening (then_done config opening past step)
   pub waiting : fleet.waiting ≡ []
   pub sent : replies ≡ sent_in config opening (then_done config opening past step)
-  pub fit : is_unfit config step ≡ false
-  pub numbered : (can_be config opening past step && is_spent config opening past step) ≡ false
+  pub no_fault : fault_at config opening past step ≡ None
 
-abbrev pub Goes : Result (Unit {0}) RunFault → Collected → List Replies → Config → ℕ → List Step → Step → Type 0
-Goes (Ok done) fleet replies config opening past step = IsAdvanced fleet replies config opening past step
+-- a step more, or the fault by which it ends the run
+abbrev pub Goes : Result (Unit {0}) RunFault → Collected → List Replies → Config → ℕ → List Step
+    → Step → Type 0
+Goes (Ok done) fleet replies config opening past step =
+    IsAdvanced fleet replies config opening past step
 Goes (Err (faults.Config fault)) fleet replies config opening past step = ⊥
 Goes (Err faults.NoMemory) fleet replies config opening past step = ⊤
-Goes (Err faults.Spent) fleet replies config opening past step = (can_be config opening past step && is_spent config opening past step) ≡ true
-Goes (Err faults.Unfit) fleet replies config opening past step = is_unfit config step ≡ true
+Goes (Err faults.Spent) fleet replies config opening past step =
+    fault_at config opening past step ≡ Some faults.Spent
+Goes (Err faults.Unfit) fleet replies config opening past step =
+    fault_at config opening past step ≡ Some faults.Unfit

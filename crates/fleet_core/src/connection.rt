@@ -1,10 +1,10 @@
 //! One open connection.
 
-ghost use Rattle.std.specs.Prelude.{[], ◌≡◌, ◌+◌, ◌++◌, ◌<◌, ◌^◌, ℕ, List, length, IfSome, IfOk, OnErr, option_map};
+ghost use Rattle.std.specs.Prelude.{◌≡◌, ◌+◌, ◌++◌, ◌<◌, ◌^◌, [], ℕ, List, length, IfSome, IfOk, OnErr, option_map};
 ghost use Rattle.std.specs.Bool.{then_some};
-ghost use Rattle.session_core.specs.Piece.{Setup, setup_of};
+ghost use Rattle.session_core.specs.Piece.{Setup};
 ghost use Rattle.session_core.specs.Talk.{stage_of};
-ghost use Rattle.fleet_core.specs.Hearing.{Hears};
+ghost use Rattle.fleet_core.specs.Feeding.{Feeds, IsAfter};
 
 use agg_types::{Config, Items, NoMemory, What};
 use session_core::{Batch, Session, SessionCause};
@@ -15,64 +15,65 @@ use std::alloc::Global;
 #[derive(Drop)]
 pub struct Connection {
     pub session: Session,
-    pub seat: Option<u64>,
+    pub next_seq: Option<u64>,
 }
 
-/// What a piece of a stream told and said, and why the stream ended, if it ended by it.
+/// What a piece of a stream gives: facts, the bytes to be sent back, and why the stream ended, if
+/// it ended by it.
 #[derive(Drop)]
-pub struct Told {
+pub struct Outcome {
     pub facts: Items<What>,
     pub out: Items<u8>,
     pub end: Option<SessionCause>,
 }
 
 impl Connection {
-    /// A connection that has sent nothing yet. It has a seat, at which it sat down, or none. Takes no
-    /// memory.
+    /// A connection that has sent nothing yet. It has a seat, at which it sat down, or none. Takes
+    /// no memory.
     pub fn new(alloc: Global, seated: bool, now: u64) -> Connection
         ensures stands { (setup : Setup) → result.session.stage ≡ stage_of setup seated [] }
         ensures seated { result.session.seated ≡ seated }
-        ensures seat { result.seat ≡ then_some seated 1 }
+        ensures next_seq { result.next_seq ≡ then_some seated 1 }
     {
         Connection {
             session: Session::accept(alloc, seated, now),
-            seat: if seated { Some(1) } else { None },
+            next_seq: if seated { Some(1) } else { None },
         }
     }
 
     /// Takes the next piece of the stream. After NoMemory the connection is as it was.
-    pub fn hear(&mut self, config: &Config, piece: &[u8], now: u64) -> Result<Told, NoMemory>
-        requires few { IfSome self.old.seat (λ seq. seq < 2 ^ 62) }
-        ensures ok { (taken : List ℕ) → self.old.session.stage ≡ stage_of (setup_of config.now) self.old.session.seated taken
-            → IfOk result (λ told. Hears told self.old self.new config.now taken piece.now) }
-        ensures short { IfOk result (λ told. length told.facts < 2 ^ 63) }
+    pub fn feed(&mut self, config: &Config, piece: &[u8], now: u64) -> Result<Outcome, NoMemory>
+        requires few { IfSome self.old.next_seq (λ seq. seq < 2 ^ 62) }
+        ensures ok { (bytes : List ℕ) → IsAfter self.old config.now bytes
+            → IfOk result (λ given. Feeds given self.old self.new config.now bytes piece.now) }
+        ensures short { IfOk result (λ given. length given.facts < 2 ^ 63) }
         ensures err { OnErr result (self.new ≡ self.old) }
     {
         match self.session.feed(config, piece, now) {
-            Ok(batch) => Ok(self.told(batch, None)),
+            Ok(batch) => Ok(self.outcome(batch, None)),
             Err(fault) => match fault.cause {
                 SessionCause::NoMemory => Err(NoMemory),
-                cause => Ok(self.told(fault.batch, Some(cause))),
+                cause => Ok(self.outcome(fault.batch, Some(cause))),
             },
         }
     }
 
     // Counts the facts at the connection's seat.
-    fn told(&mut self, batch: Batch, end: Option<SessionCause>) -> Told
-        requires few { IfSome self.old.seat (λ seq. seq < 2 ^ 62) }
+    fn outcome(&mut self, batch: Batch, end: Option<SessionCause>) -> Outcome
+        requires few { IfSome self.old.next_seq (λ seq. seq < 2 ^ 62) }
         ensures facts { result.facts ≡ batch.facts }
         ensures short { length result.facts < 2 ^ 63 }
         ensures out { result.out ≡ batch.replies ++ batch.acks }
         ensures end { result.end ≡ end }
         ensures session { self.new.session ≡ self.old.session }
-        ensures seat { self.new.seat ≡ option_map (λ seq. seq + length batch.facts) self.old.seat }
+        ensures counted { self.new.next_seq ≡ option_map (λ seq. seq + length batch.facts) self.old.next_seq }
     {
         let (facts, out) = batch.into_parts();
         let facts = facts.into_vec();
-        if let Some(seq) = self.seat {
-            self.seat = Some(seq + facts.len() as u64);
+        if let Some(seq) = self.next_seq {
+            self.next_seq = Some(seq + facts.len() as u64);
         }
-        Told {
+        Outcome {
             facts: Items::from_vec(facts),
             out: Items::from_vec(out),
             end,

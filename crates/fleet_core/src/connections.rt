@@ -1,13 +1,11 @@
 //! The open connections, by number.
 
-ghost use Rattle.std.specs.Prelude.{◌≡◌, ◌<◌, ◌^◌, ℕ, List, length, None, Some, IfSome, IsSome, IfOk, OnOk, OnErr, option_map};
-ghost use Rattle.session_core.specs.Piece.{setup_of};
-ghost use Rattle.session_core.specs.Talk.{stage_of};
+ghost use Rattle.std.specs.Prelude.{◌≡◌, ◌<◌, ◌^◌, ℕ, List, length, None, Some, IsSome, IfSome, IfOk, OnOk, OnErr, option_map};
 ghost use Rattle.fleet_core.specs.declared.connection.Connection.{Connection};
-ghost use Rattle.fleet_core.specs.Hearing.{HearsAt, IsClosedIf, IsSet};
-ghost use Rattle.fleet_core.specs.Links.{found};
+ghost use Rattle.fleet_core.specs.Feeding.{FeedsAt, IsAfter, IsClosedIf, IsSet};
+ghost use Rattle.fleet_core.specs.Links.{found, HasNumbers, next_seq_at};
 
-use crate::connection::{Connection, Told};
+use crate::connection::{Connection, Outcome};
 use agg_types::{Config, NoMemory};
 use std::collections::BTreeMap;
 
@@ -15,12 +13,12 @@ use std::collections::BTreeMap;
 pub type Connections = BTreeMap<u64, Connection>;
 
 /// The number of the next event at a connection's seat, if it has one; none where it isn't open.
-pub fn seat_at(connections: &Connections, conn: u64) -> Option<Option<u64>>
-    ensures { result ≡ option_map (λ connection. connection.seat) (found connections.now.entries conn) }
+pub fn next_seq_at(connections: &Connections, conn: u64) -> Option<Option<u64>>
+    ensures { result ≡ next_seq_at connections.now.entries conn }
 {
     match connections.get(&conn) {
         None => None,
-        Some(connection) => Some(connection.seat),
+        Some(connection) => Some(connection.next_seq),
     }
 }
 
@@ -54,23 +52,24 @@ pub fn close_if(connections: &mut Connections, conn: u64, ended: bool)
 }
 
 /// Hands the next piece of its stream to an open connection. After NoMemory all are as they were.
-pub fn hear(
+pub fn feed(
     connections: &mut Connections,
     conn: u64,
     config: &Config,
     piece: &[u8],
     now: u64,
-) -> Result<Told, NoMemory>
+) -> Result<Outcome, NoMemory>
     requires open { IsSome (found connections.old.entries conn) }
-    requires few { IfSome (found connections.old.entries conn) (λ connection. IfSome connection.seat (λ seq. seq < 2 ^ 62)) }
-    ensures ok { (before : Connection) (taken : List ℕ) → found connections.old.entries conn ≡ Some before
-        → before.session.stage ≡ stage_of (setup_of config.now) before.session.seated taken
-        → IfOk result (λ told. HearsAt told connections.old.entries connections.new.entries conn before config.now taken piece.now) }
-    ensures short { IfOk result (λ told. length told.facts < 2 ^ 63) }
+    requires few { IfSome (found connections.old.entries conn) HasNumbers }
+    ensures ok { (before : Connection) (bytes : List ℕ)
+        → found connections.old.entries conn ≡ Some before → IsAfter before config.now bytes
+        → IfOk result (λ given. FeedsAt given connections.old.entries connections.new.entries
+        conn before config.now bytes piece.now) }
+    ensures short { IfOk result (λ given. length given.facts < 2 ^ 63) }
     ensures err { OnErr result (connections.new.entries ≡ connections.old.entries) }
 {
     match connections.get_mut(&conn) {
         None => unreachable!(),
-        Some(connection) => connection.hear(config, piece, now),
+        Some(connection) => connection.feed(config, piece, now),
     }
 }

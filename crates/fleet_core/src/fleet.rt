@@ -1,21 +1,22 @@
-ghost use Rattle.std.specs.Prelude.{◌≡◌, ◌+◌, ◌<◌, ◌^◌, ◌∷◌, [], ℕ, List, length, Some, false, IfSome, IsSome, IfOk, OnOk, option_map, option_to_list, MatchResult, if◌then◌else◌};
+ghost use Rattle.std.specs.Prelude.{◌≡◌, ◌+◌, ◌↔◌, ◌≤◌, ◌<◌, ◌^◌, ◌∷◌, [], true, false, length, IfSome, IsSome, IsTrue, IfOk, OnOk, option_to_list, MatchResult, if◌then◌else◌};
 ghost use Rattle.std.specs.Option.{option_map_or};
-ghost use Rattle.agg_types.specs.declared.config.Config.{Config};
-ghost use Rattle.fleet_core.specs.declared.step.Step.{Step};
-ghost use Rattle.fleet_core.specs.declared.step.Step.TheVariants.{Connect, Bytes, Lost};
+ghost use Rattle.agg_types.specs.Check.{config_faults};
 ghost use Rattle.agg_types.specs.declared.event.What.TheVariants.{Sit};
-ghost use Rattle.fleet_core.specs.Done.{Answers, IsTold, is_full};
-ghost use Rattle.fleet_core.specs.Links.{found};
-ghost use Rattle.fleet_core.specs.Standing.{StandsFor};
+ghost use Rattle.fleet_core.specs.declared.step.Step.TheVariants.{Bytes, Connect, Lost};
+ghost use Rattle.fleet_core.specs.Answers.{Answers, EndsBy, IfDone, IfNoMemory, IfRefused, Sends, past_after};
+ghost use Rattle.fleet_core.specs.Events.{added_by};
+ghost use Rattle.fleet_core.specs.Adds.{Adds, IsFed, Keeps};
+ghost use Rattle.fleet_core.specs.Links.{next_seq_at};
+ghost use Rattle.fleet_core.specs.Possible.{can_be, does_fit, end_by, is_full, sent_by, spends_at};
+ghost use Rattle.fleet_core.specs.StandsFor.{ForEachPast, StandsFor};
 ghost use Rattle.fleet_core.specs.Steps.{connects, what_at};
-ghost use Rattle.fleet_core.specs.Waiting.{AreTaken};
+ghost use Rattle.fleet_core.specs.Waiting.{AreHandedOver, IsEndOf};
 
-use crate::connection::{Connection, Told};
-use crate::connections::{Connections, close, close_if, hear, open, seat_at};
+use crate::connection::{Connection, Outcome};
+use crate::connections::{Connections, close, close_if, feed, next_seq_at, open};
 use crate::waiting::Waiting;
-use crate::{FleetFault, Replies, Step};
-use agg_types::{Config, Items, NoMemory, Select, What};
-use plain_book::Book;
+use crate::{Book, FleetFault, Replies, Step};
+use agg_types::{Config, Items, NoMemory, What};
 use session_core::SessionCause;
 use std::alloc::Global;
 use std::collections::BTreeMap;
@@ -35,12 +36,12 @@ pub struct Fleet {
     book: Book,
     connections: Connections,
     connected: u64,
-    front: u64,
+    next_seq: u64,
     waiting: Waiting,
 }
 
 impl Model for Fleet {
-    ghost use Rattle.fleet_core.specs.Standing.{Collected};
+    ghost use Rattle.fleet_core.specs.StandsFor.{Collected};
 
     ghost Value = { Collected };
 
@@ -49,24 +50,27 @@ impl Model for Fleet {
       waiting = fleet.waiting;
       links = fleet.connections.entries;
       connected = fleet.connected;
-      front = fleet.front;
+      next_seq = fleet.next_seq;
     } };
 }
 
 impl Fleet {
-    /// A fleet with no connections, at its opening moment, in ms.
+    /// A fleet with no connections, at its opening moment, in ms, at most 2^62. The configuration
+    /// is one that `Config::check` accepts.
     pub fn new(alloc: Global, config: Config, moment: u64) -> Result<Fleet, NoMemory>
+        requires checked { config_faults config ≡ [] }
+        requires in_range { moment ≤ 2 ^ 62 }
         ensures stands { IfOk result (λ fleet. StandsFor fleet config moment []) }
         ensures waiting { IfOk result (λ fleet. fleet.waiting ≡ []) }
     {
-        let mut book = Book::new(alloc, config, moment);
+        let mut book = Book::new(alloc, config, moment)?;
         book.take(0, 0, &What::Sit)?;
         Ok(Fleet {
             alloc,
             book,
             connections: BTreeMap::new(alloc),
             connected: 0,
-            front: 1,
+            next_seq: 1,
             waiting: Waiting::none(alloc),
         })
     }
@@ -78,20 +82,58 @@ impl Fleet {
         &self.book
     }
 
-    /// How many events the book has yet to take. They are taken before any later step. Takes no memory.
+    /// How many events the book has yet to take. They are taken before any later step. Takes no
+    /// memory.
     pub fn waiting(&self) -> usize
         ensures { result ≡ length self.now.waiting }
     {
         self.waiting.len()
     }
 
-    /// Does a step. Where a growth is refused after the step is done, what the book has yet to take waits.
+    /// Does a step. A clear, an added filter or a moment fits the configuration that stands, which
+    /// `Step::fits` tells. Faults, in this order: NoConn, Spent, NoMemory, Session. Where a growth
+    /// is refused after the step is done, what the book has yet to take waits.
     ///
-    /// For all the steps that the fleet stands for: after Ok and after Session it stands for them and
-    /// this one, after any other fault for them alone.
+    /// A connection is open if it came, wasn't lost, and its stream hasn't ended.
     pub fn step(&mut self, step: &Step) -> Result<Replies, FleetFault>
-        ensures { (config : Config) (opening : ℕ) (past : List Step) → StandsFor self.old config opening past
-            → Answers result self.old self.new config opening past step.now }
+        requires fits { IsTrue (does_fit self.old.book.config step.now) }
+
+        // It stands for the steps before and, after Ok and Session, for this one.
+        ensures stands { ForEachPast self.old (λ config opening past.
+            StandsFor self.new config opening (past_after result past step.now)) }
+
+        // NoConn exactly where it names a connection that isn't open, Spent exactly where an open
+        // one, or seat 0, has no numbers left for it. Nothing has changed then.
+        ensures no_conn { ForEachPast self.old (λ config opening past.
+            (result ≡ Err FleetFault.NoConn) ↔ (can_be config opening past step.now ≡ false)) }
+        ensures spent { ForEachPast self.old (λ config opening past.
+            (result ≡ Err FleetFault.Spent) ↔ (spends_at config opening past step.now ≡ true)) }
+        ensures refused { ForEachPast self.old (λ _ _ _.
+            IfRefused result (self.new ≡ self.old)) }
+
+        // What is sent; and Session exactly where the stream ends by it, with its cause.
+        ensures sent { ForEachPast self.old (λ config opening past.
+            Sends result (sent_by config opening past step.now)) }
+        ensures ended { ForEachPast self.old (λ config opening past.
+            EndsBy result (end_by config opening past step.now)) }
+
+        // After Ok and Session only events of this step wait. After NoMemory what waited before is
+        // taken, in order, or still waits, and nothing else does.
+        ensures own { ForEachPast self.old (λ config opening past.
+            IfDone result (IsEndOf self.new.waiting (added_by config opening past step.now))) }
+        ensures handed { ForEachPast self.old (λ _ _ _. IfNoMemory result
+            (AreHandedOver self.old.waiting self.old.book self.new.waiting self.new.book)) }
+    {
+        self.answer(step)
+    }
+}
+
+impl Fleet {
+    // Does a step, by its kind.
+    fn answer(&mut self, step: &Step) -> Result<Replies, FleetFault>
+        requires fits { IsTrue (does_fit self.old.book.config step.now) }
+        ensures { ForEachPast self.old (λ config opening past.
+            Answers result self.old self.new config opening past step.now) }
     {
         match step {
             Step::Connect => self.connect(),
@@ -100,28 +142,27 @@ impl Fleet {
             Step::Clear { .. } | Step::AddFilter(_) | Step::Moment(_) => self.happen(step),
         }
     }
-}
 
-impl Fleet {
     // A peer connects.
     fn connect(&mut self) -> Result<Replies, FleetFault>
-        ensures { (config : Config) (opening : ℕ) (past : List Step) → StandsFor self.old config opening past
-            → Answers result self.old self.new config opening past Connect }
+        ensures { ForEachPast self.old (λ config opening past.
+            Answers result self.old self.new config opening past Connect) }
     {
         if self.connected >= NUMBERS_END {
             return Err(FleetFault::Spent);
         }
-        match self.accept() {
+        match self.open_next() {
             Ok(conn) => Ok(self.silent(conn)),
             Err(NoMemory) => Err(FleetFault::NoMemory),
         }
     }
 
-    // Opens a connection, with a seat if one is free.
-    fn accept(&mut self) -> Result<u64, NoMemory>
+    // Opens the next connection, with a seat if one is free.
+    fn open_next(&mut self) -> Result<u64, NoMemory>
         requires few { self.old.connected < 2 ^ 62 }
-        ensures { (config : Config) (opening : ℕ) (past : List Step) → StandsFor self.old config opening past
-            → MatchResult result (λ conn. (conn ≡ connects past + 1) × StandsFor self.new config opening (Connect ∷ past)) (λ _. StandsFor self.new config opening past) }
+        ensures { ForEachPast self.old (λ config opening past. MatchResult result
+            (λ conn. (conn ≡ connects past + 1) × Adds self.new config opening past Connect)
+            (λ _. Keeps self.old self.new config opening past)) }
     {
         self.settle()?;
         let conn = self.connected + 1;
@@ -136,16 +177,16 @@ impl Fleet {
 
     // Bytes come.
     fn bytes(&mut self, conn: u64, piece: &[u8]) -> Result<Replies, FleetFault>
-        ensures { (config : Config) (opening : ℕ) (past : List Step) → StandsFor self.old config opening past
-            → Answers result self.old self.new config opening past (Bytes conn piece.now) }
+        ensures { ForEachPast self.old (λ config opening past.
+            Answers result self.old self.new config opening past (Bytes conn piece.now)) }
     {
-        let Some(seat) = seat_at(&self.connections, conn) else {
+        let Some(next_seq) = next_seq_at(&self.connections, conn) else {
             return Err(FleetFault::NoConn);
         };
-        if is_spent(seat, piece.len() as u64) {
+        if is_spent(next_seq, piece.len() as u64) {
             return Err(FleetFault::Spent);
         }
-        match self.take(conn, seat, piece) {
+        match self.feed_open(conn, next_seq, piece) {
             Ok((out, end)) => match end {
                 None => Ok(Replies { conn, out }),
                 Some(cause) => Err(FleetFault::Session { cause, out }),
@@ -154,21 +195,23 @@ impl Fleet {
         }
     }
 
-    // Takes a piece of an open connection's stream: what is sent, and why the stream ended, if it did.
-    fn take(
+    // Feeds an open connection: what is sent, and why the stream ended, if it did.
+    fn feed_open(
         &mut self,
         conn: u64,
-        seat: Option<u64>,
+        next_seq: Option<u64>,
         piece: &[u8],
     ) -> Result<(Items<u8>, Option<SessionCause>), NoMemory>
-        requires seat { option_map (λ connection. connection.seat) (found self.old.links conn) ≡ Some seat }
-        requires few { IfSome seat (λ seq. seq < 2 ^ 62) }
-        ensures { (config : Config) (opening : ℕ) (past : List Step) → StandsFor self.old config opening past
-            → MatchResult result (λ said. IsTold said.0 said.1 self.new config opening past conn piece.now) (λ _. StandsFor self.new config opening past) }
+        requires open { next_seq_at self.old.links conn ≡ Some next_seq }
+        requires few { IfSome next_seq (λ seq. seq < 2 ^ 62) }
+        requires unspent { option_map_or (λ seq. is_full seq (length piece.now)) next_seq false ≡ false }
+        ensures { ForEachPast self.old (λ config opening past. MatchResult result
+            (λ sent. IsFed sent.0 sent.1 self.new config opening past conn piece.now)
+            (λ _. Keeps self.old self.new config opening past)) }
     {
         let alloc = self.alloc;
         self.settle()?;
-        let Told { facts, out, end } = hear(
+        let Outcome { facts, out, end } = feed(
             &mut self.connections,
             conn,
             self.book.config(),
@@ -176,7 +219,7 @@ impl Fleet {
             self.book.moment(),
         )?;
         let ended = end.is_some();
-        let events = Waiting::at_seat(alloc, conn, seat, facts, ended);
+        let events = Waiting::at_seat(alloc, conn, next_seq, facts, ended);
         close_if(&mut self.connections, conn, ended);
         self.queue(events);
         Ok((out, end))
@@ -184,27 +227,28 @@ impl Fleet {
 
     // A connection is lost.
     fn lose(&mut self, conn: u64) -> Result<Replies, FleetFault>
-        ensures { (config : Config) (opening : ℕ) (past : List Step) → StandsFor self.old config opening past
-            → Answers result self.old self.new config opening past (Lost conn) }
+        ensures { ForEachPast self.old (λ config opening past.
+            Answers result self.old self.new config opening past (Lost conn)) }
     {
-        let Some(seat) = seat_at(&self.connections, conn) else {
+        let Some(next_seq) = next_seq_at(&self.connections, conn) else {
             return Err(FleetFault::NoConn);
         };
-        match self.part(conn, seat) {
+        match self.close_open(conn, next_seq) {
             Ok(()) => Ok(self.silent(conn)),
             Err(NoMemory) => Err(FleetFault::NoMemory),
         }
     }
 
     // Closes an open connection.
-    fn part(&mut self, conn: u64, seat: Option<u64>) -> Result<(), NoMemory>
-        requires seat { option_map (λ connection. connection.seat) (found self.old.links conn) ≡ Some seat }
-        ensures { (config : Config) (opening : ℕ) (past : List Step) → StandsFor self.old config opening past
-            → MatchResult result (λ _. StandsFor self.new config opening (Lost conn ∷ past)) (λ _. StandsFor self.new config opening past) }
+    fn close_open(&mut self, conn: u64, next_seq: Option<u64>) -> Result<(), NoMemory>
+        requires open { next_seq_at self.old.links conn ≡ Some next_seq }
+        ensures { ForEachPast self.old (λ config opening past. MatchResult result
+            (λ _. Adds self.new config opening past (Lost conn))
+            (λ _. Keeps self.old self.new config opening past)) }
     {
         self.settle()?;
         let none = Items::from_vec(Vec::new(self.alloc));
-        let events = Waiting::at_seat(self.alloc, conn, seat, none, true);
+        let events = Waiting::at_seat(self.alloc, conn, next_seq, none, true);
         close(&mut self.connections, conn);
         self.queue(events);
         Ok(())
@@ -212,30 +256,34 @@ impl Fleet {
 
     // A clear, an added filter or a moment happens at seat 0.
     fn happen(&mut self, step: &Step) -> Result<Replies, FleetFault>
-        requires { IsSome (what_at step.now) }
-        ensures { (config : Config) (opening : ℕ) (past : List Step) → StandsFor self.old config opening past
-            → Answers result self.old self.new config opening past step.now }
+        requires own { IsSome (what_at step.now) }
+        requires fits { IsTrue (does_fit self.old.book.config step.now) }
+        ensures { ForEachPast self.old (λ config opening past.
+            Answers result self.old self.new config opening past step.now) }
     {
-        if is_spent(Some(self.front), 1) {
+        if is_spent(Some(self.next_seq), 1) {
             return Err(FleetFault::Spent);
         }
-        match self.add(step) {
+        match self.queue_own(step) {
             Ok(()) => Ok(self.silent(0)),
             Err(NoMemory) => Err(FleetFault::NoMemory),
         }
     }
 
-    // Adds the event of such a step.
-    fn add(&mut self, step: &Step) -> Result<(), NoMemory>
-        requires front { IsSome (what_at step.now) }
-        requires few { self.old.front < 2 ^ 62 }
-        ensures { (config : Config) (opening : ℕ) (past : List Step) → StandsFor self.old config opening past
-            → MatchResult result (λ _. StandsFor self.new config opening (step.now ∷ past)) (λ _. StandsFor self.new config opening past) }
+    // Queues the event of such a step.
+    fn queue_own(&mut self, step: &Step) -> Result<(), NoMemory>
+        requires own { IsSome (what_at step.now) }
+        requires fits { IsTrue (does_fit self.old.book.config step.now) }
+        requires few { self.old.next_seq < 2 ^ 62 }
+        requires unspent { is_full self.old.next_seq 1 ≡ false }
+        ensures { ForEachPast self.old (λ config opening past. MatchResult result
+            (λ _. Adds self.new config opening past step.now)
+            (λ _. Keeps self.old self.new config opening past)) }
     {
         self.settle()?;
         let facts = facts_of(self.alloc, step)?;
-        let seq = self.front;
-        self.front += 1;
+        let seq = self.next_seq;
+        self.next_seq += 1;
         self.queue(Waiting::new(0, seq, facts, false));
         Ok(())
     }
@@ -243,20 +291,20 @@ impl Fleet {
     // Hands what waits to the book.
     fn settle(&mut self) -> Result<(), NoMemory>
         ensures ok { OnOk result (self.new.waiting ≡ []) }
-        ensures taken { AreTaken self.old.waiting self.old.book self.new.waiting self.new.book }
+        ensures handed { AreHandedOver self.old.waiting self.old.book self.new.waiting self.new.book }
         ensures links { self.new.links ≡ self.old.links }
         ensures connected { self.new.connected ≡ self.old.connected }
-        ensures front { self.new.front ≡ self.old.front }
+        ensures next_seq { self.new.next_seq ≡ self.old.next_seq }
     {
         self.waiting.settle(&mut self.book)
     }
 
     // Lets events wait, and hands over as many as there is memory for.
     fn queue(&mut self, events: Waiting)
-        ensures taken { AreTaken events self.old.book self.new.waiting self.new.book }
+        ensures handed { AreHandedOver events self.old.book self.new.waiting self.new.book }
         ensures links { self.new.links ≡ self.old.links }
         ensures connected { self.new.connected ≡ self.old.connected }
-        ensures front { self.new.front ≡ self.old.front }
+        ensures next_seq { self.new.next_seq ≡ self.old.next_seq }
     {
         self.waiting = events;
         let _ = self.settle();
@@ -272,13 +320,13 @@ impl Fleet {
     }
 }
 
-// Whether a seat has no numbers left for so many events.
-fn is_spent(seat: Option<u64>, more: u64) -> bool
-    ensures { result ≡ option_map_or (λ count. is_full count more) seat false }
+// Whether a seat, if there is one, has no numbers left for so many events.
+fn is_spent(next_seq: Option<u64>, more: u64) -> bool
+    ensures { result ≡ option_map_or (λ seq. is_full seq more) next_seq false }
 {
-    match seat {
+    match next_seq {
         None => false,
-        Some(count) => u128::from(count) + u128::from(more) > u128::from(NUMBERS_END - 1),
+        Some(seq) => u128::from(seq) + u128::from(more) > u128::from(NUMBERS_END - 1),
     }
 }
 
@@ -298,33 +346,8 @@ fn facts_of(alloc: Global, step: &Step) -> Result<Items<What>, NoMemory>
     ensures { IfOk result (λ facts. facts ≡ option_to_list (what_at step.now)) }
 {
     let mut facts = Items::from_vec(Vec::new(alloc));
-    if let Some(what) = what_at(alloc, step)? {
+    if let Some(what) = step.what(alloc)? {
         facts.push(what)?;
     }
     Ok(facts)
-}
-
-/// What a step makes happen at seat 0, or none where it is a connection's.
-pub fn what_at(alloc: Global, step: &Step) -> Result<Option<What>, NoMemory>
-    ensures { IfOk result (λ what. what ≡ what_at step.now) }
-{
-    match step {
-        Step::Connect | Step::Bytes(..) | Step::Lost(_) => Ok(None),
-        Step::Clear { table, sel } => Ok(Some(What::Clear {
-            table: *table,
-            sel: duplicate_select(alloc, sel)?,
-        })),
-        Step::AddFilter(filter) => Ok(Some(What::AddFilter(filter.duplicate(alloc)?))),
-        Step::Moment(moment) => Ok(Some(What::Moment(*moment))),
-    }
-}
-
-fn duplicate_select(alloc: Global, sel: &Select) -> Result<Select, NoMemory>
-    ensures { IfOk result (λ copy. copy ≡ sel.now) }
-{
-    match sel {
-        Select::All => Ok(Select::All),
-        Select::One(key) => Ok(Select::One(key.duplicate(alloc)?)),
-        Select::Conds(conds) => Ok(Select::Conds(conds.duplicate(alloc)?)),
-    }
 }

@@ -1,4 +1,12 @@
 //! Connections of peers and the book of the fleet, one step at a time, in one thread.
+//!
+//! `replay` and `bench_fleet` drive it. A `Fleet` stands for the steps that were done, and its book
+//! answers what recomputing from all their events gives, but for the last of them, which wait where
+//! a growth of memory was refused. `Fleet::step` promises what each step sends, which fault it
+//! answers, and that nothing but its own events waits behind it. `run` does a list of steps, and
+//! promises which fault ends it. `laws` has what the definitions promise.
+//! No clause says that memory suffices, nor that nothing waits where no growth was refused: the
+//! scripts of `replay_rows` show it. A fleet doesn't ask its sessions for idleness.
 #![tactic(auto)]
 
 mod connection;
@@ -9,8 +17,6 @@ mod step;
 mod waiting;
 
 pub use fleet::Fleet;
+pub use plain_book::Book;
 pub use runs::{Ran, RunFault, run};
 pub use step::{FleetFault, Replies, Step};
-
-#[cfg(test)]
-mod tests;

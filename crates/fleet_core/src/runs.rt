@@ -1,11 +1,7 @@
-ghost use Rattle.std.specs.Prelude.{◌≡◌, [], not, ℕ, List, IfOk, IfErr};
-ghost use Rattle.agg_types.specs.declared.config.Config.{Config};
-ghost use Rattle.fleet_core.specs.declared.step.Step.{Step};
-ghost use Rattle.fleet_core.specs.Runs.{Goes, IsFault, IsRan, is_unfit, outcome, sent_in};
-ghost use Rattle.fleet_core.specs.Standing.{StandsFor};
-ghost use Rattle.fleet_core.specs.Steps.{conn_of};
+ghost use Rattle.std.specs.Prelude.{◌≡◌, [], IfOk, IfErr};
+ghost use Rattle.fleet_core.specs.Runs.{Goes, IsFault, IsRan, run_answer, sent_in};
+ghost use Rattle.fleet_core.specs.StandsFor.{ForEachPast};
 
-use crate::fleet::what_at;
 use crate::{Fleet, FleetFault, Replies, Step};
 use agg_types::{Config, ConfigFault, Items, LAST_MOMENT, NoMemory};
 use std::alloc::Global;
@@ -35,8 +31,11 @@ pub enum RunFault {
     Unfit,
 }
 
-/// Opens a fleet and does the steps, in turn. A step of a connection that isn't open is passed over, and
-/// the end of a session ends nothing else. At Ok no event waits.
+/// Opens a fleet and does the steps, in turn. A step of a connection that isn't open is passed
+/// over, and the end of a session ends nothing else. At Ok no event waits.
+///
+/// Faults, in this order: Config, Unfit of an opening moment above 2^62 ms, NoMemory of the
+/// opening, and then those of each step in turn, Unfit before the step is made.
 pub fn run(alloc: Global, config: Config, moment: u64, steps: &[Step]) -> Result<Ran, RunFault>
     ensures ok { IfOk result (λ ran. IsRan ran config moment steps.now) }
     ensures err { IfErr result (λ fault. IsFault fault config moment steps.now) }
@@ -64,15 +63,16 @@ fn advance(
     sent: &mut Items<Replies>,
     step: &Step,
 ) -> Result<(), RunFault>
-    ensures { (config : Config) (opening : ℕ) (past : List Step) → StandsFor fleet.old config opening past → fleet.old.waiting ≡ []
-        → sent.old ≡ sent_in config opening past → Goes result fleet.new sent.new config opening past step.now }
+    ensures { ForEachPast fleet.old (λ config opening past.
+        fleet.old.waiting ≡ [] → sent.old ≡ sent_in config opening past
+        → Goes result fleet.new sent.new config opening past step.now) }
 {
-    match fits(alloc, fleet.book().config(), step) {
+    match step.fits(alloc, fleet.book().config()) {
         Ok(true) => {}
         Ok(false) => return Err(RunFault::Unfit),
         Err(NoMemory) => return Err(RunFault::NoMemory),
     }
-    match outcome(fleet.step(step), step) {
+    match run_answer(fleet.step(step), step) {
         Err(fault) => Err(fault),
         Ok(None) => Ok(()),
         Ok(Some(replies)) => {
@@ -88,8 +88,8 @@ fn advance(
 }
 
 // What a run makes of what a step answers: what is sent, or none where it is passed over.
-fn outcome(answer: Result<Replies, FleetFault>, step: &Step) -> Result<Option<Replies>, RunFault>
-    ensures { result ≡ outcome answer step.now }
+fn run_answer(answer: Result<Replies, FleetFault>, step: &Step) -> Result<Option<Replies>, RunFault>
+    ensures { result ≡ run_answer answer step.now }
 {
     match answer {
         Ok(replies) => Ok(Some(replies)),
@@ -98,28 +98,9 @@ fn outcome(answer: Result<Replies, FleetFault>, step: &Step) -> Result<Option<Re
             FleetFault::Spent => Err(RunFault::Spent),
             FleetFault::NoMemory => Err(RunFault::NoMemory),
             FleetFault::Session { out, .. } => Ok(Some(Replies {
-                conn: conn_of(step),
+                conn: step.conn(),
                 out,
             })),
         },
-    }
-}
-
-// Whether a step fits the configuration: a clear, an added filter or a moment may not.
-fn fits(alloc: Global, config: &Config, step: &Step) -> Result<bool, NoMemory>
-    ensures { IfOk result (λ fits. is_unfit config.now step.now ≡ not fits) }
-{
-    match what_at(alloc, step)? {
-        None => Ok(true),
-        Some(what) => Ok(config.fits(&what)),
-    }
-}
-
-fn conn_of(step: &Step) -> u64
-    ensures { result ≡ conn_of step.now }
-{
-    match step {
-        Step::Bytes(conn, _) | Step::Lost(conn) => *conn,
-        _ => 0,
     }
 }

@@ -3,21 +3,21 @@
 ghost use Rattle.std.specs.Prelude.{◌≡◌, ◌<◌, ◌+◌, ◌^◌, ◌++◌, [], length, IfSome, OnOk, OnErr};
 ghost use Rattle.std.specs.Option.{option_map_or};
 ghost use Rattle.fleet_core.specs.Events.{numbered};
-ghost use Rattle.fleet_core.specs.Waiting.{AreTaken, IsOneTaken, leave_if};
+ghost use Rattle.fleet_core.specs.Waiting.{AreHandedOver, IsOneHandedOver, leave_if};
 
+use crate::Book;
 use agg_types::{Items, NoMemory, What};
-use plain_book::Book;
 use std::alloc::Global;
 use std::marker::Model;
 
-/// Events of one seat that the book is still to take, in order: some facts, and then a leave, if the
-/// seat gets free. Contracts see the list of the events.
+/// Events of one seat that the book is still to take, in order: some facts, and then a leave, if
+/// the seat gets free. Contracts see the list of the events.
 #[derive(Drop)]
 pub struct Waiting {
     seat: u64,
     seq: u64,
     facts: Items<What>,
-    taken: usize,
+    handed: usize,
     leaves: bool,
 }
 
@@ -29,9 +29,14 @@ impl Model for Waiting {
 
     ghost Value = { List Event };
 
-    ghost view = { λ waiting. numbered waiting.seat waiting.seq (drop waiting.taken waiting.facts ++ leave_if waiting.leaves) };
+    ghost view = { λ waiting.
+        numbered waiting.seat waiting.seq
+        (drop waiting.handed waiting.facts ++ leave_if waiting.leaves) };
 
-    ghost invariant = { λ waiting. (waiting.taken ≤ length waiting.facts) × (waiting.seq + (length waiting.facts - waiting.taken) < 2 ^ 64) × (length waiting.facts < 2 ^ 63) };
+    ghost invariant = { λ waiting.
+        (waiting.handed ≤ length waiting.facts)
+        × (waiting.seq + (length waiting.facts - waiting.handed) < 2 ^ 64)
+        × (length waiting.facts < 2 ^ 63) };
 }
 
 impl Waiting {
@@ -52,24 +57,26 @@ impl Waiting {
             seat,
             seq,
             facts,
-            taken: 0,
+            handed: 0,
             leaves,
         }
     }
 
-    /// These facts of a connection's seat, if it has one, and behind them a leave or none.
+    /// These facts of a connection's seat, if it has one, the first under the number `next_seq`,
+    /// and behind them a leave or none.
     pub fn at_seat(
         alloc: Global,
         conn: u64,
-        seat: Option<u64>,
+        next_seq: Option<u64>,
         facts: Items<What>,
         leaves: bool,
     ) -> Waiting
-        requires numbers { IfSome seat (λ seq. seq + length facts < 2 ^ 64) }
+        requires numbers { IfSome next_seq (λ seq. seq + length facts < 2 ^ 64) }
         requires short { length facts < 2 ^ 63 }
-        ensures { result ≡ option_map_or (λ seq. numbered conn seq (facts ++ leave_if leaves)) seat [] }
+        ensures { result
+            ≡ option_map_or (λ seq. numbered conn seq (facts ++ leave_if leaves)) next_seq [] }
     {
-        match seat {
+        match next_seq {
             None => Waiting::none(alloc),
             Some(seq) => Waiting::new(conn, seq, facts, leaves),
         }
@@ -79,15 +86,15 @@ impl Waiting {
     pub fn len(&self) -> usize
         ensures { result ≡ length self.now }
     {
-        let facts = self.facts.len() - self.taken;
+        let facts = self.facts.len() - self.handed;
         if self.leaves { facts + 1 } else { facts }
     }
 
-    /// Hands the events to the book, one after the other. After NoMemory those that it has not taken
-    /// wait as before.
+    /// Hands the events to the book, one after the other. After NoMemory those that it has not
+    /// taken wait as before.
     pub fn settle(&mut self, book: &mut Book) -> Result<(), NoMemory>
         ensures ok { OnOk result (self.new ≡ []) }
-        ensures taken { AreTaken self.old book.old self.new book.new }
+        ensures handed { AreHandedOver self.old book.old self.new book.new }
     {
         for _ in 0..self.len() {
             self.hand_over(book)?;
@@ -97,14 +104,14 @@ impl Waiting {
 
     // Hands over the first event that waits.
     fn hand_over(&mut self, book: &mut Book) -> Result<(), NoMemory>
-        ensures ok { OnOk result (IsOneTaken self.old book.old self.new book.new) }
+        ensures ok { OnOk result (IsOneHandedOver self.old book.old self.new book.new) }
         ensures err { OnErr result (self.new ≡ self.old) }
         ensures kept { OnErr result (book.new ≡ book.old) }
     {
-        match self.facts.as_slice().get(self.taken) {
+        match self.facts.as_slice().get(self.handed) {
             Some(what) => {
                 book.take(self.seat, self.seq, what)?;
-                self.taken += 1;
+                self.handed += 1;
                 self.seq += 1;
             }
             None => {

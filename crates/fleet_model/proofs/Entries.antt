@@ -39,7 +39,7 @@ not_equal Less p = refl
 not_equal Equal p = absurd p
 not_equal Greater p = absurd p
 
-kept_here : {X : Type 0} (f : X → Bool) (b : Bool) (v : X) (o : Option X) → (b ≡ true → f v ≡ true) → keep f (cond b (Some v) o) ≡ cond b (Some v) (keep f o)
+pub kept_here : {X : Type 0} (f : X → Bool) (b : Bool) (v : X) (o : Option X) → (b ≡ true → f v ≡ true) → keep f (cond b (Some v) o) ≡ cond b (Some v) (keep f o)
 kept_here f true v o h = ap (λ c. then_some c v) (h refl)
 kept_here f false v o h = refl
 

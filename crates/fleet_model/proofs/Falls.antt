@@ -16,11 +16,10 @@ use Rattle.agg_types.specs.declared.event.Event.{Event}
 use Rattle.agg_types.specs.declared.event.What.{What}
 use Rattle.agg_types.specs.declared.event.What.TheVariants.{Moment}
 use Rattle.agg_types.specs.declared.place.Place.{Place}
-use Rattle.fleet_model.proofs.Step.{one_more}
 use Rattle.fleet_model.specs.Answers.{set_at}
 use Rattle.fleet_model.specs.Machine.{after, counts_now, happened}
 use Rattle.fleet_model.specs.Moments.{is_live, lives}
-use Rattle.fleet_model.specs.State.{State, state_of}
+use Rattle.fleet_model.specs.State.{State}
 use Rattle.fleet_model.specs.Values.{cell_worth, cols_of, column_worth, live_keys, meets, same_key, share, value}
 use Rattle.fleet_model.specs.declared.arrival.Arrival.{Arrival}
 
@@ -79,7 +78,7 @@ ended_share cols table key col m t h row e =
     nothing true n = refl
     nothing false n = refl
 
-value-later : (cols : List (Col × ℕ)) (rows : List (Place × Arrival)) (table : ℕ) (key : List ℕ) (col : Col) (m t : ℕ) → m ≤ t → value cols (filter (λ row. is_live m row.1) rows) table key col t ≡ value cols rows table key col t
+pub value-later : (cols : List (Col × ℕ)) (rows : List (Place × Arrival)) (table : ℕ) (key : List ℕ) (col : Col) (m t : ℕ) → m ≤ t → value cols (filter (λ row. is_live m row.1) rows) table key col t ≡ value cols rows table key col t
 unfolding value
 value-later cols [] table key col m t h = refl
 value-later cols (row ∷ rows) table key col m t h =
@@ -110,11 +109,11 @@ same_rows table m t h (row ∷ rows) =
     filter-cond (in_table table t) (is_live m row.1) row (filter (λ row. is_live m row.1) rows)
     ∙ both_gone (row.0.table == table) (is_live m row.1) (is_live t row.1) row (filter (in_table table t) (filter (λ row. is_live m row.1) rows)) (filter (in_table table t) rows) (lived_before row.1.life row.1.arrived m t h) (same_rows table m t h rows)
 
-live_keys-later : (rows : List (Place × Arrival)) (table m t : ℕ) → m ≤ t → live_keys (filter (λ row. is_live m row.1) rows) table t ≡ live_keys rows table t
+pub live_keys-later : (rows : List (Place × Arrival)) (table m t : ℕ) → m ≤ t → live_keys (filter (λ row. is_live m row.1) rows) table t ≡ live_keys rows table t
 unfolding live_keys
 live_keys-later rows table m t h = ap (λ (rs : List (Place × Arrival)). dedup same_key (map (λ row. row.0.key) rs)) (same_rows table m t h rows)
 
-meets-later : (cols : List (Col × ℕ)) (rows : List (Place × Arrival)) (table : ℕ) (key : List ℕ) (m t : ℕ) → m ≤ t → (conds : List Cond) → meets cols (filter (λ row. is_live m row.1) rows) table key t conds ≡ meets cols rows table key t conds
+pub meets-later : (cols : List (Col × ℕ)) (rows : List (Place × Arrival)) (table : ℕ) (key : List ℕ) (m t : ℕ) → m ≤ t → (conds : List Cond) → meets cols (filter (λ row. is_live m row.1) rows) table key t conds ≡ meets cols rows table key t conds
 unfolding meets
 meets-later cols rows table key m t h conds = λ i. list_all (λ cond. op_holds cond.op (value-later cols rows table key cond.col m t h i) cond.bound) conds
 
@@ -124,15 +123,16 @@ set_at-later s told filtering t h rows e =
     ap (λ rows. filter (λ key. meets (cols_of s.config.tables filtering.table) rows filtering.table key t filtering.conds) (live_keys rows filtering.table t)) e
     ∙ (λ i. filter (λ key. meets-later (cols_of s.config.tables filtering.table) s.rows filtering.table key told t h filtering.conds i) (live_keys-later s.rows filtering.table told t h i))
 
-moved_rows : (s : State) (e : Event) (w : What) (told : ℕ) → w ≡ Moment told → (happened s e w).rows ≡ filter (λ row. is_live (max s.moment told) row.1) s.rows
+pub moved_rows : (s : State) (e : Event) (w : What) (told : ℕ) → w ≡ Moment told → (happened s e w).rows ≡ filter (λ row. is_live (max s.moment told) row.1) s.rows
 unfolding happened
 moved_rows s e w told is = ap (λ w. (happened s e w).rows) is
 
-moved_config : (s : State) (e : Event) (w : What) (told : ℕ) → w ≡ Moment told → (happened s e w).config ≡ s.config
+pub moved_config : (s : State) (e : Event) (w : What) (told : ℕ) → w ≡ Moment told → (happened s e w).config ≡ s.config
 unfolding happened
 moved_config s e w told is = ap (λ w. (happened s e w).config) is
 
-sets_stay : (s : State) (e : Event) (told : ℕ) → e.what ≡ Moment told → (filtering : Filter) (t : ℕ) → s.moment ≤ t → told ≤ t → set_at (after s e) filtering t ≡ set_at s filtering t
+-- what a filter holds from a moment on doesn't depend on whether that moment was told
+pub sets_stay : (s : State) (e : Event) (told : ℕ) → e.what ≡ Moment told → (filtering : Filter) (t : ℕ) → s.moment ≤ t → told ≤ t → set_at (after s e) filtering t ≡ set_at s filtering t
 unfolding after set_at
 sets_stay s e told is filtering t now later =
     let h : max s.moment told ≤ t = omega arith in
@@ -142,7 +142,7 @@ sets_stay s e told is filtering t now later =
       | false ↦ refl
     ]
 
-values_stay : (s : State) (e : Event) (told : ℕ) → e.what ≡ Moment told → (cols : List (Col × ℕ)) (table : ℕ) (key : List ℕ) (col : Col) (t : ℕ) → s.moment ≤ t → told ≤ t → value cols (after s e).rows table key col t ≡ value cols s.rows table key col t
+pub values_stay : (s : State) (e : Event) (told : ℕ) → e.what ≡ Moment told → (cols : List (Col × ℕ)) (table : ℕ) (key : List ℕ) (col : Col) (t : ℕ) → s.moment ≤ t → told ≤ t → value cols (after s e).rows table key col t ≡ value cols s.rows table key col t
 unfolding after
 values_stay s e told is cols table key col t now later =
     let h : max s.moment told ≤ t = omega arith in
@@ -150,12 +150,3 @@ values_stay s e told is cols table key col t now later =
       | true ↦ ap (λ (rows : List (Place × Arrival)). value cols rows table key col t) (moved_rows s e e.what told is) ∙ value-later cols s.rows table key col (max s.moment told) t h
       | false ↦ refl
     ]
-
--- what a filter will hold from a moment on doesn't depend on whether that moment was told
-pub sets_foreseen : (config : Config) (opening : ℕ) (events : List Event) (e : Event) (told : ℕ) → e.what ≡ Moment told → (filtering : Filter) (t : ℕ) → (state_of config opening events).moment ≤ t → told ≤ t → set_at (state_of config opening (events ++ e ∷ [])) filtering t ≡ set_at (state_of config opening events) filtering t
-sets_foreseen config opening events e told is filtering t now later =
-    ap (λ s. set_at s filtering t) (one_more config opening events e) ∙ sets_stay (state_of config opening events) e told is filtering t now later
-
-pub values_foreseen : (config : Config) (opening : ℕ) (events : List Event) (e : Event) (told : ℕ) → e.what ≡ Moment told → (cols : List (Col × ℕ)) (table : ℕ) (key : List ℕ) (col : Col) (t : ℕ) → (state_of config opening events).moment ≤ t → told ≤ t → value cols (state_of config opening (events ++ e ∷ [])).rows table key col t ≡ value cols (state_of config opening events).rows table key col t
-values_foreseen config opening events e told is cols table key col t now later =
-    ap (λ (s : State). value cols s.rows table key col t) (one_more config opening events e) ∙ values_stay (state_of config opening events) e told is cols table key col t now later

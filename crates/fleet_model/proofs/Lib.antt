@@ -21,3 +21,12 @@ pub mod Listed
 pub mod Flat
 pub mod Bounded
 pub mod Small
+pub mod Cells
+pub mod Every
+pub mod Checked
+pub mod Sound
+pub mod KeyRows
+pub mod KeyCounts
+pub mod KeyChanges
+pub mod RankStarts
+pub mod Named

@@ -27,7 +27,7 @@ use Rattle.fleet_model.specs.Moments.{is_live, now_of}
 use Rattle.fleet_model.specs.Rows.{Judged, by_place, counted_of, if_in_force, in_force, leaves_alone, rows_in}
 use Rattle.fleet_model.specs.Seats.{known, number, seats_in, seats_of}
 use Rattle.fleet_model.specs.Sessions.{session, sessions_in}
-use Rattle.fleet_model.specs.State.{state_of}
+use Rattle.fleet_model.specs.State.{State, state_of}
 use Rattle.fleet_model.specs.Values.{same_place}
 use Rattle.fleet_model.specs.declared.arrival.Arrival.{Arrival}
 
@@ -70,7 +70,7 @@ module _ {K X : Type 0} (R : K → K → Ordering) where
   below_keys x [] h = tt
   below_keys x (e ∷ es) h = (less_from (R x e.0) (first _ _ h), below_keys x es (second _ _ h))
 
-  sorted_keys : (es : List (K × X)) → T (is_sorted R es) → IsStrictlySortedBy R (keys_of es)
+  pub sorted_keys : (es : List (K × X)) → T (is_sorted R es) → IsStrictlySortedBy R (keys_of es)
   unfolding IsStrictlySortedBy
   sorted_keys [] h = tt
   sorted_keys (e ∷ es) h = (below_keys e.0 es (first _ _ h), sorted_keys es (second _ _ h))
@@ -86,14 +86,14 @@ ordered config opening events =
       seats = sorted_keys nat_cmp (known (number counted) (seats_of counted)) (known-sorted (number counted) (seats_of counted));
     }
 
-pub distinct : (config : Config) (opening : ℕ) (events : List Event) → IsDistinct same_place (keys_of (state_of config opening events).rows)
-distinct config opening events = IsDistinct-from_sorted place_cmp (keys_of (state_of config opening events).rows) (ordered config opening events).rows
+pub distinct : (state : State) → IsOrdered state → IsDistinct same_place (keys_of state.rows)
+distinct state h = IsDistinct-from_sorted place_cmp (keys_of state.rows) h.rows
 
 -- ---- rows live
 abbrev Live : ℕ → List (Place × Arrival) → Type 0
 Live t rows = AllByRecursion (λ row. is_live t row.1 ≡ true) rows
 
-live-insert : (t : ℕ) (es : List (Place × Arrival)) (place : Place) (arrival : Arrival) → Live t es → is_live t arrival ≡ true → Live t (insert_entry place_cmp es place arrival)
+pub live-insert : (t : ℕ) (es : List (Place × Arrival)) (place : Place) (arrival : Arrival) → Live t es → is_live t arrival ≡ true → Live t (insert_entry place_cmp es place arrival)
 live-insert t [] place arrival h live = (live, tt)
 live-insert t (e ∷ es) place arrival h live =
     elim (place_cmp place e.0) as (λ r. Live t (match_ordering r ((place, arrival) ∷ e ∷ es) ((e.0, arrival) ∷ es) (e ∷ insert_entry place_cmp es place arrival))) [

@@ -25,7 +25,7 @@ use Rattle.fleet_model.proofs.Step.{one_more}
 use Rattle.fleet_model.specs.Laws.{AreLive, IsInForce, passes_by, put_by}
 use Rattle.fleet_model.specs.Machine.{after, counts_now, happened, opened, session_of, with_put, with_row}
 use Rattle.fleet_model.specs.Moments.{is_live}
-use Rattle.fleet_model.specs.Rows.{clears_at, has_room, if_counted, putter, puts_at, row_of, rows_in}
+use Rattle.fleet_model.specs.Rows.{clears_at, has_room, if_counted, arrival_of, puts_at, putter, row_of, rows_in}
 use Rattle.fleet_model.specs.Seats.{is_number}
 use Rattle.fleet_model.specs.State.{State, state_of}
 use Rattle.fleet_model.specs.Values.{same_place}
@@ -74,7 +74,7 @@ happened_at s e Sit q sorted lives = sym (live_kept s.moment q s.rows lives)
 happened_at s e (Open peer) q sorted lives = sym (live_kept s.moment q s.rows lives)
 happened_at s e (Put peer table key life cells) q sorted lives =
     let place : Place = record { table = table; key = key; peer = peer } in
-    let arrival : Arrival = record { arrived = s.moment; life = life; cells = cells } in
+    let arrival : Arrival = arrival_of s.config.tables table s.moment life cells in
     elim (is_number (session_of s peer) e.seat && has_room s.config.tables s.rows place) as (λ b. row_at q (cond b (with_row s.moment s.rows place arrival) s.rows) ≡ next_row (then_some b (place, arrival)) false s.moment q (row_at q s.rows)) [
       | true ↦ put_row s.moment s.rows place q arrival sorted lives
       | false ↦ sym (live_kept s.moment q s.rows lives)

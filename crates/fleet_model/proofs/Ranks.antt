@@ -12,15 +12,13 @@ use Rattle.std.specs.Ordering.{is_eq, is_lt, nat_cmp, ordering_reverse, ordering
 use Rattle.std.specs.declared.cmp.Ordering.{Ordering}
 use Rattle.std.specs.declared.cmp.Ordering.TheVariants.{Less, Equal, Greater}
 use Rattle.agg_types.specs.declared.column.Col.{Col}
-use Rattle.agg_types.specs.declared.config.Config.{Config}
-use Rattle.agg_types.specs.declared.event.Event.{Event}
 use Rattle.fleet_model.proofs.Entries.{equal_from}
 use Rattle.fleet_model.proofs.Members.{among, any-map, same_members}
 use Rattle.fleet_model.proofs.Sets.{key_lists}
 use Rattle.fleet_model.specs.Answers.{keys_of}
-use Rattle.fleet_model.specs.Laws.{IsRanking, is_key_among}
+use Rattle.fleet_model.specs.Laws.{IsOrdered, IsRanking, is_key_among}
 use Rattle.fleet_model.specs.Ranking.{in_order, put_in_order, rank_cmp, ranking}
-use Rattle.fleet_model.specs.State.{State, state_of}
+use Rattle.fleet_model.specs.State.{State}
 use Rattle.fleet_model.specs.Values.{cols_of, same_key, value}
 
 any-put : {X : Type 0} (cmp : X → X → Ordering) (p : X → Bool) (x : X) (xs : List X) → list_any p (put_in_order cmp x xs) ≡ (p x || list_any p xs)
@@ -88,7 +86,7 @@ sorted-in_order o [] apart = tt
 sorted-in_order {cmp = cmp} o (x ∷ xs) apart = sorted-put o x (in_order cmp xs) (all-in_order cmp (λ y. is_eq (cmp x y) ≡ false) xs apart.0) (sorted-in_order o xs apart.1)
 
 -- ---- keys with their values
-rank_cmp_total : IsTotalOrder rank_cmp
+pub rank_cmp_total : IsTotalOrder rank_cmp
 rank_cmp_total =
     then_total (on_total (λ (e : List ℕ × ℕ). e.1) (back_total nat_cmp_total)) (on_total (λ (e : List ℕ × ℕ). e.0) nat_list_cmp_total)
 
@@ -102,7 +100,7 @@ second_equal Less b e = cc
 second_equal Equal b e = e
 second_equal Greater b e = cc
 
-rank_cmp_exact : (a b : List ℕ × ℕ) → rank_cmp a b ≡ Equal → a ≡ b
+pub rank_cmp_exact : (a b : List ℕ × ℕ) → rank_cmp a b ≡ Equal → a ≡ b
 rank_cmp_exact a b e =
     let values : b.1 ≡ a.1 = exact_unsigned b.1 a.1 (first_equal (nat_cmp b.1 a.1) _ e) in
     let keys : a.0 ≡ b.0 = exact_bytes a.0 b.0 (second_equal (nat_cmp b.1 a.1) _ e) in
@@ -126,16 +124,15 @@ valued : (v : List ℕ → ℕ) (keys : List (List ℕ)) → AllByRecursion (λ 
 valued v [] = tt
 valued v (key ∷ keys) = (refl, valued v keys)
 
-abbrev value_in : State → ℕ → Col → List ℕ → ℕ
+abbrev pub value_in : State → ℕ → Col → List ℕ → ℕ
 value_in state table col key = value (cols_of state.config.tables table) state.rows table key col state.moment
 
-pub rankings : (config : Config) (opening : ℕ) (events : List Event) (table : ℕ) (col : Col) → IsRanking (state_of config opening events) table col (ranking (state_of config opening events) table col)
+pub rankings : (state : State) (table : ℕ) (col : Col) → IsOrdered state → IsRanking state table col (ranking state table col)
 unfolding ranking
-rankings config opening events table col =
-    let state = state_of config opening events in
+rankings state table col h =
     let v = value_in state table col in
     let keys = keys_of state table in
-    let list = key_lists config opening events table in
+    let list = key_lists state table h in
     record {
       in_order = sorted-in_order rank_cmp_total (map (λ key. (key, v key)) keys) (untied v keys list.in_order);
       keys = λ key. any-map (same_key key) (λ (e : List ℕ × ℕ). e.0) (in_order rank_cmp (map (λ key. (key, v key)) keys))
@@ -166,7 +163,7 @@ tied_entry v q e is =
     turned false true b h = refl
     turned false false b h = refl
 
-entry_among : (v : List ℕ → ℕ) (q : List ℕ × ℕ) (es : List (List ℕ × ℕ)) → AllByRecursion (λ (e : List ℕ × ℕ). e.1 ≡ v e.0) es → among rank_cmp q es ≡ (is_key_among q.0 (map (λ e. e.0) es) && (v q.0 == q.1))
+pub entry_among : (v : List ℕ → ℕ) (q : List ℕ × ℕ) (es : List (List ℕ × ℕ)) → AllByRecursion (λ (e : List ℕ × ℕ). e.1 ≡ v e.0) es → among rank_cmp q es ≡ (is_key_among q.0 (map (λ e. e.0) es) && (v q.0 == q.1))
 entry_among v q [] h = refl
 entry_among v q (e ∷ es) h =
     (λ i. tied_entry v q e h.0 i || entry_among v q es h.1 i) ∙ shared (same_key q.0 e.0) (is_key_among q.0 (map (λ e. e.0) es)) (v q.0 == q.1)

@@ -12,17 +12,14 @@ use Rattle.std.specs.Ordering.{is_gt, is_lt, nat_cmp, ordering_then}
 use Rattle.std.specs.declared.cmp.Ordering.{Ordering}
 use Rattle.std.specs.declared.cmp.Ordering.TheVariants.{Less, Equal, Greater}
 use Rattle.agg_types.specs.Place.{place_cmp}
-use Rattle.agg_types.specs.declared.config.Config.{Config}
 use Rattle.agg_types.specs.declared.config.Filter.{Filter}
-use Rattle.agg_types.specs.declared.event.Event.{Event}
 use Rattle.agg_types.specs.declared.place.Place.{Place}
-use Rattle.fleet_model.proofs.InForce.{by_place-sorted}
+use Rattle.fleet_model.proofs.Every.{sorted_from}
 use Rattle.fleet_model.proofs.Members.{Rises, UpFrom, among-dedup, among-filter, any-map, same_members, sorted-dedup}
 use Rattle.fleet_model.specs.Answers.{keys_of, set_at}
-use Rattle.fleet_model.specs.Laws.{IsKeyList, IsSetAt, has_live_row, is_key_among}
+use Rattle.fleet_model.specs.Laws.{IsKeyList, IsOrdered, IsSetAt, has_live_row, is_key_among}
 use Rattle.fleet_model.specs.Moments.{is_live}
-use Rattle.fleet_model.specs.Rows.{rows_in}
-use Rattle.fleet_model.specs.State.{State, state_of}
+use Rattle.fleet_model.specs.State.{State}
 use Rattle.fleet_model.specs.Values.{cols_of, is_of, live_keys, meets, same_key}
 use Rattle.fleet_model.specs.declared.arrival.Arrival.{Arrival}
 
@@ -98,31 +95,24 @@ live_keys-exact rows table t key =
     ∙ any-map (same_key key) (λ row. row.0.key) (filter (lives_in table t) rows)
     ∙ rows_of_key table t key rows
 
-live_keys-sorted : (rows : List (Place × Arrival)) (table t : ℕ) → T (is_sorted place_cmp rows) → IsStrictlySortedBy key_cmp (live_keys rows table t)
+pub live_keys-sorted : (rows : List (Place × Arrival)) (table t : ℕ) → T (is_sorted place_cmp rows) → IsStrictlySortedBy key_cmp (live_keys rows table t)
 unfolding live_keys
 live_keys-sorted rows table t h = sorted-dedup key_cmp nat_list_cmp_total exact_bytes same_key (λ x y. refl) (map (λ row. row.0.key) (filter (lives_in table t) rows)) (keys_rise table t rows h)
 
-rows_sorted : (config : Config) (opening : ℕ) (events : List Event) → T (is_sorted place_cmp (state_of config opening events).rows)
-unfolding state_of rows_in
-rows_sorted config opening events = by_place-sorted _
-
-pub key_lists : (config : Config) (opening : ℕ) (events : List Event) (table : ℕ) → IsKeyList (state_of config opening events) table (keys_of (state_of config opening events) table)
+pub key_lists : (state : State) (table : ℕ) → IsOrdered state → IsKeyList state table (keys_of state table)
 unfolding keys_of
-key_lists config opening events table =
-    let state = state_of config opening events in
-    record {
-      in_order = live_keys-sorted state.rows table state.moment (rows_sorted config opening events);
-      exact = live_keys-exact state.rows table state.moment;
-    }
+key_lists state table h = record {
+  in_order = live_keys-sorted state.rows table state.moment (sorted_from place_cmp state.rows h.rows);
+  exact = live_keys-exact state.rows table state.moment;
+}
 
 -- a filter's set is exactly the keys with a live row of which each condition holds
-pub sets : (config : Config) (opening : ℕ) (events : List Event) (filtering : Filter) (t : ℕ) → IsSetAt (state_of config opening events) filtering t (set_at (state_of config opening events) filtering t)
+pub sets : (state : State) (filtering : Filter) (t : ℕ) → IsOrdered state → IsSetAt state filtering t (set_at state filtering t)
 unfolding set_at meets
-sets config opening events filtering t =
-    let state = state_of config opening events in
+sets state filtering t h =
     let holds : List ℕ → Bool = λ key. meets (cols_of state.config.tables filtering.table) state.rows filtering.table key t filtering.conds in
     record {
-      in_order = IsStrictlySortedBy-filter key_cmp holds (live_keys state.rows filtering.table t) (live_keys-sorted state.rows filtering.table t (rows_sorted config opening events));
+      in_order = IsStrictlySortedBy-filter key_cmp holds (live_keys state.rows filtering.table t) (live_keys-sorted state.rows filtering.table t (sorted_from place_cmp state.rows h.rows));
       exact = λ key. among-filter key_cmp nat_list_cmp_total exact_bytes key holds (live_keys state.rows filtering.table t) ∙ ap (λ b. b && holds key) (live_keys-exact state.rows filtering.table t key);
     }
 

@@ -21,7 +21,7 @@ use Rattle.fleet_model.proofs.Runs.{along}
 use Rattle.fleet_model.specs.Laws.{IsWithinSizes}
 use Rattle.fleet_model.specs.Machine.{after, counts_now, happened, opened, session_of, with_put, with_row}
 use Rattle.fleet_model.specs.Moments.{is_live}
-use Rattle.fleet_model.specs.Rows.{has_room, rows_in, size_of}
+use Rattle.fleet_model.specs.Rows.{has_room, arrival_of, rows_in, size_of}
 use Rattle.fleet_model.specs.Seats.{is_number}
 use Rattle.fleet_model.specs.State.{State, state_of}
 use Rattle.fleet_model.specs.declared.arrival.Arrival.{Arrival}
@@ -122,13 +122,13 @@ row_within t size_at rows place arrival h room table peer within =
 filter_within : (size : ℕ) (p q : Place × Arrival → Bool) (rows : Rows) → count_by p rows ≤ size → count_by p (filter q rows) ≤ size
 filter_within size p q rows within = let fewer = count-filter p q rows in omega arith
 
-happened_within : (s : State) (e : Event) (w : What) → T (is_sorted place_cmp s.rows) → IsWithinSizes s → IsWithinSizes (happened s e w)
+pub happened_within : (s : State) (e : Event) (w : What) → T (is_sorted place_cmp s.rows) → IsWithinSizes s → IsWithinSizes (happened s e w)
 unfolding happened with_put has_room
 happened_within s e Sit h within table peer = within table peer
 happened_within s e (Open opened) h within table peer = within table peer
 happened_within s e (Put from in_table key life cells) h within table peer =
     let place : Place = record { table = in_table; key = key; peer = from } in
-    let arrival : Arrival = record { arrived = s.moment; life = life; cells = cells } in
+    let arrival : Arrival = arrival_of s.config.tables in_table s.moment life cells in
     elim (is_number (session_of s from) e.seat && has_room s.config.tables s.rows place) as (λ b. (is_number (session_of s from) e.seat && has_room s.config.tables s.rows place) ≡ b → count_by (λ r. (r.0.table == table) && (r.0.peer == peer)) (cond b (with_row s.moment s.rows place arrival) s.rows) ≤ size_of s.config.tables table) [
       | true ↦ λ taken. row_within s.moment (size_of s.config.tables) s.rows place arrival h (and_parts (is_number (session_of s from) e.seat) _ taken).1 table peer (within table peer)
       | false ↦ λ dropped. within table peer
@@ -138,7 +138,7 @@ happened_within s e (AddFilter added) h within table peer = within table peer
 happened_within s e (Moment told) h within table peer = filter_within (size_of s.config.tables table) (λ r. (r.0.table == table) && (r.0.peer == peer)) _ s.rows (within table peer)
 happened_within s e Leave h within table peer = within table peer
 
-after_within : (s : State) (e : Event) → T (is_sorted place_cmp s.rows) → IsWithinSizes s → IsWithinSizes (after s e)
+pub after_within : (s : State) (e : Event) → T (is_sorted place_cmp s.rows) → IsWithinSizes s → IsWithinSizes (after s e)
 unfolding after
 after_within s e h within = elim (counts_now s e) as (λ b. IsWithinSizes (cond b (happened s e e.what) s)) [ true ↦ happened_within s e e.what h within | false ↦ within ]
 

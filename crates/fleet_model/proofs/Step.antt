@@ -20,7 +20,7 @@ use Rattle.fleet_model.specs.Filters.{filters_after, filters_in}
 use Rattle.fleet_model.specs.History.{judge, judged}
 use Rattle.fleet_model.specs.Machine.{after, counts_now, happened, with_put, with_row}
 use Rattle.fleet_model.specs.Moments.{moment_after, now_of}
-use Rattle.fleet_model.specs.Rows.{Judged, by_place, clears_at, counted_of, has_room, if_counted, in_force, judge_at, putter, row_of, rows_in}
+use Rattle.fleet_model.specs.Rows.{Judged, by_place, clears_at, counted_of, has_room, if_counted, in_force, judge_at, arrival_of, putter, row_of, rows_in}
 use Rattle.fleet_model.specs.Seats.{above_all, counts, is_leave, is_next, is_number, is_sit, most_seats, number, seats_in, seats_of}
 use Rattle.fleet_model.specs.Sessions.{opens, session, sessions_in}
 use Rattle.fleet_model.specs.State.{Stands, State, state_after, state_of, with_filters}
@@ -100,7 +100,7 @@ by_kind config opening h counted e j (Put peer table key life cells) is row clea
     let due = number_due (is_number (number counted e.seat) e.seq) _ next in
     let rows = rows_before opening h counted in
     let place : Place = record { table = table; key = key; peer = peer } in
-    let arrival : Arrival = record { arrived = now_of opening counted; life = life; cells = cells } in
+    let arrival : Arrival = arrival_of config.tables table (now_of opening counted) life cells in
     let in_range : peer < length config.peers = ltb-true peer (length config.peers) (and_parts (nat_lt peer (length config.peers)) _ (and_parts _ _ fit).0).0 in
     by_parts config opening h counted e j (Put peer table key life cells) is
     (put_or_same (now_of opening counted) j h (is_number (session counted peer) e.seat && has_room config.tables rows place) (place, arrival) row clears
@@ -166,7 +166,7 @@ judged_clears : (config : Config) (opening : ℕ) (h : List Judged) (e : Event) 
 unfolding judge judge_at rows_in
 judged_clears config opening h e b does place = ap (λ b. b && clears_at config (rows_before opening h (counted_of h)) (now_of opening (counted_of h)) e.what place) does
 
-counts_same : (config : Config) (opening : ℕ) (h : List Judged) (counted : List Event) (e : Event) → counts_now (shorter config opening h counted) e ≡ counts config counted e
+pub counts_same : (config : Config) (opening : ℕ) (h : List Judged) (counted : List Event) (e : Event) → counts_now (shorter config opening h counted) e ≡ counts config counted e
 unfolding counts_now counts
 counts_same config opening h counted e =
     λ i. fits_same config (filters_in config counted) e.what i && is_next e.what e.seat e.seq (nat_lt (length (seats_in counted)) most_seats) (above_all (seats_of counted)) (found-seats e.seat counted i)

@@ -7,17 +7,15 @@ use Rattle.agg_types.specs.declared.event.Event.{Event}
 use Rattle.agg_types.specs.declared.event.What.{What}
 use Rattle.agg_types.specs.declared.event.What.TheVariants.{Sit, Open, Put, Clear, AddFilter, Moment, Leave}
 use Rattle.agg_types.specs.declared.place.Place.{Place}
-use Rattle.fleet_model.proofs.Order.{live}
 use Rattle.fleet_model.proofs.Seats.{number_from}
-use Rattle.fleet_model.proofs.Step.{one_more}
 use Rattle.fleet_model.specs.Answers.{keys_of, rows_of, set_at, summed}
 use Rattle.fleet_model.specs.Laws.{AnswersAlike, AreLive, SaysNothing}
 use Rattle.fleet_model.specs.Machine.{after, counts_now, happened, session_of, with_put, with_row}
 use Rattle.fleet_model.specs.Moments.{is_live}
 use Rattle.fleet_model.specs.Ranking.{ranked, ranking}
-use Rattle.fleet_model.specs.Rows.{has_room}
+use Rattle.fleet_model.specs.Rows.{has_room, arrival_of}
 use Rattle.fleet_model.specs.Seats.{is_number}
-use Rattle.fleet_model.specs.State.{State, state_of}
+use Rattle.fleet_model.specs.State.{State}
 use Rattle.fleet_model.specs.declared.arrival.Arrival.{Arrival}
 
 -- what is answered comes from the configuration, the moment and the rows
@@ -50,7 +48,7 @@ says_nothing s e Sit lives h = absurd h
 says_nothing s e (Open peer) lives h = absurd h
 says_nothing s e (Put peer table key life cells) lives h =
     let place : Place = record { table = table; key = key; peer = peer } in
-    let arrival : Arrival = record { arrived = s.moment; life = life; cells = cells } in
+    let arrival : Arrival = arrival_of s.config.tables table s.moment life cells in
     let no : (is_number (session_of s peer) e.seat && has_room s.config.tables s.rows place) ≡ false =
     and_no (is_number (session_of s peer) e.seat) (has_room s.config.tables s.rows place) (⊎_elim (λ ne. inl (not_number (session_of s peer) e.seat ne)) (λ full. inr full) h) in
     alike s _ refl refl (ap (λ b. cond b (with_row s.moment s.rows place arrival) s.rows) no)
@@ -62,25 +60,17 @@ says_nothing s e (Moment told) lives h =
     alike s _ refl same (ap (λ t. filter (λ row. is_live t row.1) s.rows) same ∙ all_stay s.moment s.rows lives)
 says_nothing s e Leave lives h = absurd h
 
-after_nothing : (s : State) (e : Event) → AreLive s → SaysNothing s e.seat e.what → AnswersAlike s (after s e)
+-- events that say nothing change no answer
+pub after_nothing : (s : State) (e : Event) → AreLive s → SaysNothing s e.seat e.what → AnswersAlike s (after s e)
 unfolding after
 after_nothing s e lives h =
     elim (counts_now s e) as (λ b. AnswersAlike s (cond b (happened s e e.what) s)) [ true ↦ says_nothing s e e.what lives h | false ↦ alike s s refl refl refl ]
 
-after_leave : (s : State) (e : Event) → e.what ≡ Leave → AnswersAlike s (after s e)
+-- a seat that leaves changes no answer
+pub after_leave : (s : State) (e : Event) → e.what ≡ Leave → AnswersAlike s (after s e)
 unfolding after happened
 after_leave s e is =
     elim (counts_now s e) as (λ b. AnswersAlike s (cond b (happened s e e.what) s)) [
       | true ↦ subst (λ w. AnswersAlike s (happened s e w)) (sym is) (alike s _ refl refl refl)
       | false ↦ alike s s refl refl refl
     ]
-
--- events that say nothing change no answer
-pub unchanged : (config : Config) (opening : ℕ) (events : List Event) (e : Event) → SaysNothing (state_of config opening events) e.seat e.what → AnswersAlike (state_of config opening events) (state_of config opening (events ++ e ∷ []))
-unchanged config opening events e h =
-    subst (AnswersAlike (state_of config opening events)) (sym (one_more config opening events e)) (after_nothing (state_of config opening events) e (live config opening events) h)
-
--- a seat that leaves changes no answer
-pub unchanged_by_leave : (config : Config) (opening : ℕ) (events : List Event) (e : Event) → e.what ≡ Leave → AnswersAlike (state_of config opening events) (state_of config opening (events ++ e ∷ []))
-unchanged_by_leave config opening events e is =
-    subst (AnswersAlike (state_of config opening events)) (sym (one_more config opening events e)) (after_leave (state_of config opening events) e is)

@@ -1,6 +1,6 @@
 -- Which standing filters there are.
-use Rattle.std.specs.Prelude.{Bool, ◌&&◌, not, if◌then◌else◌, nat_lt, List, [], ◌∷◌, ◌++◌, length, fold}
-use Rattle.std.specs.List.{list_any}
+use Rattle.std.specs.Prelude.{ℕ, Bool, ◌&&◌, not, if◌then◌else◌, nat_lt, List, [], ◌∷◌, ◌++◌, length, fold, Option, None, Some}
+use Rattle.std.specs.List.{cons_option, list_any}
 use Rattle.std.specs.Str.{bytes_eq}
 use Rattle.agg_types.specs.declared.config.Config.{Config}
 use Rattle.agg_types.specs.declared.config.Filter.{Filter}
@@ -8,9 +8,23 @@ use Rattle.agg_types.specs.declared.event.Event.{Event}
 use Rattle.agg_types.specs.declared.event.What.{What}
 use Rattle.agg_types.specs.declared.event.What.TheVariants.{Sit, Open, Put, Clear, AddFilter, Moment, Leave}
 
+-- how many filters may stand
+abbrev pub most_filters : ℕ
+most_filters = 32
+
 -- a filter is taken while fewer than 32 stand, if none of them has its name
 abbrev pub is_new : List Filter → Filter → Bool
-is_new filters filter = nat_lt (length filters) 32 && not (list_any (λ other. bytes_eq other.name filter.name) filters)
+is_new filters filter = nat_lt (length filters) most_filters && not (list_any (λ other. bytes_eq other.name filter.name) filters)
+
+-- the filter that is added, if one is
+abbrev pub added_in : What → Option Filter
+added_in Sit = None
+added_in (Open peer) = None
+added_in (Put peer table key life cells) = None
+added_in (Clear table sel) = None
+added_in (AddFilter filter) = Some filter
+added_in (Moment moment) = None
+added_in Leave = None
 
 -- the filters after something happened: one that is taken stands behind the others
 abbrev pub filters_after : List Filter → What → List Filter
@@ -25,3 +39,16 @@ filters_after filters Leave = filters
 -- the configured filters, and behind them the added ones that were taken
 unfoldable pub filters_in : Config → List Event → List Filter
 filters_in config counted = fold (λ filters e. filters_after filters e.what) config.filters counted
+
+-- the filters that are added, in the order of their events
+abbrev pub added_by : List Event → List Filter
+added_by [] = []
+added_by (e ∷ counted) = cons_option (added_in e.what) (added_by counted)
+
+-- of these, the first of each name that none of the filters before has
+abbrev pub first_named : List Filter → List Filter → List Filter
+first_named before [] = []
+first_named before (filter ∷ later) =
+    if list_any (λ other. bytes_eq other.name filter.name) before
+    then first_named before later
+    else filter ∷ first_named (before ++ filter ∷ []) later

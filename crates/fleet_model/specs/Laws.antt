@@ -7,6 +7,7 @@ use Rattle.std.specs.List.Sorted.{IsStrictlySortedBy}
 use Rattle.std.specs.Map.{keys_of, lookup}
 use Rattle.std.specs.Option.{option_map_or}
 use Rattle.std.specs.Ordering.{nat_cmp}
+use Rattle.std.specs.declared.cmp.Ordering.TheVariants.{Less}
 use Rattle.agg_types.specs.Col.{all_cols}
 use Rattle.agg_types.specs.Op.{op_holds}
 use Rattle.agg_types.specs.Place.{place_cmp}
@@ -22,7 +23,7 @@ use Rattle.fleet_model.specs.Answers.{left_of, rows_of, set_at, summed}
 use Rattle.fleet_model.specs.Filters.{is_new}
 use Rattle.fleet_model.specs.Machine.{counts_now, session_of}
 use Rattle.fleet_model.specs.Moments.{is_live}
-use Rattle.fleet_model.specs.Ranking.{rank_cmp, ranked}
+use Rattle.fleet_model.specs.Ranking.{rank_cmp, ranked, with_value}
 use Rattle.fleet_model.specs.Rows.{clears_at, has_room, if_counted, putter, puts_at, row_of, size_of}
 use Rattle.fleet_model.specs.Seats.{is_number}
 use Rattle.fleet_model.specs.Sessions.{opens}
@@ -96,6 +97,17 @@ pub record IsRanking (state : State) (table : ℕ) (col : Col) (entries : List (
   pub in_order : IsStrictlySortedBy rank_cmp entries
   pub keys : (key : List ℕ) → is_key_among key (map (λ entry. entry.0) entries) ≡ has_live_row state.rows table key state.moment
   pub values : All (λ entry. entry.1 ≡ value (cols_of state.config.tables table) state.rows table entry.0 col state.moment) entries
+
+-- the beginning of a table's ranking: keys with a row, each with its value of the column, in order, and all
+-- other keys with a row behind each of them
+pub record IsRankingStart (state : State) (table : ℕ) (col : Col) (entries : List (List ℕ × ℕ)) : Type 0 where
+  pub in_order : IsStrictlySortedBy rank_cmp entries
+  pub live : All (λ entry. has_live_row state.rows table entry.0 state.moment ≡ true) entries
+  pub values : All (λ entry. entry ≡ with_value state table col entry.0) entries
+  pub behind :
+      (key : List ℕ) → has_live_row state.rows table key state.moment ≡ true
+      → is_key_among key (map (λ entry. entry.0) entries) ≡ false
+      → All (λ entry. rank_cmp entry (with_value state table col key) ≡ Less) entries
 
 -- a life that ends, within so many ms
 abbrev pub IsWithin : ℕ → Option ℕ → Type 0

@@ -2,6 +2,7 @@ pub mod Seats
 pub mod Moments
 pub mod Sessions
 pub mod Filters
+pub mod Kept
 pub mod Rows
 pub mod Values
 pub mod History
@@ -12,3 +13,6 @@ pub mod Laws
 pub mod Worked
 pub mod Ranking
 pub mod Next
+pub mod Sound
+pub mod Keys
+pub mod Changes

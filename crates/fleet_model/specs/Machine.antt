@@ -13,9 +13,13 @@ use Rattle.agg_types.specs.declared.place.Place.{Place}
 use Rattle.fleet_model.specs.declared.arrival.Arrival.{Arrival}
 use Rattle.fleet_model.specs.Filters.{filters_after}
 use Rattle.fleet_model.specs.Moments.{is_live}
-use Rattle.fleet_model.specs.Rows.{has_room, clears_at}
+use Rattle.fleet_model.specs.Rows.{has_room, clears_at, arrival_of}
 use Rattle.fleet_model.specs.Seats.{is_next, is_number, most_seats}
 use Rattle.fleet_model.specs.State.{State}
+
+-- an event by its parts
+abbrev pub event_of : ℕ → ℕ → What → Event
+event_of seat seq what = record { seat = seat; seq = seq; what = what }
 
 -- the session in force of a peer, or none
 abbrev pub session_of : State → ℕ → Option ℕ
@@ -28,16 +32,22 @@ number_of state seat = lookup (is_at (nat_cmp seat)) state.seats
 -- whether an event counts now
 unfoldable pub counts_now : State → Event → Bool
 counts_now state e =
-    fits state.config e.what && is_next e.what e.seat e.seq (nat_lt (length state.seats) most_seats) state.next_seat (number_of state e.seat)
+    fits state.config e.what
+    && is_next e.what e.seat e.seq (nat_lt (length state.seats) most_seats) state.next_seat
+    (number_of state e.seat)
 
--- the rows with another one at a place: in place of an older one, and gone at once if its life is over
+-- the rows with another one at a place: in place of an older one, and gone at once if its life is
+-- over
 unfoldable pub with_row : ℕ → List (Place × Arrival) → Place → Arrival → List (Place × Arrival)
-with_row t rows place row = if is_live t row then insert_entry place_cmp rows place row else remove_entry (is_at (place_cmp place)) rows
+with_row t rows place row = if is_live t row
+    then insert_entry place_cmp rows place row else remove_entry (is_at (place_cmp place)) rows
 
 -- the rows after a Put: it must be of the session in force, and have room
 unfoldable pub with_put : State → ℕ → Place → Arrival → List (Place × Arrival)
 with_put state seat place row =
-    if is_number (session_of state place.peer) seat && has_room state.config.tables state.rows place then with_row state.moment state.rows place row else state.rows
+    if is_number (session_of state place.peer) seat
+    && has_room state.config.tables state.rows place
+    then with_row state.moment state.rows place row else state.rows
 
 -- the seats with one more event of one of them
 abbrev pub with_event : State → Event → List (ℕ × ℕ)
@@ -46,16 +56,31 @@ with_event state e = insert_entry nat_cmp state.seats e.seat (e.seq + 1)
 -- what an event that counts does
 unfoldable pub happened : State → Event → What → State
 happened state e Sit = record state { seats = with_event state e; next_seat = e.seat + 1 }
-happened state e (Open peer) = record state { seats = with_event state e; sessions = insert_entry nat_cmp state.sessions peer e.seat }
+happened state e (Open peer) =
+    record state {
+      seats = with_event state e;
+      sessions =
+          insert_entry nat_cmp state.sessions peer e.seat;
+    }
 happened state e (Put peer table key life cells) =
     record state {
       seats = with_event state e;
-      rows = with_put state e.seat (record { table = table; key = key; peer = peer }) (record { arrived = state.moment; life = life; cells = cells });
+      rows = with_put state e.seat (record { table = table; key = key; peer = peer })
+          (arrival_of state.config.tables table state.moment life cells);
     }
 happened state e (Clear table sel) =
-    record state { seats = with_event state e; rows = filter (λ row. not (clears_at state.config state.rows state.moment (Clear table sel) row.0)) state.rows }
+    record state {
+      seats = with_event state e;
+      rows =
+          filter (λ row. not (clears_at state.config state.rows state.moment (Clear table sel)
+          row.0)) state.rows;
+    }
 happened state e (AddFilter filter) =
-    record state { seats = with_event state e; config = record state.config { filters = filters_after state.config.filters (AddFilter filter) } }
+    record state {
+      seats = with_event state e;
+      config =
+          record state.config { filters = filters_after state.config.filters (AddFilter filter) };
+    }
 happened state e (Moment moment) =
     record state {
       seats = with_event state e;
@@ -74,4 +99,5 @@ after state e = if counts_now state e then happened state e e.what else state
 
 -- a fleet in which nothing has happened yet
 unfoldable pub opened : Config → ℕ → State
-opened config moment = record { config = config; moment = moment; rows = []; sessions = []; seats = []; next_seat = 0 }
+opened config moment =
+    record { config = config; moment = moment; rows = []; sessions = []; seats = []; next_seat = 0 }

@@ -8,11 +8,13 @@ use Rattle.std.specs.Option.{option_map_or}
 use Rattle.agg_types.specs.Place.{place_cmp}
 use Rattle.agg_types.specs.declared.config.Config.{Config}
 use Rattle.agg_types.specs.declared.config.Shape.{Shape}
+use Rattle.agg_types.specs.declared.event.Cell.{Cell}
 use Rattle.agg_types.specs.declared.event.Event.{Event}
 use Rattle.agg_types.specs.declared.event.What.{What}
 use Rattle.agg_types.specs.declared.event.What.TheVariants.{Sit, Open, Put, Clear, AddFilter, Moment, Leave}
 use Rattle.agg_types.specs.declared.place.Place.{Place}
 use Rattle.fleet_model.specs.declared.arrival.Arrival.{Arrival}
+use Rattle.fleet_model.specs.Kept.{kept_cells}
 use Rattle.fleet_model.specs.Moments.{is_live, now_of}
 use Rattle.fleet_model.specs.Seats.{counts, is_number}
 use Rattle.fleet_model.specs.Sessions.{session}
@@ -37,13 +39,17 @@ unfoldable pub has_room : List Shape → List (Place × Arrival) → Place → B
 has_room tables rows place =
     list_any (λ row. same_place place row.0) rows || nat_lt (count_by (λ row. (row.0.table == place.table) && (row.0.peer == place.peer)) rows) (size_of tables place.table)
 
+-- the row of a Put that arrives at t
+abbrev pub arrival_of : List Shape → ℕ → ℕ → Option ℕ → List Cell → Arrival
+arrival_of tables table t life cells = record { arrived = t; life = life; cells = kept_cells (cols_of tables table) cells }
+
 -- the row of a Put of the peer's session in force, if it has room
 unfoldable pub row_of : Config → Option ℕ → List (Place × Arrival) → ℕ → Event → What → Option (Place × Arrival)
 row_of config seated rows t e Sit = None
 row_of config seated rows t e (Open peer) = None
 row_of config seated rows t e (Put peer table key life cells) =
     let place : Place = record { table = table; key = key; peer = peer } in
-    then_some (is_number seated e.seat && has_room config.tables rows place) (place, record { arrived = t; life = life; cells = cells })
+    then_some (is_number seated e.seat && has_room config.tables rows place) (place, arrival_of config.tables table t life cells)
 row_of config seated rows t e (Clear table sel) = None
 row_of config seated rows t e (AddFilter filter) = None
 row_of config seated rows t e (Moment moment) = None

@@ -1,31 +1,41 @@
 //! What the definitions promise. Each law stands on a function that does nothing: its clause is the law,
 //! over every configuration, opening moment and list of events.
 
-ghost use Rattle.std.specs.Prelude.{◌≡◌, ◌≢◌, ℕ, ◌+◌, ◌<◌, ◌≤◌, ◌^◌, Bool, not, true, false, is_some, length, List, [], ◌∷◌, ◌++◌, Option, Some, filter, fold, sum_by};
+ghost use Rattle.std.specs.Prelude.{◌≡◌, ◌≢◌, ℕ, ◌+◌, ◌<◌, ◌≤◌, ◌^◌, Bool, not, true, false, is_some, length, List, [], ◌∷◌, ◌++◌, Option, Some, filter, fold, min, sum_by, take, ◌-◌};
 ghost use Rattle.std.specs.BTreeMap.{insert_entry, is_at};
 ghost use Rattle.std.specs.List.{AllByRecursion, IsDistinct, list_any};
 ghost use Rattle.std.specs.List.Sorted.{IsStrictlySortedBy};
 ghost use Rattle.std.specs.Map.{keys_of, lookup, remove_entry};
+ghost use Rattle.agg_types.specs.Check.{config_faults};
 ghost use Rattle.agg_types.specs.Place.{place_cmp};
 ghost use Rattle.agg_types.specs.declared.column.Col.{Col};
 ghost use Rattle.agg_types.specs.declared.config.Config.{Config};
 ghost use Rattle.agg_types.specs.declared.config.Filter.{Filter};
+ghost use Rattle.agg_types.specs.declared.config.Rank.{Rank};
+ghost use Rattle.agg_types.specs.declared.event.Cell.{Cell};
 ghost use Rattle.agg_types.specs.declared.event.Event.{Event};
 ghost use Rattle.agg_types.specs.declared.event.What.TheVariants.{Open, Moment, Leave};
 ghost use Rattle.agg_types.specs.declared.place.Place.{Place};
 ghost use Rattle.fleet_model.specs.Answers.{set_at, summed};
 ghost use Rattle.fleet_model.specs.Answers as answers;
+ghost use Rattle.fleet_model.specs.Filters.{added_by, first_named, most_filters};
 ghost use Rattle.fleet_model.specs.History.{judged};
-ghost use Rattle.fleet_model.specs.Laws.{AnswersAlike, AreLive, IsInForce, IsKeyList, IsOrdered, IsRanking, IsSetAt, IsSummedRow, IsWithinSizes, SaysNothing, opens_at, worth_at};
+ghost use Rattle.fleet_model.specs.Kept.{GivesElapsedBack, kept_cells};
+ghost use Rattle.fleet_model.specs.Laws.{AnswersAlike, AreLive, IsInForce, IsKeyList, IsOrdered, IsRanking, IsRankingStart, IsSetAt, IsSummedRow, IsWithinSizes, SaysNothing, opens_at, worth_at};
 ghost use Rattle.fleet_model.specs.Machine.{after, counts_now, number_of, opened, session_of};
 ghost use Rattle.fleet_model.specs.Next.{IsNextChange, IsNextChangeBy, longest_period, table_flat_from};
-ghost use Rattle.fleet_model.specs.Ranking.{ranking};
+ghost use Rattle.fleet_model.specs.Ranking.{ranked, ranking};
 ghost use Rattle.fleet_model.specs.Rows.{counted_of};
-ghost use Rattle.fleet_model.specs.Seats.{number};
+ghost use Rattle.fleet_model.specs.Seats.{counts, number};
 ghost use Rattle.fleet_model.specs.Sessions.{session};
+ghost use Rattle.fleet_model.specs.Sound.{IsSound};
 ghost use Rattle.fleet_model.specs.State.{Stands, State, state_of};
-ghost use Rattle.fleet_model.specs.Values.{cols_of, same_place, value};
+ghost use Rattle.fleet_model.specs.Values.{cols_of, column_worth, same_place, value};
 ghost use Rattle.fleet_model.specs.declared.arrival.Arrival.{Arrival};
+
+pub mod changes;
+pub mod keys;
+pub mod rows;
 
 /// No events leave the opened fleet: no rows, sessions and seats, at the opening moment.
 pub fn nothing_happened()
@@ -53,6 +63,22 @@ pub fn uncounted_events_change_nothing()
     ensures { (config : Config) (opening : ℕ) (events : List Event) (e : Event) → counts_now (state_of config opening events) e ≡ false → state_of config opening (events ++ e ∷ []) ≡ state_of config opening events }
 {}
 
+/// Whether an event counts after a list is said of the list: by the events in it that counted.
+pub fn counting_is_of_the_list()
+    ensures { (config : Config) (opening : ℕ) (events : List Event) (e : Event)
+        → counts_now (state_of config opening events) e
+        ≡ counts config (counted_of (judged config opening events)) e }
+{}
+
+/// The filters that stand are the configured ones, and behind them the first of each name that was added
+/// and isn't configured, while fewer than 32 stand.
+pub fn filters_are_the_first_of_each_name()
+    ensures { (config : Config) (opening : ℕ) (events : List Event)
+        → (state_of config opening events).config.filters
+        ≡ config.filters ++ take (most_filters - length config.filters)
+        (first_named config.filters (added_by (counted_of (judged config opening events)))) }
+{}
+
 /// What a state says of a seat is the number of its next event, which is how many of its events counted; and
 /// what it says of a peer is the seat that last opened it, if that seat still sits.
 pub fn seats_and_sessions_are_found()
@@ -65,9 +91,9 @@ pub fn states_are_ordered()
     ensures { (config : Config) (opening : ℕ) (events : List Event) → IsOrdered (state_of config opening events) }
 {}
 
-/// At most one row is in force of a peer, table and key.
+/// At most one row is in force of a peer, table and key: in every state that is in order.
 pub fn one_row_of_a_place()
-    ensures { (config : Config) (opening : ℕ) (events : List Event) → IsDistinct same_place (keys_of (state_of config opening events).rows) }
+    ensures { (state : State) → IsOrdered state → IsDistinct same_place (keys_of state.rows) }
 {}
 
 /// A row is in force exactly where some event put it, as a Put of its peer's session in force with room at
@@ -91,12 +117,13 @@ pub fn sizes_hold()
 /// A moment that isn't later, a row of a seat that isn't its peer's session in force, a row past the table's
 /// size, and a filter that isn't taken change no summed row, set or ranked list.
 pub fn some_events_say_nothing()
-    ensures { (config : Config) (opening : ℕ) (events : List Event) (e : Event) → SaysNothing (state_of config opening events) e.seat e.what → AnswersAlike (state_of config opening events) (state_of config opening (events ++ e ∷ [])) }
+    ensures { (state : State) (e : Event)
+        → AreLive state → SaysNothing state e.seat e.what → AnswersAlike state (after state e) }
 {}
 
 /// A lost session keeps its rows: a seat that leaves touches none, and changes no answer.
 pub fn lost_sessions_keep_rows()
-    ensures { (config : Config) (opening : ℕ) (events : List Event) (e : Event) → e.what ≡ Leave → AnswersAlike (state_of config opening events) (state_of config opening (events ++ e ∷ [])) }
+    ensures { (state : State) (e : Event) → e.what ≡ Leave → AnswersAlike state (after state e) }
 {}
 
 /// A seat becomes the session in force of a peer by opening it, and in no other way.
@@ -123,27 +150,47 @@ pub fn values_never_rise()
 /// Sets and values at a moment to come are the same before and after an earlier moment is told: what is
 /// foreseen by the clock alone comes true.
 pub fn the_clock_alone()
-    ensures sets { (config : Config) (opening : ℕ) (events : List Event) (e : Event) (told : ℕ) → e.what ≡ Moment told → (filtering : Filter) (t : ℕ) → (state_of config opening events).moment ≤ t → told ≤ t → set_at (state_of config opening (events ++ e ∷ [])) filtering t ≡ set_at (state_of config opening events) filtering t }
-    ensures values { (config : Config) (opening : ℕ) (events : List Event) (e : Event) (told : ℕ) → e.what ≡ Moment told → (cols : List (Col × ℕ)) (table : ℕ) (key : List ℕ) (col : Col) (t : ℕ) → (state_of config opening events).moment ≤ t → told ≤ t → value cols (state_of config opening (events ++ e ∷ [])).rows table key col t ≡ value cols (state_of config opening events).rows table key col t }
+    ensures sets { (state : State) (e : Event) (told : ℕ) → e.what ≡ Moment told
+        → (filtering : Filter) (t : ℕ) → state.moment ≤ t → told ≤ t
+        → set_at (after state e) filtering t ≡ set_at state filtering t }
+    ensures values { (state : State) (e : Event) (told : ℕ) → e.what ≡ Moment told
+        → (cols : List (Col × ℕ)) (table : ℕ) (key : List ℕ) (col : Col) (t : ℕ)
+        → state.moment ≤ t → told ≤ t
+        → value cols (after state e).rows table key col t ≡ value cols state.rows table key col t }
 {}
 
 /// The keys of a table are exactly those of which a row lives, each once, in the order of their bytes.
 pub fn keys_are_exact()
-    ensures { (config : Config) (opening : ℕ) (events : List Event) (table : ℕ) → IsKeyList (state_of config opening events) table (answers.keys_of (state_of config opening events) table) }
+    ensures { (state : State) (table : ℕ)
+        → IsOrdered state → IsKeyList state table (answers.keys_of state table) }
 {}
 
 /// A filter's set at a moment is exactly the keys with a row that lives then and for which each of its
 /// conditions holds, each once, in the order of their bytes. There is no other such list.
 pub fn sets_are_exact()
-    ensures is_one { (config : Config) (opening : ℕ) (events : List Event) (filtering : Filter) (t : ℕ) → IsSetAt (state_of config opening events) filtering t (set_at (state_of config opening events) filtering t) }
+    ensures is_one { (state : State) (filtering : Filter) (t : ℕ)
+        → IsOrdered state → IsSetAt state filtering t (set_at state filtering t) }
     ensures only { (state : State) (filtering : Filter) (t : ℕ) (keys others : List (List ℕ)) → IsSetAt state filtering t keys → IsSetAt state filtering t others → keys ≡ others }
 {}
 
 /// The ranking of a table has each key with a row once, with its value: a larger value before a smaller
 /// one, and of equal values the smaller key first. There is no other such list.
 pub fn rankings_are_exact()
-    ensures is_one { (config : Config) (opening : ℕ) (events : List Event) (table : ℕ) (col : Col) → IsRanking (state_of config opening events) table col (ranking (state_of config opening events) table col) }
+    ensures is_one { (state : State) (table : ℕ) (col : Col)
+        → IsOrdered state → IsRanking state table col (ranking state table col) }
     ensures only { (state : State) (table : ℕ) (col : Col) (entries others : List (List ℕ × ℕ)) → IsRanking state table col entries → IsRanking state table col others → entries ≡ others }
+{}
+
+/// A list of keys with a row, each with its value, is the ranking's beginning if it is in order and every
+/// other key with a row stands behind it. So it is a ranked list, if it has as many as that asks, or all.
+pub fn a_ranking_begins_so()
+    ensures start { (state : State) (table : ℕ) (col : Col) (entries : List (List ℕ × ℕ)) → IsOrdered state
+        → IsRankingStart state table col entries
+        → entries ≡ take (length entries) (ranking state table col) }
+    ensures whole { (state : State) (rank : Rank) (entries : List (List ℕ × ℕ)) → IsOrdered state
+        → IsRankingStart state rank.table rank.col entries
+        → length entries ≡ min rank.n (length (answers.keys_of state rank.table))
+        → entries ≡ ranked state rank }
 {}
 
 /// Each key of a table with a row has a summed row.
@@ -163,10 +210,13 @@ pub fn next_change_comes_before_flat()
     ensures { (state : State) (filtering : Filter) (last : ℕ) (next : Option ℕ) → table_flat_from state filtering.table ≤ last → IsNextChangeBy state filtering last next → IsNextChange state filtering next }
 {}
 
-/// That moment has 64 bits, as moments and lives are small: the opening moment at most 2^62, and periods below
-/// 2^32.
+/// That moment has 64 bits, as moments and lives are small: in every sound state, and where the opening moment
+/// is at most 2^62 and periods are below 2^32.
 pub fn sets_are_flat_in_time()
-    ensures { (config : Config) (opening : ℕ) (events : List Event) (table : ℕ) → opening ≤ 2 ^ 62 → longest_period (cols_of config.tables table) < 2 ^ 32 → table_flat_from (state_of config opening events) table < 2 ^ 64 }
+    ensures sound { (state : State) (table : ℕ) → IsSound state → table_flat_from state table < 2 ^ 64 }
+    ensures listed { (config : Config) (opening : ℕ) (events : List Event) (table : ℕ)
+        → opening ≤ 2 ^ 62 → longest_period (cols_of config.tables table) < 2 ^ 32
+        → table_flat_from (state_of config opening events) table < 2 ^ 64 }
 {}
 
 /// A filter's next change is one moment, or none.
@@ -180,4 +230,24 @@ pub fn sums_follow_rows()
     ensures put { (f : Place × Arrival → ℕ) (rows : List (Place × Arrival)) (place : Place) (row : Arrival) → IsStrictlySortedBy place_cmp (keys_of rows) → sum_by f (insert_entry place_cmp rows place row) + worth_at f rows place ≡ sum_by f rows + f (place, row) }
     ensures taken { (f : Place × Arrival → ℕ) (rows : List (Place × Arrival)) (place : Place) → sum_by f (remove_entry (is_at (place_cmp place)) rows) + worth_at f rows place ≡ sum_by f rows }
     ensures split { (f : Place × Arrival → ℕ) (p : Place × Arrival → Bool) (rows : List (Place × Arrival)) → sum_by f (filter p rows) + sum_by f (filter (λ row. not (p row)) rows) ≡ sum_by f rows }
+{}
+
+/// What a row keeps of its cells says the same as they did at every later moment. It is one form: the elapsed
+/// time of a rate is at most two periods and 1 ms, so the moment from which the rate is 0 gives it back.
+pub fn kept_cells_say_the_same()
+    ensures worth { (cols : List (Col × ℕ)) (cells : List Cell) (col : Col) (since : ℕ)
+        → column_worth col since cols (kept_cells cols cells) ≡ column_worth col since cols cells }
+    ensures once { (cols : List (Col × ℕ)) (cells : List Cell)
+        → kept_cells cols (kept_cells cols cells) ≡ kept_cells cols cells }
+    ensures from_zero { (period elapsed cur prev t : ℕ) → GivesElapsedBack period elapsed cur prev t }
+{}
+
+/// A checked configuration opened at a moment up to 2^62 ms is sound, and every event keeps a state so: so what
+/// any list of events leaves is sound.
+pub fn states_are_sound()
+    ensures opened { (config : Config) (opening : ℕ) → config_faults config ≡ [] → opening ≤ 2 ^ 62
+        → IsSound (opened config opening) }
+    ensures kept { (state : State) (e : Event) → IsSound state → IsSound (after state e) }
+    ensures whole { (config : Config) (opening : ℕ) (events : List Event) → config_faults config ≡ [] → opening ≤ 2 ^ 62
+        → IsSound (state_of config opening events) }
 {}

@@ -134,7 +134,7 @@ message_says class kind payload message fits e =
             | inr not1 ↦
                 elim (cases_eq class 10) [
                   | inl is10 ↦ inr (inr (inl (is10, let q : table_of kind payload ≡ Some message = rw is10 at e in table_says kind payload message fits q)))
-                  | inr not10 ↦ inr (inr (inr (not0, not1, not10, let q : Some (messages.Other class kind) ≡ Some message = rw (ne_eqb class 0 not0, ne_eqb class 1 not1, ne_eqb class 10 not10) at e in sym (same_Some _ _ q))))
+                  | inr not10 ↦ inr (inr (inr ((not0, not1, not10), let q : Some (messages.Other class kind) ≡ Some message = rw (ne_eqb class 0 not0, ne_eqb class 1 not1, ne_eqb class 10 not10) at e in sym (same_Some _ _ q))))
                 ]
           ]
     ]
@@ -145,4 +145,4 @@ unfolding message_of
 says_message class kind payload message fits (inl h) = rw (h.0, h.1) refl
 says_message class kind payload message fits (inr (inl h)) = rw (h.0, h.1) refl
 says_message class kind payload message fits (inr (inr (inl h))) = rw h.0 (says_table kind payload message fits h.1)
-says_message class kind payload message fits (inr (inr (inr h))) = rw (ne_eqb class 0 h.0, ne_eqb class 1 h.1, ne_eqb class 10 h.2, h.3) refl
+says_message class kind payload message fits (inr (inr (inr h))) = rw (ne_eqb class 0 h.0.0, ne_eqb class 1 h.0.1, ne_eqb class 10 h.0.2, h.1) refl

@@ -1,5 +1,5 @@
 -- What a piece gives from what is kept is what the whole stream's reading has beyond the earlier one.
-use Rattle.std.proofs.Common.{◌≡◌, ℕ, List, [], ◌++◌, Option, None, Result, Ok, Err, refl, sym, ap, ◌∙◌}
+use Rattle.std.proofs.Common.{◌≡◌, ◌≢◌, ℕ, List, [], ◌++◌, Option, Some, None, Result, Ok, Err, refl, sym, ap, ◌∙◌}
 use Rattle.peers_msg.specs.declared.message.Message.{Message}
 use Rattle.peers_msg.specs.declared.fault.WireCause.{WireCause}
 use Rattle.peers_msg.specs.declared.fault.WireCause.TheVariants.{TooLong, BadInteger, BadField, NoMemory}
@@ -48,3 +48,21 @@ short_read old piece frozen growing none empty is short = rw (none, empty, ← i
 
 pub short_kept : (fault : Option WireCause) (frozen growing : List ℕ) → fault ≡ None → frozen ≡ [] → frame_at growing ≡ Short → IsKept (frozen ++ growing) fault
 short_kept fault frozen growing none empty short = rw (none, empty) (frame_short growing short)
+
+-- a feed that has ended with a fault stays as it is
+faulty_stays : (rest piece : List ℕ) (cause : WireCause) → IsKept rest (Some cause) → (cause ≢ NoMemory) × (kept_after_fault cause (record { rest = rest; fault = Some cause }) (fed (record { rest = rest; fault = Some cause }) piece) ≡ record { rest = rest; fault = Some cause })
+faulty_stays rest piece TooLong h = (λ e. absurd cc, rw h refl)
+faulty_stays rest piece BadInteger h = (λ e. absurd cc, rw h refl)
+faulty_stays rest piece BadField h = (λ e. absurd cc, rw h refl)
+faulty_stays rest piece NoMemory h = absurd h
+
+kept_stays : (rest piece : List ℕ) (fault : Option WireCause) (new : Kept) (cause : WireCause) → IsKept rest fault → fault ≡ Some cause → new ≡ kept_after_fault cause (record { rest = rest; fault = fault }) (fed (record { rest = rest; fault = fault }) piece) → (cause ≢ NoMemory) × (new ≡ record { rest = rest; fault = fault })
+kept_stays rest piece fault new cause h is after =
+    let kept = rw is at h in
+    let stays = faulty_stays rest piece cause kept in
+    (stays.0, rw is (rw is at after ∙ stays.1))
+
+pub feed_stays : (old new : Kept) (piece : List ℕ) (result : Result (List Message) WireFault) (cause : WireCause) → IsKept old.rest old.fault → old.fault ≡ Some cause → result ≡ Err (record { cause = cause; before = [] }) → new ≡ kept_after result old (fed old piece) → (cause ≢ NoMemory) × (new ≡ old) × (result ≡ Err (record { cause = cause; before = [] }))
+feed_stays old new piece result cause h is err after =
+    let stays = kept_stays old.rest piece old.fault new cause h is (rw err at after) in
+    (stays.0, stays.1, err)

@@ -11,7 +11,8 @@ use Rattle.peers_msg.specs.Message.{Frame, Short, Wrong, Framed, First, Unfinish
 abbrev pub IsHead : Head → List ℕ → Frame → Type 0
 IsHead heads.Short bytes frame = frame ≡ Short
 IsHead (heads.Wrong cause) bytes frame = frame ≡ Wrong cause
-IsHead (heads.Whole class kind start len) bytes frame = frame ≡ Framed class kind (take len (drop start bytes)) (drop len (drop start bytes))
+IsHead (heads.Whole class kind start len) bytes frame =
+    frame ≡ Framed class kind (take len (drop start bytes)) (drop len (drop start bytes))
 
 -- where a head's payload lies
 abbrev pub HeadFits : Head → List ℕ → Type 0

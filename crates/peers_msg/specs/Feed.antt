@@ -19,7 +19,8 @@ abbrev pub fed_after : Option WireCause → List ℕ → Reading
 fed_after None bytes = reading_of bytes
 fed_after (Some cause) bytes = record { messages = []; fault = Some cause; rest = [] }
 
--- The reading of bytes and what comes after them: the messages stand, a fault ends it for good, and otherwise the rest is read with what comes.
+-- The reading of bytes and what comes after them: the messages stand, a fault ends it for good, and
+-- otherwise the rest is read with what comes.
 abbrev pub goes_on : Reading → List ℕ → Reading
 goes_on reading more = with_front reading.messages (fed_after reading.fault (reading.rest ++ more))
 
@@ -29,7 +30,8 @@ fed kept piece = fed_after kept.fault (kept.rest ++ piece)
 
 abbrev pub FaultAnswers : WireCause → List Message → Reading → Type 0
 FaultAnswers TooLong before reading = (reading.fault ≡ Some TooLong) × (before ≡ reading.messages)
-FaultAnswers BadInteger before reading = (reading.fault ≡ Some BadInteger) × (before ≡ reading.messages)
+FaultAnswers BadInteger before reading =
+    (reading.fault ≡ Some BadInteger) × (before ≡ reading.messages)
 FaultAnswers BadField before reading = (reading.fault ≡ Some BadField) × (before ≡ reading.messages)
 FaultAnswers NoMemory before reading = before ≡ []
 
@@ -49,15 +51,19 @@ kept_after (Err fault) old reading = kept_after_fault fault.cause old reading
 
 abbrev pub FaultGoesOn : WireCause → List Message → Reading → Reading → Type 0
 FaultGoesOn NoMemory before old new = before ≡ []
-FaultGoesOn cause before old new = (new.fault ≡ Some cause) × (new.messages ≡ old.messages ++ before)
+FaultGoesOn cause before old new =
+    (new.fault ≡ Some cause) × (new.messages ≡ old.messages ++ before)
 
--- What was handed out is what the new reading has beyond the old one, and a fault is answered exactly where the new reading ends with it.
+-- What was handed out is what the new reading has beyond the old one, and a fault is answered
+-- exactly where the new reading ends with it.
 abbrev pub GoesOn : Result (List Message) WireFault → Reading → Reading → Type 0
 GoesOn (Ok messages) old new = (new.fault ≡ None) × (new.messages ≡ old.messages ++ messages)
 GoesOn (Err fault) old new = FaultGoesOn fault.cause fault.before old new
 
--- What a piece gives was read, with the feed as it was; or there is no message and no fault, and the piece is taken. Want of memory leaves the feed as it was.
+-- What a piece gives was read, with the feed as it was; or there is no message and no fault, and
+-- the piece is taken. Want of memory leaves the feed as it was.
 abbrev pub HasRead : Result (Option Reading) Refused → Kept → Kept → Reading → Type 0
 HasRead (Ok (Some given)) old new reading = (given ≡ reading) × (new ≡ old)
-HasRead (Ok None) old new reading = (reading ≡ record { messages = []; fault = None; rest = new.rest }) × (new ≡ kept_of reading)
+HasRead (Ok None) old new reading =
+    (reading ≡ record { messages = []; fault = None; rest = new.rest }) × (new ≡ kept_of reading)
 HasRead (Err refused) old new reading = new ≡ old

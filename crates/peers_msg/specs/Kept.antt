@@ -2,15 +2,17 @@
 use Rattle.std.specs.Prelude.{◌≡◌, ℕ, ◌+◌, ◌<◌, List, [], length, Option, Some, None}
 use Rattle.peers_msg.specs.declared.fault.WireCause.{WireCause}
 use Rattle.peers_msg.specs.declared.fault.WireCause.TheVariants.{TooLong, BadInteger, BadField, NoMemory}
+use Rattle.peers_msg.specs.Kinds.{longest_head, max_payload}
 
 -- the bytes that are no whole message yet, or the fault that ended the stream
 pub record Kept : Type 0 where
   pub rest : List ℕ
   pub fault : Option WireCause
 
--- Less than a message is kept: at most 12 bytes of head, and fewer than 16,384 of payload. After a fault nothing is.
+-- Less than a message is kept: at most a head, and less than the longest payload. After a fault
+-- nothing is.
 abbrev pub IsKept : List ℕ → Option WireCause → Type 0
-IsKept rest None = length rest < 12 + 16384
+IsKept rest None = length rest < longest_head + max_payload
 IsKept rest (Some TooLong) = rest ≡ []
 IsKept rest (Some BadInteger) = rest ≡ []
 IsKept rest (Some BadField) = rest ≡ []

@@ -1,3 +1,4 @@
+pub mod Kinds
 pub mod Numeral
 pub mod Payload
 pub mod Message

@@ -7,25 +7,44 @@ use Rattle.peers_msg.specs.declared.fault.WireCause.{WireCause}
 use Rattle.peers_msg.specs.declared.fault.WireCause.TheVariants.{TooLong, BadInteger, BadField}
 use Rattle.peers_msg.specs.Numeral.{integer_at}
 use Rattle.peers_msg.specs.Payload.{◌>>=◌, definition_of, switch_of, acked_of, update_of}
+use Rattle.peers_msg.specs.Kinds.{control_class, error_class, table_class, resync_request, resync_finished, resync_partial, resync_confirm, heartbeat, protocol_error, size_error, update, incremental_update, table_definition, table_switch, acknowledgement, timed_update, timed_incremental_update, first_with_payload, max_payload}
 
 -- the messages of class 0, which have no payload
 unfoldable pub control_of : ℕ → Message
 control_of kind =
-    if kind == 0 then messages.Request else if kind == 1 then messages.Finished else if kind == 2 then messages.Partial else if kind == 3 then messages.Confirm else if kind == 4 then messages.Heartbeat else messages.Other 0 kind
+    if kind == resync_request then messages.Request
+    else if kind == resync_finished then messages.Finished
+    else if kind == resync_partial then messages.Partial
+    else if kind == resync_confirm then messages.Confirm
+    else if kind == heartbeat then messages.Heartbeat
+    else messages.Other control_class kind
 
 -- the messages of class 1, which have no payload
 unfoldable pub error_of : ℕ → Message
-error_of kind = if kind == 0 then messages.ProtocolError else if kind == 1 then messages.SizeError else messages.Other 1 kind
+error_of kind =
+    if kind == protocol_error then messages.ProtocolError
+    else if kind == size_error then messages.SizeError
+    else messages.Other error_class kind
 
 -- the messages of class 10; None where a field is cut short or over
 unfoldable pub table_of : ℕ → List ℕ → Option Message
 table_of kind payload =
-    if kind == 128 then update_of true false payload else if kind == 129 then update_of false false payload else if kind == 130 then (definition_of payload >>= λ definition. Some (messages.Define definition)) else if kind == 131 then switch_of payload else if kind == 132 then acked_of payload else if kind == 133 then update_of true true payload else if kind == 134 then update_of false true payload else Some (messages.Other 10 kind)
+    if kind == update then update_of true false payload
+    else if kind == incremental_update then update_of false false payload
+    else if kind == table_definition then (definition_of payload >>= λ d. Some (messages.Define d))
+    else if kind == table_switch then switch_of payload
+    else if kind == acknowledgement then acked_of payload
+    else if kind == timed_update then update_of true true payload
+    else if kind == timed_incremental_update then update_of false true payload
+    else Some (messages.Other table_class kind)
 
 -- the message of a class, a type and a payload; every pair without a meaning is skipped as Other
 unfoldable pub message_of : ℕ → ℕ → List ℕ → Option Message
 message_of class kind payload =
-    if class == 0 then Some (control_of kind) else if class == 1 then Some (error_of kind) else if class == 10 then table_of kind payload else Some (messages.Other class kind)
+    if class == control_class then Some (control_of kind)
+    else if class == error_class then Some (error_of kind)
+    else if class == table_class then table_of kind payload
+    else Some (messages.Other class kind)
 
 -- what stands at the front of bytes
 pub data Frame : Type 0 where
@@ -40,13 +59,17 @@ abbrev pub framed : ℕ → ℕ → List ℕ → Result (Option (ℕ × ℕ)) In
 framed class kind bytes (Ok None) = Short
 framed class kind bytes (Err over) = Wrong BadInteger
 framed class kind bytes (Ok (Some size)) =
-    if nat_lt 16384 size.0 then Wrong TooLong else if nat_lt (length (drop size.1 bytes)) size.0 then Short else Framed class kind (take size.0 (drop size.1 bytes)) (drop size.0 (drop size.1 bytes))
+    if nat_lt max_payload size.0 then Wrong TooLong
+    else if nat_lt (length (drop size.1 bytes)) size.0 then Short
+    else Framed class kind (take size.0 (drop size.1 bytes)) (drop size.0 (drop size.1 bytes))
 
 -- a class, a type, and from type 128 on a length and a payload
 unfoldable pub frame_at : List ℕ → Frame
 frame_at [] = Short
 frame_at (class ∷ []) = Short
-frame_at (class ∷ kind ∷ bytes) = if nat_lt kind 128 then Framed class kind [] bytes else framed class kind bytes (integer_at bytes)
+frame_at (class ∷ kind ∷ bytes) =
+    if nat_lt kind first_with_payload then Framed class kind [] bytes
+    else framed class kind bytes (integer_at bytes)
 
 -- the first message of bytes
 pub data First : Type 0 where
@@ -67,7 +90,8 @@ first_in (Framed class kind payload rest) = whole_or_bad (message_of class kind 
 unfoldable pub first_of : List ℕ → First
 first_of bytes = first_in (frame_at bytes)
 
--- what bytes say: whole messages one after the other, and then the fault, if one stands there, or else the rest
+-- what bytes say: whole messages one after the other, and then the fault, if one stands there, or
+-- else the rest
 pub record Reading : Type 0 where
   pub messages : List Message
   pub fault : Option WireCause
@@ -75,11 +99,13 @@ pub record Reading : Type 0 where
 
 -- messages, and then a reading
 abbrev pub with_front : List Message → Reading → Reading
-with_front front reading = record { messages = front ++ reading.messages; fault = reading.fault; rest = reading.rest }
+with_front front reading =
+    record { messages = front ++ reading.messages; fault = reading.fault; rest = reading.rest }
 
 -- a message, and then a reading
 abbrev pub after_message : Message → Reading → Reading
-after_message message reading = record { messages = message ∷ reading.messages; fault = reading.fault; rest = reading.rest }
+after_message message reading =
+    record { messages = message ∷ reading.messages; fault = reading.fault; rest = reading.rest }
 
 -- the reading of bytes that begin so, where next reads what follows a message
 abbrev pub reading_by : (List ℕ → Reading) → List ℕ → First → Reading

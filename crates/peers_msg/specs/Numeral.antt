@@ -49,19 +49,26 @@ abbrev pub spelling_ends : List ℕ → Bool
 spelling_ends [] = false
 spelling_ends (b ∷ bytes) = nat_lt b 240 || tail_ends bytes
 
--- the number at the front and the length of its spelling, None where the bytes end first, the fault where what is there is over
+-- the number at the front and the length of its spelling, None where the bytes end first, the fault
+-- where what is there is over
 unfoldable pub integer_at : List ℕ → Result (Option (ℕ × ℕ)) IntTooLarge
 integer_at bytes =
-    if nat_le (2 ^ 64) (value (spelling_front bytes)) then Err (record {}) else if spelling_ends bytes then Ok (Some (value (spelling_front bytes), length (spelling_front bytes))) else Ok None
+    if nat_le (2 ^ 64) (value (spelling_front bytes)) then Err (record {})
+    else if spelling_ends bytes
+    then Ok (Some (value (spelling_front bytes), length (spelling_front bytes))) else Ok None
 
 -- an integer of these bytes stands at the front
 abbrev pub IsIntegerAt : List ℕ → ℕ → ℕ → Type 0
-IsIntegerAt bytes n len = (text rest : List ℕ) × (bytes ≡ text ++ rest) × IsSpelling text × (value text ≡ n) × (length text ≡ len) × (n < 2 ^ 64)
+IsIntegerAt bytes n len =
+    (text rest : List ℕ) × (bytes ≡ text ++ rest) × IsSpelling text × (value text ≡ n)
+    × (length text ≡ len) × (n < 2 ^ 64)
 
 -- the bytes are a proper front of a spelling, and not over
 abbrev pub IsCut : List ℕ → Type 0
-IsCut bytes = (value bytes < 2 ^ 64) × ((more : List ℕ) × (0 < length more) × IsSpelling (bytes ++ more))
+IsCut bytes =
+    (value bytes < 2 ^ 64) × ((more : List ℕ) × (0 < length more) × IsSpelling (bytes ++ more))
 
 -- a front of the bytes is one of a spelling, and over
 abbrev pub IsTooLarge : List ℕ → Type 0
-IsTooLarge bytes = (front more rest : List ℕ) × (bytes ≡ front ++ rest) × IsSpelling (front ++ more) × IsOver front
+IsTooLarge bytes =
+    (front more rest : List ℕ) × (bytes ≡ front ++ rest) × IsSpelling (front ++ more) × IsOver front

@@ -7,6 +7,7 @@ use Rattle.peers_msg.specs.declared.message.Definition.{Definition}
 use Rattle.peers_msg.specs.declared.message.Message.{Message}
 use Rattle.peers_msg.specs.declared.message.Message.TheVariants as messages
 use Rattle.peers_msg.specs.Numeral.{integer_at}
+use Rattle.peers_msg.specs.Kinds.{last_type}
 
 infixl 10 ◌>>=◌
 abbrev pub ◌>>=◌ : {A B : Type 0} → Option A → (A → Option B) → Option B
@@ -24,7 +25,8 @@ number_at bytes = split_found bytes (integer_at bytes)
 
 -- four bytes, big-endian, and the bytes after them
 unfoldable pub word_at : List ℕ → Option (ℕ × List ℕ)
-word_at bytes = if nat_lt (length bytes) 4 then None else Some (from_be_bytes w32 (take 4 bytes), drop 4 bytes)
+word_at bytes =
+    if nat_lt (length bytes) 4 then None else Some (from_be_bytes w32 (take 4 bytes), drop 4 bytes)
 
 -- a length, so many bytes, and the bytes after them
 unfoldable pub string_at : List ℕ → Option (List ℕ × List ℕ)
@@ -37,7 +39,7 @@ unfoldable pub pair_at : List ℕ → Option ((ℕ × ℕ) × List ℕ)
 pair_at bytes = do
   id ← number_at bytes
   period ← number_at id.1
-  if nat_lt 18 id.0 then None else Some ((id.0, period.0), period.1)
+  if nat_lt last_type id.0 then None else Some ((id.0, period.0), period.1)
 
 -- the whole pairs at the front, at most so many
 unfoldable pub pairs_within : ℕ → List ℕ → List (ℕ × ℕ)
@@ -56,7 +58,15 @@ definition_of payload = do
   len ← number_at kind.1
   bits ← number_at len.1
   expiry ← number_at bits.1
-  Some (record { id = id.0; name = name.0; kind = kind.0; len = len.0; bits = bits.0; expiry = expiry.0; periods = pairs_at expiry.1 })
+  Some (record {
+    id = id.0;
+    name = name.0;
+    kind = kind.0;
+    len = len.0;
+    bits = bits.0;
+    expiry = expiry.0;
+    periods = pairs_at expiry.1;
+  })
 
 unfoldable pub switch_of : List ℕ → Option Message
 switch_of payload = do

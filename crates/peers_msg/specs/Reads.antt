@@ -9,6 +9,7 @@ use Rattle.peers_msg.specs.declared.fault.WireCause.TheVariants.{TooLong, BadInt
 use Rattle.peers_msg.specs.Numeral.{value, IsSpelling, IsIntegerAt, IsCut, IsTooLarge}
 use Rattle.peers_msg.specs.Message.{control_of, error_of}
 use Rattle.peers_msg.specs.Spelling.{update_kind}
+use Rattle.peers_msg.specs.Kinds.{control_class, error_class, table_class, update, timed_incremental_update, table_definition, table_switch, acknowledgement, first_with_payload, max_payload, last_type}
 
 abbrev pub AreBytes : List ℕ → Type 0
 AreBytes bytes = (i : ℕ) → slice_index bytes i < 256
@@ -24,12 +25,16 @@ SpellsWord text (Some n) = (length text ≡ 4) × (from_be_bytes w32 text ≡ n)
 
 -- a data type's id up to 18, and its period
 abbrev pub SpellsPair : List ℕ → ℕ × ℕ → Type 0
-SpellsPair text p = (id period : List ℕ) × (text ≡ id ++ period) × Spells id p.0 × Spells period p.1 × (p.0 ≤ 18)
+SpellsPair text p =
+    (id period : List ℕ) × (text ≡ id ++ period) × Spells id p.0 × Spells period p.1
+    × (p.0 ≤ last_type)
 
 -- these pairs stand at the front, and no further one behind them
 abbrev pub BeginsWithPairs : List ℕ → List (ℕ × ℕ) → Type 0
-BeginsWithPairs bytes [] = (p : ℕ × ℕ) (text rest : List ℕ) → bytes ≡ text ++ rest → SpellsPair text p → ⊥
-BeginsWithPairs bytes (p ∷ ps) = (text rest : List ℕ) × (bytes ≡ text ++ rest) × SpellsPair text p × BeginsWithPairs rest ps
+BeginsWithPairs bytes [] =
+    (p : ℕ × ℕ) (text rest : List ℕ) → bytes ≡ text ++ rest → SpellsPair text p → ⊥
+BeginsWithPairs bytes (p ∷ ps) =
+    (text rest : List ℕ) × (bytes ≡ text ++ rest) × SpellsPair text p × BeginsWithPairs rest ps
 
 -- the payload of a definition: its fields, one after the other, and the pairs behind them
 pub record Defines (payload : List ℕ) (d : Definition) : Type 0 where
@@ -40,7 +45,8 @@ pub record Defines (payload : List ℕ) (d : Definition) : Type 0 where
   pub bits : List ℕ
   pub expiry : List ℕ
   pub behind : List ℕ
-  pub whole : payload ≡ id ++ (name_len ++ (d.name ++ (kind ++ (len ++ (bits ++ (expiry ++ behind))))))
+  pub whole :
+      payload ≡ id ++ (name_len ++ (d.name ++ (kind ++ (len ++ (bits ++ (expiry ++ behind))))))
   pub id_is : Spells id d.id
   pub name_len_is : Spells name_len (length d.name)
   pub kind_is : Spells kind d.kind
@@ -49,46 +55,79 @@ pub record Defines (payload : List ℕ) (d : Definition) : Type 0 where
   pub expiry_is : Spells expiry d.expiry
   pub pairs : BeginsWithPairs behind d.periods
 
--- what a payload of class 10 says under a type
+-- no type of the table class has this number
+abbrev pub IsNoTableType : ℕ → Type 0
+IsNoTableType kind = (kind < update) ⊎ (timed_incremental_update < kind)
+
+-- what a payload of the table class says under a type
 abbrev pub SaysOfTable : ℕ → List ℕ → Message → Type 0
-SaysOfTable kind payload (messages.Update id life rest) = (kind ≡ update_kind id life) × ((a b : List ℕ) × (payload ≡ a ++ (b ++ rest)) × SpellsWord a id × SpellsWord b life)
-SaysOfTable kind payload (messages.Define d) = (kind ≡ 130) × Defines payload d
-SaysOfTable kind payload (messages.Switch id) = (kind ≡ 131) × ((a more : List ℕ) × (payload ≡ a ++ more) × Spells a id)
-SaysOfTable kind payload (messages.Acked id last) = (kind ≡ 132) × ((a b more : List ℕ) × (payload ≡ a ++ (b ++ more)) × Spells a id × SpellsWord b (Some last))
-SaysOfTable kind payload (messages.Other class other) = (class ≡ 10) × (other ≡ kind) × ((kind < 128) ⊎ (134 < kind))
+SaysOfTable kind payload (messages.Update id life rest) =
+    (kind ≡ update_kind id life)
+    × ((a b : List ℕ) × (payload ≡ a ++ (b ++ rest)) × SpellsWord a id × SpellsWord b life)
+SaysOfTable kind payload (messages.Define d) = (kind ≡ table_definition) × Defines payload d
+SaysOfTable kind payload (messages.Switch id) =
+    (kind ≡ table_switch) × ((a more : List ℕ) × (payload ≡ a ++ more) × Spells a id)
+SaysOfTable kind payload (messages.Acked id last) =
+    (kind ≡ acknowledgement) × ((a b more : List ℕ) × (payload ≡ a ++ (b ++ more)) × Spells a id
+    × SpellsWord b (Some last))
+SaysOfTable kind payload (messages.Other class other) =
+    (class ≡ table_class) × (other ≡ kind) × IsNoTableType kind
 SaysOfTable kind payload message = ⊥
+
+-- no message has this class
+abbrev pub IsNoClass : ℕ → Type 0
+IsNoClass class = (class ≢ control_class) × (class ≢ error_class) × (class ≢ table_class)
 
 -- what a payload says under a class and a type
 abbrev pub Says : ℕ → ℕ → List ℕ → Message → Type 0
 Says class kind payload message =
-    ((class ≡ 0) × (message ≡ control_of kind)) ⊎ (((class ≡ 1) × (message ≡ error_of kind)) ⊎ (((class ≡ 10) × SaysOfTable kind payload message) ⊎ ((class ≢ 0) × (class ≢ 1) × (class ≢ 10) × (message ≡ messages.Other class kind))))
+    ((class ≡ control_class) × (message ≡ control_of kind))
+    ⊎ (((class ≡ error_class) × (message ≡ error_of kind))
+    ⊎ (((class ≡ table_class) × SaysOfTable kind payload message)
+    ⊎ (IsNoClass class × (message ≡ messages.Other class kind))))
 
--- the text is a class, a type, and from type 128 on the payload's length and the payload, which is within the limit
+-- the text is a class, a type, and from type 128 on the payload's length and the payload, which is
+-- within the limit
 abbrev pub Frames : List ℕ → ℕ → ℕ → List ℕ → Type 0
 Frames text class kind payload =
-    ((kind < 128) × (payload ≡ []) × (text ≡ class ∷ kind ∷ [])) ⊎ ((128 ≤ kind) × (length payload ≤ 16384) × ((size : List ℕ) × Spells size (length payload) × (text ≡ class ∷ kind ∷ (size ++ payload))))
+    ((kind < first_with_payload) × (payload ≡ []) × (text ≡ class ∷ kind ∷ []))
+    ⊎ ((first_with_payload ≤ kind) × (length payload ≤ max_payload)
+    × ((size : List ℕ) × Spells size (length payload) × (text ≡ class ∷ kind ∷ (size ++ payload))))
 
 -- the whole text is this message
 abbrev pub SpellsMessage : List ℕ → Message → Type 0
-SpellsMessage text message = (class kind : ℕ) × (payload : List ℕ) × Frames text class kind payload × Says class kind payload message
+SpellsMessage text message =
+    (class kind : ℕ) × (payload : List ℕ) × Frames text class kind payload
+    × Says class kind payload message
+
+-- a length within the limit, and fewer bytes behind it
+abbrev pub HasCutPayload : List ℕ → Type 0
+HasCutPayload bytes =
+    (size part : List ℕ) × (n : ℕ) × (bytes ≡ size ++ part) × Spells size n
+    × (n ≤ max_payload) × (length part < n)
 
 -- neither a whole message nor a fault: the length is cut short, or the payload is
 abbrev pub IsRest : List ℕ → Type 0
 IsRest [] = Unit {0}
 IsRest (class ∷ []) = Unit {0}
 IsRest (class ∷ kind ∷ bytes) =
-    (128 ≤ kind) × (IsCut bytes ⊎ ((size part : List ℕ) × (n : ℕ) × (bytes ≡ size ++ part) × Spells size n × (n ≤ 16384) × (length part < n)))
+    (first_with_payload ≤ kind) × (IsCut bytes ⊎ HasCutPayload bytes)
 
 -- this fault stands at the front
 abbrev pub IsFaultAt : WireCause → List ℕ → Type 0
-IsFaultAt TooLong (class ∷ kind ∷ bytes) = (128 ≤ kind) × ((n len : ℕ) × IsIntegerAt bytes n len × (16384 < n))
-IsFaultAt BadInteger (class ∷ kind ∷ bytes) = (128 ≤ kind) × IsTooLarge bytes
+IsFaultAt TooLong (class ∷ kind ∷ bytes) =
+    (first_with_payload ≤ kind) × ((n len : ℕ) × IsIntegerAt bytes n len × (max_payload < n))
+IsFaultAt BadInteger (class ∷ kind ∷ bytes) = (first_with_payload ≤ kind) × IsTooLarge bytes
 IsFaultAt BadField bytes =
-    (text more : List ℕ) × (class kind : ℕ) × (payload : List ℕ) × (bytes ≡ text ++ more) × Frames text class kind payload × ((message : Message) → Says class kind payload message → ⊥)
+    (text more : List ℕ) × (class kind : ℕ) × (payload : List ℕ) × (bytes ≡ text ++ more)
+    × Frames text class kind payload × ((message : Message) → Says class kind payload message → ⊥)
 IsFaultAt cause bytes = ⊥
 
--- the bytes are these messages, one after the other, and then the fault, if one is said, or else a rest
+-- the bytes are these messages, one after the other, and then the fault, if one is said, or else a
+-- rest
 abbrev pub Reads : List ℕ → List Message → Option WireCause → Type 0
 Reads bytes [] None = IsRest bytes
 Reads bytes [] (Some cause) = IsFaultAt cause bytes
-Reads bytes (message ∷ others) end = (text more : List ℕ) × (bytes ≡ text ++ more) × SpellsMessage text message × Reads more others end
+Reads bytes (message ∷ others) end =
+    (text more : List ℕ) × (bytes ≡ text ++ more) × SpellsMessage text message
+    × Reads more others end

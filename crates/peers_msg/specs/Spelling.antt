@@ -5,15 +5,19 @@ use Rattle.std.specs.Int.{w32, to_be_bytes}
 use Rattle.peers_msg.specs.declared.message.Definition.{Definition}
 use Rattle.peers_msg.specs.declared.message.Message.{Message}
 use Rattle.peers_msg.specs.declared.message.Message.TheVariants as messages
+use Rattle.peers_msg.specs.Kinds.{control_class, error_class, table_class, resync_request, resync_finished, resync_partial, resync_confirm, heartbeat, protocol_error, size_error, update, incremental_update, table_definition, table_switch, acknowledgement, timed_update, timed_incremental_update, max_payload, last_type}
 
--- the bytes after the first of a spelling, of which one more in the next byte counts 1; at most as many as said
+-- the bytes after the first of a spelling, of which one more in the next byte counts 1; at most as
+-- many as said
 unfoldable pub tail_spelling : ℕ → ℕ → List ℕ
 tail_spelling zero n = n ∷ []
-tail_spelling (suc most) n = if nat_lt n 128 then n ∷ [] else (128 + (n - 128) % 128) ∷ tail_spelling most ((n - 128) / 128)
+tail_spelling (suc most) n =
+    if nat_lt n 128 then n ∷ [] else (128 + (n - 128) % 128) ∷ tail_spelling most ((n - 128) / 128)
 
 -- the one spelling of an integer
 unfoldable pub integer_spelling : ℕ → List ℕ
-integer_spelling n = if nat_lt n 240 then n ∷ [] else (240 + (n - 240) % 16) ∷ tail_spelling n ((n - 240) / 16)
+integer_spelling n =
+    if nat_lt n 240 then n ∷ [] else (240 + (n - 240) % 16) ∷ tail_spelling n ((n - 240) / 16)
 
 -- four bytes, big-endian, where there is a number
 abbrev pub word_spelling : Option ℕ → List ℕ
@@ -26,7 +30,8 @@ pair_spelling p = integer_spelling p.0 ++ integer_spelling p.1
 -- a definition's fields up to the expiry
 abbrev pub fields_spelling : Definition → List ℕ
 fields_spelling d =
-    integer_spelling d.id ++ integer_spelling (length d.name) ++ d.name ++ integer_spelling d.kind ++ integer_spelling d.len ++ integer_spelling d.bits ++ integer_spelling d.expiry
+    integer_spelling d.id ++ integer_spelling (length d.name) ++ d.name ++ integer_spelling d.kind
+    ++ integer_spelling d.len ++ integer_spelling d.bits ++ integer_spelling d.expiry
 
 abbrev pub definition_spelling : Definition → List ℕ
 definition_spelling d = fields_spelling d ++ flat_map pair_spelling d.periods
@@ -42,32 +47,41 @@ payload_spelling message = []
 abbrev pub framed_spelling : ℕ → ℕ → List ℕ → List ℕ
 framed_spelling class kind payload = class ∷ kind ∷ (integer_spelling (length payload) ++ payload)
 
+-- a message of the table class
+abbrev pub table_spelling : ℕ → List ℕ → List ℕ
+table_spelling kind payload = framed_spelling table_class kind payload
+
 -- the type of an update with or without an id and a remaining life
 abbrev pub update_kind : Option ℕ → Option ℕ → ℕ
-update_kind (Some id) None = 128
-update_kind None None = 129
-update_kind (Some id) (Some life) = 133
-update_kind None (Some life) = 134
+update_kind (Some id) None = update
+update_kind None None = incremental_update
+update_kind (Some id) (Some life) = timed_update
+update_kind None (Some life) = timed_incremental_update
 
 -- the one spelling of a message; a message of another kind has none
 unfoldable pub message_spelling : Message → List ℕ
-message_spelling messages.Request = 0 ∷ 0 ∷ []
-message_spelling messages.Finished = 0 ∷ 1 ∷ []
-message_spelling messages.Partial = 0 ∷ 2 ∷ []
-message_spelling messages.Confirm = 0 ∷ 3 ∷ []
-message_spelling messages.Heartbeat = 0 ∷ 4 ∷ []
-message_spelling messages.ProtocolError = 1 ∷ 0 ∷ []
-message_spelling messages.SizeError = 1 ∷ 1 ∷ []
-message_spelling (messages.Update id life rest) = framed_spelling 10 (update_kind id life) (payload_spelling (messages.Update id life rest))
-message_spelling (messages.Define definition) = framed_spelling 10 130 (definition_spelling definition)
-message_spelling (messages.Switch id) = framed_spelling 10 131 (integer_spelling id)
-message_spelling (messages.Acked id last) = framed_spelling 10 132 (payload_spelling (messages.Acked id last))
+message_spelling messages.Request = control_class ∷ resync_request ∷ []
+message_spelling messages.Finished = control_class ∷ resync_finished ∷ []
+message_spelling messages.Partial = control_class ∷ resync_partial ∷ []
+message_spelling messages.Confirm = control_class ∷ resync_confirm ∷ []
+message_spelling messages.Heartbeat = control_class ∷ heartbeat ∷ []
+message_spelling messages.ProtocolError = error_class ∷ protocol_error ∷ []
+message_spelling messages.SizeError = error_class ∷ size_error ∷ []
+message_spelling (messages.Update id life rest) =
+    table_spelling (update_kind id life) (payload_spelling (messages.Update id life rest))
+message_spelling (messages.Define definition) =
+    table_spelling table_definition (definition_spelling definition)
+message_spelling (messages.Switch id) = table_spelling table_switch (integer_spelling id)
+message_spelling (messages.Acked id last) =
+    table_spelling acknowledgement (payload_spelling (messages.Acked id last))
 message_spelling (messages.Other class kind) = []
 
--- A message of a known kind, with a payload within the limit. That of a switch and of an acknowledgement always is.
+-- A message of a known kind, with a payload within the limit. That of a switch and of an
+-- acknowledgement always is.
 abbrev pub IsSendable : Message → Type 0
-IsSendable (messages.Update id life rest) = length (word_spelling id ++ word_spelling life ++ rest) ≤ 16384
-IsSendable (messages.Define definition) = length (definition_spelling definition) ≤ 16384
+IsSendable (messages.Update id life rest) =
+    length (word_spelling id ++ word_spelling life ++ rest) ≤ max_payload
+IsSendable (messages.Define definition) = length (definition_spelling definition) ≤ max_payload
 IsSendable (messages.Other class kind) = ⊥
 IsSendable message = Unit {0}
 
@@ -77,7 +91,7 @@ IsWord (Some n) = n < 2 ^ 32
 
 -- the pair of a data type whose period is read
 abbrev pub IsKeptPair : ℕ × ℕ → Type 0
-IsKeptPair p = (p.0 ≤ 18) × (p.1 < 2 ^ 64)
+IsKeptPair p = (p.0 ≤ last_type) × (p.1 < 2 ^ 64)
 
 -- a definition's numbers are in their ranges, and its pairs are of data types whose period is read
 pub record IsDefinition (d : Definition) : Type 0 where

@@ -7,54 +7,64 @@ ghost use Rattle.peers_msg.specs.Decoded.{IsFirst};
 
 use crate::framing::{Head, head_of};
 use crate::given::Given;
+use crate::kinds::*;
 use crate::payload::{read_acked, read_definition, read_switch, read_update};
 use crate::{Message, WireCause};
 use agg_types::{Items, NoMemory};
 use bytes::{Bytes, BytesMut};
 use std::alloc::Global;
 
-/// The message of a type in class 0.
+/// The message of a type in the control class.
 #[tactic(auto, unfolding(crate::specs::Message::control_of))]
 fn control(kind: u8) -> Message
     ensures { result ≡ control_of kind }
 {
     match kind {
-        0 => Message::Request,
-        1 => Message::Finished,
-        2 => Message::Partial,
-        3 => Message::Confirm,
-        4 => Message::Heartbeat,
-        _ => Message::Other { class: 0, kind },
+        RESYNC_REQUEST => Message::Request,
+        RESYNC_FINISHED => Message::Finished,
+        RESYNC_PARTIAL => Message::Partial,
+        RESYNC_CONFIRM => Message::Confirm,
+        HEARTBEAT => Message::Heartbeat,
+        _ => Message::Other {
+            class: CONTROL_CLASS,
+            kind,
+        },
     }
 }
 
-/// The message of a type in class 1.
+/// The message of a type in the error class.
 #[tactic(auto, unfolding(crate::specs::Message::error_of))]
 fn error(kind: u8) -> Message
     ensures { result ≡ error_of kind }
 {
     match kind {
-        0 => Message::ProtocolError,
-        1 => Message::SizeError,
-        _ => Message::Other { class: 1, kind },
+        PROTOCOL_ERROR => Message::ProtocolError,
+        SIZE_ERROR => Message::SizeError,
+        _ => Message::Other {
+            class: ERROR_CLASS,
+            kind,
+        },
     }
 }
 
-/// The message of a type in class 10.
+/// The message of a type in the table class.
 #[inline]
 #[tactic(auto, unfolding(crate::specs::Message::table_of))]
 fn table(alloc: Global, kind: u8, payload: Bytes) -> Result<Message, WireCause>
     ensures { Gives result (table_of kind payload) }
 {
     match kind {
-        128 => read_update(true, false, payload),
-        129 => read_update(false, false, payload),
-        130 => Ok(Message::Define(read_definition(alloc, payload)?)),
-        131 => read_switch(payload),
-        132 => read_acked(payload),
-        133 => read_update(true, true, payload),
-        134 => read_update(false, true, payload),
-        _ => Ok(Message::Other { class: 10, kind }),
+        UPDATE => read_update(true, false, payload),
+        INCREMENTAL_UPDATE => read_update(false, false, payload),
+        TABLE_DEFINITION => Ok(Message::Define(read_definition(alloc, payload)?)),
+        TABLE_SWITCH => read_switch(payload),
+        ACKNOWLEDGEMENT => read_acked(payload),
+        TIMED_UPDATE => read_update(true, true, payload),
+        TIMED_INCREMENTAL_UPDATE => read_update(false, true, payload),
+        _ => Ok(Message::Other {
+            class: TABLE_CLASS,
+            kind,
+        }),
     }
 }
 
@@ -65,9 +75,9 @@ fn message(alloc: Global, class: u8, kind: u8, payload: Bytes) -> Result<Message
     ensures { Gives result (message_of class kind payload) }
 {
     match class {
-        0 => Ok(control(kind)),
-        1 => Ok(error(kind)),
-        10 => table(alloc, kind, payload),
+        CONTROL_CLASS => Ok(control(kind)),
+        ERROR_CLASS => Ok(error(kind)),
+        TABLE_CLASS => table(alloc, kind, payload),
         _ => Ok(Message::Other { class, kind }),
     }
 }

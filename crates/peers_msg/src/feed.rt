@@ -1,6 +1,6 @@
 //! A stream of messages that comes in pieces.
 
-ghost use Rattle.std.specs.Prelude.{◌≡◌, ◌+◌, ◌++◌, ◌<◌, ℕ, List, [], length, take, IfOk, OnOk, OnErr};
+ghost use Rattle.std.specs.Prelude.{◌≡◌, ◌≢◌, ◌+◌, ◌++◌, ◌<◌, ℕ, List, [], length, take, Some, Err, IsSome, IfOk, IfErr, IsOkAnd, OnOk, OnErr};
 
 use crate::decoding::decode;
 use crate::framing::{Head, head_of};
@@ -32,12 +32,16 @@ impl Model for Feed {
 
     ghost Value = { Kept };
 
-    ghost view = { λ feed. record { rest = feed.frozen ++ feed.growing.items; fault = feed.fault } };
+    ghost view = { λ feed. record {
+      rest = feed.frozen ++ feed.growing.items;
+      fault = feed.fault;
+    } };
 
     ghost invariant = { λ feed. IsKept (feed.frozen ++ feed.growing.items) feed.fault };
 }
 
 impl Feed {
+    ghost use Rattle.peers_msg.specs.Kinds.{longest_head, max_payload};
     ghost use Rattle.peers_msg.specs.Message.{reading_of};
     ghost use Rattle.peers_msg.specs.Feed.{feed_of, fed, kept_of, kept_after, Answers, GoesOn, HasRead};
 
@@ -69,22 +73,31 @@ impl Feed {
         ensures stands { (taken : List ℕ) → self.old ≡ feed_of taken
             → self.new ≡ kept_after result (feed_of taken) (reading_of (taken ++ piece.now)) }
 
+        // After a fault its cause comes for good, and never want of memory.
+        ensures ended { IfErr result (λ fault. fault.cause ≢ WireCause.NoMemory
+            → self.new.fault ≡ Some fault.cause) }
+        ensures for_good { (cause : WireCause) → self.old.fault ≡ Some cause
+            → (cause ≢ WireCause.NoMemory) × (self.new ≡ self.old)
+            × (result ≡ Err (record { cause = cause; before = [] })) }
+
         // Less than one message is kept.
-        ensures bounded { length self.new.rest < 12 + 16384 }
+        ensures bounded { length self.new.rest < longest_head + max_payload }
     {
+        // What every feed keeps of itself is known here, and behind the call: the last clauses.
+        let _ = &self.growing;
         let handed_out = self.take_piece(piece);
-        // What every feed keeps of itself is known here: the last clause.
         let _ = &self.growing;
         handed_out
     }
 
-    /// Reads the next piece, for a caller that can still fail before it has dealt with the messages.
+    /// Reads the next piece, for a caller that can still fail before it has dealt with what it says.
     ///
     /// `Some` is what the piece gives, with the feed as it was: `commit` takes the piece, and the
     /// piece may be read again where nothing was committed. `None` where there is no message and no
     /// fault: then the piece is taken. `NoMemory` leaves the feed as it was.
     pub fn read(&mut self, piece: &[u8]) -> Result<Option<Given>, NoMemory>
-        ensures { HasRead result self.old self.new (fed self.old piece.now) }
+        ensures reading { HasRead result self.old self.new (fed self.old piece.now) }
+        ensures faulty { IsSome self.old.fault → IsOkAnd result IsSome }
     {
         if let Some(cause) = self.fault {
             let none = Items::from_vec(Vec::new(self.alloc));
@@ -117,6 +130,8 @@ impl Feed {
     fn take_piece(&mut self, piece: &[u8]) -> Result<Items<Message>, WireFault>
         ensures answer { Answers result (fed self.old piece.now) }
         ensures after { self.new ≡ kept_after result self.old (fed self.old piece.now) }
+        ensures faulty { (cause : WireCause) → self.old.fault ≡ Some cause
+            → result ≡ Err (record { cause = cause; before = [] }) }
     {
         let none = Items::from_vec(Vec::new(self.alloc));
         match self.read(piece) {
@@ -132,6 +147,8 @@ impl Feed {
     fn hand_out(&mut self, given: Given) -> Result<Items<Message>, WireFault>
         ensures answer { Answers result given }
         ensures after { self.new ≡ kept_after result self.old given }
+        ensures faulty { (cause : WireCause) → given.fault ≡ Some cause
+            → result ≡ Err (record { cause = cause; before = given.messages }) }
     {
         let fault = given.fault();
         let messages = self.commit(given);

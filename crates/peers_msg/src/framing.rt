@@ -6,12 +6,7 @@ ghost use Rattle.peers_msg.specs.Decoded.{IsHead, HeadFits};
 
 use crate::WireCause;
 use crate::integer::read_int;
-
-/// The greatest length of a payload in bytes.
-pub(crate) const MAX_PAYLOAD: u64 = 16_384;
-
-/// The least type whose messages have a payload.
-pub(crate) const FIRST_WITH_PAYLOAD: u8 = 128;
+use crate::kinds::{FIRST_WITH_PAYLOAD, MAX_PAYLOAD};
 
 /// What stands at the front of bytes.
 #[derive(Clone, Copy, Debug)]

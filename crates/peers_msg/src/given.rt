@@ -3,6 +3,7 @@
 ghost use Rattle.std.specs.Prelude.{◌≡◌, ◌+◌, ◌<◌, [], length, None, Some};
 ghost use Rattle.peers_msg.specs.Decoded.{IsWireFault};
 ghost use Rattle.peers_msg.specs.Kept.{IsKept};
+ghost use Rattle.peers_msg.specs.Kinds.{longest_head, max_payload};
 
 use crate::{Message, WireCause};
 use agg_types::Items;
@@ -25,7 +26,11 @@ impl Model for Given {
 
     ghost Value = { Reading };
 
-    ghost view = { λ given. record { messages = given.messages; fault = given.fault; rest = given.rest.items } };
+    ghost view = { λ given. record {
+      messages = given.messages;
+      fault = given.fault;
+      rest = given.rest.items;
+    } };
 
     ghost invariant = { λ given. IsKept given.rest.items given.fault };
 }
@@ -33,7 +38,7 @@ impl Model for Given {
 impl Given {
     /// Messages and the bytes behind them, which hold no fault and are less than a message.
     pub(crate) fn whole(messages: Items<Message>, rest: BytesMut) -> Given
-        requires { length rest.items < 12 + 16384 }
+        requires { length rest.items < longest_head + max_payload }
         ensures { result ≡ record { messages = messages; fault = None; rest = rest.items } }
     {
         Given {

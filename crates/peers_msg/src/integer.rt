@@ -25,7 +25,8 @@ pub fn get_int(bytes: &[u8]) -> Result<Option<(u64, usize)>, IntTooLarge>
 
     // The same as a function of the bytes.
     ensures exact { result ≡ integer_at bytes.now }
-    ensures within { IfOk result (λ found. IfSome found (λ x. (0 < x.1) × (x.1 ≤ length bytes.now))) }
+    ensures within { IfOk result
+        (λ found. IfSome found (λ x. (0 < x.1) × (x.1 ≤ length bytes.now))) }
 {
     read_int(bytes)
 }
@@ -35,7 +36,8 @@ pub fn get_int(bytes: &[u8]) -> Result<Option<(u64, usize)>, IntTooLarge>
 #[tactic(auto, unfolding(crate::specs::Numeral::integer_at))]
 pub(crate) fn read_int(bytes: &[u8]) -> Result<Option<(u64, usize)>, IntTooLarge>
     ensures exact { result ≡ integer_at bytes.now }
-    ensures within { IfOk result (λ found. IfSome found (λ x. (0 < x.1) × (x.1 ≤ length bytes.now))) }
+    ensures within { IfOk result
+        (λ found. IfSome found (λ x. (0 < x.1) × (x.1 ≤ length bytes.now))) }
 {
     match bytes {
         [] => Ok(None),
@@ -53,7 +55,8 @@ pub(crate) fn read_int(bytes: &[u8]) -> Result<Option<(u64, usize)>, IntTooLarge
 fn get_long_int(first: u8, rest: &[u8]) -> Result<Option<(u64, usize)>, IntTooLarge>
     requires { 240 ≤ first }
     ensures exact { result ≡ integer_at (first ∷ rest.now) }
-    ensures within { IfOk result (λ found. IfSome found (λ x. (0 < x.1) × (x.1 ≤ length rest.now + 1))) }
+    ensures within { IfOk result
+        (λ found. IfSome found (λ x. (0 < x.1) × (x.1 ≤ length rest.now + 1))) }
 {
     let mut value = u64::from(first);
     let mut weight = 16_u64;

@@ -17,12 +17,13 @@ pub fn one_spelling()
     ensures alone { (a b x y : List ℕ) → IsSpelling a → IsSpelling b → a ++ x ≡ b ++ y → a ≡ b }
 {}
 
-/// All bytes have one reading: whole messages one after the other, and then a rest or a fault. It is
-/// the one that `reading_of` gives.
+/// All bytes have one reading: whole messages one after the other, and then a rest or a fault. It
+/// is the one that `reading_of` gives.
 pub fn one_reading()
     ensures reads { (bytes : List ℕ) → AreBytes bytes
         → Reads bytes (reading_of bytes).messages (reading_of bytes).fault }
-    ensures only { (bytes : List ℕ) (messages : List Message) (end : Option WireCause) → AreBytes bytes
+    ensures only { (bytes : List ℕ) (messages : List Message) (end : Option WireCause)
+        → AreBytes bytes
         → Reads bytes messages end
         → (messages ≡ (reading_of bytes).messages) × (end ≡ (reading_of bytes).fault) }
 {}

@@ -5,13 +5,11 @@ ghost use Rattle.peers_msg.specs.Gives.{Gives, GivesBefore};
 ghost use Rattle.peers_msg.specs.Payload.{number_at, word_at, word_if, string_at, pair_at, pairs_at, definition_of, switch_of, acked_of, update_of};
 
 use crate::integer::read_int;
+use crate::kinds::LAST_TYPE;
 use crate::{Definition, Message, WireCause};
 use agg_types::{Items, NoMemory};
 use bytes::Bytes;
 use std::alloc::Global;
-
-/// The greatest id of a data type whose period is kept.
-const LAST_TYPE: u64 = 18;
 
 /// Takes the encoded integer at the front.
 #[inline]

@@ -3,9 +3,11 @@
 ghost use Rattle.std.specs.Prelude.{◌≡◌, ◌++◌, ◌∷◌, [], length, take, OnOk, OnErr};
 ghost use Rattle.std.specs.List.{flat_map};
 ghost use Rattle.std.specs.Int.{w32, to_be_bytes};
-ghost use Rattle.peers_msg.specs.Spelling.{IsSendable, integer_spelling, pair_spelling, word_spelling, fields_spelling, definition_spelling, framed_spelling, update_kind, message_spelling};
+ghost use Rattle.peers_msg.specs.Kinds.{table_definition, table_switch, acknowledgement};
+ghost use Rattle.peers_msg.specs.Spelling.{IsSendable, integer_spelling, pair_spelling, word_spelling, fields_spelling, definition_spelling, table_spelling, update_kind, message_spelling};
 
 use crate::integer::append_int;
+use crate::kinds::*;
 use crate::{Definition, Message};
 use agg_types::NoMemory;
 
@@ -33,13 +35,13 @@ fn append_message(message: &Message, out: &mut Vec<u8>) -> Result<(), NoMemory>
     ensures begins { take (length out.old.items) out.new.items ≡ out.old.items }
 {
     match message {
-        Message::Request => append_short(0, 0, out),
-        Message::Finished => append_short(0, 1, out),
-        Message::Partial => append_short(0, 2, out),
-        Message::Confirm => append_short(0, 3, out),
-        Message::Heartbeat => append_short(0, 4, out),
-        Message::ProtocolError => append_short(1, 0, out),
-        Message::SizeError => append_short(1, 1, out),
+        Message::Request => append_short(CONTROL_CLASS, RESYNC_REQUEST, out),
+        Message::Finished => append_short(CONTROL_CLASS, RESYNC_FINISHED, out),
+        Message::Partial => append_short(CONTROL_CLASS, RESYNC_PARTIAL, out),
+        Message::Confirm => append_short(CONTROL_CLASS, RESYNC_CONFIRM, out),
+        Message::Heartbeat => append_short(CONTROL_CLASS, HEARTBEAT, out),
+        Message::ProtocolError => append_short(ERROR_CLASS, PROTOCOL_ERROR, out),
+        Message::SizeError => append_short(ERROR_CLASS, SIZE_ERROR, out),
         Message::Update { id, life, rest } => append_update(*id, *life, rest.as_slice(), out),
         Message::Define(definition) => append_definition(definition, out),
         Message::Switch(id) => append_switch(*id, out),
@@ -56,12 +58,12 @@ fn append_short(class: u8, kind: u8, out: &mut Vec<u8>) -> Result<(), NoMemory>
     Ok(out.extend_from_slice(&[class, kind])?)
 }
 
-/// Appends a message of class 10 with a payload.
+/// Appends a message of the table class with a payload.
 fn append_framed(kind: u8, payload: &[u8], out: &mut Vec<u8>) -> Result<(), NoMemory>
-    ensures ok { OnOk result (out.new.items ≡ out.old.items ++ framed_spelling 10 kind payload.now) }
+    ensures ok { OnOk result (out.new.items ≡ out.old.items ++ table_spelling kind payload.now) }
     ensures begins { take (length out.old.items) out.new.items ≡ out.old.items }
 {
-    append_short(10, kind, out)?;
+    append_short(TABLE_CLASS, kind, out)?;
     append_int(payload.len() as u64, out)?;
     Ok(out.extend_from_slice(payload)?)
 }
@@ -81,10 +83,10 @@ fn kind_of_update(id: Option<u32>, life: Option<u32>) -> u8
     ensures { result ≡ update_kind id life }
 {
     match (id, life) {
-        (Some(_), None) => 128,
-        (None, None) => 129,
-        (Some(_), Some(_)) => 133,
-        (None, Some(_)) => 134,
+        (Some(_), None) => UPDATE,
+        (None, None) => INCREMENTAL_UPDATE,
+        (Some(_), Some(_)) => TIMED_UPDATE,
+        (None, Some(_)) => TIMED_INCREMENTAL_UPDATE,
     }
 }
 
@@ -96,7 +98,8 @@ fn append_update(
     out: &mut Vec<u8>,
 ) -> Result<(), NoMemory>
     ensures ok { OnOk result (out.new.items ≡ out.old.items
-        ++ framed_spelling 10 (update_kind id life) (word_spelling id ++ word_spelling life ++ rest.now)) }
+        ++ table_spelling (update_kind id life) (word_spelling id ++ word_spelling life
+        ++ rest.now)) }
     ensures begins { take (length out.old.items) out.new.items ≡ out.old.items }
 {
     let mut payload = Vec::new(*out.allocator());
@@ -108,36 +111,37 @@ fn append_update(
 
 /// Appends a switch.
 fn append_switch(id: u64, out: &mut Vec<u8>) -> Result<(), NoMemory>
-    ensures ok { OnOk result (out.new.items ≡ out.old.items ++ framed_spelling 10 131 (integer_spelling id)) }
+    ensures ok { OnOk result (out.new.items ≡ out.old.items
+        ++ table_spelling table_switch (integer_spelling id)) }
     ensures begins { take (length out.old.items) out.new.items ≡ out.old.items }
 {
     let mut payload = Vec::new(*out.allocator());
     append_int(id, &mut payload)?;
-    append_framed(131, payload.as_slice(), out)
+    append_framed(TABLE_SWITCH, payload.as_slice(), out)
 }
 
 /// Appends an acknowledgement.
 fn append_acked(id: u64, last: u32, out: &mut Vec<u8>) -> Result<(), NoMemory>
     ensures ok { OnOk result (out.new.items ≡ out.old.items
-        ++ framed_spelling 10 132 (integer_spelling id ++ to_be_bytes w32 last)) }
+        ++ table_spelling acknowledgement (integer_spelling id ++ to_be_bytes w32 last)) }
     ensures begins { take (length out.old.items) out.new.items ≡ out.old.items }
 {
     let mut payload = Vec::new(*out.allocator());
     append_int(id, &mut payload)?;
     payload.extend_from_slice(&last.to_be_bytes())?;
-    append_framed(132, payload.as_slice(), out)
+    append_framed(ACKNOWLEDGEMENT, payload.as_slice(), out)
 }
 
 /// Appends a definition.
 fn append_definition(definition: &Definition, out: &mut Vec<u8>) -> Result<(), NoMemory>
     ensures ok { OnOk result (out.new.items ≡ out.old.items
-        ++ framed_spelling 10 130 (definition_spelling definition.now)) }
+        ++ table_spelling table_definition (definition_spelling definition.now)) }
     ensures begins { take (length out.old.items) out.new.items ≡ out.old.items }
 {
     let mut payload = Vec::new(*out.allocator());
     append_fields(definition, &mut payload)?;
     append_pairs(definition.periods.as_slice(), &mut payload)?;
-    append_framed(130, payload.as_slice(), out)
+    append_framed(TABLE_DEFINITION, payload.as_slice(), out)
 }
 
 /// Appends the fields of a definition up to the expiry.

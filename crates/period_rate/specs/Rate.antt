@@ -6,7 +6,8 @@ use Rattle.period_rate.specs.declared.rate.Rate.{Rate}
 abbrev pub zero_moment : Rate → ℕ
 zero_moment r = r.zero_at
 
--- the elapsed time at a moment. It grows by 1 a ms, counts as 0 before the current period began, and stays from `zero_moment` on
+-- the elapsed time at a moment. It grows by 1 a ms, counts as 0 before the current period began,
+-- and stays from `zero_moment` on
 abbrev pub elapsed_at : Rate → ℕ → ℕ
 elapsed_at r t = 2 * r.period + 1 - (r.zero_at - t)
 

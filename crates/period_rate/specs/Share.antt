@@ -4,13 +4,17 @@ use Rattle.std.specs.Prelude.{ℕ, ◌+◌, ◌-◌, ◌*◌, ◌/◌, ◌==◌,
 -- A lone event of the period before counts whole until the period ends.
 unfoldable pub while_running : ℕ → ℕ → ℕ → ℕ → ℕ
 while_running period previous current elapsed =
-    if (current == 0) && nat_le previous 1 then previous else current + previous * (period - elapsed) / period
+    if (current == 0) && nat_le previous 1 then previous
+    else current + previous * (period - elapsed) / period
 
--- in the period after it: the share of its events that the time left has. A lone event counts whole.
+-- in the period after it: the share of its events that the time left has. A lone event counts
+-- whole.
 unfoldable pub once_ended : ℕ → ℕ → ℕ → ℕ
-once_ended period current elapsed = if nat_le current 1 then current else current * (2 * period - elapsed) / period
+once_ended period current elapsed =
+    if nat_le current 1 then current else current * (2 * period - elapsed) / period
 
--- the events of one period's length up to a moment `elapsed` ms after the current period began, rounded down
+-- the events of one period's length up to a moment `elapsed` ms after the current period began,
+-- rounded down
 unfoldable pub rate : ℕ → ℕ → ℕ → ℕ → ℕ
 rate period previous current elapsed =
     if period == 0

@@ -1,7 +1,8 @@
 use Rattle.std.specs.Prelude.{ℕ, ◌+◌, ◌*◌, ◌^◌, List, slice_index}
 use Rattle.period_rate.specs.declared.rate.Rate.{Rate}
 
--- the rate that five words stand for: its period, the low and the high half of the moment from which it is 0, and its two counts
+-- the rate that five words stand for: its period, the low and the high half of the moment from
+-- which it is 0, and its two counts
 abbrev pub rate_of : List ℕ → Rate
 rate_of words = record {
   period = slice_index words 0;

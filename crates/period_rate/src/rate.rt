@@ -51,8 +51,8 @@ impl Rate {
         events(period, self.prev, self.cur, elapsed)
     }
 
-    /// The first moment at which the elapsed time is above two periods: from there on the rate is 0.
-    /// Where that was so before the clock began, it is 0.
+    /// The first moment at which the elapsed time is above two periods: from there on the rate is
+    /// 0. Where that was so before the clock began, it is 0.
     pub fn zero_at(&self) -> u64
         ensures { result ≡ zero_moment self.now }
     {
@@ -124,46 +124,5 @@ fn events_once_ended(period: u64, cur: u32, elapsed: u64) -> u64
         u64::from(cur)
     } else {
         u64::from(cur) * (2 * period - elapsed) / period
-    }
-}
-
-#[cfg(test)]
-mod tests {
-    use super::*;
-
-    #[test]
-    fn falls_as_the_rule_says(rt: HostRuntime) {
-        let shared = Rate::arrive(10_000, 0, 30, 100, 0);
-        let lone_before = Rate::arrive(1000, 0, 0, 1, 0);
-        let lone = Rate::arrive(1000, 0, 1, 0, 0);
-        let late = Rate::arrive(1000, 500, 3, 1, 7);
-        let table = [
-            (shared, 0, 130),
-            (shared, 2500, 105),
-            (shared, 2900, 101),
-            (shared, 2901, 100),
-            (shared, 10_000, 30),
-            (shared, 10_001, 29),
-            (shared, 19_666, 1),
-            (shared, 19_667, 0),
-            (shared, 20_000, 0),
-            (lone_before, 0, 1),
-            (lone_before, 1000, 1),
-            (lone_before, 1001, 0),
-            (lone, 1000, 1),
-            (lone, 2000, 1),
-            (lone, 2001, 0),
-            (late, 7, 3),
-            (late, 508, 2),
-            (late, 1507, 0),
-        ];
-        for (rate, t, events) in table {
-            assert_eq!(rt; rate.at(t), events, "at {t}");
-        }
-        assert_eq!(rt; late.zero_at(), 1508);
-        let far = Rate::arrive(1, 0, 2, 3, (1 << 33) + 5);
-        assert_eq!(rt; far.to_words(), [1, 8, 2, 2, 3]);
-        assert_eq!(rt; Rate::from_words(far.to_words()), far);
-        assert_eq!(rt; Rate::arrive(1000, 9000, 3, 1, 7).zero_at(), 0);
     }
 }

@@ -1,4 +1,3 @@
 pub mod Chosen
 pub mod Counting
 pub mod Listings
-pub mod Clock

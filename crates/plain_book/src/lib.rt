@@ -6,6 +6,7 @@
 mod book;
 mod clears;
 mod listing;
+mod machine;
 mod next;
 mod queries;
 mod ranking;

@@ -79,7 +79,7 @@ fn config(alloc: Global, col: Col, period: u32, tests: &[(Op, u64)]) -> Result<C
 
 /// A book of such a fleet, in which seat 0 tells moments and seats 1 and 2 speak for the peers.
 fn fleet(alloc: Global, col: Col, period: u32, tests: &[(Op, u64)]) -> Result<Book, NoMemory> {
-    let mut book = Book::new(alloc, config(alloc, col, period, tests)?, 0);
+    let mut book = Book::new(alloc, config(alloc, col, period, tests)?, 0)?;
     for seat in 0..3u64 {
         happen(&mut book, seat, &What::Sit)?;
     }

@@ -111,6 +111,9 @@ fn open<W: Write>(
     lines: &[&[u8]],
     out: &mut W,
 ) -> io::Result<Ending> {
+    if config.check().is_err() || opening > LAST_MOMENT {
+        return Ok(Ending::Failed);
+    }
     let Ok(mut fleet) = Fleet::new(alloc, config, opening) else {
         return Ok(Ending::Failed);
     };
@@ -222,6 +225,11 @@ fn do_step<W: Write>(
     step: &Step,
     out: &mut W,
 ) -> io::Result<Ending> {
+    match step.fits(alloc, fleet.book().config()) {
+        Ok(true) => {}
+        Ok(false) => return Ok(Ending::Failed),
+        Err(NoMemory) => return no_memory(out),
+    }
     match fleet.step(step) {
         Ok(replies) => {
             let conn = replies.conn;
@@ -239,7 +247,7 @@ fn do_step<W: Write>(
             return Ok(Ending::Failed);
         }
         Err(FleetFault::Session { cause, out: sent }) => {
-            let conn = conn_of(step);
+            let conn = step.conn();
             if !print_sent(alloc, conn, sent.as_slice(), out)? {
                 return no_memory(out);
             }
@@ -250,13 +258,6 @@ fn do_step<W: Write>(
         return no_memory(out);
     }
     Ok(Ending::Done)
-}
-
-fn conn_of(step: &Step) -> u64 {
-    match step {
-        Step::Bytes(conn, _) | Step::Lost(conn) => *conn,
-        _ => 0,
-    }
 }
 
 // Prints what is sent, if anything is; false where there is no memory for it.

@@ -24,7 +24,7 @@ pub fn show_table(alloc: Global, book: &Book, table: usize) -> Result<String, No
 fn write_heading(text: &mut String, shape: &Shape, used: usize) -> Result<(), NoMemory> {
     let size = shape.size;
     text.push_str("# table: ")?;
-    write_printable(text, shape.name.as_slice())?;
+    write_name(text, shape.name.as_slice())?;
     text.push_str(", type: ")?;
     text.push_str(kind_name(shape.kind))?;
     writeln!(text, ", size:{size}, used:{used}")?;
@@ -114,6 +114,14 @@ fn write_ipv6(text: &mut String, key: &[u8]) -> Result<(), NoMemory> {
 fn write_hex(text: &mut String, bytes: &[u8]) -> Result<(), NoMemory> {
     for byte in bytes {
         write!(text, "{byte:02x}")?;
+    }
+    Ok(())
+}
+
+// A name as it is: its bytes are 33 to 126.
+fn write_name(text: &mut String, name: &[u8]) -> Result<(), NoMemory> {
+    for byte in name {
+        text.push(char::from(*byte))?;
     }
     Ok(())
 }

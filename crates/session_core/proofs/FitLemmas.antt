@@ -28,9 +28,9 @@ use Rattle.session_core.specs.declared.cause.SessionCause.{SessionCause}
 use Rattle.session_core.specs.declared.cause.SessionCause.TheVariants as causes
 use Rattle.session_core.specs.declared.cause.Status.{Status}
 use Rattle.session_core.specs.declared.cause.Status.TheVariants.{LocalName}
-use Rattle.session_core.specs.declared.stage.Taken.{Taken}
-use Rattle.session_core.specs.declared.track.Heard.{Heard}
-use Rattle.session_core.specs.declared.track.Heard.TheVariants.{Nothing, Confirm, Partial, Fact, End}
+use Rattle.session_core.specs.declared.stage.StageOutcome.{StageOutcome}
+use Rattle.session_core.specs.declared.track.Meaning.{Meaning}
+use Rattle.session_core.specs.declared.track.Meaning.TheVariants.{Nothing, Confirm, Partial, Fact, End}
 use Rattle.session_core.specs.declared.track.Followed.{Followed}
 use Rattle.session_core.specs.declared.values.Sent.{Sent}
 use Rattle.session_core.specs.declared.values.Sent.TheVariants.{Absent, Count, Rate}
@@ -39,12 +39,12 @@ use Rattle.session_core.specs.Hello as hello
 use Rattle.session_core.specs.Hello.{admitted, hello_of, line_at, peer_of, receiver_line, sender_line, sender_of, unless, version_fault}
 use Rattle.session_core.specs.InForce.{followed_ids, table_in_force}
 use Rattle.session_core.specs.Piece.{setup_of}
-use Rattle.session_core.specs.Standing.{Answers, FaultAnswers, Standing}
+use Rattle.session_core.specs.State.{Answers, FaultAnswers, SessionState}
 use Rattle.session_core.specs.Talk.{Words, is_too_many, meaning, row_or_end, talk, talk_after, update_under, words_of, words_on}
-use Rattle.session_core.specs.Told.{FactsFit, FaultTells, Tells}
+use Rattle.session_core.specs.TalkAnswers.{FactsFit, FaultAnswersTalk, AnswersTalk}
 use Rattle.session_core.specs.Tracked.{followed_of, put_of}
 use Rattle.session_core.specs.Values.{bytes_at, cell_of, cells_of, count_cell, key_at, life_of, rate_cell, sents_at, text_at}
-use Rattle.session_core.proofs.HearLemmas.{bool_tells, none_some}
+use Rattle.session_core.proofs.MeaningLemmas.{bool_tells, none_some}
 use Rattle.session_core.proofs.TrackLemmas.{lt_tells}
 
 -- ---- cells
@@ -181,7 +181,7 @@ meaning_fits config peer past (messages.Switch id) fact within e = elim (nothing
 meaning_fits config peer past (messages.Acked id last) fact within e = elim (nothing_fact fact e) [ ]
 meaning_fits config peer past (messages.Other class kind) fact within e = elim (nothing_fact fact e) [ ]
 
-words_on_fit : (config : Config) (past : List Message) (words : Words) (heard : Heard) → ((fact : What) → heard ≡ Fact fact → fits config fact ≡ true) → list_all (fits config) words.facts ≡ true → list_all (fits config) (words_on past words heard).facts ≡ true
+words_on_fit : (config : Config) (past : List Message) (words : Words) (heard : Meaning) → ((fact : What) → heard ≡ Fact fact → fits config fact ≡ true) → list_all (fits config) words.facts ≡ true → list_all (fits config) (words_on past words heard).facts ≡ true
 words_on_fit config past words Nothing is h = h
 words_on_fit config past words Confirm is h = h
 words_on_fit config past words Partial is h = h
@@ -260,13 +260,13 @@ grown_fit config seated taken piece facts e =
     and_second (list_all (fits config) (talk (setup_of config) seated taken).facts) (list_all (fits config) facts)
     (sym (list_all-append (fits config) (talk (setup_of config) seated taken).facts facts) ∙ ap (list_all (fits config)) (sym e) ∙ talk_fits config seated (taken ++ piece))
 
-fault_fits : (config : Config) (seated : Bool) (taken piece : List ℕ) (cause : SessionCause) (batch : Batched) (old new : Standing) (now : ℕ) (x : Taken) → FaultTells cause batch (setup_of config) seated taken piece new.stage → FaultAnswers cause batch old new piece now x → list_all (fits config) batch.facts ≡ true
+fault_fits : (config : Config) (seated : Bool) (taken piece : List ℕ) (cause : SessionCause) (batch : Batched) (old new : SessionState) (now : ℕ) (x : StageOutcome) → FaultAnswersTalk cause batch (setup_of config) seated taken piece new.stage → FaultAnswers cause batch old new piece now x → list_all (fits config) batch.facts ≡ true
 fault_fits config seated taken piece causes.NoMemory batch old new now x tells answers = ap (λ (b : Batched). list_all (fits config) b.facts) answers.0
 fault_fits config seated taken piece (causes.Refused status) batch old new now x tells answers = grown_fit config seated taken piece batch.facts tells.grows.facts
 fault_fits config seated taken piece (causes.Wire wire) batch old new now x tells answers = grown_fit config seated taken piece batch.facts tells.grows.facts
 fault_fits config seated taken piece causes.PeerError batch old new now x tells answers = grown_fit config seated taken piece batch.facts tells.grows.facts
 fault_fits config seated taken piece causes.TimedOut batch old new now x tells answers = grown_fit config seated taken piece batch.facts tells.grows.facts
 
-pub answer_fits : (config : Config) (seated : Bool) (taken piece : List ℕ) (result : Result Batched SessionFault) (old new : Standing) (now : ℕ) (x : Taken) → Tells result (setup_of config) seated taken piece new.stage → Answers result old new piece now x → FactsFit config result
+pub answer_fits : (config : Config) (seated : Bool) (taken piece : List ℕ) (result : Result Batched SessionFault) (old new : SessionState) (now : ℕ) (x : StageOutcome) → AnswersTalk result (setup_of config) seated taken piece new.stage → Answers result old new piece now x → FactsFit config result
 answer_fits config seated taken piece (Ok batch) old new now x tells answers = grown_fit config seated taken piece batch.facts tells.grows.facts
 answer_fits config seated taken piece (Err fault) old new now x tells answers = fault_fits config seated taken piece fault.cause fault.batch old new now x tells answers

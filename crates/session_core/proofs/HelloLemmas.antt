@@ -8,7 +8,7 @@ use Rattle.session_core.specs.declared.cause.Status.{Status}
 use Rattle.session_core.specs.declared.cause.Status.TheVariants.{LocalName}
 use Rattle.session_core.specs.Hello.{◌>>=◌, admitted, hello_of, line_at, peer_of, receiver_line, sender_line, sender_of, split_line, unless, version_fault}
 use Rattle.session_core.proofs.TrackLemmas.{lt_tells}
-use Rattle.session_core.proofs.HearLemmas.{bool_tells}
+use Rattle.session_core.proofs.MeaningLemmas.{bool_tells}
 
 -- what was read stays, with more bytes behind what is left, and so does a refusal
 abbrev pub Longer : {A : Type 0} → Result (Option (A × List ℕ)) Status → Result (Option (A × List ℕ)) Status → List ℕ → Type 0
@@ -24,7 +24,7 @@ prefix_stays q (x ∷ a) b lt =
       | inr e ↦ rw e refl
     ]
 
-prefix_past : (q : ℕ → Bool) (a b : List ℕ) → length a ≤ prefix_len q a → length a ≤ prefix_len q (a ++ b)
+pub prefix_past : (q : ℕ → Bool) (a b : List ℕ) → length a ≤ prefix_len q a → length a ≤ prefix_len q (a ++ b)
 prefix_past q [] b le = omega arith
 prefix_past q (x ∷ a) b le =
     elim (bool_tells (q x)) [

@@ -2,9 +2,12 @@ pub mod ValueLemmas
 pub mod RunLemmas
 pub mod PieceLemmas
 pub mod TrackLemmas
-pub mod HearLemmas
+pub mod MeaningLemmas
 pub mod TalkLemmas
 pub mod HelloLemmas
 pub mod PieceTalk
-pub mod ToldLemmas
+pub mod TalkAnswerLemmas
 pub mod FitLemmas
+pub mod OverLemmas
+pub mod HelloLineLemmas
+pub mod CountedLemmas

@@ -18,19 +18,19 @@ use Rattle.session_core.specs.declared.cause.End.TheVariants.{Wire}
 use Rattle.session_core.specs.declared.cause.Status.{Status}
 use Rattle.session_core.specs.declared.stage.Stage.{Stage}
 use Rattle.session_core.specs.declared.stage.Stage.TheVariants.{Talking, Over}
-use Rattle.session_core.specs.declared.stage.Taken.{Taken}
+use Rattle.session_core.specs.declared.stage.StageOutcome.{StageOutcome}
 use Rattle.session_core.specs.Hello.{hello_of}
-use Rattle.session_core.specs.Piece.{Setup, conversed, end_of, end_text, first_end, greeted, opened, piece_of, said_before, status_text, talked, welcome}
+use Rattle.session_core.specs.Piece.{Setup, run_outcome, end_of, end_text, first_end, hello_outcome, accepted_outcome, piece_of, with_front, status_text, messages_outcome, welcome}
 use Rattle.session_core.specs.Run.{Run, acks_of}
 use Rattle.session_core.specs.Talk.{Grows, Talk, Words, accepted_talk, acks_among, end_read, said_at, stage_after, stage_at, stage_of, talk, talk_after, talk_read, track_for, words_of, words_read}
 use Rattle.session_core.specs.InForce.{followed_ids, is_updated, last_id}
 use Rattle.session_core.specs.Tracked.{Tracked}
-use Rattle.session_core.proofs.HearLemmas.{some_of}
+use Rattle.session_core.proofs.MeaningLemmas.{some_of}
 use Rattle.session_core.proofs.HelloLemmas.{Longer, hello_longer}
 use Rattle.session_core.proofs.TalkLemmas.{acks_are, run_for, run_is, settled_is, words_append, words_behind, words_end}
 
 -- what is given and left, against the talk before and after, and where it stands
-pub record Gives (setup : Setup) (old new : Talk) (taken : Taken) (stage : Stage) : Type 0 where
+pub record Gives (setup : Setup) (old new : Talk) (taken : StageOutcome) (stage : Stage) : Type 0 where
   pub grows : Grows setup old new taken.batch
   pub end : new.end ≡ taken.end
   pub stage_is : taken.stage ≡ stage
@@ -42,7 +42,7 @@ stage_for tables peer kept words None = Talking (record { peer = peer; feed = ke
 stage_for tables peer kept words (Some end) = Over end (Some peer)
 
 -- what a piece of messages with these words gives
-abbrev pub piece_for : List Shape → ℕ → Kept → Words → Option Ending → Taken
+abbrev pub piece_for : List Shape → ℕ → Kept → Words → Option Ending → StageOutcome
 piece_for tables peer kept words end =
     record {
       stage = stage_for tables peer kept words end;
@@ -50,13 +50,13 @@ piece_for tables peer kept words end =
       end = end;
     }
 
-taken_same : {facts : List What} {a b c d : List ℕ} {s t : Stage} (end : Option Ending) → s ≡ t → a ≡ b → c ≡ d → (let x : Taken = record { stage = s; batch = record { facts = facts; replies = a; acks = c }; end = end } in x) ≡ (let x : Taken = record { stage = t; batch = record { facts = facts; replies = b; acks = d }; end = end } in x)
+taken_same : {facts : List What} {a b c d : List ℕ} {s t : Stage} (end : Option Ending) → s ≡ t → a ≡ b → c ≡ d → (let x : StageOutcome = record { stage = s; batch = record { facts = facts; replies = a; acks = c }; end = end } in x) ≡ (let x : StageOutcome = record { stage = t; batch = record { facts = facts; replies = b; acks = d }; end = end } in x)
 taken_same end e f g = rw (e, f, g) refl
 
 acks_same : (tables : List Shape) (words : Words) → acks_of (track_for tables (0 + words.count) words.past).entries ≡ acks_among tables words.count words.past
 acks_same tables words = acks_are tables (0 + words.count) words.past ∙ ap (λ n. acks_among tables n words.past) (zero-add words.count)
 
-conversed_is : (tables : List Shape) (peer : ℕ) (kept : Kept) (words : Words) (end : Option Ending) → conversed peer kept (run_for tables 0 words) end ≡ piece_for tables peer kept words end
+conversed_is : (tables : List Shape) (peer : ℕ) (kept : Kept) (words : Words) (end : Option Ending) → run_outcome peer kept (run_for tables 0 words) end ≡ piece_for tables peer kept words end
 conversed_is tables peer kept words None =
     taken_same None (ap (λ (t : Tracked). Talking (record { peer = peer; feed = kept; track = t })) (settled_is tables (0 + words.count) words.past)) (sym (append-nil words.replies)) (acks_same tables words)
 conversed_is tables peer kept words (Some end) = taken_same (Some end) refl refl (acks_same tables words)
@@ -64,10 +64,10 @@ conversed_is tables peer kept words (Some end) = taken_same (Some end) refl refl
 abbrev end_for : Words → Reading → Option Ending
 end_for words reading = first_end words.end (option_map (λ wire. Wire wire) reading.fault)
 
-talked_is : (tables : List Shape) (peer : ℕ) (past : List Message) (reading : Reading) → talked tables peer (track_for tables 0 past) reading ≡ piece_for tables peer (kept_of reading) (words_of tables peer past reading.messages) (end_for (words_of tables peer past reading.messages) reading)
-unfolding talked
+talked_is : (tables : List Shape) (peer : ℕ) (past : List Message) (reading : Reading) → messages_outcome tables peer (track_for tables 0 past) reading ≡ piece_for tables peer (kept_of reading) (words_of tables peer past reading.messages) (end_for (words_of tables peer past reading.messages) reading)
+unfolding messages_outcome
 talked_is tables peer past reading =
-    ap (λ (r : Run). conversed peer (kept_of reading) r (end_of r reading)) (run_is tables peer 0 past reading.messages)
+    ap (λ (r : Run). run_outcome peer (kept_of reading) r (end_of r reading)) (run_is tables peer 0 past reading.messages)
     ∙ conversed_is tables peer (kept_of reading) (words_of tables peer past reading.messages) (end_for (words_of tables peer past reading.messages) reading)
 
 -- ---- the three states of a hello
@@ -88,18 +88,18 @@ stage_for_is tables peer reading (Some end) = refl
 less_none : (n : ℕ) → n ≡ n - 0
 less_none n = omega arith
 
-opened_gives : (setup : Setup) (hello : ℕ × List ℕ) → Gives setup (talk_after setup.tables (Ok None)) (talk_read setup.tables hello.0 (reading_of hello.1)) (opened setup.tables hello) (stage_at setup.tables hello.0 (reading_of hello.1) (end_read setup.tables hello.0 (reading_of hello.1)))
+opened_gives : (setup : Setup) (hello : ℕ × List ℕ) → Gives setup (talk_after setup.tables (Ok None)) (talk_read setup.tables hello.0 (reading_of hello.1)) (accepted_outcome setup.tables hello) (stage_at setup.tables hello.0 (reading_of hello.1) (end_read setup.tables hello.0 (reading_of hello.1)))
 opened_gives setup hello =
     let reading = reading_of hello.1 in
-    let is : opened setup.tables hello ≡ said_before (Open hello.0 ∷ []) welcome (piece_for setup.tables hello.0 (kept_of reading) (words_read setup.tables hello.0 reading) (end_read setup.tables hello.0 reading)) =
-    ap (said_before (Open hello.0 ∷ []) welcome) (talked_is setup.tables hello.0 [] reading) in
+    let is : accepted_outcome setup.tables hello ≡ with_front (Open hello.0 ∷ []) welcome (piece_for setup.tables hello.0 (kept_of reading) (words_read setup.tables hello.0 reading) (end_read setup.tables hello.0 reading)) =
+    ap (with_front (Open hello.0 ∷ []) welcome) (talked_is setup.tables hello.0 [] reading) in
     rw is (record {
       grows = record { facts = refl; replies = refl; acks = ap (λ n. acks_among setup.tables n (words_read setup.tables hello.0 reading).past) (less_none (words_read setup.tables hello.0 reading).count) };
       end = refl;
       stage_is = stage_for_is setup.tables hello.0 reading (end_read setup.tables hello.0 reading);
     })
 
-greeting_gives : (setup : Setup) (bytes : List ℕ) (hello : Result (Option (ℕ × List ℕ)) Status) → Gives setup (talk_after setup.tables (Ok None)) (talk_after setup.tables hello) (greeted setup.tables bytes hello) (stage_after setup.tables bytes hello)
+greeting_gives : (setup : Setup) (bytes : List ℕ) (hello : Result (Option (ℕ × List ℕ)) Status) → Gives setup (talk_after setup.tables (Ok None)) (talk_after setup.tables hello) (hello_outcome setup.tables bytes hello) (stage_after setup.tables bytes hello)
 greeting_gives setup bytes (Ok None) =
     record { grows = record { facts = refl; replies = refl; acks = no_acks setup.tables }; end = refl; stage_is = refl }
 greeting_gives setup bytes (Err status) =
@@ -108,7 +108,7 @@ greeting_gives setup bytes (Ok (Some hello)) = opened_gives setup hello
 
 -- ---- more bytes behind an accepted hello
 
-carry : {setup : Setup} {old old' new new' : Talk} {taken taken' : Taken} {stage stage' : Stage} → old ≡ old' → new ≡ new' → taken ≡ taken' → stage ≡ stage' → Gives setup old' new' taken' stage' → Gives setup old new taken stage
+carry : {setup : Setup} {old old' new new' : Talk} {taken taken' : StageOutcome} {stage stage' : Stage} → old ≡ old' → new ≡ new' → taken ≡ taken' → stage ≡ stage' → Gives setup old' new' taken' stage' → Gives setup old new taken stage
 carry e f g h gives = rw (e, f, g, h) gives
 
 talk_is : (tables : List Shape) (peer : ℕ) (reading : Reading) (words : Words) (end : Option Ending) → words_read tables peer reading ≡ words → end_read tables peer reading ≡ end → talk_read tables peer reading ≡ accepted_talk peer words end
@@ -166,7 +166,7 @@ more_gives setup peer kept first second end =
 talking_piece : (setup : Setup) (seated : Bool) (piece : List ℕ) (peer : ℕ) (old : Reading) (words : Words) → words_read setup.tables peer old ≡ words → piece_of setup seated (stage_at setup.tables peer old None) piece ≡ piece_for setup.tables peer (kept_of (fed (kept_of old) piece)) (words_of setup.tables peer words.past (fed (kept_of old) piece).messages) (end_for (words_of setup.tables peer words.past (fed (kept_of old) piece).messages) (fed (kept_of old) piece))
 unfolding piece_of
 talking_piece setup seated piece peer old words is =
-    ap (λ (w : Words). talked setup.tables peer (track_for setup.tables 0 w.past) (fed (kept_of old) piece)) is ∙ talked_is setup.tables peer words.past (fed (kept_of old) piece)
+    ap (λ (w : Words). messages_outcome setup.tables peer (track_for setup.tables 0 w.past) (fed (kept_of old) piece)) is ∙ talked_is setup.tables peer words.past (fed (kept_of old) piece)
 
 -- a reading that goes on, behind its end
 ended_gives : (setup : Setup) (seated : Bool) (piece : List ℕ) (peer : ℕ) (old new : Reading) (end : Ending) → words_read setup.tables peer new ≡ words_read setup.tables peer old → end_read setup.tables peer old ≡ Some end → end_read setup.tables peer new ≡ Some end → Gives setup (talk_read setup.tables peer old) (talk_read setup.tables peer new) (piece_of setup seated (stage_at setup.tables peer old (end_read setup.tables peer old)) piece) (stage_at setup.tables peer new (end_read setup.tables peer new))

@@ -5,8 +5,8 @@ use Rattle.peers_msg.specs.declared.message.Message.{Message}
 use Rattle.agg_types.specs.declared.config.Shape.{Shape}
 use Rattle.agg_types.specs.declared.event.What.{What}
 use Rattle.session_core.specs.declared.cause.End.{End as Ending}
-use Rattle.session_core.specs.declared.track.Heard.{Heard}
-use Rattle.session_core.specs.Tracked.{Tracked, Step, hear, Gave}
+use Rattle.session_core.specs.declared.track.Meaning.{Meaning}
+use Rattle.session_core.specs.Tracked.{Tracked, Step, step_of, IsStep}
 use Rattle.session_core.specs.Run.{Run, Ran, run, run_step, run_on, behind}
 
 -- What is there, and what the messages that are left give behind it, is what all of them give behind what was there.
@@ -16,15 +16,15 @@ pub record GoesOn (old_facts facts : List What) (old_replies replies : List ℕ)
   pub track_is : left.track ≡ all.track
   pub end_is : left.end ≡ all.end
 
-step_is : (step : Step) (track : Tracked) (heard : Heard) → Gave track heard step → step ≡ record { track = track; heard = heard }
+step_is : (step : Step) (track : Tracked) (heard : Meaning) → IsStep track heard step → step ≡ record { track = track; meaning = heard }
 step_is step track heard gave = rw (gave.0, gave.1) refl
 
 -- the run of what is left, where it is known what the next message did
-pub run_next : (tables : List Shape) (peer : ℕ) (t : Tracked) (messages : List Message) (i : ℕ) (message : Message) (track : Tracked) (heard : Heard) → i < length messages → message ≡ get_or messages i message → Gave track heard (hear tables peer t message) → run tables peer t (drop i messages) ≡ run_on (λ next. run tables peer next (drop (i + 1) messages)) track heard
+pub run_next : (tables : List Shape) (peer : ℕ) (t : Tracked) (messages : List Message) (i : ℕ) (message : Message) (track : Tracked) (heard : Meaning) → i < length messages → message ≡ get_or messages i message → IsStep track heard (step_of tables peer t message) → run tables peer t (drop i messages) ≡ run_on (λ next. run tables peer next (drop (i + 1) messages)) track heard
 unfolding run
 run_next tables peer t messages i message track heard lt is gave =
     let next = λ (next : Tracked). run tables peer next (drop (i + 1) messages) in
-    at_drop_more (run tables peer t) messages i message lt ∙ ap (λ m. run_step next (hear tables peer t m)) (sym is) ∙ ap (run_step next) (step_is _ _ _ gave)
+    at_drop_more (run tables peer t) messages i message lt ∙ ap (λ m. run_step next (step_of tables peer t m)) (sym is) ∙ ap (run_step next) (step_is _ _ _ gave)
 
 pub goes_on_none : (facts : List What) (replies : List ℕ) (run : Run) → GoesOn facts facts replies replies run run
 goes_on_none facts replies run = record { facts_are = refl; replies_are = refl; track_is = refl; end_is = refl }

@@ -6,14 +6,14 @@ use Rattle.agg_types.specs.declared.config.Shape.{Shape}
 use Rattle.agg_types.specs.declared.event.What.{What}
 use Rattle.session_core.specs.declared.cause.End.{End as Ending}
 use Rattle.session_core.specs.declared.track.Entry.{Entry}
-use Rattle.session_core.specs.declared.track.Heard.{Heard}
-use Rattle.session_core.specs.declared.track.Heard.TheVariants.{Nothing, Confirm, Partial, Fact, End}
+use Rattle.session_core.specs.declared.track.Meaning.{Meaning}
+use Rattle.session_core.specs.declared.track.Meaning.TheVariants.{Nothing, Confirm, Partial, Fact, End}
 use Rattle.session_core.specs.InForce.{followed_ids, id_in_force}
 use Rattle.session_core.specs.Run.{Run, ack_of, acks_of, behind, run, run_on, run_step, settled, settled_entry, resync_confirm, resync_partial}
 use Rattle.session_core.specs.Talk.{Words, acks_among, after_one, current_for, entries_for, entry_for, meaning, track_for, words_of, words_on}
 use Rattle.session_core.specs.Tracked.{Tracked, place, place_if}
 use Rattle.session_core.specs.InForce.{followed_under}
-use Rattle.session_core.proofs.HearLemmas.{hear_is, kept_by, place_for}
+use Rattle.session_core.proofs.MeaningLemmas.{hear_is, kept_by, place_for}
 
 -- a run that says these words
 abbrev pub run_for : List Shape → ℕ → Words → Run
@@ -24,7 +24,7 @@ shifted tables newest facts replies words =
     let e : suc newest + words.count ≡ newest + suc words.count = omega arith in
     ap (λ (n : ℕ). let r : Run = record { track = track_for tables n words.past; facts = facts ++ words.facts; replies = replies ++ words.replies; end = words.end } in r) e
 
-run_on_is : (tables : List Shape) (newest : ℕ) (past : List Message) (new : Tracked) (next : Tracked → Run) (words : Words) (heard : Heard) → next new ≡ run_for tables (suc newest) words → run_on next (kept_by heard (track_for tables newest past) new) heard ≡ run_for tables newest (words_on past words heard)
+run_on_is : (tables : List Shape) (newest : ℕ) (past : List Message) (new : Tracked) (next : Tracked → Run) (words : Words) (heard : Meaning) → next new ≡ run_for tables (suc newest) words → run_on next (kept_by heard (track_for tables newest past) new) heard ≡ run_for tables newest (words_on past words heard)
 run_on_is tables newest past new next words Nothing is = is ∙ shifted tables newest [] [] words
 run_on_is tables newest past new next words Confirm is = ap (behind [] resync_confirm) is ∙ shifted tables newest [] resync_confirm words
 run_on_is tables newest past new next words Partial is = ap (behind [] resync_partial) is ∙ shifted tables newest [] resync_partial words
@@ -86,7 +86,7 @@ one_behind facts replies first second =
     words_same n (sym (append_assoc facts first.facts second.facts)) (sym (append_assoc replies first.replies second.replies))
 
 -- after messages that don't end the session, the words of more stand behind theirs
-words_on_append : (past : List Message) (first all : Words) (next : List Message → Words) (heard : Heard) → (first.end ≡ None → all ≡ words_behind first (next first.past)) → (words_on past first heard).end ≡ None → words_on past all heard ≡ words_behind (words_on past first heard) (next (words_on past first heard).past)
+words_on_append : (past : List Message) (first all : Words) (next : List Message → Words) (heard : Meaning) → (first.end ≡ None → all ≡ words_behind first (next first.past)) → (words_on past first heard).end ≡ None → words_on past all heard ≡ words_behind (words_on past first heard) (next (words_on past first heard).past)
 words_on_append past first all next Nothing is goes = ap (after_one [] []) (is goes) ∙ one_behind [] [] first (next first.past)
 words_on_append past first all next Confirm is goes = ap (after_one [] resync_confirm) (is goes) ∙ one_behind [] resync_confirm first (next first.past)
 words_on_append past first all next Partial is goes = ap (after_one [] resync_partial) (is goes) ∙ one_behind [] resync_partial first (next first.past)
@@ -100,7 +100,7 @@ words_append tables peer past (message ∷ messages) more goes =
     words_on_append past (words_of tables peer (message ∷ past) messages) (words_of tables peer (message ∷ past) (messages ++ more)) (λ p. words_of tables peer p more) (meaning tables peer past message) (words_append tables peer (message ∷ past) messages more) goes
 
 -- after the end nothing more is read
-words_on_end : (past : List Message) (first all : Words) (heard : Heard) (end : Ending) → (first.end ≡ Some end → all ≡ first) → (words_on past first heard).end ≡ Some end → words_on past all heard ≡ words_on past first heard
+words_on_end : (past : List Message) (first all : Words) (heard : Meaning) (end : Ending) → (first.end ≡ Some end → all ≡ first) → (words_on past first heard).end ≡ Some end → words_on past all heard ≡ words_on past first heard
 words_on_end past first all Nothing end is over = ap (after_one [] []) (is over)
 words_on_end past first all Confirm end is over = ap (after_one [] resync_confirm) (is over)
 words_on_end past first all Partial end is over = ap (after_one [] resync_partial) (is over)

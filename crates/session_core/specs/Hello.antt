@@ -7,7 +7,8 @@ use Rattle.session_core.specs.declared.cause.Status.TheVariants.{TryLater, Proto
 
 infixl 10 ◌>>=◌
 -- goes on with what is there; waits where it isn't there yet, and stops at a refusal
-abbrev pub ◌>>=◌ : {A B : Type 0} → Result (Option A) Status → (A → Result (Option B) Status) → Result (Option B) Status
+abbrev pub ◌>>=◌ : {A B : Type 0} → Result (Option A) Status → (A → Result (Option B) Status)
+    → Result (Option B) Status
 (Ok (Some x)) >>= f = f x
 (Ok None) >>= f = Ok None
 (Err status) >>= f = Err status
@@ -20,12 +21,16 @@ seen view (Err status) = Err status
 
 -- a line without one CR at its end
 abbrev pub without_cr : List ℕ → List ℕ
-without_cr line = if option_map_or (λ byte. byte == 13) (slice_get line (length line - 1)) false then take (length line - 1) line else line
+without_cr line =
+    if option_map_or (λ byte. byte == 13) (slice_get line (length line - 1)) false
+    then take (length line - 1) line else line
 
 -- a line of at most 256 bytes before its LF, and the bytes after the LF
 abbrev pub split_line : List ℕ → Option ℕ → Result (Option (List ℕ × List ℕ)) Status
 split_line bytes None = if nat_lt 256 (length bytes) then Err Protocol else Ok None
-split_line bytes (Some end) = if nat_lt 256 end then Err Protocol else Ok (Some (without_cr (take end bytes), drop (end + 1) bytes))
+split_line bytes (Some end) =
+    if nat_lt 256 end then Err Protocol
+    else Ok (Some (without_cr (take end bytes), drop (end + 1) bytes))
 
 unfoldable pub line_at : List ℕ → Result (Option (List ℕ × List ℕ)) Status
 line_at bytes = split_line bytes (position (λ byte. byte == 10) bytes)
@@ -33,7 +38,9 @@ line_at bytes = split_line bytes (position (λ byte. byte == 10) bytes)
 -- what is wrong with the first line
 unfoldable pub version_fault : List ℕ → Option Status
 version_fault line =
-    if bytes_eq (take 9 line) (codes "HAProxyS ") then (if bytes_eq (drop 9 line) (codes "2.0") || bytes_eq (drop 9 line) (codes "2.1") then None else Some Version) else Some Protocol
+    if bytes_eq (take 9 line) (codes "HAProxyS ")
+    then (if bytes_eq (drop 9 line) (codes "2.0") || bytes_eq (drop 9 line) (codes "2.1") then None
+    else Some Version) else Some Protocol
 
 -- the name at the front of the third line, up to its first space
 abbrev pub sender_of : List ℕ → List ℕ
@@ -56,17 +63,21 @@ sender_line peers seated bytes = do
   admitted seated line.1 (peer_of peers (sender_of line.0))
 
 -- from the second line on
-unfoldable pub receiver_line : List ℕ → List (List ℕ) → Bool → List ℕ → Result (Option (ℕ × List ℕ)) Status
+unfoldable pub receiver_line : List ℕ → List (List ℕ) → Bool → List ℕ
+    → Result (Option (ℕ × List ℕ)) Status
 receiver_line me peers seated bytes = do
   line ← line_at bytes
   if bytes_eq me line.0 then sender_line peers seated line.1 else Err LocalName
 
-abbrev pub unless : Option Status → Result (Option (ℕ × List ℕ)) Status → Result (Option (ℕ × List ℕ)) Status
+abbrev pub unless : Option Status → Result (Option (ℕ × List ℕ)) Status
+    → Result (Option (ℕ × List ℕ)) Status
 unless None next = next
 unless (Some fault) next = Err fault
 
--- the peer that a hello to this receiver names, and the bytes after the hello; None where the hello isn't whole
-unfoldable pub hello_of : List ℕ → List (List ℕ) → Bool → List ℕ → Result (Option (ℕ × List ℕ)) Status
+-- the peer that a hello to this receiver names, and the bytes after the hello; None where the hello
+-- isn't whole
+unfoldable pub hello_of : List ℕ → List (List ℕ) → Bool → List ℕ
+    → Result (Option (ℕ × List ℕ)) Status
 hello_of me peers seated bytes = do
   line ← line_at bytes
   unless (version_fault line.0) (receiver_line me peers seated line.1)

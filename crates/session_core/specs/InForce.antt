@@ -1,5 +1,6 @@
--- Which table an update is under, and its id, told by the messages before it. Lists of messages are newest first here: what stands last counts.
-use Rattle.std.specs.Prelude.{ℕ, zero, suc, Bool, false, nat_lt, ◌==◌, ◌&&◌, ◌||◌, is_some, if◌then◌else◌, List, [], ◌∷◌, Option, Some, None}
+-- Which table an update is under, and its id, told by the messages before it. Lists of messages are
+-- newest first here: what stands last counts.
+use Rattle.std.specs.Prelude.{ℕ, zero, suc, ◌+◌, ◌%◌, ◌^◌, ◌++◌, option_to_list, Bool, false, nat_lt, ◌==◌, ◌&&◌, ◌||◌, is_some, if◌then◌else◌, List, [], ◌∷◌, Option, Some, None}
 use Rattle.std.specs.Option.{option_map_or}
 use Rattle.peers_msg.specs.declared.message.Definition.{Definition}
 use Rattle.peers_msg.specs.declared.message.Message.{Message}
@@ -63,7 +64,9 @@ table_in_force tables past = id_in_force past >>= λ id. followed_under tables i
 
 -- whether an update after these messages is a followed one of this id
 abbrev pub is_under : List Shape → ℕ → List Message → Bool
-is_under tables id past = option_map_or (λ other. other == id) (id_in_force past) false && is_some (followed_under tables id past)
+is_under tables id past =
+    option_map_or (λ other. other == id) (id_in_force past) false && is_some
+    (followed_under tables id past)
 
 -- the explicit id of an update, None where it has none; None of all for what is no update
 abbrev pub update_of_message : Message → Option (Option ℕ)
@@ -87,21 +90,27 @@ id_given under (Some explicit) last = if under then id_after last explicit else 
 -- the last update id of a sender's table id: each followed update of it gives one; 0 at first
 abbrev pub last_id : List Shape → ℕ → List Message → ℕ
 last_id tables id [] = 0
-last_id tables id (message ∷ past) = id_given (is_under tables id past) (update_of_message message) (last_id tables id past)
+last_id tables id (message ∷ past) =
+    id_given (is_under tables id past) (update_of_message message) (last_id tables id past)
 
 -- whether there is a followed update of this id among the newest messages, so many of them
 abbrev pub is_updated : List Shape → ℕ → ℕ → List Message → Bool
 is_updated tables id zero past = false
 is_updated tables id (suc newest) [] = false
-is_updated tables id (suc newest) (message ∷ past) = (is_some (update_of_message message) && is_under tables id past) || is_updated tables id newest past
+is_updated tables id (suc newest) (message ∷ past) =
+    (is_some (update_of_message message) && is_under tables id past) || is_updated tables id newest
+    past
 
 -- an id among ascending ones
 abbrev pub with_id : ℕ → List ℕ → List ℕ
 with_id id [] = id ∷ []
-with_id id (other ∷ ids) = if nat_lt other id then other ∷ with_id id ids else if other == id then other ∷ ids else id ∷ other ∷ ids
+with_id id (other ∷ ids) =
+    if nat_lt other id then other ∷ with_id id ids else if other == id then other ∷ ids
+    else id ∷ other ∷ ids
 
 abbrev pub with_followed : List Shape → Message → List ℕ → List ℕ
-with_followed tables (messages.Define definition) ids = if is_some (followed_of tables definition) then with_id definition.id ids else ids
+with_followed tables (messages.Define definition) ids =
+    if is_some (followed_of tables definition) then with_id definition.id ids else ids
 with_followed tables (messages.Switch id) ids = ids
 with_followed tables messages.Request ids = ids
 with_followed tables messages.Finished ids = ids
@@ -118,3 +127,31 @@ with_followed tables (messages.Other class kind) ids = ids
 abbrev pub followed_ids : List Shape → List Message → List ℕ
 followed_ids tables [] = []
 followed_ids tables (message ∷ past) = with_followed tables message (followed_ids tables past)
+
+-- ---- the same update id, counted
+
+-- the ids of the followed updates of a sender's table id, as they were sent, newest first
+abbrev pub followed_updates : List Shape → ℕ → List Message → List (Option ℕ)
+followed_updates tables id [] = []
+followed_updates tables id (message ∷ past) =
+    if is_under tables id past
+    then option_to_list (update_of_message message) ++ followed_updates tables id past
+    else followed_updates tables id past
+
+-- the last explicit id, 0 if there is none
+abbrev pub last_explicit : List (Option ℕ) → ℕ
+last_explicit [] = 0
+last_explicit (Some explicit ∷ older) = explicit
+last_explicit (None ∷ older) = last_explicit older
+
+-- how many incremental updates came since
+abbrev pub incremental_since : List (Option ℕ) → ℕ
+incremental_since [] = 0
+incremental_since (Some explicit ∷ older) = 0
+incremental_since (None ∷ older) = suc (incremental_since older)
+
+-- the last update id: the explicit one, or so many after it, modulo 2^32
+abbrev pub counted_id : List (Option ℕ) → ℕ
+counted_id [] = 0
+counted_id (Some explicit ∷ older) = explicit
+counted_id (None ∷ older) = (last_explicit older + suc (incremental_since older)) % 2 ^ 32

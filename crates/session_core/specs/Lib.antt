@@ -1,4 +1,5 @@
 pub mod Hello
+pub mod HelloLines
 pub mod Values
 pub mod Cause
 pub mod Tracked
@@ -6,7 +7,7 @@ pub mod Run
 pub mod Batched
 pub mod Piece
 pub mod Silence
-pub mod Standing
+pub mod State
 pub mod InForce
 pub mod Talk
-pub mod Told
+pub mod TalkAnswers

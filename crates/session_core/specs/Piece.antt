@@ -3,6 +3,8 @@ use Rattle.std.specs.Prelude.{◌≡◌, ℕ, Bool, List, [], ◌∷◌, ◌++�
 use Rattle.std.specs.Option.{option_map}
 use Rattle.peers_msg.specs.declared.fault.WireCause.TheVariants.{TooLong, BadInteger, BadField, NoMemory}
 use Rattle.peers_msg.specs.Kept.{Kept}
+use Rattle.peers_msg.specs.Spelling.{message_spelling}
+use Rattle.peers_msg.specs.declared.message.Message.TheVariants as messages
 use Rattle.peers_msg.specs.Message.{Reading, reading_of}
 use Rattle.peers_msg.specs.Feed.{fed, kept_of}
 use Rattle.agg_types.specs.declared.config.Config.{Config}
@@ -15,8 +17,8 @@ use Rattle.session_core.specs.declared.cause.End.{End}
 use Rattle.session_core.specs.declared.cause.End.TheVariants as ends
 use Rattle.session_core.specs.declared.stage.Stage.{Stage}
 use Rattle.session_core.specs.declared.stage.Stage.TheVariants.{Greeting, Talking, Over}
-use Rattle.session_core.specs.declared.stage.Said.{Said}
-use Rattle.session_core.specs.declared.stage.Taken.{Taken}
+use Rattle.session_core.specs.declared.stage.Outcome.{Outcome}
+use Rattle.session_core.specs.declared.stage.StageOutcome.{StageOutcome}
 use Rattle.session_core.specs.declared.track.Entry.{Entry}
 use Rattle.session_core.specs.Batched.{Batched}
 use Rattle.session_core.specs.Hello.{hello_of}
@@ -43,9 +45,9 @@ status_text status.RemoteName = codes "504\n"
 
 -- what is sent at the end of a stream of messages: size limit reached, or protocol error
 abbrev pub end_text : End → List ℕ
-end_text (ends.Wire TooLong) = 1 ∷ 1 ∷ []
-end_text (ends.Wire BadInteger) = 1 ∷ 0 ∷ []
-end_text (ends.Wire BadField) = 1 ∷ 0 ∷ []
+end_text (ends.Wire TooLong) = message_spelling messages.SizeError
+end_text (ends.Wire BadInteger) = message_spelling messages.ProtocolError
+end_text (ends.Wire BadField) = message_spelling messages.ProtocolError
 end_text (ends.Wire NoMemory) = []
 end_text (ends.Refused status) = []
 end_text ends.PeerError = []
@@ -63,67 +65,95 @@ abbrev pub end_of : Run → Reading → Option End
 end_of run reading = first_end run.end (option_map (λ wire. ends.Wire wire) reading.fault)
 
 -- what a piece of messages gives, where it ends the session and where it doesn't
-abbrev pub conversed : ℕ → Kept → Run → Option End → Taken
-conversed peer kept run None =
+abbrev pub run_outcome : ℕ → Kept → Run → Option End → StageOutcome
+run_outcome peer kept run None =
     record {
-      stage = Talking (record { peer = peer; feed = kept; track = record { entries = settled run.track.entries; current = run.track.current } });
+      stage = Talking (record {
+        peer = peer;
+        feed = kept;
+        track = record { entries = settled run.track.entries; current = run.track.current };
+      });
       batch = record { facts = run.facts; replies = run.replies; acks = acks_of run.track.entries };
       end = None;
     }
-conversed peer kept run (Some end) =
+run_outcome peer kept run (Some end) =
     record {
       stage = Over end (Some peer);
-      batch = record { facts = run.facts; replies = run.replies ++ end_text end; acks = acks_of run.track.entries };
+      batch = record {
+        facts = run.facts;
+        replies = run.replies ++ end_text end;
+        acks = acks_of run.track.entries;
+      };
       end = Some end;
     }
 
-unfoldable pub talked : List Shape → ℕ → Tracked → Reading → Taken
-talked tables peer track reading =
-    conversed peer (kept_of reading) (run tables peer track reading.messages) (end_of (run tables peer track reading.messages) reading)
+unfoldable pub messages_outcome : List Shape → ℕ → Tracked → Reading → StageOutcome
+messages_outcome tables peer track reading =
+    run_outcome peer (kept_of reading) (run tables peer track reading.messages)
+    (end_of (run tables peer track reading.messages) reading)
 
 -- behind what was said before it in the same piece
-abbrev pub said_before : List What → List ℕ → Taken → Taken
-said_before facts replies taken =
-    record { stage = taken.stage; batch = record { facts = facts ++ taken.batch.facts; replies = replies ++ taken.batch.replies; acks = taken.batch.acks }; end = taken.end }
+abbrev pub with_front : List What → List ℕ → StageOutcome → StageOutcome
+with_front facts replies taken =
+    record {
+      stage = taken.stage;
+      batch = record {
+        facts = facts ++ taken.batch.facts;
+        replies = replies ++ taken.batch.replies;
+        acks = taken.batch.acks;
+      };
+      end = taken.end;
+    }
 
 -- what answers an accepted hello: 200, and a resync request
 abbrev pub welcome : List ℕ
-welcome = codes "200\n" ++ (0 ∷ 0 ∷ [])
+welcome = codes "200\n" ++ message_spelling messages.Request
 
 abbrev pub untracked : Tracked
 untracked = record { entries = []; current = None }
 
-abbrev pub opened : List Shape → ℕ × List ℕ → Taken
-opened tables hello = said_before (Open hello.0 ∷ []) welcome (talked tables hello.0 untracked (reading_of hello.1))
+abbrev pub accepted_outcome : List Shape → ℕ × List ℕ → StageOutcome
+accepted_outcome tables hello =
+    with_front (Open hello.0 ∷ []) welcome
+    (messages_outcome tables hello.0 untracked (reading_of hello.1))
 
-abbrev pub refused : Status → Taken
-refused status =
-    record { stage = Over (ends.Refused status) None; batch = record { facts = []; replies = status_text status; acks = [] }; end = Some (ends.Refused status) }
+abbrev pub refused_outcome : Status → StageOutcome
+refused_outcome status =
+    record {
+      stage = Over (ends.Refused status) None;
+      batch = record { facts = []; replies = status_text status; acks = [] };
+      end = Some (ends.Refused status);
+    }
 
-abbrev pub greeted : List Shape → List ℕ → Result (Option (ℕ × List ℕ)) Status → Taken
-greeted tables bytes (Ok None) = record { stage = Greeting bytes; batch = nothing; end = None }
-greeted tables bytes (Err status) = refused status
-greeted tables bytes (Ok (Some hello)) = opened tables hello
+abbrev pub hello_outcome : List Shape → List ℕ → Result (Option (ℕ × List ℕ)) Status → StageOutcome
+hello_outcome tables bytes (Ok None) =
+    record { stage = Greeting bytes; batch = nothing; end = None }
+hello_outcome tables bytes (Err status) = refused_outcome status
+hello_outcome tables bytes (Ok (Some hello)) = accepted_outcome tables hello
 
 -- what a piece gives, from what is kept
-unfoldable pub piece_of : Setup → Bool → Stage → List ℕ → Taken
-piece_of setup seated (Greeting bytes) piece = greeted setup.tables (bytes ++ piece) (hello_of setup.me setup.peers seated (bytes ++ piece))
-piece_of setup seated (Talking dialogue) piece = talked setup.tables dialogue.peer dialogue.track (fed dialogue.feed piece)
-piece_of setup seated (Over end peer) piece = record { stage = Over end peer; batch = nothing; end = Some end }
+unfoldable pub piece_of : Setup → Bool → Stage → List ℕ → StageOutcome
+piece_of setup seated (Greeting bytes) piece =
+    hello_outcome setup.tables (bytes
+    ++ piece) (hello_of setup.me setup.peers seated (bytes ++ piece))
+piece_of setup seated (Talking dialogue) piece =
+    messages_outcome setup.tables dialogue.peer dialogue.track (fed dialogue.feed piece)
+piece_of setup seated (Over end peer) piece =
+    record { stage = Over end peer; batch = nothing; end = Some end }
 
 -- what a piece gives, and where the session stands after it
-abbrev pub taken : Said → Stage → Taken
-taken said stage = record { stage = stage; batch = said.batch; end = said.end }
+abbrev pub with_stage : Outcome → Stage → StageOutcome
+with_stage outcome stage = record { stage = stage; batch = outcome.batch; end = outcome.end }
 
 -- where a peer's session stands after a piece that showed this end, or none
-abbrev pub ended : Stage → ℕ → Option End → Stage
-ended stage peer None = stage
-ended stage peer (Some end) = Over end (Some peer)
+abbrev pub stage_at_end : Stage → ℕ → Option End → Stage
+stage_at_end stage peer None = stage
+stage_at_end stage peer (Some end) = Over end (Some peer)
 
 -- what is sent at an end
-abbrev pub ending : Option End → List ℕ
-ending None = []
-ending (Some end) = end_text end
+abbrev pub end_reply : Option End → List ℕ
+end_reply None = []
+end_reply (Some end) = end_text end
 
 -- no id has an update that wasn't acknowledged
 abbrev pub AreSettled : List Entry → Type 0

@@ -1,4 +1,5 @@
--- What a session keeps of its sender's tables: for each id that was ever followed its last update id and its definition.
+-- What a session keeps of its sender's tables: for each id that was ever followed its last update
+-- id and its definition.
 use Rattle.std.specs.Prelude.{◌≡◌, ℕ, ◌+◌, ◌%◌, ◌^◌, Bool, true, false, nat_le, nat_lt, ◌==◌, ◌&&◌, if◌then◌else◌, List, [], ◌∷◌, length, insert, position, slice_get, slice_set, Option, Some, None}
 use Rattle.std.specs.Option.{option_map}
 use Rattle.std.specs.Str.{bytes_eq}
@@ -15,8 +16,8 @@ use Rattle.agg_types.specs.declared.event.What.TheVariants.{Put}
 use Rattle.session_core.specs.declared.cause.End.TheVariants.{Wire, PeerError}
 use Rattle.session_core.specs.declared.track.Followed.{Followed}
 use Rattle.session_core.specs.declared.track.Entry.{Entry}
-use Rattle.session_core.specs.declared.track.Heard.{Heard}
-use Rattle.session_core.specs.declared.track.Heard.TheVariants.{Nothing, Confirm, Partial, Fact, End}
+use Rattle.session_core.specs.declared.track.Meaning.{Meaning}
+use Rattle.session_core.specs.declared.track.Meaning.TheVariants.{Nothing, Confirm, Partial, Fact, End}
 use Rattle.session_core.specs.Values.{key_at, sents_at, periods_of, cells_of, life_of}
 
 -- the ids' entries, ascending by id, and the place of the one in force, if it is followed
@@ -32,10 +33,21 @@ is_key_of Ipv6 kind len = kind == 5 && len == 16
 is_key_of (Str most) kind len = kind == 6
 is_key_of (Binary exact) kind len = kind == 7 && len == exact
 
--- what a definition says for the table at this position, if its key is that table's
+-- what a definition says for the table at this position
+abbrev pub followed_as : ℕ → Definition → Followed
+followed_as table definition =
+    record {
+      table = table;
+      bits = definition.bits;
+      expiry = definition.expiry;
+      periods = periods_of definition.periods;
+    }
+
+-- the same, if its key is that table's
 unfoldable pub followed_at : ℕ → Definition → Shape → Option Followed
 followed_at table definition shape =
-    if is_key_of shape.kind definition.kind definition.len then Some (record { table = table; bits = definition.bits; expiry = definition.expiry; periods = periods_of definition.periods }) else None
+    if is_key_of shape.kind definition.kind definition.len then Some (followed_as table definition)
+    else None
 
 -- a definition is followed if its name is configured and its key is that table's
 unfoldable pub followed_of : List Shape → Definition → Option Followed
@@ -50,7 +62,8 @@ put_of tables peer followed life bytes = do
   shape ← slice_get tables followed.table
   key ← key_at shape.kind bytes
   sents ← sents_at followed.bits key.1
-  Some (Put peer followed.table key.0 (life_of followed.expiry life) (cells_of sents followed.periods shape.cols))
+  let cells = cells_of sents followed.periods shape.cols
+  Some (Put peer followed.table key.0 (life_of followed.expiry life) cells)
 
 -- an update's id: the explicit one, or the one after the last
 abbrev pub id_after : ℕ → Option ℕ → ℕ
@@ -73,19 +86,35 @@ entry_of id entries = if_own id (slice_get entries (place id entries))
 -- what a message does, and what is kept after it
 pub record Step : Type 0 where
   pub track : Tracked
-  pub heard : Heard
+  pub meaning : Meaning
 
 -- a place, if what stands there is followed
 abbrev pub place_if : Option Followed → ℕ → Option ℕ
 place_if followed at = option_map (λ _. at) followed
 
+-- nothing for the peer or the fleet, and these entries, of which the one at this place is in force
+abbrev pub quiet_step : List Entry → Option ℕ → Step
+quiet_step entries current =
+    record { track = record { entries = entries; current = current }; meaning = Nothing }
+
+-- the session ends, and what is kept stays
+abbrev pub end_step : Tracked → Step
+end_step t = record { track = t; meaning = End (Wire BadField) }
+
+-- an id that is followed for the first time
+abbrev pub new_entry : ℕ → Followed → Entry
+new_entry id followed = record { id = id; last = 0; updated = false; followed = Some followed }
+
 -- a definition of an id that has this entry
 abbrev pub defined : Tracked → ℕ → Option Followed → Option Entry → Step
 defined t id followed (Some entry) =
-    record { track = record { entries = slice_set t.entries (place id t.entries) (record entry { followed = followed }); current = place_if followed (place id t.entries) }; heard = Nothing }
-defined t id None None = record { track = record { entries = t.entries; current = None }; heard = Nothing }
+    quiet_step (slice_set t.entries (place id t.entries) (record entry { followed = followed }))
+    (place_if followed (place id t.entries))
+defined t id None None = quiet_step t.entries None
 defined t id (Some followed) None =
-    if nat_le 256 (length t.entries) then record { track = t; heard = End (Wire BadField) } else record { track = record { entries = insert t.entries (place id t.entries) (record { id = id; last = 0; updated = false; followed = Some followed }); current = Some (place id t.entries) }; heard = Nothing }
+    if nat_le 256 (length t.entries) then end_step t
+    else quiet_step (insert t.entries (place id t.entries) (new_entry id followed))
+    (Some (place id t.entries))
 
 -- the place of an entry that may be followed
 abbrev pub place_of : Option Entry → ℕ → Option ℕ
@@ -93,42 +122,59 @@ place_of None at = None
 place_of (Some entry) at = place_if entry.followed at
 
 abbrev pub switched : Tracked → ℕ → Step
-switched t id = record { track = record { entries = t.entries; current = place_of (entry_of id t.entries) (place id t.entries) }; heard = Nothing }
+switched t id = quiet_step t.entries (place_of (entry_of id t.entries) (place id t.entries))
+
+-- an entry that has an update, with this id or the next
+abbrev pub updated_entry : Entry → Option ℕ → Entry
+updated_entry entry id = record entry { last = id_after entry.last id; updated = true }
 
 -- a row under the entry at this place, or the end where it can't be read
 abbrev pub updated_by : Tracked → ℕ → Entry → Option ℕ → Option What → Step
-updated_by t at entry id None = record { track = t; heard = End (Wire BadField) }
+updated_by t at entry id None = end_step t
 updated_by t at entry id (Some put) =
-    record { track = record { entries = slice_set t.entries at (record entry { last = id_after entry.last id; updated = true }); current = t.current }; heard = Fact put }
+    record {
+      track = record {
+        entries = slice_set t.entries at (updated_entry entry id);
+        current = t.current;
+      };
+      meaning = Fact put;
+    }
 
 -- an update under the entry at this place, if it is followed
-abbrev pub updated_at : List Shape → ℕ → Tracked → ℕ → Entry → Option Followed → Option ℕ → Option ℕ → List ℕ → Step
-updated_at tables peer t at entry None id life bytes = record { track = t; heard = Nothing }
-updated_at tables peer t at entry (Some followed) id life bytes = updated_by t at entry id (put_of tables peer followed life bytes)
+abbrev pub updated_at : List Shape → ℕ → Tracked → ℕ → Entry → Option Followed → Option ℕ → Option ℕ
+    → List ℕ → Step
+updated_at tables peer t at entry None id life bytes = record { track = t; meaning = Nothing }
+updated_at tables peer t at entry (Some followed) id life bytes =
+    updated_by t at entry id (put_of tables peer followed life bytes)
 
-abbrev pub updated_if : List Shape → ℕ → Tracked → ℕ → Option Entry → Option ℕ → Option ℕ → List ℕ → Step
-updated_if tables peer t at None id life bytes = record { track = t; heard = Nothing }
-updated_if tables peer t at (Some entry) id life bytes = updated_at tables peer t at entry entry.followed id life bytes
+abbrev pub updated_if : List Shape → ℕ → Tracked → ℕ → Option Entry → Option ℕ → Option ℕ → List ℕ
+    → Step
+updated_if tables peer t at None id life bytes = record { track = t; meaning = Nothing }
+updated_if tables peer t at (Some entry) id life bytes =
+    updated_at tables peer t at entry entry.followed id life bytes
 
 abbrev pub updated_under : List Shape → ℕ → Tracked → Option ℕ → Option ℕ → Option ℕ → List ℕ → Step
-updated_under tables peer t None id life bytes = record { track = t; heard = Nothing }
-updated_under tables peer t (Some at) id life bytes = updated_if tables peer t at (slice_get t.entries at) id life bytes
+updated_under tables peer t None id life bytes = record { track = t; meaning = Nothing }
+updated_under tables peer t (Some at) id life bytes =
+    updated_if tables peer t at (slice_get t.entries at) id life bytes
 
 -- what a message does to what is kept
-unfoldable pub hear : List Shape → ℕ → Tracked → Message → Step
-hear tables peer t messages.Request = record { track = t; heard = Partial }
-hear tables peer t messages.Finished = record { track = t; heard = Confirm }
-hear tables peer t messages.Partial = record { track = t; heard = Confirm }
-hear tables peer t messages.Confirm = record { track = t; heard = Nothing }
-hear tables peer t messages.Heartbeat = record { track = t; heard = Nothing }
-hear tables peer t messages.ProtocolError = record { track = t; heard = End PeerError }
-hear tables peer t messages.SizeError = record { track = t; heard = End PeerError }
-hear tables peer t (messages.Update id life rest) = updated_under tables peer t t.current id life rest
-hear tables peer t (messages.Define definition) = defined t definition.id (followed_of tables definition) (entry_of definition.id t.entries)
-hear tables peer t (messages.Switch id) = switched t id
-hear tables peer t (messages.Acked id last) = record { track = t; heard = Nothing }
-hear tables peer t (messages.Other class kind) = record { track = t; heard = Nothing }
+unfoldable pub step_of : List Shape → ℕ → Tracked → Message → Step
+step_of tables peer t messages.Request = record { track = t; meaning = Partial }
+step_of tables peer t messages.Finished = record { track = t; meaning = Confirm }
+step_of tables peer t messages.Partial = record { track = t; meaning = Confirm }
+step_of tables peer t messages.Confirm = record { track = t; meaning = Nothing }
+step_of tables peer t messages.Heartbeat = record { track = t; meaning = Nothing }
+step_of tables peer t messages.ProtocolError = record { track = t; meaning = End PeerError }
+step_of tables peer t messages.SizeError = record { track = t; meaning = End PeerError }
+step_of tables peer t (messages.Update id life rest) =
+    updated_under tables peer t t.current id life rest
+step_of tables peer t (messages.Define definition) =
+    defined t definition.id (followed_of tables definition) (entry_of definition.id t.entries)
+step_of tables peer t (messages.Switch id) = switched t id
+step_of tables peer t (messages.Acked id last) = record { track = t; meaning = Nothing }
+step_of tables peer t (messages.Other class kind) = record { track = t; meaning = Nothing }
 
 -- what was heard, and what is kept after it, are those of the step
-abbrev pub Gave : Tracked → Heard → Step → Type 0
-Gave track heard step = (track ≡ step.track) × (heard ≡ step.heard)
+abbrev pub IsStep : Tracked → Meaning → Step → Type 0
+IsStep track heard step = (track ≡ step.track) × (heard ≡ step.meaning)

@@ -1,5 +1,6 @@
 -- The key and the values of an update, as they stand behind its id and its life.
-use Rattle.std.specs.Prelude.{ℕ, zero, suc, ◌/◌, ◌%◌, ◌^◌, Bool, true, false, nat_lt, ◌==◌, ◌||◌, if◌then◌else◌, List, [], ◌∷◌, length, take, drop, map, min, slice_get, slice_set, unwrap_or, replicate, Option, Some, None}
+use Rattle.std.specs.Prelude.{ℕ, zero, suc, ◌-◌, ◌/◌, ◌%◌, ◌^◌, Bool, true, false, nat_lt, nat_le, ◌==◌, ◌&&◌, ◌||◌, if◌then◌else◌, List, [], ◌∷◌, length, take, drop, map, min, slice_get, slice_set, unwrap_or, replicate, Option, Some, None}
+use Rattle.peers_msg.specs.Kinds.{last_type}
 use Rattle.peers_msg.specs.Payload.{◌>>=◌, number_at, string_at}
 use Rattle.agg_types.specs.Col.{col_id, is_rate, is_wide}
 use Rattle.agg_types.specs.declared.column.Col.{Col}
@@ -10,9 +11,14 @@ use Rattle.agg_types.specs.declared.event.Cell.TheVariants as cells
 use Rattle.session_core.specs.declared.values.Sent.{Sent}
 use Rattle.session_core.specs.declared.values.Sent.TheVariants.{Absent, Count, Rate}
 
+-- how many data types are read: those from 0 on
+abbrev pub types : ℕ
+types = suc last_type
+
 -- so many bytes, and those after them
 abbrev pub bytes_at : ℕ → List ℕ → Option (List ℕ × List ℕ)
-bytes_at len bytes = if nat_lt (length bytes) len then None else Some (take len bytes, drop len bytes)
+bytes_at len bytes =
+    if nat_lt (length bytes) len then None else Some (take len bytes, drop len bytes)
 
 -- a string key, cut to this length
 unfoldable pub text_at : ℕ → List ℕ → Option (List ℕ × List ℕ)
@@ -34,7 +40,9 @@ has_type bits kind = bits / 2 ^ kind % 2 == 1
 
 -- whether a data type is a rate: three integers where others are one
 abbrev pub is_rate_type : ℕ → Bool
-is_rate_type kind = kind == 3 || kind == 5 || kind == 8 || kind == 10 || kind == 12 || kind == 14 || kind == 16 || kind == 18
+is_rate_type kind =
+    kind == 3 || kind == 5 || kind == 8 || kind == 10 || kind == 12 || kind == 14 || kind == 16 ||
+    kind == 18
 
 unfoldable pub count_at : List ℕ → Option (Sent × List ℕ)
 count_at bytes = do
@@ -51,9 +59,12 @@ rate_at bytes = do
 
 -- what is sent of a data type, and the bytes after it
 unfoldable pub sent_at : ℕ → ℕ → List ℕ → Option (Sent × List ℕ)
-sent_at bits kind bytes = if has_type bits kind then (if is_rate_type kind then rate_at bytes else count_at bytes) else Some (Absent, bytes)
+sent_at bits kind bytes =
+    if has_type bits kind then (if is_rate_type kind then rate_at bytes else count_at bytes)
+    else Some (Absent, bytes)
 
--- what is sent of so many data types from this one on; None where a needed value is cut short or over
+-- what is sent of so many data types from this one on; None where a needed value is cut short or
+-- over
 unfoldable pub sents_from : ℕ → ℕ → ℕ → List ℕ → Option (List Sent)
 sents_from bits zero kind bytes = Some []
 sents_from bits (suc n) kind bytes = do
@@ -63,7 +74,7 @@ sents_from bits (suc n) kind bytes = do
 
 -- the data types 0 to 18 ascend; what comes after them is ignored
 unfoldable pub sents_at : ℕ → List ℕ → Option (List Sent)
-sents_at bits bytes = sents_from bits 19 0 bytes
+sents_at bits bytes = sents_from bits types 0 bytes
 
 -- the period of each data type, 0 where none is given; the last pair of an id holds
 abbrev pub periods_after : List ℕ → List (ℕ × ℕ) → List ℕ
@@ -71,28 +82,39 @@ periods_after periods [] = periods
 periods_after periods (pair ∷ pairs) = periods_after (slice_set periods pair.0 pair.1) pairs
 
 unfoldable pub periods_of : List (ℕ × ℕ) → List ℕ
-periods_of pairs = periods_after (replicate 19 0) pairs
+periods_of pairs = periods_after (replicate types 0) pairs
 
 abbrev pub count_cell : ℕ → Sent → Cell
 count_cell limit (Count count) = cells.Count (count % limit)
 count_cell limit Absent = cells.Count 0
 count_cell limit (Rate elapsed cur prev) = cells.Count 0
 
+-- The elapsed time that is kept, in ms. A sender whose threads' clocks differ sends one that is up
+-- to
+-- 60,000 below 0 as 2^32 less so much; that is 0.
+abbrev pub elapsed_of : ℕ → ℕ
+elapsed_of elapsed =
+    if nat_le (2 ^ 32 - 60000) elapsed && nat_lt elapsed (2 ^ 32) then 0 else elapsed
+
 abbrev pub rate_cell : Bool → Sent → Cell
-rate_cell true (Rate elapsed cur prev) = cells.Rate elapsed (cur % 2 ^ 32) (prev % 2 ^ 32)
+rate_cell true (Rate elapsed cur prev) =
+    cells.Rate (elapsed_of elapsed) (cur % 2 ^ 32) (prev % 2 ^ 32)
 rate_cell false (Rate elapsed cur prev) = cells.Rate 0 0 0
 rate_cell given Absent = cells.Rate 0 0 0
 rate_cell given (Count count) = cells.Rate 0 0 0
 
--- the cell of a configured column: its value modulo its width, 0 without a value; a rate counts if it has the configured period
+-- the cell of a configured column: its value modulo its width, 0 without a value; a rate counts if
+-- it has the configured period
 unfoldable pub cell_of : List Sent → List ℕ → Col × ℕ → Cell
 cell_of sents periods col =
     let sent = unwrap_or (slice_get sents (col_id col.0)) Absent in
-    if is_rate col.0 then rate_cell (unwrap_or (slice_get periods (col_id col.0)) 0 == col.1) sent else count_cell (if is_wide col.0 then 2 ^ 64 else 2 ^ 32) sent
+    if is_rate col.0 then rate_cell (unwrap_or (slice_get periods (col_id col.0)) 0 == col.1) sent
+    else count_cell (if is_wide col.0 then 2 ^ 64 else 2 ^ 32) sent
 
 abbrev pub cells_of : List Sent → List ℕ → List (Col × ℕ) → List Cell
 cells_of sents periods cols = map (cell_of sents periods) cols
 
--- the life of a row: none under a definition without an end, else what the message says, else the definition's; none is above 4,294,967,295
+-- the life of a row: none under a definition without an end, else what the message says, else the
+-- definition's; none is above 4,294,967,295
 abbrev pub life_of : ℕ → Option ℕ → Option ℕ
 life_of expiry life = if expiry == 0 then None else Some (min (unwrap_or life expiry) 4294967295)

@@ -26,7 +26,11 @@ impl Model for Batch {
 
     ghost Value = { Batched };
 
-    ghost view = { λ batch. record { facts = batch.facts; replies = take batch.split batch.out.items; acks = drop batch.split batch.out.items } };
+    ghost view = { λ batch. record {
+      facts = batch.facts;
+      replies = take batch.split batch.out.items;
+      acks = drop batch.split batch.out.items;
+    } };
 
     ghost invariant = { λ batch. batch.split ≤ length batch.out.items };
 }
@@ -35,7 +39,11 @@ impl Batch {
     /// A batch of these facts and bytes, of which so many are replies.
     pub(crate) fn new(facts: Vec<What>, out: Vec<u8>, split: usize) -> Batch
         requires { split ≤ length out.items }
-        ensures { result ≡ record { facts = facts.items; replies = take split out.items; acks = drop split out.items } }
+        ensures { result ≡ record {
+          facts = facts.items;
+          replies = take split out.items;
+          acks = drop split out.items;
+        } }
     {
         Batch {
             facts: Items::from_vec(facts),
@@ -95,7 +103,8 @@ impl Batch {
 pub struct SessionFault {
     /// Why.
     pub cause: SessionCause,
-    /// What the piece gave up to the fault, with the fault's own answer. Empty after `NoMemory`, and
+    /// What the piece gave up to the fault, with the fault's own answer. Empty after `NoMemory`,
+    /// and
     /// where the session had ended before.
     pub batch: Batch,
 }

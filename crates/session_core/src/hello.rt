@@ -21,7 +21,8 @@ pub(crate) fn hello_of<'a>(
     seated: bool,
     bytes: &'a [u8],
 ) -> Result<Option<(usize, &'a [u8])>, Status>
-    ensures { seen (λ x. (x.0, x.1.now)) result ≡ hello_of config.now.me config.now.peers seated bytes.now }
+    ensures { seen (λ x. (x.0, x.1.now)) result
+        ≡ hello_of config.now.me config.now.peers seated bytes.now }
 {
     let Some((line, rest)) = line_at(bytes)? else {
         return Ok(None);
@@ -39,7 +40,8 @@ fn receiver_line<'a>(
     seated: bool,
     bytes: &'a [u8],
 ) -> Result<Option<(usize, &'a [u8])>, Status>
-    ensures { seen (λ x. (x.0, x.1.now)) result ≡ receiver_line config.now.me config.now.peers seated bytes.now }
+    ensures { seen (λ x. (x.0, x.1.now)) result
+        ≡ receiver_line config.now.me config.now.peers seated bytes.now }
 {
     let Some((line, rest)) = line_at(bytes)? else {
         return Ok(None);

@@ -5,18 +5,13 @@ ghost use Rattle.session_core.specs.Tracked.{Tracked};
 ghost use Rattle.session_core.specs.Run.{Ran, run, ack_of, acks_of, settled};
 
 use crate::cause::End;
-use crate::track::{Entry, Heard, Track};
+use crate::track::{Entry, Meaning, Track};
 use agg_types::{NoMemory, Shape, What};
 use peers_msg::{Message, write_message};
 use std::alloc::Global;
 
-/// The answer to a resync request: partial.
-const RESYNC_PARTIAL: &[u8] = &[0, 2];
-
-/// The answer to the end of a resync.
-const RESYNC_CONFIRM: &[u8] = &[0, 3];
-
-/// What the messages do, up to the first that ends the session; its cause is returned. The facts and
+/// What the messages do, up to the first that ends the session; its cause is returned. The facts
+/// and
 /// replies are added to those that are there.
 pub(crate) fn run(
     alloc: Global,
@@ -27,15 +22,16 @@ pub(crate) fn run(
     facts: &mut Vec<What>,
     replies: &mut Vec<u8>,
 ) -> Result<Option<End>, NoMemory>
-    ensures { IfOk result (λ end. Ran end track.new facts.old.items facts.new.items replies.old.items replies.new.items (run tables.now peer track.old messages.now)) }
+    ensures { IfOk result (λ end. Ran end track.new facts.old.items facts.new.items
+        replies.old.items replies.new.items (run tables.now peer track.old messages.now)) }
 {
     for message in messages {
-        match track.hear(alloc, tables, peer, message)? {
-            Heard::Nothing => {}
-            Heard::Confirm => replies.extend_from_slice(RESYNC_CONFIRM)?,
-            Heard::Partial => replies.extend_from_slice(RESYNC_PARTIAL)?,
-            Heard::Fact(fact) => facts.push(fact)?,
-            Heard::End(cause) => return Ok(Some(cause)),
+        match track.step(alloc, tables, peer, message)? {
+            Meaning::Nothing => {}
+            Meaning::Confirm => write_message(&Message::Confirm, replies)?,
+            Meaning::Partial => write_message(&Message::Partial, replies)?,
+            Meaning::Fact(fact) => facts.push(fact)?,
+            Meaning::End(cause) => return Ok(Some(cause)),
         }
     }
     Ok(None)

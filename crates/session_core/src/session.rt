@@ -1,12 +1,12 @@
 //! A session: one connection of a peer.
 
-ghost use Rattle.std.specs.Prelude.{◌≡◌, ◌≤◌, ◌-◌, ◌++◌, ◌==◌, ◌&&◌, ◌||◌, nat_le, ℕ, List, [], length, if◌then◌else◌, IfOk, MatchResult, Some, None, true, false, Bool};
-ghost use Rattle.session_core.specs.Silence.{end_by_silence, peer_of};
+ghost use Rattle.std.specs.Prelude.{◌≡◌, ◌≢◌, Err, IfErr, ◌≤◌, ◌-◌, ◌++◌, ◌==◌, ◌&&◌, ◌||◌, nat_le, ℕ, List, [], length, if◌then◌else◌, IfOk, MatchResult, Some, None, true, false, Bool};
+ghost use Rattle.session_core.specs.Silence.{end_by_silence, over_with, peer_of};
 
 use crate::SessionCause;
 use crate::batch::{Batch, SessionFault};
 use crate::cause::End;
-use crate::stage::{Said, Stage, take_piece};
+use crate::stage::{Outcome, Stage, take_piece};
 use agg_types::{Config, Items, NoMemory};
 use std::alloc::Global;
 use std::marker::Model;
@@ -35,30 +35,36 @@ pub enum Idle {
 pub struct Session {
     seated: bool,
     stage: Stage,
-    heard: u64,
-    spoke: u64,
+    last_input: u64,
+    last_output: u64,
     late: bool,
     alloc: Global,
 }
 
 impl Model for Session {
-    ghost use Rattle.session_core.specs.Standing.{Standing};
+    ghost use Rattle.session_core.specs.State.{SessionState};
 
-    ghost Value = { Standing };
+    ghost Value = { SessionState };
 
     ghost use Rattle.session_core.specs.Piece.{IsSettled};
 
     ghost invariant = { λ session. IsSettled session.stage };
 
-    ghost view = { λ session. record { seated = session.seated; stage = session.stage; heard = session.heard; spoke = session.spoke; late = session.late } };
+    ghost view = { λ session. record {
+      seated = session.seated;
+      stage = session.stage;
+      last_input = session.last_input;
+      last_output = session.last_output;
+      late = session.late;
+    } };
 }
 
 impl Session {
     ghost use Rattle.session_core.specs.Batched.{Batched};
-    ghost use Rattle.session_core.specs.Piece.{Setup, setup_of, piece_of};
+    ghost use Rattle.session_core.specs.Piece.{Setup, nothing, setup_of, piece_of};
     ghost use Rattle.session_core.specs.Talk.{stage_of, talk};
-    ghost use Rattle.session_core.specs.Told.{FactsFit, OpensWith, Tells};
-    ghost use Rattle.session_core.specs.Standing.{accepted, Answers, after_piece, idle_of, after_idle};
+    ghost use Rattle.session_core.specs.TalkAnswers.{FactsFit, OpensWith, AnswersTalk};
+    ghost use Rattle.session_core.specs.State.{accepted, Answers, after_piece, idle_of, after_idle};
 
     /// A connection that has sent nothing yet. It has a seat, or will be refused once its hello is
     /// whole. Takes no memory.
@@ -70,17 +76,19 @@ impl Session {
         Session {
             seated,
             stage: Stage::Greeting(Items::from_vec(Vec::new(alloc))),
-            heard: now,
-            spoke: now,
+            last_input: now,
+            last_output: now,
             late: false,
             alloc,
         }
     }
 
-    /// Takes the next piece of the stream, whatever it is cut from, with the configuration that each
+    /// Takes the next piece of the stream, whatever it is cut from, with the configuration that
+    /// each
     /// call of the session gets: the same name, peers and tables.
     ///
-    /// A fault comes with what the piece gave before it, and is answered for good from then on, with
+    /// A fault comes with what the piece gave before it, and is answered for good from then on,
+    /// with
     /// an empty batch. `NoMemory` comes with an empty batch and leaves the session as it was.
     pub fn feed(&mut self, config: &Config, piece: &[u8], now: u64) -> Result<Batch, SessionFault>
         // What the piece gives, from what is kept; want of memory leaves all as it was.
@@ -89,20 +97,32 @@ impl Session {
 
         // For all the bytes that the session stands for: what it gives is what the talk of the
         // bytes with the piece has beyond the talk without it.
-        ensures talk { (taken : List ℕ) → self.old.stage ≡ stage_of (setup_of config.now) self.old.seated taken
-            → Tells result (setup_of config.now) self.old.seated taken piece.now self.new.stage }
-        ensures fits { (taken : List ℕ) → self.old.stage ≡ stage_of (setup_of config.now) self.old.seated taken
+        ensures talk { (taken : List ℕ) → self.old.stage
+            ≡ stage_of (setup_of config.now) self.old.seated taken
+            → AnswersTalk result (setup_of config.now) self.old.seated taken piece.now
+            self.new.stage }
+        ensures fits { (taken : List ℕ) → self.old.stage
+            ≡ stage_of (setup_of config.now) self.old.seated taken
             → FactsFit config.now result }
+
+        // After a fault its cause comes for good, with an empty batch, and never want of memory.
+        ensures ended { IfErr result (λ fault. fault.cause ≢ SessionCause.NoMemory
+            → over_with self.new.stage ≡ Some fault.cause) }
+        ensures for_good { (cause : SessionCause) → over_with self.old.stage ≡ Some cause
+            → (cause ≢ SessionCause.NoMemory) × (self.new.stage ≡ self.old.stage)
+            × (result ≡ Err (record { cause = cause; batch = nothing })) }
     {
         self.take(config, piece, now)
     }
 
     fn take(&mut self, config: &Config, piece: &[u8], now: u64) -> Result<Batch, SessionFault>
-        ensures { Answers result self.old self.new piece.now now
+        ensures exact { Answers result self.old self.new piece.now now
             (piece_of (setup_of config.now) self.old.seated self.old.stage piece.now) }
+        ensures over { (cause : SessionCause) → over_with self.old.stage ≡ Some cause
+            → result ≡ Err (record { cause = cause; batch = nothing }) }
     {
-        let said = match take_piece(self.alloc, config, self.seated, &mut self.stage, piece) {
-            Ok(said) => said,
+        let outcome = match take_piece(self.alloc, config, self.seated, &mut self.stage, piece) {
+            Ok(outcome) => outcome,
             Err(NoMemory) => {
                 return Err(SessionFault {
                     cause: SessionCause::NoMemory,
@@ -110,12 +130,12 @@ impl Session {
                 });
             }
         };
-        let Said { batch, end } = said;
+        let Outcome { batch, end } = outcome;
         if !piece.is_empty() {
-            self.heard = now;
+            self.last_input = now;
         }
         if !batch.is_silent() {
-            self.spoke = now;
+            self.last_output = now;
         }
         match end {
             None => Ok(batch),
@@ -131,13 +151,13 @@ impl Session {
         ensures answer { result ≡ idle_of self.old now }
         ensures after { self.new ≡ after_idle self.old now (idle_of self.old now) }
     {
-        if self.late || now.saturating_sub(self.heard) >= LONGEST_SILENCE {
+        if self.late || now.saturating_sub(self.last_input) >= LONGEST_SILENCE {
             self.late = true;
             self.stage = Stage::Over(end_by_silence(&self.stage), peer_at(&self.stage));
             return Idle::Ended;
         }
-        if peer_at(&self.stage).is_some() && now.saturating_sub(self.spoke) >= BEAT_AFTER {
-            self.spoke = now;
+        if peer_at(&self.stage).is_some() && now.saturating_sub(self.last_output) >= BEAT_AFTER {
+            self.last_output = now;
             return Idle::Beat;
         }
         Idle::Nothing
@@ -146,7 +166,8 @@ impl Session {
     /// The peer of an accepted hello. Takes no memory.
     pub fn peer(&self) -> Option<usize>
         ensures kept { result ≡ peer_of self.now.stage }
-        ensures opened { (setup : Setup) (taken : List ℕ) → self.now.stage ≡ stage_of setup self.now.seated taken
+        ensures opened { (setup : Setup) (taken : List ℕ) → self.now.stage
+            ≡ stage_of setup self.now.seated taken
             → OpensWith result (talk setup self.now.seated taken).facts }
     {
         peer_at(&self.stage)

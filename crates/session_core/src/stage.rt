@@ -1,10 +1,12 @@
 //! Where a session stands, and what a piece does to it.
 
-ghost use Rattle.std.specs.Prelude.{◌≡◌, ◌++◌, IfOk, OnOk, OnErr};
+ghost use Rattle.std.specs.Prelude.{◌≡◌, ◌++◌, Some, IfOk, IsOkAnd, OnOk, OnErr};
 ghost use Rattle.std.specs.Option.{option_map};
 ghost use Rattle.peers_msg.specs.Feed.{fed};
 ghost use Rattle.session_core.specs.Hello.{hello_of};
-ghost use Rattle.session_core.specs.Piece.{taken, ended, ending, AreSettled, IsSettled, setup_of, status_text, end_text, first_end, piece_of, talked, said_before, greeted, opened, refused};
+ghost use Rattle.session_core.specs.Silence.{over_with, IsOverAs};
+ghost use Rattle.session_core.specs.declared.cause.SessionCause.{SessionCause};
+ghost use Rattle.session_core.specs.Piece.{with_stage, stage_at_end, end_reply, AreSettled, IsSettled, setup_of, status_text, end_text, first_end, piece_of, messages_outcome, with_front, hello_outcome, accepted_outcome, refused_outcome};
 
 use crate::Status;
 use crate::batch::Batch;
@@ -13,11 +15,8 @@ use crate::hello::hello_of;
 use crate::run::{run, write_acks};
 use crate::track::Track;
 use agg_types::{Config, Items, NoMemory, Shape, What};
-use peers_msg::{Feed, Given, WireCause};
+use peers_msg::{Feed, Given, Message, WireCause, write_message};
 use std::alloc::Global;
-
-/// What is sent behind the status line of an accepted hello: a resync request.
-const RESYNC_REQUEST: &[u8] = &[0, 0];
 
 /// The messages of a peer whose hello was accepted.
 #[derive(Debug, Drop)]
@@ -39,14 +38,14 @@ pub(crate) enum Stage {
 
 /// What a piece gives.
 #[derive(Debug, Drop)]
-pub(crate) struct Said {
+pub(crate) struct Outcome {
     pub(crate) batch: Batch,
     pub(crate) end: Option<End>,
 }
 
 /// What a piece gives, and where the session stands after it.
 #[derive(Debug, Drop)]
-pub(crate) struct Taken {
+pub(crate) struct StageOutcome {
     pub(crate) stage: Stage,
     pub(crate) batch: Batch,
     pub(crate) end: Option<End>,
@@ -60,27 +59,29 @@ pub(crate) fn take_piece(
     seated: bool,
     stage: &mut Stage,
     piece: &[u8],
-) -> Result<Said, NoMemory>
+) -> Result<Outcome, NoMemory>
     requires { IsSettled stage.old }
-    ensures ok { IfOk result (λ said. taken said stage.new
+    ensures ok { IfOk result (λ outcome. with_stage outcome stage.new
         ≡ piece_of (setup_of config.now) seated stage.old piece.now) }
     ensures err { OnErr result (stage.new ≡ stage.old) }
+    ensures over { (cause : SessionCause) → over_with stage.old ≡ Some cause
+        → IsOkAnd result (λ outcome. IsOverAs cause outcome.batch outcome.end) }
     ensures settled { IsSettled stage.new }
 {
     match stage {
         Stage::Greeting(bytes) => {
             let bytes = joined(alloc, bytes.as_slice(), piece)?;
-            let Taken {
+            let StageOutcome {
                 stage: next,
                 batch,
                 end,
             } = greet(alloc, config, seated, bytes)?;
             *stage = next;
-            Ok(Said { batch, end })
+            Ok(Outcome { batch, end })
         }
         Stage::Talking(dialogue) => {
             let peer = dialogue.peer;
-            let said = converse(
+            let outcome = converse(
                 alloc,
                 config.tables.as_slice(),
                 dialogue,
@@ -88,10 +89,10 @@ pub(crate) fn take_piece(
                 Vec::new(alloc),
                 piece,
             )?;
-            end_stage(stage, peer, said.end);
-            Ok(said)
+            end_stage(stage, peer, outcome.end);
+            Ok(outcome)
         }
-        Stage::Over(end, _) => Ok(Said {
+        Stage::Over(end, _) => Ok(Outcome {
             batch: Batch::empty(alloc),
             end: Some(*end),
         }),
@@ -107,12 +108,19 @@ fn joined(alloc: Global, front: &[u8], back: &[u8]) -> Result<Vec<u8>, NoMemory>
 }
 
 /// The bytes of a hello, and what may follow it.
-fn greet(alloc: Global, config: &Config, seated: bool, bytes: Vec<u8>) -> Result<Taken, NoMemory>
-    ensures greeted { IfOk result (λ taken. taken ≡ greeted config.now.tables bytes.items (hello_of config.now.me config.now.peers seated bytes.items)) }
-    ensures settled { IfOk result (λ taken. IsSettled taken.stage) }
+fn greet(
+    alloc: Global,
+    config: &Config,
+    seated: bool,
+    bytes: Vec<u8>,
+) -> Result<StageOutcome, NoMemory>
+    ensures greeted { IfOk result (λ outcome. outcome
+        ≡ hello_outcome config.now.tables bytes.items
+        (hello_of config.now.me config.now.peers seated bytes.items)) }
+    ensures settled { IfOk result (λ outcome. IsSettled outcome.stage) }
 {
     match hello_of(config, seated, bytes.as_slice()) {
-        Ok(None) => Ok(Taken {
+        Ok(None) => Ok(StageOutcome {
             stage: Stage::Greeting(Items::from_vec(bytes)),
             batch: Batch::empty(alloc),
             end: None,
@@ -123,13 +131,13 @@ fn greet(alloc: Global, config: &Config, seated: bool, bytes: Vec<u8>) -> Result
 }
 
 /// A refused hello.
-fn refuse(alloc: Global, status: Status) -> Result<Taken, NoMemory>
-    ensures { IfOk result (λ taken. taken ≡ refused status) }
+fn refuse(alloc: Global, status: Status) -> Result<StageOutcome, NoMemory>
+    ensures { IfOk result (λ outcome. outcome ≡ refused_outcome status) }
 {
     let end = End::Refused(status);
     let replies = Vec::from_slice(alloc, status_text(status))?;
     let split = replies.len();
-    Ok(Taken {
+    Ok(StageOutcome {
         stage: Stage::Over(end, None),
         batch: Batch::new(Vec::new(alloc), replies, split),
         end: Some(end),
@@ -151,37 +159,39 @@ fn status_text(status: Status) -> &'static [u8]
 }
 
 /// An accepted hello, and the bytes after it.
-fn open(alloc: Global, tables: &[Shape], peer: usize, rest: &[u8]) -> Result<Taken, NoMemory>
-    ensures opened { IfOk result (λ taken. taken ≡ opened tables.now (peer, rest.now)) }
-    ensures settled { IfOk result (λ taken. IsSettled taken.stage) }
+fn open(alloc: Global, tables: &[Shape], peer: usize, rest: &[u8]) -> Result<StageOutcome, NoMemory>
+    ensures opened { IfOk result (λ outcome. outcome
+        ≡ accepted_outcome tables.now (peer, rest.now)) }
+    ensures settled { IfOk result (λ outcome. IsSettled outcome.stage) }
 {
     let mut facts = Vec::new(alloc);
     facts.push(What::Open(peer))?;
     let mut replies = Vec::from_slice(alloc, status_text(Status::Accepted))?;
-    replies.extend_from_slice(RESYNC_REQUEST)?;
+    write_message(&Message::Request, &mut replies)?;
     let mut dialogue = Dialogue {
         peer,
         feed: Feed::new(alloc),
         track: Track::new(alloc),
     };
-    let Said { batch, end } = converse(alloc, tables, &mut dialogue, facts, replies, rest)?;
+    let Outcome { batch, end } = converse(alloc, tables, &mut dialogue, facts, replies, rest)?;
     let mut stage = Stage::Talking(dialogue);
     end_stage(&mut stage, peer, end);
-    Ok(Taken { stage, batch, end })
+    Ok(StageOutcome { stage, batch, end })
 }
 
 /// Where a piece showed an end, the dialogue of this peer is over.
 fn end_stage(stage: &mut Stage, peer: usize, end: Option<End>)
-    ensures { stage.new ≡ ended stage.old peer end }
+    ensures { stage.new ≡ stage_at_end stage.old peer end }
 {
     if let Some(end) = end {
         *stage = Stage::Over(end, Some(peer));
     }
 }
 
-/// What a piece of messages gives, behind the facts and replies that are there. After `NoMemory` the
+/// What a piece of messages gives, behind the facts and replies that are there. After `NoMemory`
+/// the
 /// dialogue is as it was, and where the piece showed an end it is over.
-#[tactic(auto, unfolding(crate::specs::Piece::talked))]
+#[tactic(auto, unfolding(crate::specs::Piece::messages_outcome))]
 fn converse(
     alloc: Global,
     tables: &[Shape],
@@ -189,10 +199,13 @@ fn converse(
     facts: Vec<What>,
     replies: Vec<u8>,
     piece: &[u8],
-) -> Result<Said, NoMemory>
+) -> Result<Outcome, NoMemory>
     requires { AreSettled dialogue.old.track.entries }
-    ensures ok { IfOk result (λ said. taken said (ended (Stage.Talking dialogue.new) dialogue.old.peer said.end)
-        ≡ said_before facts.items replies.items (talked tables.now dialogue.old.peer dialogue.old.track (fed dialogue.old.feed piece.now))) }
+    ensures ok { IfOk result (λ outcome. with_stage outcome
+        (stage_at_end (Stage.Talking dialogue.new) dialogue.old.peer outcome.end)
+        ≡ with_front facts.items replies.items
+        (messages_outcome tables.now dialogue.old.peer dialogue.old.track
+        (fed dialogue.old.feed piece.now))) }
     ensures err { OnErr result (dialogue.new ≡ dialogue.old) }
     ensures settled { AreSettled dialogue.new.track.entries }
 {
@@ -200,7 +213,7 @@ fn converse(
         Some(given) => answer(alloc, tables, dialogue, given, facts, replies),
         None => {
             let split = replies.len();
-            Ok(Said {
+            Ok(Outcome {
                 batch: Batch::new(facts, replies, split),
                 end: None,
             })
@@ -209,7 +222,7 @@ fn converse(
 }
 
 /// The same for messages that were read.
-#[tactic(auto, unfolding(crate::specs::Piece::talked))]
+#[tactic(auto, unfolding(crate::specs::Piece::messages_outcome))]
 fn answer(
     alloc: Global,
     tables: &[Shape],
@@ -217,10 +230,12 @@ fn answer(
     given: Given,
     facts: Vec<What>,
     replies: Vec<u8>,
-) -> Result<Said, NoMemory>
+) -> Result<Outcome, NoMemory>
     requires { AreSettled dialogue.old.track.entries }
-    ensures ok { IfOk result (λ said. taken said (ended (Stage.Talking dialogue.new) dialogue.old.peer said.end)
-        ≡ said_before facts.items replies.items (talked tables.now dialogue.old.peer dialogue.old.track given)) }
+    ensures ok { IfOk result (λ outcome. with_stage outcome
+        (stage_at_end (Stage.Talking dialogue.new) dialogue.old.peer outcome.end)
+        ≡ with_front facts.items replies.items
+        (messages_outcome tables.now dialogue.old.peer dialogue.old.track given)) }
     ensures err { OnErr result (dialogue.new ≡ dialogue.old) }
     ensures settled { AreSettled dialogue.new.track.entries }
 {
@@ -245,7 +260,7 @@ fn answer(
     track.settle();
     dialogue.track = track;
     dialogue.feed.commit(given);
-    Ok(Said {
+    Ok(Outcome {
         batch: Batch::new(facts, out, split),
         end,
     })
@@ -263,22 +278,22 @@ fn first_end(end: Option<End>, fault: Option<WireCause>) -> Option<End>
 
 /// Adds what is sent at an end.
 fn say_end(end: Option<End>, out: &mut Vec<u8>) -> Result<(), NoMemory>
-    ensures { OnOk result (out.new.items ≡ out.old.items ++ ending end) }
-{
-    if let Some(end) = end {
-        out.extend_from_slice(end_text(end))?;
-    }
-    Ok(())
-}
-
-/// What is sent where a session of messages ends: size limit reached, or protocol error.
-fn end_text(end: End) -> &'static [u8]
-    ensures { result.now ≡ end_text end }
+    ensures { OnOk result (out.new.items ≡ out.old.items ++ end_reply end) }
 {
     match end {
-        End::Wire(WireCause::TooLong) => &[1, 1],
-        End::Wire(WireCause::BadInteger) => &[1, 0],
-        End::Wire(WireCause::BadField) => &[1, 0],
-        End::Wire(WireCause::NoMemory) | End::Refused(_) | End::PeerError | End::TimedOut => &[],
+        None => Ok(()),
+        Some(end) => write_end(end, out),
+    }
+}
+
+/// Adds what is sent where a session of messages ends: size limit reached, or protocol error.
+fn write_end(end: End, out: &mut Vec<u8>) -> Result<(), NoMemory>
+    ensures { OnOk result (out.new.items ≡ out.old.items ++ end_text end) }
+{
+    match end {
+        End::Wire(WireCause::TooLong) => write_message(&Message::SizeError, out),
+        End::Wire(WireCause::BadInteger) => write_message(&Message::ProtocolError, out),
+        End::Wire(WireCause::BadField) => write_message(&Message::ProtocolError, out),
+        End::Wire(WireCause::NoMemory) | End::Refused(_) | End::PeerError | End::TimedOut => Ok(()),
     }
 }

@@ -3,7 +3,7 @@
 ghost use Rattle.std.specs.Prelude.{◌≡◌, ◌≤◌, [], length, position, IfOk, true};
 ghost use Rattle.std.specs.Str.{bytes_eq};
 ghost use Rattle.session_core.specs.Run.{settled};
-ghost use Rattle.session_core.specs.Tracked.{is_key_of, followed_at, followed_of, put_of, id_after, place, entry_of, Gave, defined, switched, updated_under, hear};
+ghost use Rattle.session_core.specs.Tracked.{is_key_of, followed_at, followed_of, put_of, id_after, place, entry_of, IsStep, defined, switched, updated_under, step_of};
 
 use crate::cause::End;
 use crate::run::settle;
@@ -42,7 +42,7 @@ pub(crate) struct Entry {
 
 /// What a message means for the session.
 #[derive(Debug, Drop)]
-pub(crate) enum Heard {
+pub(crate) enum Meaning {
     Nothing,
     /// The end of a resync is to be confirmed.
     Confirm,
@@ -208,26 +208,30 @@ impl Track {
 
     /// No entry has an update yet.
     pub(crate) fn settle(&mut self)
-        ensures { self.new ≡ record { entries = settled self.old.entries; current = self.old.current } }
+        ensures { self.new ≡ record {
+          entries = settled self.old.entries;
+          current = self.old.current;
+        } }
     {
         settle(&mut self.entries);
     }
 
     /// What a message does. After `NoMemory` nothing is said of what is kept.
-    #[tactic(auto, unfolding(crate::specs::Tracked::hear))]
-    pub(crate) fn hear(
+    #[tactic(auto, unfolding(crate::specs::Tracked::step_of))]
+    pub(crate) fn step(
         &mut self,
         alloc: Global,
         tables: &[Shape],
         peer: usize,
         message: &Message,
-    ) -> Result<Heard, NoMemory>
-        ensures { IfOk result (λ heard. Gave self.new heard (hear tables.now peer self.old message.now)) }
+    ) -> Result<Meaning, NoMemory>
+        ensures { IfOk result (λ meaning. IsStep self.new meaning
+            (step_of tables.now peer self.old message.now)) }
     {
         match message {
-            Message::Request => Ok(Heard::Partial),
-            Message::Finished | Message::Partial => Ok(Heard::Confirm),
-            Message::ProtocolError | Message::SizeError => Ok(Heard::End(End::PeerError)),
+            Message::Request => Ok(Meaning::Partial),
+            Message::Finished | Message::Partial => Ok(Meaning::Confirm),
+            Message::ProtocolError | Message::SizeError => Ok(Meaning::End(End::PeerError)),
             Message::Update { id, life, rest } => {
                 self.update(alloc, tables, peer, *id, *life, rest.as_slice())
             }
@@ -236,13 +240,14 @@ impl Track {
             }
             Message::Switch(id) => Ok(self.switch(*id)),
             Message::Confirm | Message::Heartbeat | Message::Acked { .. } | Message::Other { .. } =>
-                Ok(Heard::Nothing),
+                Ok(Meaning::Nothing),
         }
     }
 
     /// An id gets a definition, and is in force.
-    fn define(&mut self, id: u64, followed: Option<Followed>) -> Result<Heard, NoMemory>
-        ensures { IfOk result (λ heard. Gave self.new heard (defined self.old id followed (entry_of id self.old.entries))) }
+    fn define(&mut self, id: u64, followed: Option<Followed>) -> Result<Meaning, NoMemory>
+        ensures { IfOk result (λ meaning. IsStep self.new meaning
+            (defined self.old id followed (entry_of id self.old.entries))) }
     {
         let at = place(self.entries.as_slice(), id);
         match entry_of(self.entries.as_slice(), id) {
@@ -253,10 +258,10 @@ impl Track {
             None => {
                 if followed.is_none() {
                     self.current = None;
-                    return Ok(Heard::Nothing);
+                    return Ok(Meaning::Nothing);
                 }
                 if self.entries.len() >= MOST_FOLLOWED {
-                    return Ok(Heard::End(End::Wire(WireCause::BadField)));
+                    return Ok(Meaning::End(End::Wire(WireCause::BadField)));
                 }
                 let entry = Entry {
                     id,
@@ -268,12 +273,12 @@ impl Track {
                 self.current = Some(at);
             }
         }
-        Ok(Heard::Nothing)
+        Ok(Meaning::Nothing)
     }
 
     /// An id is in force, with its last definition.
-    fn switch(&mut self, id: u64) -> Heard
-        ensures { Gave self.new result (switched self.old id) }
+    fn switch(&mut self, id: u64) -> Meaning
+        ensures { IsStep self.new result (switched self.old id) }
     {
         self.current = match entry_of(self.entries.as_slice(), id) {
             Some(
@@ -284,7 +289,7 @@ impl Track {
             ) => Some(place(self.entries.as_slice(), id)),
             _ => None,
         };
-        Heard::Nothing
+        Meaning::Nothing
     }
 
     /// An update under the id in force.
@@ -296,23 +301,24 @@ impl Track {
         id: Option<u32>,
         life: Option<u32>,
         bytes: &[u8],
-    ) -> Result<Heard, NoMemory>
-        ensures { IfOk result (λ heard. Gave self.new heard (updated_under tables.now peer self.old self.old.current id life bytes.now)) }
+    ) -> Result<Meaning, NoMemory>
+        ensures { IfOk result (λ meaning. IsStep self.new meaning
+            (updated_under tables.now peer self.old self.old.current id life bytes.now)) }
     {
         let Some(at) = self.current else {
-            return Ok(Heard::Nothing);
+            return Ok(Meaning::Nothing);
         };
         let Some(entry) = self.entries.get(at) else {
-            return Ok(Heard::Nothing);
+            return Ok(Meaning::Nothing);
         };
         let Some(followed) = &entry.followed else {
-            return Ok(Heard::Nothing);
+            return Ok(Meaning::Nothing);
         };
         let Some(put) = put_of(alloc, tables, peer, followed, life, bytes)? else {
-            return Ok(Heard::End(End::Wire(WireCause::BadField)));
+            return Ok(Meaning::End(End::Wire(WireCause::BadField)));
         };
         note_update(&mut self.entries[at], id);
-        Ok(Heard::Fact(put))
+        Ok(Meaning::Fact(put))
     }
 }
 

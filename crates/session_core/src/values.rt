@@ -3,17 +3,20 @@
 ghost use Rattle.std.specs.Prelude.{◌≡◌, ◌<◌, ◌^◌, ◌%◌, IfOk, map, if◌then◌else◌};
 ghost use Rattle.std.specs.Option.{option_map};
 ghost use Rattle.peers_msg.specs.Payload.{number_at, string_at};
-ghost use Rattle.session_core.specs.Values.{bytes_at, text_at, key_at, has_type, is_rate_type, count_at, rate_at, sent_at, sents_at, periods_of, cell_of, cells_of, rate_cell, count_cell, life_of};
+ghost use Rattle.session_core.specs.Values.{bytes_at, text_at, key_at, has_type, is_rate_type, count_at, rate_at, sent_at, sents_at, periods_of, cell_of, cells_of, rate_cell, elapsed_of, count_cell, life_of};
 
 use agg_types::{Cell, Col, Items, KeyKind, NoMemory};
-use peers_msg::get_int;
+use peers_msg::{LAST_TYPE, get_int};
 use std::alloc::Global;
 
-/// How many data types come before those that are trailing bytes: 0 to 18.
-pub(crate) const TYPES: usize = 19;
+/// How many data types come before those that are trailing bytes.
+pub(crate) const TYPES: usize = LAST_TYPE as usize + 1;
 
 /// The longest life of a row, in ms; a longer one counts as this.
 const LONGEST_LIFE: u64 = 4_294_967_295;
+
+/// From here to 2^32 - 1 an elapsed time is one that is below 0, in ms.
+const FIRST_BELOW_ZERO: u64 = (1 << 32) - 60_000;
 
 /// What an update has of a data type, as it was sent.
 #[derive(Clone, Copy, Debug, PartialEq, Eq)]
@@ -184,7 +187,7 @@ fn rate_cell(given: bool, sent: Sent) -> Cell
 {
     match sent {
         Sent::Rate { elapsed, cur, prev } if given => Cell::Rate {
-            elapsed,
+            elapsed: elapsed_of(elapsed),
             cur: low_word(cur),
             prev: low_word(prev),
         },
@@ -193,6 +196,19 @@ fn rate_cell(given: bool, sent: Sent) -> Cell
             cur: 0,
             prev: 0,
         },
+    }
+}
+
+/// The elapsed time of a rate, in ms. HAProxy's ticks have 32 bits, and where the clocks of its
+/// threads differ it sends a time that is a little below 0 as 2^32 less so much. That is 0 here, as
+/// it is for HAProxy's own receivers, which count the events of such a rate.
+fn elapsed_of(elapsed: u64) -> u64
+    ensures { result ≡ elapsed_of elapsed }
+{
+    if elapsed >= FIRST_BELOW_ZERO && elapsed < 1 << 32 {
+        0
+    } else {
+        elapsed
     }
 }
 

@@ -1,8 +1,7 @@
 use Rattle.std.proofs.Common.{◌≡◌, [], drop, List}
-use Rattle.std.specs.List.{list_any}
 use Rattle.fleet_core.specs.declared.step.Step.{Step}
-use Rattle.fleet_core.specs.Runs.{done, is_unfit, sent_in, spends}
-use Rattle.fleet_core.specs.Standing.{StandsFor}
+use Rattle.fleet_core.specs.Runs.{done, sent_in, step_fault}
+use Rattle.fleet_core.specs.StandsFor.{StandsFor}
 use Rattle.fleet_core.proofs.runs.run.Given as goal
 
 -- of the steps so far those that could be were done, and those that are left decide what is still to be said
@@ -14,6 +13,5 @@ invariant-loop-step l =
       waiting : l.fleet.waiting ≡ [];
       rest : done l.fn.config l.fn.moment past (drop l.step-index l.steps) ≡ done l.fn.config l.fn.moment [] l.steps;
       sent : l.sent ≡ sent_in l.fn.config l.fn.moment past;
-      fit : list_any (is_unfit l.fn.config) (drop l.step-index l.steps) ≡ list_any (is_unfit l.fn.config) l.steps;
-      numbered : spends l.fn.config l.fn.moment past (drop l.step-index l.steps) ≡ spends l.fn.config l.fn.moment [] l.steps;
+      no_fault : step_fault l.fn.config l.fn.moment past (drop l.step-index l.steps) ≡ step_fault l.fn.config l.fn.moment [] l.steps;
     }

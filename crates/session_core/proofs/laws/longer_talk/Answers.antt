@@ -1,7 +1,7 @@
 use Rattle.session_core.specs.Piece.{piece_of}
 use Rattle.session_core.specs.Talk.{stage_of}
 use Rattle.session_core.proofs.PieceTalk.{piece_gives}
-use Rattle.session_core.proofs.ToldLemmas.{ended_stays}
+use Rattle.session_core.proofs.TalkAnswerLemmas.{ended_stays}
 use Rattle.session_core.proofs.laws.longer_talk.Goals as goal
 
 pub returns-clause-facts : goal.returns-clause-facts

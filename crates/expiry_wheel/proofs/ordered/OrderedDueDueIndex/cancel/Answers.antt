@@ -1,11 +1,11 @@
-use Rattle.std.proofs.Common.{◌≡◌, true, ap, sym, ◌∙◌}
+use Rattle.std.proofs.Common.{◌≡◌, true, ap, sym, ◌∙◌, subst}
 use Rattle.std.specs.Ordering.{nat_cmp}
 use Rattle.std.specs.BTreeMap.{is_at}
 use Rattle.std.specs.Map.{set_value, remove_entry}
-use Rattle.expiry_wheel.specs.Entries.{has_entry, without_entry}
+use Rattle.expiry_wheel.specs.Entries.{has_entry, without_entry, IsInOrder}
 use Rattle.expiry_wheel.specs.Moments.{entries_of}
 use Rattle.expiry_wheel.proofs.Lists.{some_items}
-use Rattle.expiry_wheel.proofs.Grouped.{Located, Vacant, place_found, gap_found, groups_written, groups_dropped, cancelled_there, cancelled_last, cancelled_absent, has_there, has_absent}
+use Rattle.expiry_wheel.proofs.Grouped.{Located, Vacant, place_found, gap_found, groups_written, groups_dropped, cancelled_there, cancelled_last, cancelled_absent, has_there, has_absent, sorted-entries_of}
 use Rattle.expiry_wheel.proofs.ordered.OrderedDueDueIndex.cancel.Goals as goal
 
 pub returns-in_default-clause-found : goal.returns-in_default-clause-found
@@ -66,3 +66,15 @@ returns-else-is_empty-clause-removed g c =
     ∙ ap (λ w. entries_of (set_value (is_at (nat_cmp c.args.at)) ms w)) c.remove-found.ensures.removed
     ∙ sym (cancelled_there g.T.Ord.cmp c.args.at c.args.item.now c.in-Some.together.now ms place)
     ∙ ap (λ es. without_entry g.T.Ord.cmp es (c.args.at, c.args.item.now)) c.self.view_is
+
+pub returns-in_default-clause-ordered : goal.returns-in_default-clause-ordered
+returns-in_default-clause-ordered g c =
+    subst (IsInOrder g.T.Ord.cmp) c.self.view_is (sorted-entries_of g.T.Ord.cmp c.self.inside.moments.entries c.self.invariant)
+
+pub returns-then-is_empty-clause-ordered : goal.returns-then-is_empty-clause-ordered
+returns-then-is_empty-clause-ordered g c =
+    subst (IsInOrder g.T.Ord.cmp) c.self.view_is (sorted-entries_of g.T.Ord.cmp c.self.inside.moments.entries c.self.invariant)
+
+pub returns-else-is_empty-clause-ordered : goal.returns-else-is_empty-clause-ordered
+returns-else-is_empty-clause-ordered g c =
+    subst (IsInOrder g.T.Ord.cmp) c.self.view_is (sorted-entries_of g.T.Ord.cmp c.self.inside.moments.entries c.self.invariant)

@@ -6,11 +6,11 @@ use Rattle.std.specs.List.Sorted.{IsStrictlySortedBy}
 use Rattle.std.specs.BTreeMap.{is_at, insert_entry}
 use Rattle.std.specs.Map.{lookup, set_value}
 use Rattle.std.proofs.lemmas.Map.Steps.{set_value_same}
-use Rattle.expiry_wheel.specs.Entries.{with_entry}
+use Rattle.expiry_wheel.specs.Entries.{with_entry, IsInOrder}
 use Rattle.expiry_wheel.specs.Moments.{entries_of, AreGroups}
 use Rattle.expiry_wheel.proofs.Lists.{some-insert_key}
 use Rattle.expiry_wheel.proofs.Steps.{on_ok, on_err, either_way}
-use Rattle.expiry_wheel.proofs.Grouped.{Located, located, Vacant, vacant, some_located, groups_written, groups_inserted, planned_there, planned_anew}
+use Rattle.expiry_wheel.proofs.Grouped.{Located, located, Vacant, vacant, some_located, groups_written, groups_inserted, planned_there, planned_anew, sorted-entries_of}
 use Rattle.expiry_wheel.proofs.ordered.OrderedDueDueIndex.plan.Given as given
 use Rattle.expiry_wheel.proofs.ordered.OrderedDueDueIndex.plan.Goals as goal
 
@@ -68,3 +68,15 @@ returns-clause-ok g c =
     ap entries_of (anew g c)
     ∙ sym (planned_anew g.T.Ord.cmp c.args.at c.args.item c.self.inside.moments.entries (gap_at g c))
     ∙ ap (λ es. with_entry g.T.Ord.cmp es (c.args.at, c.args.item)) c.self.view_is
+
+pub returns-in-Some-clause-ordered : goal.returns-in-Some-clause-ordered
+returns-in-Some-clause-ordered g c =
+    subst (IsInOrder g.T.Ord.cmp) c.self.view_is (sorted-entries_of g.T.Ord.cmp c.self.inside.moments.entries c.self.invariant)
+
+pub returns-in_err-insert-clause-ordered : goal.returns-in_err-insert-clause-ordered
+returns-in_err-insert-clause-ordered g c =
+    subst (IsInOrder g.T.Ord.cmp) c.self.view_is (sorted-entries_of g.T.Ord.cmp c.self.inside.moments.entries c.self.invariant)
+
+pub returns-clause-ordered : goal.returns-clause-ordered
+returns-clause-ordered g c =
+    subst (IsInOrder g.T.Ord.cmp) c.self.view_is (sorted-entries_of g.T.Ord.cmp c.self.inside.moments.entries c.self.invariant)

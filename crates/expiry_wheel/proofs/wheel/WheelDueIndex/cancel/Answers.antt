@@ -1,9 +1,9 @@
 use Rattle.std.proofs.Common.{◌≡◌, ◌<◌, ◌≤◌, [], ◌++◌, ap, sym, ◌∙◌, subst, arith}
 use Rattle.std.specs.Prelude.{slice_set}
 use Rattle.std.specs.BTreeMap.{is_at}
-use Rattle.expiry_wheel.specs.Entries.{entry_cmp, has_entry, without_entry}
+use Rattle.expiry_wheel.specs.Entries.{entry_cmp, has_entry, without_entry, IsInOrder}
 use Rattle.expiry_wheel.specs.Slots.{slot_of, entries_in, IsWheel}
-use Rattle.expiry_wheel.proofs.Slotted.{Opened, opened, all-remove_key, sorted-remove_key, wheel_near, wheel_written, here_ordered, here_slotted, has_near, has_slot, without_near, without_slot}
+use Rattle.expiry_wheel.proofs.Slotted.{Opened, opened, all-remove_key, sorted-remove_key, wheel_near, wheel_written, here_ordered, here_slotted, has_near, has_slot, without_near, without_slot, wheel_in_order}
 use Rattle.expiry_wheel.proofs.wheel.WheelDueIndex.cancel.Given as given
 use Rattle.expiry_wheel.proofs.wheel.WheelDueIndex.cancel.Goals as goal
 
@@ -70,3 +70,11 @@ returns-else-at-self-clause-removed g c =
     ap (λ s. i.near ++ entries_in s) (left g c)
     ∙ sym (without_slot cmp i.now i.near_end i.near i.slots c.self.invariant c.slot_at-slot.result (slot_here g c) c.args.at c.args.item.now c.if-at-self.false (sym c.slot_at-slot.ensures.slot))
     ∙ ap (λ es. without_entry cmp es (c.args.at, c.args.item.now)) c.self.view_is
+
+pub returns-then-at-self-clause-ordered : goal.returns-then-at-self-clause-ordered
+returns-then-at-self-clause-ordered g c =
+    let i = c.self.inside in subst (IsInOrder g.T.Ord.cmp) c.self.view_is (wheel_in_order g.T.Ord.cmp i.now i.near_end i.near i.slots c.self.invariant)
+
+pub returns-else-at-self-clause-ordered : goal.returns-else-at-self-clause-ordered
+returns-else-at-self-clause-ordered g c =
+    let i = c.self.inside in subst (IsInOrder g.T.Ord.cmp) c.self.view_is (wheel_in_order g.T.Ord.cmp i.now i.near_end i.near i.slots c.self.invariant)

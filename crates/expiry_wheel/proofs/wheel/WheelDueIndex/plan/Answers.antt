@@ -1,10 +1,10 @@
 use Rattle.std.proofs.Common.{◌≡◌, ◌<◌, ◌≤◌, [], ◌++◌, ap, sym, ◌∙◌, subst, arith}
 use Rattle.std.specs.Prelude.{slice_set, slice_index_or}
-use Rattle.expiry_wheel.specs.Entries.{entry_cmp, with_entry}
+use Rattle.expiry_wheel.specs.Entries.{entry_cmp, with_entry, IsInOrder}
 use Rattle.expiry_wheel.specs.Slots.{slot_of, entries_in, IsWheel}
 use Rattle.expiry_wheel.proofs.Steps.{on_ok, on_err, either_way}
 use Rattle.expiry_wheel.proofs.Left.{entries_total}
-use Rattle.expiry_wheel.proofs.Slotted.{Opened, opened, all-insert_key, sorted-insert_key, wheel_near, wheel_written, here_ordered, here_slotted, with_near, with_slot}
+use Rattle.expiry_wheel.proofs.Slotted.{Opened, opened, all-insert_key, sorted-insert_key, wheel_near, wheel_written, here_ordered, here_slotted, with_near, with_slot, wheel_in_order}
 use Rattle.expiry_wheel.proofs.wheel.WheelDueIndex.plan.Given as given
 use Rattle.expiry_wheel.proofs.wheel.WheelDueIndex.plan.Goals as goal
 
@@ -69,3 +69,11 @@ returns-else-at-self-clause-ok g c =
 pub returns-else-at-self-clause-err : goal.returns-else-at-self-clause-err
 returns-else-at-self-clause-err g c =
     on_err c.plan-else-at-self.result c.plan-else-at-self.ensures.err (λ e. ap (λ s. c.self.inside.near ++ entries_in s) e ∙ c.self.view_is ∙ c.refine.ensures)
+
+pub returns-then-at-self-clause-ordered : goal.returns-then-at-self-clause-ordered
+returns-then-at-self-clause-ordered g c =
+    let i = c.self.inside in subst (IsInOrder g.T.Ord.cmp) (c.self.view_is ∙ c.refine.ensures) (wheel_in_order g.T.Ord.cmp i.now i.near_end i.near i.slots c.self.invariant)
+
+pub returns-else-at-self-clause-ordered : goal.returns-else-at-self-clause-ordered
+returns-else-at-self-clause-ordered g c =
+    let i = c.self.inside in subst (IsInOrder g.T.Ord.cmp) (c.self.view_is ∙ c.refine.ensures) (wheel_in_order g.T.Ord.cmp i.now i.near_end i.near i.slots c.self.invariant)

@@ -10,8 +10,8 @@ invariant_of-self-in-Short c =
     let short : frame_at c.join.new.growing.items ≡ Short = ap frame_at (sym c.as_slice.ensures) ∙ c.in-Short.ensures.exact in
     short_kept c.self.inside.fault c.join.new.frozen c.join.new.growing.items c.in_default.is c.in_ok-len.ensures.ok.0 short
 
-pub returns-in-Short : goal.returns-in-Short
-returns-in-Short c =
+pub returns-in-Short-clause-reading : goal.returns-in-Short-clause-reading
+returns-in-Short-clause-reading c =
     let short : frame_at c.join.new.growing.items ≡ Short = ap frame_at (sym c.as_slice.ensures) ∙ c.in-Short.ensures.exact in
     let old : Kept = record { rest = c.self.inside.frozen ++ c.self.inside.growing.items; fault = c.self.inside.fault } in
     let same : c.args.self.now ≡ old = sym c.self.view_is in

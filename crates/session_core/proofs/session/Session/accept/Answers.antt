@@ -1,6 +1,6 @@
 use Rattle.std.proofs.Common.{ap, ◌∙◌}
 use Rattle.session_core.specs.declared.stage.Stage.TheVariants.{Greeting}
-use Rattle.session_core.proofs.ToldLemmas.{stage_of_none}
+use Rattle.session_core.proofs.TalkAnswerLemmas.{stage_of_none}
 use Rattle.session_core.proofs.session.Session.accept.Goals as goal
 
 pub returns-clause-stands : goal.returns-clause-stands

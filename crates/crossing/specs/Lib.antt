@@ -1,0 +1,5 @@
+pub mod First
+pub mod Parts
+pub mod Measures
+pub mod Rates
+pub mod Shown

@@ -1,0 +1,125 @@
+ghost use Rattle.std.specs.Prelude.{◌≡◌, ℕ, ◌+◌, ◌*◌, ◌<◌, ◌≤◌, suc, length, MatchBool, IfSome, Option, None, Some};
+ghost use Rattle.crossing.specs.First.{IsFirstFrom, IsFlatSoon};
+ghost use Rattle.crossing.specs.Parts.{AnyTurnsAfter, AreFlatSoon, Differs, IsBy, IsOneOf, TurnsAfter, all_hold, part_holds};
+
+use crate::{Falls, Meter, first_below};
+use agg_types::Op;
+
+/// A condition on a value that only falls: it is compared with the bound.
+#[derive(Clone, Copy, Debug)]
+pub struct Part<F> {
+    pub op: Op,
+    pub bound: u64,
+    pub fall: F,
+}
+
+/// The least moment above `now`, in ms, at which the conditions hold together and didn't at `now`,
+/// or the other way round; none exactly where there is none. For up to five of them, on values that
+/// stay from 2^33 ms on, it reads values at most 500 times.
+pub fn next_change<F: Falls>(parts: &[Part<F>], now: u64, meter: &mut Meter) -> Option<u64>
+    ensures next { IsFirstFrom (now + 1) (Differs F.value parts.now now) result }
+    ensures counted { length parts.now ≤ 5 → AreFlatSoon F.flat now parts.now
+        → meter.new.evals ≤ meter.old.evals + 500 }
+{
+    let held = hold_all(parts, now, meter);
+    soonest(parts, parts, now, held, None, meter)
+}
+
+// Whether all conditions hold at a moment.
+fn hold_all<F: Falls>(parts: &[Part<F>], t: u64, meter: &mut Meter) -> bool
+    ensures value { result ≡ all_hold F.value parts.now t }
+    ensures counted { meter.new.evals ≤ meter.old.evals + length parts.now }
+{
+    match parts {
+        [] => true,
+        [part, rest @ ..] => {
+            let value = meter.read(&part.fall, t);
+            part.op.holds(value, part.bound) && hold_all(rest, t, meter)
+        }
+    }
+}
+
+// Of a moment at which all conditions together differ from `now`, and the turns of these
+// conditions, the least such moment.
+fn soonest<F: Falls>(
+    all: &[Part<F>],
+    rest: &[Part<F>],
+    now: u64,
+    held: bool,
+    found: Option<u64>,
+    meter: &mut Meter,
+) -> Option<u64>
+    requires held { held ≡ all_hold F.value all.now now }
+    requires found { IfSome found (λ t. (now < t) × Differs F.value all.now now t) }
+    ensures differs { IfSome result (λ t. (now < t) × Differs F.value all.now now t) }
+    ensures kept { (t : ℕ) → IsBy found t → IsBy result t }
+    ensures covers { (d : ℕ) → now ≤ d → AnyTurnsAfter F.value d rest.now
+        → Differs F.value all.now now (suc d) → IsBy result (suc d) }
+    ensures counted { length all.now ≤ 5 → AreFlatSoon F.flat now rest.now
+        → meter.new.evals ≤ meter.old.evals + 80 * length rest.now }
+{
+    match rest {
+        [] => found,
+        [part, rest @ ..] => {
+            let (first, second) = turns(part, now, meter);
+            let found = sooner(all, now, held, found, first, meter);
+            let found = sooner(all, now, held, found, second, meter);
+            soonest(all, rest, now, held, found, meter)
+        }
+    }
+}
+
+// The sooner of a moment that was found and another, if all conditions together differ there.
+fn sooner<F: Falls>(
+    all: &[Part<F>],
+    now: u64,
+    held: bool,
+    found: Option<u64>,
+    turn: Option<u64>,
+    meter: &mut Meter,
+) -> Option<u64>
+    requires held { held ≡ all_hold F.value all.now now }
+    requires found { IfSome found (λ t. (now < t) × Differs F.value all.now now t) }
+    ensures differs { IfSome result (λ t. (now < t) × Differs F.value all.now now t) }
+    ensures kept { (t : ℕ) → IsBy found t → IsBy result t }
+    ensures turn { IfSome turn (λ t. now < t → Differs F.value all.now now t → IsBy result t) }
+    ensures counted { meter.new.evals ≤ meter.old.evals + length all.now }
+{
+    let Some(t) = turn else {
+        return found;
+    };
+    if t <= now || is_by(found, t) {
+        return found;
+    }
+    if hold_all(all, t, meter) == held {
+        return found;
+    }
+    Some(t)
+}
+
+// Whether a moment was found, no later than another.
+fn is_by(found: Option<u64>, t: u64) -> bool
+    ensures { MatchBool result (IsBy found t) (IsBy found t → ⊥) }
+{
+    match found {
+        None => false,
+        Some(found) => found <= t,
+    }
+}
+
+// The moments above `now` at which the truth of a condition may turn: there are no others.
+fn turns<F: Falls>(part: &Part<F>, now: u64, meter: &mut Meter) -> (Option<u64>, Option<u64>)
+    ensures turns { (d : ℕ) → now ≤ d → TurnsAfter F.value d part.now → IsOneOf result (suc d) }
+    ensures counted { IsFlatSoon now (F.flat part.now.fall)
+        → meter.new.evals ≤ meter.old.evals + 70 }
+{
+    let bound = u128::from(part.bound);
+    match part.op {
+        Op::Le | Op::Gt => (first_below(&part.fall, now, bound + 1, meter), None),
+        Op::Lt | Op::Ge => (first_below(&part.fall, now, bound, meter), None),
+        Op::Eq | Op::Ne => {
+            let first = first_below(&part.fall, now, bound + 1, meter);
+            (first, first_below(&part.fall, now, bound, meter))
+        }
+    }
+}

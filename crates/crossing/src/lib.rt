@@ -1,0 +1,24 @@
+//! When a value that only falls crosses a bound, and when the joint truth of conditions on such
+//! values changes next, to the millisecond.
+//!
+//! A rate falls as time goes on, a sum of rates and counts too, and so does the number of a key's
+//! rows as they end. Standing filters plan by this crate when a key comes into their set or leaves
+//! it; ranked lists take its `Values`. `Falls` is one such value, `Values` gives those of all keys,
+//! and `Of` is one key's of them.
+//!
+//! Promised: `first_below` gives the least moment at which a value is below a bound, and
+//! `next_change` the least later moment at which the truth of all conditions together differs from
+//! now; none exactly where there is none. `Meter` counts every value that is read for it, and for
+//! up to five conditions on values that stay from 2^33 ms on that is at most 500. Nothing takes
+//! memory. No clause says how long reading a value takes.
+#![tactic(auto)]
+
+mod change;
+mod falls;
+mod first;
+mod values;
+
+pub use change::{Part, next_change};
+pub use falls::{Falls, Meter};
+pub use first::first_below;
+pub use values::{Measured, Of, Values};

@@ -1,0 +1,94 @@
+ghost use Rattle.std.specs.Prelude.{◌≡◌, ℕ, ◌≤◌, List};
+ghost use Rattle.agg_types.specs.declared.column.Col.{Col};
+
+use crate::Falls;
+use agg_types::{Col, Key};
+
+/// The values of all keys as time goes on, in ms: they only fall, and stay from some moment on.
+///
+/// Tables are named by their positions.
+pub trait Values {
+    /// A key's summed value of a column at a moment.
+    ghost summed: { Self → ℕ → List ℕ → Col → ℕ → ℕ };
+
+    /// How many rows of a key live at a moment.
+    ghost living: { Self → ℕ → List ℕ → ℕ → ℕ };
+
+    /// A moment from which a key's values stay.
+    ghost flat: { Self → ℕ → List ℕ → ℕ };
+
+    /// A key's summed value of a column at a moment.
+    fn value(&self, table: usize, key: &Key, col: Col, t: u64) -> u128
+        ensures { result ≡ summed self.now table key.now col t };
+
+    /// How many rows of a key live at a moment.
+    fn live(&self, table: usize, key: &Key, t: u64) -> usize
+        ensures { result ≡ living self.now table key.now t };
+
+    /// A moment from which a key's values stay.
+    fn flat_from(&self, table: usize, key: &Key) -> u64
+        ensures { result ≡ flat self.now table key.now };
+
+    ghost sums_fall: { (v : Self) (table : ℕ) (key : List ℕ) (col : Col) (t later : ℕ)
+        → t ≤ later → summed v table key col later ≤ summed v table key col t };
+
+    ghost rows_end: { (v : Self) (table : ℕ) (key : List ℕ) (t later : ℕ)
+        → t ≤ later → living v table key later ≤ living v table key t };
+
+    ghost sums_stay: { (v : Self) (table : ℕ) (key : List ℕ) (col : Col) (t : ℕ)
+        → flat v table key ≤ t
+        → summed v table key col t ≡ summed v table key col (flat v table key) };
+
+    ghost rows_stay: { (v : Self) (table : ℕ) (key : List ℕ) (t : ℕ)
+        → flat v table key ≤ t → living v table key t ≡ living v table key (flat v table key) };
+}
+
+/// What is looked at of a key.
+#[derive(Clone, Copy, Debug, PartialEq, Eq)]
+pub enum Measured {
+    /// Its summed value of a column.
+    Column(Col),
+    /// How many of its rows live.
+    LiveRows,
+}
+
+/// One value of one key, as it falls.
+#[derive(Clone, Copy, Debug)]
+pub struct Of<'a, V> {
+    pub values: &'a V,
+    pub table: usize,
+    pub key: &'a Key,
+    pub measured: Measured,
+}
+
+impl<'a, V: Values> Falls for Of<'a, V> {
+    ghost use Rattle.crossing.specs.Shown.{measured};
+    ghost use Rattle.crossing.specs.Measures.{measured_falls, measured_stays};
+
+    ghost value = { λ of. measured (V.summed of.values.now of.table of.key.now)
+        (V.living of.values.now of.table of.key.now) of.measured };
+
+    ghost flat = { λ of. V.flat of.values.now of.table of.key.now };
+
+    fn at(&self, t: u64) -> u128 {
+        match self.measured {
+            Measured::Column(col) => self.values.value(self.table, self.key, col, t),
+            Measured::LiveRows => self.values.live(self.table, self.key, t) as u128,
+        }
+    }
+
+    fn flat_from(&self) -> u64 {
+        self.values.flat_from(self.table, self.key)
+    }
+
+    ghost never_rises = { λ of. measured_falls
+        (V.summed of.values.now of.table of.key.now) (V.living of.values.now of.table of.key.now)
+        (V.sums_fall of.values.now of.table of.key.now)
+        (V.rows_end of.values.now of.table of.key.now) of.measured };
+
+    ghost stays = { λ of. measured_stays
+        (V.summed of.values.now of.table of.key.now) (V.living of.values.now of.table of.key.now)
+        (V.flat of.values.now of.table of.key.now)
+        (V.sums_stay of.values.now of.table of.key.now)
+        (V.rows_stay of.values.now of.table of.key.now) of.measured };
+}

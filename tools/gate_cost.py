@@ -1,0 +1,95 @@
+#!/usr/bin/env python3
+"""Runs the gate, and tells where its processor time goes: proofs, tests, edits and programs, for each crate.
+
+    python3 tools/gate_cost.py [--out LOG] [COMMAND ..]     (rt ci where no command is named)
+
+It looks at the processes that the command starts ten times in a second, so what lives shorter isn't counted; a
+crate's line says processor seconds. What the command prints goes to LOG (gate.log), its last line to standard output too.
+"""
+
+import argparse
+import collections
+import os
+import pathlib
+import re
+import subprocess
+import sys
+import time
+
+TICK = os.sysconf("SC_CLK_TCK")
+KINDS = ("proof", "tests", "edits", "program")
+
+
+def of_process(pid):
+    """The parent of a process, its start, and the seconds of processor time that it and its ended children took."""
+    text = pathlib.Path(f"/proc/{pid}/stat").read_text()
+    words = text[text.rindex(")") + 2:].split()
+    return int(words[1]), int(words[19]), sum(int(it) for it in words[11:13]) / TICK
+
+
+def below(top):
+    """The processes that a process started, however far down, with their start and their processor time."""
+    found = {}
+    for name in os.listdir("/proc"):
+        if name.isdigit():
+            try:
+                found[int(name)] = of_process(name)
+            except (OSError, ValueError):
+                pass
+    kept = {top}
+    grown = True
+    while grown:
+        grown = False
+        for pid, (parent, _, _) in found.items():
+            if parent in kept and pid not in kept:
+                kept.add(pid)
+                grown = True
+    return {pid: found[pid] for pid in kept if pid in found and pid != top}
+
+
+def named(pid):
+    """Which crate a process works for, and at what."""
+    try:
+        words = pathlib.Path(f"/proc/{pid}/cmdline").read_bytes().decode(errors="replace").split("\0")
+        folder = os.readlink(f"/proc/{pid}/cwd")
+    except OSError:
+        return None
+    if not words or not words[0].endswith("rattle"):
+        return None
+    crate = words[words.index("--crate-name") + 1] if "--crate-name" in words else "?"
+    if "rt-edit-" in folder:
+        return crate, "edits"
+    if "--test" in words:
+        return crate, "tests"
+    return crate, "program" if words[1:2] == ["build"] and "--crate-checked" in words else "proof"
+
+
+def main():
+    words = argparse.ArgumentParser(description=__doc__, formatter_class=argparse.RawDescriptionHelpFormatter)
+    words.add_argument("--out", default="gate.log")
+    words.add_argument("command", nargs="*")
+    options = words.parse_args()
+    start, spent, names = time.time(), {}, {}
+    with open(options.out, "wb") as log:
+        process = subprocess.Popen(options.command or ["rt", "ci"], stdout=log, stderr=subprocess.STDOUT)
+        while process.poll() is None:
+            for pid, (_, began, seconds) in below(process.pid).items():
+                if (pid, began) not in names:
+                    names[pid, began] = named(pid)
+                spent[pid, began] = seconds
+            time.sleep(0.1)
+    sums = collections.Counter()
+    for one, seconds in spent.items():
+        sums[names[one] or ("other", "program")] += seconds
+    print(f"{'crate':20}" + "".join(f"{kind:>9}" for kind in KINDS) + f"{'all':>9}")
+    crates = sorted({crate for crate, _ in sums}, key=lambda it: -sum(sums[it, kind] for kind in KINDS))
+    for crate in crates + ["all"]:
+        row = [sum(sums[it, kind] for it in (crates if crate == "all" else [crate])) for kind in KINDS]
+        print(f"{crate:20}" + "".join(f"{it:9.0f}" for it in row) + f"{sum(row):9.0f}")
+    last = pathlib.Path(options.out).read_text(errors="replace").rstrip().split("\n")[-1]
+    minutes = sum(sums.values()) / 60
+    print(f"{last}; {(time.time() - start) / 60:.0f} min on {os.cpu_count()} cores, {minutes:.0f} processor minutes")
+    sys.exit(process.returncode)
+
+
+main()

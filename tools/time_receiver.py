@@ -1,0 +1,223 @@
+#!/usr/bin/env python3
+"""Times how fast a receiver of the peers protocol takes updates: the collector, or HAProxy itself.
+
+    time_receiver.py --to 127.0.0.1:10000 --keys 100000 --updates 1000000
+    time_receiver.py --haproxy /usr/sbin/haproxy --keys 100000 --updates 1000000
+
+It speaks as the peer `lb1` to the receiver `agg`, defines a table `t` of addresses with gpc0, conn_cnt and
+http_req_rate(10s), and sends one update of each key, in a scattered order, and then the asked number of
+updates over the keys in that order again. Each is timed from its first byte to the acknowledgement of the
+last update. With `--haproxy` it starts that program as the receiver, on a free port, and says how much
+resident memory a key took; `--threads` is then its `nbthread`. `--random` draws the keys of the updates
+instead, the same in every run. The bytes are prepared before the clock starts.
+"""
+
+import argparse
+import pathlib
+import random
+import select
+import socket
+import struct
+import subprocess
+import sys
+import tempfile
+import time
+
+UPDATE, DEFINE, ACK = 0x80, 0x82, 0x84
+SCATTER = 2147483647
+
+CONFIG = """global
+    nbthread {threads}
+    stats socket {folder}/stats level admin
+defaults
+    timeout client 1m
+    timeout server 1m
+    timeout connect 1s
+peers fleet
+    peer agg 127.0.0.1:{port}
+    peer lb1 127.0.0.1:1
+backend t
+    stick-table type ip size 2m expire 10m store gpc0,conn_cnt,http_req_rate(10s) peers fleet
+"""
+
+
+def put_int(value):
+    """An encoded integer of the protocol."""
+    if value < 240:
+        return bytes([value])
+    out = [240 | (value & 15)]
+    value = (value - 240) >> 4
+    while value >= 128:
+        out.append(128 | (value & 127))
+        value = (value - 128) >> 7
+    out.append(value)
+    return bytes(out)
+
+
+def get_int(data, at):
+    """The encoded integer at a position and the position behind it, or None where the bytes end first."""
+    if at >= len(data):
+        return None
+    value, at = data[at], at + 1
+    if value < 240:
+        return value, at
+    shift = 4
+    while at < len(data):
+        value += data[at] << shift
+        at += 1
+        if data[at - 1] < 128:
+            return value, at
+        shift += 7
+    return None
+
+
+def message(kind, payload):
+    return bytes([10, kind]) + put_int(len(payload)) + payload
+
+
+def definition(expiry):
+    bits = 1 << 2 | 1 << 4 | 1 << 10
+    text = b"t"
+    head = put_int(1) + put_int(len(text)) + text + put_int(4) + put_int(4) + put_int(bits)
+    return message(DEFINE, head + put_int(expiry) + put_int(10) + put_int(10000))
+
+
+def updates(first, numbers):
+    """The bytes of updates of these key numbers, with ids from `first` on."""
+    out = bytearray()
+    values = put_int(7) + put_int(9)
+    rates = [values + put_int(elapsed) + put_int(40) + put_int(30) for elapsed in range(240)]
+    for place, number in enumerate(numbers):
+        key = struct.pack(">I", 0x0A000000 + number)
+        out += message(UPDATE, struct.pack(">I", first + place) + key + rates[place % 240])
+    return bytes(out)
+
+
+def acknowledged(data):
+    """The last update id acknowledged in a stream's bytes so far, and where its last whole message ends."""
+    at, last = 0, 0
+    while at + 2 <= len(data):
+        if data[at + 1] < 128:
+            at += 2
+            continue
+        length = get_int(data, at + 2)
+        if length is None or length[1] + length[0] > len(data):
+            break
+        if data[at] == 10 and data[at + 1] == ACK:
+            payload = data[length[1]:length[1] + length[0]]
+            last = struct.unpack(">I", payload[-4:])[0]
+        at = length[1] + length[0]
+    return last, at
+
+
+class Peer:
+    """A connection that speaks as a peer."""
+
+    def __init__(self, address, sender, receiver):
+        self.socket = socket.create_connection(address, timeout=10)
+        self.socket.setsockopt(socket.IPPROTO_TCP, socket.TCP_NODELAY, 1)
+        self.socket.sendall(f"HAProxyS 2.1\n{receiver}\n{sender} 100 1\n".encode())
+        status = self.socket.recv(4)
+        if status != b"200\n":
+            sys.exit(f"the receiver answered {status!r}")
+        self.unread = b""
+
+    def push(self, data, last):
+        """Sends bytes, and waits for the acknowledgement of the update `last`; the seconds that it took."""
+        self.socket.setblocking(False)
+        view, sent, done = memoryview(data), 0, 0
+        start = time.perf_counter()
+        while done != last:
+            writers = [self.socket] if sent < len(view) else []
+            readable, writable, _ = select.select([self.socket], writers, [], 20)
+            if not readable and not writable:
+                sys.exit(f"nothing for 20 s: {sent} of {len(view)} bytes sent, {done} acknowledged")
+            if writable:
+                sent += self.socket.send(view[sent:sent + 262144])
+            if readable:
+                more = self.socket.recv(262144)
+                if not more:
+                    sys.exit(f"the receiver closed: {sent} of {len(view)} bytes sent")
+                self.unread += more
+                found, end = acknowledged(self.unread)
+                self.unread = self.unread[end:]
+                done = found or done
+        return time.perf_counter() - start
+
+
+def resident(pid):
+    """The resident memory of a process, in bytes."""
+    for line in pathlib.Path(f"/proc/{pid}/status").read_text().split("\n"):
+        if line.startswith("VmRSS:"):
+            return int(line.split()[1]) * 1024
+    return 0
+
+
+def start_haproxy(program, threads, folder):
+    """Starts HAProxy as the receiver; its process and its address."""
+    with socket.socket() as probe:
+        probe.bind(("127.0.0.1", 0))
+        port = probe.getsockname()[1]
+    config = pathlib.Path(folder) / "receiver.cfg"
+    config.write_text(CONFIG.format(threads=threads, folder=folder, port=port))
+    process = subprocess.Popen([program, "-L", "agg", "-f", str(config), "-db"], stderr=subprocess.DEVNULL)
+    for _ in range(50):
+        try:
+            socket.create_connection(("127.0.0.1", port), timeout=1).close()
+            break
+        except OSError:
+            time.sleep(0.1)
+    # In its first second it still tries to call its peers, and may close a connection of theirs for it.
+    time.sleep(1)
+    return process, ("127.0.0.1", port)
+
+
+def measure(address, options, pid):
+    scattered = [(place * SCATTER) % options.keys for place in range(options.keys)]
+    first = definition(options.expiry) + updates(1, scattered)
+    if options.random:
+        draw = random.Random(1)
+        again = [draw.randrange(options.keys) for _ in range(options.updates)]
+    else:
+        again = [scattered[place % options.keys] for place in range(options.updates)]
+    second = updates(options.keys + 1, again)
+    before = resident(pid) if pid else 0
+    peer = Peer(address, options.sender, options.receiver)
+    took = peer.push(first, options.keys)
+    print(f"{options.keys} new keys: {took / options.keys * 1e6:.2f} us each")
+    if pid:
+        print(f"resident: {(resident(pid) - before) / options.keys:.0f} bytes a key")
+    took = peer.push(second, options.keys + options.updates)
+    print(f"{options.updates} updates of held keys: {took / options.updates * 1e6:.2f} us each")
+
+
+def main():
+    words = argparse.ArgumentParser(description=__doc__, formatter_class=argparse.RawDescriptionHelpFormatter)
+    words.add_argument("--to", help="the receiver's address and port")
+    words.add_argument("--haproxy", help="the haproxy program to start as the receiver")
+    words.add_argument("--threads", type=int, default=1)
+    words.add_argument("--keys", type=int, default=100000)
+    words.add_argument("--updates", type=int, default=1000000)
+    words.add_argument("--expiry", type=int, default=600000)
+    words.add_argument("--random", action="store_true")
+    words.add_argument("--sender", default="lb1")
+    words.add_argument("--receiver", default="agg")
+    words.add_argument("--pid", type=int, help="the receiver's process, whose memory is to be told")
+    options = words.parse_args()
+    if options.haproxy:
+        with tempfile.TemporaryDirectory() as folder:
+            process, address = start_haproxy(options.haproxy, options.threads, folder)
+            try:
+                measure(address, options, process.pid)
+            finally:
+                process.terminate()
+                process.wait()
+    elif options.to:
+        host, port = options.to.rsplit(":", 1)
+        measure((host, int(port)), options, options.pid)
+    else:
+        words.error("--to or --haproxy is needed")
+
+
+if __name__ == "__main__":
+    main()
