@@ -23,7 +23,8 @@ import sys
 import tempfile
 import time
 
-UPDATE, DEFINE, ACK = 0x80, 0x82, 0x84
+from peers_protocol import ACK, DEFINE, UPDATE, messages, put_int
+
 SCATTER = 2147483647
 
 CONFIG = """global
@@ -39,36 +40,6 @@ peers fleet
 backend t
     stick-table type ip size 2m expire 10m store gpc0,conn_cnt,http_req_rate(10s) peers fleet
 """
-
-
-def put_int(value):
-    """An encoded integer of the protocol."""
-    if value < 240:
-        return bytes([value])
-    out = [240 | (value & 15)]
-    value = (value - 240) >> 4
-    while value >= 128:
-        out.append(128 | (value & 127))
-        value = (value - 128) >> 7
-    out.append(value)
-    return bytes(out)
-
-
-def get_int(data, at):
-    """The encoded integer at a position and the position behind it, or None where the bytes end first."""
-    if at >= len(data):
-        return None
-    value, at = data[at], at + 1
-    if value < 240:
-        return value, at
-    shift = 4
-    while at < len(data):
-        value += data[at] << shift
-        at += 1
-        if data[at - 1] < 128:
-            return value, at
-        shift += 7
-    return None
 
 
 def message(kind, payload):
@@ -95,19 +66,9 @@ def updates(first, numbers):
 
 def acknowledged(data):
     """The last update id acknowledged in a stream's bytes so far, and where its last whole message ends."""
-    at, last = 0, 0
-    while at + 2 <= len(data):
-        if data[at + 1] < 128:
-            at += 2
-            continue
-        length = get_int(data, at + 2)
-        if length is None or length[1] + length[0] > len(data):
-            break
-        if data[at] == 10 and data[at + 1] == ACK:
-            payload = data[length[1]:length[1] + length[0]]
-            last = struct.unpack(">I", payload[-4:])[0]
-        at = length[1] + length[0]
-    return last, at
+    found, end = messages(data, 0)
+    ids = [struct.unpack(">I", payload[-4:])[0] for klass, kind, payload in found if (klass, kind) == (10, ACK)]
+    return ids[-1] if ids else 0, end
 
 
 class Peer:
