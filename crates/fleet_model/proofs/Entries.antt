@@ -11,23 +11,12 @@ use Rattle.std.specs.Map.{lookup, remove_entry}
 use Rattle.std.specs.Ordering.{is_eq, is_lt, match_ordering}
 use Rattle.std.specs.declared.cmp.Ordering.{Ordering}
 use Rattle.std.specs.declared.cmp.Ordering.TheVariants.{Less, Equal, Greater}
+use Rattle.fleet_model.proofs.Bools.{both, first, second}
 
 -- what an option holds, if it passes a test
 abbrev pub keep : {X : Type 0} → (X → Bool) → Option X → Option X
 keep f None = None
 keep f (Some x) = then_some (f x) x
-
-both : (a b : Bool) → T a → T b → T (a && b)
-both true b p q = q
-both false b p q = p
-
-first : (a b : Bool) → T (a && b) → T a
-first true b p = tt
-first false b p = p
-
-second : (a b : Bool) → T (a && b) → T b
-second true b p = p
-second false b p = absurd p
 
 pub equal_from : (r : Ordering) → is_eq r ≡ true → r ≡ Equal
 equal_from Less e = absurd (subst T (sym e) tt)

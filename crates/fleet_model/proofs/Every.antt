@@ -9,6 +9,7 @@ use Rattle.std.specs.Map.{keys_of, remove_entry}
 use Rattle.std.specs.Ordering.{is_lt, match_ordering}
 use Rattle.std.specs.declared.cmp.Ordering.{Ordering}
 use Rattle.std.specs.declared.cmp.Ordering.TheVariants.{Less, Equal, Greater}
+use Rattle.fleet_model.proofs.Bools.{both}
 use Rattle.fleet_model.proofs.Entries.{remove_is, sorted-filter, sorted-insert}
 use Rattle.fleet_model.proofs.Order.{sorted_keys}
 
@@ -40,10 +41,6 @@ every-remove P test [] h = tt
 every-remove P test (e ∷ es) h = elim (test e.0) as (λ b. AllByRecursion P (cond b es (e ∷ remove_entry test es))) [ true ↦ h.1 | false ↦ (h.0, every-remove P test es h.1) ]
 
 -- ---- the order
-both : (a b : Bool) → T a → T b → T (a && b)
-both true b p q = q
-both false b p q = absurd p
-
 module _ {K X : Type 0} (R : K → K → Ordering) where
   below_from : (x : K) (es : List (K × X)) → AllByRecursion (λ y. R x y ≡ Less) (keys_of es) → T (below_all R x es)
   below_from x [] h = tt

@@ -19,6 +19,7 @@ use Rattle.std.specs.declared.cmp.Ordering.{Ordering}
 use Rattle.std.specs.declared.cmp.Ordering.TheVariants.{Less, Equal, Greater}
 use Rattle.agg_types.specs.Place.{place_cmp}
 use Rattle.agg_types.specs.declared.place.Place.{Place}
+use Rattle.fleet_model.proofs.Bools.{first_equal, second_equal}
 use Rattle.fleet_model.proofs.Entries.{absent, are_apart, gather, gather-filter, insert-others, remove_is, sorted-gather}
 use Rattle.fleet_model.specs.Machine.{with_row}
 use Rattle.fleet_model.specs.Moments.{is_live, lives}
@@ -29,16 +30,6 @@ pub place_cmp_total : IsTotalOrder place_cmp
 place_cmp_total =
     then_total (on_total (λ (p : Place). p.table) nat_cmp_total)
     (then_total (on_total (λ (p : Place). p.key) nat_list_cmp_total) (on_total (λ (p : Place). p.peer) nat_cmp_total))
-
-first_equal : (a b : Ordering) → ordering_then a b ≡ Equal → a ≡ Equal
-first_equal Less b e = e
-first_equal Equal b e = refl
-first_equal Greater b e = e
-
-second_equal : (a b : Ordering) → ordering_then a b ≡ Equal → b ≡ Equal
-second_equal Less b e = cc
-second_equal Equal b e = e
-second_equal Greater b e = cc
 
 -- only equal places tie
 pub place_cmp_exact : (p q : Place) → place_cmp p q ≡ Equal → p ≡ q

@@ -1,3 +1,4 @@
+pub mod Bools
 pub mod Entries
 pub mod InForce
 pub mod Known

@@ -9,15 +9,12 @@ use Rattle.std.specs.Map.{keys_of, lookup}
 use Rattle.std.specs.Ordering.{is_eq, is_gt, is_lt, ordering_reverse}
 use Rattle.std.specs.declared.cmp.Ordering.{Ordering}
 use Rattle.std.specs.declared.cmp.Ordering.TheVariants.{Less, Equal, Greater}
+use Rattle.fleet_model.proofs.Bools.{and_no, both}
 use Rattle.fleet_model.proofs.Entries.{equal_from, same_lookups}
 
 pub any-map : {X Y : Type 0} (p : Y → Bool) (f : X → Y) (xs : List X) → list_any p (map f xs) ≡ list_any (λ x. p (f x)) xs
 any-map p f [] = refl
 any-map p f (x ∷ xs) = ap (λ b. p (f x) || b) (any-map p f xs)
-
-and_no : (a : Bool) → (a && false) ≡ false
-and_no true = refl
-and_no false = refl
 
 and_yes : (a : Bool) → (a && true) ≡ a
 and_yes true = refl
@@ -47,10 +44,6 @@ module _ {K : Type 0} (R : K → K → Ordering) where
 
   less : (o : Ordering) → o ≡ Less → T (is_lt o)
   less o e = subst (λ o. T (is_lt o)) (sym e) tt
-
-  both : (a b : Bool) → T a → T b → T (a && b)
-  both true b p q = q
-  both false b p q = p
 
   abbrev marked : List K → List (K × Bool)
   marked xs = map (λ x. (x, true)) xs

@@ -2,31 +2,28 @@
 use Rattle.std.proofs.Common.{◌≡◌, ℕ, ◌-◌, ◌<◌, ◌≤◌, Bool, true, false, cond, not, ◌&&◌, nat_lt, List, [], ◌∷◌, ◌++◌, length, take, suc, append_assoc, refl, sym, ap, ◌∙◌, arith}
 use Rattle.std.proofs.lemmas.Bool.Decides.{nat_tests}
 use Rattle.std.proofs.lemmas.List.{append-nil, length-append}
-use Rattle.std.specs.List.{cons_option, fold, list_any}
-use Rattle.std.specs.Str.{bytes_eq}
+use Rattle.std.specs.List.{cons_option, fold}
 use Rattle.agg_types.specs.declared.config.Config.{Config}
 use Rattle.agg_types.specs.declared.config.Filter.{Filter}
 use Rattle.agg_types.specs.declared.event.Event.{Event}
 use Rattle.agg_types.specs.declared.event.What.{What}
 use Rattle.agg_types.specs.declared.event.What.TheVariants.{Sit, Open, Put, Clear, AddFilter, Moment, Leave}
+use Rattle.fleet_model.proofs.Bools.{and_no}
 use Rattle.fleet_model.proofs.Step.{counts_same}
-use Rattle.fleet_model.specs.Filters.{added_by, added_in, filters_after, filters_in, first_named, most_filters}
+use Rattle.fleet_model.specs.Filters.{added_by, added_in, filters_after, filters_in, first_named, is_named, most_filters}
 use Rattle.fleet_model.specs.History.{judged}
 use Rattle.fleet_model.specs.Machine.{counts_now}
 use Rattle.fleet_model.specs.Rows.{counted_of, rows_in}
 use Rattle.fleet_model.specs.Seats.{counts}
 use Rattle.fleet_model.specs.State.{state_of}
 
-abbrev named : List Filter → Filter → Bool
-named filters filter = list_any (λ other. bytes_eq other.name filter.name) filters
-
 abbrev standing : List Filter → List Filter → List Filter
 standing filters added = filters ++ take (most_filters - length filters) (first_named filters added)
 
 -- one filter more, as it has room and a new name or not
-one_added : (filters : List Filter) (filter : Filter) (later : List Filter) (after : List Filter → List Filter) → ((fs : List Filter) → after fs ≡ standing fs later) → after (cond (nat_lt (length filters) most_filters && not (named filters filter)) (filters ++ filter ∷ []) filters) ≡ standing filters (filter ∷ later)
+one_added : (filters : List Filter) (filter : Filter) (later : List Filter) (after : List Filter → List Filter) → ((fs : List Filter) → after fs ≡ standing fs later) → after (cond (nat_lt (length filters) most_filters && not (is_named filters filter)) (filters ++ filter ∷ []) filters) ≡ standing filters (filter ∷ later)
 one_added filters filter later after h =
-    elim (named filters filter) as (λ b. after (cond (nat_lt (length filters) most_filters && not b) (filters ++ filter ∷ []) filters) ≡ filters ++ take (most_filters - length filters) (cond b (first_named filters later) (filter ∷ first_named (filters ++ filter ∷ []) later))) [
+    elim (is_named filters filter) as (λ b. after (cond (nat_lt (length filters) most_filters && not b) (filters ++ filter ∷ []) filters) ≡ filters ++ take (most_filters - length filters) (cond b (first_named filters later) (filter ∷ first_named (filters ++ filter ∷ []) later))) [
       | true ↦ ap (λ b. after (cond b (filters ++ filter ∷ []) filters)) (and_no (nat_lt (length filters) most_filters)) ∙ h filters
       | false ↦ elim (nat_lt (length filters) most_filters) as (λ r. nat_lt (length filters) most_filters ≡ r → after (cond (r && true) (filters ++ filter ∷ []) filters) ≡ filters ++ take (most_filters - length filters) (filter ∷ first_named (filters ++ filter ∷ []) later)) [
         | true ↦ λ room.
@@ -43,10 +40,6 @@ one_added filters filter later after h =
             ∙ sym (ap (λ n. filters ++ take n (filter ∷ first_named (filters ++ filter ∷ []) later)) none)
       ] refl
     ]
-  where
-    and_no : (a : Bool) → (a && false) ≡ false
-    and_no true = refl
-    and_no false = refl
 
 more : (filters : List Filter) (w : What) (later : List Filter) (after : List Filter → List Filter) → ((fs : List Filter) → after fs ≡ standing fs later) → after (filters_after filters w) ≡ standing filters (cons_option (added_in w) later)
 more filters Sit later after h = h filters

@@ -16,6 +16,7 @@ use Rattle.agg_types.specs.Place.{place_cmp}
 use Rattle.agg_types.specs.declared.config.Config.{Config}
 use Rattle.agg_types.specs.declared.event.Event.{Event}
 use Rattle.agg_types.specs.declared.place.Place.{Place}
+use Rattle.fleet_model.proofs.Bools.{first, less_from, second}
 use Rattle.fleet_model.proofs.Entries.{gather, same_lookups}
 use Rattle.fleet_model.proofs.InForce.{by_place-sorted}
 use Rattle.fleet_model.proofs.Known.{found-known, is_among, known-sorted}
@@ -52,19 +53,6 @@ unfolding state_of opened judged counted_of rows_in by_place in_force now_of sea
 no_events config opening = λ i. record { config = config; moment = opening; rows = []; sessions = no_sessions config i; seats = []; next_seat = 0 }
 
 -- ---- the order
-less_from : (o : Ordering) → T (is_lt o) → o ≡ Less
-less_from Less h = refl
-less_from Equal h = absurd h
-less_from Greater h = absurd h
-
-first : (a b : Bool) → T (a && b) → T a
-first true b p = tt
-first false b p = p
-
-second : (a b : Bool) → T (a && b) → T b
-second true b p = p
-second false b p = absurd p
-
 module _ {K X : Type 0} (R : K → K → Ordering) where
   below_keys : (x : K) (es : List (K × X)) → T (below_all R x es) → AllByRecursion (λ y. R x y ≡ Less) (keys_of es)
   below_keys x [] h = tt

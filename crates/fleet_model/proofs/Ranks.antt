@@ -12,6 +12,7 @@ use Rattle.std.specs.Ordering.{is_eq, is_lt, nat_cmp, ordering_reverse, ordering
 use Rattle.std.specs.declared.cmp.Ordering.{Ordering}
 use Rattle.std.specs.declared.cmp.Ordering.TheVariants.{Less, Equal, Greater}
 use Rattle.agg_types.specs.declared.column.Col.{Col}
+use Rattle.fleet_model.proofs.Bools.{first_equal, second_equal}
 use Rattle.fleet_model.proofs.Entries.{equal_from}
 use Rattle.fleet_model.proofs.Members.{among, any-map, same_members}
 use Rattle.fleet_model.proofs.Sets.{key_lists}
@@ -89,16 +90,6 @@ sorted-in_order {cmp = cmp} o (x ∷ xs) apart = sorted-put o x (in_order cmp xs
 pub rank_cmp_total : IsTotalOrder rank_cmp
 rank_cmp_total =
     then_total (on_total (λ (e : List ℕ × ℕ). e.1) (back_total nat_cmp_total)) (on_total (λ (e : List ℕ × ℕ). e.0) nat_list_cmp_total)
-
-first_equal : (a b : Ordering) → ordering_then a b ≡ Equal → a ≡ Equal
-first_equal Less b e = e
-first_equal Equal b e = refl
-first_equal Greater b e = e
-
-second_equal : (a b : Ordering) → ordering_then a b ≡ Equal → b ≡ Equal
-second_equal Less b e = cc
-second_equal Equal b e = e
-second_equal Greater b e = cc
 
 pub rank_cmp_exact : (a b : List ℕ × ℕ) → rank_cmp a b ≡ Equal → a ≡ b
 rank_cmp_exact a b e =

@@ -14,6 +14,7 @@ use Rattle.std.specs.declared.cmp.Ordering.TheVariants.{Less, Equal, Greater}
 use Rattle.agg_types.specs.Place.{place_cmp}
 use Rattle.agg_types.specs.declared.config.Filter.{Filter}
 use Rattle.agg_types.specs.declared.place.Place.{Place}
+use Rattle.fleet_model.proofs.Bools.{first, second}
 use Rattle.fleet_model.proofs.Every.{sorted_from}
 use Rattle.fleet_model.proofs.Members.{Rises, UpFrom, among-dedup, among-filter, any-map, same_members, sorted-dedup}
 use Rattle.fleet_model.specs.Answers.{keys_of, set_at}
@@ -28,14 +29,6 @@ key_cmp = slice_cmp nat_cmp
 
 abbrev lives_in : ℕ → ℕ → Place × Arrival → Bool
 lives_in table t row = (row.0.table == table) && is_live t row.1
-
-first : (a b : Bool) → T (a && b) → T a
-first true b p = tt
-first false b p = p
-
-second : (a b : Bool) → T (a && b) → T b
-second true b p = p
-second false b p = absurd p
 
 not_above : (tables keys peers : Ordering) → tables ≡ Equal → T (is_lt (ordering_then tables (ordering_then keys peers))) → is_gt keys ≡ false
 not_above Less keys peers e h = cc

@@ -15,6 +15,7 @@ use Rattle.agg_types.specs.declared.event.Event.{Event}
 use Rattle.agg_types.specs.declared.event.What.{What}
 use Rattle.agg_types.specs.declared.event.What.TheVariants.{Sit, Open, Put, Clear, AddFilter, Moment, Leave}
 use Rattle.agg_types.specs.declared.place.Place.{Place}
+use Rattle.fleet_model.proofs.Bools.{first, less_from, second}
 use Rattle.fleet_model.proofs.Entries.{remove_is}
 use Rattle.fleet_model.proofs.InForce.{by_place-sorted, place_cmp_exact, place_cmp_total}
 use Rattle.fleet_model.proofs.Runs.{along}
@@ -54,19 +55,6 @@ count-insert q (e ∷ es) place arrival =
       | Equal ↦ let front = count-cons (λ (r : Place × Arrival). q r.0) (e.0, arrival) es in omega arith
       | Greater ↦ let front = count-cons (λ (r : Place × Arrival). q r.0) e (insert_entry place_cmp es place arrival) in omega arith
     ]
-
-first : (a b : Bool) → T (a && b) → T a
-first true b p = tt
-first false b p = p
-
-second : (a b : Bool) → T (a && b) → T b
-second true b p = p
-second false b p = absurd p
-
-less_from : (o : Ordering) → T (is_lt o) → o ≡ Less
-less_from Less h = refl
-less_from Equal h = absurd h
-less_from Greater h = absurd h
 
 none_above : (place x : Place) (rows : Rows) → place_cmp place x ≡ Less → T (below_all place_cmp x rows) → list_any (λ r. is_eq (place_cmp place r.0)) rows ≡ false
 none_above place x [] less h = refl

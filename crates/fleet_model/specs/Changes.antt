@@ -42,9 +42,11 @@ cells_flat_from arrived (col ∷ cols) [] = 0
 cells_flat_from arrived (col ∷ cols) (cell ∷ cells) =
     max (cell_flat_from arrived col.1 cell) (cells_flat_from arrived cols cells)
 
--- the moment from which it changes nothing of a row: its rates are 0, and its life is over if it ends
+-- the moment from which it changes nothing of a row: its rates are 0, and its life is over if it
+-- ends
 abbrev pub row_flat_from : List (Col × ℕ) → Arrival → ℕ
-row_flat_from cols row = max (row.arrived + unwrap_or row.life 0) (cells_flat_from row.arrived cols row.cells)
+row_flat_from cols row =
+    max (row.arrived + unwrap_or row.life 0) (cells_flat_from row.arrived cols row.cells)
 
 -- the moment from which it changes nothing of any of these rows
 abbrev pub rows_flat_from : List (Col × ℕ) → Rows → ℕ

@@ -12,9 +12,13 @@ use Rattle.agg_types.specs.declared.event.What.TheVariants.{Sit, Open, Put, Clea
 abbrev pub most_filters : ℕ
 most_filters = 32
 
+-- whether one of them has a filter's name
+abbrev pub is_named : List Filter → Filter → Bool
+is_named filters filter = list_any (λ other. bytes_eq other.name filter.name) filters
+
 -- a filter is taken while fewer than 32 stand, if none of them has its name
 abbrev pub is_new : List Filter → Filter → Bool
-is_new filters filter = nat_lt (length filters) most_filters && not (list_any (λ other. bytes_eq other.name filter.name) filters)
+is_new filters filter = nat_lt (length filters) most_filters && not (is_named filters filter)
 
 -- the filter that is added, if one is
 abbrev pub added_in : What → Option Filter
@@ -32,7 +36,8 @@ filters_after filters Sit = filters
 filters_after filters (Open peer) = filters
 filters_after filters (Put peer table key life cells) = filters
 filters_after filters (Clear table sel) = filters
-filters_after filters (AddFilter filter) = if is_new filters filter then filters ++ filter ∷ [] else filters
+filters_after filters (AddFilter filter) =
+    if is_new filters filter then filters ++ filter ∷ [] else filters
 filters_after filters (Moment moment) = filters
 filters_after filters Leave = filters
 
@@ -49,6 +54,6 @@ added_by (e ∷ counted) = cons_option (added_in e.what) (added_by counted)
 abbrev pub first_named : List Filter → List Filter → List Filter
 first_named before [] = []
 first_named before (filter ∷ later) =
-    if list_any (λ other. bytes_eq other.name filter.name) before
+    if is_named before filter
     then first_named before later
     else filter ∷ first_named (before ++ filter ∷ []) later

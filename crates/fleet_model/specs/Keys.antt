@@ -16,13 +16,11 @@ use Rattle.agg_types.specs.declared.place.Place.{Place}
 use Rattle.fleet_model.specs.Answers.{sum_up}
 use Rattle.fleet_model.specs.Laws.{is_key_among}
 use Rattle.fleet_model.specs.Moments.{is_live}
+pub use Rattle.fleet_model.specs.Rows.{Rows, held_rows}
 use Rattle.fleet_model.specs.State.{State}
 use Rattle.fleet_model.specs.Values.{cols_of, column_worth, live_keys, same_key}
 use Rattle.fleet_model.specs.declared.arrival.Arrival.{Arrival}
 use Rattle.fleet_model.specs.declared.summed.Summed.{Summed}
-
-abbrev pub Rows : Type 0
-Rows = List (Place × Arrival)
 
 -- rows ascend strictly by place
 abbrev pub AreInOrder : Rows → Type 0
@@ -44,17 +42,14 @@ is_at_key table key place = (place.table == table) && same_key key place.key
 abbrev pub key_rows : Rows → ℕ → List ℕ → Rows
 key_rows rows table key = filter (λ row. is_at_key table key row.0) rows
 
--- how many rows a peer holds of a table
-abbrev pub held_rows : Rows → ℕ → ℕ → ℕ
-held_rows rows table peer = count_by (λ row. (row.0.table == table) && (row.0.peer == peer)) rows
-
 -- one, where it is so
 abbrev pub one_if : Bool → ℕ
 one_if b = if b then 1 else 0
 
 -- what a row of a key adds to its value of a column at t
 abbrev pub row_worth : List (Col × ℕ) → Col → ℕ → Arrival → ℕ
-row_worth cols col t row = if is_live t row then column_worth col (t - row.arrived) cols row.cells else 0
+row_worth cols col t row = if is_live t row
+    then column_worth col (t - row.arrived) cols row.cells else 0
 
 -- the value of a column that rows of one key sum up to at t
 abbrev pub worth_of : List (Col × ℕ) → Rows → Col → ℕ → ℕ
@@ -66,13 +61,15 @@ has_live rows t = list_any (λ row. is_live t row.1) rows
 
 -- whether rows of one key meet all conditions at t
 abbrev pub meet_at : List (Col × ℕ) → Rows → List Cond → ℕ → Bool
-meet_at cols rows conds t = list_all (λ cond. op_holds cond.op (worth_of cols rows cond.col t) cond.bound) conds
+meet_at cols rows conds t =
+    list_all (λ cond. op_holds cond.op (worth_of cols rows cond.col t) cond.bound) conds
 
 -- the summed row that rows of one key have, all of which live at t
 abbrev pub sum_of : List (Col × ℕ) → Rows → ℕ → Option Summed
 sum_of cols rows t = sum_up (map (λ col. worth_of cols rows col t) all_cols) t rows
 
--- whether a filter holds a key at t: some row of it lives then, and their values meet all conditions
+-- whether a filter holds a key at t: some row of it lives then, and their values meet all
+-- conditions
 abbrev pub holds : State → Filter → List ℕ → ℕ → Bool
 holds state filtering key t =
     let rows : Rows = key_rows state.rows filtering.table key in

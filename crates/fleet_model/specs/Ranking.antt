@@ -6,9 +6,12 @@ use Rattle.std.specs.declared.cmp.Ordering.{Ordering}
 use Rattle.agg_types.specs.declared.column.Col.{Col}
 use Rattle.agg_types.specs.declared.column.Col.TheVariants.{Gpc0}
 use Rattle.agg_types.specs.declared.config.Rank.{Rank}
-use Rattle.fleet_model.specs.Answers.{keys_of}
+use Rattle.fleet_model.specs.Answers.{key_value, keys_of}
 use Rattle.fleet_model.specs.State.{State}
-use Rattle.fleet_model.specs.Values.{cols_of, value}
+
+-- keys, each with its value
+abbrev pub Entries : Type 0
+Entries = List (List ℕ × ℕ)
 
 -- a larger value stands first, and of equal ones the smaller key
 abbrev pub rank_cmp : List ℕ × ℕ → List ℕ × ℕ → Ordering
@@ -26,14 +29,14 @@ in_order cmp (x ∷ xs) = put_in_order cmp x (in_order cmp xs)
 
 -- a key with its value
 abbrev pub with_value : State → ℕ → Col → List ℕ → List ℕ × ℕ
-with_value state table col key = (key, value (cols_of state.config.tables table) state.rows table key col state.moment)
+with_value state table col key = (key, key_value state table key col state.moment)
 
 -- all keys of a table with a row, each with its value of a column, by rank
-unfoldable pub ranking : State → ℕ → Col → List (List ℕ × ℕ)
+unfoldable pub ranking : State → ℕ → Col → Entries
 ranking state table col = in_order rank_cmp (map (with_value state table col) (keys_of state table))
 
 -- a ranked list: the first keys of its table by its column
-unfoldable pub ranked : State → Rank → List (List ℕ × ℕ)
+unfoldable pub ranked : State → Rank → Entries
 ranked state rank = take rank.n (ranking state rank.table rank.col)
 
 abbrev pub no_rank : Rank

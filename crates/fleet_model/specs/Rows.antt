@@ -1,5 +1,5 @@
--- Which rows are in force: each event is judged once by the list before it, then the rows are chosen
--- from the whole list.
+-- Which rows are in force: each event is judged once by the list before it, then the rows are
+-- chosen from the whole list.
 use Rattle.std.specs.Prelude.{ℕ, Bool, true, false, ◌&&◌, ◌||◌, not, ◌==◌, nat_lt, List, [], ◌∷◌, Option, None, Some, map, filter, fold, count_by, slice_get}
 use Rattle.std.specs.Bool.{then_some}
 use Rattle.std.specs.BTreeMap.{insert_entry}
@@ -20,6 +20,10 @@ use Rattle.fleet_model.specs.Seats.{counts, is_number}
 use Rattle.fleet_model.specs.Sessions.{session}
 use Rattle.fleet_model.specs.Values.{same_place, cols_of, selects}
 
+-- rows, each at its place
+abbrev pub Rows : Type 0
+Rows = List (Place × Arrival)
+
 -- an event, with what the list before it says of it
 pub record Judged : Type 0 where
   pub event : Event
@@ -34,22 +38,30 @@ pub record Judged : Type 0 where
 abbrev pub size_of : List Shape → ℕ → ℕ
 size_of tables table = option_map_or (λ shape. shape.size) (slice_get tables table) 0
 
--- a peer may put a row where it holds one, or while it holds fewer of the table than the table's size
-unfoldable pub has_room : List Shape → List (Place × Arrival) → Place → Bool
+-- how many rows a peer holds of a table
+abbrev pub held_rows : Rows → ℕ → ℕ → ℕ
+held_rows rows table peer = count_by (λ row. (row.0.table == table) && (row.0.peer == peer)) rows
+
+-- a peer may put a row where it holds one, or while it holds fewer of the table than the table's
+-- size
+unfoldable pub has_room : List Shape → Rows → Place → Bool
 has_room tables rows place =
-    list_any (λ row. same_place place row.0) rows || nat_lt (count_by (λ row. (row.0.table == place.table) && (row.0.peer == place.peer)) rows) (size_of tables place.table)
+    list_any (λ row. same_place place row.0) rows
+    || nat_lt (held_rows rows place.table place.peer) (size_of tables place.table)
 
 -- the row of a Put that arrives at t
 abbrev pub arrival_of : List Shape → ℕ → ℕ → Option ℕ → List Cell → Arrival
-arrival_of tables table t life cells = record { arrived = t; life = life; cells = kept_cells (cols_of tables table) cells }
+arrival_of tables table t life cells =
+    record { arrived = t; life = life; cells = kept_cells (cols_of tables table) cells }
 
 -- the row of a Put of the peer's session in force, if it has room
-unfoldable pub row_of : Config → Option ℕ → List (Place × Arrival) → ℕ → Event → What → Option (Place × Arrival)
+unfoldable pub row_of : Config → Option ℕ → Rows → ℕ → Event → What → Option (Place × Arrival)
 row_of config seated rows t e Sit = None
 row_of config seated rows t e (Open peer) = None
 row_of config seated rows t e (Put peer table key life cells) =
     let place : Place = record { table = table; key = key; peer = peer } in
-    then_some (is_number seated e.seat && has_room config.tables rows place) (place, arrival_of config.tables table t life cells)
+    then_some (is_number seated e.seat && has_room config.tables rows place)
+    (place, arrival_of config.tables table t life cells)
 row_of config seated rows t e (Clear table sel) = None
 row_of config seated rows t e (AddFilter filter) = None
 row_of config seated rows t e (Moment moment) = None
@@ -66,11 +78,12 @@ putter (Moment moment) = 0
 putter Leave = 0
 
 -- whether a Clear takes the row at a place
-unfoldable pub clears_at : Config → List (Place × Arrival) → ℕ → What → Place → Bool
+unfoldable pub clears_at : Config → Rows → ℕ → What → Place → Bool
 clears_at config rows t Sit place = false
 clears_at config rows t (Open peer) place = false
 clears_at config rows t (Put peer table key life cells) place = false
-clears_at config rows t (Clear table sel) place = (place.table == table) && selects (cols_of config.tables table) rows table t sel place.key
+clears_at config rows t (Clear table sel) place =
+    (place.table == table) && selects (cols_of config.tables table) rows table t sel place.key
 clears_at config rows t (AddFilter filter) place = false
 clears_at config rows t (Moment moment) place = false
 clears_at config rows t Leave place = false
@@ -80,7 +93,7 @@ if_counted true row = row
 if_counted false row = None
 
 -- an event, judged by the events that counted before it and the rows in force at their moment
-unfoldable pub judge_at : Config → List Event → List (Place × Arrival) → ℕ → Event → Judged
+unfoldable pub judge_at : Config → List Event → Rows → ℕ → Event → Judged
 judge_at config counted rows t e =
     let does = counts config counted e in
     record {
@@ -101,7 +114,8 @@ leaves_alone place judged = not (puts_at judged.row place) && not (judged.clears
 -- a row that lives at t, and that each later event leaves alone
 unfoldable pub if_in_force : ℕ → List Judged → Option (Place × Arrival) → Option (Place × Arrival)
 if_in_force t later None = None
-if_in_force t later (Some row) = then_some (is_live t row.1 && list_all (leaves_alone row.0) later) row
+if_in_force t later (Some row) =
+    then_some (is_live t row.1 && list_all (leaves_alone row.0) later) row
 
 -- the rows in force at t, in the order of their events
 unfoldable pub in_force : ℕ → List Judged → List (Place × Arrival)

@@ -35,7 +35,8 @@ is_leave Leave = true
 -- a seat sits if it sat down and hasn't left
 unfoldable pub sits : List Event → ℕ → Bool
 sits counted seat =
-    list_any (λ e. (e.seat == seat) && is_sit e.what) counted && not (list_any (λ e. (e.seat == seat) && is_leave e.what) counted)
+    list_any (λ e. (e.seat == seat) && is_sit e.what) counted
+    && not (list_any (λ e. (e.seat == seat) && is_leave e.what) counted)
 
 -- the number of a seat's next event, if it sits: how many of its events counted
 unfoldable pub number : List Event → ℕ → Option ℕ
@@ -66,8 +67,8 @@ abbrev pub is_number : Option ℕ → ℕ → Bool
 is_number None n = false
 is_number (Some m) n = m == n
 
--- whether an event comes next: a seat sits down under a number above all earlier ones, while a place
--- is free; any other event has the number of its seat's next event
+-- whether an event comes next: a seat sits down under a number above all earlier ones, while a
+-- place is free; any other event has the number of its seat's next event
 abbrev pub is_next : What → ℕ → ℕ → (free : Bool) → (above : ℕ) → (due : Option ℕ) → Bool
 is_next what seat seq free above due =
     if is_sit what
@@ -77,4 +78,6 @@ is_next what seat seq free above due =
 -- whether an event counts after those that counted: it fits, and it comes next
 unfoldable pub counts : Config → List Event → Event → Bool
 counts config counted e =
-    fits config e.what && is_next e.what e.seat e.seq (nat_lt (length (seats_in counted)) most_seats) (above_all (seats_of counted)) (number counted e.seat)
+    let free : Bool = nat_lt (length (seats_in counted)) most_seats in
+    fits config e.what
+    && is_next e.what e.seat e.seq free (above_all (seats_of counted)) (number counted e.seat)

@@ -21,7 +21,8 @@ opens peer Leave = false
 -- the seat that last opened the peer
 abbrev pub last_opener : ℕ → List Event → Option ℕ
 last_opener peer [] = None
-last_opener peer (e ∷ later) = option_or (last_opener peer later) (then_some (opens peer e.what) e.seat)
+last_opener peer (e ∷ later) =
+    option_or (last_opener peer later) (then_some (opens peer e.what) e.seat)
 
 abbrev pub if_it : (ℕ → Bool) → Option ℕ → Option ℕ
 if_it test None = None

@@ -41,7 +41,9 @@ state_after config opening history counted =
 
 -- what recomputing from the whole list gives
 unfoldable pub state_of : Config → ℕ → List Event → State
-state_of config opening events = state_after config opening (judged config opening events) (counted_of (judged config opening events))
+state_of config opening events =
+    state_after config opening (judged config opening events)
+    (counted_of (judged config opening events))
 
 -- a state is what these events leave
 unfoldable pub Stands : State → Config → ℕ → List Event → Type 0

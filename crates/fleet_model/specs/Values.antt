@@ -39,7 +39,9 @@ abbrev pub column_worth : Col → ℕ → List (Col × ℕ) → List Cell → �
 column_worth col since [] cells = 0
 column_worth col since (stored ∷ cols) [] = 0
 column_worth col since (stored ∷ cols) (cell ∷ cells) =
-    if same_col stored.0 col then cell_worth stored.1 since cell else column_worth col since cols cells
+    if same_col stored.0 col
+    then cell_worth stored.1 since cell
+    else column_worth col since cols cells
 
 -- whether a row is one of a table's key, and lives
 abbrev pub is_of : ℕ → List ℕ → ℕ → Place × Arrival → Bool
@@ -47,19 +49,24 @@ is_of table key t row = (row.0.table == table) && same_key key row.0.key && is_l
 
 -- what a row adds to a key's value of a column: nothing, if it isn't of the key or has ended
 unfoldable pub share : List (Col × ℕ) → ℕ → List ℕ → Col → ℕ → Place × Arrival → ℕ
-share cols table key col t row = if is_of table key t row then column_worth col (t - row.1.arrived) cols row.1.cells else 0
+share cols table key col t row =
+    if is_of table key t row then column_worth col (t - row.1.arrived) cols row.1.cells else 0
 
--- a key's value of a column: the sum over the peers that hold a row of it, each rounded down by itself
+-- a key's value of a column: the sum over the peers that hold a row of it, each rounded down by
+-- itself
 unfoldable pub value : List (Col × ℕ) → List (Place × Arrival) → ℕ → List ℕ → Col → ℕ → ℕ
 value cols rows table key col t = sum_by (share cols table key col t) rows
 
 -- whether all conditions hold of a key's values
 unfoldable pub meets : List (Col × ℕ) → List (Place × Arrival) → ℕ → List ℕ → ℕ → List Cond → Bool
-meets cols rows table key t conds = list_all (λ cond. op_holds cond.op (value cols rows table key cond.col t) cond.bound) conds
+meets cols rows table key t conds =
+    list_all (λ cond. op_holds cond.op (value cols rows table key cond.col t) cond.bound) conds
 
 -- the keys of a table with a row that lives, in order, each once
 unfoldable pub live_keys : List (Place × Arrival) → ℕ → ℕ → List (List ℕ)
-live_keys rows table t = dedup same_key (map (λ row. row.0.key) (filter (λ row. (row.0.table == table) && is_live t row.1) rows))
+live_keys rows table t =
+    let lives_in : Place × Arrival → Bool = λ row. (row.0.table == table) && is_live t row.1 in
+    dedup same_key (map (λ row. row.0.key) (filter lives_in rows))
 
 -- whether a clear takes a key: all do, or one, or those whose values meet the conditions
 abbrev pub selects : List (Col × ℕ) → List (Place × Arrival) → ℕ → ℕ → Select → List ℕ → Bool

@@ -8,15 +8,23 @@ use Rattle.agg_types.specs.declared.config.Filter.{Filter}
 use Rattle.agg_types.specs.declared.config.KeyKind.TheVariants.{Ip}
 use Rattle.agg_types.specs.declared.config.Op.{Op}
 use Rattle.agg_types.specs.declared.config.Op.TheVariants.{Ge}
+use Rattle.agg_types.specs.declared.config.Cond.{Cond}
 use Rattle.agg_types.specs.declared.config.Rank.{Rank}
+use Rattle.agg_types.specs.declared.config.Shape.{Shape}
 use Rattle.agg_types.specs.declared.event.Cell.{Cell}
 use Rattle.agg_types.specs.declared.event.Cell.TheVariants.{Count, Rate}
 use Rattle.agg_types.specs.declared.event.Event.{Event}
 use Rattle.agg_types.specs.declared.event.What.{What}
 use Rattle.agg_types.specs.declared.event.What.TheVariants.{Sit, Open, Put, AddFilter, Moment, Leave}
 use Rattle.fleet_model.specs.Answers.{keys_of, summed}
+use Rattle.fleet_model.specs.Machine.{event_of}
 use Rattle.fleet_model.specs.State.{State, state_of}
 use Rattle.fleet_model.specs.declared.summed.Summed.{Summed}
+
+-- a table of IPv4 keys with this size and column
+abbrev pub table_of : (size : ℕ) → Col → (period : ℕ) → Shape
+table_of size col period =
+    record { name = codes "t"; kind = Ip; size = size; cols = (col, period) ∷ [] }
 
 -- two peers, and one table of IPv4 keys with this size and column
 unfoldable pub fleet_of : (size : ℕ) → Col → (period : ℕ) → List Filter → Config
@@ -24,7 +32,7 @@ fleet_of size col period filters =
     record {
       me = codes "agg";
       peers = codes "lb1" ∷ codes "lb2" ∷ [];
-      tables = (record { name = codes "t"; kind = Ip; size = size; cols = (col, period) ∷ [] }) ∷ [];
+      tables = table_of size col period ∷ [];
       filters = filters;
       ranks = [];
     }
@@ -35,16 +43,22 @@ ip n = 10 ∷ 0 ∷ 0 ∷ n ∷ []
 
 -- the column's only condition
 unfoldable pub filter_on : Col → Op → ℕ → Filter
-filter_on col op bound = record { name = codes "f"; table = 0; conds = (record { col = col; op = op; bound = bound }) ∷ [] }
+filter_on col op bound =
+    let cond : Cond = record { col = col; op = op; bound = bound } in
+    record { name = codes "f"; table = 0; conds = cond ∷ [] }
 
 -- a peer's row of a key with one cell
 unfoldable pub row : (peer : ℕ) → (n : ℕ) → (life : Option ℕ) → Cell → What
 row peer n life cell = Put peer 0 (ip n) life (cell ∷ [])
 
+-- how many of these events are a seat's
+abbrev pub number_in : List Event → ℕ → ℕ
+number_in events seat = count_by (λ e. e.seat == seat) events
+
 -- things that happen at seats, as events, each with its seat's next number
 unfoldable pub numbered : List (ℕ × What) → List Event
 numbered happenings =
-    fold (λ events h. events ++ (record { seat = h.0; seq = count_by (λ e. e.seat == h.0) events; what = h.1 }) ∷ []) [] happenings
+    fold (λ events h. events ++ event_of h.0 (number_in events h.0) h.1 ∷ []) [] happenings
 
 -- what a list of things that happen from moment 0 on leaves
 unfoldable pub left_by : Config → List (ℕ × What) → State
@@ -56,7 +70,9 @@ shown state = map (λ key. (key, summed state 0 key)) (keys_of state 0)
 
 -- a summed row that has a value of one column alone
 unfoldable pub sums_to : Col → (peers : ℕ) → (left : Option ℕ) → (value : ℕ) → Option Summed
-sums_to col peers left value = Some (record { peers = peers; left = left; values = map (λ other. if same_col other col then value else 0) all_cols })
+sums_to col peers left value =
+    let values : List ℕ = map (λ other. if same_col other col then value else 0) all_cols in
+    Some (record { peers = peers; left = left; values = values })
 
 -- a seat sits down and speaks for a peer
 unfoldable pub joined : (seat peer : ℕ) → List (ℕ × What)
@@ -66,7 +82,8 @@ joined seat peer = (seat, Sit) ∷ (seat, Open peer) ∷ []
 unfoldable pub full_table : List (ℕ × What)
 full_table =
     (0, Sit) ∷ joined 1 0
-    ++ (1, row 0 1 (Some 100) (Count 1)) ∷ (1, row 0 2 (Some 60000) (Count 2)) ∷ (1, row 0 3 (Some 60000) (Count 3)) ∷ []
+    ++ (1, row 0 1 (Some 100) (Count 1)) ∷ (1, row 0 2 (Some 60000) (Count 2)) ∷
+    (1, row 0 3 (Some 60000) (Count 3)) ∷ []
 
 -- the first session is lost, the second is taken over by the third, and still says something
 unfoldable pub reconnected : List (ℕ × What)
@@ -87,7 +104,8 @@ cleared_on_sums =
 
 -- a key of two peers, each with 3 events in the period before the running one
 unfoldable pub summed_rates : List (ℕ × What)
-summed_rates = (0, Sit) ∷ joined 1 0 ++ joined 2 1 ++ (1, row 0 1 None (Rate 0 0 3)) ∷ (2, row 1 1 None (Rate 500 0 3)) ∷ []
+summed_rates = (0, Sit) ∷ joined 1 0 ++ joined 2 1
+    ++ (1, row 0 1 None (Rate 0 0 3)) ∷ (2, row 1 1 None (Rate 500 0 3)) ∷ []
 
 -- the first of these two rows alone
 unfoldable pub one_rate : List (ℕ × What)
@@ -101,18 +119,22 @@ slow_rate = (0, Sit) ∷ joined 1 0 ++ (1, row 0 1 None (Rate 0 30 100)) ∷ []
 unfoldable pub added_late : List (ℕ × What)
 added_late =
     (0, Sit) ∷ joined 1 0
-    ++ (1, row 0 1 None (Count 5)) ∷ (1, row 0 2 None (Count 4)) ∷ (0, AddFilter (filter_on Gpc0 Ge 5)) ∷ []
+    ++ (1, row 0 1 None (Count 5)) ∷ (1, row 0 2 None (Count 4)) ∷
+    (0, AddFilter (filter_on Gpc0 Ge 5)) ∷ []
 
 -- three keys with one value
 unfoldable pub equal_keys : List (ℕ × What)
 equal_keys =
-    (0, Sit) ∷ joined 1 0 ++ (1, row 0 3 None (Count 5)) ∷ (1, row 0 1 None (Count 5)) ∷ (1, row 0 2 None (Count 5)) ∷ []
+    (0, Sit) ∷ joined 1 0
+    ++ (1, row 0 3 None (Count 5)) ∷ (1, row 0 1 None (Count 5)) ∷
+    (1, row 0 2 None (Count 5)) ∷ []
 
 -- a rate of the period before that is nearly over, and two that begin
 unfoldable pub falling_keys : List (ℕ × What)
 falling_keys =
     (0, Sit) ∷ joined 1 0
-    ++ (1, row 0 3 None (Rate 0 0 100)) ∷ (0, Moment 990) ∷ (1, row 0 1 None (Rate 0 5 0)) ∷ (1, row 0 2 None (Rate 0 3 0)) ∷ []
+    ++ (1, row 0 3 None (Rate 0 0 100)) ∷ (0, Moment 990) ∷ (1, row 0 1 None (Rate 0 5 0)) ∷
+    (1, row 0 2 None (Rate 0 3 0)) ∷ []
 
 -- the first two keys by a column
 unfoldable pub first_two : Col → Rank

@@ -1,5 +1,5 @@
-//! What the definitions promise. Each law stands on a function that does nothing: its clause is the law,
-//! over every configuration, opening moment and list of events.
+//! What the definitions promise. Each law stands on a function that does nothing: its clause is the
+//! law, over every configuration, opening moment and list of events.
 
 ghost use Rattle.std.specs.Prelude.{◌≡◌, ◌≢◌, ℕ, ◌+◌, ◌<◌, ◌≤◌, ◌^◌, Bool, not, true, false, is_some, length, List, [], ◌∷◌, ◌++◌, Option, Some, filter, fold, min, sum_by, take, ◌-◌};
 ghost use Rattle.std.specs.BTreeMap.{insert_entry, is_at};
@@ -42,25 +42,32 @@ pub fn nothing_happened()
     ensures { (config : Config) (opening : ℕ) → state_of config opening [] ≡ opened config opening }
 {}
 
-/// Recomputing from a list of events with one more at its end gives what that event makes of the state
-/// that recomputing from the list gives: for every kind of event, whether it counts or not.
+/// Recomputing from a list of events with one more at its end gives what that event makes of the
+/// state that recomputing from the list gives: for every kind of event, whether it counts or not.
 pub fn one_event_more()
-    ensures { (config : Config) (opening : ℕ) (events : List Event) (e : Event) → state_of config opening (events ++ e ∷ []) ≡ after (state_of config opening events) e }
+    ensures { (config : Config) (opening : ℕ) (events : List Event) (e : Event)
+        → state_of config opening (events ++ e ∷ []) ≡ after (state_of config opening events) e }
 {}
 
-/// A state that a list of events leaves becomes, by one more event, the one that the longer list leaves.
+/// A state that a list of events leaves becomes, by one more event, the one that the longer list
+/// leaves.
 pub fn stands_after_one_more()
-    ensures { (state : State) (config : Config) (opening : ℕ) (events : List Event) (e : Event) → Stands state config opening events → Stands (after state e) config opening (events ++ e ∷ []) }
+    ensures { (state : State) (config : Config) (opening : ℕ) (events : List Event) (e : Event)
+        → Stands state config opening events
+        → Stands (after state e) config opening (events ++ e ∷ []) }
 {}
 
 /// Recomputing from a whole list gives what the machine leaves that takes its events one by one.
 pub fn step_by_step()
-    ensures { (config : Config) (opening : ℕ) (events : List Event) → state_of config opening events ≡ fold after (opened config opening) events }
+    ensures { (config : Config) (opening : ℕ) (events : List Event)
+        → state_of config opening events ≡ fold after (opened config opening) events }
 {}
 
 /// An event that doesn't count changes nothing.
 pub fn uncounted_events_change_nothing()
-    ensures { (config : Config) (opening : ℕ) (events : List Event) (e : Event) → counts_now (state_of config opening events) e ≡ false → state_of config opening (events ++ e ∷ []) ≡ state_of config opening events }
+    ensures { (config : Config) (opening : ℕ) (events : List Event) (e : Event)
+        → counts_now (state_of config opening events) e ≡ false
+        → state_of config opening (events ++ e ∷ []) ≡ state_of config opening events }
 {}
 
 /// Whether an event counts after a list is said of the list: by the events in it that counted.
@@ -70,8 +77,8 @@ pub fn counting_is_of_the_list()
         ≡ counts config (counted_of (judged config opening events)) e }
 {}
 
-/// The filters that stand are the configured ones, and behind them the first of each name that was added
-/// and isn't configured, while fewer than 32 stand.
+/// The filters that stand are the configured ones, and behind them the first of each name that was
+/// added and isn't configured, while fewer than 32 stand.
 pub fn filters_are_the_first_of_each_name()
     ensures { (config : Config) (opening : ℕ) (events : List Event)
         → (state_of config opening events).config.filters
@@ -79,16 +86,23 @@ pub fn filters_are_the_first_of_each_name()
         (first_named config.filters (added_by (counted_of (judged config opening events)))) }
 {}
 
-/// What a state says of a seat is the number of its next event, which is how many of its events counted; and
-/// what it says of a peer is the seat that last opened it, if that seat still sits.
+/// What a state says of a seat is the number of its next event, which is how many of its events
+/// counted; and what it says of a peer is the seat that last opened it, if that seat still sits.
 pub fn seats_and_sessions_are_found()
-    ensures numbers { (config : Config) (opening : ℕ) (events : List Event) (seat : ℕ) → number_of (state_of config opening events) seat ≡ number (counted_of (judged config opening events)) seat }
-    ensures sessions { (config : Config) (opening : ℕ) (events : List Event) (peer : ℕ) → peer < length config.peers → session_of (state_of config opening events) peer ≡ session (counted_of (judged config opening events)) peer }
+    ensures numbers { (config : Config) (opening : ℕ) (events : List Event) (seat : ℕ)
+        → number_of (state_of config opening events) seat
+        ≡ number (counted_of (judged config opening events)) seat }
+    ensures sessions { (config : Config) (opening : ℕ) (events : List Event) (peer : ℕ)
+        → peer < length config.peers
+        → session_of (state_of config opening events) peer
+        ≡ session (counted_of (judged config opening events)) peer }
 {}
 
-/// What a list of events leaves is in order: rows strictly by place, sessions by peer and seats by number.
+/// What a list of events leaves is in order: rows strictly by place, sessions by peer and seats by
+/// number.
 pub fn states_are_ordered()
-    ensures { (config : Config) (opening : ℕ) (events : List Event) → IsOrdered (state_of config opening events) }
+    ensures { (config : Config) (opening : ℕ) (events : List Event)
+        → IsOrdered (state_of config opening events) }
 {}
 
 /// At most one row is in force of a peer, table and key: in every state that is in order.
@@ -96,26 +110,32 @@ pub fn one_row_of_a_place()
     ensures { (state : State) → IsOrdered state → IsDistinct same_place (keys_of state.rows) }
 {}
 
-/// A row is in force exactly where some event put it, as a Put of its peer's session in force with room at
-/// that event's place in the list; it lives at the last moment; and no later event put another row at its
-/// place or cleared it, each judged at its own place in the list.
+/// A row is in force exactly where some event put it, as a Put of its peer's session in force with
+/// room at that event's place in the list; it lives at the last moment; and no later event put
+/// another row at its place or cleared it, each judged at its own place in the list.
 pub fn rows_in_force_are_exact()
-    ensures put { (config : Config) (opening : ℕ) (events : List Event) (row : Place × Arrival) → lookup (is_at (place_cmp row.0)) (state_of config opening events).rows ≡ Some row.1 → IsInForce config opening events row }
-    ensures found { (config : Config) (opening : ℕ) (events : List Event) (row : Place × Arrival) → IsInForce config opening events row → lookup (is_at (place_cmp row.0)) (state_of config opening events).rows ≡ Some row.1 }
+    ensures put { (config : Config) (opening : ℕ) (events : List Event) (row : Place × Arrival)
+        → lookup (is_at (place_cmp row.0)) (state_of config opening events).rows ≡ Some row.1
+        → IsInForce config opening events row }
+    ensures found { (config : Config) (opening : ℕ) (events : List Event) (row : Place × Arrival)
+        → IsInForce config opening events row
+        → lookup (is_at (place_cmp row.0)) (state_of config opening events).rows ≡ Some row.1 }
 {}
 
 /// Each row in force lives at the last moment.
 pub fn rows_in_force_live()
-    ensures { (config : Config) (opening : ℕ) (events : List Event) → AreLive (state_of config opening events) }
+    ensures { (config : Config) (opening : ℕ) (events : List Event)
+        → AreLive (state_of config opening events) }
 {}
 
 /// A peer never holds more rows of a table than the table's size.
 pub fn sizes_hold()
-    ensures { (config : Config) (opening : ℕ) (events : List Event) → IsWithinSizes (state_of config opening events) }
+    ensures { (config : Config) (opening : ℕ) (events : List Event)
+        → IsWithinSizes (state_of config opening events) }
 {}
 
-/// A moment that isn't later, a row of a seat that isn't its peer's session in force, a row past the table's
-/// size, and a filter that isn't taken change no summed row, set or ranked list.
+/// A moment that isn't later, a row of a seat that isn't its peer's session in force, a row past
+/// the table's size, and a filter that isn't taken change no summed row, set or ranked list.
 pub fn some_events_say_nothing()
     ensures { (state : State) (e : Event)
         → AreLive state → SaysNothing state e.seat e.what → AnswersAlike state (after state e) }
@@ -128,27 +148,37 @@ pub fn lost_sessions_keep_rows()
 
 /// A seat becomes the session in force of a peer by opening it, and in no other way.
 pub fn in_force_by_opening()
-    ensures { (config : Config) (opening : ℕ) (events later : List Event) (peer seat : ℕ) → list_any (opens_at seat peer) later ≡ false → session_of (state_of config opening events) peer ≢ Some seat → session_of (state_of config opening (events ++ later)) peer ≢ Some seat }
+    ensures { (config : Config) (opening : ℕ) (events later : List Event) (peer seat : ℕ)
+        → list_any (opens_at seat peer) later ≡ false
+        → session_of (state_of config opening events) peer ≢ Some seat
+        → session_of (state_of config opening (events ++ later)) peer ≢ Some seat }
 {}
 
-/// A session never comes back once another seat opened its peer, unless its own seat opens the peer again.
+/// A session never comes back once another seat opened its peer, unless its own seat opens the peer
+/// again.
 pub fn older_sessions_stay_out()
-    ensures { (config : Config) (opening : ℕ) (events : List Event) (e : Event) (later : List Event) (peer seat : ℕ) → counts_now (state_of config opening events) e ≡ true → e.what ≡ Open peer → e.seat ≢ seat → list_any (opens_at seat peer) later ≡ false → session_of (state_of config opening ((events ++ e ∷ []) ++ later)) peer ≢ Some seat }
+    ensures { (config : Config) (opening : ℕ) (events : List Event) (e : Event)
+        (later : List Event) (peer seat : ℕ) → counts_now (state_of config opening events) e ≡ true
+        → e.what ≡ Open peer → e.seat ≢ seat → list_any (opens_at seat peer) later ≡ false
+        → session_of (state_of config opening ((events ++ e ∷ []) ++ later)) peer ≢ Some seat }
 {}
 
-/// The summed row of a key is none exactly where no row of it lives. Else it has how many do, the most ms that
-/// one of them has left, or none where one never ends, and the value of each column.
+/// The summed row of a key is none exactly where no row of it lives. Else it has how many do, the
+/// most ms that one of them has left, or none where one never ends, and the value of each column.
 pub fn sums_are_exact()
-    ensures { (state : State) (table : ℕ) (key : List ℕ) → IsSummedRow state table key (summed state table key) }
+    ensures { (state : State) (table : ℕ) (key : List ℕ)
+        → IsSummedRow state table key (summed state table key) }
 {}
 
 /// A key's value of a column never rises by the clock alone.
 pub fn values_never_rise()
-    ensures { (cols : List (Col × ℕ)) (state : State) (table : ℕ) (key : List ℕ) (col : Col) (t later : ℕ) → t ≤ later → value cols state.rows table key col later ≤ value cols state.rows table key col t }
+    ensures { (cols : List (Col × ℕ)) (state : State) (table : ℕ) (key : List ℕ) (col : Col)
+        (t later : ℕ) → t ≤ later
+        → value cols state.rows table key col later ≤ value cols state.rows table key col t }
 {}
 
-/// Sets and values at a moment to come are the same before and after an earlier moment is told: what is
-/// foreseen by the clock alone comes true.
+/// Sets and values at a moment to come are the same before and after an earlier moment is told:
+/// what is foreseen by the clock alone comes true.
 pub fn the_clock_alone()
     ensures sets { (state : State) (e : Event) (told : ℕ) → e.what ≡ Moment told
         → (filtering : Filter) (t : ℕ) → state.moment ≤ t → told ≤ t
@@ -159,32 +189,37 @@ pub fn the_clock_alone()
         → value cols (after state e).rows table key col t ≡ value cols state.rows table key col t }
 {}
 
-/// The keys of a table are exactly those of which a row lives, each once, in the order of their bytes.
+/// The keys of a table are exactly those of which a row lives, each once, in the order of their
+/// bytes.
 pub fn keys_are_exact()
     ensures { (state : State) (table : ℕ)
         → IsOrdered state → IsKeyList state table (answers.keys_of state table) }
 {}
 
-/// A filter's set at a moment is exactly the keys with a row that lives then and for which each of its
-/// conditions holds, each once, in the order of their bytes. There is no other such list.
+/// A filter's set at a moment is exactly the keys with a row that lives then and for which each of
+/// its conditions holds, each once, in the order of their bytes. There is no other such list.
 pub fn sets_are_exact()
     ensures is_one { (state : State) (filtering : Filter) (t : ℕ)
         → IsOrdered state → IsSetAt state filtering t (set_at state filtering t) }
-    ensures only { (state : State) (filtering : Filter) (t : ℕ) (keys others : List (List ℕ)) → IsSetAt state filtering t keys → IsSetAt state filtering t others → keys ≡ others }
+    ensures only { (state : State) (filtering : Filter) (t : ℕ) (keys others : List (List ℕ))
+        → IsSetAt state filtering t keys → IsSetAt state filtering t others → keys ≡ others }
 {}
 
-/// The ranking of a table has each key with a row once, with its value: a larger value before a smaller
-/// one, and of equal values the smaller key first. There is no other such list.
+/// The ranking of a table has each key with a row once, with its value: a larger value before a
+/// smaller one, and of equal values the smaller key first. There is no other such list.
 pub fn rankings_are_exact()
     ensures is_one { (state : State) (table : ℕ) (col : Col)
         → IsOrdered state → IsRanking state table col (ranking state table col) }
-    ensures only { (state : State) (table : ℕ) (col : Col) (entries others : List (List ℕ × ℕ)) → IsRanking state table col entries → IsRanking state table col others → entries ≡ others }
+    ensures only { (state : State) (table : ℕ) (col : Col) (entries others : List (List ℕ × ℕ))
+        → IsRanking state table col entries → IsRanking state table col others → entries ≡ others }
 {}
 
-/// A list of keys with a row, each with its value, is the ranking's beginning if it is in order and every
-/// other key with a row stands behind it. So it is a ranked list, if it has as many as that asks, or all.
+/// A list of keys with a row, each with its value, is the ranking's beginning if it is in order and
+/// every other key with a row stands behind it. So it is a ranked list, if it has as many as that
+/// asks, or all.
 pub fn a_ranking_begins_so()
-    ensures start { (state : State) (table : ℕ) (col : Col) (entries : List (List ℕ × ℕ)) → IsOrdered state
+    ensures start { (state : State) (table : ℕ) (col : Col) (entries : List (List ℕ × ℕ))
+        → IsOrdered state
         → IsRankingStart state table col entries
         → entries ≡ take (length entries) (ranking state table col) }
     ensures whole { (state : State) (rank : Rank) (entries : List (List ℕ × ℕ)) → IsOrdered state
@@ -195,25 +230,32 @@ pub fn a_ranking_begins_so()
 
 /// Each key of a table with a row has a summed row.
 pub fn listed_keys_have_sums()
-    ensures { (state : State) (table : ℕ) → AllByRecursion (λ key. is_some (summed state table key) ≡ true) (answers.keys_of state table) }
+    ensures { (state : State) (table : ℕ)
+        → AllByRecursion (λ key. is_some (summed state table key) ≡ true)
+        (answers.keys_of state table) }
 {}
 
-/// From the moment from which each row of a table has ended, or its rates are 0, the clock changes no set of
-/// its filters.
+/// From the moment from which each row of a table has ended, or its rates are 0, the clock changes
+/// no set of its filters.
 pub fn sets_stay_once_flat()
-    ensures { (state : State) (filtering : Filter) (t later : ℕ) → table_flat_from state filtering.table ≤ t → t ≤ later → set_at state filtering later ≡ set_at state filtering t }
+    ensures { (state : State) (filtering : Filter) (t later : ℕ)
+        → table_flat_from state filtering.table ≤ t → t ≤ later
+        → set_at state filtering later ≡ set_at state filtering t }
 {}
 
-/// A next change that was looked for up to such a moment is the next change; where none was found up to then,
-/// there is none.
+/// A next change that was looked for up to such a moment is the next change; where none was found
+/// up to then, there is none.
 pub fn next_change_comes_before_flat()
-    ensures { (state : State) (filtering : Filter) (last : ℕ) (next : Option ℕ) → table_flat_from state filtering.table ≤ last → IsNextChangeBy state filtering last next → IsNextChange state filtering next }
+    ensures { (state : State) (filtering : Filter) (last : ℕ) (next : Option ℕ)
+        → table_flat_from state filtering.table ≤ last → IsNextChangeBy state filtering last next
+        → IsNextChange state filtering next }
 {}
 
-/// That moment has 64 bits, as moments and lives are small: in every sound state, and where the opening moment
-/// is at most 2^62 and periods are below 2^32.
+/// That moment has 64 bits, as moments and lives are small: in every sound state, and where the
+/// opening moment is at most 2^62 and periods are below 2^32.
 pub fn sets_are_flat_in_time()
-    ensures sound { (state : State) (table : ℕ) → IsSound state → table_flat_from state table < 2 ^ 64 }
+    ensures sound { (state : State) (table : ℕ) → IsSound state
+        → table_flat_from state table < 2 ^ 64 }
     ensures listed { (config : Config) (opening : ℕ) (events : List Event) (table : ℕ)
         → opening ≤ 2 ^ 62 → longest_period (cols_of config.tables table) < 2 ^ 32
         → table_flat_from (state_of config opening events) table < 2 ^ 64 }
@@ -221,33 +263,44 @@ pub fn sets_are_flat_in_time()
 
 /// A filter's next change is one moment, or none.
 pub fn next_change_is_one()
-    ensures { (state : State) (filtering : Filter) (one other : Option ℕ) → IsNextChange state filtering one → IsNextChange state filtering other → one ≡ other }
+    ensures { (state : State) (filtering : Filter) (one other : Option ℕ)
+        → IsNextChange state filtering one → IsNextChange state filtering other → one ≡ other }
 {}
 
-/// A sum over rows in order as rows come and go: with one more, without one, and without those that fail a
-/// test. So running sums of a key's values need look at no other row.
+/// A sum over rows in order as rows come and go: with one more, without one, and without those that
+/// fail a test. So running sums of a key's values need look at no other row.
 pub fn sums_follow_rows()
-    ensures put { (f : Place × Arrival → ℕ) (rows : List (Place × Arrival)) (place : Place) (row : Arrival) → IsStrictlySortedBy place_cmp (keys_of rows) → sum_by f (insert_entry place_cmp rows place row) + worth_at f rows place ≡ sum_by f rows + f (place, row) }
-    ensures taken { (f : Place × Arrival → ℕ) (rows : List (Place × Arrival)) (place : Place) → sum_by f (remove_entry (is_at (place_cmp place)) rows) + worth_at f rows place ≡ sum_by f rows }
-    ensures split { (f : Place × Arrival → ℕ) (p : Place × Arrival → Bool) (rows : List (Place × Arrival)) → sum_by f (filter p rows) + sum_by f (filter (λ row. not (p row)) rows) ≡ sum_by f rows }
+    ensures put { (f : Place × Arrival → ℕ) (rows : List (Place × Arrival)) (place : Place)
+        (row : Arrival) → IsStrictlySortedBy place_cmp (keys_of rows)
+        → sum_by f (insert_entry place_cmp rows place row) + worth_at f rows place
+        ≡ sum_by f rows + f (place, row) }
+    ensures taken { (f : Place × Arrival → ℕ) (rows : List (Place × Arrival)) (place : Place)
+        → sum_by f (remove_entry (is_at (place_cmp place)) rows) + worth_at f rows place
+        ≡ sum_by f rows }
+    ensures split { (f : Place × Arrival → ℕ) (p : Place × Arrival → Bool)
+        (rows : List (Place × Arrival))
+        → sum_by f (filter p rows) + sum_by f (filter (λ row. not (p row)) rows) ≡ sum_by f rows }
 {}
 
-/// What a row keeps of its cells says the same as they did at every later moment. It is one form: the elapsed
-/// time of a rate is at most two periods and 1 ms, so the moment from which the rate is 0 gives it back.
+/// What a row keeps of its cells says the same as they did at every later moment. It is one form:
+/// the elapsed time of a rate is at most two periods and 1 ms, so the moment from which the rate is
+/// 0 gives it back.
 pub fn kept_cells_say_the_same()
     ensures worth { (cols : List (Col × ℕ)) (cells : List Cell) (col : Col) (since : ℕ)
         → column_worth col since cols (kept_cells cols cells) ≡ column_worth col since cols cells }
     ensures once { (cols : List (Col × ℕ)) (cells : List Cell)
         → kept_cells cols (kept_cells cols cells) ≡ kept_cells cols cells }
-    ensures from_zero { (period elapsed cur prev t : ℕ) → GivesElapsedBack period elapsed cur prev t }
+    ensures from_zero { (period elapsed cur prev t : ℕ)
+        → GivesElapsedBack period elapsed cur prev t }
 {}
 
-/// A checked configuration opened at a moment up to 2^62 ms is sound, and every event keeps a state so: so what
-/// any list of events leaves is sound.
+/// A checked configuration opened at a moment up to 2^62 ms is sound, and every event keeps a state
+/// so: so what any list of events leaves is sound.
 pub fn states_are_sound()
     ensures opened { (config : Config) (opening : ℕ) → config_faults config ≡ [] → opening ≤ 2 ^ 62
         → IsSound (opened config opening) }
     ensures kept { (state : State) (e : Event) → IsSound state → IsSound (after state e) }
-    ensures whole { (config : Config) (opening : ℕ) (events : List Event) → config_faults config ≡ [] → opening ≤ 2 ^ 62
+    ensures whole { (config : Config) (opening : ℕ) (events : List Event)
+        → config_faults config ≡ [] → opening ≤ 2 ^ 62
         → IsSound (state_of config opening events) }
 {}

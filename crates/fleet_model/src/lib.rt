@@ -1,7 +1,12 @@
 //! What a fleet's history says: the rules of the product as definitions over whole lists of events,
-//! the machine of one event that they are tied to, and the plain book, whose queries scan.
+//! and the machine of one event that every book is compared with.
 //!
-//! The definitions are in `specs/`; docs/MODEL.md says them in words.
+//! Books, the fleet and what shows their answers stand on it. It promises, as laws that are the
+//! clauses of functions that do nothing: that the machine leaves what recomputing from the whole list
+//! gives; what holds of every state of a checked configuration; that rows, sums, sets and ranked lists
+//! are what their words say; and what an event does to the rows of one key, for a book that keeps less
+//! than the list. No clause says that these are the right rules: docs/MODEL.md says them in words, and
+//! `worked` shows them on small runs.
 #![tactic(auto)]
 
 mod arrival;

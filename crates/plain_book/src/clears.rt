@@ -9,7 +9,8 @@ use crate::values::meets;
 use agg_types::{Col, Cond, Key, NoMemory, Place};
 use std::alloc::Global;
 
-/// Takes away the rows of each key of a table whose values meet the conditions, as they were before.
+/// Takes away the rows of each key of a table whose values meet the conditions, as they were
+/// before.
 pub fn clear_where(
     alloc: Global,
     rows: &mut Rows,
@@ -19,7 +20,9 @@ pub fn clear_where(
     conds: &[Cond],
 ) -> Result<(), NoMemory>
     ensures ok { OnOk result (rows.new.entries
-        ≡ filter (λ row. not ((row.0.table == table) && meets cols.now rows.old.entries table row.0.key t conds.now)) rows.old.entries) }
+        ≡ filter (λ row. not
+        ((row.0.table == table)
+        && meets cols.now rows.old.entries table row.0.key t conds.now)) rows.old.entries) }
     ensures err { OnErr result (rows.new.entries ≡ rows.old.entries) }
 {
     let keys = keys_that_meet(alloc, rows, cols, table, t, conds)?;
@@ -36,7 +39,9 @@ fn keys_that_meet(
     conds: &[Cond],
 ) -> Result<Vec<Key>, NoMemory>
     ensures { IfOk result (λ keys. keys.items
-        ≡ map (λ row. row.0.key) (filter (λ row. (row.0.table == table) && meets cols.now rows.now.entries table row.0.key t conds.now) rows.now.entries)) }
+        ≡ map (λ row. row.0.key)
+        (filter (λ row. (row.0.table == table)
+        && meets cols.now rows.now.entries table row.0.key t conds.now) rows.now.entries)) }
 {
     let mut keys = Vec::new(alloc);
     for (place, _row) in rows {
@@ -48,13 +53,17 @@ fn keys_that_meet(
 }
 
 fn clear_keys(rows: &mut Rows, table: usize, keys: &[Key])
-    ensures { rows.new.entries ≡ filter (λ row. not ((row.0.table == table) && list_any (λ key. same_key key row.0.key) keys.now)) rows.old.entries }
+    ensures { rows.new.entries
+        ≡ filter (λ row. not
+        ((row.0.table == table) && list_any (λ key. same_key key row.0.key) keys.now))
+        rows.old.entries }
 {
     rows.retain(|place, _| !is_among(place, table, keys));
 }
 
 fn is_among(place: &Place, table: usize, keys: &[Key]) -> bool
-    ensures { result ≡ ((place.now.table == table) && list_any (λ key. same_key key place.now.key) keys.now) }
+    ensures { result ≡ ((place.now.table == table)
+        && list_any (λ key. same_key key place.now.key) keys.now) }
 {
     place.table == table && any_key(keys, &place.key)
 }

@@ -1,6 +1,11 @@
 //! The plain book: three ordered maps that an event changes and whose queries scan.
 //!
-//! It is the first body of the book, and what every faster one is compared with.
+//! The fleet and the hub can stand on it, and it is what a faster book is compared with. It
+//! promises that after each list of events answered Ok it is what recomputing from the whole list
+//! gives, that each query is exactly what the definitions of fleet_model say of that, and that it
+//! is always sound. A call that is refused memory changes nothing; a `Leave`, and an event that
+//! doesn't count, never are. No clause says how long a call takes, or that one succeeds while there
+//! is memory.
 #![tactic(auto)]
 
 mod book;
@@ -13,8 +18,6 @@ mod ranking;
 mod rows;
 mod seats;
 mod sets;
-#[cfg(test)]
-mod tests;
 mod values;
 
 pub use book::Book;

@@ -11,7 +11,8 @@ use fleet_model::Summed;
 use std::marker::Model;
 use std::vec::IntoIter;
 
-/// Lends the keys of a table, each with its summed row, in the order of their bytes. Takes no memory.
+/// Lends the keys of a table, each with its summed row, in the order of their bytes. Takes no
+/// memory.
 ///
 /// Contracts see the list of what it has left.
 #[derive(Drop)]
@@ -59,7 +60,9 @@ pub fn push_found<'a>(
     key: &'a Key,
     sums: Option<Summed>,
 ) -> Result<(), NoMemory>
-    ensures { OnOk result (map key_and_sums rows.new.items ≡ map key_and_sums rows.old.items ++ cons_option (with_sums key.now sums) []) }
+    ensures { OnOk result
+        (map key_and_sums rows.new.items
+        ≡ map key_and_sums rows.old.items ++ cons_option (with_sums key.now sums) []) }
 {
     if let Some(sums) = sums {
         rows.push((key, sums))?;

@@ -1,4 +1,5 @@
-//! When a filter's set changes by the clock alone, by walking the moments one by one. For small inputs.
+//! When a filter's set changes by the clock alone, by walking the moments one by one. For small
+//! inputs.
 
 ghost use Rattle.std.specs.Prelude.{◌≡◌, ◌^◌, ◌-◌, map, min};
 ghost use Rattle.std.specs.Bool.{Decides};
@@ -26,8 +27,8 @@ pub fn longest_period(cols: &[(Col, u32)]) -> u32
     longest
 }
 
-/// The moment from which no row changes by the clock, as each has ended or its rates are 0; the last one of
-/// all where it is behind that.
+/// The moment from which no row changes by the clock, as each has ended or its rates are 0; the
+/// last one of all where it is behind that.
 pub fn flat_moment(rows: &Rows, longest: u32) -> u64
     ensures { result ≡ min (flat_moment longest rows.now.entries) (2 ^ 64 - 1) }
 {

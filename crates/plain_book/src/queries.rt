@@ -15,7 +15,8 @@ use std::alloc::Global;
 /// The keys of a table with a row that lives at a moment, in order, each once.
 #[tactic(auto, unfolding(fleet_model::specs::Values::live_keys))]
 pub fn live_keys(alloc: Global, rows: &Rows, table: usize, t: u64) -> Result<Vec<&Key>, NoMemory>
-    ensures { IfOk result (λ keys. map (λ key. key.now) keys.items ≡ live_keys rows.now.entries table t) }
+    ensures { IfOk result
+        (λ keys. map (λ key. key.now) keys.items ≡ live_keys rows.now.entries table t) }
 {
     let mut keys = Vec::new(alloc);
     let mut last: Option<&Key> = None;
@@ -63,7 +64,9 @@ fn is_other(last: Option<&Key>, key: &Key) -> bool
 
 /// What the rows of a key sum up to at a moment, or none where the key has none.
 pub fn summed(rows: &Rows, cols: &[(Col, u32)], table: usize, key: &Key, t: u64) -> Option<Summed>
-    ensures { result ≡ sum_up (map (λ col. value cols.now rows.now.entries table key.now col t) all_cols) t (filter (is_of table key.now t) rows.now.entries) }
+    ensures { result ≡ sum_up
+        (map (λ col. value cols.now rows.now.entries table key.now col t) all_cols) t
+        (filter (is_of table key.now t) rows.now.entries) }
 {
     let (peers, left) = tally(rows, table, key, t)?;
     Some(Summed {

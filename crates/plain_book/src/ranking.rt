@@ -15,8 +15,8 @@ use std::alloc::Global;
 use std::marker::Model;
 use std::vec::IntoIter;
 
-/// Lends the keys of a ranked list, each with its value, the larger value first and of equal ones the
-/// smaller key. Takes no memory.
+/// Lends the keys of a ranked list, each with its value, the larger value first and of equal ones
+/// the smaller key. Takes no memory.
 ///
 /// Contracts see the list of what it has left.
 #[derive(Drop)]
@@ -75,7 +75,9 @@ pub fn first_by_rank<'a>(
     keys: Vec<&'a Key>,
 ) -> Result<Vec<(&'a Key, u128)>, NoMemory>
     ensures { IfOk result (λ entries. map key_and_value entries.items
-        ≡ take rank.now.n (in_order rank_cmp (map (value_of cols.now rows.now.entries rank.now.table rank.now.col t) (map (λ key. key.now) keys.entry.items)))) }
+        ≡ take rank.now.n (in_order rank_cmp
+        (map (value_of cols.now rows.now.entries rank.now.table rank.now.col t)
+        (map (λ key. key.now) keys.entry.items)))) }
 {
     let mut entries = by_rank(alloc, rows, cols, rank.table, rank.col, t, keys)?;
     entries.truncate(rank.n as usize);
@@ -93,7 +95,9 @@ fn by_rank<'a>(
     mut keys: Vec<&'a Key>,
 ) -> Result<Vec<(&'a Key, u128)>, NoMemory>
     ensures { IfOk result (λ entries. map key_and_value entries.items
-        ≡ in_order rank_cmp (map (value_of cols.now rows.now.entries table col t) (map (λ key. key.now) keys.entry.items))) }
+        ≡ in_order rank_cmp
+        (map (value_of cols.now rows.now.entries table col t)
+        (map (λ key. key.now) keys.entry.items))) }
 {
     let mut entries = Vec::new(alloc);
     while let Some(key) = keys.pop() {
@@ -108,7 +112,9 @@ fn put_in_order<'a>(
     entries: &mut Vec<(&'a Key, u128)>,
     entry: (&'a Key, u128),
 ) -> Result<(), NoMemory>
-    ensures { OnOk result (map key_and_value entries.new.items ≡ put_in_order rank_cmp (key_and_value entry.entry) (map key_and_value entries.old.items)) }
+    ensures { OnOk result
+        (map key_and_value entries.new.items
+        ≡ put_in_order rank_cmp (key_and_value entry.entry) (map key_and_value entries.old.items)) }
 {
     let place = place_of(entries.as_slice(), entry);
     entries.insert(place, entry)?;
@@ -118,8 +124,10 @@ fn put_in_order<'a>(
 // Before how many entries an entry's place is.
 fn place_of(entries: &[(&Key, u128)], entry: (&Key, u128)) -> usize
     ensures within { result ≤ length entries.now }
-    ensures place { put_in_order rank_cmp (key_and_value entry.entry) (map key_and_value entries.now)
-        ≡ map key_and_value (take result entries.now) ++ key_and_value entry.entry ∷ map key_and_value (drop result entries.now) }
+    ensures place { put_in_order rank_cmp (key_and_value entry.entry)
+        (map key_and_value entries.now)
+        ≡ map key_and_value (take result entries.now)
+        ++ key_and_value entry.entry ∷ map key_and_value (drop result entries.now) }
 {
     for (place, other) in entries.iter().enumerate() {
         if comes_before(entry, *other) {

@@ -1,13 +1,13 @@
 //! Work on the rows in force, which a map keeps in the order of their places.
 
-ghost use Rattle.std.specs.Prelude.{◌≡◌, true, ◌&&◌, ◌||◌, ◌==◌, not, filter, count_by, IfOk, OnOk, OnErr};
+ghost use Rattle.std.specs.Prelude.{◌≡◌, true, ◌&&◌, ◌||◌, ◌==◌, not, filter, IfOk, OnOk, OnErr};
 ghost use Rattle.std.specs.List.{list_any};
 ghost use Rattle.std.specs.BTreeMap.{insert_entry, is_at};
 ghost use Rattle.std.specs.Map.{remove_entry};
 ghost use Rattle.agg_types.specs.Place.{place_cmp};
 ghost use Rattle.fleet_model.specs.Machine.{with_row};
 ghost use Rattle.fleet_model.specs.Moments.{is_live};
-ghost use Rattle.fleet_model.specs.Rows.{has_room, size_of};
+ghost use Rattle.fleet_model.specs.Rows.{has_room, held_rows, size_of};
 ghost use Rattle.fleet_model.specs.Values.{same_key, same_place};
 
 use crate::values::is_live;
@@ -20,7 +20,7 @@ pub type Rows = BTreeMap<Place, Arrival>;
 
 /// How many rows a peer holds of a table.
 fn held(rows: &Rows, table: usize, peer: usize) -> usize
-    ensures { result ≡ count_by (λ row. (row.0.table == table) && (row.0.peer == peer)) rows.now.entries }
+    ensures { result ≡ held_rows rows.now.entries table peer }
 {
     rows.iter()
         .filter(|row| row.0.table == table && row.0.peer == peer)
@@ -43,8 +43,8 @@ fn size_of(tables: &[Shape], table: usize) -> u64
     }
 }
 
-/// Whether a peer may put a row at a place: it holds one there, or fewer of the table than its size. Counts
-/// the peer's rows only where the book has as many in all.
+/// Whether a peer may put a row at a place: it holds one there, or fewer of the table than its
+/// size. Counts the peer's rows only where the book has as many in all.
 #[tactic(auto, unfolding(fleet_model::specs::Rows::has_room))]
 pub fn has_room(tables: &[Shape], rows: &Rows, place: &Place) -> bool
     ensures { result ≡ has_room tables.now rows.now.entries place.now }
@@ -55,7 +55,8 @@ pub fn has_room(tables: &[Shape], rows: &Rows, place: &Place) -> bool
         || (held(rows, place.table, place.peer) as u64) < size
 }
 
-/// Puts a row at a place, in place of an older one; a row whose life is over takes the older one away.
+/// Puts a row at a place, in place of an older one; a row whose life is over takes the older one
+/// away.
 #[tactic(auto, unfolding(fleet_model::specs::Machine::with_row))]
 pub fn put_row(rows: &mut Rows, t: u64, place: Place, row: Arrival) -> Result<(), NoMemory>
     ensures ok { OnOk result (rows.new.entries ≡ with_row t rows.old.entries place row) }
@@ -78,14 +79,17 @@ pub fn end_rows(rows: &mut Rows, t: u64)
 
 /// Takes away the rows of a table.
 pub fn clear_table(rows: &mut Rows, table: usize)
-    ensures { rows.new.entries ≡ filter (λ row. not ((row.0.table == table) && true)) rows.old.entries }
+    ensures { rows.new.entries
+        ≡ filter (λ row. not ((row.0.table == table) && true)) rows.old.entries }
 {
     rows.retain(|place, _| place.table != table);
 }
 
 /// Takes away the rows of a key of a table.
 pub fn clear_key(rows: &mut Rows, table: usize, key: &Key)
-    ensures { rows.new.entries ≡ filter (λ row. not ((row.0.table == table) && same_key key.now row.0.key)) rows.old.entries }
+    ensures { rows.new.entries
+        ≡ filter (λ row. not ((row.0.table == table) && same_key key.now row.0.key))
+        rows.old.entries }
 {
     rows.retain(|place, _| !is_at_key(place, table, key));
 }

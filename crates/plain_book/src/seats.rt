@@ -18,7 +18,7 @@ pub type Sessions = BTreeMap<usize, u64>;
 /// How many seats may sit at once.
 pub const MOST_SEATS: usize = 512;
 
-/// The greatest number of a seat, and the first that no event but a `Leave` may have.
+/// The greatest number of a seat, and the first that no event may have.
 pub const LAST_NUMBER: u64 = 1 << 62;
 
 /// Whether fewer seats sit than may.
@@ -85,7 +85,8 @@ pub fn sit_down(seats: &mut Seats, seat: u64) -> Result<(), NoMemory>
 
 /// A seat is the session in force of a peer from now on.
 pub fn open_session(sessions: &mut Sessions, peer: usize, seat: u64) -> Result<(), NoMemory>
-    ensures ok { OnOk result (sessions.new.entries ≡ insert_entry nat_cmp sessions.old.entries peer seat) }
+    ensures ok { OnOk result
+        (sessions.new.entries ≡ insert_entry nat_cmp sessions.old.entries peer seat) }
     ensures err { OnErr result (sessions.new.entries ≡ sessions.old.entries) }
 {
     sessions.insert(peer, seat)?;
@@ -101,7 +102,8 @@ pub fn stand_up(seats: &mut Seats, seat: u64)
 
 /// Ends the sessions of a seat.
 pub fn end_sessions(sessions: &mut Sessions, seat: u64)
-    ensures { sessions.new.entries ≡ filter (λ session. not (session.1 == seat)) sessions.old.entries }
+    ensures { sessions.new.entries
+        ≡ filter (λ session. not (session.1 == seat)) sessions.old.entries }
 {
     sessions.retain(|_, holder| *holder != seat);
 }

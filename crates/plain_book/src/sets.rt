@@ -27,7 +27,8 @@ pub fn keys_held<'a>(
     t: u64,
 ) -> Result<Vec<&'a Key>, NoMemory>
     ensures { IfOk result (λ keys. map (λ key. key.now) keys.items
-        ≡ filter (λ key. meets cols.now rows.now.entries standing.now.table key t standing.now.conds) (live_keys rows.now.entries standing.now.table t)) }
+        ≡ filter (λ key. meets cols.now rows.now.entries standing.now.table key t
+        standing.now.conds) (live_keys rows.now.entries standing.now.table t)) }
 {
     let conds = standing.conds.as_slice();
     let mut keys = live_keys(alloc, rows, standing.table, t)?;

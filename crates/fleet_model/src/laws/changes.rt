@@ -13,8 +13,8 @@ ghost use Rattle.fleet_model.specs.Next.{IsNextChange, flat_moment, longest_peri
 ghost use Rattle.fleet_model.specs.State.{State};
 ghost use Rattle.fleet_model.specs.Values.{cols_of};
 
-/// A filter's next change is the first of its keys' changes: that of a key before which no key changes,
-/// and none where no key's comes.
+/// A filter's next change is the first of its keys' changes: that of a key before which no key
+/// changes, and none where no key's comes.
 pub fn a_filter_changes_with_its_first_key()
     ensures first { (state : State) (filtering : Filter) (key : List ℕ) (t : ℕ) → IsOrdered state
         → IsKeyChange state filtering key (Some t) → NoKeyChangesBefore state filtering t
@@ -30,22 +30,23 @@ pub fn a_key_without_rows_never_changes()
         → key_rows state.rows filtering.table key ≡ [] → IsKeyChange state filtering key None }
 {}
 
-/// A moment changes nothing of what is foreseen from then on: whether a filter holds a key, and its next
-/// change, if the moment is short of it.
+/// A moment changes nothing of what is foreseen from then on: whether a filter holds a key, and its
+/// next change, if the moment is short of it.
 pub fn a_moment_keeps_what_is_foreseen()
     ensures holds { (state : State) (e : Event) (told : ℕ) → e.what ≡ Moment told
         → (filtering : Filter) (key : List ℕ) (t : ℕ) → state.moment ≤ t → told ≤ t
         → holds (after state e) filtering key t ≡ holds state filtering key t }
     ensures change { (state : State) (e : Event) (told : ℕ) → e.what ≡ Moment told
         → (filtering : Filter) (key : List ℕ) (t : ℕ) → told < t
-        → IsKeyChange state filtering key (Some t) → IsKeyChange (after state e) filtering key (Some t) }
+        → IsKeyChange state filtering key (Some t)
+        → IsKeyChange (after state e) filtering key (Some t) }
     ensures never { (state : State) (e : Event) (told : ℕ) → e.what ≡ Moment told
         → (filtering : Filter) (key : List ℕ)
         → IsKeyChange state filtering key None → IsKeyChange (after state e) filtering key None }
 {}
 
-/// From the moment from which each of its rows has ended, or its rates are 0, the clock changes nothing
-/// of a key. That is no later than the moment of its whole table.
+/// From the moment from which each of its rows has ended, or its rates are 0, the clock changes
+/// nothing of a key. That is no later than the moment of its whole table.
 pub fn a_key_is_flat_in_time()
     ensures stays { (state : State) (filtering : Filter) (key : List ℕ) (t later : ℕ)
         → rows_flat_from (cols_of state.config.tables filtering.table)

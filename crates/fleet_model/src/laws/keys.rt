@@ -1,5 +1,5 @@
-//! One key of a table: what is said of it by its rows alone, and how keys and rows are counted as rows
-//! come and go.
+//! One key of a table: what is said of it by its rows alone, and how keys and rows are counted as
+//! rows come and go.
 
 ghost use Rattle.std.specs.Prelude.{◌≡◌, ℕ, ◌+◌, ◌&&◌, ◌==◌, Bool, false, is_some, not, List, length};
 ghost use Rattle.std.specs.BTreeMap.{is_at};
@@ -18,10 +18,11 @@ ghost use Rattle.fleet_model.specs.State.{State};
 ghost use Rattle.fleet_model.specs.Values.{cols_of, live_keys, meets, same_key, value};
 ghost use Rattle.fleet_model.specs.declared.arrival.Arrival.{Arrival};
 
-/// A key's values, whether a row of it lives, whether it meets conditions, and its summed row are what
-/// its own rows say.
+/// A key's values, whether a row of it lives, whether it meets conditions, and its summed row are
+/// what its own rows say.
 pub fn a_key_answers_by_its_rows()
-    ensures values { (cols : List (Col × ℕ)) (rows : Rows) (table : ℕ) (key : List ℕ) (col : Col) (t : ℕ)
+    ensures values { (cols : List (Col × ℕ)) (rows : Rows) (table : ℕ) (key : List ℕ) (col : Col)
+        (t : ℕ)
         → value cols rows table key col t ≡ worth_of cols (key_rows rows table key) col t }
     ensures conditions { (cols : List (Col × ℕ)) (rows : Rows) (table : ℕ) (key : List ℕ) (t : ℕ)
         (conds : List Cond)
@@ -43,10 +44,11 @@ pub fn a_set_is_the_keys_that_hold()
         → AreKeysOf test keys → AreKeysOf test others → keys ≡ others }
 {}
 
-/// A row that is put makes its peer's rows one more where the place was free, one less where it takes
-/// the older one away, and else changes no count; one that is taken out makes them one less.
+/// A row that is put makes its peer's rows one more where the place was free, one less where it
+/// takes the older one away, and else changes no count; one that is taken out makes them one less.
 pub fn peers_rows_are_counted()
-    ensures put { (t : ℕ) (rows : Rows) (place : Place) (row : Arrival) (table peer : ℕ) → AreInOrder rows
+    ensures put { (t : ℕ) (rows : Rows) (place : Place) (row : Arrival) (table peer : ℕ)
+        → AreInOrder rows
         → held_rows (with_row t rows place row) table peer
         + one_if ((place.table == table) && (place.peer == peer) && is_some (row_at rows place))
         ≡ held_rows rows table peer
@@ -59,7 +61,8 @@ pub fn peers_rows_are_counted()
 
 /// Where the rows of one key alone change, the number of a table's keys changes by that key alone.
 pub fn keys_are_counted()
-    ensures { (rows others : Rows) (table : ℕ) (key : List ℕ) (t : ℕ) → AreInOrder rows → AreInOrder others
+    ensures { (rows others : Rows) (table : ℕ) (key : List ℕ) (t : ℕ) → AreInOrder rows
+        → AreInOrder others
         → ((other : List ℕ) → same_key key other ≡ false
         → key_rows others table other ≡ key_rows rows table other)
         → length (live_keys others table t) + one_if (has_live (key_rows rows table key) t)

@@ -1,5 +1,5 @@
-//! Rows as they come and go, key by key: laws of every list of rows in the order of their places, and
-//! so of the rows of every sound state.
+//! Rows as they come and go, key by key: laws of every list of rows in the order of their places,
+//! and so of the rows of every sound state.
 
 ghost use Rattle.std.specs.Prelude.{◌≡◌, ℕ, ◌&&◌, ◌==◌, Bool, true, false, not, if◌then◌else◌, [], List, Some, filter};
 ghost use Rattle.std.specs.BTreeMap.{is_at};
@@ -19,7 +19,8 @@ pub fn a_put_is_of_its_key()
         → AreInOrder rows → is_at_key table key place ≡ true
         → key_rows (with_row t rows place row) table key
         ≡ with_row t (key_rows rows table key) place row }
-    ensures others { (t : ℕ) (rows : Rows) (place : Place) (row : Arrival) (table : ℕ) (key : List ℕ)
+    ensures others { (t : ℕ) (rows : Rows) (place : Place) (row : Arrival) (table : ℕ)
+        (key : List ℕ)
         → AreInOrder rows → is_at_key table key place ≡ false
         → key_rows (with_row t rows place row) table key ≡ key_rows rows table key }
 {}
@@ -38,8 +39,8 @@ pub fn a_clear_takes_whole_keys()
         ≡ (if (table == cleared) && gone key then [] else key_rows rows table key) }
 {}
 
-/// Rows that fail a test can go one by one, in any order: each that goes changes nothing of what passes,
-/// and once all that are left pass, they are what passes.
+/// Rows that fail a test can go one by one, in any order: each that goes changes nothing of what
+/// passes, and once all that are left pass, they are what passes.
 pub fn rows_go_one_by_one()
     ensures one { (p : Place × Arrival → Bool) (rows : Rows) (place : Place) (row : Arrival)
         → row_at rows place ≡ Some row → p (place, row) ≡ false
