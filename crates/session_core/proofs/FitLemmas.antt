@@ -118,7 +118,7 @@ life_is_fit expiry life =
 
 -- ---- rows
 
-bind_some : {A B : Type 0} (o : Option A) (f : A → Option B) (y : B) → (o >>= f) ≡ Some y → (x : A) × (o ≡ Some x) × (f x ≡ Some y)
+pub bind_some : {A B : Type 0} (o : Option A) (f : A → Option B) (y : B) → (o >>= f) ≡ Some y → (x : A) × (o ≡ Some x) × (f x ≡ Some y)
 bind_some (Some x) f y e = (x, refl, e)
 bind_some None f y e = elim (none_some y e) [ ]
 
@@ -151,48 +151,55 @@ confirm_fact fact e = cc
 fact_same : {a b : What} → Fact a ≡ Fact b → a ≡ b
 fact_same e = cc
 
-row_fits : (config : Config) (peer : ℕ) (followed : Followed) (life : Option ℕ) (bytes : List ℕ) (put : Option What) (fact : What) → peer < length config.peers → put_of config.tables peer followed life bytes ≡ put → row_or_end put ≡ Fact fact → fits config fact ≡ true
-row_fits config peer followed life bytes None fact within is e = elim (end_fact fact e) [ ]
-row_fits config peer followed life bytes (Some put) fact within is e = ap (fits config) (sym (fact_same e)) ∙ put_is_fit config peer followed life bytes put within is
+-- a fact of every row that an update gives
+abbrev pub OfRows : (What → Bool) → List Shape → ℕ → Type 0
+OfRows P tables peer = (followed : Followed) (life : Option ℕ) (bytes : List ℕ) (put : What) → put_of tables peer followed life bytes ≡ Some put → P put ≡ true
 
-update_fits : (config : Config) (peer : ℕ) (table : Option Followed) (life : Option ℕ) (bytes : List ℕ) (fact : What) → peer < length config.peers → update_under config.tables peer table life bytes ≡ Fact fact → fits config fact ≡ true
-update_fits config peer None life bytes fact within e = elim (nothing_fact fact e) [ ]
-update_fits config peer (Some followed) life bytes fact within e =
-    row_fits config peer followed life bytes (put_of config.tables peer followed life bytes) fact within refl e
+row_all : (P : What → Bool) (tables : List Shape) (peer : ℕ) (followed : Followed) (life : Option ℕ) (bytes : List ℕ) (put : Option What) (fact : What) → OfRows P tables peer → put_of tables peer followed life bytes ≡ put → row_or_end put ≡ Fact fact → P fact ≡ true
+row_all P tables peer followed life bytes None fact each is e = elim (end_fact fact e) [ ]
+row_all P tables peer followed life bytes (Some put) fact each is e = ap P (sym (fact_same e)) ∙ each followed life bytes put is
 
-define_fits : (config : Config) (many : Bool) (fact : What) → (if many then End (Wire BadField) else Nothing) ≡ Fact fact → fits config fact ≡ true
-define_fits config true fact e = elim (end_fact fact e) [ ]
-define_fits config false fact e = elim (nothing_fact fact e) [ ]
+update_all : (P : What → Bool) (tables : List Shape) (peer : ℕ) (table : Option Followed) (life : Option ℕ) (bytes : List ℕ) (fact : What) → OfRows P tables peer → update_under tables peer table life bytes ≡ Fact fact → P fact ≡ true
+update_all P tables peer None life bytes fact each e = elim (nothing_fact fact e) [ ]
+update_all P tables peer (Some followed) life bytes fact each e =
+    row_all P tables peer followed life bytes (put_of tables peer followed life bytes) fact each refl e
 
-meaning_fits : (config : Config) (peer : ℕ) (past : List Message) (message : Message) (fact : What) → peer < length config.peers → meaning config.tables peer past message ≡ Fact fact → fits config fact ≡ true
+define_all : (P : What → Bool) (many : Bool) (fact : What) → (if many then End (Wire BadField) else Nothing) ≡ Fact fact → P fact ≡ true
+define_all P true fact e = elim (end_fact fact e) [ ]
+define_all P false fact e = elim (nothing_fact fact e) [ ]
+
+meaning_all : (P : What → Bool) (tables : List Shape) (peer : ℕ) (past : List Message) (message : Message) (fact : What) → OfRows P tables peer → meaning tables peer past message ≡ Fact fact → P fact ≡ true
 unfolding meaning
-meaning_fits config peer past messages.Request fact within e = elim (partial_fact fact e) [ ]
-meaning_fits config peer past messages.Finished fact within e = elim (confirm_fact fact e) [ ]
-meaning_fits config peer past messages.Partial fact within e = elim (confirm_fact fact e) [ ]
-meaning_fits config peer past messages.Confirm fact within e = elim (nothing_fact fact e) [ ]
-meaning_fits config peer past messages.Heartbeat fact within e = elim (nothing_fact fact e) [ ]
-meaning_fits config peer past messages.ProtocolError fact within e = elim (end_fact fact e) [ ]
-meaning_fits config peer past messages.SizeError fact within e = elim (end_fact fact e) [ ]
-meaning_fits config peer past (messages.Update id life rest) fact within e =
-    update_fits config peer (table_in_force config.tables past) life rest fact within e
-meaning_fits config peer past (messages.Define definition) fact within e =
-    define_fits config (is_too_many (is_some (followed_of config.tables definition)) definition.id (followed_ids config.tables past)) fact e
-meaning_fits config peer past (messages.Switch id) fact within e = elim (nothing_fact fact e) [ ]
-meaning_fits config peer past (messages.Acked id last) fact within e = elim (nothing_fact fact e) [ ]
-meaning_fits config peer past (messages.Other class kind) fact within e = elim (nothing_fact fact e) [ ]
+meaning_all P tables peer past messages.Request fact each e = elim (partial_fact fact e) [ ]
+meaning_all P tables peer past messages.Finished fact each e = elim (confirm_fact fact e) [ ]
+meaning_all P tables peer past messages.Partial fact each e = elim (confirm_fact fact e) [ ]
+meaning_all P tables peer past messages.Confirm fact each e = elim (nothing_fact fact e) [ ]
+meaning_all P tables peer past messages.Heartbeat fact each e = elim (nothing_fact fact e) [ ]
+meaning_all P tables peer past messages.ProtocolError fact each e = elim (end_fact fact e) [ ]
+meaning_all P tables peer past messages.SizeError fact each e = elim (end_fact fact e) [ ]
+meaning_all P tables peer past (messages.Update id life rest) fact each e = update_all P tables peer (table_in_force tables past) life rest fact each e
+meaning_all P tables peer past (messages.Define definition) fact each e =
+    define_all P (is_too_many (is_some (followed_of tables definition)) definition.id (followed_ids tables past)) fact e
+meaning_all P tables peer past (messages.Switch id) fact each e = elim (nothing_fact fact e) [ ]
+meaning_all P tables peer past (messages.Acked id last) fact each e = elim (nothing_fact fact e) [ ]
+meaning_all P tables peer past (messages.Other class kind) fact each e = elim (nothing_fact fact e) [ ]
 
-words_on_fit : (config : Config) (past : List Message) (words : Words) (heard : Meaning) → ((fact : What) → heard ≡ Fact fact → fits config fact ≡ true) → list_all (fits config) words.facts ≡ true → list_all (fits config) (words_on past words heard).facts ≡ true
-words_on_fit config past words Nothing is h = h
-words_on_fit config past words Confirm is h = h
-words_on_fit config past words Partial is h = h
-words_on_fit config past words (Fact fact) is h = rw (is fact refl) h
-words_on_fit config past words (End end) is h = refl
+words_on_all : (P : What → Bool) (past : List Message) (words : Words) (heard : Meaning) → ((fact : What) → heard ≡ Fact fact → P fact ≡ true) → list_all P words.facts ≡ true → list_all P (words_on past words heard).facts ≡ true
+words_on_all P past words Nothing is h = h
+words_on_all P past words Confirm is h = h
+words_on_all P past words Partial is h = h
+words_on_all P past words (Fact fact) is h = rw (is fact refl) h
+words_on_all P past words (End end) is h = refl
+
+pub words_all : (P : What → Bool) (tables : List Shape) (peer : ℕ) (past messages : List Message) → OfRows P tables peer → list_all P (words_of tables peer past messages).facts ≡ true
+unfolding words_of
+words_all P tables peer past [] each = refl
+words_all P tables peer past (message ∷ messages) each =
+    words_on_all P past (words_of tables peer (message ∷ past) messages) (meaning tables peer past message) (λ fact e. meaning_all P tables peer past message fact each e) (words_all P tables peer (message ∷ past) messages each)
 
 words_fit : (config : Config) (peer : ℕ) (past messages : List Message) → peer < length config.peers → list_all (fits config) (words_of config.tables peer past messages).facts ≡ true
-unfolding words_of
-words_fit config peer past [] within = refl
-words_fit config peer past (message ∷ messages) within =
-    words_on_fit config past (words_of config.tables peer (message ∷ past) messages) (meaning config.tables peer past message) (λ fact e. meaning_fits config peer past message fact within e) (words_fit config peer (message ∷ past) messages within)
+words_fit config peer past messages within =
+    words_all (fits config) config.tables peer past messages (λ followed life bytes put is. put_is_fit config peer followed life bytes put within is)
 
 -- ---- the hello's peer
 

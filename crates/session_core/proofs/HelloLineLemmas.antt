@@ -86,7 +86,7 @@ open_line_is bytes le =
       | inr p ↦ rw p.0 (none_in_all bytes le, p.1)
     ]
 
-line_is : (bytes : List ℕ) → LineIs bytes (line_at bytes)
+pub line_is : (bytes : List ℕ) → LineIs bytes (line_at bytes)
 unfolding line_at
 line_is bytes =
     elim (lt_tells (lf_place bytes) (length bytes)) [ inl p ↦ rw p.0 (whole_line_is bytes p.1) | inr p ↦ rw p.0 (open_line_is bytes p.1) ]

@@ -11,3 +11,5 @@ pub mod FitLemmas
 pub mod OverLemmas
 pub mod HelloLineLemmas
 pub mod CountedLemmas
+pub mod PlanLemmas
+pub mod FactLemmas

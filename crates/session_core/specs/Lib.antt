@@ -3,6 +3,7 @@ pub mod HelloLines
 pub mod Values
 pub mod Cause
 pub mod Tracked
+pub mod Plan
 pub mod Run
 pub mod Batched
 pub mod Piece

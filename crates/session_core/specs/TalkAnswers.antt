@@ -1,11 +1,11 @@
 -- What a call answers, against the talk of all the bytes.
-use Rattle.std.specs.Prelude.{◌≡◌, ℕ, Bool, List, ◌++◌, slice_get, Option, Some, None, Result, Ok, Err, IsTrue}
+use Rattle.std.specs.Prelude.{◌≡◌, ℕ, Bool, true, false, List, ◌++◌, slice_get, Option, Some, None, Result, Ok, Err, IsTrue}
 use Rattle.std.specs.List.{list_all}
 use Rattle.std.specs.Option.{option_map}
 use Rattle.agg_types.specs.Fits.{fits}
 use Rattle.agg_types.specs.declared.config.Config.{Config}
 use Rattle.agg_types.specs.declared.event.What.{What}
-use Rattle.agg_types.specs.declared.event.What.TheVariants.{Open}
+use Rattle.agg_types.specs.declared.event.What.TheVariants.{Sit, Open, Put, Clear, AddFilter, Moment, Leave}
 use Rattle.session_core.specs.declared.batch.SessionFault.{SessionFault}
 use Rattle.session_core.specs.declared.cause.SessionCause.{SessionCause}
 use Rattle.session_core.specs.declared.cause.SessionCause.TheVariants as cause
@@ -54,3 +54,13 @@ OpensWith peer facts = slice_get facts 0 ≡ option_map (λ p. Open p) peer
 abbrev pub FactsFit : Config → Result Batched SessionFault → Type 0
 FactsFit config (Ok batch) = IsTrue (list_all (fits config) batch.facts)
 FactsFit config (Err fault) = IsTrue (list_all (fits config) fault.batch.facts)
+
+-- whether a fact is a peer's: it speaks for it, or has a row of it
+abbrev pub is_open_or_put : What → Bool
+is_open_or_put Sit = false
+is_open_or_put (Open peer) = true
+is_open_or_put (Put peer table key life cells) = true
+is_open_or_put (Clear table selected) = false
+is_open_or_put (AddFilter filter) = false
+is_open_or_put (Moment moment) = false
+is_open_or_put Leave = false

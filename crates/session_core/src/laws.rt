@@ -1,7 +1,7 @@
 //! Laws of the definitions that the contracts cite. Each is the contract of a function that does
 //! nothing.
 
-ghost use Rattle.std.specs.Prelude.{◌≡◌, ◌++◌, ℕ, Bool, List, Some, IsTrue};
+ghost use Rattle.std.specs.Prelude.{◌≡◌, ◌≤◌, length, ◌++◌, ℕ, Bool, List, Some, IsTrue};
 ghost use Rattle.std.specs.List.{list_all};
 ghost use Rattle.agg_types.specs.Fits.{fits};
 ghost use Rattle.agg_types.specs.declared.config.Config.{Config};
@@ -9,6 +9,7 @@ ghost use Rattle.agg_types.specs.declared.event.What.{What};
 ghost use Rattle.session_core.specs.declared.cause.End.{End};
 ghost use Rattle.session_core.specs.Piece.{Setup, setup_of};
 ghost use Rattle.session_core.specs.Talk.{talk};
+ghost use Rattle.session_core.specs.TalkAnswers.{is_open_or_put};
 ghost use Rattle.session_core.specs.Hello.{hello_of};
 ghost use Rattle.session_core.specs.HelloLines.{HelloDecides, Verdict};
 ghost use Rattle.session_core.specs.InForce.{counted_id, followed_updates, last_id};
@@ -53,4 +54,12 @@ pub fn hello_lines()
 pub fn update_ids()
     ensures { (tables : List Shape) (id : ℕ) (past : List Message)
         → last_id tables id past ≡ counted_id (followed_updates tables id past) }
+{}
+
+/// Each fact is an Open or a Put, and there are no more of them than bytes.
+pub fn facts_of_bytes()
+    ensures kinds { (setup : Setup) (seated : Bool) (bytes : List ℕ)
+        → IsTrue (list_all is_open_or_put (talk setup seated bytes).facts) }
+    ensures few { (setup : Setup) (seated : Bool) (bytes : List ℕ)
+        → length (talk setup seated bytes).facts ≤ length bytes }
 {}

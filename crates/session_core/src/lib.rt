@@ -14,6 +14,7 @@ mod batch;
 mod cause;
 mod hello;
 pub mod laws;
+mod plan;
 mod run;
 mod session;
 mod stage;

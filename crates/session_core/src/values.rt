@@ -60,8 +60,9 @@ fn text_at(len: u64, bytes: &[u8]) -> Option<(&[u8], &[u8])>
     }
 }
 
+#[inline]
 #[tactic(auto, unfolding(peers_msg::specs::Payload::number_at))]
-fn number_at(bytes: &[u8]) -> Option<(u64, &[u8])>
+pub(crate) fn number_at(bytes: &[u8]) -> Option<(u64, &[u8])>
     ensures { option_map (λ x. (x.0, x.1.now)) result ≡ number_at bytes.now }
 {
     match get_int(bytes) {
@@ -70,7 +71,7 @@ fn number_at(bytes: &[u8]) -> Option<(u64, &[u8])>
     }
 }
 
-fn is_rate_type(kind: usize) -> bool
+pub(crate) fn is_rate_type(kind: usize) -> bool
     ensures { result ≡ is_rate_type kind }
 {
     kind == 3
@@ -101,7 +102,7 @@ fn rate_at(bytes: &[u8]) -> Option<(Sent, &[u8])>
     Some((Sent::Rate { elapsed, cur, prev }, rest))
 }
 
-fn has_type(bits: u64, kind: usize) -> bool
+pub(crate) fn has_type(bits: u64, kind: usize) -> bool
     requires { kind < 64 }
     ensures { result ≡ has_type bits kind }
 {
@@ -202,7 +203,8 @@ fn rate_cell(given: bool, sent: Sent) -> Cell
 /// The elapsed time of a rate, in ms. HAProxy's ticks have 32 bits, and where the clocks of its
 /// threads differ it sends a time that is a little below 0 as 2^32 less so much. That is 0 here, as
 /// it is for HAProxy's own receivers, which count the events of such a rate.
-fn elapsed_of(elapsed: u64) -> u64
+#[inline]
+pub(crate) fn elapsed_of(elapsed: u64) -> u64
     ensures { result ≡ elapsed_of elapsed }
 {
     if elapsed >= FIRST_BELOW_ZERO && elapsed < 1 << 32 {
@@ -223,7 +225,8 @@ fn count_cell(wide: bool, sent: Sent) -> Cell
 }
 
 /// A number modulo 2^32.
-fn low_word(number: u64) -> u32
+#[inline]
+pub(crate) fn low_word(number: u64) -> u32
     ensures { result ≡ number % 2 ^ 32 }
 {
     (number % (1 << 32)) as u32
