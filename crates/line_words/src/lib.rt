@@ -1,0 +1,16 @@
+//! The words of a line of text, for every reader of lines: configurations, scripts and commands.
+//!
+//! Text is bytes. A line ends with LF, and a CR before that is dropped; one or more spaces separate
+//! its words. Nothing is copied: lines and words are slices of the text.
+//!
+//! `next_line`, `next_word` and `next_part` give exactly the first line, word and part, and what is
+//! left has exactly the others; `number` and `operator` answer exactly what a word writes.
+#![tactic(auto)]
+
+mod numbers;
+mod operators;
+mod parts;
+
+pub use numbers::{NumberFault, number};
+pub use operators::operator;
+pub use parts::{is_comment, next_line, next_part, next_word};
