@@ -1,0 +1,4 @@
+pub mod Answer
+pub mod Change
+pub mod Refusal
+pub mod Tables
