@@ -104,7 +104,7 @@ ranking_text rank shape col entries =
 abbrev pub rank_text : State → Rank → List ℕ
 rank_text state rank =
     ranking_text rank (shape_of state rank.table)
-        (rank.col, period_of (shape_of state rank.table).cols rank.col) (ranked state rank)
+    (rank.col, period_of (shape_of state rank.table).cols rank.col) (ranked state rank)
 
 -- the moment at which a standing filter holds other keys, or never
 abbrev pub change_text : Filter → Shape → Option ℕ → List ℕ
@@ -115,7 +115,7 @@ change_text filter shape t =
 abbrev pub IsNextText : State → Filter → List ℕ → Type 0
 IsNextText state filter text =
     (t : Option ℕ) × IsNextChange state filter t
-        × (text ≡ change_text filter (shape_of state filter.table) t)
+    × (text ≡ change_text filter (shape_of state filter.table) t)
 
 -- the text of a command's answer. What changes something is answered `ok`.
 abbrev pub IsAnswer : State → Command → List ℕ → Type 0

@@ -27,13 +27,13 @@ counts_text size used = codes ", size:" ++ decimal size ++ codes ", used:" ++ de
 abbrev pub heading : Shape → ℕ → List ℕ
 heading shape used =
     codes "# table: " ++ shape.name ++ codes ", type: " ++ kind_name shape.kind
-        ++ counts_text shape.size used
+    ++ counts_text shape.size used
 
 -- the name of a column, that of a rate with its period
 abbrev pub column_text : Col × ℕ → List ℕ
 column_text col =
     if is_rate col.0 then col_name col.0 ++ codes "(" ++ decimal col.1
-        ++ codes ")" else col_name col.0
+    ++ codes ")" else col_name col.0
 
 -- a column with its value, behind a space
 abbrev pub cell_text : Col × ℕ → ℕ → List ℕ

@@ -70,7 +70,7 @@ fn append_headings(book: &Book, out: &mut Vec<u8>) -> Result<(), NoMemory>
     Ok(())
 }
 
-fn shape_of(book: &Book, table: usize) -> &Shape
+pub(crate) fn shape_of(book: &Book, table: usize) -> &Shape
     requires { table < length book.now.config.tables }
     ensures { result.now ≡ shape_of book.now table }
 {

@@ -10,8 +10,8 @@ use key_text::append_text;
 use std::alloc::{AllocError, AllocFailed};
 use thiserror::Error;
 
-/// Why a line is no command: the first fault from the left. Its text is its name in a refusal, and its
-/// number there is its place in this list, from 1.
+/// Why a line is no command: the first fault from the left. Its text is its name in a refusal, and
+/// its number there is its place in this list, from 1.
 #[derive(Clone, Copy, Debug, PartialEq, Eq, Error)]
 pub enum CommandFault {
     /// The line has no word.
@@ -118,8 +118,8 @@ impl<T: Drop> From<AllocFailed<T>> for CommandFault {
     }
 }
 
-/// Appends the text of a refusal: a line with the fault's number and name. After `NoMemory` the bytes of
-/// `out` are as they were.
+/// Appends the text of a refusal: a line with the fault's number and name. After `NoMemory` the
+/// bytes of `out` are as they were.
 pub fn refusal(fault: &CommandFault, out: &mut Vec<u8>) -> Result<(), NoMemory>
     ensures ok { OnOk result (out.new.items ≡ out.old.items ++ refusal_text fault.now) }
     ensures err { OnErr result (out.new.items ≡ out.old.items) }

@@ -5,11 +5,14 @@ mod answers;
 mod book;
 mod change;
 mod command;
+mod conditions;
 mod fault;
 mod lists;
+mod parsing;
 mod pieces;
 mod tables;
 
 pub use answers::answer;
 pub use command::Command;
 pub use fault::{CommandFault, refusal};
+pub use parsing::parse;

@@ -88,7 +88,7 @@ pub(crate) fn append_ranking(
     requires { length entries ≤ rank.now.n }
     ensures ok { OnOk result (out.new.items ≡ out.old.items
         ++ ranking_text rank.now shape.now (rank.now.col, period_of shape.now.cols rank.now.col)
-            entries.entry) }
+        entries.entry) }
     ensures begins { take (length out.old.items) out.new.items ≡ out.old.items }
 {
     let period = period_of(shape.cols.as_slice(), rank.col);
