@@ -1,0 +1,4 @@
+pub mod Begins
+pub mod Numerals
+pub mod RoundTrip
+pub mod Strings

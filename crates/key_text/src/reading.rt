@@ -1,0 +1,140 @@
+//! Keys from their texts.
+
+ghost use Rattle.std.specs.Prelude.{◌≡◌, ◌≢◌, ◌<◌, [], length, Some, None, IfOk, IfSome, MatchOption};
+ghost use Rattle.agg_types.specs.declared.config.KeyKind.TheVariants.{Integer};
+ghost use Rattle.line_words.specs.Words.{parts};
+ghost use Rattle.std.specs.Result.{result_ok};
+ghost use Rattle.hex.specs.Hex.{decode_of, hex_digit_value};
+ghost use Rattle.key_text.specs.Read.{all_bytes, before, between, bytes_of, hex_byte, integer_of, key_of, string_of};
+
+use crate::parts::{Part, number_up_to, push_parts};
+use crate::printing::is_plain;
+use agg_types::{Items, Key, KeyKind, NoMemory};
+use hex::FromHexError;
+use std::alloc::Global;
+
+/// The key that a text is read as, or none where the text is no key of this kind.
+///
+/// An integer is an optional `-` and one or more digits; an IPv4 address four numbers of 1 to 3
+/// digits joined by dots; an IPv6 address eight groups of 1 to 4 hexadecimal digits joined by
+/// colons; a string the bytes 33 to 126 but `%`, and `%` with two hexadecimal digits for any byte,
+/// up to the kind's length; a binary key the hexadecimal digits of as many bytes as its kind has.
+/// Hexadecimal digits are read in either case.
+pub fn read_key(alloc: Global, kind: KeyKind, text: &[u8]) -> Result<Option<Key>, NoMemory>
+    ensures { IfOk result (λ found. found ≡ key_of kind text.now) }
+{
+    let Some(bytes) = bytes_of(alloc, kind, text)? else {
+        return Ok(None);
+    };
+    if !kind.fits(bytes.as_slice()) {
+        return Ok(None);
+    }
+    Ok(Some(Key::copy(alloc, bytes.as_slice())?))
+}
+
+// The bytes that a text says.
+fn bytes_of(alloc: Global, kind: KeyKind, text: &[u8]) -> Result<Option<Items<u8>>, NoMemory>
+    ensures { IfOk result (λ found. found ≡ bytes_of kind text.now) }
+{
+    match kind {
+        KeyKind::Integer => integer_bytes(alloc, text),
+        KeyKind::Ip => address_bytes(alloc, Part::Octet, text),
+        KeyKind::Ipv6 => address_bytes(alloc, Part::Group, text),
+        KeyKind::Str(_) => string_bytes(alloc, text),
+        KeyKind::Binary(_) => binary_bytes(alloc, text),
+    }
+}
+
+fn integer_bytes(alloc: Global, text: &[u8]) -> Result<Option<Items<u8>>, NoMemory>
+    ensures { IfOk result (λ found. found ≡ bytes_of Integer text.now) }
+{
+    match integer(text) {
+        None => Ok(None),
+        Some(number) => Ok(Some(Items::copy(alloc, &number.to_be_bytes())?)),
+    }
+}
+
+// A signed number, as its 32 bits.
+fn integer(text: &[u8]) -> Option<u32>
+    ensures { result ≡ integer_of text.now }
+{
+    match text {
+        [] => None,
+        [first, digits @ ..] => {
+            if *first == b'-' {
+                Some(number_up_to(10, 1 << 31, digits)?.wrapping_neg())
+            } else {
+                number_up_to(10, (1 << 31) - 1, text)
+            }
+        }
+    }
+}
+
+fn address_bytes(alloc: Global, part: Part, text: &[u8]) -> Result<Option<Items<u8>>, NoMemory>
+    ensures { IfOk result (λ found. found ≡ all_bytes part (parts (between part) text.now)) }
+{
+    let mut bytes = Vec::new(alloc);
+    if !push_parts(part, text, &mut bytes)? {
+        return Ok(None);
+    }
+    Ok(Some(Items::from_vec(bytes)))
+}
+
+fn binary_bytes(alloc: Global, text: &[u8]) -> Result<Option<Items<u8>>, NoMemory>
+    ensures { IfOk result (λ found. found ≡ result_ok (decode_of text.now)) }
+{
+    match hex::decode(alloc, text) {
+        Ok(bytes) => Ok(Some(Items::from_vec(bytes))),
+        Err(FromHexError::OutOfMemory) => Err(NoMemory),
+        Err(_) => Ok(None),
+    }
+}
+
+#[tactic(auto, using(crate::proofs::Strings::put_behind_push))]
+fn string_bytes(alloc: Global, text: &[u8]) -> Result<Option<Items<u8>>, NoMemory>
+    ensures { IfOk result (λ found. found ≡ string_of text.now) }
+{
+    let mut bytes = Vec::new(alloc);
+    let mut rest = text;
+    while let Some((byte, behind)) = next_byte(rest) {
+        bytes.push(byte)?;
+        rest = behind;
+    }
+    if !rest.is_empty() {
+        return Ok(None);
+    }
+    Ok(Some(Items::from_vec(bytes)))
+}
+
+// The first byte of a string, and the text behind it; none where the text is empty or says no byte
+// there.
+fn next_byte(text: &[u8]) -> Option<(u8, &[u8])>
+    ensures byte { MatchOption result (text.now ≢ [] → string_of text.now ≡ None)
+        (λ found. string_of text.now ≡ before (Some found.0) (string_of found.1.now)) }
+    ensures shorter { IfSome result (λ found. length found.1.now < length text.now) }
+{
+    match text {
+        [b'%', high, low, behind @ ..] => Some((hex_byte(*high, *low)?, behind)),
+        [byte, behind @ ..] if is_plain(*byte) => Some((*byte, behind)),
+        _ => None,
+    }
+}
+
+// The byte of two hexadecimal digits.
+fn hex_byte(high: u8, low: u8) -> Option<u8>
+    ensures { result ≡ hex_byte high low }
+{
+    Some(hex_digit(high)? * 16 + hex_digit(low)?)
+}
+
+fn hex_digit(digit: u8) -> Option<u8>
+    ensures value { result ≡ hex_digit_value digit }
+    ensures within { IfSome result (λ value. value < 16) }
+{
+    match digit {
+        b'0'..=b'9' => Some(digit - b'0'),
+        b'a'..=b'f' => Some(digit - b'a' + 10),
+        b'A'..=b'F' => Some(digit - b'A' + 10),
+        _ => None,
+    }
+}

@@ -1,0 +1,3 @@
+pub mod CondLemmas
+pub mod Lines
+pub mod Stands

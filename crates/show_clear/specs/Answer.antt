@@ -1,0 +1,147 @@
+-- The texts of answers.
+use Rattle.std.specs.Prelude.{◌≡◌, ℕ, ◌+◌, ◌<◌, ⊤, Bool, false, List, [], ◌∷◌, ◌++◌, codes, length, filter, slice_index_or, Option, None, Some, if◌then◌else◌}
+use Rattle.std.specs.Fmt.{decimal}
+use Rattle.std.specs.List.{flat_map, list_all}
+use Rattle.agg_types.specs.Col.{same_col}
+use Rattle.agg_types.specs.Op.{op_holds}
+use Rattle.agg_types.specs.declared.column.Col.{Col}
+use Rattle.agg_types.specs.declared.config.Cond.{Cond}
+use Rattle.agg_types.specs.declared.config.Filter.{Filter}
+use Rattle.agg_types.specs.declared.config.KeyKind.TheVariants.{Integer}
+use Rattle.agg_types.specs.declared.config.Rank.{Rank}
+use Rattle.agg_types.specs.declared.config.Shape.{Shape}
+use Rattle.agg_types.specs.declared.event.Select.{Select}
+use Rattle.agg_types.specs.declared.event.Select.TheVariants.{All, One, Conds}
+use Rattle.fleet_model.specs.Answers.{filter_of, keys_of, listed, set_at, summed}
+use Rattle.fleet_model.specs.Next.{IsNextChange}
+use Rattle.fleet_model.specs.Ranking.{rank_of, ranked}
+use Rattle.fleet_model.specs.State.{State}
+use Rattle.fleet_model.specs.declared.summed.Summed.{Summed}
+use Rattle.key_text.specs.Printed.{key_text}
+use Rattle.show_clear.specs.Tables.{cell_text, column_text, heading, ms_or_never, row_text, value_in}
+use Rattle.show_clear.specs.declared.command.Command.{Command}
+use Rattle.show_clear.specs.declared.command.Command.TheVariants.{ShowTables, ShowTable, ClearTable, ShowFilter, ShowRank, ShowNext, AddFilter}
+
+abbrev pub no_shape : Shape
+no_shape = record { name = []; kind = Integer; size = 0; cols = [] }
+
+-- the table at a position
+abbrev pub shape_of : State → ℕ → Shape
+shape_of state table = slice_index_or state.config.tables table no_shape
+
+-- the headings of tables, the first of which has this position
+abbrev pub headings : State → ℕ → List Shape → List ℕ
+headings state table [] = []
+headings state table (shape ∷ shapes) =
+    heading shape (length (keys_of state table)) ++ headings state (table + 1) shapes
+
+-- whether all conditions hold of a summed row's values
+abbrev pub all_hold : List Cond → Summed → Bool
+all_hold conds sums = list_all (λ cond. op_holds cond.op (value_in sums cond.col) cond.bound) conds
+
+-- the line of a key's summed row, if it has one of which all conditions hold
+abbrev pub line_if : Shape → List Cond → List ℕ × Option Summed → List ℕ
+line_if shape conds (key, None) = []
+line_if shape conds (key, Some sums) = if all_hold conds sums then row_text shape key sums else []
+
+-- the lines of the selected rows of a table, by key: all, that of a key, or those of which all
+-- conditions hold
+abbrev pub rows_text : State → ℕ → Select → List ℕ
+rows_text state table All = flat_map (line_if (shape_of state table) []) (listed state table)
+rows_text state table (One key) = line_if (shape_of state table) [] (key, summed state table key)
+rows_text state table (Conds conds) =
+    flat_map (line_if (shape_of state table) conds) (listed state table)
+
+-- the lines of rows of which all conditions hold
+abbrev pub row_lines : Shape → List Cond → List (List ℕ × Summed) → List ℕ
+row_lines shape conds rows = flat_map (λ row. line_if shape conds (row.0, Some row.1)) rows
+
+-- the heading of a table, with the number of all its keys, and its selected rows
+abbrev pub table_text : State → ℕ → Select → List ℕ
+table_text state table sel =
+    heading (shape_of state table) (length (keys_of state table)) ++ rows_text state table sel
+
+-- a key on a line of its own
+abbrev pub key_line : Shape → List ℕ → List ℕ
+key_line shape key = codes "key=" ++ key_text shape.kind key ++ codes "\n"
+
+-- the name of a standing filter or a ranked list behind its title, and that of its table
+abbrev pub title_text : List ℕ → List ℕ → Shape → List ℕ
+title_text title name shape = title ++ name ++ codes ", table: " ++ shape.name
+
+-- the heading of a standing filter that holds these keys, and the keys
+abbrev pub held_text : Filter → Shape → List (List ℕ) → List ℕ
+held_text filter shape keys =
+    title_text (codes "# filter: ") filter.name shape ++ codes ", keys:"
+    ++ decimal (length keys) ++ codes "\n" ++ flat_map (key_line shape) keys
+
+abbrev pub filter_text : State → Filter → List ℕ
+filter_text state filter =
+    held_text filter (shape_of state filter.table) (set_at state filter state.moment)
+
+-- the period of a column, 0 where it isn't stored
+abbrev pub period_of : List (Col × ℕ) → Col → ℕ
+period_of [] col = 0
+period_of (stored ∷ cols) col = if same_col stored.0 col then stored.1 else period_of cols col
+
+-- the line of a key at a place of a ranked list
+abbrev pub place_text : ℕ → Shape → List ℕ → Col × ℕ → ℕ → List ℕ
+place_text place shape key col value =
+    decimal place ++ codes " key=" ++ key_text shape.kind key ++ cell_text col value ++ codes "\n"
+
+-- keys with their values of a column, behind their places, the first of which is this
+abbrev pub places_text : Shape → Col × ℕ → ℕ → List (List ℕ × ℕ) → List ℕ
+places_text shape col place [] = []
+places_text shape col place (entry ∷ entries) =
+    place_text place shape entry.0 col entry.1 ++ places_text shape col (place + 1) entries
+
+-- the heading of a ranked list, and its keys
+abbrev pub ranking_text : Rank → Shape → Col × ℕ → List (List ℕ × ℕ) → List ℕ
+ranking_text rank shape col entries =
+    title_text (codes "# rank: ") rank.name shape ++ codes ", by: " ++ column_text col
+    ++ codes "\n" ++ places_text shape col 1 entries
+
+abbrev pub rank_text : State → Rank → List ℕ
+rank_text state rank =
+    ranking_text rank (shape_of state rank.table)
+    (rank.col, period_of (shape_of state rank.table).cols rank.col) (ranked state rank)
+
+-- the moment at which a standing filter holds other keys, or never
+abbrev pub change_text : Filter → Shape → Option ℕ → List ℕ
+change_text filter shape t =
+    title_text (codes "# next: ") filter.name shape ++ codes ", at:" ++ ms_or_never t ++ codes "\n"
+
+-- the text that says what the next change of a filter is
+abbrev pub IsNextText : State → Filter → List ℕ → Type 0
+IsNextText state filter text =
+    (t : Option ℕ) × IsNextChange state filter t
+    × (text ≡ change_text filter (shape_of state filter.table) t)
+
+-- the text of a command's answer. What changes something is answered `ok`.
+abbrev pub IsAnswer : State → Command → List ℕ → Type 0
+IsAnswer state ShowTables text = text ≡ headings state 0 state.config.tables
+IsAnswer state (ShowTable table sel) text = text ≡ table_text state table sel
+IsAnswer state (ClearTable table sel) text = text ≡ codes "ok\n"
+IsAnswer state (ShowFilter filter) text = text ≡ filter_text state (filter_of state filter)
+IsAnswer state (ShowRank rank) text = text ≡ rank_text state (rank_of state rank)
+IsAnswer state (ShowNext filter) text = IsNextText state (filter_of state filter) text
+IsAnswer state (AddFilter filter) text = text ≡ codes "ok\n"
+
+-- the text of a filter's next change was put behind what was there
+abbrev pub AppendsNext : State → Filter → List ℕ → List ℕ → Type 0
+AppendsNext state filter old new = (text : List ℕ) × (new ≡ old ++ text)
+    × IsNextText state filter text
+
+-- a command's answer was put behind what was there
+abbrev pub Answers : State → Command → List ℕ → List ℕ → Type 0
+Answers state command old new = (text : List ℕ) × (new ≡ old ++ text) × IsAnswer state command text
+
+-- a command names what stands in a configuration
+abbrev pub NamesStand : State → Command → Type 0
+NamesStand state ShowTables = ⊤
+NamesStand state (ShowTable table sel) = table < length state.config.tables
+NamesStand state (ClearTable table sel) = table < length state.config.tables
+NamesStand state (ShowFilter filter) = filter < length state.config.filters
+NamesStand state (ShowRank rank) = rank < length state.config.ranks
+NamesStand state (ShowNext filter) = filter < length state.config.filters
+NamesStand state (AddFilter filter) = ⊤

@@ -1,0 +1,5 @@
+pub mod Answer
+pub mod Change
+pub mod Parse
+pub mod Refusal
+pub mod Tables

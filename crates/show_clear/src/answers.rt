@@ -1,0 +1,225 @@
+//! The answers to commands.
+
+ghost use Rattle.std.specs.Prelude.{◌≡◌, ◌++◌, ◌<◌, length, take, OnOk, OnErr};
+ghost use Rattle.agg_types.specs.declared.event.Select.TheVariants.{One, Conds};
+ghost use Rattle.fleet_model.specs.Answers.{filter_of};
+ghost use Rattle.fleet_model.specs.Ranking.{rank_of};
+ghost use Rattle.show_clear.specs.Answer.{Answers, AppendsNext, NamesStand, all_hold, filter_text, headings, rank_text, row_lines, rows_text, shape_of, table_text};
+
+use crate::Command;
+use crate::book::{Book, BookRows, Summed};
+use crate::lists::{append_change, append_held, append_ranking};
+use crate::tables::{append_heading, append_row, value_in};
+use agg_types::{Cond, Filter, Key, NoMemory, Rank, Select, Shape};
+use key_text::append_text;
+use std::alloc::Global;
+
+/// Appends the text of a command's answer, each line with its LF: what the book answers now, or
+/// `ok` for what changes it. After `NoMemory` the bytes of `out` are as they were.
+///
+/// The command names what stands in the book, as one that `parse` read over it does.
+pub fn answer(
+    alloc: Global,
+    book: &Book,
+    command: &Command,
+    out: &mut Vec<u8>,
+) -> Result<(), NoMemory>
+    requires { NamesStand book.now command.now }
+    ensures ok { OnOk result (Answers book.now command.now out.old.items out.new.items) }
+    ensures err { OnErr result (out.new.items ≡ out.old.items) }
+{
+    let len = out.len();
+    if append_answer(alloc, book, command, out).is_err() {
+        out.truncate(len);
+        return Err(NoMemory);
+    }
+    Ok(())
+}
+
+fn append_answer(
+    alloc: Global,
+    book: &Book,
+    command: &Command,
+    out: &mut Vec<u8>,
+) -> Result<(), NoMemory>
+    requires { NamesStand book.now command.now }
+    ensures ok { OnOk result (Answers book.now command.now out.old.items out.new.items) }
+    ensures begins { take (length out.old.items) out.new.items ≡ out.old.items }
+{
+    match command {
+        Command::ShowTables => append_headings(book, out),
+        Command::ShowTable { table, sel } => append_table(alloc, book, *table, sel, out),
+        Command::ShowFilter(filter) => append_filter(alloc, book, *filter, out),
+        Command::ShowRank(rank) => append_rank(alloc, book, *rank, out),
+        Command::ShowNext(filter) => append_next(alloc, book, *filter, out),
+        Command::ClearTable { table: _, sel: _ } | Command::AddFilter(_) => append_text(
+            b"ok\n", out,
+        ),
+    }
+}
+
+fn append_headings(book: &Book, out: &mut Vec<u8>) -> Result<(), NoMemory>
+    ensures ok { OnOk result (out.new.items
+        ≡ out.old.items ++ headings book.now 0 book.now.config.tables) }
+    ensures begins { take (length out.old.items) out.new.items ≡ out.old.items }
+{
+    let tables = book.config().tables.as_slice();
+    for (table, shape) in tables.iter().enumerate() {
+        append_heading(shape, book.used(table), out)?;
+    }
+    Ok(())
+}
+
+pub(crate) fn shape_of(book: &Book, table: usize) -> &Shape
+    requires { table < length book.now.config.tables }
+    ensures { result.now ≡ shape_of book.now table }
+{
+    &book.config().tables.as_slice()[table]
+}
+
+#[tactic(auto, using(key_text::proofs::Begins::begins_then))]
+fn append_table(
+    alloc: Global,
+    book: &Book,
+    table: usize,
+    sel: &Select,
+    out: &mut Vec<u8>,
+) -> Result<(), NoMemory>
+    requires { table < length book.now.config.tables }
+    ensures ok { OnOk result (out.new.items ≡ out.old.items ++ table_text book.now table sel.now) }
+    ensures begins { take (length out.old.items) out.new.items ≡ out.old.items }
+{
+    let shape = shape_of(book, table);
+    append_heading(shape, book.used(table), out)?;
+    match sel {
+        Select::All => append_listed(alloc, book, table, &[], out),
+        Select::One(key) => append_one(book, shape, table, key, out),
+        Select::Conds(conds) => append_listed(alloc, book, table, conds.as_slice(), out),
+    }
+}
+
+fn append_one(
+    book: &Book,
+    shape: &Shape,
+    table: usize,
+    key: &Key,
+    out: &mut Vec<u8>,
+) -> Result<(), NoMemory>
+    requires { shape.now ≡ shape_of book.now table }
+    ensures ok { OnOk result
+        (out.new.items ≡ out.old.items ++ rows_text book.now table (One key.now)) }
+    ensures begins { take (length out.old.items) out.new.items ≡ out.old.items }
+{
+    match book.summed(table, key) {
+        None => Ok(()),
+        Some(sums) => append_row(shape, key, &sums, out),
+    }
+}
+
+#[tactic(auto, using(crate::proofs::Lines::lines_listed))]
+fn append_listed(
+    alloc: Global,
+    book: &Book,
+    table: usize,
+    conds: &[Cond],
+    out: &mut Vec<u8>,
+) -> Result<(), NoMemory>
+    requires { table < length book.now.config.tables }
+    ensures ok { OnOk result
+        (out.new.items ≡ out.old.items ++ rows_text book.now table (Conds conds.now)) }
+    ensures begins { take (length out.old.items) out.new.items ≡ out.old.items }
+{
+    let rows = book.rows(alloc, table)?;
+    append_rows(shape_of(book, table), conds, rows, out)
+}
+
+// Appends the lines of the rows of which all conditions hold.
+fn append_rows(
+    shape: &Shape,
+    conds: &[Cond],
+    rows: BookRows<'_>,
+    out: &mut Vec<u8>,
+) -> Result<(), NoMemory>
+    ensures ok { OnOk result
+        (out.new.items ≡ out.old.items ++ row_lines shape.now conds.now rows.entry) }
+    ensures begins { take (length out.old.items) out.new.items ≡ out.old.items }
+{
+    for (key, sums) in rows {
+        if all_hold(conds, &sums) {
+            append_row(shape, key, &sums, out)?;
+        }
+    }
+    Ok(())
+}
+
+fn all_hold(conds: &[Cond], sums: &Summed) -> bool
+    ensures { result ≡ all_hold conds.now sums.now }
+{
+    conds
+        .iter()
+        .all(|cond| cond.op.holds(value_in(sums, cond.col), cond.bound))
+}
+
+// A standing filter. Its table is there, as in every configuration that was checked.
+#[tactic(auto, using(crate::proofs::Stands::filters_stand))]
+fn filter_at(book: &Book, filter: usize) -> &Filter
+    requires { filter < length book.now.config.filters }
+    ensures value { result.now ≡ filter_of book.now filter }
+    ensures table { result.now.table < length book.now.config.tables }
+{
+    &book.config().filters.as_slice()[filter]
+}
+
+// A ranked list. Its table is there, as in every configuration that was checked.
+#[tactic(auto, using(crate::proofs::Stands::ranks_stand))]
+fn rank_at(book: &Book, rank: usize) -> &Rank
+    requires { rank < length book.now.config.ranks }
+    ensures value { result.now ≡ rank_of book.now rank }
+    ensures table { result.now.table < length book.now.config.tables }
+{
+    &book.config().ranks.as_slice()[rank]
+}
+
+fn append_filter(
+    alloc: Global,
+    book: &Book,
+    filter: usize,
+    out: &mut Vec<u8>,
+) -> Result<(), NoMemory>
+    requires { filter < length book.now.config.filters }
+    ensures ok { OnOk result (out.new.items
+        ≡ out.old.items ++ filter_text book.now (filter_of book.now filter)) }
+    ensures begins { take (length out.old.items) out.new.items ≡ out.old.items }
+{
+    let standing = filter_at(book, filter);
+    let keys = book.filter_keys(alloc, filter)?;
+    append_held(
+        standing,
+        shape_of(book, standing.table),
+        keys.as_slice(),
+        out,
+    )
+}
+
+#[tactic(auto, using(crate::proofs::Lines::ranked_short))]
+fn append_rank(alloc: Global, book: &Book, rank: usize, out: &mut Vec<u8>) -> Result<(), NoMemory>
+    requires { rank < length book.now.config.ranks }
+    ensures ok { OnOk result
+        (out.new.items ≡ out.old.items ++ rank_text book.now (rank_of book.now rank)) }
+    ensures begins { take (length out.old.items) out.new.items ≡ out.old.items }
+{
+    let listed = rank_at(book, rank);
+    let entries = book.top(alloc, rank)?;
+    append_ranking(listed, shape_of(book, listed.table), entries, out)
+}
+
+fn append_next(alloc: Global, book: &Book, filter: usize, out: &mut Vec<u8>) -> Result<(), NoMemory>
+    requires { filter < length book.now.config.filters }
+    ensures ok { OnOk result
+        (AppendsNext book.now (filter_of book.now filter) out.old.items out.new.items) }
+    ensures begins { take (length out.old.items) out.new.items ≡ out.old.items }
+{
+    let standing = filter_at(book, filter);
+    let t = book.next_change(alloc, filter)?;
+    append_change(standing, shape_of(book, standing.table), t, out)
+}

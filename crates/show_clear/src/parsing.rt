@@ -1,0 +1,315 @@
+//! Commands from their lines.
+
+ghost use Rattle.std.specs.Prelude.{◌≡◌, ◌<◌, length, position, IfOk, IfSome};
+ghost use Rattle.std.specs.List.{list_any};
+ghost use Rattle.std.specs.Str.{bytes_eq};
+ghost use Rattle.std.specs.Str.Lines.{strip_carriage_return};
+ghost use Rattle.line_words.specs.Words.{words};
+ghost use Rattle.show_clear.specs.Parse.{Tells, added, asked, at_end, cleared, command_of, filter_added, filter_named, filter_on, filter_shown, new_name, next_shown, one_key, rank_named, rank_shown, sel_of, shown, table_and_sel, table_cleared, table_named, table_shown};
+ghost use Rattle.show_clear.specs.Answer.{NamesStand};
+
+use crate::answers::shape_of;
+use crate::book::Book;
+use crate::conditions::{read_conds, read_some_conds};
+use crate::{Command, CommandFault};
+use agg_types::{Filter, KeyKind, MOST_FILTERS, Name, Rank, Select, Shape, is_name};
+use key_text::read_key;
+use line_words::next_word;
+use std::alloc::Global;
+
+/// The most bytes of a line, a CR at its end left out.
+const LONGEST_LINE: usize = 4096;
+
+/// The command that a line says, over what stands in a book, or the first fault from the left. The
+/// line comes without its LF; a CR at its end is dropped. Words are separated by one or more
+/// spaces.
+pub fn parse(alloc: Global, book: &Book, line: &[u8]) -> Result<Command, CommandFault>
+    ensures read { Tells (command_of book.now line.now) result }
+    ensures stands { IfOk result (NamesStand book.now) }
+{
+    let line = without_return(line);
+    if line.len() > LONGEST_LINE {
+        return Err(CommandFault::Unknown);
+    }
+    parse_words(alloc, book, line)
+}
+
+fn without_return(line: &[u8]) -> &[u8]
+    ensures { result.now ≡ strip_carriage_return line.now }
+{
+    match line {
+        [front @ .., b'\r'] => front,
+        _ => line,
+    }
+}
+
+fn parse_words(alloc: Global, book: &Book, line: &[u8]) -> Result<Command, CommandFault>
+    ensures read { Tells (asked book.now (words line.now)) result }
+    ensures stands { IfOk result (NamesStand book.now) }
+{
+    let Some((word, rest)) = next_word(line) else {
+        return Err(CommandFault::Empty);
+    };
+    match word {
+        b"show" => parse_show(alloc, book, rest),
+        b"clear" => parse_clear(alloc, book, rest),
+        b"add" => parse_add(alloc, book, rest),
+        _ => Err(CommandFault::Unknown),
+    }
+}
+
+// Behind `show`.
+fn parse_show(alloc: Global, book: &Book, line: &[u8]) -> Result<Command, CommandFault>
+    ensures read { Tells (shown book.now (words line.now)) result }
+    ensures stands { IfOk result (NamesStand book.now) }
+{
+    let Some((word, rest)) = next_word(line) else {
+        return Err(CommandFault::Unknown);
+    };
+    match word {
+        b"table" => parse_show_table(alloc, book, rest),
+        b"filter" => parse_show_filter(book, rest),
+        b"rank" => parse_show_rank(book, rest),
+        b"next" => parse_show_next(book, rest),
+        _ => Err(CommandFault::Unknown),
+    }
+}
+
+// Behind `clear`.
+fn parse_clear(alloc: Global, book: &Book, line: &[u8]) -> Result<Command, CommandFault>
+    ensures read { Tells (cleared book.now (words line.now)) result }
+    ensures stands { IfOk result (NamesStand book.now) }
+{
+    let Some((word, rest)) = next_word(line) else {
+        return Err(CommandFault::Unknown);
+    };
+    match word {
+        b"table" => parse_clear_table(alloc, book, rest),
+        _ => Err(CommandFault::Unknown),
+    }
+}
+
+// Behind `add`.
+fn parse_add(alloc: Global, book: &Book, line: &[u8]) -> Result<Command, CommandFault>
+    ensures read { Tells (added book.now (words line.now)) result }
+    ensures stands { IfOk result (NamesStand book.now) }
+{
+    let Some((word, rest)) = next_word(line) else {
+        return Err(CommandFault::Unknown);
+    };
+    match word {
+        b"filter" => parse_add_filter(alloc, book, rest),
+        _ => Err(CommandFault::Unknown),
+    }
+}
+
+// The position of a table.
+fn table_named(book: &Book, name: &[u8]) -> Result<usize, CommandFault>
+    ensures read { result ≡ table_named book.now name.now }
+    ensures within { IfOk result (λ table. table < length book.now.config.tables) }
+{
+    table_place(book.config().tables.as_slice(), name).ok_or(CommandFault::NoTable)
+}
+
+// The position of a standing filter.
+fn filter_named(book: &Book, name: &[u8]) -> Result<usize, CommandFault>
+    ensures read { result ≡ filter_named book.now name.now }
+    ensures within { IfOk result (λ filter. filter < length book.now.config.filters) }
+{
+    filter_place(book.config().filters.as_slice(), name).ok_or(CommandFault::NoTable)
+}
+
+// The position of a ranked list.
+fn rank_named(book: &Book, name: &[u8]) -> Result<usize, CommandFault>
+    ensures read { result ≡ rank_named book.now name.now }
+    ensures within { IfOk result (λ rank. rank < length book.now.config.ranks) }
+{
+    rank_place(book.config().ranks.as_slice(), name).ok_or(CommandFault::NoTable)
+}
+
+fn table_place(tables: &[Shape], name: &[u8]) -> Option<usize>
+    ensures place { result ≡ position (λ shape. bytes_eq shape.name name.now) tables.now }
+    ensures within { IfSome result (λ place. place < length tables.now) }
+{
+    tables.iter().position(|shape| shape.name.is(name))
+}
+
+fn filter_place(filters: &[Filter], name: &[u8]) -> Option<usize>
+    ensures place { result ≡ position (λ filter. bytes_eq filter.name name.now) filters.now }
+    ensures within { IfSome result (λ place. place < length filters.now) }
+{
+    filters.iter().position(|filter| filter.name.is(name))
+}
+
+fn rank_place(ranks: &[Rank], name: &[u8]) -> Option<usize>
+    ensures place { result ≡ position (λ rank. bytes_eq rank.name name.now) ranks.now }
+    ensures within { IfSome result (λ place. place < length ranks.now) }
+{
+    ranks.iter().position(|rank| rank.name.is(name))
+}
+
+// No further word may follow.
+fn at_end(line: &[u8]) -> Result<(), CommandFault>
+    ensures { result ≡ at_end (words line.now) }
+{
+    match next_word(line) {
+        None => Ok(()),
+        Some(_) => Err(CommandFault::Unknown),
+    }
+}
+
+// A table by its name and a selector, to the end of the line.
+fn table_and_sel(
+    alloc: Global,
+    book: &Book,
+    name: &[u8],
+    line: &[u8],
+) -> Result<(usize, Select), CommandFault>
+    ensures read { Tells (table_and_sel book.now name.now (words line.now)) result }
+    ensures within { IfOk result (λ found. found.0 < length book.now.config.tables) }
+{
+    let table = table_named(book, name)?;
+    let sel = selector(alloc, shape_of(book, table), line)?;
+    Ok((table, sel))
+}
+
+// A selector, to the end of the line.
+fn selector(alloc: Global, shape: &Shape, line: &[u8]) -> Result<Select, CommandFault>
+    ensures { Tells (sel_of shape.now (words line.now)) result }
+{
+    let Some((word, rest)) = next_word(line) else {
+        return Ok(Select::All);
+    };
+    match word {
+        b"key" => one_key(alloc, shape.kind, rest),
+        _ => Ok(Select::Conds(read_conds(alloc, shape, line)?)),
+    }
+}
+
+fn one_key(alloc: Global, kind: KeyKind, line: &[u8]) -> Result<Select, CommandFault>
+    ensures { Tells (one_key kind (words line.now)) result }
+{
+    let Some((text, rest)) = next_word(line) else {
+        return Err(CommandFault::Unknown);
+    };
+    let Some(key) = read_key(alloc, kind, text)? else {
+        return Err(CommandFault::BadKey);
+    };
+    at_end(rest)?;
+    Ok(Select::One(key))
+}
+
+// Behind `show table`.
+fn parse_show_table(alloc: Global, book: &Book, line: &[u8]) -> Result<Command, CommandFault>
+    ensures read { Tells (table_shown book.now (words line.now)) result }
+    ensures stands { IfOk result (NamesStand book.now) }
+{
+    let Some((name, rest)) = next_word(line) else {
+        return Ok(Command::ShowTables);
+    };
+    let (table, sel) = table_and_sel(alloc, book, name, rest)?;
+    Ok(Command::ShowTable { table, sel })
+}
+
+// Behind `clear table`.
+fn parse_clear_table(alloc: Global, book: &Book, line: &[u8]) -> Result<Command, CommandFault>
+    ensures read { Tells (table_cleared book.now (words line.now)) result }
+    ensures stands { IfOk result (NamesStand book.now) }
+{
+    let Some((name, rest)) = next_word(line) else {
+        return Err(CommandFault::Unknown);
+    };
+    let (table, sel) = table_and_sel(alloc, book, name, rest)?;
+    Ok(Command::ClearTable { table, sel })
+}
+
+// Behind `show filter`.
+fn parse_show_filter(book: &Book, line: &[u8]) -> Result<Command, CommandFault>
+    ensures read { Tells (filter_shown book.now (words line.now)) result }
+    ensures stands { IfOk result (NamesStand book.now) }
+{
+    let Some((name, rest)) = next_word(line) else {
+        return Err(CommandFault::Unknown);
+    };
+    let filter = filter_named(book, name)?;
+    at_end(rest)?;
+    Ok(Command::ShowFilter(filter))
+}
+
+// Behind `show next`.
+fn parse_show_next(book: &Book, line: &[u8]) -> Result<Command, CommandFault>
+    ensures read { Tells (next_shown book.now (words line.now)) result }
+    ensures stands { IfOk result (NamesStand book.now) }
+{
+    let Some((name, rest)) = next_word(line) else {
+        return Err(CommandFault::Unknown);
+    };
+    let filter = filter_named(book, name)?;
+    at_end(rest)?;
+    Ok(Command::ShowNext(filter))
+}
+
+// Behind `show rank`.
+fn parse_show_rank(book: &Book, line: &[u8]) -> Result<Command, CommandFault>
+    ensures read { Tells (rank_shown book.now (words line.now)) result }
+    ensures stands { IfOk result (NamesStand book.now) }
+{
+    let Some((name, rest)) = next_word(line) else {
+        return Err(CommandFault::Unknown);
+    };
+    let rank = rank_named(book, name)?;
+    at_end(rest)?;
+    Ok(Command::ShowRank(rank))
+}
+
+// Behind `add filter`.
+fn parse_add_filter(alloc: Global, book: &Book, line: &[u8]) -> Result<Command, CommandFault>
+    ensures read { Tells (filter_added book.now (words line.now)) result }
+    ensures stands { IfOk result (NamesStand book.now) }
+{
+    let Some((name, rest)) = next_word(line) else {
+        return Err(CommandFault::Unknown);
+    };
+    check_new_name(book, name)?;
+    Ok(Command::AddFilter(filter_on(alloc, book, name, rest)?))
+}
+
+// Whether a filter of this name may be added.
+fn check_new_name(book: &Book, name: &[u8]) -> Result<(), CommandFault>
+    ensures { result ≡ new_name book.now name.now }
+{
+    let filters = book.config().filters.as_slice();
+    if !is_name(name) {
+        return Err(CommandFault::BadName);
+    }
+    if is_named(filters, name) {
+        return Err(CommandFault::Exists);
+    }
+    if filters.len() < MOST_FILTERS {
+        Ok(())
+    } else {
+        Err(CommandFault::Full)
+    }
+}
+
+fn is_named(filters: &[Filter], name: &[u8]) -> bool
+    ensures { result ≡ list_any (λ other. bytes_eq other.name name.now) filters.now }
+{
+    filters.iter().any(|other| other.name.is(name))
+}
+
+// The filter of this name, from its table and conditions.
+fn filter_on(alloc: Global, book: &Book, name: &[u8], line: &[u8]) -> Result<Filter, CommandFault>
+    ensures { Tells (filter_on book.now name.now (words line.now)) result }
+{
+    let Some((word, rest)) = next_word(line) else {
+        return Err(CommandFault::Unknown);
+    };
+    let table = table_named(book, word)?;
+    let conds = read_some_conds(alloc, shape_of(book, table), rest)?;
+    Ok(Filter {
+        name: Name::copy(alloc, name)?,
+        table,
+        conds,
+    })
+}
