@@ -11,6 +11,7 @@ mod of_key;
 mod packed;
 mod row;
 mod rows;
+mod spot;
 mod table;
 #[cfg(test)]
 mod tests;
@@ -19,3 +20,4 @@ pub use by_key::ByKey;
 pub use of_key::OfKey;
 pub use row::{Cells, Held, Row};
 pub use rows::Rows;
+pub use spot::Spot;
