@@ -1,8 +1,8 @@
-use Rattle.std.specs.Prelude.{◌≡◌, ℕ, ◌+◌, Bool, ◌&&◌, not, List, [], ◌∷◌, ◌==◌, Option, map, filter, sum_by}
+use Rattle.std.specs.Prelude.{◌≡◌, ℕ, ◌+◌, Bool, ◌&&◌, not, List, [], ◌∷◌, ◌==◌, Option, map, filter, sum_by, length}
 use Rattle.std.specs.Map.{keys_of, lookup, remove_entry}
 use Rattle.std.specs.BTreeMap.{insert_entry, is_at}
 use Rattle.peer_rows.specs.Counted.{counted_at}
-use Rattle.std.specs.List.{AllByRecursion}
+use Rattle.std.specs.List.{AllByRecursion, dedup}
 use Rattle.std.specs.List.Sorted.{IsStrictlySortedBy}
 use Rattle.agg_types.specs.Place.{place_cmp}
 use Rattle.agg_types.specs.declared.place.Place.{Place}
@@ -60,6 +60,11 @@ rows_of rows table =
 abbrev pub peers_of : RowMap → ℕ → List ℕ → List (ℕ × Row)
 peers_of rows table key =
     map (λ e. (e.0.peer, e.1)) (filter (λ e. of_table_key table key e.0) rows.entries)
+
+-- how many keys of a table have a row
+abbrev pub used_in : RowMap → ℕ → ℕ
+used_in rows table =
+    length (dedup same_key (map (λ e. e.0.key) (filter (λ e. in_table table e.0) rows.entries)))
 
 -- the sum of what the rows of a table and key count in a column
 abbrev pub count_at : RowMap → ℕ → List ℕ → ℕ → ℕ

@@ -29,7 +29,7 @@ impl Model for Rows {
 }
 
 impl Rows {
-    ghost use Rattle.peer_rows.specs.Rows.{count_at, row_at, with_row, without_row, without_key, rows_of, peers_of, in_table, of_table_key, of_table_peer, AreInOrder};
+    ghost use Rattle.peer_rows.specs.Rows.{count_at, row_at, with_row, without_row, without_key, rows_of, peers_of, used_in, in_table, of_table_key, of_table_peer, AreInOrder};
 
     /// No rows, for these numbers of peers and of tables.
     pub fn new(alloc: Global, peers: usize, tables: usize) -> Result<Rows, NoMemory>
@@ -63,6 +63,14 @@ impl Rows {
         ensures ordered { AreInOrder self.now.entries }
     {
         self.tables[table].count(peer)
+    }
+
+    /// How many keys of a table have a row, in constant time. Takes no memory.
+    pub fn used(&self, table: usize) -> usize
+        requires { table < self.now.tables }
+        ensures { result ≡ used_in self.now table }
+    {
+        self.tables[table].used()
     }
 
     /// Puts a row in the place of the row that stood there, which comes back.
@@ -107,13 +115,13 @@ impl Rows {
         self.tables[table].clear_key(key)
     }
 
-    /// Lends the rows of a table, each once, by key, then by peer. Takes no memory.
-    pub fn by_key(&self, table: usize) -> ByKey<'_>
+    /// Lends the rows of a table, each once, by key, then by peer, in one walk.
+    pub fn by_key(&self, table: usize) -> Result<ByKey<'_>, NoMemory>
         requires { table < self.now.tables }
-        ensures value { result ≡ rows_of self.now table }
+        ensures value { IfOk result (λ rows. rows ≡ rows_of self.now table) }
         ensures ordered { AreInOrder self.now.entries }
     {
-        self.tables[table].by_key()
+        Ok(self.tables[table].by_key())
     }
 
     /// Lends the rows of a table and key over all peers, by peer: one search, and then the rows that

@@ -1,5 +1,6 @@
 ghost use Rattle.std.specs.Prelude.{◌≡◌, ◌+◌, ◌<◌, ◌≤◌, ℕ, [], length, filter, not, map, sum_by, slice_index, IsOk, IsSome, IfOk, OnOk, OnErr};
 ghost use Rattle.std.specs.Option.{option_copied};
+ghost use Rattle.std.specs.List.{dedup};
 ghost use Rattle.std.specs.Map.{lookup, remove_entry};
 ghost use Rattle.std.specs.BTreeMap.{insert_entry, is_at};
 ghost use Rattle.peer_rows.specs.Counted.{counted_at};
@@ -57,6 +58,13 @@ impl Table {
         ensures { result ≡ rows_of_peer peer self.now.entries }
     {
         self.counts[peer]
+    }
+
+    /// How many keys have a row.
+    pub(crate) fn used(&self) -> usize
+        ensures { result ≡ length (dedup same_key (map (λ e. e.0.0) self.now.entries)) }
+    {
+        self.keys.len()
     }
 
     /// Puts a row in the place of an older one, which comes back.
