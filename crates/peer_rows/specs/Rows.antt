@@ -44,7 +44,9 @@ with_row rows peer table key row =
 -- the rows without that of a peer, table and key
 abbrev pub without_row : RowMap → ℕ → ℕ → List ℕ → RowMap
 without_row rows peer table key =
-    record rows { entries = remove_entry (is_at (place_cmp (place_of table key peer))) rows.entries }
+    record rows {
+      entries = remove_entry (is_at (place_cmp (place_of table key peer))) rows.entries;
+    }
 
 -- the rows without those of a table and key
 abbrev pub without_key : RowMap → ℕ → List ℕ → RowMap

@@ -160,7 +160,8 @@ impl KeyRows {
 fn put_second(alloc: Global, peers: &mut Peers, new: PeerRow) -> Result<(), NoMemory>
     requires one { IsOne peers.old }
     requires apart { keys_of (held_by peers.old) ≢ new.0 ∷ [] }
-    ensures ok { OnOk result (held_by peers.new ≡ insert_entry nat_cmp (held_by peers.old) new.0 new.1) }
+    ensures ok { OnOk result (held_by peers.new
+        ≡ insert_entry nat_cmp (held_by peers.old) new.0 new.1) }
     ensures err { OnErr result (peers.new ≡ peers.old) }
 {
     let mut rows = Vec::with_capacity(alloc, 2)?;

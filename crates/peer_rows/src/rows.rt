@@ -9,7 +9,8 @@ use std::marker::Model;
 
 /// The rows of a fleet: for each peer, table and key at most one.
 ///
-/// Peers and tables are named by their positions. Contracts see the numbers of peers and tables, and
+/// Peers and tables are named by their positions. Contracts see the numbers of peers and tables,
+/// and
 /// the rows as the list of the entries of a finite map, by table, then by key, then by peer.
 #[derive(Debug, Drop)]
 pub struct Rows {
@@ -23,7 +24,12 @@ impl Model for Rows {
 
     ghost Value = { RowMap };
 
-    ghost view = { λ rows. record { peers = rows.peers; tables = length rows.tables.items; entries = placed rows.tables.items } };
+    ghost view = { λ rows. record {
+      peers = rows.peers;
+      tables = length rows.tables.items;
+      entries =
+          placed rows.tables.items;
+    } };
 
     ghost invariant = { λ rows. AreTables rows.peers rows.tables.items };
 }
@@ -33,7 +39,8 @@ impl Rows {
 
     /// No rows, for these numbers of peers and of tables.
     pub fn new(alloc: Global, peers: usize, tables: usize) -> Result<Rows, NoMemory>
-        ensures { IfOk result (λ rows. rows ≡ record { peers = peers; tables = tables; entries = [] }) }
+        ensures { IfOk result (λ rows. rows
+            ≡ record { peers = peers; tables = tables; entries = [] }) }
     {
         let mut empty = Vec::new(alloc);
         for _table in 0..tables {
@@ -124,7 +131,8 @@ impl Rows {
         Ok(self.tables[table].by_key())
     }
 
-    /// Lends the rows of a table and key over all peers, by peer: one search, and then the rows that
+    /// Lends the rows of a table and key over all peers, by peer: one search, and then the rows
+    /// that
     /// there are. Takes no memory.
     pub fn of_key(&self, table: usize, key: &Key) -> OfKey<'_>
         requires { table < self.now.tables }
@@ -134,7 +142,8 @@ impl Rows {
         self.tables[table].of_key(key)
     }
 
-    /// The sum of a count column over the rows of a table and key, of all peers: one search, and then
+    /// The sum of a count column over the rows of a table and key, of all peers: one search, and
+    /// then
     /// the rows that there are. A rate counts nothing, and neither does a column that a row doesn't
     /// have. Takes no memory.
     pub fn count_of(&self, table: usize, key: &Key, col: usize) -> u128
@@ -147,7 +156,8 @@ impl Rows {
 
     // ---- with a hint at where the rows of a key lie
 
-    /// Where the rows of a table and key lie, as a hint for a later call: nothing is promised of it.
+    /// Where the rows of a table and key lie, as a hint for a later call: nothing is promised of
+    /// it.
     /// Takes no memory.
     pub fn spot_of(&self, table: usize, key: &Key) -> Option<Spot>
         requires { table < self.now.tables }
