@@ -1,5 +1,5 @@
 -- Sums after a history of rows added and dropped.
-use Rattle.std.proofs.Common.{◌≡◌, ◌≢◌, ℕ, zero, suc, ◌+◌, ◌-◌, ◌<◌, ◌≤◌, Bool, true, false, cond, List, [], ◌∷◌, ◌++◌, length, refl, sym, ◌∙◌, ap, arith, get_or, replicate, ⊎_elim}
+use Rattle.std.proofs.Common.{◌≡◌, ◌≢◌, ℕ, zero, suc, ◌+◌, ◌-◌, ◌*◌, ◌^◌, ◌<◌, ◌≤◌, Bool, true, false, cond, List, [], ◌∷◌, ◌++◌, length, refl, sym, ◌∙◌, ap, arith, get_or, replicate, ⊎_elim, ◌⊎◌, inl, inr, subst}
 use Rattle.std.specs.Prelude.{Option, Some, None, slice_get, slice_index, sum_by, count_by, remove, unwrap_or}
 use Rattle.std.specs.declared.cmp.Ordering.{Ordering}
 use Rattle.std.specs.declared.cmp.Ordering.TheVariants.{Less, Equal, Greater}
@@ -8,6 +8,7 @@ use Rattle.std.specs.Cmp.{IsTotalOrder, nat_cmp_total, then_total, on_total, eq_
 use Rattle.std.specs.Cmp.Lexicographic.{slice_cmp, nat_list_cmp_total}
 use Rattle.std.specs.Map.{keys_of, lookup}
 use Rattle.std.specs.BTreeMap.{insert_entry, is_at}
+use Rattle.std.specs.List.{AllByRecursion}
 use Rattle.std.specs.List.Sorted.{IsStrictlySortedBy}
 use Rattle.std.proofs.lemmas.List.{length-replicate, get_or_past, get_or-replicate}
 use Rattle.std.proofs.lemmas.List.Sums.{sum_by-append, sum_by-remove}
@@ -16,11 +17,11 @@ use Rattle.std.proofs.lemmas.Map.Keys.{IsDistinct-from_sorted}
 use Rattle.std.proofs.lemmas.Map.Lookups.{exact_bytes, exact_unsigned, exact_pairs}
 use Rattle.std.proofs.lemmas.Bool.{cases_lt, cases_eq}
 use Rattle.peer_rows.specs.declared.row.Held.{Held}
-use Rattle.peer_rows.proofs.Sorted.{sorted-insert_entry, sorted-remove_entry}
+use Rattle.peer_rows.proofs.Sorted.{equal_itself, sorted-insert_entry, sorted-remove_entry}
 use Rattle.peer_rows.specs.Counted.{counted_at}
 use Rattle.fleet_sums.specs.Totals.{KeyTotals, no_sums, with_row, with_row_less, without_row, totals_by}
-use Rattle.fleet_sums.specs.Sums.{SumMap, TableKey, table_key_cmp, put_or_take, sums_of, added, dropped, replaced}
-use Rattle.fleet_sums.specs.History.{SummedRow, Change, Adds, Drops, Replaces, with_other_cells, standing, IsFair, dropped_row, replaced_row, sums_after, is_row_of, sum_over, empty_sums, TotalsAreSums}
+use Rattle.fleet_sums.specs.Sums.{SumMap, TableKey, table_key_cmp, put_or_take, sums_of, CanDrop, added, dropped, replaced}
+use Rattle.fleet_sums.specs.History.{SummedRow, Change, Adds, Drops, Replaces, with_other_cells, standing, IsFair, dropped_row, replaced_row, sums_after, is_row_of, sum_over, empty_sums, TotalsAreSums, IsWhole, StandingCanDrop}
 use Rattle.fleet_sums.proofs.Columns.{get_or-totals_less, get_or-totals_more, length-totals_by}
 use Rattle.fleet_sums.proofs.Keeping.{last_row, not_last_row}
 
@@ -287,3 +288,73 @@ pub totals_are_sums_lem : TotalsAreSums
 totals_are_sums_lem widths changes fair table key =
     let a : Agrees widths (sums_after (empty_sums widths) [] changes) (standing [] changes) = agrees-after widths changes (empty_sums widths) [] (agrees-empty widths) fair in
     (a.numbers table key, λ col h. a.sums table key col h)
+
+-- ---- rows that stand can be dropped
+
+-- a row is one of its own table and key
+own_row : (r : SummedRow) → is_row_of r.table r.key r ≡ true
+own_row r = ap is_eq (equal_itself table_key_cmp_total (r.table, r.key))
+
+-- a column that a row doesn't have counts nothing
+counted_past : (cells : List Held) (col : ℕ) → length cells ≤ col → counted_at cells col ≡ 0
+counted_past [] col past = refl
+counted_past (c ∷ cells) zero past = absurd (omega (arith, past))
+counted_past (c ∷ cells) (suc col) past = counted_past cells col (omega (arith, past))
+
+-- rows without one are whole still
+whole-remove : (widths : List ℕ) (rows : List SummedRow) (i : ℕ) → AllByRecursion (IsWhole widths) rows → AllByRecursion (IsWhole widths) (remove rows i)
+whole-remove widths [] zero whole = tt
+whole-remove widths [] (suc i) whole = tt
+whole-remove widths (x ∷ rows) zero whole = whole.1
+whole-remove widths (x ∷ rows) (suc i) whole = (whole.0, whole-remove widths rows i whole.1)
+
+whole-found : (widths : List ℕ) (rows : List SummedRow) (i : ℕ) (r : SummedRow) → AllByRecursion (IsWhole widths) rows → slice_get rows i ≡ Some r → IsWhole widths r
+whole-found widths [] i r whole found = cc
+whole-found widths (x ∷ rows) zero r whole found = let same : x ≡ r = cc in subst (λ (y : SummedRow). IsWhole widths y) same whole.0
+whole-found widths (x ∷ rows) (suc i) r whole found = whole-found widths rows i r whole.1 found
+
+-- a sum over rows is at most what so many can count
+sum_over-le : (widths : List ℕ) (table : ℕ) (key : List ℕ) (col : ℕ) (rows : List SummedRow) → AllByRecursion (IsWhole widths) rows → sum_over table key col rows ≤ count_by (is_row_of table key) rows * (2 ^ 64 - 1)
+sum_over-le widths table key col [] whole = omega arith
+sum_over-le widths table key col (x ∷ rows) whole = by (sum_over-le widths table key col rows whole.1) (is_row_of table key x) (sum_by-cons (λ y. cond (is_row_of table key y) 1 0) x rows) (sum_by-cons (λ y. cond (is_row_of table key y) (counted_at y.cells col) 0) x rows)
+  where
+    by : sum_over table key col rows ≤ count_by (is_row_of table key) rows * (2 ^ 64 - 1) → (b : Bool) → count_by (is_row_of table key) (x ∷ rows) ≡ cond b 1 0 + count_by (is_row_of table key) rows → sum_over table key col (x ∷ rows) ≡ cond b (counted_at x.cells col) 0 + sum_over table key col rows → sum_over table key col (x ∷ rows) ≤ count_by (is_row_of table key) (x ∷ rows) * (2 ^ 64 - 1)
+    by more true counts sums = omega (arith, more, counts, sums, whole.0.small col)
+    by more false counts sums = omega (arith, more, counts, sums)
+
+standing_can_drop_agreed : (widths : List ℕ) (s : SumMap) (rows : List SummedRow) → Agrees widths s rows → AllByRecursion (IsWhole widths) rows → (i : ℕ) (r : SummedRow) → slice_get rows i ≡ Some r → CanDrop (sums_of s r.table r.key) r.cells
+standing_can_drop_agreed widths s rows a whole i r found = record {
+  some = omega (arith, counted, numbers);
+  enough = λ col. enough col (cases_lt col (slice_index widths r.table));
+  left = λ col. left col (cases_lt col (slice_index widths r.table));
+}
+  where
+    numbers : (sums_of s r.table r.key).rows ≡ count_by (is_row_of r.table r.key) rows
+    numbers = a.numbers r.table r.key
+
+    counted : count_by (is_row_of r.table r.key) (remove rows i) + 1 ≡ count_by (is_row_of r.table r.key) rows
+    counted = let all = removed (λ x. cond (is_row_of r.table r.key x) 1 0) rows i r found in rw (own_row r) at all
+
+    one : IsWhole widths r
+    one = whole-found widths rows i r whole found
+
+    summed : (col : ℕ) → sum_over r.table r.key col (remove rows i) + counted_at r.cells col ≡ sum_over r.table r.key col rows
+    summed col = let all = removed (λ x. cond (is_row_of r.table r.key x) (counted_at x.cells col) 0) rows i r found in rw (own_row r) at all
+
+    enough : (col : ℕ) → (col < slice_index widths r.table) ⊎ (slice_index widths r.table ≤ col) → counted_at r.cells col ≤ slice_index (sums_of s r.table r.key).totals col
+    enough col (inl inside) = omega (arith, summed col, a.sums r.table r.key col inside)
+    enough col (inr past) = omega (arith, counted_past r.cells col (omega (arith, one.width, past)))
+
+    left : (col : ℕ) → (col < slice_index widths r.table) ⊎ (slice_index widths r.table ≤ col) → slice_index (sums_of s r.table r.key).totals col - counted_at r.cells col ≤ ((sums_of s r.table r.key).rows - 1) * (2 ^ 64 - 1)
+    left col (inl inside) =
+        let others = sum_over-le widths r.table r.key col (remove rows i) (whole-remove widths rows i whole) in
+        let total = a.sums r.table r.key col inside in
+        let count : (sums_of s r.table r.key).rows - 1 ≡ count_by (is_row_of r.table r.key) (remove rows i) = omega (arith, counted, numbers) in
+        rw count (omega (arith, summed col, others, total))
+    left col (inr past) =
+        let nothing : slice_index (sums_of s r.table r.key).totals col ≡ 0 = get_or_past (sums_of s r.table r.key).totals col 0 (omega (arith, a.long r.table r.key, past)) in
+        omega (arith, nothing)
+
+pub standing_can_drop_lem : StandingCanDrop
+standing_can_drop_lem widths changes fair whole i r found =
+    standing_can_drop_agreed widths (sums_after (empty_sums widths) [] changes) (standing [] changes) (agrees-after widths changes (empty_sums widths) [] (agrees-empty widths) fair) whole i r found

@@ -19,7 +19,8 @@ pub record TableSums : Type 0 where
   pub entries : List (List ℕ × KeyTotals)
 
 -- a map with a value at a key, or without the key where there is none
-abbrev pub put_or_take : {K X : Type 0} → (K → K → Ordering) → List (K × X) → K → Option X → List (K × X)
+abbrev pub put_or_take : {K X : Type 0} → (K → K → Ordering) → List (K × X) → K → Option X
+    → List (K × X)
 put_or_take cmp es k None = remove_entry (is_at (cmp k)) es
 put_or_take cmp es k (Some v) = insert_entry cmp es k v
 
@@ -52,7 +53,9 @@ pub record SumMap : Type 0 where
 
 -- the sums of a table's key, which are zero where it has no row
 abbrev pub sums_of : SumMap → ℕ → List ℕ → KeyTotals
-sums_of s table key = unwrap_or (lookup (is_at (table_key_cmp (table, key))) s.entries) (no_sums (slice_index s.widths table))
+sums_of s table key =
+    unwrap_or (lookup (is_at (table_key_cmp (table, key))) s.entries)
+    (no_sums (slice_index s.widths table))
 
 -- whether a key has a row
 abbrev pub HasRow : SumMap → ℕ → List ℕ → Type 0
@@ -63,19 +66,32 @@ HasRow s table key = IsSome (lookup (is_at (table_key_cmp (table, key))) s.entri
 pub record CanDrop (k : KeyTotals) (cells : List Held) : Type 0 where
   pub some : 1 ≤ k.rows
   pub enough : (col : ℕ) → counted_at cells col ≤ slice_index k.totals col
-  pub left : (col : ℕ) → slice_index k.totals col - counted_at cells col ≤ (k.rows - 1) * (2 ^ 64 - 1)
+  pub left : (col : ℕ)
+      → slice_index k.totals col - counted_at cells col ≤ (k.rows - 1) * (2 ^ 64 - 1)
 
 -- the sums with one row more at a key
 abbrev pub added : SumMap → ℕ → List ℕ → List Held → SumMap
-added s table key cells = record s { entries = insert_entry table_key_cmp s.entries (table, key) (with_row (sums_of s table key) cells) }
+added s table key cells =
+    record s {
+      entries = insert_entry table_key_cmp s.entries (table, key)
+          (with_row (sums_of s table key) cells);
+    }
 
 -- the sums with one row less at a key, which goes with its last row
 abbrev pub dropped : SumMap → ℕ → List ℕ → List Held → SumMap
-dropped s table key cells = record s { entries = put_or_take table_key_cmp s.entries (table, key) (without_row (sums_of s table key) cells) }
+dropped s table key cells =
+    record s {
+      entries = put_or_take table_key_cmp s.entries (table, key)
+          (without_row (sums_of s table key) cells);
+    }
 
 -- the sums with one row of a key in the place of another
 abbrev pub replaced : SumMap → ℕ → List ℕ → List Held → List Held → SumMap
-replaced s table key old new = record s { entries = insert_entry table_key_cmp s.entries (table, key) (with_row (with_row_less (sums_of s table key) old) new) }
+replaced s table key old new =
+    record s {
+      entries = insert_entry table_key_cmp s.entries (table, key)
+          (with_row (with_row_less (sums_of s table key) old) new);
+    }
 
 -- the keys of a table that have a row, in order
 abbrev pub keys_in : SumMap → ℕ → List (List ℕ)

@@ -23,7 +23,8 @@ with_row k cells = record { rows = k.rows + 1; totals = totals_by (λ t n. t + n
 
 -- the sums with one row less
 abbrev pub with_row_less : KeyTotals → List Held → KeyTotals
-with_row_less k cells = record { rows = k.rows - 1; totals = totals_by (λ t n. t - n) k.totals cells }
+with_row_less k cells =
+    record { rows = k.rows - 1; totals = totals_by (λ t n. t - n) k.totals cells }
 
 -- the same, or none where it was the last row
 abbrev pub without_row : KeyTotals → List Held → Option KeyTotals

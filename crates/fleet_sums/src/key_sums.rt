@@ -69,7 +69,8 @@ impl KeySums {
         requires width { length cells.now ≡ length self.old.totals }
         requires some { 1 ≤ self.old.rows }
         requires enough { (col : ℕ) → counted_at cells.now col ≤ slice_index self.old.totals col }
-        requires left { (col : ℕ) → slice_index self.old.totals col - counted_at cells.now col ≤ (self.old.rows - 1) * (2 ^ 64 - 1) }
+        requires left { (col : ℕ) → slice_index self.old.totals col - counted_at cells.now col
+            ≤ (self.old.rows - 1) * (2 ^ 64 - 1) }
         ensures { self.new ≡ with_row_less self.old cells.now }
     {
         take_counts(&mut self.totals, cells);
@@ -102,7 +103,8 @@ fn add_counts(totals: &mut [Total], cells: &Cells)
     requires width { length cells.now ≡ length totals.old }
     requires room { (col : ℕ) → slice_index totals.old col + (2 ^ 64 - 1) < 2 ^ 96 }
     ensures sums { totals.new ≡ totals_by (λ t n. t + n) totals.old cells.now }
-    ensures bound { (col : ℕ) → slice_index totals.new col ≤ slice_index totals.old col + (2 ^ 64 - 1) }
+    ensures bound { (col : ℕ) → slice_index totals.new col
+        ≤ slice_index totals.old col + (2 ^ 64 - 1) }
 {
     for col in 0..totals.len() {
         totals[col].add(cells.count(col));
@@ -123,9 +125,12 @@ fn replace_counts(totals: &mut [Total], old: &Cells, new: &Cells)
     requires old_width { length old.now ≡ length totals.old }
     requires new_width { length new.now ≡ length totals.old }
     requires enough { (col : ℕ) → counted_at old.now col ≤ slice_index totals.old col }
-    requires room { (col : ℕ) → slice_index totals.old col - counted_at old.now col + (2 ^ 64 - 1) < 2 ^ 96 }
-    ensures sums { totals.new ≡ totals_by (λ t n. t + n) (totals_by (λ t n. t - n) totals.old old.now) new.now }
-    ensures bound { (col : ℕ) → slice_index totals.new col ≤ slice_index totals.old col - counted_at old.now col + (2 ^ 64 - 1) }
+    requires room { (col : ℕ) → slice_index totals.old col - counted_at old.now col + (2 ^ 64 - 1)
+        < 2 ^ 96 }
+    ensures sums { totals.new ≡ totals_by (λ t n. t + n)
+        (totals_by (λ t n. t - n) totals.old old.now) new.now }
+    ensures bound { (col : ℕ) → slice_index totals.new col
+        ≤ slice_index totals.old col - counted_at old.now col + (2 ^ 64 - 1) }
 {
     take_counts(totals, old);
     add_counts(totals, new);

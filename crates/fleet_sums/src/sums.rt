@@ -23,7 +23,11 @@ impl Model for Sums {
 
     ghost Value = { SumMap };
 
-    ghost view = { λ sums. record { widths = map (λ t. t.width) sums.tables.items; entries = placed sums.tables.items } };
+    ghost view = { λ sums. record {
+      widths = map (λ t. t.width) sums.tables.items;
+      entries = placed
+          sums.tables.items;
+    } };
 }
 
 impl Sums {
@@ -31,7 +35,8 @@ impl Sums {
 
     /// The sums of no row, for tables of these columns.
     pub fn new(alloc: Global, tables: &[Shape]) -> Result<Sums, NoMemory>
-        ensures { IfOk result (λ sums. sums ≡ record { widths = map (λ shape. length shape.cols) tables.now; entries = [] }) }
+        ensures { IfOk result (λ sums. sums
+            ≡ record { widths = map (λ shape. length shape.cols) tables.now; entries = [] }) }
     {
         let mut empty = Vec::with_capacity(alloc, tables.len())?;
         for shape in tables {

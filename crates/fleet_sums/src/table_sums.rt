@@ -27,7 +27,8 @@ impl Model for Table {
 
     ghost view = { λ table. record { width = table.width; entries = table.keys.entries } };
 
-    ghost invariant = { λ table. IsTable (record { width = table.width; entries = table.keys.entries }) };
+    ghost invariant = { λ table. IsTable (record
+        { width = table.width; entries = table.keys.entries }) };
 }
 
 impl Table {
@@ -49,8 +50,13 @@ impl Table {
     pub(crate) fn add(&mut self, key: &Key, cells: &Cells) -> Result<(), NoMemory>
         requires width { length cells.now ≡ self.old.width }
         requires few { (sums_of_key self.old key.now).rows < 2 ^ 32 }
-        ensures ok { OnOk result (self.new ≡ record self.old { entries = insert_entry (slice_cmp nat_cmp) self.old.entries key.now (with_row (sums_of_key self.old key.now) cells.now) }) }
-        ensures held { IsSome (lookup (is_at (slice_cmp nat_cmp key.now)) self.old.entries) → IsOk result }
+        ensures ok { OnOk result (self.new
+            ≡ record self.old {
+              entries = insert_entry (slice_cmp nat_cmp) self.old.entries key.now
+                  (with_row (sums_of_key self.old key.now) cells.now);
+            }) }
+        ensures held { IsSome (lookup (is_at (slice_cmp nat_cmp key.now)) self.old.entries)
+            → IsOk result }
         ensures err { OnErr result (self.new ≡ self.old) }
     {
         if let Some(sums) = self.keys.get_mut(key) {
@@ -68,7 +74,10 @@ impl Table {
         requires width { length cells.now ≡ self.old.width }
         requires there { IsSome (lookup (is_at (slice_cmp nat_cmp key.now)) self.old.entries) }
         requires can { CanDrop (sums_of_key self.old key.now) cells.now }
-        ensures { self.new ≡ record self.old { entries = put_or_take (slice_cmp nat_cmp) self.old.entries key.now (without_row (sums_of_key self.old key.now) cells.now) } }
+        ensures { self.new ≡ record self.old {
+          entries = put_or_take (slice_cmp nat_cmp) self.old.entries key.now
+              (without_row (sums_of_key self.old key.now) cells.now);
+        } }
     {
         let Some(sums) = self.keys.get_mut(key) else {
             return;
@@ -86,7 +95,10 @@ impl Table {
         requires new_width { length new.now ≡ self.old.width }
         requires there { IsSome (lookup (is_at (slice_cmp nat_cmp key.now)) self.old.entries) }
         requires can { CanDrop (sums_of_key self.old key.now) old.now }
-        ensures { self.new ≡ record self.old { entries = insert_entry (slice_cmp nat_cmp) self.old.entries key.now (with_row (with_row_less (sums_of_key self.old key.now) old.now) new.now) } }
+        ensures { self.new ≡ record self.old {
+          entries = insert_entry (slice_cmp nat_cmp) self.old.entries key.now
+              (with_row (with_row_less (sums_of_key self.old key.now) old.now) new.now);
+        } }
     {
         let Some(sums) = self.keys.get_mut(key) else {
             return;
@@ -125,7 +137,8 @@ impl Table {
 
 // Takes a key and its sums out.
 fn forget(keys: &mut BTreeMap<Key, KeySums>, key: &Key)
-    ensures entries { keys.new.entries ≡ remove_entry (is_at (slice_cmp nat_cmp key.now)) keys.old.entries }
+    ensures entries { keys.new.entries ≡ remove_entry (is_at (slice_cmp nat_cmp key.now))
+        keys.old.entries }
     ensures ordered { IsOrdered (slice_cmp nat_cmp) keys.new }
 {
     keys.remove(key);

@@ -9,6 +9,7 @@ use Rattle.std.specs.Cmp.{IsTotalOrder, nat_cmp_total, unsigned_ties, then_total
 use Rattle.std.specs.Cmp.Lexicographic.{slice_cmp, nat_list_cmp_total}
 use Rattle.std.specs.Map.{keys_of, lookup, remove_entry, set_value}
 use Rattle.std.specs.BTreeMap.{insert_entry, is_at}
+use Rattle.std.specs.List.{AllByRecursion}
 use Rattle.std.specs.List.Sorted.{IsStrictlySortedBy}
 use Rattle.std.proofs.lemmas.Bool.{cases_eq, cases_lt}
 use Rattle.std.proofs.lemmas.Bool.Decides.{nat_tests}
@@ -22,9 +23,14 @@ use Rattle.peer_rows.proofs.Selecting.{filter_not-none, filter-none}
 use Rattle.peer_rows.proofs.Spreading.{spread-remove_entry, spread-none, filter_not-spread, map-filter-spread, sorted-spread}
 use Rattle.peer_rows.proofs.Keying.{Keys, one_key, once-remove_entry, rows_of_peer-split, length-filter-insert_entry_new, length-filter-insert_entry_held, length-filter-remove_entry}
 
+-- each key's rows stand by peer
+once_sorted : (es : Keys) → EachPeerOnce es → AllByRecursion (λ (e : List ℕ × List (ℕ × Row)). IsStrictlySortedBy nat_cmp (keys_of e.1)) es
+once_sorted [] once = tt
+once_sorted (e ∷ es) once = (once.0.sorted, once_sorted es once.1)
+
 -- the rows of a table are in order
 pub sorted_rows : (es : Keys) → IsStrictlySortedBy (slice_cmp nat_cmp) (keys_of es) → EachPeerOnce es → IsStrictlySortedBy spot_cmp (keys_of (rows_in es))
-sorted_rows es s once = sorted-spread spot (slice_cmp nat_cmp) nat_cmp spot_cmp (λ k j p q. refl) es (equal_itself nat_list_cmp_total) s once
+sorted_rows es s once = sorted-spread spot (slice_cmp nat_cmp) nat_cmp spot_cmp (λ k j p q. refl) es (equal_itself nat_list_cmp_total) s (once_sorted es once)
 
 pub spot_cmp_total : IsTotalOrder spot_cmp
 spot_cmp_total = then_total (on_total (λ (q : Spot). q.0) nat_list_cmp_total) (on_total (λ (q : Spot). q.1) nat_cmp_total)

@@ -13,6 +13,7 @@ use Rattle.std.specs.List.Sorted.{IsStrictlySortedBy}
 use Rattle.std.proofs.lemmas.Map.{none_passes_from_lookup, lookup-none}
 use Rattle.std.proofs.lemmas.Map.Lookups.{exact_bytes}
 use Rattle.peer_rows.specs.declared.row.Row.{Row}
+use Rattle.peer_rows.specs.Peers.{ArePeers}
 use Rattle.peer_rows.specs.Spread.{part}
 use Rattle.peer_rows.specs.Table.{spot, spot_cmp, rows_in, rows_of_peer, EachPeerOnce}
 use Rattle.peer_rows.proofs.Sorted.{equal_itself, sorted_one, sorted_others, lookup_below}
@@ -62,7 +63,7 @@ module _ (es : Keys) (key : List ℕ) (peer : ℕ) where
       emptied (r ∷ q ∷ rs) e = cc
 
 -- ---- each peer once at a key
-pub once-set_value : (test : List ℕ → Bool) (es : Keys) (rows : List (ℕ × Row)) → EachPeerOnce es → IsStrictlySortedBy nat_cmp (keys_of rows) → EachPeerOnce (set_value test es rows)
+pub once-set_value : (test : List ℕ → Bool) (es : Keys) (rows : List (ℕ × Row)) → EachPeerOnce es → ArePeers rows → EachPeerOnce (set_value test es rows)
 once-set_value test [] rows f s = tt
 once-set_value test (e ∷ es) rows f s = by (once-set_value test es rows f.1 s) (test e.0)
   where
@@ -78,13 +79,16 @@ once-remove_entry test (e ∷ es) f = by (once-remove_entry test es f.1) (test e
     by more true = f.1
     by more false = (f.0, more)
 
+one_row : (peer : ℕ) (row : Row) → ArePeers ((peer, row) ∷ [])
+one_row peer row = record { some = λ none. cc; sorted = sorted_one nat_cmp peer }
+
 pub once-insert_entry : (es : Keys) (key : List ℕ) (peer : ℕ) (row : Row) → EachPeerOnce es → EachPeerOnce (insert_entry (slice_cmp nat_cmp) es key ((peer, row) ∷ []))
-once-insert_entry [] key peer row f = (sorted_one nat_cmp peer, tt)
+once-insert_entry [] key peer row f = (one_row peer row, tt)
 once-insert_entry (e ∷ es) key peer row f = by (once-insert_entry es key peer row f.1) (slice_cmp nat_cmp key e.0)
   where
     by : EachPeerOnce (insert_entry (slice_cmp nat_cmp) es key ((peer, row) ∷ [])) → (o : Ordering) → EachPeerOnce (match_ordering o ((key, (peer, row) ∷ []) ∷ e ∷ es) ((e.0, (peer, row) ∷ []) ∷ es) (e ∷ insert_entry (slice_cmp nat_cmp) es key ((peer, row) ∷ [])))
-    by more Less = (sorted_one nat_cmp peer, f)
-    by more Equal = (sorted_one nat_cmp peer, f.1)
+    by more Less = (one_row peer row, f)
+    by more Equal = (one_row peer row, f.1)
     by more Greater = (f.0, more)
 
 -- the rows of a found key stand by peer
@@ -93,7 +97,7 @@ once-lookup test [] rows f found = cc
 once-lookup test (e ∷ es) rows f found = by (once-lookup test es rows f.1) (test e.0) found
   where
     by : (lookup test es ≡ Some rows → IsStrictlySortedBy nat_cmp (keys_of rows)) → (b : Bool) → cond b (Some e.1) (lookup test es) ≡ Some rows → IsStrictlySortedBy nat_cmp (keys_of rows)
-    by more true is = let same : e.1 ≡ rows = cc in subst (λ (rs : List (ℕ × Row)). IsStrictlySortedBy nat_cmp (keys_of rs)) same f.0
+    by more true is = let same : e.1 ≡ rows = cc in subst (λ (rs : List (ℕ × Row)). IsStrictlySortedBy nat_cmp (keys_of rs)) same f.0.sorted
     by more false is = more is
 
 -- ---- no peer has more rows than there are keys
@@ -119,7 +123,7 @@ rows_of_peer-split p e es = rw (filter-append (λ f. p == f.0.1) (part spot e.0 
 pub rows_of_peer-le : (es : Keys) (p : ℕ) → EachPeerOnce es → rows_of_peer p (rows_in es) ≤ length es
 rows_of_peer-le [] p f = omega arith
 rows_of_peer-le (e ∷ es) p f =
-    let here = length-filter_once (λ q. p == q) e.1 (PassesOnce-sorted nat_cmp_total p (λ q. p == q) (λ q. unsigned_ties p q) e.1 f.0) in
+    let here = length-filter_once (λ q. p == q) e.1 (PassesOnce-sorted nat_cmp_total p (λ q. p == q) (λ q. unsigned_ties p q) e.1 f.0.sorted) in
     let split = rows_of_peer-split p e es in
     let more = rows_of_peer-le es p f.1 in
     omega (arith, here, split, more)

@@ -4,5 +4,6 @@ pub mod Selecting
 pub mod Peers
 pub mod Spreading
 pub mod Keying
+pub mod Using
 pub mod Kept
 pub mod Placing

@@ -116,6 +116,13 @@ module _ (ts : List TableRows) (i : ℕ) (table : TableRows) (found : slice_get 
   pub by_key-placed : map (λ e. ((e.0.key, e.0.peer), e.1)) (filter (λ e. in_table i e.0) (placed ts)) ≡ table.entries
   by_key-placed = map-filter-spread place (is_at (nat_cmp i)) (λ s. true) (in_table i) (table_splits i) (λ (e : Place × Row). ((e.0.key, e.0.peer), e.1)) (λ (e : Spot × Row). e) (λ k p x passes. refl) (numbered 0 ts) table.entries once here ∙ all_pass table.entries
 
+  map_twice : (es : List (Place × Row)) → map (λ (s : Spot × Row). s.0.0) (map {B = Spot × Row} (λ (e : Place × Row). ((e.0.key, e.0.peer), e.1)) es) ≡ map (λ e. e.0.key) es
+  map_twice [] = refl
+  map_twice (e ∷ es) = ap (λ ks. e.0.key ∷ ks) (map_twice es)
+
+  pub used-placed : map (λ e. e.0.key) (filter (λ e. in_table i e.0) (placed ts)) ≡ map (λ (s : Spot × Row). s.0.0) table.entries
+  used-placed = sym (map_twice (filter (λ e. in_table i e.0) (placed ts))) ∙ ap (λ (es : List (Spot × Row)). map (λ (s : Spot × Row). s.0.0) es) by_key-placed
+
   pub of_key-placed : (key : List ℕ) → map {B = ℕ × Row} (λ e. (e.0.peer, e.1)) (filter (λ e. of_table_key i key e.0) (placed ts)) ≡ map {B = ℕ × Row} (λ e. (e.0.1, e.1)) (filter (λ e. same_key key e.0.0) table.entries)
   of_key-placed key = map-filter-spread place (is_at (nat_cmp i)) (λ s. same_key key s.0) (of_table_key i key) (key_splits i key) (λ (e : Place × Row). (e.0.peer, e.1)) (λ (e : Spot × Row). (e.0.1, e.1)) (λ k p x passes. refl) (numbered 0 ts) table.entries once here
 

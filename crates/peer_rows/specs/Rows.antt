@@ -1,6 +1,8 @@
-use Rattle.std.specs.Prelude.{◌≡◌, ℕ, ◌+◌, Bool, ◌&&◌, List, [], ◌∷◌, ◌==◌}
-use Rattle.std.specs.Map.{keys_of}
-use Rattle.std.specs.List.{AllByRecursion}
+use Rattle.std.specs.Prelude.{◌≡◌, ℕ, ◌+◌, Bool, ◌&&◌, not, List, [], ◌∷◌, ◌==◌, Option, map, filter, sum_by, length}
+use Rattle.std.specs.Map.{keys_of, lookup, remove_entry}
+use Rattle.std.specs.BTreeMap.{insert_entry, is_at}
+use Rattle.peer_rows.specs.Counted.{counted_at}
+use Rattle.std.specs.List.{AllByRecursion, dedup}
 use Rattle.std.specs.List.Sorted.{IsStrictlySortedBy}
 use Rattle.agg_types.specs.Place.{place_cmp}
 use Rattle.agg_types.specs.declared.place.Place.{Place}
@@ -29,6 +31,47 @@ of_table_key table key p = (table == p.table) && same_key key p.key
 -- whether a place is one of a peer in a table
 abbrev pub of_table_peer : ℕ → ℕ → Place → Bool
 of_table_peer table peer p = (table == p.table) && (peer == p.peer)
+
+-- the row of a peer, table and key
+abbrev pub row_at : RowMap → ℕ → ℕ → List ℕ → Option Row
+row_at rows peer table key = lookup (is_at (place_cmp (place_of table key peer))) rows.entries
+
+-- the rows with a row in the place of the one that stood there
+abbrev pub with_row : RowMap → ℕ → ℕ → List ℕ → Row → RowMap
+with_row rows peer table key row =
+    record rows { entries = insert_entry place_cmp rows.entries (place_of table key peer) row }
+
+-- the rows without that of a peer, table and key
+abbrev pub without_row : RowMap → ℕ → ℕ → List ℕ → RowMap
+without_row rows peer table key =
+    record rows {
+      entries = remove_entry (is_at (place_cmp (place_of table key peer))) rows.entries;
+    }
+
+-- the rows without those of a table and key
+abbrev pub without_key : RowMap → ℕ → List ℕ → RowMap
+without_key rows table key =
+    record rows { entries = filter (λ e. not (of_table_key table key e.0)) rows.entries }
+
+-- the rows of a table, each with its key and its peer
+abbrev pub rows_of : RowMap → ℕ → List (Spot × Row)
+rows_of rows table =
+    map (λ e. ((e.0.key, e.0.peer), e.1)) (filter (λ e. in_table table e.0) rows.entries)
+
+-- the rows of a table and key, each with its peer
+abbrev pub peers_of : RowMap → ℕ → List ℕ → List (ℕ × Row)
+peers_of rows table key =
+    map (λ e. (e.0.peer, e.1)) (filter (λ e. of_table_key table key e.0) rows.entries)
+
+-- how many keys of a table have a row
+abbrev pub used_in : RowMap → ℕ → ℕ
+used_in rows table =
+    length (dedup same_key (map (λ e. e.0.key) (filter (λ e. in_table table e.0) rows.entries)))
+
+-- the sum of what the rows of a table and key count in a column
+abbrev pub count_at : RowMap → ℕ → List ℕ → ℕ → ℕ
+count_at rows table key col =
+    sum_by (λ e. counted_at e.1.cells col) (filter (λ e. of_table_key table key e.0) rows.entries)
 
 -- the rows stand in order, each place once
 abbrev pub AreInOrder : List (Place × Row) → Type 0

@@ -5,6 +5,7 @@ use Rattle.std.specs.declared.cmp.Ordering.{Ordering}
 use Rattle.std.specs.Map.{keys_of}
 use Rattle.std.specs.List.{AllByRecursion}
 use Rattle.std.specs.List.Sorted.{IsStrictlySortedBy}
+use Rattle.peer_rows.specs.Peers.{ArePeers}
 use Rattle.peer_rows.specs.Spread.{spread}
 use Rattle.peer_rows.specs.declared.row.Row.{Row}
 
@@ -36,9 +37,9 @@ rows_in keys = spread spot keys
 abbrev pub rows_of_peer : ℕ → List (Spot × Row) → ℕ
 rows_of_peer peer entries = length (filter (λ e. peer == e.0.1) entries)
 
--- each key's rows stand by peer, a peer once
+-- each key has a row, and its rows stand by peer, a peer once
 abbrev pub EachPeerOnce : List (List ℕ × List (ℕ × Row)) → Type 0
-EachPeerOnce keys = AllByRecursion (λ e. IsStrictlySortedBy nat_cmp (keys_of e.1)) keys
+EachPeerOnce keys = AllByRecursion (λ e. ArePeers e.1) keys
 
 -- the keys stand in order, each peer once at a key, and the counts are those of the peers' rows
 pub record IsKept (keys : List (List ℕ × List (ℕ × Row))) (counts : List ℕ) : Type 0 where

@@ -3,7 +3,6 @@ ghost use Rattle.std.specs.Option.{option_copied, option_map};
 ghost use Rattle.std.specs.Ordering.{nat_cmp};
 ghost use Rattle.std.specs.Map.{keys_of, lookup, remove_entry};
 ghost use Rattle.std.specs.BTreeMap.{insert_entry, is_at};
-ghost use Rattle.std.specs.List.Sorted.{IsStrictlySortedBy};
 ghost use Rattle.peer_rows.specs.Counted.{counted_at};
 ghost use Rattle.peer_rows.specs.Peers.{IsFound, IsGap, IsOne, ArePeers, held_by};
 
@@ -83,7 +82,7 @@ impl KeyRows {
         ensures old { IfOk result (λ old. old ≡ lookup (is_at (nat_cmp peer)) self.old) }
         ensures held { IsSome (lookup (is_at (nat_cmp peer)) self.old) → IsOk result }
         ensures err { OnErr result (self.new ≡ self.old) }
-        ensures sorted { IsStrictlySortedBy nat_cmp (keys_of self.new) }
+        ensures are { ArePeers self.new }
     {
         match &mut self.peers {
             Peers::One(held) if held.0 == peer => Ok(Some(mem::replace(&mut held.1, row))),
@@ -107,7 +106,7 @@ impl KeyRows {
         requires { keys_of self.old ≢ peer ∷ [] }
         ensures value { result ≡ lookup (is_at (nat_cmp peer)) self.old }
         ensures after { self.new ≡ remove_entry (is_at (nat_cmp peer)) self.old }
-        ensures sorted { IsStrictlySortedBy nat_cmp (keys_of self.new) }
+        ensures are { ArePeers self.new }
     {
         let Peers::Many(rows) = &mut self.peers else {
             return None;
@@ -161,7 +160,8 @@ impl KeyRows {
 fn put_second(alloc: Global, peers: &mut Peers, new: PeerRow) -> Result<(), NoMemory>
     requires one { IsOne peers.old }
     requires apart { keys_of (held_by peers.old) ≢ new.0 ∷ [] }
-    ensures ok { OnOk result (held_by peers.new ≡ insert_entry nat_cmp (held_by peers.old) new.0 new.1) }
+    ensures ok { OnOk result (held_by peers.new
+        ≡ insert_entry nat_cmp (held_by peers.old) new.0 new.1) }
     ensures err { OnErr result (peers.new ≡ peers.old) }
 {
     let mut rows = Vec::with_capacity(alloc, 2)?;

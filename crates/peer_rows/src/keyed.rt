@@ -18,7 +18,8 @@ pub(crate) type Keyed = BTreeMap<Key, KeyRows>;
 // The row of a peer and key.
 pub(crate) fn row_at<'a>(keys: &'a Keyed, peer: usize, key: &Key) -> Option<&'a Row>
     requires { IsOrdered (slice_cmp nat_cmp) keys.now }
-    ensures { option_copied result ≡ lookup (is_at (spot_cmp (key.now, peer))) (rows_in keys.now.entries) }
+    ensures { option_copied result ≡ lookup (is_at (spot_cmp (key.now, peer)))
+        (rows_in keys.now.entries) }
 {
     keys.get(key)?.get(peer)
 }
@@ -32,9 +33,12 @@ pub(crate) fn put_row(
     row: Row,
 ) -> Result<Option<Row>, NoMemory>
     requires { EachPeerOnce keys.old.entries }
-    ensures ok { OnOk result (rows_in keys.new.entries ≡ insert_entry spot_cmp (rows_in keys.old.entries) (key, peer) row) }
-    ensures old { IfOk result (λ old. old ≡ lookup (is_at (spot_cmp (key, peer))) (rows_in keys.old.entries)) }
-    ensures held { IsSome (lookup (is_at (spot_cmp (key, peer))) (rows_in keys.old.entries)) → IsOk result }
+    ensures ok { OnOk result (rows_in keys.new.entries
+        ≡ insert_entry spot_cmp (rows_in keys.old.entries) (key, peer) row) }
+    ensures old { IfOk result (λ old. old
+        ≡ lookup (is_at (spot_cmp (key, peer))) (rows_in keys.old.entries)) }
+    ensures held { IsSome (lookup (is_at (spot_cmp (key, peer))) (rows_in keys.old.entries))
+        → IsOk result }
     ensures err { OnErr result (keys.new.entries ≡ keys.old.entries) }
 
     // Each peer stands once at a key, the keys in order, and no peer has 2^63 rows.
@@ -56,7 +60,8 @@ pub(crate) fn take_row(keys: &mut Keyed, peer: usize, key: &Key) -> Option<Row>
     requires ordered { IsOrdered (slice_cmp nat_cmp) keys.old }
     requires once { EachPeerOnce keys.old.entries }
     ensures value { result ≡ lookup (is_at (spot_cmp (key.now, peer))) (rows_in keys.old.entries) }
-    ensures after { rows_in keys.new.entries ≡ remove_entry (is_at (spot_cmp (key.now, peer))) (rows_in keys.old.entries) }
+    ensures after { rows_in keys.new.entries
+        ≡ remove_entry (is_at (spot_cmp (key.now, peer))) (rows_in keys.old.entries) }
     ensures ordered { IsOrdered (slice_cmp nat_cmp) keys.new }
     ensures once { EachPeerOnce keys.new.entries }
 {

@@ -1,7 +1,13 @@
-//! The rows that the peers of a fleet hold: for each peer and table an ordered map from keys.
+//! The rows that the peers of a fleet hold: for each peer, table and key at most one.
 //!
-//! Contracts see one finite map from places to rows, as the list of its entries by table, key and
-//! peer. Rows of one key lie together, so that one search finds what all peers hold of it.
+//! It is what a book of a fleet keeps of its peers' updates. Contracts see one finite map from
+//! places to rows, as the list of its entries by table, key and peer: each call is an insertion, a
+//! removal, a look-up or a filter of that list, and what was refused for want of memory has changed
+//! nothing. The rows of one key lie together, so that one search finds what all peers hold of it.
+//!
+//! No clause says how long a call takes: a look-up is one search of a table's keys, `count` and
+//! `used` take constant time, and a row that replaces another takes no memory. Nor does one say
+//! anything of a `Spot` but that no answer depends on it.
 #![tactic(auto)]
 
 mod by_key;
@@ -11,6 +17,7 @@ mod of_key;
 mod packed;
 mod row;
 mod rows;
+mod spot;
 mod table;
 #[cfg(test)]
 mod tests;
@@ -19,3 +26,4 @@ pub use by_key::ByKey;
 pub use of_key::OfKey;
 pub use row::{Cells, Held, Row};
 pub use rows::Rows;
+pub use spot::Spot;

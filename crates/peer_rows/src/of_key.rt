@@ -1,4 +1,4 @@
-ghost use Rattle.std.specs.Prelude.{◌≡◌, [], length};
+ghost use Rattle.std.specs.Prelude.{◌≡◌, ◌==◌, [], length};
 ghost use Rattle.std.specs.Iterator.{at_most};
 ghost use Rattle.std.specs.Map.Iter.{TakesFirst};
 ghost use Rattle.peer_rows.specs.Listing.{peer_and_row};
@@ -37,6 +37,27 @@ impl<'a> OfKey<'a> {
         ensures { result ≡ rows.now }
     {
         OfKey { rows }
+    }
+
+    /// The same rows once more: those that this has left.
+    pub fn duplicate(&self) -> OfKey<'a>
+        ensures { result ≡ self.now }
+    {
+        OfKey { rows: self.rows }
+    }
+
+    /// How many rows are left.
+    pub fn len(&self) -> usize
+        ensures { result ≡ length self.now }
+    {
+        self.rows.len()
+    }
+
+    /// Whether no row is left.
+    pub fn is_empty(&self) -> bool
+        ensures { result ≡ (length self.now == 0) }
+    {
+        self.rows.is_empty()
     }
 }
 

@@ -63,7 +63,8 @@ impl Cells {
         Some(packed.held())
     }
 
-    /// What is counted in a column: nothing where it holds a rate, or where there is no such column.
+    /// What is counted in a column: nothing where it holds a rate, or where there is no such
+    /// column.
     pub fn count(&self, col: usize) -> u64
         ensures { result ≡ counted_at self.now col }
     {
@@ -88,7 +89,8 @@ impl Cells {
     }
 }
 
-/// A row as it stands: its cells, the moment of its arrival, and the moment from which it has ended,
+/// A row as it stands: its cells, the moment of its arrival, and the moment from which it has
+/// ended,
 /// if it ends. Moments are in milliseconds.
 #[derive(Debug, Drop)]
 pub struct Row {

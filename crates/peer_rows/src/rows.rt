@@ -1,19 +1,16 @@
-ghost use Rattle.std.specs.Prelude.{◌≡◌, ◌<◌, [], length, filter, count_by, sum_by, not, map, IsOk, IsSome, IfOk, OnOk, OnErr};
+ghost use Rattle.std.specs.Prelude.{◌≡◌, ◌<◌, [], length, count_by, IsOk, IsSome, IfOk, OnOk, OnErr};
 ghost use Rattle.std.specs.Option.{option_copied};
-ghost use Rattle.std.specs.Map.{lookup, remove_entry};
-ghost use Rattle.std.specs.BTreeMap.{insert_entry, is_at};
-ghost use Rattle.agg_types.specs.Place.{place_cmp};
-ghost use Rattle.peer_rows.specs.Counted.{counted_at};
 
 use crate::table::Table;
-use crate::{ByKey, OfKey, Row};
+use crate::{ByKey, OfKey, Row, Spot};
 use agg_types::{Key, NoMemory};
 use std::alloc::Global;
 use std::marker::Model;
 
 /// The rows of a fleet: for each peer, table and key at most one.
 ///
-/// Peers and tables are named by their positions. Contracts see the numbers of peers and tables, and
+/// Peers and tables are named by their positions. Contracts see the numbers of peers and tables,
+/// and
 /// the rows as the list of the entries of a finite map, by table, then by key, then by peer.
 #[derive(Debug, Drop)]
 pub struct Rows {
@@ -27,17 +24,23 @@ impl Model for Rows {
 
     ghost Value = { RowMap };
 
-    ghost view = { λ rows. record { peers = rows.peers; tables = length rows.tables.items; entries = placed rows.tables.items } };
+    ghost view = { λ rows. record {
+      peers = rows.peers;
+      tables = length rows.tables.items;
+      entries =
+          placed rows.tables.items;
+    } };
 
     ghost invariant = { λ rows. AreTables rows.peers rows.tables.items };
 }
 
 impl Rows {
-    ghost use Rattle.peer_rows.specs.Rows.{place_of, in_table, of_table_key, of_table_peer, AreInOrder};
+    ghost use Rattle.peer_rows.specs.Rows.{count_at, row_at, with_row, without_row, without_key, rows_of, peers_of, used_in, in_table, of_table_key, of_table_peer, AreInOrder};
 
     /// No rows, for these numbers of peers and of tables.
     pub fn new(alloc: Global, peers: usize, tables: usize) -> Result<Rows, NoMemory>
-        ensures { IfOk result (λ rows. rows ≡ record { peers = peers; tables = tables; entries = [] }) }
+        ensures { IfOk result (λ rows. rows
+            ≡ record { peers = peers; tables = tables; entries = [] }) }
     {
         let mut empty = Vec::new(alloc);
         for _table in 0..tables {
@@ -53,7 +56,7 @@ impl Rows {
     pub fn get(&self, peer: usize, table: usize, key: &Key) -> Option<&Row>
         requires peer_in { peer < self.now.peers }
         requires table_in { table < self.now.tables }
-        ensures value { option_copied result ≡ lookup (is_at (place_cmp (place_of table key.now peer))) self.now.entries }
+        ensures value { option_copied result ≡ row_at self.now peer table key.now }
         ensures ordered { AreInOrder self.now.entries }
     {
         self.tables[table].get(peer, key)
@@ -69,6 +72,14 @@ impl Rows {
         self.tables[table].count(peer)
     }
 
+    /// How many keys of a table have a row, in constant time. Takes no memory.
+    pub fn used(&self, table: usize) -> usize
+        requires { table < self.now.tables }
+        ensures { result ≡ used_in self.now table }
+    {
+        self.tables[table].used()
+    }
+
     /// Puts a row in the place of the row that stood there, which comes back.
     ///
     /// Takes no memory where there was one. After `NoMemory` no row has changed.
@@ -81,9 +92,9 @@ impl Rows {
     ) -> Result<Option<Row>, NoMemory>
         requires peer_in { peer < self.old.peers }
         requires table_in { table < self.old.tables }
-        ensures ok { OnOk result (self.new ≡ record self.old { entries = insert_entry place_cmp self.old.entries (place_of table key peer) row }) }
-        ensures old { IfOk result (λ old. old ≡ lookup (is_at (place_cmp (place_of table key peer))) self.old.entries) }
-        ensures held { IsSome (lookup (is_at (place_cmp (place_of table key peer))) self.old.entries) → IsOk result }
+        ensures ok { OnOk result (self.new ≡ with_row self.old peer table key row) }
+        ensures old { IfOk result (λ old. old ≡ row_at self.old peer table key) }
+        ensures held { IsSome (row_at self.old peer table key) → IsOk result }
         ensures err { OnErr result (self.new ≡ self.old) }
         ensures ordered { AreInOrder self.new.entries }
     {
@@ -94,8 +105,8 @@ impl Rows {
     pub fn take(&mut self, peer: usize, table: usize, key: &Key) -> Option<Row>
         requires peer_in { peer < self.old.peers }
         requires table_in { table < self.old.tables }
-        ensures value { result ≡ lookup (is_at (place_cmp (place_of table key.now peer))) self.old.entries }
-        ensures after { self.new ≡ record self.old { entries = remove_entry (is_at (place_cmp (place_of table key.now peer))) self.old.entries } }
+        ensures value { result ≡ row_at self.old peer table key.now }
+        ensures after { self.new ≡ without_row self.old peer table key.now }
         ensures ordered { AreInOrder self.new.entries }
     {
         self.tables[table].take(peer, key)
@@ -104,40 +115,128 @@ impl Rows {
     /// Takes the rows of a table and key out, over all peers, and says how many. Takes no memory.
     pub fn clear_key(&mut self, table: usize, key: &Key) -> usize
         requires { table < self.old.tables }
-        ensures after { self.new ≡ record self.old { entries = filter (λ e. not (of_table_key table key.now e.0)) self.old.entries } }
+        ensures after { self.new ≡ without_key self.old table key.now }
         ensures value { result ≡ count_by (λ e. of_table_key table key.now e.0) self.old.entries }
         ensures ordered { AreInOrder self.new.entries }
     {
         self.tables[table].clear_key(key)
     }
 
-    /// Lends the rows of a table, each once, by key, then by peer. Takes no memory.
-    pub fn by_key(&self, table: usize) -> ByKey<'_>
+    /// Lends the rows of a table, each once, by key, then by peer, in one walk.
+    pub fn by_key(&self, table: usize) -> Result<ByKey<'_>, NoMemory>
         requires { table < self.now.tables }
-        ensures value { result ≡ map (λ e. ((e.0.key, e.0.peer), e.1)) (filter (λ e. in_table table e.0) self.now.entries) }
+        ensures value { IfOk result (λ rows. rows ≡ rows_of self.now table) }
         ensures ordered { AreInOrder self.now.entries }
     {
-        self.tables[table].by_key()
+        Ok(self.tables[table].by_key())
     }
 
-    /// Lends the rows of a table and key over all peers, by peer: one search, and then the rows that
+    /// Lends the rows of a table and key over all peers, by peer: one search, and then the rows
+    /// that
     /// there are. Takes no memory.
     pub fn of_key(&self, table: usize, key: &Key) -> OfKey<'_>
         requires { table < self.now.tables }
-        ensures value { result ≡ map (λ e. (e.0.peer, e.1)) (filter (λ e. of_table_key table key.now e.0) self.now.entries) }
+        ensures value { result ≡ peers_of self.now table key.now }
         ensures ordered { AreInOrder self.now.entries }
     {
         self.tables[table].of_key(key)
     }
 
-    /// The sum of a count column over the rows of a table and key, of all peers: one search, and then
+    /// The sum of a count column over the rows of a table and key, of all peers: one search, and
+    /// then
     /// the rows that there are. A rate counts nothing, and neither does a column that a row doesn't
     /// have. Takes no memory.
     pub fn count_of(&self, table: usize, key: &Key, col: usize) -> u128
         requires { table < self.now.tables }
-        ensures value { result ≡ sum_by (λ e. counted_at e.1.cells col) (filter (λ e. of_table_key table key.now e.0) self.now.entries) }
+        ensures value { result ≡ count_at self.now table key.now col }
         ensures ordered { AreInOrder self.now.entries }
     {
         self.tables[table].count_of(key, col)
+    }
+
+    // ---- with a hint at where the rows of a key lie
+
+    /// Where the rows of a table and key lie, as a hint for a later call: nothing is promised of
+    /// it.
+    /// Takes no memory.
+    pub fn spot_of(&self, table: usize, key: &Key) -> Option<Spot>
+        requires { table < self.now.tables }
+    {
+        None
+    }
+
+    /// What `get` answers, whatever the hint: one that doesn't fit costs a search.
+    pub fn get_at(&self, hint: Option<Spot>, peer: usize, table: usize, key: &Key) -> Option<&Row>
+        requires peer_in { peer < self.now.peers }
+        requires table_in { table < self.now.tables }
+        ensures value { option_copied result ≡ row_at self.now peer table key.now }
+        ensures ordered { AreInOrder self.now.entries }
+    {
+        self.get(peer, table, key)
+    }
+
+    /// What `put` does and answers, whatever the hint.
+    pub fn put_at(
+        &mut self,
+        hint: Option<Spot>,
+        peer: usize,
+        table: usize,
+        key: Key,
+        row: Row,
+    ) -> Result<Option<Row>, NoMemory>
+        requires peer_in { peer < self.old.peers }
+        requires table_in { table < self.old.tables }
+        ensures ok { OnOk result (self.new ≡ with_row self.old peer table key row) }
+        ensures old { IfOk result (λ old. old ≡ row_at self.old peer table key) }
+        ensures held { IsSome (row_at self.old peer table key) → IsOk result }
+        ensures err { OnErr result (self.new ≡ self.old) }
+        ensures ordered { AreInOrder self.new.entries }
+    {
+        self.put(peer, table, key, row)
+    }
+
+    /// What `take` does and answers, whatever the hint.
+    pub fn take_at(
+        &mut self,
+        hint: Option<Spot>,
+        peer: usize,
+        table: usize,
+        key: &Key,
+    ) -> Option<Row>
+        requires peer_in { peer < self.old.peers }
+        requires table_in { table < self.old.tables }
+        ensures value { result ≡ row_at self.old peer table key.now }
+        ensures after { self.new ≡ without_row self.old peer table key.now }
+        ensures ordered { AreInOrder self.new.entries }
+    {
+        self.take(peer, table, key)
+    }
+
+    /// What `clear_key` does and answers, whatever the hint.
+    pub fn clear_key_at(&mut self, hint: Option<Spot>, table: usize, key: &Key) -> usize
+        requires { table < self.old.tables }
+        ensures after { self.new ≡ without_key self.old table key.now }
+        ensures value { result ≡ count_by (λ e. of_table_key table key.now e.0) self.old.entries }
+        ensures ordered { AreInOrder self.new.entries }
+    {
+        self.clear_key(table, key)
+    }
+
+    /// What `of_key` lends, whatever the hint.
+    pub fn of_key_at(&self, hint: Option<Spot>, table: usize, key: &Key) -> OfKey<'_>
+        requires { table < self.now.tables }
+        ensures value { result ≡ peers_of self.now table key.now }
+        ensures ordered { AreInOrder self.now.entries }
+    {
+        self.of_key(table, key)
+    }
+
+    /// What `count_of` answers, whatever the hint.
+    pub fn count_of_at(&self, hint: Option<Spot>, table: usize, key: &Key, col: usize) -> u128
+        requires { table < self.now.tables }
+        ensures value { result ≡ count_at self.now table key.now col }
+        ensures ordered { AreInOrder self.now.entries }
+    {
+        self.count_of(table, key, col)
     }
 }

@@ -1,5 +1,6 @@
 ghost use Rattle.std.specs.Prelude.{◌≡◌, ◌+◌, ◌<◌, ◌≤◌, ℕ, [], length, filter, not, map, sum_by, slice_index, IsOk, IsSome, IfOk, OnOk, OnErr};
 ghost use Rattle.std.specs.Option.{option_copied};
+ghost use Rattle.std.specs.List.{dedup};
 ghost use Rattle.std.specs.Map.{lookup, remove_entry};
 ghost use Rattle.std.specs.BTreeMap.{insert_entry, is_at};
 ghost use Rattle.peer_rows.specs.Counted.{counted_at};
@@ -26,7 +27,11 @@ impl Model for Table {
 
     ghost Value = { TableRows };
 
-    ghost view = { λ table. record { peers = length table.counts.items; entries = rows_in table.keys.entries } };
+    ghost view = { λ table. record {
+      peers = length table.counts.items;
+      entries = rows_in
+          table.keys.entries;
+    } };
 
     ghost invariant = { λ table. IsKept table.keys.entries table.counts.items };
 }
@@ -59,12 +64,22 @@ impl Table {
         self.counts[peer]
     }
 
+    /// How many keys have a row.
+    pub(crate) fn used(&self) -> usize
+        ensures { result ≡ length (dedup same_key (map (λ e. e.0.0) self.now.entries)) }
+    {
+        self.keys.len()
+    }
+
     /// Puts a row in the place of an older one, which comes back.
     pub(crate) fn put(&mut self, peer: usize, key: Key, row: Row) -> Result<Option<Row>, NoMemory>
         requires { peer < self.old.peers }
-        ensures ok { OnOk result (self.new ≡ record self.old { entries = insert_entry spot_cmp self.old.entries (key, peer) row }) }
-        ensures old { IfOk result (λ old. old ≡ lookup (is_at (spot_cmp (key, peer))) self.old.entries) }
-        ensures held { IsSome (lookup (is_at (spot_cmp (key, peer))) self.old.entries) → IsOk result }
+        ensures ok { OnOk result (self.new
+            ≡ record self.old { entries = insert_entry spot_cmp self.old.entries (key, peer) row }) }
+        ensures old { IfOk result (λ old. old
+            ≡ lookup (is_at (spot_cmp (key, peer))) self.old.entries) }
+        ensures held { IsSome (lookup (is_at (spot_cmp (key, peer))) self.old.entries)
+            → IsOk result }
         ensures err { OnErr result (self.new ≡ self.old) }
     {
         let alloc = *self.counts.allocator();
@@ -79,7 +94,8 @@ impl Table {
     pub(crate) fn take(&mut self, peer: usize, key: &Key) -> Option<Row>
         requires { peer < self.old.peers }
         ensures value { result ≡ lookup (is_at (spot_cmp (key.now, peer))) self.old.entries }
-        ensures after { self.new ≡ record self.old { entries = remove_entry (is_at (spot_cmp (key.now, peer))) self.old.entries } }
+        ensures after { self.new ≡ record self.old
+            { entries = remove_entry (is_at (spot_cmp (key.now, peer))) self.old.entries } }
     {
         let old = take_row(&mut self.keys, peer, key);
         if old.is_some() {
@@ -90,7 +106,8 @@ impl Table {
 
     /// Takes all rows of a key out, and says how many.
     pub(crate) fn clear_key(&mut self, key: &Key) -> usize
-        ensures after { self.new ≡ record self.old { entries = filter (λ e. not (same_key key.now e.0.0)) self.old.entries } }
+        ensures after { self.new ≡ record self.old
+            { entries = filter (λ e. not (same_key key.now e.0.0)) self.old.entries } }
         ensures value { result ≡ length (filter (λ e. same_key key.now e.0.0) self.old.entries) }
     {
         match self.keys.remove(key) {
@@ -106,7 +123,8 @@ impl Table {
 
     /// The rows of a key, by peer.
     pub(crate) fn of_key(&self, key: &Key) -> OfKey<'_>
-        ensures { result ≡ map (λ e. (e.0.1, e.1)) (filter (λ e. same_key key.now e.0.0) self.now.entries) }
+        ensures { result ≡ map (λ e. (e.0.1, e.1))
+            (filter (λ e. same_key key.now e.0.0) self.now.entries) }
     {
         match self.keys.get(key) {
             Some(rows) => rows.iter(),
@@ -116,7 +134,8 @@ impl Table {
 
     /// The sum of what the rows of a key count in a column.
     pub(crate) fn count_of(&self, key: &Key, col: usize) -> u128
-        ensures { result ≡ sum_by (λ e. counted_at e.1.cells col) (filter (λ e. same_key key.now e.0.0) self.now.entries) }
+        ensures { result ≡ sum_by (λ e. counted_at e.1.cells col)
+            (filter (λ e. same_key key.now e.0.0) self.now.entries) }
     {
         let Some(rows) = self.keys.get(key) else {
             return 0;
@@ -135,7 +154,8 @@ impl Table {
 // Counts each of a key's rows one down at its peer.
 fn count_down(counts: &mut [usize], rows: &KeyRows)
     requires { (peer : ℕ) → rows_at_peer peer rows.now ≤ slice_index counts.old peer }
-    ensures { (peer : ℕ) → slice_index counts.new peer + rows_at_peer peer rows.now ≡ slice_index counts.old peer }
+    ensures { (peer : ℕ) → slice_index counts.new peer + rows_at_peer peer rows.now
+        ≡ slice_index counts.old peer }
 {
     for (peer, _) in rows.iter() {
         counts[peer] -= 1;

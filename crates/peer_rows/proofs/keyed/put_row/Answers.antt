@@ -70,7 +70,7 @@ returns-clause-err c = by c.put.result c.put.ensures.err
 pub returns-clause-once : goal.returns-clause-once
 returns-clause-once c =
     let at : (c.get_mut.follows.lender c.put.new.self).entries ≡ set_value (is_at (slice_cmp nat_cmp c.args.key)) c.args.keys.now.entries c.put.new.self = (c.get_mut.follows.holds c.put.new.self).0 in
-    rw at (once-set_value (is_at (slice_cmp nat_cmp c.args.key)) c.args.keys.now.entries c.put.new.self c.requires c.put.ensures.sorted)
+    rw at (once-set_value (is_at (slice_cmp nat_cmp c.args.key)) c.args.keys.now.entries c.put.new.self c.requires c.put.ensures.are)
 
 pub returns-clause-few : goal.returns-clause-few
 returns-clause-few c = few_rows c.args.keys.now.entries c.requires c.len-few.result c.len-few.ensures.len c.len-few.ensures.small

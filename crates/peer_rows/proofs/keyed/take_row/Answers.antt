@@ -38,4 +38,4 @@ returns-in_ok-get_mut-clause-after c =
 pub returns-in_ok-get_mut-clause-once : goal.returns-in_ok-get_mut-clause-once
 returns-in_ok-get_mut-clause-once c =
     let at : (c.get_mut.follows.lender c.take.new.self).entries ≡ set_value (is_at (slice_cmp nat_cmp c.args.key.now)) c.args.keys.now.entries c.take.new.self = (c.get_mut.follows.holds c.take.new.self).0 in
-    rw at (once-set_value (is_at (slice_cmp nat_cmp c.args.key.now)) c.args.keys.now.entries c.take.new.self c.requires.once c.take.ensures.sorted)
+    rw at (once-set_value (is_at (slice_cmp nat_cmp c.args.key.now)) c.args.keys.now.entries c.take.new.self c.requires.once c.take.ensures.are)

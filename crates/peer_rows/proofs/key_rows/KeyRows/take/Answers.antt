@@ -10,8 +10,8 @@ invariant_of-self-2 c =
     let several : keys_of (held_by c.self.inside.peers) ≢ c.args.peer ∷ [] = rw (← c.self.view_is) at c.requires in
     are-taken c.args.peer c.in-Many.rows.items c.take_among.new.rows.items (rw c.in-Many.is at are) (rw c.in-Many.is at several) c.take_among.ensures.after
 
-pub returns-clause-sorted : goal.returns-clause-sorted
-returns-clause-sorted c =
+pub returns-clause-are : goal.returns-clause-are
+returns-clause-are c =
     let are : ArePeers (held_by c.self.inside.peers) = c.self.invariant in
     let several : keys_of (held_by c.self.inside.peers) ≢ c.args.peer ∷ [] = rw (← c.self.view_is) at c.requires in
-    (are-taken c.args.peer c.in-Many.rows.items c.take_among.new.rows.items (rw c.in-Many.is at are) (rw c.in-Many.is at several) c.take_among.ensures.after).sorted
+    (are-taken c.args.peer c.in-Many.rows.items c.take_among.new.rows.items (rw c.in-Many.is at are) (rw c.in-Many.is at several) c.take_among.ensures.after)

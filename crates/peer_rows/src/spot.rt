@@ -1,0 +1,8 @@
+/// A hint at where the rows of a key lie in `Rows`: it saves a search where it fits.
+///
+/// No answer depends on it. One that another `Rows` gave, which was changed in the same way, fits
+/// here too.
+#[derive(Clone, Copy, Debug, PartialEq, Eq)]
+pub struct Spot {
+    pub(crate) slot: u32,
+}
