@@ -68,7 +68,7 @@ abbrev pub with_bound : Col → Op → List (List ℕ) → Read (Cond × List (L
 with_bound col op [] = Err Unknown
 with_bound col op (value ∷ ws) =
     with_fault BadValue (number_of value) >>= λ bound. Ok
-        (record { col = col; op = op; bound = bound }, ws)
+    (record { col = col; op = op; bound = bound }, ws)
 
 -- its operator, and the rest of it
 abbrev pub with_op : Col → List (List ℕ) → Read (Cond × List (List ℕ))

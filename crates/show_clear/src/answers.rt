@@ -90,7 +90,8 @@ fn append_table(
     ensures begins { take (length out.old.items) out.new.items ≡ out.old.items }
 {
     let shape = shape_of(book, table);
-    append_heading(shape, book.used(table), out)?;
+    let used = book.used(table);
+    append_heading(shape, used, out)?;
     match sel {
         Select::All => append_listed(alloc, book, table, &[], out),
         Select::One(key) => append_one(book, shape, table, key, out),
