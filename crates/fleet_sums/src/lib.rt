@@ -13,8 +13,6 @@ mod keys;
 mod law;
 mod sums;
 mod table_sums;
-#[cfg(test)]
-mod tests;
 mod total;
 
 pub use keys::Keys;

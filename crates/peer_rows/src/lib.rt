@@ -19,8 +19,6 @@ mod row;
 mod rows;
 mod spot;
 mod table;
-#[cfg(test)]
-mod tests;
 
 pub use by_key::ByKey;
 pub use of_key::OfKey;
