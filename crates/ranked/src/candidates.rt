@@ -1,0 +1,46 @@
+//! The best keys found so far.
+
+ghost use Rattle.std.specs.Prelude.{◌≡◌, ◌==◌, ◌≤◌, ◌++◌, ◌∷◌, length, map, take, drop};
+ghost use Rattle.std.specs.Option.{option_map};
+ghost use Rattle.std.specs.Ordering.{is_lt};
+ghost use Rattle.expiry_wheel.specs.Lent.{lent_entry};
+ghost use Rattle.fleet_model.specs.Ranking.{put_in_order, rank_cmp};
+ghost use Rattle.ranked.specs.Walk.{is_settled, shown};
+
+use agg_types::Key;
+
+/// More than any bound.
+const ENOUGH: u128 = 1 << 64;
+
+/// Whether a candidate stands before every key from an entry of the index on.
+pub(crate) fn is_settled(best: (&Key, u128), ahead: Option<(u64, &Key)>) -> bool
+    ensures { result ≡ is_settled (shown best.entry) (option_map lent_entry ahead.entry) }
+{
+    match ahead {
+        None => true,
+        Some((below, _)) => {
+            below > 0 && u128::from(below) + best.1.min(ENOUGH) > u128::from(u64::MAX)
+        }
+    }
+}
+
+/// Before how many candidates a key's place is.
+pub(crate) fn place_of(candidates: &[(&Key, u128)], key: (&Key, u128)) -> usize
+    ensures within { result ≤ length candidates.now }
+    ensures place { put_in_order rank_cmp (shown key.entry) (map shown candidates.now)
+        ≡ map shown (take result candidates.now) ++ shown key.entry
+        ∷ map shown (drop result candidates.now) }
+{
+    for (place, other) in candidates.iter().enumerate() {
+        if comes_before(key, *other) {
+            return place;
+        }
+    }
+    candidates.len()
+}
+
+fn comes_before(key: (&Key, u128), other: (&Key, u128)) -> bool
+    ensures { result ≡ is_lt (rank_cmp (shown key.entry) (shown other.entry)) }
+{
+    key.1 > other.1 || (key.1 == other.1 && *key.0 < *other.0)
+}

@@ -1,0 +1,111 @@
+ghost use Rattle.std.specs.Prelude.{◌≡◌, ◌≤◌, [], length, IfOk};
+ghost use Rattle.std.specs.Iterator.{at_most};
+ghost use Rattle.std.specs.Map.Iter.{TakesFirst};
+ghost use Rattle.ranked.specs.Walk.{AreBounds, found, shown};
+
+use crate::ahead::Ahead;
+use crate::walk::settle;
+use agg_types::{Col, Key, NoMemory, Rank};
+use crossing::Values;
+use expiry_wheel::OrderedDue;
+use std::alloc::Global;
+use std::marker::Model;
+
+/// Lends the keys of a ranked list, each with its value, the larger value first and of equal ones
+/// the smaller key. Takes no memory.
+///
+/// Contracts see the list of what it has left.
+#[derive(Drop)]
+pub struct Ranked<'a, V: Values> {
+    ahead: Ahead<'a>,
+    // The best keys taken so far and not given yet, the best first.
+    candidates: Vec<(&'a Key, u128)>,
+    values: &'a V,
+    table: usize,
+    col: Col,
+    now: u64,
+    // How many keys may still be given.
+    left: usize,
+    walked: usize,
+}
+
+impl<'a, V: Values> Model for Ranked<'a, V> {
+    ghost use Rattle.std.specs.Prelude.{List, ℕ, map, vec_len, vec_capacity, ◌≤◌, ◌<◌};
+    ghost use Rattle.ranked.specs.Walk.{AreBounds, found, shown};
+
+    ghost Value = { List (List ℕ × ℕ) };
+
+    ghost view = { λ r. found (λ key. V.living r.values.now r.table key r.now)
+        (λ key. V.summed r.values.now r.table key r.col r.now) r.left
+        (map shown r.candidates.items) r.ahead };
+
+    ghost invariant = { λ r. AreBounds (λ key. V.living r.values.now r.table key r.now)
+        (λ key. V.summed r.values.now r.table key r.col r.now) r.ahead
+        × (vec_len r.candidates ≤ r.left) × (r.left < vec_capacity r.candidates) };
+}
+
+impl<'a, V: Values> Ranked<'a, V> {
+    /// A ranked list at a moment, by an index of bounds: an entry is how far a key's bound is below
+    /// 2^64 - 1, or 0 where it has none. Takes all memory that the list needs.
+    pub fn new(
+        alloc: Global,
+        index: &'a OrderedDue<Key>,
+        rank: &Rank,
+        now: u64,
+        values: &'a V,
+    ) -> Result<Ranked<'a, V>, NoMemory>
+        requires short { rank.now.n ≤ 1000 }
+        requires bounds { AreBounds (λ key. V.living values.now rank.now.table key now)
+            (λ key. V.summed values.now rank.now.table key rank.now.col now) index.now }
+        ensures list { IfOk result (λ list. list
+            ≡ found (λ key. V.living values.now rank.now.table key now)
+            (λ key. V.summed values.now rank.now.table key rank.now.col now) rank.now.n []
+            index.now) }
+    {
+        let left = rank.n as usize;
+        Ok(Ranked {
+            ahead: Ahead::new(index),
+            candidates: Vec::with_capacity(alloc, left + 1)?,
+            values,
+            table: rank.table,
+            col: rank.col,
+            now,
+            left,
+            walked: 0,
+        })
+    }
+
+    /// How many entries of the index were taken so far. No clause says so.
+    pub fn walked(&self) -> usize {
+        self.walked
+    }
+}
+
+impl<'a, V: Values> Iterator for Ranked<'a, V> {
+    type Item = (&'a Key, u128);
+
+    ghost next_gives = { TakesFirst shown };
+
+    ghost remaining = { λ left. at_most (length left) };
+
+    fn next(&mut self) -> Option<(&'a Key, u128)> {
+        if self.left == 0 {
+            return None;
+        }
+        let walked = settle(
+            &mut self.ahead,
+            &mut self.candidates,
+            self.left,
+            self.values,
+            self.table,
+            self.col,
+            self.now,
+        );
+        self.walked = self.walked.saturating_add(walked);
+        if self.candidates.as_slice().is_empty() {
+            return None;
+        }
+        self.left -= 1;
+        Some(self.candidates.remove(0))
+    }
+}

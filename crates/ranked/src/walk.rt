@@ -1,0 +1,104 @@
+//! One walk from the greatest bound on.
+
+ghost use Rattle.std.specs.Prelude.{◌≡◌, ◌<◌, ◌≤◌, ◌⊎◌, [], true, length, map, slice_get, take, vec_len, vec_capacity};
+ghost use Rattle.expiry_wheel.specs.Items.{first_item, without_first};
+ghost use Rattle.fleet_model.specs.Ranking.{put_in_order, rank_cmp};
+ghost use Rattle.std.specs.Option.{option_map};
+ghost use Rattle.expiry_wheel.specs.Lent.{lent_entry};
+ghost use Rattle.ranked.specs.Walk.{AreBounds, AreFromFirst, found, is_done, shown};
+
+use crate::ahead::Ahead;
+use crate::candidates::{is_settled, place_of};
+use agg_types::{Col, Key};
+use crossing::Values;
+
+/// Puts a key among the candidates, of which no more are kept than there is room for.
+pub(crate) fn offer<'a>(candidates: &mut Vec<(&'a Key, u128)>, room: usize, key: (&'a Key, u128))
+    requires kept { vec_len candidates.old ≤ room }
+    requires space { room < vec_capacity candidates.old }
+    ensures offered { map shown candidates.new.items
+        ≡ take room (put_in_order rank_cmp (shown key.entry) (map shown candidates.old.items)) }
+    ensures kept { vec_len candidates.new ≤ room }
+    ensures space { room < vec_capacity candidates.new }
+{
+    let place = place_of(candidates.as_slice(), key);
+    match candidates.insert(place, key) {
+        Ok(()) => candidates.truncate(room),
+        Err(_) => {}
+    }
+}
+
+// Whether a walk may stop.
+fn is_done(candidates: &[(&Key, u128)], next: Option<(u64, &Key)>) -> bool
+    ensures { result ≡ is_done (map shown candidates.now) (option_map lent_entry next.entry) }
+{
+    match candidates {
+        [] => next.is_none(),
+        [best, ..] => is_settled(*best, next),
+    }
+}
+
+// Takes the next entry, and offers its key if it has a live row.
+fn take_next<'a, V: Values>(
+    ahead: &mut Ahead<'a>,
+    candidates: &mut Vec<(&'a Key, u128)>,
+    room: usize,
+    values: &V,
+    table: usize,
+    col: Col,
+    now: u64,
+)
+    requires kept { vec_len candidates.old ≤ room }
+    requires space { room < vec_capacity candidates.old }
+    ensures kept { vec_len candidates.new ≤ room }
+    ensures space { room < vec_capacity candidates.new }
+    ensures taken { ahead.new ≡ without_first ahead.old }
+    ensures same { found (λ key. V.living values.now table key now)
+        (λ key. V.summed values.now table key col now) room
+        (map shown candidates.new.items) ahead.new
+        ≡ found (λ key. V.living values.now table key now)
+        (λ key. V.summed values.now table key col now) room
+        (map shown candidates.old.items) ahead.old }
+{
+    if let Some((_, key)) = ahead.peek() {
+        ahead.step();
+        if values.live(table, key, now) > 0 {
+            offer(candidates, room, (key, values.value(table, key, col, now)));
+        }
+    }
+}
+
+/// Takes entries until the best candidate is settled or none is left, and answers how many.
+pub(crate) fn settle<'a, V: Values>(
+    ahead: &mut Ahead<'a>,
+    candidates: &mut Vec<(&'a Key, u128)>,
+    room: usize,
+    values: &V,
+    table: usize,
+    col: Col,
+    now: u64,
+) -> usize
+    requires kept { vec_len candidates.old ≤ room }
+    requires space { room < vec_capacity candidates.old }
+    requires bounds { AreBounds (λ key. V.living values.now table key now)
+        (λ key. V.summed values.now table key col now) ahead.old }
+    ensures kept { vec_len candidates.new ≤ room }
+    ensures space { room < vec_capacity candidates.new }
+    ensures bounds { AreBounds (λ key. V.living values.now table key now)
+        (λ key. V.summed values.now table key col now) ahead.new }
+    ensures settled { is_done (map shown candidates.new.items) (first_item ahead.new) ≡ true }
+    ensures first { AreFromFirst ahead.new }
+    ensures same { found (λ key. V.living values.now table key now)
+        (λ key. V.summed values.now table key col now) room
+        (map shown candidates.new.items) ahead.new
+        ≡ found (λ key. V.living values.now table key now)
+        (λ key. V.summed values.now table key col now) room
+        (map shown candidates.old.items) ahead.old }
+{
+    let mut walked = 0usize;
+    'entries: while !is_done(candidates.as_slice(), ahead.peek()) {
+        take_next(ahead, candidates, room, values, table, col, now);
+        walked = walked.saturating_add(1);
+    }
+    walked
+}
