@@ -1,0 +1,6 @@
+pub mod Lists
+pub mod Plans
+pub mod Reading
+pub mod Chosen
+pub mod Counting
+pub mod Listings

@@ -1,0 +1,365 @@
+-- What rows that are read stand for.
+use Rattle.std.proofs.Common.{◌≡◌, ℕ, zero, suc, ◌++◌, ◌^◌, ◌-◌, ◌||◌, not, max, min, nat_lt, is_some, take, get_or, ◌+◌, ◌<◌, ◌≤◌, ◌==◌, Bool, true, false, cond, ◌&&◌, List, [], ◌∷◌, Option, None, Some, length, refl, sym, ap, ◌∙◌, drop, arith}
+use Rattle.std.specs.Prelude.{filter, map, slice_get}
+use Rattle.std.specs.Cmp.Lexicographic.{slice_cmp}
+use Rattle.std.specs.BTreeMap.{is_at}
+use Rattle.std.specs.Borrow.{Bor}
+use Rattle.std.specs.List.{AllByRecursion, dedup, fold, list_any}
+use Rattle.std.specs.Option.{option_copied, option_map}
+use Rattle.std.proofs.lemmas.List.{take_more}
+use Rattle.std.proofs.lemmas.List.Folds.{list_any-append}
+use Rattle.fleet_model.specs.Answers.{left_of, longer, sum_up, tally}
+use Rattle.fleet_model.specs.declared.summed.Summed.{Summed}
+use Rattle.agg_types.specs.Col.{same_col}
+use Rattle.agg_types.specs.declared.column.Col.{Col}
+use Rattle.fleet_model.specs.Moments.{is_live}
+use Rattle.fleet_model.specs.Next.{flat_moment}
+use Rattle.peer_rows.specs.Table.{Spot}
+use Rattle.book.specs.Store.{InForce, IsWalk, row_keys}
+use Rattle.std.specs.List.Sorted.{IsStrictlySortedBy}
+use Rattle.std.specs.Map.{keys_of, lookup}
+use Rattle.std.specs.Ordering.{is_eq, nat_cmp, ordering_then}
+use Rattle.std.specs.declared.cmp.Ordering.{Ordering}
+use Rattle.std.specs.declared.cmp.Ordering.TheVariants.{Less, Equal, Greater}
+use Rattle.std.proofs.lemmas.Bool.{and_parts, eqb-true}
+use Rattle.std.proofs.lemmas.Bool.Decides.{nat_tests}
+use Rattle.std.proofs.lemmas.Map.Lookups.{exact_bytes}
+use Rattle.std.proofs.Math.Numerals.{add-one}
+use Rattle.std.proofs.lemmas.Cmp.{nat_list_cmp_total}
+use Rattle.peer_rows.proofs.Sorted.{equal_itself}
+use Rattle.agg_types.specs.Place.{place_cmp}
+use Rattle.agg_types.specs.declared.event.Cell.{Cell}
+use Rattle.agg_types.specs.declared.place.Place.{Place}
+use Rattle.fleet_model.specs.Keys.{key_rows}
+use Rattle.fleet_model.specs.Values.{column_worth, live_keys, same_key, same_place}
+use Rattle.fleet_model.specs.declared.arrival.Arrival.{Arrival}
+use Rattle.peer_rows.specs.Rows.{RowMap, in_table, of_table_key, peers_of}
+use Rattle.peer_rows.specs.declared.row.Row.{Row}
+use Rattle.book.specs.Planned.{AreRows, IsInside}
+use Rattle.book.specs.Shown.{arrivals, as_arrival, of_peer, of_spot, shown}
+use Rattle.book.proofs.Lists.{all-filter, all-map, map-filter, same_filters, sorted-filter}
+
+abbrev Entry : Type 0
+Entry = Place × Row
+
+-- ---- one more item
+found_next : {X : Type 0} (xs : List X) (i : ℕ) (x : X) → slice_get xs i ≡ Some x → drop i xs ≡ x ∷ drop (suc i) xs
+found_next [] i x found = cc
+found_next (y ∷ ys) zero x found = let same : y ≡ x = cc in rw same refl
+found_next (y ∷ ys) (suc i) x found = found_next ys i x found
+
+pub drop_found : {X : Type 0} (xs : List X) (i : ℕ) (x : X) → slice_get xs i ≡ Some x → drop i xs ≡ x ∷ drop (i + 1) xs
+drop_found xs i x found = rw add-one (found_next xs i x found)
+
+pub drop_end : {X : Type 0} (xs : List X) (i : ℕ) → slice_get xs i ≡ None → drop i xs ≡ []
+drop_end [] zero none = refl
+drop_end [] (suc i) none = refl
+drop_end (y ∷ ys) zero none = cc
+drop_end (y ∷ ys) (suc i) none = drop_end ys i none
+
+-- ---- the rows of a key
+pub eq_turned : (a b : ℕ) → (a == b) ≡ (b == a)
+eq_turned a b = grind (arith, nat_tests)
+
+equal_from : (r : Ordering) → is_eq r ≡ true → r ≡ Equal
+equal_from Less is = cc
+equal_from Equal is = refl
+equal_from Greater is = cc
+
+at_key : (table : ℕ) (key : List ℕ) (place : Place) → of_table_key table key place ≡ true → record place { table = table; key = key } ≡ place
+at_key table key place is =
+    let parts = and_parts (table == place.table) (same_key key place.key) is in
+    let tables : table ≡ place.table = eqb-true table place.table parts.0 in
+    let keys : key ≡ place.key = exact_bytes key place.key (equal_from (slice_cmp nat_cmp key place.key) parts.1) in
+    λ i. record place { table = tables i; key = keys i }
+
+pub peers_shown : (table : ℕ) (key : List ℕ) (es : List Entry) → map (of_peer table key) (map (λ e. (e.0.peer, e.1)) (filter (λ e. of_table_key table key e.0) es)) ≡ key_rows (arrivals es) table key
+peers_shown table key [] = refl
+peers_shown table key (e ∷ es) =
+    by (of_table_key table key e.0) refl (peers_shown table key es)
+    ∙ ap (λ b. cond b (shown e ∷ key_rows (arrivals es) table key) (key_rows (arrivals es) table key)) (ap (λ b. b && same_key key e.0.key) (eq_turned table e.0.table))
+  where
+    by : (b : Bool) → of_table_key table key e.0 ≡ b → map (of_peer table key) (map (λ e. (e.0.peer, e.1)) (filter (λ e. of_table_key table key e.0) es)) ≡ key_rows (arrivals es) table key
+        → map (of_peer table key) (map (λ e. (e.0.peer, e.1)) (cond b (e ∷ filter (λ e. of_table_key table key e.0) es) (filter (λ e. of_table_key table key e.0) es))) ≡ cond b (shown e ∷ key_rows (arrivals es) table key) (key_rows (arrivals es) table key)
+    by true is more = λ i. (at_key table key e.0 is i, as_arrival e.1) ∷ more i
+    by false is more = more
+
+-- a table that isn't there has no rows
+pub no_rows : (peers tables table : ℕ) (key : List ℕ) (es : List Entry) → tables ≤ table → AllByRecursion (λ e. IsInside peers tables e.0) es → key_rows (arrivals es) table key ≡ []
+no_rows peers tables table key [] outside inside = refl
+no_rows peers tables table key (e ∷ es) outside inside =
+    let in_range : e.0.table < tables = inside.0.1 in
+    let other : (e.0.table == table) ≡ false = grind (arith, nat_tests) in
+    rw other (no_rows peers tables table key es outside inside.1)
+
+-- ---- a key has at most one row of each peer
+peers_rise : (table : ℕ) (key : List ℕ) (p q : Place) → of_table_key table key p ≡ true → of_table_key table key q ≡ true → place_cmp p q ≡ Less → p.peer < q.peer
+peers_rise table key p q one two less =
+    let ones = and_parts (table == p.table) (same_key key p.key) one in
+    let twos = and_parts (table == q.table) (same_key key q.key) two in
+    let tables : p.table ≡ q.table = sym (eqb-true table p.table ones.0) ∙ eqb-true table q.table twos.0 in
+    let keys : p.key ≡ q.key = sym (exact_bytes key p.key (equal_from (slice_cmp nat_cmp key p.key) ones.1)) ∙ exact_bytes key q.key (equal_from (slice_cmp nat_cmp key q.key) twos.1) in
+    let first : nat_cmp p.table q.table ≡ Equal = grind (arith, nat_tests) in
+    let second : slice_cmp nat_cmp p.key q.key ≡ Equal = rw keys (equal_itself nat_list_cmp_total q.key) in
+    rising p.peer q.peer (sym (parts_less (nat_cmp p.table q.table) (slice_cmp nat_cmp p.key q.key) (nat_cmp p.peer q.peer) first second) ∙ less)
+  where
+    parts_less : (a b c : Ordering) → a ≡ Equal → b ≡ Equal → ordering_then a (ordering_then b c) ≡ c
+    parts_less a b c one two = rw (one, two) refl
+
+    rising : (a b : ℕ) → nat_cmp a b ≡ Less → a < b
+    rising a b less = grind (arith, nat_tests)
+
+few_behind : (n table : ℕ) (key : List ℕ) (e : Entry) (es : List Entry) → IsStrictlySortedBy place_cmp (keys_of (e ∷ es)) → AllByRecursion (λ e. of_table_key table key e.0 ≡ true) (e ∷ es) → AllByRecursion (λ e. e.0.peer < n) (e ∷ es) → e.0.peer + length (e ∷ es) ≤ n
+unfolding IsStrictlySortedBy
+few_behind n table key e [] s at inside = let here : e.0.peer < n = inside.0 in omega arith
+few_behind n table key e (f ∷ fs) s at inside =
+    let rest : f.0.peer + length (f ∷ fs) ≤ n = few_behind n table key f fs s.1 at.1 inside.1 in
+    let up : e.0.peer < f.0.peer = peers_rise table key e.0 f.0 at.0 at.1.0 s.0.0 in
+    omega arith
+
+few : (n table : ℕ) (key : List ℕ) (es : List Entry) → IsStrictlySortedBy place_cmp (keys_of es) → AllByRecursion (λ e. of_table_key table key e.0 ≡ true) es → AllByRecursion (λ e. e.0.peer < n) es → length es ≤ n
+few n table key [] s at inside = omega arith
+few n table key (e ∷ es) s at inside = let all : e.0.peer + length (e ∷ es) ≤ n = few_behind n table key e es s at inside in omega arith
+
+all_of : (table : ℕ) (key : List ℕ) (es : List Entry) → AllByRecursion (λ (e : Entry). Unit {0}) es
+all_of table key [] = tt
+all_of table key (e ∷ es) = (tt, all_of table key es)
+
+map_length : {X Y : Type 0} (f : X → Y) (xs : List X) → length (map f xs) ≡ length xs
+map_length f [] = refl
+map_length f (x ∷ xs) = ap suc (map_length f xs)
+
+pub few_peers : (peers tables : ℕ) (rows : RowMap) (table : ℕ) (key : List ℕ) → AreRows peers tables rows → length (peers_of rows table key) ≤ peers
+few_peers peers tables rows table key are =
+    let own : List Entry = filter (λ e. of_table_key table key e.0) rows.entries in
+    rw map_length (few peers table key own (sorted-filter place_cmp (λ e. of_table_key table key e.0) rows.entries are.ordered)
+    (all-filter (λ e. Unit {0}) (λ e. of_table_key table key e.0 ≡ true) (λ e. of_table_key table key e.0) (λ e is any. is) rows.entries (all_of table key rows.entries))
+    (all-filter (λ e. IsInside peers tables e.0) (λ e. e.0.peer < peers) (λ e. of_table_key table key e.0) (λ e is inside. inside.0) rows.entries are.inside))
+
+-- ---- the rows of a table
+at_table : (table : ℕ) (place : Place) → in_table table place ≡ true → record place { table = table } ≡ place
+at_table table place is = λ i. record place { table = eqb-true table place.table is i }
+
+pub spots_shown : (table : ℕ) (es : List Entry) → map (of_spot table) (map (λ e. ((e.0.key, e.0.peer), e.1)) (filter (λ e. in_table table e.0) es)) ≡ filter (λ row. row.0.table == table) (arrivals es)
+spots_shown table [] = refl
+spots_shown table (e ∷ es) =
+    by (in_table table e.0) refl (spots_shown table es)
+    ∙ ap (λ b. cond b (shown e ∷ filter (λ row. row.0.table == table) (arrivals es)) (filter (λ row. row.0.table == table) (arrivals es))) (eq_turned table e.0.table)
+  where
+    by : (b : Bool) → in_table table e.0 ≡ b → map (of_spot table) (map (λ e. ((e.0.key, e.0.peer), e.1)) (filter (λ e. in_table table e.0) es)) ≡ filter (λ row. row.0.table == table) (arrivals es)
+        → map (of_spot table) (map (λ e. ((e.0.key, e.0.peer), e.1)) (cond b (e ∷ filter (λ e. in_table table e.0) es) (filter (λ e. in_table table e.0) es))) ≡ cond b (shown e ∷ filter (λ row. row.0.table == table) (arrivals es)) (filter (λ row. row.0.table == table) (arrivals es))
+    by true is more = λ i. (at_table table e.0 is i, as_arrival e.1) ∷ more i
+    by false is more = more
+
+pub no_spots : (peers tables table : ℕ) (es : List Entry) → tables ≤ table → AllByRecursion (λ e. IsInside peers tables e.0) es → filter (λ row. row.0.table == table) (arrivals es) ≡ []
+no_spots peers tables table [] outside inside = refl
+no_spots peers tables table (e ∷ es) outside inside =
+    let in_range : e.0.table < tables = inside.0.1 in
+    let other : (e.0.table == table) ≡ false = grind (arith, nat_tests) in
+    rw other (no_spots peers tables table es outside inside.1)
+
+-- ---- clears
+each_filter : {X : Type 0} (p q : X → Bool) → ((x : X) → p x ≡ q x) → (xs : List X) → filter p xs ≡ filter q xs
+each_filter p q same [] = refl
+each_filter p q same (x ∷ xs) = rw (same x) (ap (λ ys. cond (q x) (x ∷ ys) ys) (each_filter p q same xs))
+
+abbrev Shown : Type 0
+Shown = Place × Arrival
+
+pub cleared_shown : (table : ℕ) (key : List ℕ) (es : List Entry) → arrivals (filter (λ e. not (of_table_key table key e.0)) es) ≡ filter (λ row. not ((row.0.table == table) && same_key key row.0.key)) (arrivals es)
+cleared_shown table key es =
+    ap arrivals (each_filter (λ (e : Entry). not (of_table_key table key e.0)) (λ e. not ((e.0.table == table) && same_key key e.0.key)) (λ e. ap (λ b. not (b && same_key key e.0.key)) (eq_turned table e.0.table)) es)
+    ∙ map-filter shown (λ (row : Shown). not ((row.0.table == table) && same_key key row.0.key)) es
+
+pub untouched : (peers tables table : ℕ) (key : List ℕ) (es : List Entry) → tables ≤ table → AllByRecursion (λ e. IsInside peers tables e.0) es → arrivals es ≡ filter (λ row. not ((row.0.table == table) && same_key key row.0.key)) (arrivals es)
+untouched peers tables table key [] outside inside = refl
+untouched peers tables table key (e ∷ es) outside inside =
+    let in_range : e.0.table < tables = inside.0.1 in
+    let other : (e.0.table == table) ≡ false = grind (arith, nat_tests) in
+    rw other (ap (λ rows. shown e ∷ rows) (untouched peers tables table key es outside inside.1))
+
+and_false : (b : Bool) → not (b && false) ≡ true
+and_false true = refl
+and_false false = refl
+
+pub all_left : (table : ℕ) (rows : List Shown) → rows ≡ filter (λ row. not ((row.0.table == table) && list_any (λ key. same_key key row.0.key) [])) rows
+all_left table [] = refl
+all_left table (row ∷ rows) = rw (and_false (row.0.table == table)) (ap (λ more. row ∷ more) (all_left table rows))
+
+two_filters : {X : Type 0} (p q r : X → Bool) → ((x : X) → r x ≡ (q x && p x)) → (xs : List X) → filter p (filter q xs) ≡ filter r xs
+two_filters p q r both [] = refl
+two_filters p q r both (x ∷ xs) = by (q x) refl (two_filters p q r both xs)
+  where
+    by : (b : Bool) → q x ≡ b → filter p (filter q xs) ≡ filter r xs → filter p (cond b (x ∷ filter q xs) (filter q xs)) ≡ cond (r x) (x ∷ filter r xs) (filter r xs)
+    by true is more = rw (both x, is, more) refl
+    by false is more = rw (both x, is) more
+
+one_more : (t any same : Bool) → not (t && (any || (same || false))) ≡ (not (t && any) && not (t && same))
+one_more true true same = refl
+one_more true false true = refl
+one_more true false false = refl
+one_more false any same = refl
+
+left_more : (table : ℕ) (keys : List (List ℕ)) (i : ℕ) (key : List ℕ) (rows : List Shown) → i < length keys → key ≡ get_or keys i key
+    → filter (λ row. not ((row.0.table == table) && same_key key row.0.key)) (filter (λ row. not ((row.0.table == table) && list_any (λ k. same_key k row.0.key) (take i keys))) rows)
+    ≡ filter (λ row. not ((row.0.table == table) && list_any (λ k. same_key k row.0.key) (take (i + 1) keys))) rows
+left_more table keys i key rows within is =
+    two_filters (λ row. not ((row.0.table == table) && same_key key row.0.key)) (λ row. not ((row.0.table == table) && list_any (λ k. same_key k row.0.key) (take i keys))) (λ row. not ((row.0.table == table) && list_any (λ k. same_key k row.0.key) (take (i + 1) keys)))
+    (λ row. ap (λ ks. not ((row.0.table == table) && list_any (λ k. same_key k row.0.key) ks)) (take_more keys i key within ∙ ap (λ k. take i keys ++ k ∷ []) (sym is))
+    ∙ ap (λ b. not ((row.0.table == table) && b)) (list_any-append (λ k. same_key k row.0.key) (take i keys) (key ∷ []))
+    ∙ one_more (row.0.table == table) (list_any (λ k. same_key k row.0.key) (take i keys)) (same_key key row.0.key))
+    rows
+
+pub cleared_more : (table : ℕ) (keys : List (List ℕ)) (i : ℕ) (key : List ℕ) (first now new : InForce) → i < length keys → key ≡ get_or keys i key
+    → now ≡ record first { rows = filter (λ row. not ((row.0.table == table) && list_any (λ k. same_key k row.0.key) (take i keys))) first.rows }
+    → new ≡ record now { rows = filter (λ row. not ((row.0.table == table) && same_key key row.0.key)) now.rows }
+    → new ≡ record first { rows = filter (λ row. not ((row.0.table == table) && list_any (λ k. same_key k row.0.key) (take (i + 1) keys))) first.rows }
+cleared_more table keys i key first now new within is before after =
+    after
+    ∙ ap (λ (s : InForce). record s { rows = filter (λ row. not ((row.0.table == table) && same_key key row.0.key)) s.rows }) before
+    ∙ ap (λ (rows : List Shown). record first { rows = rows }) (left_more table keys i key first.rows within is)
+
+and_yes : (b : Bool) → b ≡ (b && true)
+and_yes true = refl
+and_yes false = refl
+
+pub table_chosen : (table : ℕ) (rows : List Shown) → map (λ row. row.0.key) (filter (λ row. row.0.table == table) rows) ≡ map (λ row. row.0.key) (filter (λ row. (row.0.table == table) && true) rows)
+table_chosen table rows = ap (map (λ (row : Shown). row.0.key)) (each_filter (λ row. row.0.table == table) (λ row. (row.0.table == table) && true) (λ row. and_yes (row.0.table == table)) rows)
+
+pub where_chosen : (table : ℕ) (meets : List ℕ → Bool) (rows : List Shown) → filter meets (map (λ row. row.0.key) (filter (λ row. row.0.table == table) rows)) ≡ map (λ row. row.0.key) (filter (λ row. (row.0.table == table) && meets row.0.key) rows)
+where_chosen table meets rows =
+    sym (map-filter (λ (row : Shown). row.0.key) meets (filter (λ row. row.0.table == table) rows))
+    ∙ ap (map (λ (row : Shown). row.0.key)) (two_filters (λ row. meets row.0.key) (λ row. row.0.table == table) (λ row. (row.0.table == table) && meets row.0.key) (λ row. refl) rows)
+
+-- ---- keys of the rows of a table
+pub spot_keys : (table : ℕ) (rows : List (Spot × Row)) → map (λ s. s.0.0) rows ≡ map (λ row. row.0.key) (map (of_spot table) rows)
+spot_keys table [] = refl
+spot_keys table (s ∷ rows) = ap (λ keys. s.0.0 ∷ keys) (spot_keys table rows)
+
+live_spots : (table t : ℕ) (rows : List (Spot × Row)) → map (λ s. s.0.0) (filter (λ s. is_live t (as_arrival s.1)) rows) ≡ map (λ row. row.0.key) (filter (λ row. is_live t row.1) (map (of_spot table) rows))
+live_spots table t rows =
+    spot_keys table (filter (λ s. is_live t (as_arrival s.1)) rows)
+    ∙ ap (map (λ (row : Shown). row.0.key)) (map-filter (of_spot table) (λ (row : Shown). is_live t row.1) rows)
+
+pub live_from : (table t : ℕ) (rows : List (Spot × Row)) (all : List Shown) → map (of_spot table) rows ≡ filter (λ row. row.0.table == table) all → dedup same_key (map (λ s. s.0.0) (filter (λ s. is_live t (as_arrival s.1)) rows)) ≡ live_keys all table t
+unfolding live_keys
+live_from table t rows all is =
+    ap (dedup same_key) (live_spots table t rows
+    ∙ ap (λ (rs : List Shown). map (λ (row : Shown). row.0.key) (filter (λ row. is_live t row.1) rs)) is
+    ∙ ap (map (λ (row : Shown). row.0.key)) (two_filters (λ row. is_live t row.1) (λ row. row.0.table == table) (λ row. (row.0.table == table) && is_live t row.1) (λ row. refl) all))
+
+pub live_none : (table t : ℕ) (all : List Shown) → filter (λ row. row.0.table == table) all ≡ [] → [] ≡ live_keys all table t
+unfolding live_keys
+live_none table t all none = live_from table t [] all (sym none)
+
+-- ---- a tally reads no place
+tally_rest : (t a b : ℕ) (k l : List ℕ) (left : Option ℕ) (rows : List (ℕ × Row)) → fold (λ left other. longer left (left_of t other.1)) left (map (of_peer a k) rows) ≡ fold (λ left other. longer left (left_of t other.1)) left (map (of_peer b l) rows)
+tally_rest t a b k l left [] = refl
+tally_rest t a b k l left (p ∷ rows) = tally_rest t a b k l (longer left (left_of t (as_arrival p.1))) rows
+
+pub tally_same : (t a b : ℕ) (k l : List ℕ) (rows : List (ℕ × Row)) → tally t (map (of_peer a k) rows) ≡ tally t (map (of_peer b l) rows)
+tally_same t a b k l [] = refl
+tally_same t a b k l (p ∷ rows) =
+    let many : length (map (of_peer a k) rows) ≡ length (map (of_peer b l) rows) = map_length (of_peer a k) rows ∙ sym (map_length (of_peer b l) rows) in
+    let rest = tally_rest t a b k l (left_of t (as_arrival p.1)) rows in
+    λ i. Some (many i + 1, rest i)
+
+-- ---- what is found is there
+pub is_some-copied : {X : Type 0} (found : Option (Bor X)) → is_some found ≡ is_some (option_copied found)
+is_some-copied None = refl
+is_some-copied (Some x) = refl
+
+pub found_shown : (place : Place) (es : List Entry) → is_some (lookup (is_at (place_cmp place)) es) ≡ list_any (λ row. same_place place row.0) (arrivals es)
+found_shown place [] = refl
+found_shown place (e ∷ es) = by (same_place place e.0) (found_shown place es)
+  where
+    by : (b : Bool) → is_some (lookup (is_at (place_cmp place)) es) ≡ list_any (λ row. same_place place row.0) (arrivals es) → is_some (cond b (Some e.1) (lookup (is_at (place_cmp place)) es)) ≡ (b || list_any (λ row. same_place place row.0) (arrivals es))
+    by true more = refl
+    by false more = more
+
+-- ---- the tables one after the other
+pub none_before : (rows : List Shown) → filter (λ row. nat_lt row.0.table 0) rows ≡ []
+none_before [] = refl
+none_before (row ∷ rows) =
+    let no : nat_lt row.0.table 0 ≡ false = grind (arith, nat_tests) in
+    rw no (none_before rows)
+
+pub all_before : (k : ℕ) (rows : List Shown) → AllByRecursion (λ row. row.0.table < k) rows → filter (λ row. nat_lt row.0.table k) rows ≡ rows
+all_before k [] below = refl
+all_before k (row ∷ rows) below =
+    let here : row.0.table < k = below.0 in
+    let yes : nat_lt row.0.table k ≡ true = grind (arith, nat_tests) in
+    rw yes (ap (λ more. row ∷ more) (all_before k rows below.1))
+
+pub all_inside : (peers tables k : ℕ) (es : List Entry) → tables ≤ k → AllByRecursion (λ e. IsInside peers tables e.0) es → AllByRecursion (λ row. row.0.table < k) (arrivals es)
+all_inside peers tables k [] upto inside = tt
+all_inside peers tables k (e ∷ es) upto inside = let here : e.0.table < tables = inside.0.1 in (omega arith, all_inside peers tables k es upto inside.1)
+
+flat_split : (longest k : ℕ) (rows : List Shown) → flat_moment longest (filter (λ row. nat_lt row.0.table (k + 1)) rows) ≡ max (flat_moment longest (filter (λ row. nat_lt row.0.table k) rows)) (flat_moment longest (filter (λ row. row.0.table == k) rows))
+flat_split longest k [] = refl
+flat_split longest k (row ∷ rows) = by (nat_lt row.0.table k) (row.0.table == k) refl refl (flat_split longest k rows)
+  where
+    by : (a b : Bool) → nat_lt row.0.table k ≡ a → (row.0.table == k) ≡ b
+        → flat_moment longest (filter (λ row. nat_lt row.0.table (k + 1)) rows) ≡ max (flat_moment longest (filter (λ row. nat_lt row.0.table k) rows)) (flat_moment longest (filter (λ row. row.0.table == k) rows))
+        → flat_moment longest (filter (λ row. nat_lt row.0.table (k + 1)) (row ∷ rows)) ≡ max (flat_moment longest (cond a (row ∷ filter (λ row. nat_lt row.0.table k) rows) (filter (λ row. nat_lt row.0.table k) rows))) (flat_moment longest (cond b (row ∷ filter (λ row. row.0.table == k) rows) (filter (λ row. row.0.table == k) rows)))
+    by true b less same more =
+        let apart : b ≡ false = grind (arith, nat_tests) in
+        let next : nat_lt row.0.table (k + 1) ≡ true = grind (arith, nat_tests) in
+        rw (next, apart) (omega (arith, more))
+    by false true less same more =
+        let next : nat_lt row.0.table (k + 1) ≡ true = grind (arith, nat_tests) in
+        rw next (omega (arith, more))
+    by false false less same more =
+        let next : nat_lt row.0.table (k + 1) ≡ false = grind (arith, nat_tests) in
+        rw next more
+
+pub flat_joined : (longest k flat own most : ℕ) (rows : List Shown) → flat ≡ min (flat_moment longest (filter (λ row. nat_lt row.0.table k) rows)) (2 ^ 64 - 1) → own ≡ min (flat_moment longest (filter (λ row. row.0.table == k) rows)) (2 ^ 64 - 1) → most ≡ max flat own → most ≡ min (flat_moment longest (filter (λ row. nat_lt row.0.table (k + 1)) rows)) (2 ^ 64 - 1)
+flat_joined longest k flat own most rows before here is =
+    omega (arith, flat_split longest k rows)
+
+pub summed_from : (peers : ℕ) (left : Option ℕ) (values worths : List ℕ) (t : ℕ) (rows : List Shown) (found : Option (ℕ × Option ℕ)) → found ≡ tally t rows → found ≡ Some (peers, left) → values ≡ worths → Some (record { peers = peers; left = left; values = values }) ≡ sum_up worths t rows
+summed_from peers left values worths t rows found is some same =
+    let made : ℕ × Option ℕ → Summed = λ pair. record { peers = pair.0; left = pair.1; values = worths } in
+    let with_values : List ℕ → Option Summed = λ vs. Some (record { peers = peers; left = left; values = vs }) in
+    ap with_values same ∙ ap (option_map made) (sym some ∙ is)
+
+-- ---- the next column and the next cell
+take_all : {X : Type 0} (n : ℕ) (xs : List X) → length xs ≤ n → take n xs ≡ xs
+take_all zero [] upto = refl
+take_all (suc n) [] upto = refl
+take_all zero (x ∷ xs) upto = absurd (omega arith)
+take_all (suc n) (x ∷ xs) upto = let less : length xs ≤ n = omega arith in ap (λ ys. x ∷ ys) (take_all n xs less)
+
+pub worth_next : (col : Col) (since : ℕ) (cols : List (Col × ℕ)) (cell : Cell) (cells : List Cell) → 1 ≤ length cols → ((first : Col × ℕ) (rest : List (Col × ℕ)) → cols ≡ first ∷ rest → same_col first.0 col ≡ false) → column_worth col since (take (length cols - 1) (drop 1 cols)) cells ≡ column_worth col since cols (cell ∷ cells)
+worth_next col since [] cell cells some apart = absurd (omega arith)
+worth_next col since (c ∷ cs) cell cells some apart =
+    let less : length cs ≤ length (c ∷ cs) - 1 = omega arith in
+    rw (apart c cs refl) (ap (λ rest. column_worth col since rest cells) (take_all (length (c ∷ cs) - 1) cs less))
+
+-- ---- how many keys there are
+map_map : {X Y Z : Type 0} (g : Y → Z) (f : X → Y) (xs : List X) → map (λ x. g (f x)) xs ≡ map g (map f xs)
+map_map g f [] = refl
+map_map g f (x ∷ xs) = ap (λ ys. g (f x) ∷ ys) (map_map g f xs)
+
+pub keys_shown : (table : ℕ) (es : List Entry) → map (λ e. e.0.key) (filter (λ e. in_table table e.0) es) ≡ map (λ row. row.0.key) (filter (λ row. row.0.table == table) (arrivals es))
+keys_shown table es =
+    let own : List Entry = filter (λ e. in_table table e.0) es in
+    let pair : Entry → Spot × Row = λ e. ((e.0.key, e.0.peer), e.1) in
+    map_map (λ (s : Spot × Row). s.0.0) pair own
+    ∙ spot_keys table (map pair own)
+    ∙ ap (map (λ (row : Shown). row.0.key)) (spots_shown table es)
+
+pub used_live : (table t : ℕ) (rows : List Shown) → AllByRecursion (λ row. is_live t row.1 ≡ true) rows → live_keys rows table t ≡ row_keys rows table
+unfolding live_keys
+used_live table t rows live =
+    ap (λ (rs : List Shown). dedup same_key (map (λ (row : Shown). row.0.key) rs))
+    (same_filters (λ row. (row.0.table == table) && is_live t row.1) (λ row. row.0.table == table) rows
+    (all-map (λ (row : Shown). is_live t row.1 ≡ true) (λ row. ((row.0.table == table) && is_live t row.1) ≡ (row.0.table == table)) (λ row is. ap (λ b. (row.0.table == table) && b) is ∙ sym (and_yes (row.0.table == table))) rows live))
+
+pub walk_none : (rows : List Shown) (table : ℕ) (found : Option (List (Spot × Row))) → IsWalk rows table found → found ≡ None → filter (λ row. row.0.table == table) rows ≡ []
+walk_none rows table None walk is = walk
+walk_none rows table (Some found) walk is = cc
+
+pub walk_some : (rows : List Shown) (table : ℕ) (found : Option (List (Spot × Row))) (own : List (Spot × Row)) → IsWalk rows table found → found ≡ Some own → map (of_spot table) own ≡ filter (λ row. row.0.table == table) rows
+walk_some rows table None own walk is = cc
+walk_some rows table (Some found) own walk is = let same : found ≡ own = cc in rw (← same) walk

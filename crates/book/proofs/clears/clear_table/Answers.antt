@@ -1,0 +1,12 @@
+use Rattle.std.proofs.Common.{◌∙◌, true, List, ap}
+use Rattle.agg_types.specs.declared.place.Place.{Place}
+use Rattle.fleet_model.specs.declared.arrival.Arrival.{Arrival}
+use Rattle.book.proofs.Chosen.{filter-chosen_keys}
+use Rattle.book.proofs.Reading.{table_chosen}
+use Rattle.book.proofs.clears.clear_table.Goals as goal
+
+pub returns-clause-ok : goal.returns-clause-ok
+returns-clause-ok c =
+    c.clear_keys.ensures
+    ∙ ap (λ (rows : List (Place × Arrival)). record c.args.store.now { rows = rows })
+    (filter-chosen_keys c.args.table (λ key. true) c.args.store.now.rows c.as_slice.result.now (c.as_slice.ensures.value ∙ c.in_ok-keys.ensures ∙ table_chosen c.args.table c.args.store.now.rows))

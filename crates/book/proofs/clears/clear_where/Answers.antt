@@ -1,0 +1,14 @@
+use Rattle.std.proofs.Common.{◌∙◌, ℕ, List, ap}
+use Rattle.agg_types.specs.declared.place.Place.{Place}
+use Rattle.fleet_model.specs.Values.{meets}
+use Rattle.fleet_model.specs.declared.arrival.Arrival.{Arrival}
+use Rattle.book.proofs.Chosen.{filter-chosen_keys}
+use Rattle.book.proofs.Reading.{where_chosen}
+use Rattle.book.proofs.clears.clear_where.Goals as goal
+
+pub returns-clause-ok : goal.returns-clause-ok
+returns-clause-ok c =
+    let chosen = λ (key : List ℕ). meets c.args.cols.now c.args.store.now.rows c.args.table key c.args.t c.args.conds.now in
+    c.clear_keys.ensures
+    ∙ ap (λ (rows : List (Place × Arrival)). record c.args.store.now { rows = rows })
+    (filter-chosen_keys c.args.table chosen c.args.store.now.rows c.as_slice.result.now (c.as_slice.ensures.value ∙ c.in_ok-keys.ensures ∙ where_chosen c.args.table chosen c.args.store.now.rows))

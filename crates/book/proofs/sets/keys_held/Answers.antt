@@ -1,0 +1,13 @@
+use Rattle.std.proofs.Common.{rules, ap, List, ℕ, ◌∙◌}
+use Rattle.std.specs.Prelude.{filter, map}
+use Rattle.std.proofs.lemmas.Fn.{filter_same}
+use Rattle.fleet_model.specs.Values.{meets}
+use Rattle.book.proofs.Listings.{map-filter}
+use Rattle.book.proofs.sets.keys_held.Goals as goal
+
+pub returns : goal.returns
+returns c =
+    let holds = λ (key : List ℕ). meets c.args.cols.now c.args.store.now.rows c.args.standing.now.table key c.args.t c.args.standing.now.conds in
+    ap (map (λ key. key.now)) (filter_same _ (λ key. holds key.now) _ (λ x b f' k. search rules) _ _ c.retain.ensures.filtered)
+    ∙ map-filter (λ key. key.now) holds c.in_ok-keys.keys.items
+    ∙ ap (filter holds) c.in_ok-keys.ensures

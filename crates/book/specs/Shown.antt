@@ -1,0 +1,41 @@
+-- What a row that is kept stands for.
+use Rattle.std.specs.Prelude.{ℕ, ◌-◌, List, map}
+use Rattle.std.specs.Option.{option_map}
+use Rattle.agg_types.specs.declared.event.Cell.{Cell}
+use Rattle.agg_types.specs.declared.event.Cell.TheVariants as cell
+use Rattle.agg_types.specs.declared.place.Place.{Place}
+use Rattle.fleet_model.specs.declared.arrival.Arrival.{Arrival}
+use Rattle.peer_rows.specs.declared.row.Held.{Held}
+use Rattle.peer_rows.specs.declared.row.Held.TheVariants.{Count, Rate}
+use Rattle.peer_rows.specs.Table.{Spot}
+use Rattle.peer_rows.specs.declared.row.Row.{Row}
+use Rattle.period_rate.specs.Rate.{elapsed_at}
+
+-- a cell as it came at the moment of its arrival
+abbrev pub cell_of : ℕ → Held → Cell
+cell_of arrived (Count count) = cell.Count count
+cell_of arrived (Rate rate) = cell.Rate (elapsed_at rate arrived) rate.cur rate.prev
+
+-- a row with its life and its cells as they came
+abbrev pub as_arrival : Row → Arrival
+as_arrival row =
+    record {
+      arrived = row.arrived;
+      life = option_map (λ ends. ends - row.arrived) row.ends;
+      cells = map (cell_of row.arrived) row.cells;
+    }
+
+abbrev pub shown : Place × Row → Place × Arrival
+shown entry = (entry.0, as_arrival entry.1)
+
+-- the rows in force that these stand for
+abbrev pub arrivals : List (Place × Row) → List (Place × Arrival)
+arrivals entries = map shown entries
+
+-- a peer's row of a key, as it stands at its place
+abbrev pub of_peer : ℕ → List ℕ → ℕ × Row → Place × Arrival
+of_peer table key p = (record { table = table; key = key; peer = p.0 }, as_arrival p.1)
+
+-- a row of a table, as it stands at its place
+abbrev pub of_spot : ℕ → Spot × Row → Place × Arrival
+of_spot table s = (record { table = table; key = s.0.0; peer = s.0.1 }, as_arrival s.1)

@@ -1,0 +1,47 @@
+-- What the rows of a book stand for.
+use Rattle.std.specs.Prelude.{◌≡◌, ℕ, ◌^◌, ◌≤◌, ◌==◌, List, [], Option, None, Some, filter, length, map}
+use Rattle.std.specs.List.{dedup}
+use Rattle.fleet_model.specs.Values.{same_key}
+use Rattle.peer_rows.specs.Table.{Spot}
+use Rattle.peer_rows.specs.declared.row.Row.{Row}
+use Rattle.book.specs.Shown.{of_spot}
+use Rattle.agg_types.specs.declared.config.Config.{Config}
+use Rattle.agg_types.specs.declared.column.Col.{Col}
+use Rattle.agg_types.specs.declared.event.Cell.{Cell}
+use Rattle.agg_types.specs.declared.place.Place.{Place}
+use Rattle.fleet_model.specs.Kept.{kept_cells}
+use Rattle.fleet_model.specs.declared.arrival.Arrival.{Arrival}
+use Rattle.peer_rows.specs.Rows.{RowMap}
+use Rattle.book.specs.Planned.{ArePlanned, AreRows}
+
+-- the rows in force, by place, of so many peers and tables
+pub record InForce : Type 0 where
+  pub peers : ℕ
+  pub tables : ℕ
+  pub rows : List (Place × Arrival)
+
+-- rows in order, each of which is looked at by its end
+pub record AreKept (peers tables : ℕ) (rows : RowMap) (items : List (ℕ × Place)) : Type 0 where
+  pub are : AreRows peers tables rows
+  pub planned : ArePlanned items rows.entries
+
+-- a row as it arrives
+abbrev pub put_arrival : ℕ → Option ℕ → List (Col × ℕ) → List Cell → Arrival
+put_arrival t life cols cells = record { arrived = t; life = life; cells = kept_cells cols cells }
+
+-- rows of a configuration's peers and tables, at a moment that is small
+pub record HasSizes (config : Config) (moment : ℕ) (rows : InForce) : Type 0 where
+  pub peers : rows.peers ≡ length config.peers
+  pub tables : rows.tables ≡ length config.tables
+  pub in_range : moment ≤ 2 ^ 62
+
+-- a walk of a table's rows gives them all, by key, then by peer; there is none where there are no
+-- rows
+abbrev pub IsWalk : List (Place × Arrival) → ℕ → Option (List (Spot × Row)) → Type 0
+IsWalk rows table None = filter (λ row. row.0.table == table) rows ≡ []
+IsWalk rows table (Some walk) = map (of_spot table) walk ≡ filter (λ row. row.0.table == table) rows
+
+-- the keys of a table's rows, each once
+abbrev pub row_keys : List (Place × Arrival) → ℕ → List (List ℕ)
+row_keys rows table =
+    dedup same_key (map (λ row. row.0.key) (filter (λ row. row.0.table == table) rows))

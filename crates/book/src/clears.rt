@@ -1,0 +1,96 @@
+//! Clears of several keys: the keys are found first, then their rows are taken away.
+
+ghost use Rattle.std.specs.Prelude.{◌≡◌, ◌&&◌, ◌==◌, true, not, filter, map, IfOk, OnOk, OnErr};
+ghost use Rattle.std.specs.List.{list_any};
+ghost use Rattle.fleet_model.specs.Values.{meets, same_key};
+
+use crate::store::Store;
+use crate::values::meets;
+use agg_types::{Col, Cond, Key, NoMemory};
+use peer_rows::ByKey;
+use std::alloc::Global;
+
+/// Takes away the rows of a table.
+pub fn clear_table(alloc: Global, store: &mut Store, table: usize) -> Result<(), NoMemory>
+    ensures ok { OnOk result (store.new ≡ record store.old {
+      rows = filter (λ row. not ((row.0.table == table) && true)) store.old.rows;
+    }) }
+    ensures err { OnErr result (store.new ≡ store.old) }
+{
+    let keys = table_keys(alloc, store, table)?;
+    clear_keys(store, table, keys.as_slice());
+    Ok(())
+}
+
+/// Takes away the rows of each key of a table whose values meet the conditions, as they were
+/// before.
+pub fn clear_where(
+    alloc: Global,
+    store: &mut Store,
+    cols: &[(Col, u32)],
+    table: usize,
+    t: u64,
+    conds: &[Cond],
+) -> Result<(), NoMemory>
+    ensures ok { OnOk result (store.new ≡ record store.old {
+      rows = filter (λ row. not
+          ((row.0.table == table) && meets cols.now store.old.rows table row.0.key t conds.now))
+          store.old.rows;
+    }) }
+    ensures err { OnErr result (store.new ≡ store.old) }
+{
+    let keys = keys_that_meet(alloc, store, cols, table, t, conds)?;
+    clear_keys(store, table, keys.as_slice());
+    Ok(())
+}
+
+// The keys of a table, one for each row.
+fn table_keys(alloc: Global, store: &Store, table: usize) -> Result<Vec<Key>, NoMemory>
+    ensures { IfOk result (λ keys. keys.items
+        ≡ map (λ row. row.0.key) (filter (λ row. row.0.table == table) store.now.rows)) }
+{
+    let found = store.by_key(table)?;
+    match found {
+        None => Ok(Vec::new(alloc)),
+        Some(rows) => row_keys(alloc, rows),
+    }
+}
+
+fn row_keys(alloc: Global, rows: ByKey<'_>) -> Result<Vec<Key>, NoMemory>
+    ensures { IfOk result (λ keys. keys.items ≡ map (λ s. s.0.0) rows.entry) }
+{
+    let mut keys = Vec::new(alloc);
+    for (key, _, _) in rows {
+        keys.push(key.duplicate(alloc)?)?;
+    }
+    Ok(keys)
+}
+
+fn keys_that_meet(
+    alloc: Global,
+    store: &Store,
+    cols: &[(Col, u32)],
+    table: usize,
+    t: u64,
+    conds: &[Cond],
+) -> Result<Vec<Key>, NoMemory>
+    ensures { IfOk result (λ keys. keys.items
+        ≡ filter (λ key. meets cols.now store.now.rows table key t conds.now)
+        (map (λ row. row.0.key) (filter (λ row. row.0.table == table) store.now.rows))) }
+{
+    let mut keys = table_keys(alloc, store, table)?;
+    keys.retain(|key| meets(store, cols, table, key, t, conds));
+    Ok(keys)
+}
+
+fn clear_keys(store: &mut Store, table: usize, keys: &[Key])
+    ensures { store.new ≡ record store.old {
+      rows = filter (λ row. not
+          ((row.0.table == table) && list_any (λ key. same_key key row.0.key) keys.now))
+          store.old.rows;
+    } }
+{
+    for key in keys {
+        store.clear_key(table, key);
+    }
+}

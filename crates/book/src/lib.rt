@@ -1,0 +1,30 @@
+//! The book that the product runs on: after each event the state that recomputing from all events
+//! gives, and its answers.
+//!
+//! Contracts see a book as `fleet_model`'s state, with the clauses of `plain_book`, which it is
+//! compared with. Inside, rows lie by table, key and peer in `peer_rows`, and the ends of rows are
+//! planned in a wheel: an update is a search and a row replaced, a moment looks at what is due and
+//! no more. Users are the fleet, the hub and the commands. Speed is measured, not promised: an end
+//! stays planned where it was while its row's end only moves later, and is planned anew when it
+//! comes due, so some rows are looked at before they end.
+#![tactic(auto)]
+
+mod book;
+mod clears;
+mod ends;
+mod listing;
+mod machine;
+mod next;
+mod puts;
+mod queries;
+mod ranking;
+mod row;
+mod seats;
+mod sets;
+mod store;
+mod values;
+
+pub use book::Book;
+pub use fleet_model::Summed;
+pub use listing::BookRows;
+pub use ranking::Ranked;

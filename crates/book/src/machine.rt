@@ -1,0 +1,303 @@
+//! The machine of one event: what a book holds, and what an event makes of it.
+
+ghost use Rattle.std.specs.Prelude.{◌≡◌, ◌≤◌, ◌^◌, ◌++◌, ◌&&◌, ◌==◌, [], ◌∷◌, nat_lt, length, not, if◌then◌else◌, false, filter, IsTrue, IfOk, IsOk, OnOk, OnErr};
+ghost use Rattle.std.specs.List.{list_any};
+ghost use Rattle.std.specs.Str.{bytes_eq};
+ghost use Rattle.agg_types.specs.declared.event.What.TheVariants.{Leave};
+ghost use Rattle.fleet_model.specs.Filters.{is_new};
+ghost use Rattle.fleet_model.specs.Keys.{key_rows, sum_of};
+ghost use Rattle.fleet_model.specs.Machine.{after, counts_now, event_of, number_of, opened, with_row};
+ghost use Rattle.fleet_model.specs.Rows.{arrival_of, has_room};
+ghost use Rattle.fleet_model.specs.Seats.{is_number};
+ghost use Rattle.fleet_model.specs.Values.{cols_of, selects};
+ghost use Rattle.book.specs.Due.{FitsPlace, IsDue};
+ghost use Rattle.book.specs.Planned.{IsInside, IsShort};
+ghost use Rattle.book.specs.Store.{row_keys};
+
+use crate::clears::{clear_table, clear_where};
+use crate::ends::Size;
+use crate::seats::{
+    Seats, Sessions, count_up, end_sessions, has_free_seat, is_next, is_number, open_session,
+    sit_down, stand_up,
+};
+use crate::store::Store;
+use crate::{queries, seats};
+use agg_types::{
+    Cell, Col, Config, Filter, Items, Key, MOST_FILTERS, NoMemory, Place, Select, Shape, What,
+};
+use fleet_model::Summed;
+use std::alloc::Global;
+use std::collections::BTreeMap;
+use std::marker::Model;
+
+/// What a book holds. Contracts see the state: the configuration with the filters that stand, the
+/// moment, the rows in force, the sessions and the seats.
+#[derive(Drop)]
+pub(crate) struct Machine {
+    pub(crate) alloc: Global,
+    pub(crate) config: Config,
+    pub(crate) moment: u64,
+    pub(crate) rows: Store,
+    pub(crate) sessions: Sessions,
+    pub(crate) seats: Seats,
+    pub(crate) next_seat: u64,
+}
+
+impl Model for Machine {
+    ghost use Rattle.fleet_model.specs.State.{State};
+
+    ghost Value = { State };
+
+    ghost view = { λ b. record {
+      config = b.config;
+      moment = b.moment;
+      rows = b.rows.rows;
+      sessions = b.sessions.entries;
+      seats = b.seats.entries;
+      next_seat = b.next_seat;
+    } };
+
+    ghost use Rattle.book.specs.Store.{HasSizes};
+
+    ghost invariant = { λ b. HasSizes b.config b.moment b.rows };
+}
+
+impl Machine {
+    /// A machine to which nothing has happened yet.
+    #[tactic(auto, unfolding(fleet_model::specs::Machine::opened))]
+    pub(crate) fn new(alloc: Global, config: Config, moment: u64) -> Result<Machine, NoMemory>
+        requires { moment ≤ 2 ^ 62 }
+        ensures { IfOk result (λ machine. machine ≡ opened config moment) }
+    {
+        let size = Size {
+            peers: config.peers.len(),
+            tables: config.tables.len(),
+        };
+        let rows = Store::new(alloc, size, moment)?;
+        Ok(Machine {
+            alloc,
+            config,
+            moment,
+            rows,
+            sessions: BTreeMap::new(alloc),
+            seats: BTreeMap::new(alloc),
+            next_seat: 0,
+        })
+    }
+
+    /// How many keys of a table have a row.
+    pub(crate) fn used(&self, table: usize) -> usize
+        ensures { result ≡ length (row_keys self.now.rows table) }
+    {
+        self.rows.used(table)
+    }
+
+    /// What the rows of a key sum up to.
+    pub(crate) fn summed(&self, table: usize, key: &Key) -> Option<Summed>
+        ensures { result ≡ sum_of (cols_of self.now.config.tables table)
+            (key_rows self.now.rows table key.now) self.now.moment }
+    {
+        let cols = cols_of(self.config.tables.as_slice(), table);
+        queries::summed(&self.rows, cols, table, key, self.moment)
+    }
+
+    #[tactic(auto, unfolding(fleet_model::specs::Machine::counts_now))]
+    fn counts(&self, seat: u64, seq: u64, what: &What) -> bool
+        ensures exact { result ≡ counts_now self.now (event_of seat seq what.now) }
+    {
+        let due = seats::number_of(&self.seats, seat);
+        let free = has_free_seat(&self.seats);
+        let fits = self.config.fits(what);
+        let next = is_next(what, seat, seq, free, self.next_seat, due);
+        fits && next
+    }
+
+    // Whether an event counts, and then what its number and its seat are.
+    fn is_due(&self, seat: u64, seq: u64, what: &What) -> bool
+        ensures exact { result ≡ counts_now self.now (event_of seat seq what.now) }
+        ensures sits { IsTrue result → IsDue what.now seat seq (number_of self.now seat) }
+        ensures fits { IsTrue result → FitsPlace self.now.config what.now }
+    {
+        self.counts(seat, seq, what)
+    }
+
+    // One event, as the machine of one event says; nothing has changed after NoMemory.
+    #[tactic(auto, unfolding(fleet_model::specs::Machine::after, fleet_model::specs::Machine::happened, fleet_model::specs::Machine::with_put, fleet_model::specs::Rows::clears_at))]
+    pub(crate) fn apply(&mut self, seat: u64, seq: u64, what: &What) -> Result<(), NoMemory>
+        ensures ok { OnOk result (self.new ≡ after self.old (event_of seat seq what.now)) }
+        ensures err { OnErr result (self.new ≡ self.old) }
+        ensures leaving { what.now ≡ Leave → IsOk result }
+        ensures uncounted { counts_now self.old (event_of seat seq what.now) ≡ false → IsOk result }
+    {
+        if !self.is_due(seat, seq, what) {
+            return Ok(());
+        }
+        match what {
+            What::Sit => {
+                sit_down(&mut self.seats, seat)?;
+                self.next_seat = seat + 1;
+                Ok(())
+            }
+            What::Open(peer) => {
+                open_session(&mut self.sessions, *peer, seat)?;
+                count_up(&mut self.seats, seat, seq);
+                Ok(())
+            }
+            What::Put {
+                peer,
+                table,
+                key,
+                life,
+                cells,
+            } => {
+                let place = Place {
+                    table: *table,
+                    key: key.duplicate(self.alloc)?,
+                    peer: *peer,
+                };
+                let session = seats::session_of(&self.sessions, *peer);
+                put(
+                    &mut self.rows,
+                    self.config.tables.as_slice(),
+                    session,
+                    seat,
+                    self.moment,
+                    place,
+                    *life,
+                    cells,
+                )?;
+                count_up(&mut self.seats, seat, seq);
+                Ok(())
+            }
+            What::Clear { table, sel } => {
+                clear(
+                    self.alloc,
+                    &mut self.rows,
+                    self.config.tables.as_slice(),
+                    *table,
+                    self.moment,
+                    sel,
+                )?;
+                count_up(&mut self.seats, seat, seq);
+                Ok(())
+            }
+            What::AddFilter(filter) => {
+                add_filter(self.alloc, &mut self.config.filters, filter)?;
+                count_up(&mut self.seats, seat, seq);
+                Ok(())
+            }
+            What::Moment(moment) => {
+                let later = self.moment.max(*moment);
+                self.rows.end_rows(later)?;
+                self.moment = later;
+                count_up(&mut self.seats, seat, seq);
+                Ok(())
+            }
+            What::Leave => {
+                stand_up(&mut self.seats, seat);
+                end_sessions(&mut self.sessions, seat);
+                Ok(())
+            }
+        }
+    }
+}
+
+/// The columns of a table; none where there is no such table.
+pub fn cols_of(tables: &[Shape], table: usize) -> &[(Col, u32)]
+    ensures { result.now ≡ cols_of tables.now table }
+{
+    match tables.get(table) {
+        None => &[],
+        Some(shape) => shape.cols.as_slice(),
+    }
+}
+
+/// Takes away the rows that a clear selects, judged by the values that stand before it.
+fn clear(
+    alloc: Global,
+    rows: &mut Store,
+    tables: &[Shape],
+    table: usize,
+    t: u64,
+    sel: &Select,
+) -> Result<(), NoMemory>
+    ensures ok { OnOk result (rows.new ≡ record rows.old {
+      rows = filter (λ row. not
+          ((row.0.table == table)
+          && selects (cols_of tables.now table) rows.old.rows table t sel.now row.0.key))
+          rows.old.rows;
+    }) }
+    ensures err { OnErr result (rows.new ≡ rows.old) }
+{
+    match sel {
+        Select::All => clear_table(alloc, rows, table),
+        Select::One(key) => {
+            rows.clear_key(table, key);
+            Ok(())
+        }
+        Select::Conds(conds) => clear_where(
+            alloc,
+            rows,
+            cols_of(tables, table),
+            table,
+            t,
+            conds.as_slice(),
+        ),
+    }
+}
+
+/// Puts a row, if its seat is the session in force and there is room.
+fn put(
+    rows: &mut Store,
+    tables: &[Shape],
+    session: Option<u64>,
+    seat: u64,
+    t: u64,
+    place: Place,
+    life: Option<u64>,
+    cells: &Items<Cell>,
+) -> Result<(), NoMemory>
+    requires in_range { t ≤ 2 ^ 62 }
+    requires inside { IsInside rows.old.peers rows.old.tables place }
+    requires short { IsShort life }
+    ensures ok { OnOk result (rows.new ≡ record rows.old {
+      rows = if is_number session seat && has_room tables.now rows.old.rows place
+          then with_row t rows.old.rows place (arrival_of tables.now place.table t life cells.now)
+          else rows.old.rows;
+    }) }
+    ensures err { OnErr result (rows.new ≡ rows.old) }
+{
+    if is_number(session, seat) && rows.has_room(tables, &place) {
+        let cols = cols_of(tables, place.table);
+        rows.put(t, place, life, cols, cells.as_slice())
+    } else {
+        Ok(())
+    }
+}
+
+/// Adds a filter behind the others, if it is new.
+fn add_filter(alloc: Global, filters: &mut Items<Filter>, filter: &Filter) -> Result<(), NoMemory>
+    ensures ok { OnOk result (filters.new
+        ≡ (if is_new filters.old filter.now then filters.old ++ filter.now ∷ [] else filters.old)) }
+    ensures err { OnErr result (filters.new ≡ filters.old) }
+{
+    if is_new(filters.as_slice(), filter) {
+        filters.push(filter.duplicate(alloc)?)
+    } else {
+        Ok(())
+    }
+}
+
+/// Whether a filter may be added: fewer stand than may, and none has its name.
+fn is_new(filters: &[Filter], filter: &Filter) -> bool
+    ensures { result ≡ is_new filters.now filter.now }
+{
+    let named = is_named(filters, filter.name.as_slice());
+    filters.len() < MOST_FILTERS && !named
+}
+
+fn is_named(filters: &[Filter], name: &[u8]) -> bool
+    ensures { result ≡ list_any (λ other. bytes_eq other.name name.now) filters.now }
+{
+    filters.iter().any(|other| other.name.is(name))
+}

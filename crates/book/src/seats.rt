@@ -1,0 +1,109 @@
+//! Work on the seats that sit and on the sessions in force.
+
+ghost use Rattle.std.specs.Prelude.{◌≡◌, ◌+◌, ◌^◌, ◌<◌, ◌==◌, not, filter, length, nat_lt, IsTrue, OnOk, OnErr};
+ghost use Rattle.std.specs.BTreeMap.{insert_entry, is_at};
+ghost use Rattle.std.specs.Map.{lookup, remove_entry};
+ghost use Rattle.std.specs.Ordering.{nat_cmp};
+ghost use Rattle.fleet_model.specs.Seats.{is_next, is_number, most_seats};
+
+use agg_types::{NoMemory, What};
+use std::collections::BTreeMap;
+
+/// The number of its next event, by seat that sits.
+pub type Seats = BTreeMap<u64, u64>;
+
+/// The seat that is the session in force, by peer.
+pub type Sessions = BTreeMap<usize, u64>;
+
+/// How many seats may sit at once.
+pub const MOST_SEATS: usize = 512;
+
+/// The greatest number of a seat, and the first that no event but a `Leave` may have.
+pub const LAST_NUMBER: u64 = 1 << 62;
+
+/// Whether fewer seats sit than may.
+pub fn has_free_seat(seats: &Seats) -> bool
+    ensures { result ≡ nat_lt (length seats.now.entries) most_seats }
+{
+    seats.len() < MOST_SEATS
+}
+
+/// The number of a seat's next event, or none where it doesn't sit.
+pub fn number_of(seats: &Seats, seat: u64) -> Option<u64>
+    ensures { result ≡ lookup (is_at (nat_cmp seat)) seats.now.entries }
+{
+    seats.get(&seat).copied()
+}
+
+/// The session in force of a peer, or none.
+pub fn session_of(sessions: &Sessions, peer: usize) -> Option<u64>
+    ensures { result ≡ lookup (is_at (nat_cmp peer)) sessions.now.entries }
+{
+    sessions.get(&peer).copied()
+}
+
+/// Whether a number is the one that is due.
+pub fn is_number(due: Option<u64>, number: u64) -> bool
+    ensures { result ≡ is_number due number }
+{
+    match due {
+        None => false,
+        Some(due) => due == number,
+    }
+}
+
+/// Whether an event comes next at its seat.
+pub fn is_next(what: &What, seat: u64, seq: u64, free: bool, above: u64, due: Option<u64>) -> bool
+    ensures { result ≡ is_next what.now seat seq free above due }
+{
+    match what {
+        What::Sit => seq == 0 && seat <= LAST_NUMBER && above <= seat && free,
+        _ => is_number(due, seq) && seq < LAST_NUMBER,
+    }
+}
+
+/// One more event of a seat that sits.
+pub fn count_up(seats: &mut Seats, seat: u64, seq: u64)
+    requires due { IsTrue (is_number (lookup (is_at (nat_cmp seat)) seats.old.entries) seq) }
+    requires small { seq < 2 ^ 62 }
+    ensures { seats.new.entries ≡ insert_entry nat_cmp seats.old.entries seat (seq + 1) }
+{
+    match seats.insert(seat, seq + 1) {
+        Ok(_) => {}
+        Err(_) => unreachable!(),
+    }
+}
+
+/// A seat sits down.
+pub fn sit_down(seats: &mut Seats, seat: u64) -> Result<(), NoMemory>
+    ensures ok { OnOk result (seats.new.entries ≡ insert_entry nat_cmp seats.old.entries seat 1) }
+    ensures err { OnErr result (seats.new.entries ≡ seats.old.entries) }
+{
+    seats.insert(seat, 1)?;
+    Ok(())
+}
+
+/// A seat is the session in force of a peer from now on.
+pub fn open_session(sessions: &mut Sessions, peer: usize, seat: u64) -> Result<(), NoMemory>
+    ensures ok { OnOk result
+        (sessions.new.entries ≡ insert_entry nat_cmp sessions.old.entries peer seat) }
+    ensures err { OnErr result (sessions.new.entries ≡ sessions.old.entries) }
+{
+    sessions.insert(peer, seat)?;
+    Ok(())
+}
+
+/// A seat leaves.
+pub fn stand_up(seats: &mut Seats, seat: u64)
+    ensures { seats.new.entries ≡ remove_entry (is_at (nat_cmp seat)) seats.old.entries }
+{
+    seats.remove(&seat);
+}
+
+/// Ends the sessions of a seat.
+pub fn end_sessions(sessions: &mut Sessions, seat: u64)
+    ensures { sessions.new.entries
+        ≡ filter (λ session. not (session.1 == seat)) sessions.old.entries }
+{
+    sessions.retain(|_, holder| *holder != seat);
+}

@@ -1,0 +1,38 @@
+//! The keys that a standing filter holds, judged by their values at a moment.
+
+ghost use Rattle.std.specs.Prelude.{◌≡◌, ◌<◌, length, map, filter, slice_index_or, IfOk};
+ghost use Rattle.fleet_model.specs.Answers.{no_filter};
+ghost use Rattle.fleet_model.specs.Values.{live_keys, meets};
+
+use crate::queries::live_keys;
+use crate::store::Store;
+use crate::values::meets;
+use agg_types::{Col, Filter, Key, NoMemory};
+use std::alloc::Global;
+
+/// The filter at a position.
+pub fn filter_at(filters: &[Filter], position: usize) -> &Filter
+    requires { position < length filters.now }
+    ensures { result.now ≡ slice_index_or filters.now position no_filter }
+{
+    &filters[position]
+}
+
+/// The keys that a filter holds at a moment, in order.
+pub fn keys_held<'a>(
+    alloc: Global,
+    store: &'a Store,
+    cols: &[(Col, u32)],
+    standing: &Filter,
+    t: u64,
+) -> Result<Vec<&'a Key>, NoMemory>
+    ensures { IfOk result (λ keys. map (λ key. key.now) keys.items
+        ≡ filter
+        (λ key. meets cols.now store.now.rows standing.now.table key t standing.now.conds)
+        (live_keys store.now.rows standing.now.table t)) }
+{
+    let conds = standing.conds.as_slice();
+    let mut keys = live_keys(alloc, store, standing.table, t)?;
+    keys.retain(|key| meets(store, cols, standing.table, *key, t, conds));
+    Ok(keys)
+}

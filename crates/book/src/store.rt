@@ -1,0 +1,213 @@
+//! The rows in force, with their ends planned.
+
+ghost use Rattle.std.specs.Prelude.{◌≡◌, ◌<◌, ◌≤◌, ◌^◌, ℕ, List, [], ◌==◌, ◌&&◌, not, length, map, filter, MatchOption, IfSome, IfOk, OnOk, OnErr};
+ghost use Rattle.agg_types.specs.declared.column.Col.{Col as ColName};
+ghost use Rattle.agg_types.specs.declared.event.Cell.{Cell as CellValue};
+ghost use Rattle.fleet_model.specs.Machine.{with_row};
+ghost use Rattle.std.specs.List.{list_any};
+ghost use Rattle.fleet_model.specs.Moments.{is_live};
+ghost use Rattle.fleet_model.specs.Rows.{has_room, size_of};
+ghost use Rattle.fleet_model.specs.Values.{same_key, same_place};
+ghost use Rattle.fleet_model.specs.Keys.{held_rows, key_rows};
+ghost use Rattle.book.specs.Shown.{of_peer, of_spot};
+ghost use Rattle.book.specs.Planned.{IsInside, IsShort};
+ghost use Rattle.book.specs.Store.{IsWalk, put_arrival, row_keys};
+
+use crate::ends::{Size, end_late, plan_again, row_at, set_aside};
+use crate::puts::{drop_row, new_row, set_row};
+use agg_types::{Cell, Col, Key, NoMemory, Place, Shape};
+use expiry_wheel::Wheel;
+use peer_rows::{ByKey, OfKey, Rows};
+use std::alloc::Global;
+use std::marker::Model;
+
+/// The rows in force. Contracts see them by place, and how many peers and tables there are.
+///
+/// Each row that ends is looked at by then: its place is planned at its end or before it, or was
+/// set aside in a moment that was refused.
+#[derive(Drop)]
+pub(crate) struct Store {
+    alloc: Global,
+    pub(crate) size: Size,
+    pub(crate) rows: Rows,
+    due: Wheel<Place>,
+    late: Vec<(u64, Place)>,
+}
+
+impl Model for Store {
+    ghost use Rattle.std.specs.Prelude.{◌++◌};
+    ghost use Rattle.book.specs.Shown.{arrivals};
+    ghost use Rattle.book.specs.Store.{AreKept, InForce};
+
+    ghost Value = { InForce };
+
+    ghost view = { λ s. record {
+      peers = s.size.peers;
+      tables = s.size.tables;
+      rows = arrivals s.rows.entries;
+    } };
+
+    ghost invariant = { λ s. AreKept s.size.peers s.size.tables s.rows (s.late.items ++ s.due) };
+}
+
+impl Store {
+    /// No rows, for so many peers and tables. Their ends are counted from a moment, in ms.
+    pub(crate) fn new(alloc: Global, size: Size, moment: u64) -> Result<Store, NoMemory>
+        ensures { IfOk result (λ store. store
+            ≡ record { peers = size.peers; tables = size.tables; rows = [] }) }
+    {
+        Ok(Store {
+            alloc,
+            size,
+            rows: Rows::new(alloc, size.peers, size.tables)?,
+            due: Wheel::new(alloc, moment)?,
+            late: Vec::new(alloc),
+        })
+    }
+
+    /// Takes away the rows that have ended at a moment: what is due then is looked at, and no more.
+    pub(crate) fn end_rows(&mut self, t: u64) -> Result<(), NoMemory>
+        ensures ok { OnOk result (self.new
+            ≡ record self.old { rows = filter (λ row. is_live t row.1) self.old.rows }) }
+        ensures err { OnErr result (self.new ≡ self.old) }
+    {
+        set_aside(self.alloc, &mut self.due, &mut self.late, t)?;
+        plan_again(
+            self.alloc,
+            &self.rows,
+            self.size,
+            &mut self.due,
+            self.late.as_slice(),
+            t,
+        )?;
+        end_late(&mut self.rows, self.size, self.late.as_slice(), t);
+        self.late.clear();
+        Ok(())
+    }
+
+    /// Puts a row that arrives at a moment, in ms, in the place of the one that stood there. One
+    /// whose life is over takes that one away.
+    #[tactic(auto, unfolding(fleet_model::specs::Machine::with_row))]
+    pub(crate) fn put(
+        &mut self,
+        t: u64,
+        place: Place,
+        life: Option<u64>,
+        cols: &[(Col, u32)],
+        cells: &[Cell],
+    ) -> Result<(), NoMemory>
+        requires in_range { t ≤ 2 ^ 62 }
+        requires inside { IsInside self.old.peers self.old.tables place }
+        requires short { IsShort life }
+        ensures ok { OnOk result (self.new ≡ record self.old {
+          rows = with_row t self.old.rows place (put_arrival t life cols.now cells.now);
+        }) }
+        ensures err { OnErr result (self.new ≡ self.old) }
+    {
+        if is_over(life) {
+            drop_row(&mut self.rows, self.size, &place);
+            return Ok(());
+        }
+        let row = new_row(self.alloc, t, life, cols, cells)?;
+        set_row(
+            self.alloc,
+            &mut self.rows,
+            self.size,
+            &mut self.due,
+            place,
+            row,
+        )?;
+        Ok(())
+    }
+
+    /// The rows of a key, by peer: one search. None where there is no such table.
+    pub(crate) fn of_key(&self, table: usize, key: &Key) -> Option<OfKey<'_>>
+        ensures value { MatchOption result (key_rows self.now.rows table key.now ≡ [])
+            (λ rows. map (of_peer table key.now) rows ≡ key_rows self.now.rows table key.now) }
+        ensures few { IfSome result (λ rows. length rows ≤ self.now.peers) }
+    {
+        if table < self.size.tables {
+            Some(self.rows.of_key(table, key))
+        } else {
+            None
+        }
+    }
+
+    /// The rows of a table, by key, then by peer. None where there is no such table.
+    pub(crate) fn by_key(&self, table: usize) -> Result<Option<ByKey<'_>>, NoMemory>
+        ensures { IfOk result (λ found. IsWalk self.now.rows table found) }
+    {
+        if table < self.size.tables {
+            Ok(Some(self.rows.by_key(table)?))
+        } else {
+            Ok(None)
+        }
+    }
+
+    /// How many keys of a table have a row, in constant time.
+    pub(crate) fn used(&self, table: usize) -> usize
+        ensures { result ≡ length (row_keys self.now.rows table) }
+    {
+        if table < self.size.tables {
+            self.rows.used(table)
+        } else {
+            0
+        }
+    }
+
+    /// How many rows a peer holds of a table, in constant time.
+    fn held(&self, table: usize, peer: usize) -> usize
+        requires table_in { table < self.now.tables }
+        requires peer_in { peer < self.now.peers }
+        ensures { result ≡ held_rows self.now.rows table peer }
+    {
+        self.rows.count(peer, table)
+    }
+
+    /// Whether there is a row at a place.
+    fn has_row(&self, place: &Place) -> bool
+        ensures { result ≡ list_any (λ row. same_place place.now row.0) self.now.rows }
+    {
+        row_at(&self.rows, self.size, place).is_some()
+    }
+
+    /// Whether a peer may put a row at a place: it holds one there, or fewer of the table than its
+    /// size.
+    #[tactic(auto, unfolding(fleet_model::specs::Rows::has_room))]
+    pub(crate) fn has_room(&self, tables: &[Shape], place: &Place) -> bool
+        requires { IsInside self.now.peers self.now.tables place.now }
+        ensures { result ≡ has_room tables.now self.now.rows place.now }
+    {
+        let size = size_of(tables, place.table);
+        (self.held(place.table, place.peer) as u64) < size || self.has_row(place)
+    }
+
+    /// Takes away the rows of a key, over all peers: one search.
+    pub(crate) fn clear_key(&mut self, table: usize, key: &Key)
+        ensures { self.new ≡ record self.old {
+          rows = filter
+          (λ row. not ((row.0.table == table) && same_key key.now row.0.key)) self.old.rows;
+        } }
+    {
+        if table < self.size.tables {
+            self.rows.clear_key(table, key);
+        }
+    }
+}
+
+fn size_of(tables: &[Shape], table: usize) -> u64
+    ensures { result ≡ size_of tables.now table }
+{
+    match tables.get(table) {
+        None => 0,
+        Some(shape) => shape.size,
+    }
+}
+
+// Whether a life is over as it begins.
+fn is_over(life: Option<u64>) -> bool
+    ensures { (t : ℕ) (cols : List (ColName × ℕ)) (cells : List CellValue)
+        → is_live t (put_arrival t life cols cells) ≡ not result }
+{
+    life == Some(0)
+}

@@ -1,0 +1,117 @@
+//! The values of a key, by adding up over its rows.
+
+ghost use Rattle.std.specs.Prelude.{◌≡◌, ◌+◌, ◌-◌, ◌*◌, ◌<◌, ◌≤◌, ◌^◌, length, map, drop, sum_by};
+ghost use Rattle.agg_types.specs.Col.{all_cols};
+ghost use Rattle.fleet_model.specs.Keys.{key_rows, row_worth, worth_of};
+ghost use Rattle.fleet_model.specs.Values.{cell_worth, column_worth, meets, value};
+ghost use Rattle.book.specs.Shown.{as_arrival, cell_of};
+
+use crate::row::is_live;
+use crate::store::Store;
+use agg_types::{Col, Cond, Key};
+use peer_rows::{Cells, Held, OfKey, Row};
+use period_rate::Rate;
+
+// What a cell is worth so many ms after it arrived.
+#[tactic(auto, unfolding(fleet_model::specs::Values::cell_worth))]
+fn cell_worth(period: u32, arrived: u64, since: u64, held: Held) -> u64
+    ensures { result ≡ cell_worth period since (cell_of arrived held) }
+{
+    match held {
+        Held::Count(count) => count,
+        Held::Rate(rate) => {
+            let [own, _, _, cur, prev] = rate.to_words();
+            let over = 2 * u64::from(own) + 1;
+            let elapsed = over.saturating_sub(rate.zero_at().saturating_sub(arrived));
+            Rate::arrive(period, elapsed, cur, prev, 0).at(since)
+        }
+    }
+}
+
+// What the cell of a column is worth, of the cells from a position on.
+fn column_worth(
+    col: Col,
+    arrived: u64,
+    since: u64,
+    cols: &[(Col, u32)],
+    cells: &Cells,
+    position: usize,
+) -> u64
+    ensures { result
+        ≡ column_worth col since cols.now (map (cell_of arrived) (drop position cells.now)) }
+{
+    match cols {
+        [] => 0,
+        [stored, cols @ ..] => {
+            if position >= cells.len() {
+                return 0;
+            }
+            let Some(held) = cells.get(position) else {
+                return 0;
+            };
+            if stored.0.id() == col.id() {
+                cell_worth(stored.1, arrived, since, held)
+            } else {
+                column_worth(col, arrived, since, cols, cells, position + 1)
+            }
+        }
+    }
+}
+
+fn row_worth(cols: &[(Col, u32)], col: Col, t: u64, row: &Row) -> u64
+    ensures { result ≡ row_worth cols.now col t (as_arrival row.now) }
+{
+    if !is_live(t, row) {
+        return 0;
+    }
+    let since = t.saturating_sub(row.arrived);
+    column_worth(col, row.arrived, since, cols, &row.cells, 0)
+}
+
+// What rows of one key sum up to.
+fn add_up(rows: OfKey<'_>, cols: &[(Col, u32)], col: Col, t: u64) -> u128
+    requires { length rows < 2 ^ 64 }
+    ensures { result ≡ sum_by (λ p. row_worth cols.now col t (as_arrival p.1)) rows.entry }
+{
+    let mut total = 0u128;
+    for (_, row) in rows {
+        total += u128::from(row_worth(cols, col, t, row));
+    }
+    total
+}
+
+/// A key's value of a column at a moment: one search, and then its rows.
+pub fn value(store: &Store, cols: &[(Col, u32)], table: usize, key: &Key, col: Col, t: u64) -> u128
+    ensures { result ≡ value cols.now store.now.rows table key.now col t }
+{
+    fleet_model::laws::keys::a_key_answers_by_its_rows();
+    worth(store, cols, table, key, col, t)
+}
+
+/// What a key's rows add to a column at a moment.
+pub fn worth(store: &Store, cols: &[(Col, u32)], table: usize, key: &Key, col: Col, t: u64) -> u128
+    ensures { result ≡ worth_of cols.now (key_rows store.now.rows table key.now) col t }
+{
+    match store.of_key(table, key) {
+        None => 0,
+        Some(rows) => add_up(rows, cols, col, t),
+    }
+}
+
+/// Whether all conditions hold of a key's values at a moment.
+#[tactic(auto, unfolding(fleet_model::specs::Values::meets))]
+pub fn meets(
+    store: &Store,
+    cols: &[(Col, u32)],
+    table: usize,
+    key: &Key,
+    t: u64,
+    conds: &[Cond],
+) -> bool
+    ensures { result ≡ meets cols.now store.now.rows table key.now t conds.now }
+{
+    conds.iter().all(|cond| {
+        cond.op
+            .holds(value(store, cols, table, key, cond.col, t), cond.bound)
+    })
+}
