@@ -1,3 +1,4 @@
 pub mod CondLemmas
+pub mod Fitting
 pub mod Lines
 pub mod Stands

@@ -1,5 +1,7 @@
 -- What commands change.
-use Rattle.std.specs.Prelude.{Option, Some, None}
+use Rattle.std.specs.Prelude.{◌≡◌, true, Option, Some, None, IfSome}
+use Rattle.agg_types.specs.Fits.{fits}
+use Rattle.fleet_model.specs.State.{State}
 use Rattle.agg_types.specs.declared.event.What.{What}
 use Rattle.agg_types.specs.declared.event.What.TheVariants.{Clear, AddFilter as Add}
 use Rattle.show_clear.specs.declared.command.Command.{Command}
@@ -14,3 +16,7 @@ change_of (ShowFilter filter) = None
 change_of (ShowRank rank) = None
 change_of (ShowNext filter) = None
 change_of (AddFilter filter) = Some (Add filter)
+
+-- a command's change, if it asks for one, fits the configuration
+abbrev pub ChangeFits : State → Command → Type 0
+ChangeFits state command = IfSome (change_of command) (λ what. fits state.config what ≡ true)

@@ -7,6 +7,7 @@ ghost use Rattle.std.specs.Str.Lines.{strip_carriage_return};
 ghost use Rattle.line_words.specs.Words.{words};
 ghost use Rattle.show_clear.specs.Parse.{Tells, added, asked, at_end, cleared, command_of, filter_added, filter_named, filter_on, filter_shown, new_name, next_shown, one_key, rank_named, rank_shown, sel_of, shown, table_and_sel, table_cleared, table_named, table_shown};
 ghost use Rattle.show_clear.specs.Answer.{NamesStand};
+ghost use Rattle.show_clear.specs.Change.{ChangeFits};
 
 use crate::answers::shape_of;
 use crate::book::Book;
@@ -26,6 +27,7 @@ const LONGEST_LINE: usize = 4096;
 pub fn parse(alloc: Global, book: &Book, line: &[u8]) -> Result<Command, CommandFault>
     ensures read { Tells (command_of book.now line.now) result }
     ensures stands { IfOk result (NamesStand book.now) }
+    ensures fits { IfOk result (ChangeFits book.now) }
 {
     let line = without_return(line);
     if line.len() > LONGEST_LINE {
@@ -46,6 +48,7 @@ fn without_return(line: &[u8]) -> &[u8]
 fn parse_words(alloc: Global, book: &Book, line: &[u8]) -> Result<Command, CommandFault>
     ensures read { Tells (asked book.now (words line.now)) result }
     ensures stands { IfOk result (NamesStand book.now) }
+    ensures fits { IfOk result (ChangeFits book.now) }
 {
     let Some((word, rest)) = next_word(line) else {
         return Err(CommandFault::Empty);
@@ -62,6 +65,7 @@ fn parse_words(alloc: Global, book: &Book, line: &[u8]) -> Result<Command, Comma
 fn parse_show(alloc: Global, book: &Book, line: &[u8]) -> Result<Command, CommandFault>
     ensures read { Tells (shown book.now (words line.now)) result }
     ensures stands { IfOk result (NamesStand book.now) }
+    ensures fits { IfOk result (ChangeFits book.now) }
 {
     let Some((word, rest)) = next_word(line) else {
         return Err(CommandFault::Unknown);
@@ -79,6 +83,7 @@ fn parse_show(alloc: Global, book: &Book, line: &[u8]) -> Result<Command, Comman
 fn parse_clear(alloc: Global, book: &Book, line: &[u8]) -> Result<Command, CommandFault>
     ensures read { Tells (cleared book.now (words line.now)) result }
     ensures stands { IfOk result (NamesStand book.now) }
+    ensures fits { IfOk result (ChangeFits book.now) }
 {
     let Some((word, rest)) = next_word(line) else {
         return Err(CommandFault::Unknown);
@@ -93,6 +98,7 @@ fn parse_clear(alloc: Global, book: &Book, line: &[u8]) -> Result<Command, Comma
 fn parse_add(alloc: Global, book: &Book, line: &[u8]) -> Result<Command, CommandFault>
     ensures read { Tells (added book.now (words line.now)) result }
     ensures stands { IfOk result (NamesStand book.now) }
+    ensures fits { IfOk result (ChangeFits book.now) }
 {
     let Some((word, rest)) = next_word(line) else {
         return Err(CommandFault::Unknown);
@@ -203,6 +209,7 @@ fn one_key(alloc: Global, kind: KeyKind, line: &[u8]) -> Result<Select, CommandF
 fn parse_show_table(alloc: Global, book: &Book, line: &[u8]) -> Result<Command, CommandFault>
     ensures read { Tells (table_shown book.now (words line.now)) result }
     ensures stands { IfOk result (NamesStand book.now) }
+    ensures fits { IfOk result (ChangeFits book.now) }
 {
     let Some((name, rest)) = next_word(line) else {
         return Ok(Command::ShowTables);
@@ -215,6 +222,7 @@ fn parse_show_table(alloc: Global, book: &Book, line: &[u8]) -> Result<Command, 
 fn parse_clear_table(alloc: Global, book: &Book, line: &[u8]) -> Result<Command, CommandFault>
     ensures read { Tells (table_cleared book.now (words line.now)) result }
     ensures stands { IfOk result (NamesStand book.now) }
+    ensures fits { IfOk result (ChangeFits book.now) }
 {
     let Some((name, rest)) = next_word(line) else {
         return Err(CommandFault::Unknown);
@@ -227,6 +235,7 @@ fn parse_clear_table(alloc: Global, book: &Book, line: &[u8]) -> Result<Command,
 fn parse_show_filter(book: &Book, line: &[u8]) -> Result<Command, CommandFault>
     ensures read { Tells (filter_shown book.now (words line.now)) result }
     ensures stands { IfOk result (NamesStand book.now) }
+    ensures fits { IfOk result (ChangeFits book.now) }
 {
     let Some((name, rest)) = next_word(line) else {
         return Err(CommandFault::Unknown);
@@ -240,6 +249,7 @@ fn parse_show_filter(book: &Book, line: &[u8]) -> Result<Command, CommandFault>
 fn parse_show_next(book: &Book, line: &[u8]) -> Result<Command, CommandFault>
     ensures read { Tells (next_shown book.now (words line.now)) result }
     ensures stands { IfOk result (NamesStand book.now) }
+    ensures fits { IfOk result (ChangeFits book.now) }
 {
     let Some((name, rest)) = next_word(line) else {
         return Err(CommandFault::Unknown);
@@ -253,6 +263,7 @@ fn parse_show_next(book: &Book, line: &[u8]) -> Result<Command, CommandFault>
 fn parse_show_rank(book: &Book, line: &[u8]) -> Result<Command, CommandFault>
     ensures read { Tells (rank_shown book.now (words line.now)) result }
     ensures stands { IfOk result (NamesStand book.now) }
+    ensures fits { IfOk result (ChangeFits book.now) }
 {
     let Some((name, rest)) = next_word(line) else {
         return Err(CommandFault::Unknown);
@@ -263,9 +274,11 @@ fn parse_show_rank(book: &Book, line: &[u8]) -> Result<Command, CommandFault>
 }
 
 // Behind `add filter`.
+#[tactic(auto, using(crate::proofs::Fitting::filter_on_fits))]
 fn parse_add_filter(alloc: Global, book: &Book, line: &[u8]) -> Result<Command, CommandFault>
     ensures read { Tells (filter_added book.now (words line.now)) result }
     ensures stands { IfOk result (NamesStand book.now) }
+    ensures fits { IfOk result (ChangeFits book.now) }
 {
     let Some((name, rest)) = next_word(line) else {
         return Err(CommandFault::Unknown);
