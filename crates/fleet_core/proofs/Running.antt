@@ -45,10 +45,10 @@ Tells (Err faults.Spent) old new config opening past step = spends_at config ope
 Tells (Err faults.Unfit) old new config opening past step = ⊥
 
 -- what isn't answered isn't so
-could : (answer : Result Replies FleetFault) (old new : Collected) (config : Config) (opening : ℕ) (past : List Step) (step : Step) → Answers answer old new config opening past step → (answer ≡ Err NoConn → ⊥) → can_be config opening past step ≡ true
+pub could : (answer : Result Replies FleetFault) (old new : Collected) (config : Config) (opening : ℕ) (past : List Step) (step : Step) → Answers answer old new config opening past step → (answer ≡ Err NoConn → ⊥) → can_be config opening past step ≡ true
 could answer old new config opening past step h apart = elim (bool_tells (can_be config opening past step)) [ inl is ↦ is | inr is ↦ absurd (apart (h.no_conn.1 is)) ]
 
-unspent : (answer : Result Replies FleetFault) (old new : Collected) (config : Config) (opening : ℕ) (past : List Step) (step : Step) → Answers answer old new config opening past step → (answer ≡ Err Spent → ⊥) → spends_at config opening past step ≡ false
+pub unspent : (answer : Result Replies FleetFault) (old new : Collected) (config : Config) (opening : ℕ) (past : List Step) (step : Step) → Answers answer old new config opening past step → (answer ≡ Err Spent → ⊥) → spends_at config opening past step ≡ false
 unspent answer old new config opening past step h apart = elim (bool_tells (spends_at config opening past step)) [ inl is ↦ absurd (apart (h.spent.1 is)) | inr is ↦ is ]
 
 pub tells : (answer : Result Replies FleetFault) (old new : Collected) (config : Config) (opening : ℕ) (past : List Step) (step : Step) → Answers answer old new config opening past step → Tells (run_answer answer step) old new config opening past step

@@ -1,0 +1,4 @@
+pub mod Meaning
+pub mod Texts
+pub mod Given
+pub mod Runs

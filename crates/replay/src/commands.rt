@@ -1,0 +1,98 @@
+//! Commands of a script, over the fleet.
+
+ghost use Rattle.std.specs.Prelude.{◌≡◌, ℕ, List, IfOk, MatchResult, Some, None};
+ghost use Rattle.agg_types.specs.declared.config.Config.{Config};
+ghost use Rattle.fleet_core.specs.declared.step.Step.{Step};
+ghost use Rattle.replay.specs.Given.{Did, IsSettled, step_given};
+ghost use Rattle.replay.specs.Runs.{AskOrRefusal, CommandGives, LineDid, step_of, change_given, state_after};
+ghost use Rattle.show_clear.specs.Answer.{NamesStand};
+ghost use Rattle.show_clear.specs.Parse.{command_of};
+
+use crate::doing::do_step;
+use crate::ending::Ending;
+use agg_types::NoMemory;
+use fleet_core::{Fleet, Step};
+use key_text::append_text;
+use show_clear::{Command, answer, parse, refusal};
+use std::alloc::Global;
+
+/// Does what a command asks for, and appends its answer or its refusal. After `NoMemory` neither the
+/// fleet nor the text are of use.
+pub fn ask(
+    alloc: Global,
+    fleet: &mut Fleet,
+    line: &[u8],
+    out: &mut Vec<u8>,
+) -> Result<Option<Ending>, NoMemory>
+    ensures { (config : Config) (opening : ℕ) (past : List Step)
+        → IsSettled fleet.old config opening past
+        → IfOk result (LineDid
+        (AskOrRefusal config opening past
+        (command_of (state_after config opening past) line.now))
+        fleet.new config opening out.old.items out.new.items) }
+{
+    match parse(alloc, fleet.book(), line) {
+        Ok(command) => obey(alloc, fleet, command, out),
+        Err(fault) => {
+            refusal(&fault, out)?;
+            Ok(None)
+        }
+    }
+}
+
+// Does what a command asks for, whose names stand in the book.
+fn obey(
+    alloc: Global,
+    fleet: &mut Fleet,
+    command: Command,
+    out: &mut Vec<u8>,
+) -> Result<Option<Ending>, NoMemory>
+    requires stands { NamesStand fleet.old.book command }
+    ensures { (config : Config) (opening : ℕ) (past : List Step)
+        → IsSettled fleet.old config opening past
+        → IfOk result (LineDid (CommandGives config opening past command (step_of command))
+        fleet.new config opening out.old.items out.new.items) }
+{
+    match step_of(command) {
+        Ok(step) => change(alloc, fleet, &step, out),
+        Err(command) => {
+            answer(alloc, fleet.book(), &command, out)?;
+            Ok(None)
+        }
+    }
+}
+
+// The step that a command asks for, or the command where it changes nothing.
+fn step_of(command: Command) -> Result<Step, Command>
+    ensures { MatchResult result (λ step. step_of command ≡ Some step)
+        (λ same. (same ≡ command) × (step_of command ≡ None)) }
+{
+    match command {
+        Command::ClearTable { table, sel } => Ok(Step::Clear { table, sel }),
+        Command::AddFilter(filter) => Ok(Step::AddFilter(filter)),
+        command => Err(command),
+    }
+}
+
+// Does the step of a command that changes something, and appends `ok`.
+fn change(
+    alloc: Global,
+    fleet: &mut Fleet,
+    step: &Step,
+    out: &mut Vec<u8>,
+) -> Result<Option<Ending>, NoMemory>
+    ensures { (config : Config) (opening : ℕ) (past : List Step)
+        → IsSettled fleet.old config opening past
+        → IfOk result (Did (change_given (step_given config opening past step.now)) fleet.new
+        config opening out.old.items out.new.items) }
+{
+    // A command that was read fits.
+    if !step.fits(alloc, fleet.book().config())? {
+        return Err(NoMemory);
+    }
+    let ending = do_step(alloc, fleet, step, out)?;
+    if ending.is_none() {
+        append_text(b"ok\n", out)?;
+    }
+    Ok(ending)
+}

@@ -1,0 +1,95 @@
+//! The lines behind `start`, one after the other.
+
+ghost use Rattle.std.specs.Prelude.{◌≡◌, ◌++◌, ◌≤◌, ◌<◌, ◌^◌, ◌⊎◌, ◌+◌, [], ℕ, List, codes, IfOk, OnOk, length};
+ghost use Rattle.std.specs.Fmt.{decimal};
+ghost use Rattle.std.specs.Io.KnownBytes.{Appends};
+ghost use Rattle.agg_types.specs.Check.{config_faults};
+ghost use Rattle.agg_types.specs.declared.config.Config.{Config};
+ghost use Rattle.fleet_core.specs.declared.step.Step.{Step};
+ghost use Rattle.line_words.specs.Words.{lines_of};
+ghost use Rattle.replay.specs.Given.{IsSettled};
+ghost use Rattle.replay.specs.Runs.{IsRun, LineDid, LineGives};
+
+use crate::commands::ask;
+use crate::doing::do_step;
+use crate::ending::Ending;
+use crate::steps::{Meaning, meaning_of};
+use agg_types::{Config, NoMemory};
+use fleet_core::Fleet;
+use key_text::{append_number, append_text};
+use line_words::next_line;
+use std::alloc::Global;
+use std::io;
+use std::io::Write;
+
+/// Opens a fleet and does what the lines of a text say, the first of which has this number: writes
+/// what each prints, and tells how the replay ends. Where the opening lacks memory, nothing is
+/// written.
+pub fn run<W: Write>(
+    alloc: Global,
+    config: Config,
+    opening: u64,
+    text: &[u8],
+    number: u128,
+    out: &mut W,
+) -> io::Result<Ending>
+    requires checked { config_faults config ≡ [] }
+    requires in_range { opening ≤ 2 ^ 62 }
+{
+    let Ok(mut fleet) = Fleet::new(alloc, config, opening) else {
+        return Ok(Ending::Failed);
+    };
+    let mut left = text;
+    let mut number = number;
+    while let Some((line, behind)) = next_line(left) {
+        let mut printed = Vec::new(alloc);
+        match do_line(alloc, &mut fleet, line, number, &mut printed) {
+            Ok(ending) => {
+                out.write_all(printed.as_slice())?;
+                if let Some(ending) = ending {
+                    return Ok(ending);
+                }
+            }
+            Err(NoMemory) => {
+                out.write_all(b"fault NoMemory\n")?;
+                return Ok(Ending::Failed);
+            }
+        }
+        number = number.saturating_add(1);
+        left = behind;
+    }
+    Ok(Ending::Done)
+}
+
+// Does what a line says, appends what it prints, and tells how the replay ends by it, if it does.
+fn do_line(
+    alloc: Global,
+    fleet: &mut Fleet,
+    line: &[u8],
+    number: u128,
+    out: &mut Vec<u8>,
+) -> Result<Option<Ending>, NoMemory>
+    ensures { (config : Config) (opening : ℕ) (past : List Step)
+        → IsSettled fleet.old config opening past
+        → IfOk result (LineDid (LineGives config opening past number line.now) fleet.new config
+        opening out.old.items out.new.items) }
+{
+    match meaning_of(alloc, line)? {
+        Meaning::Nothing => Ok(None),
+        Meaning::Does(step) => do_step(alloc, fleet, &step, out),
+        Meaning::BadStep => append_bad(number, b": step\n", out),
+        Meaning::BadHex => append_bad(number, b": hex\n", out),
+        Meaning::Asks => ask(alloc, fleet, line, out),
+    }
+}
+
+fn append_bad(number: u128, fault: &[u8], out: &mut Vec<u8>) -> Result<Option<Ending>, NoMemory>
+    ensures text { OnOk result
+        (out.new.items ≡ out.old.items ++ (codes "script line " ++ decimal number ++ fault.now)) }
+    ensures ended { IfOk result (λ ending. ending ≡ Some Ending.BadScript) }
+{
+    append_text(b"script line ", out)?;
+    append_number(number, out)?;
+    append_text(fault, out)?;
+    Ok(Some(Ending::BadScript))
+}
