@@ -1,4 +1,3 @@
-pub mod ValueLemmas
 pub mod RunLemmas
 pub mod PieceLemmas
 pub mod TrackLemmas
@@ -13,3 +12,4 @@ pub mod HelloLineLemmas
 pub mod CountedLemmas
 pub mod PlanLemmas
 pub mod FactLemmas
+pub mod PlanNowLemmas

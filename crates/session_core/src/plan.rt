@@ -1,5 +1,5 @@
-//! How the values of a table's updates are read: the integers one after the other, and from them the
-//! cells of the configured columns.
+//! How the values of a table's updates are read: the integers one after the other, and from them
+//! the cells of the configured columns.
 
 ghost use Rattle.std.specs.Prelude.{◌≡◌, ◌<◌, ◌≤◌, ◌*◌, length, drop, map, vec_len, IfOk};
 ghost use Rattle.std.specs.Option.{option_map};

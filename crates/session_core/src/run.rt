@@ -25,8 +25,10 @@ pub(crate) fn run(
     ensures { IfOk result (λ end. Ran end track.new facts.old.items facts.new.items
         replies.old.items replies.new.items (run tables.now peer track.old messages.now)) }
 {
+    // The plan of the table in force, once an update was read along it.
+    let mut plan = None;
     for message in messages {
-        match track.step(alloc, tables, peer, message)? {
+        match track.step(alloc, tables, peer, &mut plan, message)? {
             Meaning::Nothing => {}
             Meaning::Confirm => write_message(&Message::Confirm, replies)?,
             Meaning::Partial => write_message(&Message::Partial, replies)?,

@@ -1,14 +1,18 @@
 //! What a session keeps of its sender's tables, and what a message does to it.
 
-ghost use Rattle.std.specs.Prelude.{◌≡◌, ◌≤◌, [], length, position, IfOk, true};
+ghost use Rattle.std.specs.Prelude.{◌≡◌, ◌≤◌, [], length, position, IfOk, IfSome, OnOk, true};
 ghost use Rattle.std.specs.Str.{bytes_eq};
+ghost use Rattle.std.specs.Option.{option_map};
+ghost use Rattle.session_core.specs.Plan.{IsPlan, IsPlanOf, IsPlanNow};
 ghost use Rattle.session_core.specs.Run.{settled};
+ghost use Rattle.session_core.specs.Values.{cells_of, sents_at};
 ghost use Rattle.session_core.specs.Tracked.{is_key_of, followed_at, followed_of, put_of, id_after, place, entry_of, IsStep, defined, switched, updated_under, step_of};
 
 use crate::cause::End;
+use crate::plan::Plan;
 use crate::run::settle;
-use crate::values::{Sent, TYPES, cells_of, key_at, life_of, periods_of, read_sents};
-use agg_types::{Key, KeyKind, NoMemory, Shape, What};
+use crate::values::{TYPES, key_at, life_of, periods_of};
+use agg_types::{Cell, Col, Items, Key, KeyKind, NoMemory, Shape, What};
 use peers_msg::{Definition, Message, WireCause};
 use std::alloc::Global;
 
@@ -113,17 +117,21 @@ fn table_named(tables: &[Shape], name: &[u8]) -> Option<usize>
     tables.iter().position(|shape| shape.name.is(name))
 }
 
-/// The row that an update gives; `None` where its key or a value is cut or too large.
+/// The row that an update gives; `None` where its key or a value is cut or too large. It is read
+/// along the plan of its table, which is made where there is none.
 #[tactic(auto, unfolding(crate::specs::Tracked::put_of))]
 fn put_of(
     alloc: Global,
     tables: &[Shape],
     peer: usize,
     followed: &Followed,
+    plan: &mut Option<Plan>,
     life: Option<u32>,
     bytes: &[u8],
 ) -> Result<Option<What>, NoMemory>
-    ensures { IfOk result (λ put. put ≡ put_of tables.now peer followed.now life bytes.now) }
+    requires { IfSome plan.old (IsPlanOf tables.now followed.now) }
+    ensures put { IfOk result (λ put. put ≡ put_of tables.now peer followed.now life bytes.now) }
+    ensures planned { OnOk result (IfSome plan.new (IsPlanOf tables.now followed.now)) }
 {
     let Some(shape) = tables.get(followed.table) else {
         return Ok(None);
@@ -131,18 +139,40 @@ fn put_of(
     let Some((key, values)) = key_at(shape.kind, bytes) else {
         return Ok(None);
     };
-    let mut sents = [Sent::Absent; TYPES];
-    let Some(()) = read_sents(followed.bits, values, &mut sents) else {
+    let Some(cells) = planned_cells(alloc, followed, shape.cols.as_slice(), plan, values)? else {
         return Ok(None);
     };
-    let cols = shape.cols.as_slice();
     Ok(Some(What::Put {
         peer,
         table: followed.table,
         key: Key::copy(alloc, key)?,
         life: life_of(followed.expiry, life),
-        cells: cells_of(alloc, &sents, &followed.periods, cols)?,
+        cells,
     }))
+}
+
+/// The cells of an update's values, read along the plan.
+fn planned_cells(
+    alloc: Global,
+    followed: &Followed,
+    cols: &[(Col, u32)],
+    plan: &mut Option<Plan>,
+    values: &[u8],
+) -> Result<Option<Items<Cell>>, NoMemory>
+    requires { IfSome plan.old (IsPlan followed.now.bits followed.now.periods cols.now) }
+    ensures cells { IfOk result (λ cells. cells
+        ≡ option_map (λ sents. cells_of sents followed.now.periods cols.now)
+        (sents_at followed.now.bits values.now)) }
+    ensures planned { OnOk result
+        (IfSome plan.new (IsPlan followed.now.bits followed.now.periods cols.now)) }
+{
+    if let Some(plan) = plan {
+        return plan.cells(alloc, values);
+    }
+    let mut made = Plan::new(alloc, followed.bits, &followed.periods, cols)?;
+    let cells = made.cells(alloc, values)?;
+    *plan = Some(made);
+    Ok(cells)
 }
 
 fn id_after(last: u32, id: Option<u32>) -> u32
@@ -216,29 +246,37 @@ impl Track {
         settle(&mut self.entries);
     }
 
-    /// What a message does. After `NoMemory` nothing is said of what is kept.
+    /// What a message does, with the plan of the table in force, where one was made. Nothing is said
+    /// of what is kept after `NoMemory`.
     #[tactic(auto, unfolding(crate::specs::Tracked::step_of))]
     pub(crate) fn step(
         &mut self,
         alloc: Global,
         tables: &[Shape],
         peer: usize,
+        plan: &mut Option<Plan>,
         message: &Message,
     ) -> Result<Meaning, NoMemory>
-        ensures { IfOk result (λ meaning. IsStep self.new meaning
+        requires { IfSome plan.old (IsPlanNow tables.now self.old) }
+        ensures step { IfOk result (λ meaning. IsStep self.new meaning
             (step_of tables.now peer self.old message.now)) }
+        ensures planned { OnOk result (IfSome plan.new (IsPlanNow tables.now self.new)) }
     {
         match message {
             Message::Request => Ok(Meaning::Partial),
             Message::Finished | Message::Partial => Ok(Meaning::Confirm),
             Message::ProtocolError | Message::SizeError => Ok(Meaning::End(End::PeerError)),
             Message::Update { id, life, rest } => {
-                self.update(alloc, tables, peer, *id, *life, rest.as_slice())
+                self.update(alloc, tables, peer, plan, *id, *life, rest.as_slice())
             }
             Message::Define(definition) => {
+                *plan = None;
                 self.define(definition.id, followed_of(tables, definition))
             }
-            Message::Switch(id) => Ok(self.switch(*id)),
+            Message::Switch(id) => {
+                *plan = None;
+                Ok(self.switch(*id))
+            }
             Message::Confirm | Message::Heartbeat | Message::Acked { .. } | Message::Other { .. } =>
                 Ok(Meaning::Nothing),
         }
@@ -298,12 +336,15 @@ impl Track {
         alloc: Global,
         tables: &[Shape],
         peer: usize,
+        plan: &mut Option<Plan>,
         id: Option<u32>,
         life: Option<u32>,
         bytes: &[u8],
     ) -> Result<Meaning, NoMemory>
-        ensures { IfOk result (λ meaning. IsStep self.new meaning
+        requires { IfSome plan.old (IsPlanNow tables.now self.old) }
+        ensures step { IfOk result (λ meaning. IsStep self.new meaning
             (updated_under tables.now peer self.old self.old.current id life bytes.now)) }
+        ensures planned { OnOk result (IfSome plan.new (IsPlanNow tables.now self.new)) }
     {
         let Some(at) = self.current else {
             return Ok(Meaning::Nothing);
@@ -314,7 +355,7 @@ impl Track {
         let Some(followed) = &entry.followed else {
             return Ok(Meaning::Nothing);
         };
-        let Some(put) = put_of(alloc, tables, peer, followed, life, bytes)? else {
+        let Some(put) = put_of(alloc, tables, peer, followed, plan, life, bytes)? else {
             return Ok(Meaning::End(End::Wire(WireCause::BadField)));
         };
         note_update(&mut self.entries[at], id);

@@ -1,0 +1,42 @@
+-- The plan of the table in force, where it is kept over an update.
+use Rattle.std.proofs.Common.{◌≡◌, ℕ, ◌<◌, List, length, Option, Some, None, get_or, get_or-set_same, refl, sym, ap, subst, ◌∙◌, arith}
+use Rattle.std.specs.Prelude.{slice_get, slice_set, IfSome}
+use Rattle.std.proofs.lemmas.List.{length-set}
+use Rattle.std.proofs.lemmas.Option.{slice_get_read}
+use Rattle.agg_types.specs.declared.config.Shape.{Shape}
+use Rattle.session_core.specs.declared.plan.Plan.{Plan}
+use Rattle.session_core.specs.declared.track.Entry.{Entry}
+use Rattle.session_core.specs.declared.track.Followed.{Followed}
+use Rattle.session_core.specs.Plan.{IsPlanNow, IsPlanOf, followed_now}
+use Rattle.session_core.specs.Tracked.{Tracked, put_of, updated_by, updated_entry, updated_under}
+use Rattle.session_core.proofs.FitLemmas.{some_same}
+
+-- what is kept, from its parts
+abbrev pub track_of : List Entry → Option ℕ → Tracked
+track_of entries current = record { entries = entries; current = current }
+
+pub now_is : (t : Tracked) (inside xs : List Entry) (current : Option ℕ) (at : ℕ) (entry : Entry) (followed : Followed) → track_of inside current ≡ t → xs ≡ inside → current ≡ Some at → slice_get xs at ≡ Some entry → entry.followed ≡ Some followed → followed_now t ≡ Some followed
+now_is t inside xs current at entry followed view same cur get is =
+    subst (λ (s : Tracked). followed_now s ≡ Some followed) view (rw (cur, ← same, get) is)
+
+pub plan_of_now : (plan : Option Plan) (tables : List Shape) (t : Tracked) (followed : Followed) → followed_now t ≡ Some followed → IfSome plan (IsPlanNow tables t) → IfSome plan (IsPlanOf tables followed)
+plan_of_now None tables t followed is h = tt
+plan_of_now (Some plan) tables t followed is h = h followed is
+
+pub plan_now_of : (plan : Option Plan) (tables : List Shape) (t : Tracked) (followed : Followed) → followed_now t ≡ Some followed → IfSome plan (IsPlanOf tables followed) → IfSome plan (IsPlanNow tables t)
+plan_now_of None tables t followed is h = tt
+plan_now_of (Some plan) tables t followed is h = λ other e. subst (λ (f : Followed). IsPlanOf tables f plan) (some_same (sym is ∙ e)) h
+
+pub under_is : (tables : List Shape) (peer : ℕ) (t : Tracked) (inside xs : List Entry) (current : Option ℕ) (at : ℕ) (entry : Entry) (followed : Followed) (id life : Option ℕ) (bytes : List ℕ) → track_of inside current ≡ t → xs ≡ inside → current ≡ Some at → slice_get xs at ≡ Some entry → entry.followed ≡ Some followed → updated_under tables peer t t.current id life bytes ≡ updated_by t at entry id (put_of tables peer followed life bytes)
+under_is tables peer t inside xs current at entry followed id life bytes view same cur get is =
+    subst (λ (s : Tracked). updated_under tables peer s s.current id life bytes ≡ updated_by s at entry id (put_of tables peer followed life bytes)) view (rw (cur, ← same, get, is) refl)
+
+pub new_is : (t : Tracked) (inside : List Entry) (current : Option ℕ) (at : ℕ) (entry new : Entry) (id : Option ℕ) → track_of inside current ≡ t → new ≡ updated_entry entry id → track_of (slice_set inside at new) current ≡ track_of (slice_set t.entries at (updated_entry entry id)) t.current
+new_is t inside current at entry new id view is =
+    subst (λ (s : Tracked). track_of (slice_set inside at new) current ≡ track_of (slice_set s.entries at (updated_entry entry id)) s.current) view (ap (λ (e : Entry). track_of (slice_set inside at e) current) is)
+
+pub new_now : (inside : List Entry) (current : Option ℕ) (at : ℕ) (new : Entry) (followed : Followed) → current ≡ Some at → at < length inside → new.followed ≡ Some followed → followed_now (track_of (slice_set inside at new) current) ≡ Some followed
+new_now inside current at new followed cur lt is =
+    let len : length inside ≡ length (slice_set inside at new) = sym (length-set inside at new) in
+    let get : slice_get (slice_set inside at new) at ≡ Some new = slice_get_read (slice_set inside at new) (length inside) at new len lt (sym (get_or-set_same inside at new new lt)) in
+    rw (cur, get) is
