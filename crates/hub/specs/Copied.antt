@@ -1,0 +1,51 @@
+-- The copies of the book that readers enter, and what readers are told.
+use Rattle.std.specs.Prelude.{◌≡◌, ℕ, List, Option, None, Some, fold}
+use mathlib.Core.Option.{some}
+use lib.ListN.{get_elem?}
+use Rattle.agg_types.specs.declared.event.Event.{Event}
+use Rattle.fleet_model.specs.Machine.{after}
+use Rattle.fleet_model.specs.State.{Stands, State, state_of}
+use Rattle.hub.specs.History.{Beginning}
+
+-- a state, and the beginning whose events came with it
+pub record Copied : Type 0 where
+  pub at : Beginning
+  pub state : State
+
+-- an event on its way into a copy, and the beginning that it ends
+pub record Brought : Type 0 where
+  pub event : Event
+  pub at : Beginning
+
+-- a copy after one event more
+abbrev pub taken : Copied → Brought → Copied
+taken x brought = record { at = brought.at; state = after x.state brought.event }
+
+abbrev pub all_taken : Copied → List Brought → Copied
+all_taken x brought = fold taken x brought
+
+-- the copy that has taken exactly a beginning
+abbrev pub whole : Beginning → Copied
+whole b = record { at = b; state = state_of b.config b.opening b.events }
+
+-- a copy is what recomputing from all its events gives
+abbrev pub IsWhole : Copied → Type 0
+IsWhole x = Stands x.state x.at.config x.at.opening x.at.events
+
+-- who was told of a log reads that log
+abbrev pub Fits : Copied → Option Beginning → Type 0
+Fits x None = Unit {0}
+Fits x (Some told) = told.of ≡ x.at.of
+
+-- the copy is whole, and of the log that each was told of
+abbrev pub Keeps : Copied → List (Option Beginning) → Type 0
+Keeps x views = IsWhole x
+    × ((seat : ℕ) (v : Option Beginning) → get_elem? views seat ≡ some v → Fits x v)
+
+-- the copy y was found or shown, and is known from then on
+abbrev pub Sees : Option Beginning → Copied → Copied → Option Beginning → Type 0
+Sees v x y w = IsWhole y × Fits y v × (w ≡ Some y.at)
+
+-- what was put behind the queue brings a copy from one beginning to another
+abbrev pub Stores : List Brought → Beginning → List Brought → Beginning → Type 0
+Stores queue b later b' = (x : Copied) → all_taken x queue ≡ whole b → all_taken x later ≡ whole b'

@@ -1,0 +1,10 @@
+pub mod History
+pub mod Law
+pub mod Copied
+pub mod Roll
+pub mod Posts
+pub mod Kept
+pub mod Keeping
+pub mod Views
+pub mod Looking
+pub mod Hosting

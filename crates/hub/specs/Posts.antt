@@ -1,0 +1,103 @@
+-- What a post tells: which list its receipt shows, and what a refusal leaves.
+use Rattle.std.specs.Prelude.{◌≡◌, ◌≢◌, ℕ, ◌+◌, ◌-◌, ◌<◌, ◌^◌, List, [], ◌∷◌, length, Bool, true, false, ◌&&◌, ◌==◌, not, ◌++◌}
+use Rattle.std.specs.List.{list_any}
+use mathlib.Core.List.{IsPrefix}
+use Rattle.agg_types.specs.declared.event.Event.{Event}
+use Rattle.agg_types.specs.declared.event.What.{What}
+use Rattle.agg_types.specs.declared.event.What.TheVariants.{Sit, Open, Put, Clear, AddFilter, Moment, Leave}
+use Rattle.fleet_model.specs.Laws.{opens_at}
+use Rattle.fleet_model.specs.Rows.{putter}
+use Rattle.fleet_model.specs.Seats.{is_number}
+use Rattle.fleet_model.specs.Sessions.{last_opener}
+use Rattle.hub.specs.declared.faults.PostFault.{PostFault}
+use Rattle.hub.specs.declared.faults.PostFault.TheVariants.{Replaced, NotNext, NoMemory, Pending, Spent}
+use Rattle.hub.specs.History.{AllCount, Beginning, longer_by, made, own}
+
+-- a seat, the number of its next event, and the list that it has seen
+pub record Seated : Type 0 where
+  pub seat : ℕ
+  pub number : ℕ
+  pub seen : Beginning
+
+-- a later list of the same history
+pub record Follows (some later : Beginning) : Type 0 where
+  pub same : later ≡ record some { events = later.events }
+  pub events : IsPrefix some.events later.events
+
+abbrev pub is_put : What → Bool
+is_put Sit = false
+is_put (Open peer) = false
+is_put (Put peer table key life cells) = true
+is_put (Clear table sel) = false
+is_put (AddFilter filter) = false
+is_put (Moment moment) = false
+is_put Leave = false
+
+-- The batch stands at the end of the list, in order and with the seat's next numbers. Before it
+-- stand all that the pass had seen, and as many events of its seat as its number says. All events
+-- of the list count.
+pub record ShowsBatch (p : Seated) (whats : List What) (shown : Beginning) : Type 0 where
+  pub before : Beginning
+  pub seen : Follows p.seen before
+  pub owns : length (own p.seat before.events) ≡ p.number
+  pub posted : shown ≡ longer_by before (made p.seat p.number whats)
+  pub legal : AllCount shown.config shown.opening shown.events
+
+-- the batch is shown, and the pass has seen the list and goes on behind it
+abbrev pub PostsAfter : Seated → Seated → List What → Beginning → Type 0
+PostsAfter p p' whats shown =
+    ShowsBatch p whats shown
+    × (p' ≡ record { seat = p.seat; number = p.number + length whats; seen = shown })
+
+-- the history has another number of events of the seat than the pass says
+pub record IsNotNext (p : Seated) (found : ℕ) (shown : Beginning) : Type 0 where
+  pub seen : Follows p.seen shown
+  pub owns : length (own p.seat shown.events) ≡ found
+  pub other : found ≢ p.number
+
+-- a seat opened a peer that another seat opened later
+abbrev pub is_replaced : ℕ → ℕ → List Event → ℕ → Bool
+is_replaced seat by events peer =
+    list_any (opens_at seat peer) events && is_number (last_opener peer events) by
+    && not (by == seat)
+
+-- some posted Put is of such a peer, at its place behind the list
+pub record IsReplaced (p : Seated) (whats : List What) (by : ℕ) (shown : Beginning) : Type 0 where
+  pub seen : Follows p.seen shown
+  pub first : List What
+  pub put : What
+  pub later : List What
+  pub split : whats ≡ first ++ put ∷ later
+  pub puts : is_put put ≡ true
+  pub replaced : is_replaced p.seat by (shown.events ++ made p.seat p.number first) (putter put)
+      ≡ true
+
+-- the pass after its batch was stored, and not shown yet
+abbrev pub advanced : Seated → ℕ → Seated
+advanced p count = record p { number = p.number + count }
+
+-- the numbers of a seat don't go as far
+abbrev pub IsSpent : Seated → List What → Type 0
+IsSpent p whats = 2 ^ 62 - 1 < p.number + length whats
+
+-- the pass after a refusal, and what it tells
+abbrev pub PostRefused : Seated → Seated → List What → PostFault → Type 0
+PostRefused p p' whats (Replaced by shown) = (p' ≡ p) × IsReplaced p whats by shown
+PostRefused p p' whats (NotNext found shown) = (p' ≡ p) × IsNotNext p found shown
+PostRefused p p' whats (NoMemory back) = (p' ≡ p) × (back.items ≡ whats)
+PostRefused p p' whats Pending = p' ≡ advanced p (length whats)
+PostRefused p p' whats Spent = (p' ≡ p) × IsSpent p whats
+
+-- a pass that came back, and why
+abbrev pub LeaveRefused : Seated → Seated → PostFault → Type 0
+LeaveRefused p p' (Replaced by shown) = ⊥
+LeaveRefused p p' (NotNext found shown) = (p' ≡ p) × IsNotNext p found shown
+LeaveRefused p p' (NoMemory back) = (p' ≡ p) × (back.items ≡ [])
+LeaveRefused p p' Pending = ⊥
+LeaveRefused p p' Spent = ⊥
+
+-- a seat that sat down: its own events are that alone, and its next number is 1
+pub record SitsDown (p : Seated) : Type 0 where
+  pub number : p.number ≡ 1
+  pub own_is : own p.seat p.seen.events ≡ made p.seat 0 (Sit ∷ [])
+  pub legal : AllCount p.seen.config p.seen.opening p.seen.events

@@ -1,0 +1,75 @@
+//! The side of the two copies that writes.
+
+ghost use Rattle.std.specs.Prelude.{◌≡◌, ◌++◌, drop, true, [], Some, MatchResult};
+ghost use Rattle.left_right.specs.Sides.{view};
+ghost use Rattle.hub.specs.Copied.{all_taken, whole};
+
+use crate::copies::{Op, Published, Shown, Sight};
+use crate::log::Front;
+use left_right::reader::Reader;
+use left_right::writer::Writer;
+use std::alloc::AllocError;
+use std::collections::VecDeque;
+use std::sync::Wait;
+
+pub type HubWriter = Writer<Shown, Op, Option<Front>, Published>;
+
+pub type HubReader = Reader<Shown, Option<Front>, Published>;
+
+/// A writer with the handle by which its drop waits for readers.
+pub struct Hand<R: Wait + Drop> {
+    pub writer: HubWriter,
+    pub own: R,
+}
+
+impl<R: Wait + Drop> Drop for Hand<R> {
+    fn drop(self) {
+        let Hand { writer, own } = self;
+        writer.take(&own);
+    }
+}
+
+impl<R: Wait + Drop> Hand<R> {
+    pub fn open(self) -> (HubWriter, R)
+        ensures { result.0 ≡ self.writer }
+    {
+        let Hand { writer, own } = self;
+        (writer, own)
+    }
+}
+
+/// Hands events to the writer, in order, and says whether it took all.
+pub fn hand_over(writer: &mut HubWriter, queue: &mut VecDeque<Op>) -> bool
+    ensures desk { writer.new.desk ≡ writer.old.desk }
+    ensures kept { drop writer.new.behind writer.new.log.items ++ queue.new.items
+        ≡ drop writer.old.behind writer.old.log.items ++ queue.old.items }
+    ensures done { result ≡ true → queue.new.items ≡ [] }
+{
+    while let Some(op) = queue.pop_front() {
+        if let Err(op) = writer.append(op) {
+            queue.push_front_reserved(op);
+            return false;
+        }
+    }
+    true
+}
+
+/// Shows readers a copy that has taken all that this beginning has.
+pub fn show<W: Wait>(
+    rt: &W,
+    writer: HubWriter,
+    front: &Front,
+) -> (HubWriter, Result<(), AllocError>)
+    requires brings { all_taken writer.desk.shown.value (drop writer.behind writer.log.items)
+        ≡ whole front.now }
+    requires named { writer.desk.shown.value.at.of ≡ front.now.of }
+    ensures { MatchResult result.1
+        (λ _. (result.0.desk.shown.value ≡ whole front.now)
+        × (drop result.0.behind result.0.log.items ≡ [])
+        × (view result.0.desk.place ≡ Some front.now))
+        (λ _. (result.0.desk.shown.value ≡ writer.desk.shown.value)
+        × (drop result.0.behind result.0.log.items ≡ drop writer.behind writer.log.items)
+        × (view result.0.desk.place ≡ view writer.desk.place)) }
+{
+    writer.publish_as::<Sight, W>(rt)
+}

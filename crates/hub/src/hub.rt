@@ -1,0 +1,235 @@
+//! The hub: one lock, one history, and lenses that take no lock.
+
+ghost use Rattle.std.specs.Prelude.{◌≡◌, ◌<◌, ◌≤◌, ◌^◌, [], ◌∷◌, true, false, IfOk, IfSome, OnOk, MatchResult};
+ghost use Rattle.std.specs.List.{All};
+ghost use Rattle.agg_types.specs.Check.{config_faults};
+ghost use Rattle.agg_types.specs.declared.event.What.TheVariants.{Leave};
+ghost use Rattle.hub.specs.Hosting.{IsOpening};
+ghost use Rattle.hub.specs.Posts.{Follows, LeaveRefused, PostRefused, PostsAfter, ShowsBatch, SitsDown};
+ghost use Rattle.hub.specs.Roll.{MayPost};
+
+use crate::faults::{LensFault, PostFault, SeatFault};
+use crate::keeper::Keeper;
+use crate::lens::Lens;
+use crate::log::{Front, Log};
+use crate::naming::Naming;
+use crate::pass::Pass;
+use crate::receipt::Receipt;
+use crate::store::hang;
+use agg_types::{Config, NoMemory, What};
+use plain_book::Book;
+use std::alloc::Global;
+use std::marker::Model;
+use std::sync::{Mutex, Wait};
+
+/// A fleet that was just opened: its log, whose name a `Naming` takes up, and both copies of its
+/// book.
+#[derive(Drop)]
+pub struct Opening {
+    first: Book,
+    second: Book,
+    config: Config,
+    log: Log,
+    start: Front,
+}
+
+impl Model for Opening {
+    ghost use Rattle.std.specs.Prelude.{◌≡◌, []};
+    ghost use Rattle.fleet_model.specs.Machine.{opened};
+    ghost use Rattle.hub.specs.History.{Beginning};
+
+    ghost Value = { Beginning };
+
+    ghost view = { λ o. o.start };
+
+    ghost invariant = { λ o. (o.first ≡ opened o.start.config o.start.opening)
+        × (o.second ≡ opened o.start.config o.start.opening)
+        × (o.config ≡ o.start.config) × (o.log ≡ o.start.of) × (o.start.events ≡ []) };
+}
+
+impl Opening {
+    /// A fleet of this configuration, at its opening moment, in ms.
+    #[tactic(auto, unfolding(fleet_model::specs::Machine::opened))]
+    pub fn new(alloc: Global, config: Config, moment: u64) -> Result<Opening, NoMemory>
+        requires checked { config_faults config ≡ [] }
+        requires in_range { moment ≤ 2 ^ 62 }
+        ensures { IfOk result (IsOpening config moment) }
+    {
+        let first = Book::new(alloc, config.duplicate(alloc)?, moment)?;
+        let second = Book::new(alloc, config.duplicate(alloc)?, moment)?;
+        let (log, start) = Log::open(&first);
+        Ok(Opening {
+            first,
+            second,
+            config,
+            log,
+            start,
+        })
+    }
+}
+
+/// What threads share. Contracts see the beginning of its history: its log, configuration and
+/// opening moment.
+#[derive(Drop)]
+pub struct Hub<J: Naming, R: Wait + Drop> {
+    alloc: Global,
+    config: Config,
+    log: Log,
+    start: Front,
+    keeper: Mutex<Option<Keeper<J, R>>>,
+}
+
+impl<J: Naming, R: Wait + Drop> Model for Hub<J, R> {
+    ghost use Rattle.std.specs.Prelude.{◌≡◌, []};
+    ghost use Rattle.hub.specs.History.{Beginning};
+
+    ghost Value = { Beginning };
+
+    ghost view = { λ h. h.start };
+
+    ghost invariant = { λ h. (h.config ≡ h.start.config) × (h.log ≡ h.start.of)
+        × (h.start.of ≡ J.book) × (h.start.events ≡ []) };
+}
+
+impl<J: Naming, R: Wait + Drop> Hub<J, R> {
+    /// A hub with places for so many lenses, 1 to 1,000. Dropping it waits for looks that last.
+    pub fn new(
+        alloc: Global,
+        own: R,
+        opening: Opening,
+        places: usize,
+    ) -> Result<Hub<J, R>, NoMemory>
+        requires named { opening.of ≡ J.book }
+        requires places { (0 < places) × (places ≤ 1000) }
+        ensures { IfOk result (λ h. h ≡ opening) }
+    {
+        let Opening {
+            first,
+            second,
+            config,
+            log,
+            start,
+        } = opening;
+        let keeper = Keeper::new(alloc, own, first, second, start.again(), places)?;
+        Ok(Hub {
+            alloc,
+            config,
+            log,
+            start,
+            keeper: Mutex::new(Some(keeper)),
+        })
+    }
+
+    /// The configuration that the fleet was opened with. Takes no memory and no lock.
+    pub fn config(&self) -> &Config
+        ensures { result.now ≡ self.now.config }
+    {
+        &self.config
+    }
+
+    /// Whether a batch may be posted: each of it fits the configuration, and none is a Sit or a
+    /// Leave. Takes no memory and no lock.
+    pub fn allows(&self, whats: &[What]) -> bool
+        ensures { result ≡ true → All (MayPost self.now.config) whats.now }
+    {
+        for what in whats {
+            if !may_post(&self.config, what) {
+                return false;
+            }
+        }
+        true
+    }
+
+    // What a pass of this hub has seen is of the hub's fleet.
+    fn know<W: Wait>(&self, rt: &W, pass: &Pass)
+        requires { pass.now.seen.of ≡ self.now.of }
+        ensures { Follows self.now pass.now.seen }
+    {
+        if !self.start.compare(pass.front()) {
+            hang(rt);
+        }
+    }
+
+    /// Takes a seat. Seats are numbered from 0, each number is given once, and at most 512 sit at a
+    /// time.
+    pub fn seat<W: Wait>(&self, rt: &W) -> Result<Pass, SeatFault>
+        ensures { IfOk result (λ p. SitsDown p × Follows self.now p.seen) }
+    {
+        let mut guard = self.keeper.lock(rt);
+        let Some(keeper) = guard.take() else {
+            hang(rt);
+            unreachable!()
+        };
+        let (keeper, answer) = keeper.seat(rt, &self.log);
+        *guard = Some(keeper);
+        let pass = answer?;
+        self.know(rt, &pass);
+        Ok(pass)
+    }
+
+    /// Adds a batch to the history as one, and shows it.
+    pub fn post<W: Wait>(
+        &self,
+        rt: &W,
+        pass: &mut Pass,
+        whats: Vec<What>,
+    ) -> Result<Receipt, PostFault>
+        requires pass { pass.old.seen.of ≡ self.now.of }
+        requires fits { All (MayPost self.now.config) whats.items }
+        ensures { MatchResult result (PostsAfter pass.old pass.new whats.items)
+            (PostRefused pass.old pass.new whats.items) }
+    {
+        self.know(rt, pass);
+        let mut guard = self.keeper.lock(rt);
+        let Some(keeper) = guard.take() else {
+            hang(rt);
+            unreachable!()
+        };
+        let (keeper, answer) = keeper.post(rt, &self.log, pass, whats);
+        *guard = Some(keeper);
+        answer
+    }
+
+    /// A seat leaves for good. None where that is stored and not shown yet. A refusal gives the
+    /// pass back.
+    pub fn leave<W: Wait>(&self, rt: &W, pass: Pass) -> Result<Option<Receipt>, (Pass, PostFault)>
+        requires { pass.seen.of ≡ self.now.of }
+        ensures { MatchResult result (λ r. IfSome r (ShowsBatch pass (Leave ∷ [])))
+            (λ refused. LeaveRefused pass refused.0 refused.1) }
+    {
+        let mut guard = self.keeper.lock(rt);
+        let Some(keeper) = guard.take() else {
+            hang(rt);
+            unreachable!()
+        };
+        let (keeper, answer) = keeper.leave(rt, self.alloc, &self.log, pass);
+        *guard = Some(keeper);
+        answer
+    }
+
+    /// A lens, which has seen nothing yet.
+    pub fn lens<W: Wait>(&self, rt: &W) -> Result<Lens, LensFault>
+        ensures { IfOk result (λ l. l ≡ record { seen = self.now; inside = false }) }
+    {
+        let mut guard = self.keeper.lock(rt);
+        let Some(keeper) = guard.take() else {
+            hang(rt);
+            unreachable!()
+        };
+        let (keeper, reader) = keeper.reader();
+        *guard = Some(keeper);
+        match reader {
+            None => Err(LensFault::NoPlace),
+            Some(reader) => Ok(Lens::new(reader, self.start.again())),
+        }
+    }
+}
+
+fn may_post(config: &Config, what: &What) -> bool
+    ensures { result ≡ true → MayPost config.now what.now }
+{
+    match what {
+        What::Sit | What::Leave => false,
+        _ => config.fits(what),
+    }
+}

@@ -1,0 +1,456 @@
+//! What lies under the lock: the whole history, and what readers don't see of it yet.
+
+ghost use Rattle.std.specs.Prelude.{◌≡◌, ◌<◌, ◌≤◌, ◌+◌, ◌^◌, ◌++◌, [], drop, length, nat_lt, Some, true, if◌then◌else◌, vec_len, ◌∷◌, IfOk, IfSome, MatchOption, MatchResult};
+ghost use mathlib.Core.List.{IsPrefix};
+ghost use Rattle.std.specs.BTreeMap.{is_at};
+ghost use Rattle.std.specs.List.{All};
+ghost use Rattle.std.specs.Map.{lookup};
+ghost use Rattle.std.specs.Ordering.{nat_cmp};
+ghost use Rattle.hub.specs.History.{AllCount, longer_by, made, own};
+ghost use Rattle.left_right.specs.Sides.{view};
+ghost use Rattle.agg_types.specs.declared.event.What.TheVariants.{Leave};
+ghost use Rattle.fleet_model.specs.Machine.{opened};
+ghost use Rattle.fleet_model.specs.Seats.{most_seats};
+ghost use Rattle.hub.specs.Copied.{whole};
+ghost use Rattle.hub.specs.Kept.{IsTold};
+ghost use Rattle.hub.specs.Keeping.{AddsBatch, IsShownAll, KeepsAtErr, KeepsAtOk, SitsDownIn};
+ghost use Rattle.hub.specs.Posts.{Follows, LeaveRefused, PostRefused, PostsAfter, ShowsBatch};
+ghost use Rattle.hub.specs.Roll.{MayPost};
+
+use crate::copies::{Note, Op, Shown};
+use crate::faults::{PostFault, SeatFault};
+use crate::hand::{Hand, HubReader, HubWriter, hand_over, show};
+use crate::log::{Front, Log};
+use crate::naming::Naming;
+use crate::pass::Pass;
+use crate::receipt::Receipt;
+use crate::roll::Roll;
+use crate::store::{hang, store, store_all};
+use agg_types::{Event, NoMemory, What};
+use left_right::writer::Writer;
+use plain_book::Book;
+use std::alloc::Global;
+use std::collections::VecDeque;
+use std::marker::{Model, PhantomData};
+use std::sync::Wait;
+
+/// The greatest number of an event.
+const LAST_NUMBER: u64 = (1 << 62) - 1;
+
+#[derive(Drop)]
+pub struct Keeper<J: Naming, R: Wait + Drop> {
+    hand: Hand<R>,
+    front: Front,
+    queue: VecDeque<Op>,
+    roll: Roll,
+    of: PhantomData<J>,
+}
+
+impl<J: Naming, R: Wait + Drop> Model for Keeper<J, R> {
+    ghost use Rattle.std.specs.Prelude.{drop};
+    ghost use Rattle.left_right.specs.Sides.{view as view_of};
+    ghost use Rattle.hub.specs.Kept.{IsHeld, Kept};
+
+    ghost Value = { Kept };
+
+    ghost view = { λ k.
+        record { all = k.front; shown = k.hand.writer.desk.shown.value; roll = k.roll } };
+
+    ghost invariant = { λ k. IsHeld J.book k.hand.writer.desk.shown.value
+        (view_of k.hand.writer.desk.place) (drop k.hand.writer.behind k.hand.writer.log.items)
+        k.queue.items k.front k.roll };
+}
+
+impl<J: Naming, R: Wait + Drop> Keeper<J, R> {
+    /// How many events of its seat the history has. It begins with all that the pass has seen.
+    pub fn count_of<W: Wait>(&self, rt: &W, pass: &Pass) -> u64
+        requires { pass.now.seen.of ≡ J.book }
+        ensures follows { Follows pass.now.seen self.now.all }
+        ensures owns { length (own pass.now.seat self.now.all.events) ≡ result }
+        ensures due { lookup (is_at (nat_cmp pass.now.seat)) self.now.roll.seats ≡ Some result }
+    {
+        if !pass.front().compare(&self.front) {
+            hang(rt);
+        }
+        let _all = self.front.len();
+        match self.roll.number_of(pass.seat()) {
+            None => {
+                hang(rt);
+                unreachable!()
+            }
+            Some(found) => found,
+        }
+    }
+
+    /// Shows readers the whole history, if there is memory for it.
+    pub fn flush<W: Wait>(self, rt: &W) -> (Keeper<J, R>, bool)
+        ensures all { (result.0.all ≡ self.all) × (result.0.roll ≡ self.roll) }
+        ensures shown { result.0.shown ≡ (if result.1 then whole self.all else self.shown) }
+    {
+        let Keeper {
+            hand,
+            front,
+            mut queue,
+            roll,
+            of: _,
+        } = self;
+        let (mut writer, own) = hand.open();
+        if !hand_over(&mut writer, &mut queue) {
+            let keeper = Keeper {
+                hand: Hand { writer, own },
+                front,
+                queue,
+                roll,
+                of: PhantomData,
+            };
+            return (keeper, false);
+        }
+        let (writer, shown) = show(rt, writer, &front);
+        let hand = Hand { writer, own };
+        match shown {
+            Ok(()) => {
+                let keeper = Keeper {
+                    hand,
+                    front,
+                    queue,
+                    roll,
+                    of: PhantomData,
+                };
+                (keeper, true)
+            }
+            Err(_) => {
+                let keeper = Keeper {
+                    hand,
+                    front,
+                    queue,
+                    roll,
+                    of: PhantomData,
+                };
+                (keeper, false)
+            }
+        }
+    }
+
+    /// Stores what a seat posts, or hands it back where there is no memory for all of it.
+    pub fn add<W: Wait>(
+        self,
+        rt: &W,
+        log: &Log,
+        seat: u64,
+        number: u64,
+        whats: Vec<What>,
+    ) -> (Keeper<J, R>, Result<(), Vec<What>>)
+        requires log { log.now ≡ J.book }
+        requires fits { All (MayPost self.all.config) whats.items }
+        requires due { lookup (is_at (nat_cmp seat)) self.roll.seats ≡ Some number }
+        requires last { number + vec_len whats < 2 ^ 62 }
+        ensures shown { result.0.shown ≡ self.shown }
+        ensures all { MatchResult result.1
+            (λ _. result.0.all ≡ longer_by self.all (made seat number whats.items))
+            (λ back. (back ≡ whats) × (result.0.all ≡ self.all)) }
+    {
+        let Keeper {
+            hand,
+            mut front,
+            mut queue,
+            mut roll,
+            of: _,
+        } = self;
+        if queue.reserve(whats.len()).is_err() {
+            let keeper = Keeper {
+                hand,
+                front,
+                queue,
+                roll,
+                of: PhantomData,
+            };
+            return (keeper, Err(whats));
+        }
+        store_all(
+            rt, log, &mut front, &mut queue, &mut roll, seat, number, whats,
+        );
+        let keeper = Keeper {
+            hand,
+            front,
+            queue,
+            roll,
+            of: PhantomData,
+        };
+        (keeper, Ok(()))
+    }
+
+    /// The whole history.
+    pub fn receipt(&self) -> Receipt
+        ensures all { result ≡ self.now.all }
+        ensures legal { AllCount result.config result.opening result.events }
+    {
+        let _count = self.front.len();
+        Receipt::of(self.front.again())
+    }
+
+    /// Adds a batch to the history, and shows it.
+    pub fn post<W: Wait>(
+        self,
+        rt: &W,
+        log: &Log,
+        pass: &mut Pass,
+        whats: Vec<What>,
+    ) -> (Keeper<J, R>, Result<Receipt, PostFault>)
+        requires log { log.now ≡ J.book }
+        requires pass { pass.old.seen.of ≡ J.book }
+        requires fits { All (MayPost pass.old.seen.config) whats.items }
+        ensures kept { MatchResult result.1 (KeepsAtOk self result.0 pass.old whats.items)
+            (KeepsAtErr self result.0 pass.old whats.items) }
+        ensures told { MatchResult result.1 (PostsAfter pass.old pass.new whats.items)
+            (PostRefused pass.old pass.new whats.items) }
+    {
+        let found = self.count_of(rt, pass);
+        if found != pass.number() {
+            let (keeper, shown) = self.flush(rt);
+            if !shown {
+                return (keeper, Err(PostFault::NoMemory(whats)));
+            }
+            let shown = keeper.receipt();
+            return (keeper, Err(PostFault::NotNext { found, shown }));
+        }
+        let count = whats.len() as u64;
+        if found > LAST_NUMBER || count > LAST_NUMBER - found {
+            return (self, Err(PostFault::Spent));
+        }
+        let (keeper, added) = self.add(rt, log, pass.seat(), found, whats);
+        if let Err(whats) = added {
+            return (keeper, Err(PostFault::NoMemory(whats)));
+        }
+        pass.advance(found + count);
+        let (keeper, shown) = keeper.flush(rt);
+        if !shown {
+            return (keeper, Err(PostFault::Pending));
+        }
+        let receipt = keeper.receipt();
+        pass.see(receipt.front().again());
+        (keeper, Ok(receipt))
+    }
+
+    /// The next seat sits down. Nothing is shown yet.
+    pub fn seat<W: Wait>(self, rt: &W, log: &Log) -> (Keeper<J, R>, Result<Pass, SeatFault>)
+        requires { log.now ≡ J.book }
+        ensures shown { result.0.shown ≡ self.shown }
+        ensures pass { MatchResult result.1 (SitsDownIn self result.0 J.book)
+            (λ _. result.0.all ≡ self.all) }
+    {
+        if !self.roll.has_free_seat() {
+            return (self, Err(SeatFault::NoSeat));
+        }
+        self.sit_down(rt, log)
+    }
+
+    fn sit_down<W: Wait>(self, rt: &W, log: &Log) -> (Keeper<J, R>, Result<Pass, SeatFault>)
+        requires log { log.now ≡ J.book }
+        requires free { nat_lt (length self.roll.seats) most_seats ≡ true }
+        requires small { self.roll.next_seat ≤ 2 ^ 62 }
+        ensures shown { result.0.shown ≡ self.shown }
+        ensures pass { MatchResult result.1 (SitsDownIn self result.0 J.book)
+            (λ _. result.0.all ≡ self.all) }
+    {
+        let Keeper {
+            hand,
+            mut front,
+            mut queue,
+            mut roll,
+            of: _,
+        } = self;
+        let seat = roll.next_seat();
+        let _count = front.len();
+        let Ok(()) = queue.reserve(1) else {
+            let keeper = Keeper {
+                hand,
+                front,
+                queue,
+                roll,
+                of: PhantomData,
+            };
+            return (keeper, Err(SeatFault::NoMemory));
+        };
+        let Ok(()) = roll.sit() else {
+            let keeper = Keeper {
+                hand,
+                front,
+                queue,
+                roll,
+                of: PhantomData,
+            };
+            return (keeper, Err(SeatFault::NoMemory));
+        };
+        let event = Event {
+            seat,
+            seq: 0,
+            what: What::Sit,
+        };
+        store(rt, log, &mut front, &mut queue, event);
+        let pass = Pass::new(seat, front.again());
+        let keeper = Keeper {
+            hand,
+            front,
+            queue,
+            roll,
+            of: PhantomData,
+        };
+        (keeper, Ok(pass))
+    }
+
+    /// Stores that a seat leaves, or says that there is no memory for it.
+    fn stand_up<W: Wait>(self, rt: &W, log: &Log, seat: u64, number: u64) -> (Keeper<J, R>, bool)
+        requires log { log.now ≡ J.book }
+        requires due { lookup (is_at (nat_cmp seat)) self.roll.seats ≡ Some number }
+        requires small { number < 2 ^ 62 }
+        ensures shown { result.0.shown ≡ self.shown }
+        ensures all { result.0.all
+            ≡ (if result.1 then longer_by self.all (made seat number (Leave ∷ [])) else self.all) }
+    {
+        let Keeper {
+            hand,
+            mut front,
+            mut queue,
+            mut roll,
+            of: _,
+        } = self;
+        let Ok(()) = queue.reserve(1) else {
+            let keeper = Keeper {
+                hand,
+                front,
+                queue,
+                roll,
+                of: PhantomData,
+            };
+            return (keeper, false);
+        };
+        roll.leave(seat);
+        let event = Event {
+            seat,
+            seq: number,
+            what: What::Leave,
+        };
+        store(rt, log, &mut front, &mut queue, event);
+        let keeper = Keeper {
+            hand,
+            front,
+            queue,
+            roll,
+            of: PhantomData,
+        };
+        (keeper, true)
+    }
+
+    /// A seat leaves for good.
+    pub fn leave<W: Wait>(
+        self,
+        rt: &W,
+        alloc: Global,
+        log: &Log,
+        pass: Pass,
+    ) -> (Keeper<J, R>, Result<Option<Receipt>, (Pass, PostFault)>)
+        requires log { log.now ≡ J.book }
+        requires pass { pass.seen.of ≡ J.book }
+        ensures kept { MatchResult result.1
+            (λ r. MatchOption r
+            (AddsBatch self result.0 pass (Leave ∷ []) × (result.0.shown ≡ self.shown))
+            (KeepsAtOk self result.0 pass (Leave ∷ [])))
+            (λ refused. KeepsAtErr self result.0 pass (Leave ∷ []) refused.1) }
+        ensures told { MatchResult result.1 (λ r. IfSome r (ShowsBatch pass (Leave ∷ [])))
+            (λ refused. LeaveRefused pass refused.0 refused.1) }
+    {
+        let found = self.count_of(rt, &pass);
+        if found != pass.number() {
+            let (keeper, shown) = self.flush(rt);
+            if !shown {
+                return (keeper, Err((pass, PostFault::NoMemory(Vec::new(alloc)))));
+            }
+            let shown = keeper.receipt();
+            return (keeper, Err((pass, PostFault::NotNext { found, shown })));
+        }
+        if found > LAST_NUMBER {
+            hang(rt);
+        }
+        let (keeper, left) = self.stand_up(rt, log, pass.seat(), found);
+        if !left {
+            return (keeper, Err((pass, PostFault::NoMemory(Vec::new(alloc)))));
+        }
+        let (keeper, shown) = keeper.flush(rt);
+        if !shown {
+            return (keeper, Ok(None));
+        }
+        let receipt = keeper.receipt();
+        (keeper, Ok(Some(receipt)))
+    }
+
+    /// A new reader, which was told which log it reads; none where all places were found taken.
+    pub fn reader(self) -> (Keeper<J, R>, Option<HubReader>)
+        ensures keeper { (result.0.all ≡ self.all) × (result.0.shown ≡ self.shown) }
+        ensures told { IfSome result.1 (λ r. IsTold J.book (view r.place)) }
+    {
+        let Keeper {
+            hand,
+            front,
+            queue,
+            roll,
+            of: _,
+        } = self;
+        let (mut writer, own) = hand.open();
+        let Ok(mut reader) = writer.factory().reader() else {
+            let keeper = Keeper {
+                hand: Hand { writer, own },
+                front,
+                queue,
+                roll,
+                of: PhantomData,
+            };
+            return (keeper, None);
+        };
+        let note = writer.tell::<Note>();
+        reader.learn::<Note>(note);
+        let keeper = Keeper {
+            hand: Hand { writer, own },
+            front,
+            queue,
+            roll,
+            of: PhantomData,
+        };
+        (keeper, Some(reader))
+    }
+
+    /// The history of a fleet that was just opened, with room for so many readers.
+    pub fn new(
+        alloc: Global,
+        own: R,
+        first: Book,
+        second: Book,
+        front: Front,
+        places: usize,
+    ) -> Result<Keeper<J, R>, NoMemory>
+        requires named { front.of ≡ J.book }
+        requires empty { front.events ≡ [] }
+        requires opened { (first ≡ opened front.config front.opening)
+            × (second ≡ opened front.config front.opening) }
+        requires places { (0 < places) × (places < 2 ^ 32) }
+        ensures { IfOk result (λ k. IsShownAll k front) }
+    {
+        let roll = Roll::new(alloc, first.config().peers.len())?;
+        let first = Shown::new(first, front.again());
+        let second = Shown::new(second, front.again());
+        let writer: HubWriter = Writer::new(alloc, first, second, places)?;
+        let (writer, shown) = show(&own, writer, &front);
+        match shown {
+            Ok(()) => Ok(Keeper {
+                hand: Hand { writer, own },
+                front,
+                queue: VecDeque::new(alloc),
+                roll,
+                of: PhantomData,
+            }),
+            Err(_) => {
+                writer.take(&own);
+                Err(NoMemory)
+            }
+        }
+    }
+}

@@ -1,0 +1,179 @@
+//! Readers: what they enter, what they have seen, and what they are told.
+
+ghost use Rattle.std.specs.Prelude.{◌≡◌, true, false, if◌then◌else◌, IfSome, MatchBool};
+ghost use Rattle.std.specs.Borrow.{sem};
+ghost use Rattle.left_right.specs.Sides.{view};
+ghost use Rattle.hub.specs.Kept.{IsTold};
+ghost use Rattle.hub.specs.Posts.{Follows};
+ghost use Rattle.hub.specs.Views.{IsBookOf, Learns};
+
+use crate::copies::{Published, Shown, Sight};
+use crate::hand::HubReader;
+use crate::log::Front;
+use crate::receipt::Receipt;
+use left_right::reader::Reading;
+use plain_book::Book;
+use std::marker::Model;
+
+/// A copy that was entered.
+struct Visit {
+    reading: Reading<Shown, Option<Front>, Published>,
+}
+
+impl Drop for Visit {
+    fn drop(self) {
+        let Visit { reading } = self;
+        reading.leave();
+    }
+}
+
+impl Visit {
+    fn leave(self) -> HubReader
+        ensures { view result.place ≡ view self.reading.place }
+    {
+        let Visit { reading } = self;
+        reading.leave()
+    }
+}
+
+/// What looks at the book. Contracts see the list that it has seen.
+#[derive(Drop)]
+pub struct Lens {
+    reader: Option<HubReader>,
+    visit: Option<Visit>,
+    front: Front,
+}
+
+impl Model for Lens {
+    ghost use Rattle.std.specs.Prelude.{◌≡◌, IfSome, is_some};
+    ghost use Rattle.left_right.specs.Sides.{view as view_of};
+    ghost use Rattle.hub.specs.Copied.{IsWhole};
+    ghost use Rattle.hub.specs.Kept.{IsTold};
+    ghost use Rattle.hub.specs.Views.{Seeing};
+
+    ghost Value = { Seeing };
+
+    ghost view = { λ l. record { seen = l.front; inside = is_some l.visit } };
+
+    ghost invariant = { λ l. IfSome l.reader (λ r. IsTold l.front.of (view_of r.place))
+        × IfSome l.visit (λ v. IsWhole v.reading.part.value × (v.reading.part.value.at ≡ l.front)
+        × IsTold l.front.of (view_of v.reading.place)) };
+}
+
+/// A look at the book, which stays as it is while the look lasts.
+pub struct Look<'a> {
+    lens: &'a mut Lens,
+}
+
+impl Drop for Look<'_> {
+    fn drop(self)
+        ensures { self.exit.0.now.seen ≡ self.entry.lens.now.seen }
+    {
+        let Look { lens } = self;
+        lens.leave();
+    }
+}
+
+impl Look<'_> {
+    /// The book, which answers for exactly the events of the list that the lens has seen.
+    pub fn book(&self) -> &Book
+        requires { self.now.lens.now.inside ≡ true }
+        ensures { IsBookOf result.now self.now.lens.now.seen }
+    {
+        self.lens.book()
+    }
+}
+
+impl Lens {
+    ghost use Rattle.hub.specs.Looking.{Rests};
+
+    /// A lens that has seen this list, over a reader that was told of its log.
+    pub(crate) fn new(reader: HubReader, front: Front) -> Lens
+        requires { IsTold front.of (view reader.place) }
+        ensures { result ≡ record { seen = front; inside = false } }
+    {
+        Lens {
+            reader: Some(reader),
+            visit: None,
+            front,
+        }
+    }
+
+    fn book(&self) -> &Book
+        requires { self.now.inside ≡ true }
+        ensures { IsBookOf result.now self.now.seen }
+    {
+        match &self.visit {
+            None => unreachable!(),
+            Some(visit) => {
+                let shown = visit.reading.get();
+                &shown.book
+            }
+        }
+    }
+
+    // Leaves the copy that was entered, if one was.
+    fn leave(&mut self)
+        ensures { self.new ≡ record { seen = self.old.seen; inside = false } }
+    {
+        if let Some(visit) = self.visit.take() {
+            self.reader = Some(visit.leave());
+        }
+    }
+
+    // Enters the copy that is shown, if it has all that this lens has seen.
+    fn enter(&mut self) -> bool
+        ensures inside { result ≡ self.new.inside }
+        ensures seen { MatchBool result (Follows self.old.seen self.new.seen)
+            (self.new.seen ≡ self.old.seen) }
+    {
+        self.leave();
+        let Some(reader) = self.reader.take() else {
+            return false;
+        };
+        match reader.enter_as::<Sight>() {
+            Err(reader) => {
+                self.reader = Some(reader);
+                false
+            }
+            Ok(reading) => {
+                let at = reading.get().at.again();
+                if !self.front.compare(&at) {
+                    self.reader = Some(reading.leave());
+                    return false;
+                }
+                self.front = at;
+                self.visit = Some(Visit { reading });
+                true
+            }
+        }
+    }
+
+    /// Looks at the book as it is shown. None where no copy could be entered; the lens is then as
+    /// before.
+    pub fn look(&mut self) -> Option<Look<'_>>
+        ensures* none { sem 𝓛 (Rests self.entry result) }
+        ensures some { IfSome result
+            (λ k. (k.lens.ghost_name ≡ self.entry.ghost_name) × (k.lens.now.inside ≡ true)
+            × Follows self.old.seen k.lens.now.seen) }
+    {
+        if self.enter() {
+            Some(Look { lens: self })
+        } else {
+            None
+        }
+    }
+
+    /// Learns which list a receipt shows. Of this list and the lens's own the longer is then what
+    /// the lens has seen, so later looks show no less. Takes no memory, and ends a look that was
+    /// forgotten.
+    pub fn learn(&mut self, receipt: &Receipt)
+        requires { receipt.now.of ≡ self.old.seen.of }
+        ensures { Learns self.old.seen receipt.now self.new.seen }
+    {
+        self.leave();
+        if self.front.compare(receipt.front()) {
+            self.front = receipt.front().again();
+        }
+    }
+}
