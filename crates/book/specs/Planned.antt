@@ -65,7 +65,7 @@ IsOverBy end (Some life) arrived = arrived + life ≤ end
 abbrev pub EndsBy : List (Place × Row) → Place → ℕ → Type 0
 EndsBy entries place end =
     (row : Row) × (lookup (is_at (place_cmp place)) entries ≡ Some row)
-        × IsOverBy end (as_arrival row).life (as_arrival row).arrived
+    × IsOverBy end (as_arrival row).life (as_arrival row).arrived
 
 -- a life, if there is one, has 32 bits
 abbrev pub IsShort : Option ℕ → Type 0

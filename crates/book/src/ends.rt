@@ -116,7 +116,7 @@ fn end_one(rows: &mut Rows, size: Size, place: &Place, t: u64)
     requires rows { AreRows size.peers size.tables rows.old }
     ensures { rows.new ≡ record rows.old {
       entries = filter
-      (λ entry. not (same_place place.now entry.0 && not (lives_at t entry))) rows.old.entries;
+          (λ entry. not (same_place place.now entry.0 && not (lives_at t entry))) rows.old.entries;
     } }
 {
     let Some(row) = row_at(rows, size, place) else {

@@ -186,7 +186,7 @@ impl Store {
     pub(crate) fn clear_key(&mut self, table: usize, key: &Key)
         ensures { self.new ≡ record self.old {
           rows = filter
-          (λ row. not ((row.0.table == table) && same_key key.now row.0.key)) self.old.rows;
+              (λ row. not ((row.0.table == table) && same_key key.now row.0.key)) self.old.rows;
         } }
     {
         if table < self.size.tables {

@@ -19,7 +19,7 @@ use Rattle.key_text.specs.declared.parts.Part.TheVariants.{Octet, Group}
 unfoldable pub number_up_to : ℕ → ℕ → List ℕ → Option ℕ
 number_up_to radix most text =
     if nat_le 1 (length text) && list_all (λ c. is_digit c radix) text
-        && nat_le (digits_value radix text) most
+    && nat_le (digits_value radix text) most
     then Some (digits_value radix text)
     else None
 
@@ -87,7 +87,7 @@ string_of (a ∷ []) = before (plain_byte a) (Some [])
 string_of (a ∷ b ∷ []) = before (plain_byte a) (string_of (b ∷ []))
 string_of (a ∷ b ∷ c ∷ rest) =
     if a == 37 then before (hex_byte b c) (string_of rest)
-        else before (plain_byte a) (string_of (b ∷ c ∷ rest))
+    else before (plain_byte a) (string_of (b ∷ c ∷ rest))
 
 -- the bytes that a text says, by the kind of keys
 abbrev pub bytes_of : KeyKind → List ℕ → Option (List ℕ)
