@@ -74,7 +74,8 @@ def main():
         process = subprocess.Popen(options.command or ["rt", "ci"], stdout=log, stderr=subprocess.STDOUT)
         while process.poll() is None:
             for pid, (_, began, seconds) in below(process.pid).items():
-                if (pid, began) not in names:
+                # (a process has its own name only once it runs its own program)
+                if names.get((pid, began)) is None:
                     names[pid, began] = named(pid)
                 spent[pid, began] = seconds
             time.sleep(0.1)
