@@ -7,7 +7,7 @@
 
 use agg_types::{Cell, Col, Config, Items, Key, KeyKind, Name, NoMemory, Shape, What};
 use anyhow::{Result, anyhow};
-use plain_book::Book;
+use book::Book;
 use show_clear::{answer, parse};
 use std::alloc::Global;
 use std::env;

@@ -4,7 +4,7 @@ use agg_types::{
     Cell, Col, Cond, Config, Filter, Items, Key, KeyKind, Name, NoMemory, Op, Rank, Shape, What,
 };
 use anyhow::Result;
-use plain_book::Book;
+use book::Book;
 use std::alloc::Global;
 
 /// The seat that speaks for both proxies.

@@ -6,8 +6,8 @@
 mod fleet;
 
 use anyhow::Result;
+use book::Book;
 use line_words::next_line;
-use plain_book::Book;
 use show_clear::{answer, parse, refusal};
 use std::alloc::Global;
 use std::io::Write;

@@ -16,7 +16,7 @@ mod runs;
 mod step;
 mod waiting;
 
+pub use book::Book;
 pub use fleet::Fleet;
-pub use plain_book::Book;
 pub use runs::{Ran, RunFault, run};
 pub use step::{FleetFault, Replies, Step};

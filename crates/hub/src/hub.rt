@@ -17,7 +17,7 @@ use crate::pass::Pass;
 use crate::receipt::Receipt;
 use crate::store::hang;
 use agg_types::{Config, NoMemory, What};
-use plain_book::Book;
+use book::Book;
 use std::alloc::Global;
 use std::marker::Model;
 use std::sync::{Mutex, Wait};

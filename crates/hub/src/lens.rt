@@ -11,8 +11,8 @@ use crate::copies::{Published, Shown, Sight};
 use crate::hand::HubReader;
 use crate::log::Front;
 use crate::receipt::Receipt;
+use book::Book;
 use left_right::reader::Reading;
-use plain_book::Book;
 use std::marker::Model;
 
 /// A copy that was entered.

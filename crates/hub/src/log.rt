@@ -9,8 +9,8 @@ ghost use Rattle.hub.specs.History.{AllCount, IsLonger};
 
 use crate::entry::Entry;
 use agg_types::Event;
+use book::Book;
 use logbook::{Gain, Offer, Opening, Plain, Play, Rule, Seen, Start, Word};
-use plain_book::Book;
 use std::marker::Model;
 
 /// The rule of the log.

@@ -110,7 +110,7 @@ fn seen(alloc: Global, lens: &mut Lens) -> Result<u64> {
     Ok(gpc0(look.book().summed(0, &key)))
 }
 
-fn gpc0(summed: Option<plain_book::Summed>) -> u64 {
+fn gpc0(summed: Option<book::Summed>) -> u64 {
     match summed {
         None => 0,
         Some(summed) => summed

@@ -8,7 +8,7 @@ use Rattle.agg_types.specs.declared.config.Rank.{Rank}
 use Rattle.fleet_model.specs.Ranking.{ranked, ranking}
 use Rattle.fleet_model.specs.State.{State}
 use Rattle.std.proofs.lemmas.List.{length-take}
-use Rattle.plain_book.specs.Shown.{shown_row}
+use Rattle.book.specs.Lent.{shown_row}
 use Rattle.show_clear.specs.Answer.{line_if, row_lines}
 
 lines_shown : (shape : Shape) (conds : List Cond) (rows : List (List ℕ × Summed)) → flat_map (line_if shape conds) (map shown_row rows) ≡ row_lines shape conds rows
