@@ -1,3 +1,4 @@
+pub mod Cells
 pub mod Check
 pub mod Col
 pub mod Fits

@@ -1,4 +1,4 @@
-use crate::{Cond, Filter, Items, Key};
+use crate::{Cells, Cond, Filter, Items, Key};
 
 /// The greatest number that a seat may have. The numbers of a seat's events stay below it.
 pub const LAST_SEAT: u64 = 1 << 62;
@@ -34,7 +34,7 @@ pub enum What {
         table: usize,
         key: Key,
         life: Option<u64>,
-        cells: Items<Cell>,
+        cells: Cells,
     },
     /// Rows of a table are taken away, over all peers.
     Clear {

@@ -8,9 +8,10 @@
 //! `Op::holds` is the comparison; what is copied or duplicated is equal.
 //!
 //! No clause says that a copy succeeds while there is memory, nor how much room a key takes (24 bytes
-//! where it has up to 16).
+//! where it has up to 16), nor that up to four cells take none beside their list.
 #![tactic(auto)]
 
+mod cells;
 mod check;
 mod column;
 mod config;
@@ -23,6 +24,7 @@ mod no_memory;
 mod place;
 mod short_key;
 
+pub use cells::Cells;
 pub use check::{ConfigFault, MOST_FILTERS, MOST_PEERS, MOST_RANKS, MOST_TABLES};
 pub use column::{COLUMNS, Col, LAST_DATA_TYPE};
 pub use config::{Cond, Config, Filter, KeyKind, Op, Rank, Shape};

@@ -5,7 +5,7 @@
 //! output, how long it took to standard error.
 #![tactic(auto)]
 
-use agg_types::{Cell, Col, Config, Items, Key, KeyKind, Name, NoMemory, Shape, What};
+use agg_types::{Cell, Cells, Col, Config, Items, Key, KeyKind, Name, NoMemory, Shape, What};
 use anyhow::{Result, anyhow};
 use book::Book;
 use show_clear::{answer, parse};
@@ -64,7 +64,7 @@ fn put(alloc: Global, number: u32) -> Result<What, NoMemory> {
         table: 0,
         key: Key::copy(alloc, &(0x0a00_0000 + u64::from(number)).to_be_bytes()[4..])?,
         life: None,
-        cells: Items::copy(alloc, &cells)?,
+        cells: Cells::copy(alloc, &cells)?,
     })
 }
 

@@ -23,7 +23,7 @@ use crate::seats::{
 use crate::store::Store;
 use crate::{queries, seats};
 use agg_types::{
-    Cell, Col, Config, Filter, Items, Key, MOST_FILTERS, NoMemory, Place, Select, Shape, What,
+    Cells, Col, Config, Filter, Items, Key, MOST_FILTERS, NoMemory, Place, Select, Shape, What,
 };
 use fleet_model::Summed;
 use std::alloc::Global;
@@ -255,7 +255,7 @@ fn put(
     t: u64,
     place: Place,
     life: Option<u64>,
-    cells: &Items<Cell>,
+    cells: &Cells,
 ) -> Result<(), NoMemory>
     requires in_range { t ≤ 2 ^ 62 }
     requires inside { IsInside rows.old.peers rows.old.tables place }

@@ -1,7 +1,9 @@
 //! A fleet as a run asks for it, and what happens to it.
 
 use crate::runs::{Row, Run};
-use agg_types::{Cond, Config, Filter, Items, Key, KeyKind, Name, NoMemory, Rank, Shape, What};
+use agg_types::{
+    Cells, Cond, Config, Filter, Items, Key, KeyKind, Name, NoMemory, Rank, Shape, What,
+};
 use anyhow::Result;
 use plain_book::Book;
 use std::alloc::Global;
@@ -85,7 +87,7 @@ pub fn put(alloc: Global, book: &mut Book, row: &Row) -> Result<(), NoMemory> {
         table: 0,
         key: Key::copy(alloc, &[10, 0, 0, row.n])?,
         life: row.life,
-        cells: Items::copy(alloc, &[row.cell])?,
+        cells: Cells::copy(alloc, &[row.cell])?,
     };
     let seat = if row.peer == 0 { 1 } else { 2 };
     happen(book, seat, &what)

@@ -1,7 +1,8 @@
 //! The fleet that is asked: two proxies, and tables of each kind of keys.
 
 use agg_types::{
-    Cell, Col, Cond, Config, Filter, Items, Key, KeyKind, Name, NoMemory, Op, Rank, Shape, What,
+    Cell, Cells, Col, Cond, Config, Filter, Items, Key, KeyKind, Name, NoMemory, Op, Rank, Shape,
+    What,
 };
 use anyhow::Result;
 use book::Book;
@@ -103,7 +104,7 @@ fn config(alloc: Global) -> Result<Config, NoMemory> {
 // What a proxy says of a row. Keys of the first table have had 3 requests in the period before.
 fn put(alloc: Global, row: Row) -> Result<What, NoMemory> {
     let (peer, table, key, life, count) = row;
-    let mut cells = Items::from_vec(Vec::new(alloc));
+    let mut cells = Cells::new(alloc);
     cells.push(Cell::Count(count))?;
     if table == 0 {
         cells.push(Cell::Rate {

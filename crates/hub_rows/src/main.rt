@@ -3,7 +3,7 @@
 
 ghost use Rattle.std.specs.Prelude.{◌≡◌, IfOk};
 
-use agg_types::{Cell, Col, Config, Items, Key, KeyKind, Name, Shape, What};
+use agg_types::{Cell, Cells, Col, Config, Items, Key, KeyKind, Name, Shape, What};
 use anyhow::{Result, anyhow};
 use hub::{Hub, Lens, Naming, Opening, Pass, Receipt};
 use std::alloc::Global;
@@ -51,7 +51,7 @@ fn batch(alloc: Global, peer: usize, count: u64) -> Result<Vec<What>> {
         table: 0,
         key: key(alloc)?,
         life: None,
-        cells: Items::copy(alloc, &[Cell::Count(count)])?,
+        cells: Cells::copy(alloc, &[Cell::Count(count)])?,
     })?;
     Ok(whats)
 }

@@ -20,7 +20,8 @@ use crate::seats::{
     sit_down, stand_up,
 };
 use agg_types::{
-    Cell, Col, Config, Filter, Items, Key, MOST_FILTERS, NoMemory, Place, Select, Shape, What,
+    Cell, Cells, Col, Config, Filter, Items, Key, MOST_FILTERS, NoMemory, Place, Select, Shape,
+    What,
 };
 use fleet_model::Arrival;
 use std::alloc::Global;
@@ -248,7 +249,7 @@ fn arrival_of(
     table: usize,
     arrived: u64,
     life: Option<u64>,
-    cells: &Items<Cell>,
+    cells: &Cells,
 ) -> Result<Arrival, NoMemory>
     ensures { IfOk result (λ row. row ≡ arrival_of tables.now table arrived life cells.now) }
 {

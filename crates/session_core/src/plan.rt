@@ -7,7 +7,7 @@ ghost use Rattle.session_core.specs.Values.{types};
 ghost use Rattle.session_core.specs.Plan.{width_of, widths, numbers_at, source_of, count_in, rate_in, cell_from, IsPlan};
 
 use crate::values::{TYPES, elapsed_of, has_type, is_rate_type, low_word, number_at};
-use agg_types::{Cell, Col, Items, NoMemory};
+use agg_types::{Cell, Cells, Col, NoMemory};
 use std::alloc::Global;
 
 /// Where a column's integers are among those of an update.
@@ -102,11 +102,7 @@ impl Plan {
     }
 
     /// The cells of an update's values; `None` where one is cut or too large.
-    pub(crate) fn cells(
-        &mut self,
-        alloc: Global,
-        bytes: &[u8],
-    ) -> Result<Option<Items<Cell>>, NoMemory>
+    pub(crate) fn cells(&mut self, alloc: Global, bytes: &[u8]) -> Result<Option<Cells>, NoMemory>
         ensures cells { IfOk result (λ cells. cells
             ≡ option_map (λ numbers. map (cell_from numbers) self.old.sources.items)
             (numbers_at (vec_len self.old.numbers) bytes.now)) }
@@ -118,11 +114,11 @@ impl Plan {
         }
         let numbers = self.numbers.as_slice();
         let sources = self.sources.as_slice();
-        let mut cells = Vec::with_capacity(alloc, sources.len())?;
+        let mut cells = Cells::with_capacity(alloc, sources.len())?;
         for source in sources {
             cells.push(cell_from(numbers, *source))?;
         }
-        Ok(Some(Items::from_vec(cells)))
+        Ok(Some(cells))
     }
 }
 

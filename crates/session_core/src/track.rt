@@ -12,7 +12,7 @@ use crate::cause::End;
 use crate::plan::Plan;
 use crate::run::settle;
 use crate::values::{TYPES, key_at, life_of, periods_of};
-use agg_types::{Cell, Col, Items, Key, KeyKind, NoMemory, Shape, What};
+use agg_types::{Cells, Col, Key, KeyKind, NoMemory, Shape, What};
 use peers_msg::{Definition, Message, WireCause};
 use std::alloc::Global;
 
@@ -158,7 +158,7 @@ fn planned_cells(
     cols: &[(Col, u32)],
     plan: &mut Option<Plan>,
     values: &[u8],
-) -> Result<Option<Items<Cell>>, NoMemory>
+) -> Result<Option<Cells>, NoMemory>
     requires { IfSome plan.old (IsPlan followed.now.bits followed.now.periods cols.now) }
     ensures cells { IfOk result (λ cells. cells
         ≡ option_map (λ sents. cells_of sents followed.now.periods cols.now)
