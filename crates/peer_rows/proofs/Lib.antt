@@ -3,7 +3,9 @@ pub mod Sorted
 pub mod Selecting
 pub mod Peers
 pub mod Spreading
+pub mod Indexed
 pub mod Keying
 pub mod Using
 pub mod Kept
+pub mod Shown
 pub mod Placing

@@ -5,3 +5,4 @@ pub mod Peers
 pub mod Spread
 pub mod Table
 pub mod Rows
+pub mod Slots

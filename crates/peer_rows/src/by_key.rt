@@ -2,9 +2,10 @@ ghost use Rattle.std.specs.Prelude.{◌≡◌, length};
 ghost use Rattle.std.specs.Iterator.{at_most};
 ghost use Rattle.std.specs.Map.Iter.{TakesFirst};
 ghost use Rattle.peer_rows.specs.Listing.{spot_and_row};
+ghost use Rattle.peer_rows.specs.Slots.{key_at, rows_at, seen, AreHeld};
 ghost use Rattle.peer_rows.specs.Table.{rows_in};
 
-use crate::key_rows::KeyRows;
+use crate::slots::Slots;
 use crate::{OfKey, Row};
 use agg_types::Key;
 use std::collections::btree_map::Iter;
@@ -17,7 +18,8 @@ use std::marker::Model;
 #[derive(Drop)]
 pub struct ByKey<'a> {
     at: Option<(&'a Key, OfKey<'a>)>,
-    keys: Iter<'a, Key, KeyRows>,
+    keys: Iter<'a, Key, usize>,
+    slots: &'a Slots,
 }
 
 impl<'a> Model for ByKey<'a> {
@@ -25,18 +27,27 @@ impl<'a> Model for ByKey<'a> {
     ghost use Rattle.peer_rows.specs.declared.row.Row.{Row};
     ghost use Rattle.peer_rows.specs.Table.{Spot, rows_in};
     ghost use Rattle.peer_rows.specs.Listing.{left_at};
+    ghost use Rattle.peer_rows.specs.Slots.{key_at, rows_at, seen, AreHeld};
 
     ghost Value = { List (Spot × Row) };
 
-    ghost view = { λ rows. left_at rows.at ++ rows_in rows.keys };
+    ghost view = { λ rows. left_at rows.at
+        ++ rows_in (seen (rows_at rows.slots.now.places.items) rows.keys) };
+
+    ghost invariant = { λ rows. AreHeld (key_at rows.slots.now.places.items) rows.keys };
 }
 
 impl<'a> ByKey<'a> {
-    // All rows of these keys.
-    pub(crate) fn new(keys: Iter<'a, Key, KeyRows>) -> ByKey<'a>
-        ensures { result ≡ rows_in keys.entry }
+    // All rows of these keys, each in its place.
+    pub(crate) fn new(keys: Iter<'a, Key, usize>, slots: &'a Slots) -> ByKey<'a>
+        requires { AreHeld (key_at slots.now.places.items) keys }
+        ensures { result ≡ rows_in (seen (rows_at slots.now.places.items) keys.entry) }
     {
-        ByKey { at: None, keys }
+        ByKey {
+            at: None,
+            keys,
+            slots,
+        }
     }
 }
 
@@ -53,8 +64,8 @@ impl<'a> Iterator for ByKey<'a> {
                 return Some((at.0, peer, row));
             }
         }
-        let (key, rows) = self.keys.next()?;
-        let mut rows = rows.iter();
+        let (key, place) = self.keys.next()?;
+        let mut rows = self.slots.rows(*place).iter();
         let (peer, row) = rows.next()?;
         self.at = Some((key, rows));
         Some((key, peer, row))

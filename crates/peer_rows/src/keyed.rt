@@ -1,73 +1,252 @@
-//! The rows of a table as an ordered map from keys to the rows of each key, without the counts.
-ghost use Rattle.std.specs.Prelude.{◌≡◌, ◌^◌, ◌<◌, ℕ, length, IsOk, IsSome, IfOk, OnOk, OnErr};
+//! The rows of a table by key, without the counts: an ordered map says in which place the rows of
+//! each key lie, and what was found lately is found again without it.
+ghost use Rattle.std.specs.Prelude.{◌≡◌, ◌^◌, ◌<◌, ℕ, [], Some, None, length, IsOk, IsSome, IfSome, IfNone, IfOk, OnOk, OnErr};
 ghost use Rattle.std.specs.Option.{option_copied};
 ghost use Rattle.std.specs.Ordering.{nat_cmp};
 ghost use Rattle.std.specs.Cmp.Lexicographic.{slice_cmp};
 ghost use Rattle.std.specs.Map.{keys_of, lookup, remove_entry};
-ghost use Rattle.std.specs.BTreeMap.{insert_entry, is_at, IsOrdered};
-ghost use Rattle.peer_rows.specs.Table.{spot_cmp, rows_in, rows_of_peer, EachPeerOnce};
+ghost use Rattle.std.specs.BTreeMap.{insert_entry, is_at};
+ghost use Rattle.std.specs.List.Sorted.{IsStrictlySortedBy};
+ghost use Rattle.peer_rows.specs.Slots.{key_at, rows_at, seen, IsIndexed};
 
 use crate::key_rows::KeyRows;
-use crate::{OfKey, Row};
+use crate::near::{Hash, Near};
+use crate::slots::{Slot, Slots};
+use crate::{ByKey, Row, Spot};
 use agg_types::{Key, NoMemory};
 use std::alloc::Global;
 use std::collections::BTreeMap;
+use std::marker::Model;
 
-pub(crate) type Keyed = BTreeMap<Key, KeyRows>;
-
-// The row of a peer and key.
-pub(crate) fn row_at<'a>(keys: &'a Keyed, peer: usize, key: &Key) -> Option<&'a Row>
-    requires { IsOrdered (slice_cmp nat_cmp) keys.now }
-    ensures { option_copied result ≡ lookup (is_at (spot_cmp (key.now, peer)))
-        (rows_in keys.now.entries) }
-{
-    keys.get(key)?.get(peer)
+/// The rows of a table, by key. Contracts see the list of the keys with the rows of each.
+#[derive(Debug, Drop)]
+pub(crate) struct Keyed {
+    keys: BTreeMap<Key, usize>,
+    slots: Slots,
+    near: Near,
 }
 
-// Puts a row in the place of an older one, which comes back.
-pub(crate) fn put_row(
-    alloc: Global,
-    keys: &mut Keyed,
-    peer: usize,
-    key: Key,
-    row: Row,
-) -> Result<Option<Row>, NoMemory>
-    requires { EachPeerOnce keys.old.entries }
-    ensures ok { OnOk result (rows_in keys.new.entries
-        ≡ insert_entry spot_cmp (rows_in keys.old.entries) (key, peer) row) }
-    ensures old { IfOk result (λ old. old
-        ≡ lookup (is_at (spot_cmp (key, peer))) (rows_in keys.old.entries)) }
-    ensures held { IsSome (lookup (is_at (spot_cmp (key, peer))) (rows_in keys.old.entries))
-        → IsOk result }
-    ensures err { OnErr result (keys.new.entries ≡ keys.old.entries) }
+impl Model for Keyed {
+    ghost use Rattle.std.specs.Prelude.{List, ℕ};
+    ghost use Rattle.peer_rows.specs.declared.row.Row.{Row};
+    ghost use Rattle.peer_rows.specs.Slots.{key_at, rows_at, seen, IsIndexed};
 
-    // Each peer stands once at a key, the keys in order, and no peer has 2^63 rows.
-    ensures once { EachPeerOnce keys.new.entries }
-    ensures ordered { IsOrdered (slice_cmp nat_cmp) keys.new }
-    ensures was_ordered { IsOrdered (slice_cmp nat_cmp) keys.old }
-    ensures few { (p : ℕ) → rows_of_peer p (rows_in keys.old.entries) < 2 ^ 63 }
-{
-    let _few = keys.len();
-    let Some(rows) = keys.get_mut(&key) else {
-        keys.insert(key, KeyRows::new(alloc, peer, row))?;
-        return Ok(None);
-    };
-    rows.put(peer, row)
+    ghost Value = { List (List ℕ × List (ℕ × Row)) };
+
+    ghost view = { λ k. seen (rows_at k.slots.places.items) k.keys.entries };
+
+    ghost invariant = { λ k. IsIndexed (key_at k.slots.places.items) k.keys.entries };
 }
 
-// Takes a row out, and its key with it where it was the key's last.
-pub(crate) fn take_row(keys: &mut Keyed, peer: usize, key: &Key) -> Option<Row>
-    requires ordered { IsOrdered (slice_cmp nat_cmp) keys.old }
-    requires once { EachPeerOnce keys.old.entries }
-    ensures value { result ≡ lookup (is_at (spot_cmp (key.now, peer))) (rows_in keys.old.entries) }
-    ensures after { rows_in keys.new.entries
-        ≡ remove_entry (is_at (spot_cmp (key.now, peer))) (rows_in keys.old.entries) }
-    ensures ordered { IsOrdered (slice_cmp nat_cmp) keys.new }
-    ensures once { EachPeerOnce keys.new.entries }
-{
-    if keys.get(key)?.is_only(peer) {
-        keys.remove(key)?.into_last()
-    } else {
-        keys.get_mut(key)?.take(peer)
+impl Keyed {
+    ghost use Rattle.peer_rows.specs.Table.{spot_cmp, rows_in, rows_of_peer, EachPeerOnce};
+
+    /// No rows.
+    pub(crate) fn new(alloc: Global) -> Keyed
+        ensures { result ≡ [] }
+    {
+        Keyed {
+            keys: BTreeMap::new(alloc),
+            slots: Slots::new(alloc),
+            near: Near::new(alloc),
+        }
     }
+
+    /// How many keys there are.
+    pub(crate) fn len(&self) -> usize
+        ensures { result ≡ length self.now }
+    {
+        self.keys.len()
+    }
+
+    /// Where the rows of a key lie.
+    pub(crate) fn spot_of(&self, key: &Key) -> Option<Spot> {
+        let at = find(&self.keys, &self.slots, &self.near, None, key)?;
+        Spot::new(at)
+    }
+
+    /// The rows of a key.
+    pub(crate) fn get(&self, hint: Option<Spot>, key: &Key) -> Option<&KeyRows>
+        ensures value { option_copied result ≡ lookup (is_at (slice_cmp nat_cmp key.now)) self.now }
+        ensures ordered { IsStrictlySortedBy (slice_cmp nat_cmp) (keys_of self.now) }
+    {
+        let at = find(&self.keys, &self.slots, &self.near, hint, key)?;
+        Some(self.slots.rows(at))
+    }
+
+    /// The row of a peer and key.
+    pub(crate) fn row_at(&self, hint: Option<Spot>, peer: usize, key: &Key) -> Option<&Row>
+        ensures { option_copied result ≡ lookup (is_at (spot_cmp (key.now, peer)))
+            (rows_in self.now) }
+    {
+        self.get(hint, key)?.get(peer)
+    }
+
+    /// Puts a row in the place of an older one, which comes back.
+    pub(crate) fn put(
+        &mut self,
+        hint: Option<Spot>,
+        peer: usize,
+        key: Key,
+        row: Row,
+    ) -> Result<Option<Row>, NoMemory>
+        requires { EachPeerOnce self.old }
+        ensures ok { OnOk result (rows_in self.new
+            ≡ insert_entry spot_cmp (rows_in self.old) (key, peer) row) }
+        ensures old { IfOk result (λ old. old
+            ≡ lookup (is_at (spot_cmp (key, peer))) (rows_in self.old)) }
+        ensures held { IsSome (lookup (is_at (spot_cmp (key, peer))) (rows_in self.old))
+            → IsOk result }
+        ensures err { OnErr result (self.new ≡ self.old) }
+
+        // Each peer stands once at a key, the keys in order, and no peer has 2^63 rows.
+        ensures once { EachPeerOnce self.new }
+        ensures ordered { IsStrictlySortedBy (slice_cmp nat_cmp) (keys_of self.new) }
+        ensures few { (p : ℕ) → rows_of_peer p (rows_in self.old) < 2 ^ 63 }
+    {
+        let _few = self.keys.len();
+        let hash = Hash::of(&key);
+        let Some(at) = learn(&self.keys, &self.slots, &mut self.near, hint, hash, &key) else {
+            let rows = KeyRows::new(self.slots.allocator(), peer, row);
+            let at = insert_key(&mut self.keys, &mut self.slots, Slot { key, rows })?;
+            self.near.grow(self.slots.len());
+            self.near.remember(hash, at);
+            return Ok(None);
+        };
+        self.slots.put(at, peer, row)
+    }
+
+    /// Takes a row out, and its key with it where it was the key's last.
+    pub(crate) fn take(&mut self, hint: Option<Spot>, peer: usize, key: &Key) -> Option<Row>
+        requires { EachPeerOnce self.old }
+        ensures value { result ≡ lookup (is_at (spot_cmp (key.now, peer))) (rows_in self.old) }
+        ensures after { rows_in self.new
+            ≡ remove_entry (is_at (spot_cmp (key.now, peer))) (rows_in self.old) }
+        ensures ordered { IsStrictlySortedBy (slice_cmp nat_cmp) (keys_of self.new) }
+        ensures once { EachPeerOnce self.new }
+    {
+        let hash = Hash::of(key);
+        let at = learn(&self.keys, &self.slots, &mut self.near, hint, hash, key)?;
+        if self.slots.rows(at).is_only(peer) {
+            self.near.forget(hash, at);
+            remove_key(&mut self.keys, &mut self.slots, at, key)?.into_last()
+        } else {
+            self.slots.take(at, peer)
+        }
+    }
+
+    /// Takes the rows of a key out.
+    pub(crate) fn remove(&mut self, hint: Option<Spot>, key: &Key) -> Option<KeyRows>
+        ensures value { result ≡ lookup (is_at (slice_cmp nat_cmp key.now)) self.old }
+        ensures entries { self.new ≡ remove_entry (is_at (slice_cmp nat_cmp key.now)) self.old }
+        ensures ordered { IsStrictlySortedBy (slice_cmp nat_cmp) (keys_of self.new) }
+        ensures unchanged { IfNone result (self.new ≡ self.old) }
+    {
+        let hash = Hash::of(key);
+        let at = learn(&self.keys, &self.slots, &mut self.near, hint, hash, key)?;
+        self.near.forget(hash, at);
+        remove_key(&mut self.keys, &mut self.slots, at, key)
+    }
+
+    /// All rows, by key, then by peer.
+    pub(crate) fn by_key(&self) -> ByKey<'_>
+        ensures { result ≡ rows_in self.now }
+    {
+        ByKey::new(self.keys.iter(), &self.slots)
+    }
+}
+
+// The place in which the rows of a key lie.
+fn find(
+    keys: &BTreeMap<Key, usize>,
+    slots: &Slots,
+    near: &Near,
+    hint: Option<Spot>,
+    key: &Key,
+) -> Option<usize>
+    requires { IsIndexed (key_at slots.now.places.items) keys.now.entries }
+    ensures value { result ≡ lookup (is_at (slice_cmp nat_cmp key.now)) keys.now.entries }
+    ensures some { IfSome result (λ at. key_at slots.now.places.items at ≡ Some key.now) }
+{
+    if let Some(at) = hinted(slots, hint, key) {
+        return Some(at);
+    }
+    if let Some(at) = near.find(slots, Hash::of(key), key) {
+        return Some(at);
+    }
+    Some(*keys.get(key)?)
+}
+
+// The same, and what was searched for is remembered.
+fn learn(
+    keys: &BTreeMap<Key, usize>,
+    slots: &Slots,
+    near: &mut Near,
+    hint: Option<Spot>,
+    hash: Hash,
+    key: &Key,
+) -> Option<usize>
+    requires { IsIndexed (key_at slots.now.places.items) keys.now.entries }
+    ensures value { result ≡ lookup (is_at (slice_cmp nat_cmp key.now)) keys.now.entries }
+    ensures some { IfSome result (λ at. key_at slots.now.places.items at ≡ Some key.now) }
+{
+    if let Some(at) = hinted(slots, hint, key) {
+        return Some(at);
+    }
+    if let Some(at) = near.find(slots, hash, key) {
+        return Some(at);
+    }
+    let at = *keys.get(key)?;
+    near.remember(hash, at);
+    Some(at)
+}
+
+// The place that a hint says, if the rows of the key lie there.
+fn hinted(slots: &Slots, hint: Option<Spot>, key: &Key) -> Option<usize>
+    ensures { IfSome result (λ at. key_at slots.now.places.items at ≡ Some key.now) }
+{
+    let at = hint?.slot as usize;
+    if slots.is_of(at, key) { Some(at) } else { None }
+}
+
+// Lays down the rows of a new key, and says where.
+fn insert_key(
+    keys: &mut BTreeMap<Key, usize>,
+    slots: &mut Slots,
+    slot: Slot,
+) -> Result<usize, NoMemory>
+    requires indexed { IsIndexed (key_at slots.old.places.items) keys.old.entries }
+    requires none { lookup (is_at (slice_cmp nat_cmp slot.key)) keys.old.entries ≡ None }
+    ensures indexed { IsIndexed (key_at slots.new.places.items) keys.new.entries }
+    ensures ok { OnOk result (seen (rows_at slots.new.places.items) keys.new.entries
+        ≡ insert_entry (slice_cmp nat_cmp) (seen (rows_at slots.old.places.items) keys.old.entries)
+        slot.key slot.rows) }
+    ensures err { OnErr result (seen (rows_at slots.new.places.items) keys.new.entries
+        ≡ seen (rows_at slots.old.places.items) keys.old.entries) }
+{
+    let at = slots.vacant()?;
+    let key = slot.key.duplicate(slots.allocator())?;
+    keys.insert(key, at)?;
+    slots.fill(at, slot);
+    Ok(at)
+}
+
+// Takes a key and its rows out of their place.
+fn remove_key(
+    keys: &mut BTreeMap<Key, usize>,
+    slots: &mut Slots,
+    at: usize,
+    key: &Key,
+) -> Option<KeyRows>
+    requires indexed { IsIndexed (key_at slots.old.places.items) keys.old.entries }
+    requires found { lookup (is_at (slice_cmp nat_cmp key.now)) keys.old.entries ≡ Some at }
+    requires at { key_at slots.old.places.items at ≡ Some key.now }
+    ensures value { result ≡ Some (rows_at slots.old.places.items at) }
+    ensures indexed { IsIndexed (key_at slots.new.places.items) keys.new.entries }
+    ensures after { seen (rows_at slots.new.places.items) keys.new.entries
+        ≡ remove_entry (is_at (slice_cmp nat_cmp key.now))
+        (seen (rows_at slots.old.places.items) keys.old.entries) }
+{
+    keys.remove(key);
+    slots.empty(at)
 }

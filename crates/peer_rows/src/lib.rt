@@ -5,18 +5,25 @@
 //! removal, a look-up or a filter of that list, and what was refused for want of memory has changed
 //! nothing. The rows of one key lie together, so that one search finds what all peers hold of it.
 //!
-//! No clause says how long a call takes: a look-up is one search of a table's keys, `count` and
-//! `used` take constant time, and a row that replaces another takes no memory. Nor does one say
+//! Rows lie in numbered places, a place for a key. An ordered map of the keys has their places, and
+//! a table of hashes remembers where keys were found lately: what it says, and what a `Spot` says,
+//! is looked at before it is believed. So a held key is mostly found without the ordered map, and
+//! keys that are chosen to collide cost a search there and no more.
+//!
+//! No clause says how long a call takes: a look-up is at most one search of a table's keys, `count`
+//! and `used` take constant time, and a row that replaces another takes no memory. Nor does one say
 //! anything of a `Spot` but that no answer depends on it.
 #![tactic(auto)]
 
 mod by_key;
 mod key_rows;
 mod keyed;
+mod near;
 mod of_key;
 mod packed;
 mod row;
 mod rows;
+mod slots;
 mod spot;
 mod table;
 

@@ -59,7 +59,7 @@ impl Rows {
         ensures value { option_copied result ≡ row_at self.now peer table key.now }
         ensures ordered { AreInOrder self.now.entries }
     {
-        self.tables[table].get(peer, key)
+        self.get_at(None, peer, table, key)
     }
 
     /// How many rows a peer holds of a table, in constant time. Takes no memory.
@@ -98,7 +98,7 @@ impl Rows {
         ensures err { OnErr result (self.new ≡ self.old) }
         ensures ordered { AreInOrder self.new.entries }
     {
-        self.tables[table].put(peer, key, row)
+        self.put_at(None, peer, table, key, row)
     }
 
     /// Takes the row of a peer, table and key out, if there is one. Takes no memory.
@@ -109,7 +109,7 @@ impl Rows {
         ensures after { self.new ≡ without_row self.old peer table key.now }
         ensures ordered { AreInOrder self.new.entries }
     {
-        self.tables[table].take(peer, key)
+        self.take_at(None, peer, table, key)
     }
 
     /// Takes the rows of a table and key out, over all peers, and says how many. Takes no memory.
@@ -119,7 +119,7 @@ impl Rows {
         ensures value { result ≡ count_by (λ e. of_table_key table key.now e.0) self.old.entries }
         ensures ordered { AreInOrder self.new.entries }
     {
-        self.tables[table].clear_key(key)
+        self.clear_key_at(None, table, key)
     }
 
     /// Lends the rows of a table, each once, by key, then by peer, in one walk.
@@ -139,7 +139,7 @@ impl Rows {
         ensures value { result ≡ peers_of self.now table key.now }
         ensures ordered { AreInOrder self.now.entries }
     {
-        self.tables[table].of_key(key)
+        self.of_key_at(None, table, key)
     }
 
     /// The sum of a count column over the rows of a table and key, of all peers: one search, and
@@ -151,7 +151,7 @@ impl Rows {
         ensures value { result ≡ count_at self.now table key.now col }
         ensures ordered { AreInOrder self.now.entries }
     {
-        self.tables[table].count_of(key, col)
+        self.count_of_at(None, table, key, col)
     }
 
     // ---- with a hint at where the rows of a key lie
@@ -162,7 +162,7 @@ impl Rows {
     pub fn spot_of(&self, table: usize, key: &Key) -> Option<Spot>
         requires { table < self.now.tables }
     {
-        None
+        self.tables[table].spot_of(key)
     }
 
     /// What `get` answers, whatever the hint: one that doesn't fit costs a search.
@@ -172,7 +172,7 @@ impl Rows {
         ensures value { option_copied result ≡ row_at self.now peer table key.now }
         ensures ordered { AreInOrder self.now.entries }
     {
-        self.get(peer, table, key)
+        self.tables[table].get(hint, peer, key)
     }
 
     /// What `put` does and answers, whatever the hint.
@@ -192,7 +192,7 @@ impl Rows {
         ensures err { OnErr result (self.new ≡ self.old) }
         ensures ordered { AreInOrder self.new.entries }
     {
-        self.put(peer, table, key, row)
+        self.tables[table].put(hint, peer, key, row)
     }
 
     /// What `take` does and answers, whatever the hint.
@@ -209,7 +209,7 @@ impl Rows {
         ensures after { self.new ≡ without_row self.old peer table key.now }
         ensures ordered { AreInOrder self.new.entries }
     {
-        self.take(peer, table, key)
+        self.tables[table].take(hint, peer, key)
     }
 
     /// What `clear_key` does and answers, whatever the hint.
@@ -219,7 +219,7 @@ impl Rows {
         ensures value { result ≡ count_by (λ e. of_table_key table key.now e.0) self.old.entries }
         ensures ordered { AreInOrder self.new.entries }
     {
-        self.clear_key(table, key)
+        self.tables[table].clear_key(hint, key)
     }
 
     /// What `of_key` lends, whatever the hint.
@@ -228,7 +228,7 @@ impl Rows {
         ensures value { result ≡ peers_of self.now table key.now }
         ensures ordered { AreInOrder self.now.entries }
     {
-        self.of_key(table, key)
+        self.tables[table].of_key(hint, key)
     }
 
     /// What `count_of` answers, whatever the hint.
@@ -237,6 +237,6 @@ impl Rows {
         ensures value { result ≡ count_at self.now table key.now col }
         ensures ordered { AreInOrder self.now.entries }
     {
-        self.count_of(table, key, col)
+        self.tables[table].count_of(hint, key, col)
     }
 }

@@ -6,3 +6,11 @@
 pub struct Spot {
     pub(crate) slot: u32,
 }
+
+impl Spot {
+    // The spot in a place, if there is a hint for it.
+    pub(crate) fn new(at: usize) -> Option<Spot> {
+        let slot = u32::try_from(at).ok()?;
+        Some(Spot { slot })
+    }
+}

@@ -7,11 +7,10 @@ ghost use Rattle.peer_rows.specs.Counted.{counted_at};
 ghost use Rattle.peer_rows.specs.Table.{rows_at_peer};
 
 use crate::key_rows::KeyRows;
-use crate::keyed::{Keyed, put_row, row_at, take_row};
-use crate::{ByKey, OfKey, Row};
+use crate::keyed::Keyed;
+use crate::{ByKey, OfKey, Row, Spot};
 use agg_types::{Key, NoMemory};
 use std::alloc::Global;
-use std::collections::BTreeMap;
 use std::marker::Model;
 
 /// The rows of a table: by key, then by peer, with the number of each peer's rows beside.
@@ -30,10 +29,10 @@ impl Model for Table {
     ghost view = { λ table. record {
       peers = length table.counts.items;
       entries = rows_in
-          table.keys.entries;
+          table.keys;
     } };
 
-    ghost invariant = { λ table. IsKept table.keys.entries table.counts.items };
+    ghost invariant = { λ table. IsKept table.keys table.counts.items };
 }
 
 impl Table {
@@ -44,16 +43,22 @@ impl Table {
         ensures { IfOk result (λ table. table ≡ record { peers = peers; entries = [] }) }
     {
         Ok(Table {
-            keys: BTreeMap::new(alloc),
+            keys: Keyed::new(alloc),
             counts: vec![in alloc; 0; peers]?,
         })
     }
 
     /// The row of a peer and key.
-    pub(crate) fn get(&self, peer: usize, key: &Key) -> Option<&Row>
-        ensures { option_copied result ≡ lookup (is_at (spot_cmp (key.now, peer))) self.now.entries }
+    pub(crate) fn get(&self, hint: Option<Spot>, peer: usize, key: &Key) -> Option<&Row>
+        ensures { option_copied result
+            ≡ lookup (is_at (spot_cmp (key.now, peer))) self.now.entries }
     {
-        row_at(&self.keys, peer, key)
+        self.keys.row_at(hint, peer, key)
+    }
+
+    /// Where the rows of a key lie.
+    pub(crate) fn spot_of(&self, key: &Key) -> Option<Spot> {
+        self.keys.spot_of(key)
     }
 
     /// How many rows a peer holds.
@@ -72,18 +77,23 @@ impl Table {
     }
 
     /// Puts a row in the place of an older one, which comes back.
-    pub(crate) fn put(&mut self, peer: usize, key: Key, row: Row) -> Result<Option<Row>, NoMemory>
+    pub(crate) fn put(
+        &mut self,
+        hint: Option<Spot>,
+        peer: usize,
+        key: Key,
+        row: Row,
+    ) -> Result<Option<Row>, NoMemory>
         requires { peer < self.old.peers }
-        ensures ok { OnOk result (self.new
-            ≡ record self.old { entries = insert_entry spot_cmp self.old.entries (key, peer) row }) }
+        ensures ok { OnOk result (self.new ≡ record self.old
+            { entries = insert_entry spot_cmp self.old.entries (key, peer) row }) }
         ensures old { IfOk result (λ old. old
             ≡ lookup (is_at (spot_cmp (key, peer))) self.old.entries) }
         ensures held { IsSome (lookup (is_at (spot_cmp (key, peer))) self.old.entries)
             → IsOk result }
         ensures err { OnErr result (self.new ≡ self.old) }
     {
-        let alloc = *self.counts.allocator();
-        let old = put_row(alloc, &mut self.keys, peer, key, row)?;
+        let old = self.keys.put(hint, peer, key, row)?;
         if old.is_none() {
             self.counts[peer] += 1;
         }
@@ -91,13 +101,13 @@ impl Table {
     }
 
     /// Takes a row out.
-    pub(crate) fn take(&mut self, peer: usize, key: &Key) -> Option<Row>
+    pub(crate) fn take(&mut self, hint: Option<Spot>, peer: usize, key: &Key) -> Option<Row>
         requires { peer < self.old.peers }
         ensures value { result ≡ lookup (is_at (spot_cmp (key.now, peer))) self.old.entries }
         ensures after { self.new ≡ record self.old
             { entries = remove_entry (is_at (spot_cmp (key.now, peer))) self.old.entries } }
     {
-        let old = take_row(&mut self.keys, peer, key);
+        let old = self.keys.take(hint, peer, key);
         if old.is_some() {
             self.counts[peer] -= 1;
         }
@@ -105,12 +115,12 @@ impl Table {
     }
 
     /// Takes all rows of a key out, and says how many.
-    pub(crate) fn clear_key(&mut self, key: &Key) -> usize
+    pub(crate) fn clear_key(&mut self, hint: Option<Spot>, key: &Key) -> usize
         ensures after { self.new ≡ record self.old
             { entries = filter (λ e. not (same_key key.now e.0.0)) self.old.entries } }
         ensures value { result ≡ length (filter (λ e. same_key key.now e.0.0) self.old.entries) }
     {
-        match self.keys.remove(key) {
+        match self.keys.remove(hint, key) {
             Some(rows) => {
                 let count = rows.len();
                 count_down(&mut self.counts, &rows);
@@ -122,22 +132,22 @@ impl Table {
     }
 
     /// The rows of a key, by peer.
-    pub(crate) fn of_key(&self, key: &Key) -> OfKey<'_>
+    pub(crate) fn of_key(&self, hint: Option<Spot>, key: &Key) -> OfKey<'_>
         ensures { result ≡ map (λ e. (e.0.1, e.1))
             (filter (λ e. same_key key.now e.0.0) self.now.entries) }
     {
-        match self.keys.get(key) {
+        match self.keys.get(hint, key) {
             Some(rows) => rows.iter(),
             None => OfKey::none(),
         }
     }
 
     /// The sum of what the rows of a key count in a column.
-    pub(crate) fn count_of(&self, key: &Key, col: usize) -> u128
+    pub(crate) fn count_of(&self, hint: Option<Spot>, key: &Key, col: usize) -> u128
         ensures { result ≡ sum_by (λ e. counted_at e.1.cells col)
             (filter (λ e. same_key key.now e.0.0) self.now.entries) }
     {
-        let Some(rows) = self.keys.get(key) else {
+        let Some(rows) = self.keys.get(hint, key) else {
             return 0;
         };
         rows.count_of(col)
@@ -147,7 +157,7 @@ impl Table {
     pub(crate) fn by_key(&self) -> ByKey<'_>
         ensures { result ≡ self.now.entries }
     {
-        ByKey::new(self.keys.iter())
+        self.keys.by_key()
     }
 }
 

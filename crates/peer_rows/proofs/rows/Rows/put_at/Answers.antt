@@ -1,7 +1,7 @@
 use Rattle.std.proofs.Common.{◌≡◌}
 use Rattle.std.specs.Prelude.{slice_get, Some}
 use Rattle.peer_rows.proofs.Placing.{found_at, lookup-placed, tables-put_result, map-put_ok}
-use Rattle.peer_rows.proofs.rows.Rows.put.Goals as goal
+use Rattle.peer_rows.proofs.rows.Rows.put_at.Goals as goal
 
 pub invariant_of-self : goal.invariant_of-self
 invariant_of-self c =

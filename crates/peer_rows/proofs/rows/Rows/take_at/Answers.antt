@@ -2,7 +2,7 @@ use Rattle.std.proofs.Common.{◌≡◌, ◌∙◌, sym, ap}
 use Rattle.std.specs.Prelude.{slice_get, Some}
 use Rattle.peer_rows.specs.Table.{TableRows}
 use Rattle.peer_rows.proofs.Placing.{found_at, lookup-placed, placed-take, tables-take, same_map, length-set}
-use Rattle.peer_rows.proofs.rows.Rows.take.Goals as goal
+use Rattle.peer_rows.proofs.rows.Rows.take_at.Goals as goal
 
 pub invariant_of-self : goal.invariant_of-self
 invariant_of-self c =

@@ -1,7 +1,7 @@
 use Rattle.std.proofs.Common.{◌≡◌, ◌∙◌, sym}
 use Rattle.std.specs.Prelude.{slice_get, Some}
 use Rattle.peer_rows.proofs.Placing.{found_at, lookup-placed}
-use Rattle.peer_rows.proofs.rows.Rows.get.Goals as goal
+use Rattle.peer_rows.proofs.rows.Rows.get_at.Goals as goal
 
 pub returns-clause-value : goal.returns-clause-value
 returns-clause-value c =

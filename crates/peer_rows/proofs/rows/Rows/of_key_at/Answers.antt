@@ -1,10 +1,9 @@
 use Rattle.std.proofs.Common.{◌≡◌, ◌∙◌, sym}
 use Rattle.std.specs.Prelude.{slice_get, Some}
-use Rattle.peer_rows.specs.Counted.{counted_at}
-use Rattle.peer_rows.proofs.Placing.{found_at, sum-key-placed}
-use Rattle.peer_rows.proofs.rows.Rows.count_of.Goals as goal
+use Rattle.peer_rows.proofs.Placing.{found_at, of_key-placed}
+use Rattle.peer_rows.proofs.rows.Rows.of_key_at.Goals as goal
 
 pub returns-clause-value : goal.returns-clause-value
 returns-clause-value c =
     let found : slice_get c.self.inside.tables.items c.args.table ≡ Some c.index.result.now = found_at c.self.inside.tables.items c.args.table c.index.result.now (rw (← c.self.view_is) at c.requires) c.index.ensures in
-    rw (← c.self.view_is) (c.count_of.ensures ∙ sym (sum-key-placed c.self.inside.tables.items c.args.table c.index.result.now found c.args.key.now (λ row. counted_at row.cells c.args.col)))
+    rw (← c.self.view_is) (c.of_key.ensures ∙ sym (of_key-placed c.self.inside.tables.items c.args.table c.index.result.now found c.args.key.now))
