@@ -33,7 +33,7 @@ pub record CountsOwn (seats : List (ℕ × ℕ)) (next : ℕ) (events : List Eve
 pub own-more : (q : ℕ) (events : List Event) (e : Event) (b : Bool) → (e.seat == q) ≡ b → own q (events ++ e ∷ []) ≡ own q events ++ cond b (e ∷ []) []
 own-more q events e b is = filter-append (λ (e : Event). e.seat == q) events (e ∷ []) ∙ ap (λ b. own q events ++ cond b (e ∷ []) []) is
 
-own-this : (q : ℕ) (events : List Event) (e : Event) → (e.seat == q) ≡ true → length (own q (events ++ e ∷ [])) ≡ length (own q events) + 1
+pub own-this : (q : ℕ) (events : List Event) (e : Event) → (e.seat == q) ≡ true → length (own q (events ++ e ∷ [])) ≡ length (own q events) + 1
 own-this q events e is = let more = ap length (own-more q events e true is) in omega (arith, length-append (own q events) (e ∷ []))
 
 own-other : (q : ℕ) (events : List Event) (e : Event) → (e.seat == q) ≡ false → own q (events ++ e ∷ []) ≡ own q events

@@ -15,6 +15,8 @@ use Rattle.fleet_model.specs.Machine.{counts_now}
 use Rattle.hub.specs.History.{Beginning, longer_by, made}
 use Rattle.hub.specs.Copied.{Brought, Stores, all_taken, taken, whole}
 use Rattle.hub.specs.Roll.{Counted, IsCountOf, MayPost, last_after}
+use Rattle.hub.specs.Sitting.{Recalled, Recalls, opened_after}
+use Rattle.hub.proofs.Recalling.{recalls_more}
 use Rattle.hub.proofs.Counting.{found}
 use Rattle.hub.proofs.Rolling.{event_at, longer, post_counts, post_more, state_at}
 
@@ -40,36 +42,50 @@ pub all_tail : {X : Type 0} (P : X → Type 0) (x : X) (xs : List X) → All P (
 all_tail P x xs h k d below = h (suc k) d (omega arith)
 
 -- what is left of a batch, and where it stands
-pub record Filling (seat number : ℕ) (all : List What) (q0 : List Brought) (b0 : Beginning) (rest : List What) (q : List Brought) (b : Beginning) (roll : Counted) (seq : ℕ) : Type 0 where
-  pub front : longer_by b (made seat seq rest) ≡ longer_by b0 (made seat number all)
+pub record Filling (r0 : Recalled) (all : List What) (q0 : List Brought) (b0 : Beginning) (rest : List What) (q : List Brought) (b : Beginning) (roll : Counted) (r : Recalled) : Type 0 where
+  pub seat : r.seat ≡ r0.seat
+  pub number : r.number + length rest ≡ r0.number + length all
+  pub front : longer_by b (made r.seat r.number rest) ≡ longer_by b0 (made r0.seat r0.number all)
   pub counted : IsCountOf roll b
+  pub recalled : Recalls r b
   pub fits : All (MayPost b.config) rest
-  pub due : found seat roll.seats ≡ Some seq
-  pub last : seq + length rest < 2 ^ 62
+  pub due : found r.seat roll.seats ≡ Some r.number
+  pub last : r.number + length rest < 2 ^ 62
   pub stored : Stores q0 b0 q b
 
-pub filled_one : (seat number : ℕ) (all : List What) (q0 : List Brought) (b0 : Beginning) (what : What) (rest : List What) (q : List Brought) (b : Beginning) (roll : Counted) (seq : ℕ)
-    → Filling seat number all q0 b0 (what ∷ rest) q b roll seq
-    → (b' : Beginning) (q' : List Brought) (roll' : Counted) → b' ≡ longer b (event_at seat seq what)
-    → q' ≡ q ++ (record { event = event_at seat seq what; at = b' }) ∷ []
-    → roll' ≡ record { seats = insert_entry nat_cmp roll.seats seat (seq + 1); next_seat = roll.next_seat; last = last_after roll.last seat what }
-    → Filling seat number all q0 b0 rest q' b' roll' (seq + 1)
-filled_one seat number all q0 b0 what rest q b roll seq h b' q' roll' b_is q_is roll_is =
-    let e = event_at seat seq what in
-    let small : seq < 2 ^ 62 = let l = h.last in omega arith in
-    let count = post_more b roll seat seq what h.counted (all_head (MayPost b.config) what rest h.fits) h.due small in
-    record {
-      front = ap (λ (c : Beginning). longer_by c (made seat (seq + 1) rest)) b_is ∙ (ap (λ es. record b { events = es }) (append_assoc b.events (e ∷ []) (made seat (seq + 1) rest)) ∙ h.front);
-      counted = subst (λ (r : Counted). IsCountOf r b') (sym roll_is) (subst (IsCountOf _) (sym b_is) count);
-      fits = subst (λ (c : Beginning). All (MayPost c.config) rest) (sym b_is) (all_tail (MayPost b.config) what rest h.fits);
-      due = ap (λ (r : Counted). found seat r.seats) roll_is ∙ found_same seat (seq + 1) roll.seats;
-      last = let l = h.last in omega arith;
-      stored = λ x brings. stored_one q q' b b' e b_is q_is x (h.stored x brings);
-    }
-
-pub filling_counts : (seat number : ℕ) (all : List What) (q0 : List Brought) (b0 : Beginning) (what : What) (rest : List What) (q : List Brought) (b : Beginning) (roll : Counted) (seq : ℕ)
-    → Filling seat number all q0 b0 (what ∷ rest) q b roll seq → counts_now (state_at b) (event_at seat seq what) ≡ true
-filling_counts seat number all q0 b0 what rest q b roll seq h =
+pub filled_one : (r0 : Recalled) (all : List What) (q0 : List Brought) (b0 : Beginning) (what : What) (rest : List What) (q : List Brought) (b : Beginning) (roll : Counted) (r : Recalled)
+    → Filling r0 all q0 b0 (what ∷ rest) q b roll r
+    → (e : Event) (b' : Beginning) (q' : List Brought) (roll' : Counted) (r' : Recalled) → e ≡ event_at r.seat r.number what → b' ≡ longer b e
+    → q' ≡ q ++ (record { event = e; at = b' }) ∷ []
+    → roll' ≡ record { seats = insert_entry nat_cmp roll.seats e.seat (e.seq + 1); next_seat = roll.next_seat; last = last_after roll.last e.seat e.what }
+    → r' ≡ record { seat = r.seat; number = r.number + 1; opened = opened_after r.opened what }
+    → Filling r0 all q0 b0 rest q' b' roll' r'
+filled_one r0 all q0 b0 what rest q b roll r h e b' q' roll' r' e_is b_is q_is roll_is r_is =
+    let f = event_at r.seat r.number what in
+    let small : r.number < 2 ^ 62 = let l = h.last in omega arith in
     let may = all_head (MayPost b.config) what rest h.fits in
-    let small : seq < 2 ^ 62 = let l = h.last in omega arith in
-    post_counts b roll seat seq what h.counted may.sits may.fits h.due small
+    let longer_is : b' ≡ longer b f = b_is ∙ ap (longer b) e_is in
+    let rolled : roll' ≡ record { seats = insert_entry nat_cmp roll.seats r.seat (r.number + 1); next_seat = roll.next_seat; last = last_after roll.last r.seat what }
+    = roll_is ∙ ap (λ (e : Event). record { seats = insert_entry nat_cmp roll.seats e.seat (e.seq + 1); next_seat = roll.next_seat; last = last_after roll.last e.seat e.what }) e_is in
+    let count = post_more b roll r.seat r.number what h.counted may h.due small in
+    let recall = recalls_more r b what h.recalled may.fits in
+    let r'' : Recalled = record { seat = r.seat; number = r.number + 1; opened = opened_after r.opened what } in
+    subst (Filling r0 all q0 b0 rest q' b' roll') (sym r_is)
+    (record {
+      seat = h.seat;
+      number = let n = h.number in omega arith;
+      front = ap (λ (c : Beginning). longer_by c (made r.seat (r.number + 1) rest)) longer_is ∙ (ap (λ es. record b { events = es }) (append_assoc b.events (f ∷ []) (made r.seat (r.number + 1) rest)) ∙ h.front);
+      counted = subst (λ (c : Counted). IsCountOf c b') (sym rolled) (subst (IsCountOf _) (sym longer_is) count);
+      recalled = subst (Recalls r'') (sym longer_is) recall;
+      fits = subst (λ (c : Beginning). All (MayPost c.config) rest) (sym longer_is) (all_tail (MayPost b.config) what rest h.fits);
+      due = ap (λ (c : Counted). found r.seat c.seats) rolled ∙ found_same r.seat (r.number + 1) roll.seats;
+      last = let l = h.last in omega arith;
+      stored = λ x brings. stored_one q q' b b' f longer_is (q_is ∙ ap (λ (e : Event). q ++ (record { event = e; at = b' }) ∷ []) e_is) x (h.stored x brings);
+    })
+
+pub filling_counts : (r0 : Recalled) (all : List What) (q0 : List Brought) (b0 : Beginning) (what : What) (rest : List What) (q : List Brought) (b : Beginning) (roll : Counted) (r : Recalled)
+    → Filling r0 all q0 b0 (what ∷ rest) q b roll r → (e : Event) → e ≡ event_at r.seat r.number what → counts_now (state_at b) e ≡ true
+filling_counts r0 all q0 b0 what rest q b roll r h e e_is =
+    let may = all_head (MayPost b.config) what rest h.fits in
+    let small : r.number < 2 ^ 62 = let l = h.last in omega arith in
+    ap (counts_now (state_at b)) e_is ∙ post_counts b roll r.seat r.number what h.counted may.sits may.fits h.due small

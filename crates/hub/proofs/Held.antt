@@ -45,6 +45,9 @@ sits_alone b roll is all =
     let this : (roll.next_seat == roll.next_seat) ≡ true = grind (arith, nat_tests) in
     own-more roll.next_seat b.events (event_at roll.next_seat 0 Sit) true this ∙ ap (λ es. es ++ event_at roll.next_seat 0 Sit ∷ []) fresh
 
+abbrev pub seated : ℕ → ℕ → Beginning → Seated
+seated seat number seen = record { seat = seat; number = number; seen = seen }
+
 -- what holds of a seat that sat down
 pub sat_down : (k k' : Kept) (book : Book) (b b' : Beginning) (roll : Counted) (p : Seated) (seat : ℕ) → k.all ≡ b → k'.all ≡ b' → b.of ≡ book → IsCountOf roll b → AllCount b.config b.opening b.events → seat ≡ roll.next_seat
     → nat_lt (length roll.seats) most_seats ≡ true → roll.next_seat ≤ 2 ^ 62 → b' ≡ longer b (event_at seat 0 Sit) → p ≡ record { seat = seat; number = 1; seen = b' } → SitsDownIn k k' book p

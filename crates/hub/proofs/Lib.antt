@@ -4,5 +4,7 @@ pub mod Adding
 pub mod Publishes
 pub mod Counting
 pub mod Rolling
+pub mod Recalling
+pub mod Replacing
 pub mod Filling
 pub mod Held

@@ -91,11 +91,14 @@ or_none : (a : Option ℕ) → option_or a None ≡ a
 or_none None = refl
 or_none (Some a) = refl
 
-pub last_opener-more : (peer : ℕ) (events : List Event) (e : Event) → last_opener peer (events ++ e ∷ []) ≡ option_or (then_some (opens peer e.what) e.seat) (last_opener peer events)
-last_opener-more peer [] e = sym (or_none (then_some (opens peer e.what) e.seat))
-last_opener-more peer (f ∷ events) e =
-    ap (λ o. option_or o (then_some (opens peer f.what) f.seat)) (last_opener-more peer events e)
-    ∙ or_assoc (then_some (opens peer e.what) e.seat) (last_opener peer events) (then_some (opens peer f.what) f.seat)
+pub last_opener-append : (peer : ℕ) (events later : List Event) → last_opener peer (events ++ later) ≡ option_or (last_opener peer later) (last_opener peer events)
+last_opener-append peer [] later = sym (or_none (last_opener peer later))
+last_opener-append peer (f ∷ events) later =
+    ap (λ o. option_or o (then_some (opens peer f.what) f.seat)) (last_opener-append peer events later)
+    ∙ or_assoc (last_opener peer later) (last_opener peer events) (then_some (opens peer f.what) f.seat)
+
+last_opener-more : (peer : ℕ) (events : List Event) (e : Event) → last_opener peer (events ++ e ∷ []) ≡ option_or (then_some (opens peer e.what) e.seat) (last_opener peer events)
+last_opener-more peer events e = last_opener-append peer events (e ∷ [])
 
 abbrev Lasts : List (Option ℕ) → List Event → Type 0
 Lasts last events = (peer : ℕ) → get_or last peer None ≡ last_opener peer events

@@ -1,6 +1,7 @@
 -- What a post does to all that lies under the lock.
-use Rattle.std.specs.Prelude.{◌≡◌, List}
+use Rattle.std.specs.Prelude.{◌≡◌, List, [], ◌∷◌, Option, None, Some}
 use Rattle.agg_types.specs.declared.event.What.{What}
+use Rattle.agg_types.specs.declared.event.What.TheVariants.{Leave}
 use Rattle.hub.specs.declared.faults.PostFault.{PostFault}
 use Rattle.hub.specs.declared.faults.PostFault.TheVariants.{Replaced, NotNext, NoMemory, Pending, Spent}
 use Rattle.hub.specs.History.{Beginning, longer_by, made}
@@ -19,6 +20,11 @@ IsShownAll k b = (k.all ≡ b) × (k.shown ≡ whole b)
 
 abbrev pub KeepsAtOk : Kept → Kept → Seated → List What → Beginning → Type 0
 KeepsAtOk k k' p whats shown = AddsBatch k k' p whats × IsShownAll k' shown
+
+-- the seat's Leave was stored; with a receipt it is shown, too
+abbrev pub KeepsAtLeave : Kept → Kept → Seated → Option Beginning → Type 0
+KeepsAtLeave k k' p None = AddsBatch k k' p (Leave ∷ []) × (k'.shown ≡ k.shown)
+KeepsAtLeave k k' p (Some shown) = KeepsAtOk k k' p (Leave ∷ []) shown
 
 -- a refusal stores nothing, but for Pending, which stores all and shows nothing
 abbrev pub KeepsAtErr : Kept → Kept → Seated → List What → PostFault → Type 0

@@ -2,6 +2,7 @@ pub mod History
 pub mod Law
 pub mod Copied
 pub mod Roll
+pub mod Sitting
 pub mod Posts
 pub mod Kept
 pub mod Keeping

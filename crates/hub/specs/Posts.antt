@@ -33,15 +33,40 @@ is_put (AddFilter filter) = false
 is_put (Moment moment) = false
 is_put Leave = false
 
+-- a seat opened a peer that another seat opened later
+abbrev pub is_replaced : ℕ → ℕ → List Event → ℕ → Bool
+is_replaced seat by events peer =
+    list_any (opens_at seat peer) events && is_number (last_opener peer events) by
+    && not (by == seat)
+
+-- what a seat posts behind these events and its first posts is a Put of such a peer
+pub record IsReplacedPut (p : Seated) (before : List Event) (first : List What) (put : What)
+    (by : ℕ) : Type 0 where
+  pub puts : is_put put ≡ true
+  pub replaced : is_replaced p.seat by (before ++ made p.seat p.number first) (putter put) ≡ true
+
+-- some post of a batch is one, at its place
+pub record FindsReplaced (p : Seated) (before : List Event) (whats : List What) (by : ℕ)
+    : Type 0 where
+  pub first : List What
+  pub put : What
+  pub later : List What
+  pub split : whats ≡ first ++ put ∷ later
+  pub at : IsReplacedPut p before first put by
+
+abbrev pub NoneReplaced : Seated → List Event → List What → Type 0
+NoneReplaced p before whats = (by : ℕ) → FindsReplaced p before whats by → ⊥
+
 -- The batch stands at the end of the list, in order and with the seat's next numbers. Before it
 -- stand all that the pass had seen, and as many events of its seat as its number says. All events
--- of the list count.
+-- of the list count, and no Put of the batch is of a peer that another seat opened later.
 pub record ShowsBatch (p : Seated) (whats : List What) (shown : Beginning) : Type 0 where
   pub before : Beginning
   pub seen : Follows p.seen before
   pub owns : length (own p.seat before.events) ≡ p.number
   pub posted : shown ≡ longer_by before (made p.seat p.number whats)
   pub legal : AllCount shown.config shown.opening shown.events
+  pub none_replaced : NoneReplaced p before.events whats
 
 -- the batch is shown, and the pass has seen the list and goes on behind it
 abbrev pub PostsAfter : Seated → Seated → List What → Beginning → Type 0
@@ -55,22 +80,10 @@ pub record IsNotNext (p : Seated) (found : ℕ) (shown : Beginning) : Type 0 whe
   pub owns : length (own p.seat shown.events) ≡ found
   pub other : found ≢ p.number
 
--- a seat opened a peer that another seat opened later
-abbrev pub is_replaced : ℕ → ℕ → List Event → ℕ → Bool
-is_replaced seat by events peer =
-    list_any (opens_at seat peer) events && is_number (last_opener peer events) by
-    && not (by == seat)
-
--- some posted Put is of such a peer, at its place behind the list
+-- some posted Put is of a peer that another seat opened later
 pub record IsReplaced (p : Seated) (whats : List What) (by : ℕ) (shown : Beginning) : Type 0 where
   pub seen : Follows p.seen shown
-  pub first : List What
-  pub put : What
-  pub later : List What
-  pub split : whats ≡ first ++ put ∷ later
-  pub puts : is_put put ≡ true
-  pub replaced : is_replaced p.seat by (shown.events ++ made p.seat p.number first) (putter put)
-      ≡ true
+  pub found : FindsReplaced p shown.events whats by
 
 -- the pass after its batch was stored, and not shown yet
 abbrev pub advanced : Seated → ℕ → Seated

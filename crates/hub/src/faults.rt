@@ -4,8 +4,8 @@ use agg_types::What;
 /// Why a post was refused.
 #[derive(Drop)]
 pub enum PostFault {
-    /// A Put of a peer that this seat opened, and that seat `by` opened later. Nothing was stored.
-    /// No post answers this yet: the book takes no such Put, and the post is Ok.
+    /// A Put of a peer that this seat opened, and that seat `by` opened later: its row would not be
+    /// taken. Nothing was stored.
     Replaced { by: u64, shown: Receipt },
     /// The history has `found` events of this seat, and the pass's number is another. Nothing was
     /// stored.

@@ -160,7 +160,7 @@ impl<J: Naming, R: Wait + Drop> Hub<J, R> {
             hang(rt);
             unreachable!()
         };
-        let (keeper, answer) = keeper.seat(rt, &self.log);
+        let (keeper, answer) = keeper.seat(rt, self.alloc, &self.log);
         *guard = Some(keeper);
         let pass = answer?;
         self.know(rt, &pass);

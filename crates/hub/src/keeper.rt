@@ -13,9 +13,10 @@ ghost use Rattle.fleet_model.specs.Machine.{opened};
 ghost use Rattle.fleet_model.specs.Seats.{most_seats};
 ghost use Rattle.hub.specs.Copied.{whole};
 ghost use Rattle.hub.specs.Kept.{IsTold};
-ghost use Rattle.hub.specs.Keeping.{AddsBatch, IsShownAll, KeepsAtErr, KeepsAtOk, SitsDownIn};
-ghost use Rattle.hub.specs.Posts.{Follows, LeaveRefused, PostRefused, PostsAfter, ShowsBatch};
+ghost use Rattle.hub.specs.Keeping.{IsShownAll, KeepsAtErr, KeepsAtLeave, KeepsAtOk, SitsDownIn};
+ghost use Rattle.hub.specs.Posts.{FindsReplaced, Follows, LeaveRefused, NoneReplaced, PostRefused, PostsAfter, ShowsBatch, advanced};
 ghost use Rattle.hub.specs.Roll.{MayPost};
+ghost use Rattle.hub.specs.Sitting.{sits_new};
 
 use crate::copies::{Note, Op, Shown};
 use crate::faults::{PostFault, SeatFault};
@@ -25,7 +26,8 @@ use crate::naming::Naming;
 use crate::pass::Pass;
 use crate::receipt::Receipt;
 use crate::roll::Roll;
-use crate::store::{hang, store, store_all};
+use crate::sitting::Sitting;
+use crate::store::{hang, store};
 use agg_types::{Event, NoMemory, What};
 use book::Book;
 use left_right::writer::Writer;
@@ -131,23 +133,38 @@ impl<J: Naming, R: Wait + Drop> Keeper<J, R> {
         }
     }
 
-    /// Stores what a seat posts, or hands it back where there is no memory for all of it.
+    /// The seat that opened the peer of a posted Put after the pass's seat did.
+    fn replaced<W: Wait>(&self, rt: &W, pass: &Pass, whats: &[What]) -> Option<u64>
+        requires of { pass.now.seen.of ≡ J.book }
+        requires owns { length (own pass.now.seat self.now.all.events) ≡ pass.now.number }
+        ensures { MatchOption result (NoneReplaced pass.now self.now.all.events whats.now)
+            (FindsReplaced pass.now self.now.all.events whats.now) }
+    {
+        pass.replaced(rt, &self.front, &self.roll, whats)
+    }
+
+    /// Stores what a pass posts, or hands it back where there is no memory for all of it.
     pub fn add<W: Wait>(
         self,
         rt: &W,
         log: &Log,
-        seat: u64,
-        number: u64,
+        pass: &mut Pass,
         whats: Vec<What>,
     ) -> (Keeper<J, R>, Result<(), Vec<What>>)
         requires log { log.now ≡ J.book }
+        requires pass { pass.old.seen.of ≡ J.book }
+        requires owns { length (own pass.old.seat self.all.events) ≡ pass.old.number }
         requires fits { All (MayPost self.all.config) whats.items }
-        requires due { lookup (is_at (nat_cmp seat)) self.roll.seats ≡ Some number }
-        requires last { number + vec_len whats < 2 ^ 62 }
+        requires due { lookup (is_at (nat_cmp pass.old.seat)) self.roll.seats
+            ≡ Some pass.old.number }
+        requires last { pass.old.number + vec_len whats < 2 ^ 62 }
         ensures shown { result.0.shown ≡ self.shown }
         ensures all { MatchResult result.1
-            (λ _. result.0.all ≡ longer_by self.all (made seat number whats.items))
+            (λ _. result.0.all
+            ≡ longer_by self.all (made pass.old.seat pass.old.number whats.items))
             (λ back. (back ≡ whats) × (result.0.all ≡ self.all)) }
+        ensures pass { MatchResult result.1 (λ _. pass.new ≡ advanced pass.old (vec_len whats))
+            (λ _. pass.new ≡ pass.old) }
     {
         let Keeper {
             hand,
@@ -166,9 +183,7 @@ impl<J: Naming, R: Wait + Drop> Keeper<J, R> {
             };
             return (keeper, Err(whats));
         }
-        store_all(
-            rt, log, &mut front, &mut queue, &mut roll, seat, number, whats,
-        );
+        pass.store(rt, log, &mut front, &mut queue, &mut roll, whats);
         let keeper = Keeper {
             hand,
             front,
@@ -186,6 +201,21 @@ impl<J: Naming, R: Wait + Drop> Keeper<J, R> {
     {
         let _count = self.front.len();
         Receipt::of(self.front.again())
+    }
+
+    /// Shows readers the whole history, and which that is, if there is memory for it.
+    fn show_all<W: Wait>(self, rt: &W) -> (Keeper<J, R>, Option<Receipt>)
+        ensures all { (result.0.all ≡ self.all) × (result.0.roll ≡ self.roll) }
+        ensures shown { MatchOption result.1 (result.0.shown ≡ self.shown)
+            (λ r. (r ≡ self.all) × (result.0.shown ≡ whole self.all)
+            × AllCount r.config r.opening r.events) }
+    {
+        let (keeper, shown) = self.flush(rt);
+        if !shown {
+            return (keeper, None);
+        }
+        let receipt = keeper.receipt();
+        (keeper, Some(receipt))
     }
 
     /// Adds a batch to the history, and shows it.
@@ -206,33 +236,66 @@ impl<J: Naming, R: Wait + Drop> Keeper<J, R> {
     {
         let found = self.count_of(rt, pass);
         if found != pass.number() {
-            let (keeper, shown) = self.flush(rt);
-            if !shown {
+            let (keeper, shown) = self.show_all(rt);
+            let Some(shown) = shown else {
                 return (keeper, Err(PostFault::NoMemory(whats)));
-            }
-            let shown = keeper.receipt();
+            };
             return (keeper, Err(PostFault::NotNext { found, shown }));
         }
-        let count = whats.len() as u64;
-        if found > LAST_NUMBER || count > LAST_NUMBER - found {
+        if let Some(by) = self.replaced(rt, pass, whats.as_slice()) {
+            let (keeper, shown) = self.show_all(rt);
+            let Some(shown) = shown else {
+                return (keeper, Err(PostFault::NoMemory(whats)));
+            };
+            return (keeper, Err(PostFault::Replaced { by, shown }));
+        }
+        if found > LAST_NUMBER || whats.len() as u64 > LAST_NUMBER - found {
             return (self, Err(PostFault::Spent));
         }
-        let (keeper, added) = self.add(rt, log, pass.seat(), found, whats);
+        self.put_in(rt, log, pass, whats)
+    }
+
+    /// Adds a batch to the history that may stand there, and shows it.
+    fn put_in<W: Wait>(
+        self,
+        rt: &W,
+        log: &Log,
+        pass: &mut Pass,
+        whats: Vec<What>,
+    ) -> (Keeper<J, R>, Result<Receipt, PostFault>)
+        requires log { log.now ≡ J.book }
+        requires pass { pass.old.seen.of ≡ J.book }
+        requires follows { Follows pass.old.seen self.all }
+        requires owns { length (own pass.old.seat self.all.events) ≡ pass.old.number }
+        requires fits { All (MayPost self.all.config) whats.items }
+        requires due { lookup (is_at (nat_cmp pass.old.seat)) self.roll.seats
+            ≡ Some pass.old.number }
+        requires none_replaced { NoneReplaced pass.old self.all.events whats.items }
+        requires last { pass.old.number + vec_len whats < 2 ^ 62 }
+        ensures kept { MatchResult result.1 (KeepsAtOk self result.0 pass.old whats.items)
+            (KeepsAtErr self result.0 pass.old whats.items) }
+        ensures told { MatchResult result.1 (PostsAfter pass.old pass.new whats.items)
+            (PostRefused pass.old pass.new whats.items) }
+    {
+        let (keeper, added) = self.add(rt, log, pass, whats);
         if let Err(whats) = added {
             return (keeper, Err(PostFault::NoMemory(whats)));
         }
-        pass.advance(found + count);
-        let (keeper, shown) = keeper.flush(rt);
-        if !shown {
+        let (keeper, shown) = keeper.show_all(rt);
+        let Some(receipt) = shown else {
             return (keeper, Err(PostFault::Pending));
-        }
-        let receipt = keeper.receipt();
+        };
         pass.see(receipt.front().again());
         (keeper, Ok(receipt))
     }
 
     /// The next seat sits down. Nothing is shown yet.
-    pub fn seat<W: Wait>(self, rt: &W, log: &Log) -> (Keeper<J, R>, Result<Pass, SeatFault>)
+    pub fn seat<W: Wait>(
+        self,
+        rt: &W,
+        alloc: Global,
+        log: &Log,
+    ) -> (Keeper<J, R>, Result<Pass, SeatFault>)
         requires { log.now ≡ J.book }
         ensures shown { result.0.shown ≡ self.shown }
         ensures pass { MatchResult result.1 (SitsDownIn self result.0 J.book)
@@ -241,11 +304,20 @@ impl<J: Naming, R: Wait + Drop> Keeper<J, R> {
         if !self.roll.has_free_seat() {
             return (self, Err(SeatFault::NoSeat));
         }
-        self.sit_down(rt, log)
+        let Ok(sitting) = Sitting::new(alloc, self.roll.next_seat(), self.roll.peers()) else {
+            return (self, Err(SeatFault::NoMemory));
+        };
+        self.sit_down(rt, log, sitting)
     }
 
-    fn sit_down<W: Wait>(self, rt: &W, log: &Log) -> (Keeper<J, R>, Result<Pass, SeatFault>)
+    fn sit_down<W: Wait>(
+        self,
+        rt: &W,
+        log: &Log,
+        sitting: Sitting,
+    ) -> (Keeper<J, R>, Result<Pass, SeatFault>)
         requires log { log.now ≡ J.book }
+        requires sitting { sitting ≡ sits_new self.roll }
         requires free { nat_lt (length self.roll.seats) most_seats ≡ true }
         requires small { self.roll.next_seat ≤ 2 ^ 62 }
         ensures shown { result.0.shown ≡ self.shown }
@@ -287,7 +359,7 @@ impl<J: Naming, R: Wait + Drop> Keeper<J, R> {
             what: What::Sit,
         };
         store(rt, log, &mut front, &mut queue, event);
-        let pass = Pass::new(seat, front.again());
+        let pass = Pass::new(sitting, front.again());
         let keeper = Keeper {
             hand,
             front,
@@ -351,35 +423,53 @@ impl<J: Naming, R: Wait + Drop> Keeper<J, R> {
     ) -> (Keeper<J, R>, Result<Option<Receipt>, (Pass, PostFault)>)
         requires log { log.now ≡ J.book }
         requires pass { pass.seen.of ≡ J.book }
-        ensures kept { MatchResult result.1
-            (λ r. MatchOption r
-            (AddsBatch self result.0 pass (Leave ∷ []) × (result.0.shown ≡ self.shown))
-            (KeepsAtOk self result.0 pass (Leave ∷ [])))
+        ensures kept { MatchResult result.1 (KeepsAtLeave self result.0 pass)
             (λ refused. KeepsAtErr self result.0 pass (Leave ∷ []) refused.1) }
         ensures told { MatchResult result.1 (λ r. IfSome r (ShowsBatch pass (Leave ∷ [])))
             (λ refused. LeaveRefused pass refused.0 refused.1) }
     {
         let found = self.count_of(rt, &pass);
         if found != pass.number() {
-            let (keeper, shown) = self.flush(rt);
-            if !shown {
+            let (keeper, shown) = self.show_all(rt);
+            let Some(shown) = shown else {
                 return (keeper, Err((pass, PostFault::NoMemory(Vec::new(alloc)))));
-            }
-            let shown = keeper.receipt();
+            };
             return (keeper, Err((pass, PostFault::NotNext { found, shown })));
         }
         if found > LAST_NUMBER {
             hang(rt);
+            unreachable!();
         }
-        let (keeper, left) = self.stand_up(rt, log, pass.seat(), found);
+        self.go(rt, alloc, log, pass)
+    }
+
+    /// A seat leaves that may, and that is shown.
+    fn go<W: Wait>(
+        self,
+        rt: &W,
+        alloc: Global,
+        log: &Log,
+        pass: Pass,
+    ) -> (Keeper<J, R>, Result<Option<Receipt>, (Pass, PostFault)>)
+        requires log { log.now ≡ J.book }
+        requires follows { Follows pass.seen self.all }
+        requires owns { length (own pass.seat self.all.events) ≡ pass.number }
+        requires due { lookup (is_at (nat_cmp pass.seat)) self.roll.seats ≡ Some pass.number }
+        requires none_replaced { NoneReplaced pass self.all.events (Leave ∷ []) }
+        requires small { pass.number < 2 ^ 62 }
+        ensures kept { MatchResult result.1 (KeepsAtLeave self result.0 pass)
+            (λ refused. KeepsAtErr self result.0 pass (Leave ∷ []) refused.1) }
+        ensures told { MatchResult result.1 (λ r. IfSome r (ShowsBatch pass (Leave ∷ [])))
+            (λ refused. LeaveRefused pass refused.0 refused.1) }
+    {
+        let (keeper, left) = self.stand_up(rt, log, pass.seat(), pass.number());
         if !left {
             return (keeper, Err((pass, PostFault::NoMemory(Vec::new(alloc)))));
         }
-        let (keeper, shown) = keeper.flush(rt);
-        if !shown {
+        let (keeper, shown) = keeper.show_all(rt);
+        let Some(receipt) = shown else {
             return (keeper, Ok(None));
-        }
-        let receipt = keeper.receipt();
+        };
         (keeper, Ok(Some(receipt)))
     }
 

@@ -24,6 +24,7 @@ mod naming;
 mod pass;
 mod receipt;
 mod roll;
+mod sitting;
 mod store;
 
 pub use faults::{LensFault, PostFault, SeatFault};

@@ -1,32 +1,56 @@
-ghost use Rattle.std.specs.Prelude.{◌≡◌, ◌+◌};
+ghost use Rattle.std.specs.Prelude.{◌≡◌, ◌≤◌, ◌<◌, ◌+◌, ◌^◌, length, Some, vec_len, MatchOption};
+ghost use Rattle.std.specs.BTreeMap.{is_at};
+ghost use Rattle.std.specs.List.{All};
+ghost use Rattle.std.specs.Map.{lookup};
+ghost use Rattle.std.specs.Ordering.{nat_cmp};
+ghost use Rattle.std.specs.VecDeque.{deque_len, deque_capacity};
+ghost use Rattle.hub.specs.Copied.{Stores};
+ghost use Rattle.hub.specs.History.{longer_by, made, own};
+ghost use Rattle.hub.specs.Posts.{FindsReplaced, NoneReplaced, advanced};
+ghost use Rattle.hub.specs.Roll.{IsCountOf, MayPost};
+ghost use Rattle.hub.specs.Sitting.{Recalls};
 
-use crate::log::Front;
+use crate::copies::Op;
+use crate::log::{Front, Log};
+use crate::roll::Roll;
+use crate::sitting::Sitting;
+use crate::store::{hang, store_all};
+use agg_types::What;
+use std::collections::VecDeque;
 use std::marker::Model;
+use std::sync::Wait;
 
 /// The right to post at a seat. Contracts see its seat, the number of its next event, and the list
 /// that it has seen.
 #[derive(Drop)]
 pub struct Pass {
-    seat: u64,
-    number: u64,
+    sitting: Sitting,
+    // All that was stored of its seat stands here.
+    stored: Front,
     front: Front,
 }
 
 impl Model for Pass {
+    ghost use Rattle.std.specs.Prelude.{◌≡◌};
     ghost use Rattle.hub.specs.Posts.{Seated};
+    ghost use Rattle.hub.specs.Sitting.{Recalls};
 
     ghost Value = { Seated };
 
-    ghost view = { λ p. record { seat = p.seat; number = p.number; seen = p.front } };
+    ghost view = { λ p.
+        record { seat = p.sitting.seat; number = p.sitting.number; seen = p.front } };
+
+    ghost invariant = { λ p. Recalls p.sitting p.stored × (p.stored.of ≡ p.front.of) };
 }
 
 impl Pass {
-    pub(crate) fn new(seat: u64, front: Front) -> Pass
-        ensures { result ≡ record { seat = seat; number = 1; seen = front } }
+    pub(crate) fn new(sitting: Sitting, front: Front) -> Pass
+        requires { Recalls sitting front }
+        ensures { result ≡ record { seat = sitting.seat; number = sitting.number; seen = front } }
     {
         Pass {
-            seat,
-            number: 1,
+            sitting,
+            stored: front.again(),
             front,
         }
     }
@@ -35,13 +59,13 @@ impl Pass {
     pub fn seat(&self) -> u64
         ensures { result ≡ self.now.seat }
     {
-        self.seat
+        self.sitting.seat()
     }
 
     pub(crate) fn number(&self) -> u64
         ensures { result ≡ self.now.number }
     {
-        self.number
+        self.sitting.number()
     }
 
     pub(crate) fn front(&self) -> &Front
@@ -50,17 +74,71 @@ impl Pass {
         &self.front
     }
 
-    // Its next event has this number.
-    pub(crate) fn advance(&mut self, number: u64)
-        ensures { self.new ≡ record self.old { number = number } }
-    {
-        self.number = number;
-    }
-
     // It has seen this list.
     pub(crate) fn see(&mut self, front: Front)
+        requires { front.of ≡ self.old.seen.of }
         ensures { self.new ≡ record self.old { seen = front } }
     {
         self.front = front;
+    }
+
+    // The seat that opened the peer of a posted Put after this seat did, behind all that happened.
+    #[tactic(auto, using(crate::proofs::Replacing::none_all))]
+    pub(crate) fn replaced<R: Wait>(
+        &self,
+        rt: &R,
+        front: &Front,
+        roll: &Roll,
+        whats: &[What],
+    ) -> Option<u64>
+        requires of { front.now.of ≡ self.now.seen.of }
+        requires counted { IsCountOf roll.now front.now }
+        requires owns { length (own self.now.seat front.now.events) ≡ self.now.number }
+        ensures { MatchOption result (NoneReplaced self.now front.now.events whats.now)
+            (FindsReplaced self.now front.now.events whats.now) }
+    {
+        if !self.stored.compare(front) {
+            hang(rt);
+            unreachable!();
+        }
+        for (i, what) in whats.iter().enumerate() {
+            if let Some(by) = self.sitting.replacer_at(roll, &whats[..i], what) {
+                return Some(by);
+            }
+        }
+        None
+    }
+
+    // Adds what it posts to the history, and goes on behind it.
+    pub(crate) fn store<R: Wait>(
+        &mut self,
+        rt: &R,
+        log: &Log,
+        front: &mut Front,
+        queue: &mut VecDeque<Op>,
+        roll: &mut Roll,
+        whats: Vec<What>,
+    )
+        requires log { log.now ≡ front.old.of }
+        requires of { front.old.of ≡ self.old.seen.of }
+        requires counted { IsCountOf roll.old front.old }
+        requires owns { length (own self.old.seat front.old.events) ≡ self.old.number }
+        requires fits { All (MayPost front.old.config) whats.items }
+        requires due { lookup (is_at (nat_cmp self.old.seat)) roll.old.seats
+            ≡ Some self.old.number }
+        requires last { self.old.number + vec_len whats < 2 ^ 62 }
+        requires room { deque_len queue.old + vec_len whats ≤ deque_capacity queue.old }
+        ensures front { front.new
+            ≡ longer_by front.old (made self.old.seat self.old.number whats.items) }
+        ensures stored { Stores queue.old.items front.old queue.new.items front.new }
+        ensures counted { IsCountOf roll.new front.new }
+        ensures pass { self.new ≡ advanced self.old (vec_len whats) }
+    {
+        if !self.stored.compare(front) {
+            hang(rt);
+            unreachable!();
+        }
+        store_all(rt, log, front, queue, roll, &mut self.sitting, whats);
+        self.stored = front.again();
     }
 }

@@ -7,7 +7,7 @@ ghost use Rattle.std.specs.Ordering.{nat_cmp};
 ghost use Rattle.fleet_model.specs.Seats.{is_sit, is_leave, most_seats};
 ghost use Rattle.hub.specs.Roll.{last_after};
 
-use agg_types::{NoMemory, What};
+use agg_types::{Event, NoMemory, What};
 use std::alloc::Global;
 use std::collections::BTreeMap;
 use std::marker::Model;
@@ -62,6 +62,13 @@ impl Roll {
         self.next_seat
     }
 
+    /// How many peers there are.
+    pub fn peers(&self) -> usize
+        ensures { result ≡ length self.now.last }
+    {
+        self.last.len()
+    }
+
     /// The number of a seat's next event, or none where it doesn't sit.
     pub fn number_of(&self, seat: u64) -> Option<u64>
         ensures { result ≡ lookup (is_at (nat_cmp seat)) self.now.seats }
@@ -98,25 +105,26 @@ impl Roll {
     }
 
     /// Something happens at a seat that sits, under its next number.
-    pub fn count(&mut self, seat: u64, seq: u64, what: &What)
-        requires due { lookup (is_at (nat_cmp seat)) self.old.seats ≡ Some seq }
-        requires small { seq < 2 ^ 62 }
+    pub fn count(&mut self, event: &Event)
+        requires due { lookup (is_at (nat_cmp event.now.seat)) self.old.seats
+            ≡ Some event.now.seq }
+        requires small { event.now.seq < 2 ^ 62 }
         ensures { self.new ≡
             record {
-              seats = insert_entry nat_cmp self.old.seats seat (seq + 1);
+              seats = insert_entry nat_cmp self.old.seats event.now.seat (event.now.seq + 1);
               next_seat =
                   self.old.next_seat;
-              last = last_after self.old.last seat what.now;
+              last = last_after self.old.last event.now.seat event.now.what;
             } }
     {
-        match self.seats.insert(seat, seq + 1) {
+        match self.seats.insert(event.seat, event.seq + 1) {
             Ok(_) => {}
             Err(_) => unreachable!(),
         }
-        if let What::Open(peer) = what
+        if let What::Open(peer) = &event.what
             && let Some(last) = self.last.get_mut(*peer)
         {
-            *last = Some(seat);
+            *last = Some(event.seat);
         }
     }
 

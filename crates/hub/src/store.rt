@@ -11,10 +11,12 @@ ghost use Rattle.fleet_model.specs.State.{state_of};
 ghost use Rattle.hub.specs.History.{longer_by, made};
 ghost use Rattle.hub.specs.Copied.{Stores};
 ghost use Rattle.hub.specs.Roll.{IsCountOf, MayPost};
+ghost use Rattle.hub.specs.Sitting.{Recalls};
 
 use crate::copies::Op;
 use crate::log::{Front, Log};
 use crate::roll::Roll;
+use crate::sitting::Sitting;
 use agg_types::{Event, What};
 use std::collections::VecDeque;
 use std::sync::Wait;
@@ -55,25 +57,28 @@ pub fn store_all<R: Wait>(
     front: &mut Front,
     queue: &mut VecDeque<Op>,
     roll: &mut Roll,
-    seat: u64,
-    number: u64,
+    sitting: &mut Sitting,
     whats: Vec<What>,
 )
     requires log { log.now ≡ front.old.of }
     requires counted { IsCountOf roll.old front.old }
+    requires recalled { Recalls sitting.old front.old }
     requires fits { All (MayPost front.old.config) whats.items }
-    requires due { lookup (is_at (nat_cmp seat)) roll.old.seats ≡ Some number }
-    requires last { number + vec_len whats < 2 ^ 62 }
+    requires due { lookup (is_at (nat_cmp sitting.old.seat)) roll.old.seats
+        ≡ Some sitting.old.number }
+    requires last { sitting.old.number + vec_len whats < 2 ^ 62 }
     requires room { deque_len queue.old + vec_len whats ≤ deque_capacity queue.old }
-    ensures front { front.new ≡ longer_by front.old (made seat number whats.items) }
+    ensures front { front.new
+        ≡ longer_by front.old (made sitting.old.seat sitting.old.number whats.items) }
     ensures stored { Stores queue.old.items front.old queue.new.items front.new }
     ensures counted { IsCountOf roll.new front.new }
+    ensures recalled { Recalls sitting.new front.new }
+    ensures seat { sitting.new.seat ≡ sitting.old.seat }
+    ensures number { sitting.new.number ≡ sitting.old.number + vec_len whats }
 {
-    let mut seq = number;
     for what in whats {
-        let event = Event { seat, seq, what };
-        roll.count(seat, seq, &event.what);
+        let event = sitting.make(what);
+        roll.count(&event);
         store(rt, log, front, queue, event);
-        seq += 1;
     }
 }

@@ -8,8 +8,10 @@ use Rattle.fleet_model.specs.Seats.{most_seats}
 use Rattle.hub.specs.History.{made}
 use Rattle.hub.specs.Kept.{Kept}
 use Rattle.hub.specs.Roll.{Counted, IsCountOf}
+use Rattle.hub.specs.Sitting.{Recalled, Recalls, sits_new}
 use Rattle.hub.proofs.Filling.{stored_one}
-use Rattle.hub.proofs.Held.{held_longer, sat_down}
+use Rattle.hub.proofs.Held.{held_longer, sat_down, seated}
+use Rattle.hub.proofs.Recalling.{recalls_new}
 use Rattle.hub.proofs.Rolling.{event_at, longer, sit_counts, sit_more, state_at}
 use Rattle.hub.proofs.keeper.Keeper.sit_down.Goals as goal
 
@@ -21,14 +23,26 @@ store-requires-clause-counts g c =
     let small : roll.next_seat ≤ 2 ^ 62 = subst (λ (k : Kept). k.roll.next_seat ≤ 2 ^ 62) (sym c.self.view_is) c.requires.small in
     subst (λ s. counts_now (state_at front) (event_at s 0 Sit) ≡ true) (sym c.next_seat-seat.ensures) (sit_counts front roll c.self.invariant.counted free small)
 
+pub new-pass-requires : goal.new-pass-requires
+new-pass-requires g c =
+    let front = c.self.inside.front in
+    let roll = c.self.inside.roll in
+    let sits : c.args.sitting ≡ sits_new roll = c.requires.sitting ∙ ap (λ (k : Kept). sits_new k.roll) (sym c.self.view_is) in
+    let later : c.again.result ≡ longer front (event_at roll.next_seat 0 Sit) = c.again.ensures ∙ (c.store.ensures.front ∙ ap (λ s. longer front (event_at s 0 Sit)) c.next_seat-seat.ensures) in
+    subst (Recalls c.args.sitting) (sym later) (subst (λ (r : Recalled). Recalls r (longer front (event_at roll.next_seat 0 Sit))) (sym sits) (recalls_new front roll c.self.invariant.counted c.len-count.ensures.legal))
+
 pub returns-clause-pass : goal.returns-clause-pass
 returns-clause-pass g c =
     let front = c.self.inside.front in
     let roll = c.self.inside.roll in
     let free : nat_lt (length roll.seats) most_seats ≡ true = ap (λ (k : Kept). nat_lt (length k.roll.seats) most_seats) c.self.view_is ∙ c.requires.free in
     let small : roll.next_seat ≤ 2 ^ 62 = subst (λ (k : Kept). k.roll.next_seat ≤ 2 ^ 62) (sym c.self.view_is) c.requires.small in
+    let sits : c.args.sitting ≡ sits_new roll = c.requires.sitting ∙ ap (λ (k : Kept). sits_new k.roll) (sym c.self.view_is) in
+    let new : c.new-pass.result ≡ seated c.next_seat-seat.result 1 c.store.new.front =
+    c.new-pass.ensures ∙ (ap (seated c.args.sitting.seat c.args.sitting.number) c.again.ensures
+    ∙ (ap (λ (r : Recalled). seated r.seat r.number c.store.new.front) sits ∙ ap (λ s. seated s 1 c.store.new.front) (sym c.next_seat-seat.ensures))) in
     sat_down c.args.self _ g.J.Naming.book front c.store.new.front roll c.new-pass.result c.next_seat-seat.result (ap (λ (k : Kept). k.all) (sym c.self.view_is)) refl c.self.invariant.named c.self.invariant.counted c.len-count.ensures.legal c.next_seat-seat.ensures
-    free small c.store.ensures.front (c.new-pass.ensures ∙ ap (λ b. record { seat = c.next_seat-seat.result; number = 1; seen = b }) c.again.ensures)
+    free small c.store.ensures.front new
 
 pub invariant_of-keeper-2 : goal.invariant_of-keeper-2
 invariant_of-keeper-2 g c =
