@@ -22,7 +22,7 @@ use Rattle.fleet_model.specs.Ranking.{in_order, put_in_order, rank_cmp, ranking}
 use Rattle.fleet_model.specs.State.{State}
 use Rattle.fleet_model.specs.Values.{cols_of, same_key, value}
 
-any-put : {X : Type 0} (cmp : X → X → Ordering) (p : X → Bool) (x : X) (xs : List X) → list_any p (put_in_order cmp x xs) ≡ (p x || list_any p xs)
+pub any-put : {X : Type 0} (cmp : X → X → Ordering) (p : X → Bool) (x : X) (xs : List X) → list_any p (put_in_order cmp x xs) ≡ (p x || list_any p xs)
 any-put cmp p x [] = refl
 any-put cmp p x (y ∷ ys) =
     elim (is_lt (cmp x y)) as (λ b. list_any p (cond b (x ∷ y ∷ ys) (y ∷ put_in_order cmp x ys)) ≡ (p x || (p y || list_any p ys))) [
@@ -35,11 +35,11 @@ any-put cmp p x (y ∷ ys) =
     swapped true false c = refl
     swapped false b c = refl
 
-any-in_order : {X : Type 0} (cmp : X → X → Ordering) (p : X → Bool) (xs : List X) → list_any p (in_order cmp xs) ≡ list_any p xs
+pub any-in_order : {X : Type 0} (cmp : X → X → Ordering) (p : X → Bool) (xs : List X) → list_any p (in_order cmp xs) ≡ list_any p xs
 any-in_order cmp p [] = refl
 any-in_order cmp p (x ∷ xs) = any-put cmp p x (in_order cmp xs) ∙ ap (λ b. p x || b) (any-in_order cmp p xs)
 
-all-put : {X : Type 0} (cmp : X → X → Ordering) (P : X → Type 0) (x : X) (xs : List X) → P x → AllByRecursion P xs → AllByRecursion P (put_in_order cmp x xs)
+pub all-put : {X : Type 0} (cmp : X → X → Ordering) (P : X → Type 0) (x : X) (xs : List X) → P x → AllByRecursion P xs → AllByRecursion P (put_in_order cmp x xs)
 all-put cmp P x [] here h = (here, tt)
 all-put cmp P x (y ∷ ys) here h =
     elim (is_lt (cmp x y)) as (λ b. AllByRecursion P (cond b (x ∷ y ∷ ys) (y ∷ put_in_order cmp x ys))) [
@@ -52,7 +52,7 @@ all-in_order cmp P [] h = tt
 all-in_order cmp P (x ∷ xs) h = all-put cmp P x (in_order cmp xs) h.0 (all-in_order cmp P xs h.1)
 
 -- no two items tie
-abbrev Untied : {X : Type 0} → (X → X → Ordering) → List X → Type 0
+abbrev pub Untied : {X : Type 0} → (X → X → Ordering) → List X → Type 0
 Untied cmp [] = Unit {0}
 Untied cmp (x ∷ xs) = AllByRecursion (λ y. is_eq (cmp x y) ≡ false) xs × Untied cmp xs
 
@@ -70,7 +70,7 @@ less_along : {X : Type 0} {cmp : X → X → Ordering} (o : IsTotalOrder cmp) (x
 less_along o x y [] less h = tt
 less_along o x y (z ∷ zs) less h = (o.trans x y z less h.0, less_along o x y zs less h.1)
 
-sorted-put : {X : Type 0} {cmp : X → X → Ordering} (o : IsTotalOrder cmp) (x : X) (xs : List X) → AllByRecursion (λ y. is_eq (cmp x y) ≡ false) xs → IsStrictlySortedBy cmp xs → IsStrictlySortedBy cmp (put_in_order cmp x xs)
+pub sorted-put : {X : Type 0} {cmp : X → X → Ordering} (o : IsTotalOrder cmp) (x : X) (xs : List X) → AllByRecursion (λ y. is_eq (cmp x y) ≡ false) xs → IsStrictlySortedBy cmp xs → IsStrictlySortedBy cmp (put_in_order cmp x xs)
 unfolding IsStrictlySortedBy
 sorted-put o x [] apart h = (tt, tt)
 sorted-put {cmp = cmp} o x (y ∷ ys) apart h =
@@ -81,7 +81,7 @@ sorted-put {cmp = cmp} o x (y ∷ ys) apart h =
           (all-put cmp (λ z. cmp y z ≡ Less) x ys less h.0, sorted-put o x ys apart.1 h.1)
     ] refl
 
-sorted-in_order : {X : Type 0} {cmp : X → X → Ordering} (o : IsTotalOrder cmp) (xs : List X) → Untied cmp xs → IsStrictlySortedBy cmp (in_order cmp xs)
+pub sorted-in_order : {X : Type 0} {cmp : X → X → Ordering} (o : IsTotalOrder cmp) (xs : List X) → Untied cmp xs → IsStrictlySortedBy cmp (in_order cmp xs)
 unfolding IsStrictlySortedBy
 sorted-in_order o [] apart = tt
 sorted-in_order {cmp = cmp} o (x ∷ xs) apart = sorted-put o x (in_order cmp xs) (all-in_order cmp (λ y. is_eq (cmp x y) ≡ false) xs apart.0) (sorted-in_order o xs apart.1)
@@ -134,7 +134,7 @@ rankings state table col h =
     }
 
 -- ---- there is no other
-tied_parts : (a b : Ordering) → is_eq (ordering_then a b) ≡ (is_eq a && is_eq b)
+pub tied_parts : (a b : Ordering) → is_eq (ordering_then a b) ≡ (is_eq a && is_eq b)
 tied_parts Less b = refl
 tied_parts Equal b = refl
 tied_parts Greater b = refl

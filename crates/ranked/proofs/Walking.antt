@@ -1,13 +1,14 @@
 -- A walk by bounds gives what a sort of all gives.
-use Rattle.std.proofs.Common.{◌≡◌, ℕ, zero, suc, ◌+◌, ◌-◌, ◌^◌, ◌<◌, ◌≤◌, Bool, true, false, cond, eqb, ltb, leb, List, [], ◌∷◌, length, get_or, map, take, Some, refl, sym, ap, ◌∙◌, arith, sub-one, inl, inr, ⊎_elim, ◌⊎◌}
-use Rattle.std.proofs.lemmas.Bool.{and_parts, or_cases, ltb-true, leb-true, eqb-true, eqb-false, ne_eqb}
+use Rattle.std.proofs.Common.{◌≡◌, ℕ, zero, suc, ◌-◌, ◌<◌, ◌≤◌, Bool, true, false, cond, eqb, List, [], ◌∷◌, length, get_or, map, take, Some, refl, sym, ap, ◌∙◌, arith, sub-one, inl, inr, ⊎_elim, ◌⊎◌}
+use Rattle.std.proofs.lemmas.Bool.{ltb-true, eqb-false, ne_eqb}
 use Rattle.expiry_wheel.proofs.Grouped.{nat_cmp-greater}
+use Rattle.std.proofs.Math.Pow.{pow_mono}
 use Rattle.std.specs.List.{AllByRecursion}
 use Rattle.std.specs.Ordering.{is_lt}
 use Rattle.fleet_model.specs.Ranking.{put_in_order, rank_cmp}
 use Rattle.expiry_wheel.specs.Items.{first_item}
 use Rattle.std.specs.Prelude.{remove}
-use Rattle.ranked.specs.Walk.{AreBounds, AreFromFirst, found, is_bound, is_done, is_settled, put_all, worth}
+use Rattle.ranked.specs.Walk.{AreBounds, AreFromFirst, bound_of, found, is_done, is_settled, put_all, worth}
 
 pub map_take : {X Y : Type 0} (f : X → Y) (m : ℕ) (xs : List X) → map f (take m xs) ≡ take m (map f xs)
 map_take f zero xs = refl
@@ -61,8 +62,9 @@ not_zero n e = ⊎_elim (λ z. absurd (eqb-false n 0 e z)) (λ h. h) (zero_or_mo
     zero_or_more zero = inl refl
     zero_or_more (suc n) = inr (omega arith)
 
-bounded : (below value : ℕ) → 0 < below → is_bound below value ≡ true → below + value ≤ 2 ^ 64 - 1
-bounded below value h e = ⊎_elim (λ z. absurd (omega (arith, eqb-true below 0 z))) (λ l. leb-true (below + value) (2 ^ 64 - 1) l) (or_cases (eqb below 0) (leb (below + value) (2 ^ 64 - 1)) e)
+-- fewer leading zeros, a greater bound
+pub bound_of-falls : (a b : ℕ) → a ≤ b → bound_of b ≤ bound_of a
+bound_of-falls a b h = omega (arith, pow_mono {i = 128 - b} {j = 128 - a} (omega arith))
 
 -- a value below another comes behind it
 behind : (best : List ℕ × ℕ) (key : List ℕ) (value : ℕ) → value < best.1 → is_lt (rank_cmp (key, value) best) ≡ false
@@ -75,12 +77,9 @@ settled_behind living value best e (f ∷ rest) settled bounds order = go (eqb (
   where
     one : eqb (living f.1) 0 ≡ false → is_lt (rank_cmp (f.1, value f.1) best) ≡ false
     one lives =
-        let parts = and_parts (ltb 0 e.0) (ltb (2 ^ 64 - 1) (e.0 + best.1)) settled in
-        let some : 0 < e.0 = ltb-true 0 e.0 parts.0 in
-        let above : 2 ^ 64 - 1 < e.0 + best.1 = ltb-true (2 ^ 64 - 1) (e.0 + best.1) parts.1 in
-        let there : 0 < living f.1 = not_zero (living f.1) lives in
-        let bound : f.0 + value f.1 ≤ 2 ^ 64 - 1 = bounded f.0 (value f.1) (omega (arith, order.0)) (bounds.0 there) in
-        behind best f.1 (value f.1) (omega (arith, order.0))
+        let above : bound_of e.0 < best.1 = ltb-true (bound_of e.0) best.1 settled in
+        let bound : value f.1 ≤ bound_of f.0 = bounds.0 (not_zero (living f.1) lives) in
+        behind best f.1 (value f.1) (omega (arith, bound_of-falls e.0 f.0 order.0))
 
     go : (b : Bool) → eqb (living f.1) 0 ≡ b → AllByRecursion (λ x. is_lt (rank_cmp x best) ≡ false) (worth living value rest) → AllByRecursion (λ x. is_lt (rank_cmp x best) ≡ false) (cond b (worth living value rest) ((f.1, value f.1) ∷ worth living value rest))
     go true is others = others

@@ -1,19 +1,19 @@
 -- Keys by their values, found by bounds on them: from the greatest bound on, until the best found
 -- so far stands before all that are left.
-use Rattle.std.specs.Prelude.{◌≡◌, ℕ, ◌+◌, ◌-◌, ◌^◌, ◌<◌, ◌≤◌, Bool, true, ◌&&◌, ◌||◌, ◌==◌, nat_le, nat_lt, if◌then◌else◌, List, [], ◌∷◌, take, Option, None, Some, is_none}
+use Rattle.std.specs.Prelude.{ℕ, ◌-◌, ◌^◌, ◌<◌, ◌≤◌, Bool, true, ◌==◌, nat_lt, if◌then◌else◌, List, [], ◌∷◌, take, Option, None, Some, is_none}
 use Rattle.std.specs.List.{AllByRecursion}
 use Rattle.std.specs.Borrow.{Bor}
 use Rattle.fleet_model.specs.Ranking.{put_in_order, rank_cmp}
 
--- An entry of the index is how far a key's bound is below 2^64 - 1, and the key: the greatest bound
--- comes first. At 0 there is no bound.
-abbrev pub is_bound : ℕ → ℕ → Bool
-is_bound below value = (below == 0) || nat_le (below + value) (2 ^ 64 - 1)
+-- An entry of the index is how many leading zeros the bound of a key has, of 128 binary digits, and
+-- the key: the greatest bounds come first.
+abbrev pub bound_of : ℕ → ℕ
+bound_of zeros = 2 ^ (128 - zeros) - 1
 
 -- each key with a live row has a value within its bound
 abbrev pub AreBounds : (List ℕ → ℕ) → (List ℕ → ℕ) → List (ℕ × List ℕ) → Type 0
 AreBounds living value entries =
-    AllByRecursion (λ e. 0 < living e.1 → is_bound e.0 (value e.1) ≡ true) entries
+    AllByRecursion (λ e. 0 < living e.1 → value e.1 ≤ bound_of e.0) entries
 
 -- the keys with a live row, each with its value
 abbrev pub worth : (List ℕ → ℕ) → (List ℕ → ℕ) → List (ℕ × List ℕ) → List (List ℕ × ℕ)
@@ -30,7 +30,7 @@ put_all candidates (x ∷ xs) = put_all (put_in_order rank_cmp x candidates) xs
 -- whether a candidate stands before every key from an entry on
 abbrev pub is_settled : List ℕ × ℕ → Option (ℕ × List ℕ) → Bool
 is_settled best None = true
-is_settled best (Some e) = nat_lt 0 e.0 && nat_lt (2 ^ 64 - 1) (e.0 + best.1)
+is_settled best (Some e) = nat_lt (bound_of e.0) best.1
 
 -- whether a walk may stop: the best candidate is settled, or nothing is left
 abbrev pub is_done : List (List ℕ × ℕ) → Option (ℕ × List ℕ) → Bool

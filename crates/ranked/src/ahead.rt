@@ -1,5 +1,8 @@
 ghost use Rattle.std.specs.Prelude.{◌≡◌};
 ghost use Rattle.std.specs.Option.{option_map};
+ghost use Rattle.std.specs.Cmp.Lexicographic.{slice_cmp};
+ghost use Rattle.std.specs.Ordering.{nat_cmp};
+ghost use Rattle.expiry_wheel.specs.Entries.{IsInOrder};
 ghost use Rattle.expiry_wheel.specs.Items.{first_item, without_first};
 ghost use Rattle.expiry_wheel.specs.Lent.{lent_entry};
 ghost use Rattle.ranked.specs.Walk.{AreFromFirst};
@@ -31,7 +34,8 @@ impl<'a> Model for Ahead<'a> {
 impl<'a> Ahead<'a> {
     /// All entries of an index.
     pub(crate) fn new(index: &'a OrderedDue<Key>) -> Ahead<'a>
-        ensures { result ≡ index.now }
+        ensures all { result ≡ index.now }
+        ensures ordered { IsInOrder (slice_cmp nat_cmp) index.now }
     {
         Ahead {
             index,

@@ -7,10 +7,8 @@ ghost use Rattle.expiry_wheel.specs.Lent.{lent_entry};
 ghost use Rattle.fleet_model.specs.Ranking.{put_in_order, rank_cmp};
 ghost use Rattle.ranked.specs.Walk.{is_settled, shown};
 
+use crate::slack::bound_of;
 use agg_types::Key;
-
-/// More than any bound.
-const ENOUGH: u128 = 1 << 64;
 
 /// Whether a candidate stands before every key from an entry of the index on.
 pub(crate) fn is_settled(best: (&Key, u128), ahead: Option<(u64, &Key)>) -> bool
@@ -18,9 +16,7 @@ pub(crate) fn is_settled(best: (&Key, u128), ahead: Option<(u64, &Key)>) -> bool
 {
     match ahead {
         None => true,
-        Some((below, _)) => {
-            below > 0 && u128::from(below) + best.1.min(ENOUGH) > u128::from(u64::MAX)
-        }
+        Some((zeros, _)) => best.1 > bound_of(zeros),
     }
 }
 

@@ -1,17 +1,27 @@
 //! Ranked lists, found by bounds on the values of keys.
 //!
-//! Books list the first keys of a table by a column. An index has for each key a bound that its
-//! value doesn't exceed, the greatest first; `Ranked` takes entries from the front until its best
-//! key stands before all that are left, and then gives it. Values only fall, so bounds hold as time
-//! goes on.
+//! Books list the first keys of a table by a column. `Bounds` keeps for each key a bound that its
+//! value doesn't exceed, and an index of them with the greatest first; `Ranked` takes entries from
+//! the front until its best key stands before all that are left, and then gives it. Values only
+//! fall by themselves, so bounds hold as time goes on.
 //!
-//! Promised: `Ranked` lends the first keys that a sort of all live ones would give, each with its
-//! value. No clause says how many entries are taken; nor is the index kept here yet.
+//! A bound is 2^k - 1 for the least such number that holds, and is kept while it holds and isn't
+//! above four times of what it bounds. So a count that grows moves its entry each time it doubles,
+//! and a value that moves a little moves nothing. A list looks at all keys whose bound isn't below
+//! the value that it gives: where values are spread, a few more than it gives; where nearly all
+//! have as many digits, nearly all.
+//!
+//! Promised: a touched key has a bound of at least what was touched, and at most four times of it
+//! and 3, until it is touched again or dropped; `Ranked` lends the first keys that a sort of all
+//! live ones would give, each with its value. No clause says how many entries are taken.
 #![tactic(auto)]
 
 mod ahead;
+mod bounds;
 mod candidates;
 mod list;
+mod slack;
 mod walk;
 
+pub use bounds::Bounds;
 pub use list::Ranked;

@@ -1,6 +1,9 @@
 ghost use Rattle.std.specs.Prelude.{◌≡◌, ◌≤◌, [], length, IfOk};
 ghost use Rattle.std.specs.Iterator.{at_most};
 ghost use Rattle.std.specs.Map.Iter.{TakesFirst};
+ghost use Rattle.std.specs.Cmp.Lexicographic.{slice_cmp};
+ghost use Rattle.std.specs.Ordering.{nat_cmp};
+ghost use Rattle.expiry_wheel.specs.Entries.{IsInOrder};
 ghost use Rattle.ranked.specs.Walk.{AreBounds, found, shown};
 
 use crate::ahead::Ahead;
@@ -45,9 +48,9 @@ impl<'a, V: Values> Model for Ranked<'a, V> {
 }
 
 impl<'a, V: Values> Ranked<'a, V> {
-    /// A ranked list at a moment, by an index of bounds: an entry is how far a key's bound is below
-    /// 2^64 - 1, or 0 where it has none. Takes all memory that the list needs.
-    pub fn new(
+    /// A ranked list at a moment, by an index of bounds: an entry is how many leading zeros a key's
+    /// bound has. Takes all memory that the list needs.
+    pub(crate) fn new(
         alloc: Global,
         index: &'a OrderedDue<Key>,
         rank: &Rank,
@@ -61,6 +64,7 @@ impl<'a, V: Values> Ranked<'a, V> {
             ≡ found (λ key. V.living values.now rank.now.table key now)
             (λ key. V.summed values.now rank.now.table key rank.now.col now) rank.now.n []
             index.now) }
+        ensures ordered { IsInOrder (slice_cmp nat_cmp) index.now }
     {
         let left = rank.n as usize;
         Ok(Ranked {
