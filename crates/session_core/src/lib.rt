@@ -13,6 +13,7 @@
 mod batch;
 mod cause;
 mod hello;
+mod kept;
 pub mod laws;
 mod plan;
 mod run;

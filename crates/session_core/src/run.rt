@@ -25,8 +25,8 @@ pub(crate) fn run(
     ensures { IfOk result (λ end. Ran end track.new facts.old.items facts.new.items
         replies.old.items replies.new.items (run tables.now peer track.old messages.now)) }
 {
-    // The plan of the table in force, once an update was read along it.
-    let mut plan = None;
+    // The plan of the table in force, if one was made.
+    let mut plan = track.plan_now(tables);
     for message in messages {
         match track.step(alloc, tables, peer, &mut plan, message)? {
             Meaning::Nothing => {}
@@ -36,6 +36,7 @@ pub(crate) fn run(
             Meaning::End(cause) => return Ok(Some(cause)),
         }
     }
+    track.keep(plan);
     Ok(None)
 }
 

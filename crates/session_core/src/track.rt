@@ -3,21 +3,25 @@
 ghost use Rattle.std.specs.Prelude.{◌≡◌, ◌≤◌, [], length, position, IfOk, IfSome, OnOk, true};
 ghost use Rattle.std.specs.Str.{bytes_eq};
 ghost use Rattle.std.specs.Option.{option_map};
-ghost use Rattle.session_core.specs.Plan.{IsPlan, IsPlanOf, IsPlanNow};
+ghost use Rattle.session_core.specs.Plan.{IsPlan, IsPlanOf, IsPlanNow, followed_now};
 ghost use Rattle.session_core.specs.Run.{settled};
 ghost use Rattle.session_core.specs.Values.{cells_of, sents_at};
 ghost use Rattle.session_core.specs.Tracked.{is_key_of, followed_at, followed_of, put_of, id_after, place, entry_of, IsStep, defined, switched, updated_under, step_of};
 
 use crate::cause::End;
-use crate::plan::Plan;
+use crate::kept::{Kept, take_plan};
 use crate::run::settle;
 use crate::values::{TYPES, key_at, life_of, periods_of};
 use agg_types::{Cells, Col, Key, KeyKind, NoMemory, Shape, What};
 use peers_msg::{Definition, Message, WireCause};
 use std::alloc::Global;
+use std::mem;
 
 /// The most ids that are ever followed in a session.
 const MOST_FOLLOWED: usize = 256;
+
+/// The most plans that are kept for tables that aren't in force.
+const MOST_PLANS: usize = 16;
 
 /// What is kept of a definition that is followed.
 #[derive(Clone, Copy, Debug)]
@@ -63,6 +67,8 @@ pub(crate) enum Meaning {
 pub(crate) struct Track {
     entries: Vec<Entry>,
     current: Option<usize>,
+    /// Plans that were made; which of them are kept is nothing that contracts see.
+    plans: Vec<Kept>,
 }
 
 impl std::marker::Model for Track {
@@ -125,7 +131,7 @@ fn put_of(
     tables: &[Shape],
     peer: usize,
     followed: &Followed,
-    plan: &mut Option<Plan>,
+    plan: &mut Option<Kept>,
     life: Option<u32>,
     bytes: &[u8],
 ) -> Result<Option<What>, NoMemory>
@@ -156,7 +162,7 @@ fn planned_cells(
     alloc: Global,
     followed: &Followed,
     cols: &[(Col, u32)],
-    plan: &mut Option<Plan>,
+    plan: &mut Option<Kept>,
     values: &[u8],
 ) -> Result<Option<Cells>, NoMemory>
     requires { IfSome plan.old (IsPlan followed.now.bits followed.now.periods cols.now) }
@@ -169,7 +175,7 @@ fn planned_cells(
     if let Some(plan) = plan {
         return plan.cells(alloc, values);
     }
-    let mut made = Plan::new(alloc, followed.bits, &followed.periods, cols)?;
+    let mut made = Kept::new(alloc, followed.bits, &followed.periods, cols)?;
     let cells = made.cells(alloc, values)?;
     *plan = Some(made);
     Ok(cells)
@@ -208,6 +214,15 @@ fn entry_of(entries: &[Entry], id: u64) -> Option<Entry>
     if entry.id == id { Some(entry) } else { None }
 }
 
+/// What is in force, if it is followed.
+fn followed_now(entries: &[Entry], current: Option<usize>) -> Option<&Followed>
+    ensures { option_map (λ followed. followed.now) result
+        ≡ followed_now (record { entries = entries.now; current = current }) }
+{
+    let entry = entries.get(current?)?;
+    entry.followed.as_ref()
+}
+
 impl Track {
     /// Nothing is followed yet. Takes no memory.
     pub(crate) fn new(alloc: Global) -> Track
@@ -216,16 +231,19 @@ impl Track {
         Track {
             entries: Vec::new(alloc),
             current: None,
+            plans: Vec::new(alloc),
         }
     }
 
-    /// An equal track, in memory of its own.
-    pub(crate) fn duplicate(&self, alloc: Global) -> Result<Track, NoMemory>
-        ensures { IfOk result (λ track. track ≡ self.now) }
+    /// An equal track, in memory of its own, which gets the plans.
+    pub(crate) fn duplicate(&mut self, alloc: Global) -> Result<Track, NoMemory>
+        ensures equal { IfOk result (λ track. track ≡ self.old) }
+        ensures same { self.new ≡ self.old }
     {
         Ok(Track {
             entries: Vec::from_slice(alloc, self.entries.as_slice())?,
             current: self.current,
+            plans: mem::replace(&mut self.plans, Vec::new(alloc)),
         })
     }
 
@@ -234,6 +252,32 @@ impl Track {
         ensures { result.now ≡ self.now.entries }
     {
         self.entries.as_slice()
+    }
+
+    /// Takes out the plan of the table in force, if it is kept.
+    pub(crate) fn plan_now(&mut self, tables: &[Shape]) -> Option<Kept>
+        ensures plan { IfSome result (IsPlanNow tables.now self.old) }
+        ensures same { self.new ≡ self.old }
+    {
+        let followed = followed_now(self.entries.as_slice(), self.current)?;
+        let shape = tables.get(followed.table)?;
+        take_plan(
+            &mut self.plans,
+            followed.bits,
+            &followed.periods,
+            shape.cols.as_slice(),
+        )
+    }
+
+    /// Keeps a plan for later. It goes where as many are kept already, or where memory is refused.
+    pub(crate) fn keep(&mut self, plan: Option<Kept>)
+        ensures { self.new ≡ self.old }
+    {
+        if let Some(plan) = plan
+            && self.plans.len() < MOST_PLANS
+        {
+            let _ = self.plans.push(plan);
+        }
     }
 
     /// No entry has an update yet.
@@ -254,7 +298,7 @@ impl Track {
         alloc: Global,
         tables: &[Shape],
         peer: usize,
-        plan: &mut Option<Plan>,
+        plan: &mut Option<Kept>,
         message: &Message,
     ) -> Result<Meaning, NoMemory>
         requires { IfSome plan.old (IsPlanNow tables.now self.old) }
@@ -270,12 +314,16 @@ impl Track {
                 self.update(alloc, tables, peer, plan, *id, *life, rest.as_slice())
             }
             Message::Define(definition) => {
-                *plan = None;
-                self.define(definition.id, followed_of(tables, definition))
+                self.keep(plan.take());
+                let meaning = self.define(definition.id, followed_of(tables, definition))?;
+                *plan = self.plan_now(tables);
+                Ok(meaning)
             }
             Message::Switch(id) => {
-                *plan = None;
-                Ok(self.switch(*id))
+                self.keep(plan.take());
+                let meaning = self.switch(*id);
+                *plan = self.plan_now(tables);
+                Ok(meaning)
             }
             Message::Confirm | Message::Heartbeat | Message::Acked { .. } | Message::Other { .. } =>
                 Ok(Meaning::Nothing),
@@ -336,7 +384,7 @@ impl Track {
         alloc: Global,
         tables: &[Shape],
         peer: usize,
-        plan: &mut Option<Plan>,
+        plan: &mut Option<Kept>,
         id: Option<u32>,
         life: Option<u32>,
         bytes: &[u8],

@@ -8,7 +8,7 @@ pub returns-in-End : goal.returns-in-End
 returns-in-End c =
     let next = run_next c.args.tables.now c.args.peer c.loop-message.track c.args.messages.now c.loop-message.message-index c.message-item.result _ _ c.loop-message-test.true c.message-item.is c.in_ok-step.ensures.step in
     let left = rw (next, c.in-End.is) at c.loop-message.invariant.1 in
-    ran_all _ _ _ _ _ _ _ left
+    rw (← c.plan_now-plan.ensures.same) (ran_all _ _ _ _ _ _ _ left)
 
 pub loop-message-preserved : goal.loop-message-preserved
 loop-message-preserved c =
@@ -34,4 +34,4 @@ loop-message-preserved c =
 pub returns : goal.returns
 returns c =
     let left = rw (run_nil c.args.tables.now c.args.peer c.loop-message.track c.args.messages.now c.loop-message.message-index (omega arith)) at c.loop-message.invariant.1 in
-    ran_all _ _ _ _ _ _ _ left
+    rw (c.keep.ensures, ← c.plan_now-plan.ensures.same) (ran_all _ _ _ _ _ _ _ left)

@@ -1,0 +1,116 @@
+//! A plan that a session keeps from piece to piece, with what it was made of.
+
+ghost use Rattle.std.specs.Prelude.{◌≡◌, map, vec_len, IsTrue, IfOk, IfSome};
+ghost use Rattle.std.specs.Option.{option_map};
+ghost use Rattle.session_core.specs.Plan.{cell_from, numbers_at, IsPlan};
+
+use crate::plan::Plan;
+use crate::track::Followed;
+use crate::values::TYPES;
+use agg_types::{Cells, Col, Items, NoMemory};
+use std::alloc::Global;
+use std::marker::Model;
+
+/// A plan, with the data types, the periods and the columns that it was made of. Contracts see the
+/// plan.
+#[derive(Debug, Drop)]
+pub(crate) struct Kept {
+    bits: u64,
+    periods: [u64; TYPES],
+    cols: Items<(Col, u32)>,
+    plan: Plan,
+}
+
+impl Model for Kept {
+    ghost use Rattle.session_core.specs.declared.plan.Plan.{Plan};
+    ghost use Rattle.session_core.specs.Plan.{IsPlan};
+
+    ghost Value = { Plan };
+
+    ghost view = { λ kept. kept.plan };
+
+    ghost invariant = { λ kept. IsPlan kept.bits kept.periods kept.cols kept.plan };
+}
+
+impl Kept {
+    /// The plan for updates with these data types and periods, under these columns.
+    pub(crate) fn new(
+        alloc: Global,
+        bits: u64,
+        periods: &[u64; TYPES],
+        cols: &[(Col, u32)],
+    ) -> Result<Kept, NoMemory>
+        ensures { IfOk result (IsPlan bits periods.now cols.now) }
+    {
+        Ok(Kept {
+            bits,
+            periods: *periods,
+            cols: Items::copy(alloc, cols)?,
+            plan: Plan::new(alloc, bits, periods, cols)?,
+        })
+    }
+
+    /// Whether it is the plan of these. A false costs a plan that is made again.
+    pub(crate) fn is_of(&self, bits: u64, periods: &[u64; TYPES], cols: &[(Col, u32)]) -> bool
+        ensures { IsTrue result → IsPlan bits periods.now cols.now self.now }
+    {
+        self.bits == bits
+            && same_periods(&self.periods, periods)
+            && same_cols(self.cols.as_slice(), cols)
+    }
+
+    /// The cells of an update's values; `None` where one is cut or too large.
+    #[inline]
+    pub(crate) fn cells(&mut self, alloc: Global, bytes: &[u8]) -> Result<Option<Cells>, NoMemory>
+        ensures cells { IfOk result (λ cells. cells
+            ≡ option_map (λ numbers. map (cell_from numbers) self.old.sources.items)
+            (numbers_at (vec_len self.old.numbers) bytes.now)) }
+        ensures width { vec_len self.new.numbers ≡ vec_len self.old.numbers }
+        ensures sources { self.new.sources ≡ self.old.sources }
+    {
+        self.plan.cells(alloc, bytes)
+    }
+}
+
+fn same_periods(left: &[u64], right: &[u64]) -> bool
+    ensures { IsTrue result → left.now ≡ right.now }
+{
+    left == right
+}
+
+fn same_cols(left: &[(Col, u32)], right: &[(Col, u32)]) -> bool
+    ensures { IsTrue result → left.now ≡ right.now }
+{
+    match left {
+        [] => right.is_empty(),
+        [col, cols @ ..] => match right {
+            [] => false,
+            [other, others @ ..] => {
+                col.1 == other.1 && same_col(col.0, other.0) && same_cols(cols, others)
+            }
+        },
+    }
+}
+
+fn same_col(left: Col, right: Col) -> bool
+    ensures { IsTrue result → left ≡ right }
+{
+    left == right
+}
+
+/// The plan of these, if it is among those kept; it is taken out.
+pub(crate) fn take_plan(
+    plans: &mut Vec<Kept>,
+    bits: u64,
+    periods: &[u64; TYPES],
+    cols: &[(Col, u32)],
+) -> Option<Kept>
+    ensures { IfSome result (IsPlan bits periods.now cols.now) }
+{
+    for at in 0..plans.len() {
+        if at < plans.len() && plans[at].is_of(bits, periods, cols) {
+            return Some(plans.swap_remove(at));
+        }
+    }
+    None
+}
