@@ -1,0 +1,188 @@
+//! One filter and one key.
+
+ghost use Rattle.std.specs.Prelude.{◌≡◌, ℕ, ◌+◌, ◌≤◌, IsTrue, false, length, nat_lt, MatchOption};
+ghost use Rattle.crossing.specs.First.{IsFlatSoon};
+ghost use Rattle.crossing.specs.Parts.{AreFlatSoon, all_hold};
+ghost use Rattle.crossing.specs.Shown.{measured};
+ghost use Rattle.agg_types.specs.Op.{op_holds};
+ghost use Rattle.standing_filters.specs.Verdicts.{IsVerdict, IsTold, meets_at, out};
+
+use agg_types::{Cond, Filter, Key, Op};
+use crossing::{Falls, Measured, Meter, Of, Part, Values, next_change};
+
+/// What is known of a filter and a key at a moment.
+#[derive(Clone, Copy, Debug, PartialEq, Eq)]
+pub struct Verdict {
+    /// Whether the filter holds the key.
+    pub holds: bool,
+    /// The next moment, in ms, at which that changes, if only the clock goes on; none where it
+    /// never does.
+    pub next: Option<u64>,
+}
+
+// The verdict of a key that a filter doesn't hold, and never will by the clock alone.
+const OUT: Verdict = Verdict {
+    holds: false,
+    next: None,
+};
+
+/// Judges a key at a moment, in ms. Reads at most 505 values where they stay from 2^33 ms on, and
+/// one of each condition up to the first that fails for good. Takes no memory.
+pub fn judge<V: Values>(
+    filter: &Filter,
+    key: &Key,
+    values: &V,
+    now: u64,
+    meter: &mut Meter,
+) -> Verdict
+    requires few { length filter.now.conds ≤ 4 }
+    ensures verdict { IsVerdict (V.summed values.now) (V.living values.now) filter.now now
+        key.now result }
+    ensures counted { IsFlatSoon now (V.flat values.now filter.now.table key.now)
+        → meter.new.evals ≤ meter.old.evals + 505 }
+    ensures dead { V.living values.now filter.now.table key.now now ≡ 0 → result ≡ out }
+{
+    judge_by(
+        filter.conds.as_slice(),
+        filter.table,
+        key,
+        values,
+        now,
+        meter,
+    )
+}
+
+// Judges a key of a table by up to four conditions.
+fn judge_by<V: Values>(
+    conds: &[Cond],
+    table: usize,
+    key: &Key,
+    values: &V,
+    now: u64,
+    meter: &mut Meter,
+) -> Verdict
+    requires few { length conds.now ≤ 4 }
+    ensures told { IsTold (λ t. meets_at (V.summed values.now) (V.living values.now) table
+        conds.now key.now t) now result }
+    ensures counted { IsFlatSoon now (V.flat values.now table key.now)
+        → meter.new.evals ≤ meter.old.evals + 505 }
+{
+    let live = live_part(table, key, values);
+    match conds {
+        [a] => {
+            let a = part_of(a, table, key, values);
+            tell(&[live, a], now, meter)
+        }
+        [a, b] => {
+            let a = part_of(a, table, key, values);
+            let b = part_of(b, table, key, values);
+            tell(&[live, a, b], now, meter)
+        }
+        [a, b, c] => {
+            let a = part_of(a, table, key, values);
+            let b = part_of(b, table, key, values);
+            let c = part_of(c, table, key, values);
+            tell(&[live, a, b, c], now, meter)
+        }
+        [a, b, c, d] => {
+            let a = part_of(a, table, key, values);
+            let b = part_of(b, table, key, values);
+            let c = part_of(c, table, key, values);
+            let d = part_of(d, table, key, values);
+            tell(&[live, a, b, c, d], now, meter)
+        }
+        _ => tell(&[live], now, meter),
+    }
+}
+
+// That some row of a key lives.
+fn live_part<'a, V: Values>(table: usize, key: &'a Key, values: &'a V) -> Part<Of<'a, V>>
+    ensures same { (t : ℕ) → op_holds result.op (measured
+        (V.summed result.fall.values.now result.fall.table result.fall.key.now)
+        (V.living result.fall.values.now result.fall.table result.fall.key.now)
+        result.fall.measured t) result.bound
+        ≡ nat_lt 0 (V.living values.now table key.now t) }
+    ensures flat { V.flat result.fall.values.now result.fall.table result.fall.key.now
+        ≡ V.flat values.now table key.now }
+{
+    Part {
+        op: Op::Gt,
+        bound: 0,
+        fall: Of {
+            values,
+            table,
+            key,
+            measured: Measured::LiveRows,
+        },
+    }
+}
+
+// A condition on the values of a key.
+fn part_of<'a, V: Values>(cond: &Cond, table: usize, key: &'a Key, values: &'a V) -> Part<Of<'a, V>>
+    ensures same { (t : ℕ) → op_holds result.op (measured
+        (V.summed result.fall.values.now result.fall.table result.fall.key.now)
+        (V.living result.fall.values.now result.fall.table result.fall.key.now)
+        result.fall.measured t) result.bound
+        ≡ op_holds cond.now.op (V.summed values.now table key.now cond.now.col t) cond.now.bound }
+    ensures flat { V.flat result.fall.values.now result.fall.table result.fall.key.now
+        ≡ V.flat values.now table key.now }
+{
+    Part {
+        op: cond.op,
+        bound: cond.bound,
+        fall: Of {
+            values,
+            table,
+            key,
+            measured: Measured::Column(cond.col),
+        },
+    }
+}
+
+// Whether conditions hold together, and when that changes.
+fn tell<F: Falls>(parts: &[Part<F>], now: u64, meter: &mut Meter) -> Verdict
+    ensures told { IsTold (all_hold F.value parts.now) now result }
+    ensures counted { length parts.now ≤ 5 → AreFlatSoon F.flat now parts.now
+        → meter.new.evals ≤ meter.old.evals + 505 }
+{
+    match hold_now(parts, now, meter) {
+        None => OUT,
+        Some(holds) => Verdict {
+            holds,
+            next: next_change(parts, now, meter),
+        },
+    }
+}
+
+// Whether all conditions hold now; none where one of them never will from now on.
+fn hold_now<F: Falls>(parts: &[Part<F>], now: u64, meter: &mut Meter) -> Option<bool>
+    ensures value { MatchOption result
+        ((t : ℕ) → now ≤ t → all_hold F.value parts.now t ≡ false)
+        (λ holds. holds ≡ all_hold F.value parts.now now) }
+    ensures counted { meter.new.evals ≤ meter.old.evals + length parts.now }
+{
+    match parts {
+        [] => Some(true),
+        [part, rest @ ..] => {
+            let value = meter.read(&part.fall, now);
+            if part.op.holds(value, part.bound) {
+                return hold_now(rest, now, meter);
+            }
+            if fails_for_good(part.op, value, part.bound) {
+                return None;
+            }
+            Some(false)
+        }
+    }
+}
+
+// Whether a comparison fails for this value and all below it.
+fn fails_for_good(op: Op, value: u128, bound: u64) -> bool
+    ensures { IsTrue result → (lower : ℕ) → lower ≤ value → op_holds op lower bound ≡ false }
+{
+    match op {
+        Op::Gt => value <= u128::from(bound),
+        Op::Ge | Op::Eq => value < u128::from(bound),
+        Op::Lt | Op::Le | Op::Ne => false,
+    }
+}
