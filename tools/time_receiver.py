@@ -1,18 +1,21 @@
 #!/usr/bin/env python3
 """Times how fast a receiver of the peers protocol takes updates: the collector, or HAProxy itself.
 
-    time_receiver.py --to 127.0.0.1:10000 --keys 100000 --updates 1000000
+    time_receiver.py --collector ../crates/aggregator/out/aggregator --keys 100000 --updates 1000000
     time_receiver.py --haproxy /usr/sbin/haproxy --keys 100000 --updates 1000000
+    time_receiver.py --to 127.0.0.1:10000 --keys 100000 --updates 1000000
 
 It speaks as the peer `lb1` to the receiver `agg`, defines a table `t` of addresses with gpc0, conn_cnt and
 http_req_rate(10s), and sends one update of each key, in a scattered order, and then the asked number of
 updates over the keys in that order again. Each is timed from its first byte to the acknowledgement of the
-last update. With `--haproxy` it starts that program as the receiver, on a free port, and says how much
-resident memory a key took; `--threads` is then its `nbthread`. `--random` draws the keys of the updates
-instead, the same in every run. The bytes are prepared before the clock starts.
+last update. With `--collector` or `--haproxy` it starts that program as the receiver, on free ports, and says
+how much resident memory a key took; `--threads` is HAProxy's `nbthread`. `--random` draws the keys of the
+updates instead, the same in every run. `--senders 4` pushes as four peers at once, each with the same keys, and
+tells what all of them bring. The bytes are prepared before the clock starts.
 """
 
 import argparse
+import multiprocessing
 import pathlib
 import random
 import select
@@ -26,6 +29,11 @@ import time
 from peers_protocol import ACK, DEFINE, UPDATE, messages, put_int
 
 SCATTER = 2147483647
+
+COLLECTOR_CONFIG = """name agg
+{peers}
+table t type ip size 1000000 store gpc0,conn_cnt,http_req_rate(10000)
+"""
 
 CONFIG = """global
     nbthread {threads}
@@ -133,7 +141,26 @@ def start_haproxy(program, threads, folder):
     return process, ("127.0.0.1", port)
 
 
-def measure(address, options, pid):
+def start_collector(program, senders, folder):
+    """Starts the collector as the receiver; its process and its peers' address."""
+    probes = [socket.create_server(("127.0.0.1", 0)) for _ in range(2)]
+    peers, admin = [f"127.0.0.1:{probe.getsockname()[1]}" for probe in probes]
+    for probe in probes:
+        probe.close()
+    names = "\n".join(f"peer {name}" for name in senders)
+    config = pathlib.Path(folder) / "collector.conf"
+    config.write_text(COLLECTOR_CONFIG.format(peers=names))
+    with open(config, "rb") as text:
+        process = subprocess.Popen([program, "listen", "--peers", peers, "--admin", admin], stdin=text,
+                                   stdout=subprocess.PIPE, stderr=subprocess.DEVNULL)
+    if process.stdout.readline() != b"listening\n":
+        sys.exit("the collector doesn't listen")
+    host, port = peers.split(":")
+    return process, (host, int(port))
+
+
+def streams(options):
+    """The bytes that make each key known, and those of the updates behind them."""
     scattered = [(place * SCATTER) % options.keys for place in range(options.keys)]
     first = definition(options.expiry) + updates(1, scattered)
     if options.random:
@@ -141,43 +168,76 @@ def measure(address, options, pid):
         again = [draw.randrange(options.keys) for _ in range(options.updates)]
     else:
         again = [scattered[place % options.keys] for place in range(options.updates)]
-    second = updates(options.keys + 1, again)
+    return first, updates(options.keys + 1, again)
+
+
+def push_as(address, options, sender, data, turns, told):
+    """One peer's two pushes, each once all peers are ready."""
+    peer = Peer(address, sender, options.receiver)
+    for bytes_of, last in zip(data, (options.keys, options.keys + options.updates)):
+        turns.wait()
+        took = peer.push(bytes_of, last)
+        told.put(took)
+        turns.wait()
+
+
+def measure(address, options, pid):
+    data = streams(options)
     before = resident(pid) if pid else 0
-    peer = Peer(address, options.sender, options.receiver)
-    took = peer.push(first, options.keys)
-    print(f"{options.keys} new keys: {took / options.keys * 1e6:.2f} us each")
-    if pid:
-        print(f"resident: {(resident(pid) - before) / options.keys:.0f} bytes a key")
-    took = peer.push(second, options.keys + options.updates)
-    print(f"{options.updates} updates of held keys: {took / options.updates * 1e6:.2f} us each")
+    senders = names(options)
+    turns, told = multiprocessing.Barrier(len(senders) + 1), multiprocessing.Queue()
+    peers = [multiprocessing.Process(target=push_as, args=(address, options, name, data, turns, told))
+             for name in senders]
+    for peer in peers:
+        peer.start()
+    for what, count in (("new keys", options.keys), ("updates of held keys", options.updates)):
+        turns.wait()
+        took = max(told.get() for _ in senders)
+        total = count * len(senders)
+        print(f"{total} {what}: {took / total * 1e6:.2f} us each, {total / took / 1e6:.2f} million a second")
+        if pid and what == "new keys":
+            print(f"resident: {(resident(pid) - before) / options.keys:.0f} bytes a key")
+        turns.wait()
+    for peer in peers:
+        peer.join()
+
+
+def names(options):
+    """The peers' names."""
+    return [f"lb{number + 1}" for number in range(options.senders)] if options.senders > 1 else [options.sender]
 
 
 def main():
     words = argparse.ArgumentParser(description=__doc__, formatter_class=argparse.RawDescriptionHelpFormatter)
     words.add_argument("--to", help="the receiver's address and port")
+    words.add_argument("--collector", help="the aggregator program to start as the receiver")
     words.add_argument("--haproxy", help="the haproxy program to start as the receiver")
     words.add_argument("--threads", type=int, default=1)
     words.add_argument("--keys", type=int, default=100000)
     words.add_argument("--updates", type=int, default=1000000)
     words.add_argument("--expiry", type=int, default=600000)
     words.add_argument("--random", action="store_true")
+    words.add_argument("--senders", type=int, default=1, help="how many peers push at once")
     words.add_argument("--sender", default="lb1")
     words.add_argument("--receiver", default="agg")
     words.add_argument("--pid", type=int, help="the receiver's process, whose memory is to be told")
     options = words.parse_args()
-    if options.haproxy:
-        with tempfile.TemporaryDirectory() as folder:
-            process, address = start_haproxy(options.haproxy, options.threads, folder)
-            try:
-                measure(address, options, process.pid)
-            finally:
-                process.terminate()
-                process.wait()
-    elif options.to:
+    if options.to:
         host, port = options.to.rsplit(":", 1)
         measure((host, int(port)), options, options.pid)
-    else:
-        words.error("--to or --haproxy is needed")
+        return
+    if not options.haproxy and not options.collector:
+        words.error("--collector, --haproxy or --to is needed")
+    with tempfile.TemporaryDirectory() as folder:
+        if options.collector:
+            process, address = start_collector(options.collector, names(options), folder)
+        else:
+            process, address = start_haproxy(options.haproxy, options.threads, folder)
+        try:
+            measure(address, options, process.pid)
+        finally:
+            process.terminate()
+            process.wait()
 
 
 if __name__ == "__main__":

@@ -1,0 +1,67 @@
+#!/usr/bin/env python3
+"""Asks a collector, and prints its answers.
+
+    ask.py 127.0.0.1:9999 "show table clients"
+    ask.py 127.0.0.1:9999 "show filter abusers" "show next abusers"
+    ask.py --stats /run/haproxy/admin.sock "show table clients"
+
+Each argument is one command of docs/COMMANDS.md. An answer ends with an empty line, which isn't printed.
+The exit status is 1 where a command was refused, and 2 where the collector can't be asked. With `--stats` it
+asks a HAProxy on its stats socket instead, to lay the two side by side.
+"""
+
+import socket
+import sys
+
+
+def address(text):
+    """The host and the port of `127.0.0.1:9999`."""
+    host, _, port = text.rpartition(":")
+    return host, int(port)
+
+
+def ask(place, command, timeout=10):
+    """The answer to one command, as text."""
+    with socket.create_connection(place, timeout=timeout) as admin:
+        admin.sendall(command.encode() + b"\n")
+        answer = b""
+        while not answer.endswith(b"\n\n") and answer != b"\n":
+            more = admin.recv(1 << 20)
+            if not more:
+                raise ConnectionError("the collector closed the connection")
+            answer += more
+    return answer[:-1].decode("latin-1")
+
+
+def ask_proxy(path, command, timeout=10):
+    """A proxy's answer to one command on its stats socket, as text."""
+    with socket.socket(socket.AF_UNIX) as stats:
+        stats.settimeout(timeout)
+        stats.connect(path)
+        stats.sendall(command.encode() + b"\n")
+        answer = b""
+        while more := stats.recv(1 << 20):
+            answer += more
+    return answer.decode("latin-1").rstrip("\n") + "\n"
+
+
+def main():
+    words = sys.argv[1:]
+    stats = words[:1] == ["--stats"]
+    place, *commands = words[1:] if stats else words or [None]
+    if not commands:
+        sys.exit(__doc__)
+    refused = False
+    for command in commands:
+        try:
+            answer = ask_proxy(place, command) if stats else ask(address(place), command)
+        except (OSError, ValueError) as fault:
+            print(f"{place}: {fault}", file=sys.stderr)
+            sys.exit(2)
+        sys.stdout.write(answer)
+        refused = refused or answer.startswith("refused ")
+    sys.exit(1 if refused else 0)
+
+
+if __name__ == "__main__":
+    main()

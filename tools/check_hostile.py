@@ -1,0 +1,260 @@
+#!/usr/bin/env python3
+"""Checks what the collector does with hostile peers, clumsy admins and faults of its surroundings.
+
+    check_hostile.py [--collector crates/aggregator/out/aggregator]
+
+It starts `aggregator listen` (examples/fleet.conf) and speaks to its sockets: every verdict of a hello, broken and
+cut messages, a byte at a time, resets, more connections than there are seats, a peer that never reads, lines
+without an end, silence, signals, ports that are taken. The last line counts passed and failed; the status is 1
+where one failed. It takes about a minute.
+"""
+
+import argparse
+import resource
+import signal
+import socket
+import struct
+import subprocess
+import sys
+import time
+
+from check_with_haproxy import Report
+from proxies import COLLECTOR, CONFIG, Collector, free_ports
+
+HELLO = b"HAProxyS 2.1\nagg\nlb1 100 1\n"
+ACCEPTED = b"200\n\x00\x00"
+# The table `clients` with gpc0 alone, and an update of 10.0.0.1 to 5.
+DEFINE = bytes.fromhex("0a820d01") + b"\x07clients" + bytes.fromhex("04040400")
+UPDATE = bytes.fromhex("0a8009000000010a00000105")
+ACK = bytes.fromhex("0a84050100000001")
+
+
+def call(port, data=b"", timeout=5):
+    """A connection that has sent these bytes."""
+    peer = socket.create_connection(("127.0.0.1", port), timeout=timeout)
+    peer.sendall(data)
+    return peer
+
+
+def read(peer, count):
+    """So many bytes, or fewer where the other side closes."""
+    data = b""
+    while len(data) < count:
+        more = peer.recv(count - len(data))
+        if not more:
+            break
+        data += more
+    return data
+
+
+def read_all(peer):
+    """All bytes up to where the other side closes."""
+    data = b""
+    while more := peer.recv(1 << 16):
+        data += more
+    return data
+
+
+def reset(peer):
+    """Closes so that the other side sees a reset."""
+    peer.setsockopt(socket.SOL_SOCKET, socket.SO_LINGER, struct.pack("ii", 1, 0))
+    peer.close()
+
+
+def answered(port, data, wanted):
+    """Whether exactly these bytes are the answer, and then the end."""
+    with call(port, data) as peer:
+        peer.shutdown(socket.SHUT_WR)
+        found = read_all(peer)
+    return "" if found == wanted else f"{found!r} for {wanted!r}"
+
+
+def verdicts(report, collector):
+    for data, wanted in ((b"HAProxyS 2.1\nother\nlb1 1 1\n", b"503\n"), (b"HAProxyS 3.0\n", b"502\n"),
+                         (b"Foo 2.1\n", b"501\n"), (b"HAProxyS 2.1\nagg\nlbx 1 1\n", b"504\n"),
+                         (b"x" * 257, b"501\n")):
+        report.check(f"hello {data[:24]!r} is answered {wanted!r}", 1,
+                     lambda: answered(collector.peers, data, wanted))
+
+
+def streams(report, collector):
+    sent = HELLO + DEFINE
+    for name, data, wanted in (
+            ("a message of 16,385 bytes", b"\x0a\x80\xf1\xf1\x06", b"\x01\x01"),
+            ("a length of 2^64", bytes.fromhex("0a80f0f1fefefefefefefe0e"), b"\x01\x00"),
+            ("a definition that is cut short", bytes.fromhex("0a82020105"), b"\x01\x00"),
+            ("the peer's own error message", b"\x01\x00", b"")):
+        report.check(f"{name} ends its session and no other", 1,
+                     lambda: answered(collector.peers, sent + data, ACCEPTED + wanted))
+
+    def byte_by_byte():
+        with call(collector.peers) as peer:
+            peer.setsockopt(socket.IPPROTO_TCP, socket.TCP_NODELAY, 1)
+            for byte in HELLO + DEFINE + UPDATE:
+                peer.sendall(bytes([byte]))
+            found = read(peer, len(ACCEPTED + ACK))
+        return "" if found == ACCEPTED + ACK else repr(found)
+    report.check("a byte at a time is the same stream", 5, byte_by_byte)
+
+    def resets():
+        for cut in range(1, len(HELLO + DEFINE + UPDATE)):
+            reset(call(collector.peers, (HELLO + DEFINE + UPDATE)[:cut]))
+        return answered(collector.peers, HELLO, ACCEPTED)
+    report.check("a reset after any byte breaks nothing", 5, resets)
+
+
+def crowd(report, collector):
+    before = collector.descriptors(), collector.threads()
+    peers = [call(collector.peers, HELLO, timeout=10) for _ in range(600)]
+    statuses = [read(peer, 4) for peer in peers]
+    counts = statuses.count(b"200\n"), statuses.count(b"300\n")
+    report.check("of 600 peers at once 511 get a seat, and 89 are told that there is none", 1,
+                 lambda: "" if counts == (511, 89) else counts)
+    for peer in peers:
+        peer.close()
+    report.check("the seats are free again", 5, lambda: answered(collector.peers, HELLO, ACCEPTED))
+    report.check("descriptors and threads are what they were", 10, lambda: "" if (
+        collector.descriptors() <= before[0] + 1 and collector.threads() <= before[1] + 1)
+        else (before, collector.descriptors(), collector.threads()))
+
+
+def deaf(report, collector):
+    """A peer that asks for answers and never reads them."""
+    peer = socket.socket()
+    peer.setsockopt(socket.SOL_SOCKET, socket.SO_RCVBUF, 4096)
+    peer.connect(("127.0.0.1", collector.peers))
+    peer.sendall(HELLO)
+    peer.settimeout(1)
+    try:
+        for _ in range(400):
+            peer.sendall(b"\x00\x00" * 32768)
+    except OSError:
+        pass
+
+    def ended():
+        try:
+            peer.sendall(b"\x00\x00")
+        except (BrokenPipeError, ConnectionResetError):
+            return ""
+        except OSError:
+            pass
+        return "it is still there"
+    report.check("a peer that never reads stops nobody", 2, lambda: answered(collector.peers, HELLO, ACCEPTED))
+    report.check("and it is ended", 20, ended)
+    peer.close()
+
+
+def silence(report, collector):
+    def heartbeats():
+        with call(collector.peers, HELLO, timeout=10) as peer:
+            start, found = time.monotonic(), read_all(peer)
+            took = time.monotonic() - start
+        good = found == ACCEPTED + b"\x00\x04" and 4.9 < took < 6.5
+        return "" if good else f"{found!r} in {took:.1f} s"
+    report.check("a silent peer gets a heartbeat after 3 s and is ended after 5", 1, heartbeats)
+
+
+def admins(report, collector):
+    def said(data, pieces=1, close=True):
+        with call(collector.admin, timeout=15) as admin:
+            size = max(1, len(data) // pieces)
+            for start in range(0, len(data), size):
+                admin.sendall(data[start:start + size])
+                time.sleep(0.02 if pieces > 1 else 0)
+            admin.shutdown(socket.SHUT_WR)
+            return read_all(admin)
+    heading = collector.ask("show table clients selector").encode()
+    report.check("a wrong command is refused", 1, lambda: "" if heading.startswith(b"refused 2 ") else heading)
+    one = said(b"show filter abusers\n")
+    report.check("pipelined commands are answered in order", 1, lambda: "" if
+                 said(b"show filter abusers\n" * 50) == one * 50 else "other bytes")
+    report.check("a command in pieces is one command", 1, lambda: "" if
+                 said(b"show filter abusers\r\n", pieces=10) == one else "other bytes")
+    report.check("a last line without an end is dropped", 1, lambda: "" if
+                 said(b"show filter abusers\nshow fil") == one else "other bytes")
+    before = collector.resident()
+    long = said(b"x" * 10_000_000 + b"\nshow filter abusers\n")
+    report.check("a line of 10 MB is refused, and the next one is answered", 1, lambda: "" if
+                 long.startswith(b"refused 2 ") and long.endswith(one) else long[:80])
+    report.check("and took no memory that stays", 1, lambda: "" if
+                 collector.resident() < before + 4_000_000 else collector.resident() - before)
+
+    def many():
+        for _ in range(1000):
+            if said(b"show filter abusers\n") != one:
+                return "another answer"
+        return ""
+    report.check("a thousand admins, one after the other", 1, many)
+    with call(collector.admin):
+        start = time.monotonic()
+        answer = said(b"show filter abusers\n")
+        took = time.monotonic() - start
+    report.check(f"an admin that says nothing makes room for the next ({took:.0f} s)", 1, lambda: "" if
+                 answer == one and took < 13 else (answer, took))
+
+
+def scarce(report, options):
+    """Descriptors run out and come back."""
+    peers, admin = free_ports(2)
+    limits = resource.getrlimit(resource.RLIMIT_NOFILE)
+    resource.setrlimit(resource.RLIMIT_NOFILE, (64, limits[1]))
+    collector = Collector(options.collector, peers, admin)
+    resource.setrlimit(resource.RLIMIT_NOFILE, limits)
+    crowd_of = [call(peers, HELLO) for _ in range(100)]
+    time.sleep(0.5)
+    for peer in crowd_of:
+        peer.close()
+    report.check("after descriptors ran out peers are served again", 8, lambda: answered(peers, HELLO, ACCEPTED))
+    collector.stop()
+
+
+def surroundings(report, options):
+    def run(words, config):
+        done = subprocess.run([str(options.collector), "listen"] + words, input=config, capture_output=True, timeout=20)
+        return done.returncode, done.stdout, done.stderr
+    text = CONFIG.read_bytes()
+    peers, admin = (f"127.0.0.1:{port}" for port in free_ports(2))
+    taken = socket.create_server(("127.0.0.1", 0))
+    used = f"127.0.0.1:{taken.getsockname()[1]}"
+    report.check("a port that is taken ends it with status 5", 1, lambda: "" if
+                 run(["--peers", used, "--admin", admin], text)[0] == 5 else "another status")
+    status, _, told = run(["--peers", "127.0.0.1", "--admin", admin], text)
+    report.check("a bad address is told with status 2", 1,
+                 lambda: "" if status == 2 and b"bad address" in told else (status, told))
+    wrong = text.replace(b"size 200000", b"size 0")
+    status, told, _ = run(["--peers", peers, "--admin", admin], wrong)
+    report.check("a fault of the configuration is told with its line and status 3", 1,
+                 lambda: "" if status == 3 and told.startswith(b"config line ") else (status, told))
+    for which in (signal.SIGINT, signal.SIGTERM):
+        collector = Collector(options.collector, *free_ports(2))
+        peer = call(collector.peers, HELLO)
+        start = time.monotonic()
+        collector.process.send_signal(which)
+        collector.process.wait(timeout=5)
+        took = time.monotonic() - start
+        report.check(f"{which.name} ends it at once", 1, lambda: "" if took < 1 else took)
+        again = Collector(options.collector, collector.peers, collector.admin)
+        report.check("and it listens at the same addresses again", 1,
+                     lambda: answered(again.peers, HELLO, ACCEPTED))
+        again.stop()
+        peer.close()
+
+
+def main():
+    words = argparse.ArgumentParser(description=__doc__, formatter_class=argparse.RawDescriptionHelpFormatter)
+    words.add_argument("--collector", default=COLLECTOR, help="the program that is checked")
+    options = words.parse_args()
+    resource.setrlimit(resource.RLIMIT_NOFILE, (4096, resource.getrlimit(resource.RLIMIT_NOFILE)[1]))
+    report = Report()
+    collector = Collector(options.collector, *free_ports(2))
+    for part in (verdicts, streams, crowd, deaf, silence, admins):
+        part(report, collector)
+    collector.stop()
+    scarce(report, options)
+    surroundings(report, options)
+    print(f"{report.passed} passed, {report.failed} failed")
+    sys.exit(1 if report.failed else 0)
+
+
+if __name__ == "__main__":
+    main()
