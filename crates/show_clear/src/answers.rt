@@ -7,7 +7,7 @@ ghost use Rattle.fleet_model.specs.Ranking.{rank_of};
 ghost use Rattle.show_clear.specs.Answer.{Answers, AppendsNext, NamesStand, all_hold, filter_text, headings, rank_text, row_lines, rows_text, shape_of, table_text};
 
 use crate::Command;
-use crate::book::{Book, BookRows, Summed};
+use crate::fleet::{Book, BookRows, Summed};
 use crate::lists::{append_change, append_held, append_ranking};
 use crate::tables::{append_heading, append_row, value_in};
 use agg_types::{Cond, Filter, Key, NoMemory, Rank, Select, Shape};

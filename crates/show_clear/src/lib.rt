@@ -8,11 +8,11 @@
 #![tactic(auto)]
 
 mod answers;
-mod book;
 mod change;
 mod command;
 mod conditions;
 mod fault;
+mod fleet;
 mod lists;
 mod parsing;
 mod pieces;

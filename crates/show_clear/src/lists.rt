@@ -4,7 +4,7 @@ ghost use Rattle.std.specs.Prelude.{◌≡◌, ◌++◌, ◌≤◌, ◌<◌, ◌
 ghost use Rattle.show_clear.specs.Answer.{change_text, held_text, key_line, period_of, place_text, places_text, ranking_text, title_text};
 ghost use Rattle.std.specs.List.{flat_map};
 
-use crate::book::Ranked;
+use crate::fleet::Ranked;
 use crate::pieces::{append_counted, append_labelled};
 use crate::tables::{append_cell, append_column, append_ms};
 use agg_types::{Col, Filter, Key, NoMemory, Rank, Shape};

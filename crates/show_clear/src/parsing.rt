@@ -10,8 +10,8 @@ ghost use Rattle.show_clear.specs.Answer.{NamesStand};
 ghost use Rattle.show_clear.specs.Change.{ChangeFits};
 
 use crate::answers::shape_of;
-use crate::book::Book;
 use crate::conditions::{read_conds, read_some_conds};
+use crate::fleet::Book;
 use crate::{Command, CommandFault};
 use agg_types::{Filter, KeyKind, MOST_FILTERS, Name, Rank, Select, Shape, is_name};
 use key_text::read_key;

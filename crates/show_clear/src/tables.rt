@@ -4,7 +4,7 @@ ghost use Rattle.std.specs.Prelude.{◌≡◌, ◌++◌, length, take, OnOk};
 ghost use Rattle.std.specs.List.{flat_map};
 ghost use Rattle.show_clear.specs.Tables.{cell_text, cells_text, column_text, counts_text, heading, kind_name, ms_or_never, row_text, sums_text, value_in};
 
-use crate::book::Summed;
+use crate::fleet::Summed;
 use crate::pieces::{append_counted, append_labelled};
 use agg_types::{Col, Key, KeyKind, NoMemory, Shape};
 use key_text::{append_key, append_number, append_text};
