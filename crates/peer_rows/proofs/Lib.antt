@@ -3,6 +3,7 @@ pub mod Sorted
 pub mod Selecting
 pub mod Peers
 pub mod Spreading
+pub mod Widths
 pub mod Indexed
 pub mod Keying
 pub mod Using

@@ -1,4 +1,6 @@
 pub mod Counted
+pub mod Few
+pub mod Form
 pub mod Listing
 pub mod Packed
 pub mod Peers

@@ -37,8 +37,8 @@ seen rows keys = map (λ e. (e.0, rows e.1)) keys
 abbrev pub AreHeld : (ℕ → Option (List ℕ)) → List (List ℕ × ℕ) → Type 0
 AreHeld key keys = AllByRecursion (λ e. key e.1 ≡ Some e.0) keys
 
--- keys in order, each with the number of its own place, and each place's key is among them with that
--- number
+-- keys in order, each with the number of its own place, and each place's key is among them with
+-- that number
 pub record IsIndexed (key : ℕ → Option (List ℕ)) (keys : List (List ℕ × ℕ)) : Type 0 where
   pub ordered : IsStrictlySortedBy (slice_cmp nat_cmp) (keys_of keys)
   pub held : AreHeld key keys

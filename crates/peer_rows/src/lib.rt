@@ -16,6 +16,7 @@
 #![tactic(auto)]
 
 mod by_key;
+mod few;
 mod key_rows;
 mod keyed;
 mod near;

@@ -1,11 +1,16 @@
-ghost use Rattle.std.specs.Prelude.{◌≡◌, ◌<◌, ◌==◌, length, slice_get, IfOk};
+ghost use Rattle.std.specs.Prelude.{◌≡◌, ◌<◌, ◌==◌, [], ◌∷◌, ◌++◌, length, map, slice_get, IfOk, OnOk, OnErr};
 ghost use Rattle.peer_rows.specs.Counted.{counted, counted_at};
+ghost use Rattle.peer_rows.specs.Packed.{held_of};
 
+use crate::few::Few;
 use crate::packed::Packed;
 use agg_types::NoMemory;
 use period_rate::Rate;
 use std::alloc::Global;
 use std::marker::Model;
+
+// How many cells are laid into the value itself, while they fit there.
+const FEW: usize = 5;
 
 /// What a row holds of one column: a count, or a rate over a period.
 #[derive(Clone, Copy, Debug, PartialEq, Eq)]
@@ -27,40 +32,84 @@ impl Held {
 }
 
 /// The cells of a row, in the order of its table's columns. Contracts see the list of them.
+///
+/// Cells of up to ten words, a count of two and a rate of five, lie in the value itself and take no
+/// memory beside it; others lie in a block.
 #[derive(Debug, Drop)]
 pub struct Cells {
-    packed: Vec<Packed>,
+    form: Form,
+    alloc: Global,
+}
+
+#[derive(Debug, Drop)]
+enum Form {
+    Few(Few),
+    Many(Vec<Packed>),
 }
 
 impl Model for Cells {
-    ghost use Rattle.std.specs.Prelude.{List, map};
+    ghost use Rattle.std.specs.Prelude.{List};
     ghost use Rattle.peer_rows.specs.declared.row.Held.{Held};
 
     ghost Value = { List Held };
 
-    ghost use Rattle.peer_rows.specs.Packed.{held_of};
+    ghost use Rattle.peer_rows.specs.Form.{cells_in};
 
-    ghost view = { λ cells. map held_of cells.packed.items };
+    ghost view = { λ cells. cells_in cells.form };
 }
 
 impl Cells {
+    /// No cells, with room for so many.
+    pub fn with_capacity(alloc: Global, cells: usize) -> Result<Cells, NoMemory>
+        ensures { IfOk result (λ cells. cells ≡ []) }
+    {
+        let form = if cells <= FEW {
+            Form::Few(Few::new())
+        } else {
+            Form::Many(Vec::with_capacity(alloc, cells)?)
+        };
+        Ok(Cells { form, alloc })
+    }
+
+    /// Adds a cell behind the others. After `NoMemory` there are the same cells as before.
+    pub fn push(&mut self, held: Held) -> Result<(), NoMemory>
+        ensures ok { OnOk result (self.new ≡ self.old ++ held ∷ []) }
+        ensures err { OnErr result (self.new ≡ self.old) }
+    {
+        let cell = Packed::new(&held);
+        match &mut self.form {
+            Form::Few(few) => {
+                if few.push(&cell) {
+                    return Ok(());
+                }
+                let mut cells = spread(self.alloc, few)?;
+                cells.push(cell)?;
+                self.form = Form::Many(cells);
+                Ok(())
+            }
+            Form::Many(cells) => Ok(cells.push(cell)?),
+        }
+    }
+
     /// A copy of these cells.
     pub fn copy(alloc: Global, held: &[Held]) -> Result<Cells, NoMemory>
         ensures { IfOk result (λ cells. cells ≡ held.now) }
     {
-        let mut packed = Vec::with_capacity(alloc, held.len())?;
+        let mut cells = Cells::with_capacity(alloc, held.len())?;
         for cell in held {
-            packed.push(Packed::new(cell))?;
+            cells.push(*cell)?;
         }
-        Ok(Cells { packed })
+        Ok(cells)
     }
 
     /// The cell of a column, if there is one.
     pub fn get(&self, col: usize) -> Option<Held>
         ensures { result ≡ slice_get self.now col }
     {
-        let packed = self.packed.get(col)?;
-        Some(packed.held())
+        match &self.form {
+            Form::Few(few) => few.get(col),
+            Form::Many(cells) => Some(cells.get(col)?.held()),
+        }
     }
 
     /// What is counted in a column: nothing where it holds a rate, or where there is no such
@@ -78,15 +127,31 @@ impl Cells {
     pub fn len(&self) -> usize
         ensures { result ≡ length self.now }
     {
-        self.packed.len()
+        match &self.form {
+            Form::Few(few) => few.len(),
+            Form::Many(cells) => cells.len(),
+        }
     }
 
     /// Whether there is no cell.
     pub fn is_empty(&self) -> bool
         ensures { result ≡ (length self.now == 0) }
     {
-        self.packed.is_empty()
+        self.len() == 0
     }
+}
+
+// The same cells, packed one by one, with room for one more.
+fn spread(alloc: Global, few: &Few) -> Result<Vec<Packed>, NoMemory>
+    ensures { IfOk result (λ cells. map held_of cells.items ≡ few.now) }
+{
+    let mut cells = Vec::with_capacity(alloc, FEW + 1)?;
+    for col in 0..few.len() {
+        if let Some(held) = few.get(col) {
+            cells.push(Packed::new(&held))?;
+        }
+    }
+    Ok(cells)
 }
 
 /// A row as it stands: its cells, the moment of its arrival, and the moment from which it has
