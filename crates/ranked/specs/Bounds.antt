@@ -7,7 +7,7 @@ use Rattle.std.specs.List.Sorted.{IsStrictlySortedBy}
 use Rattle.std.specs.Map.{keys_of, lookup}
 use Rattle.std.specs.Option.{IsSomeAnd, option_map}
 use Rattle.std.specs.Ordering.{nat_cmp}
-use Rattle.expiry_wheel.specs.Entries.{has_entry}
+use Rattle.expiry_wheel.specs.Entries.{IsInOrder, has_entry}
 use Rattle.fleet_model.specs.Ranking.{in_order, rank_cmp}
 use Rattle.fleet_model.specs.Seats.{is_number}
 use Rattle.ranked.specs.Walk.{bound_of}
@@ -53,3 +53,8 @@ IsIndexOf index bounds = (e : ℕ × List ℕ)
 pub record AreKept (index : List (ℕ × List ℕ)) (bounds : List (List ℕ × ℕ)) : Type 0 where
   pub indexed : IsIndexOf index bounds
   pub ordered : IsStrictlySortedBy (slice_cmp nat_cmp) (keys_of bounds)
+
+-- an index has each key once, by its bound, and nothing else
+pub record IsListOf (index : List (ℕ × List ℕ)) (bounds : List (List ℕ × ℕ)) : Type 0 where
+  pub exact : IsIndexOf index bounds
+  pub in_order : IsInOrder (slice_cmp nat_cmp) index

@@ -1,8 +1,9 @@
 -- Keys by their values, found by bounds on them: from the greatest bound on, until the best found
 -- so far stands before all that are left.
-use Rattle.std.specs.Prelude.{ℕ, ◌-◌, ◌^◌, ◌<◌, ◌≤◌, Bool, true, ◌==◌, nat_lt, if◌then◌else◌, List, [], ◌∷◌, take, Option, None, Some, is_none}
+use Rattle.std.specs.Prelude.{◌≡◌, ℕ, ◌+◌, ◌-◌, ◌^◌, ◌<◌, ◌≤◌, Bool, true, ◌==◌, nat_le, nat_lt, if◌then◌else◌, List, [], ◌∷◌, ◌++◌, count_by, length, take, Option, None, Some, IfSome, is_none}
 use Rattle.std.specs.List.{AllByRecursion}
 use Rattle.std.specs.Borrow.{Bor}
+use Rattle.std.specs.Map.Iter.{TakesFirst}
 use Rattle.fleet_model.specs.Ranking.{put_in_order, rank_cmp}
 
 -- An entry of the index is how many leading zeros the bound of a key has, of 128 binary digits, and
@@ -51,3 +52,44 @@ shown candidate = (candidate.0.now, candidate.1)
 abbrev pub AreFromFirst : List (ℕ × List ℕ) → Type 0
 AreFromFirst [] = Unit {0}
 AreFromFirst (e ∷ entries) = AllByRecursion (λ f. e.0 ≤ f.0) entries
+
+-- each has a value of at most that of any before it
+abbrev pub AreFalling : List (List ℕ × ℕ) → Type 0
+AreFalling [] = Unit {0}
+AreFalling (c ∷ candidates) = AllByRecursion (λ d. d.1 ≤ c.1) candidates × AreFalling candidates
+
+-- A walk took at least so many entries of an index, and these lie ahead. Of each entry that it
+-- took, the bound is at least the value of each candidate, and at least the bound of each entry
+-- ahead.
+pub record IsWalk (index : List (ℕ × List ℕ)) (walked : ℕ) (candidates : List (List ℕ × ℕ))
+    (ahead : List (ℕ × List ℕ)) : Type 0 where
+  pub taken : List (ℕ × List ℕ)
+  pub split : index ≡ taken ++ ahead
+  pub count : walked ≤ length taken
+  pub above : AllByRecursion (λ t. AllByRecursion (λ c. c.1 ≤ bound_of t.0) candidates) taken
+  pub before : AllByRecursion (λ t. AllByRecursion (λ f. t.0 ≤ f.0) ahead) taken
+  pub falling : AreFalling candidates
+
+-- however far a walk had come, it took so many entries more
+abbrev pub WalksOn : List (List ℕ × ℕ) → List (ℕ × List ℕ) → ℕ → List (List ℕ × ℕ)
+    → List (ℕ × List ℕ) → Type 0
+WalksOn candidates ahead more later left = (index : List (ℕ × List ℕ)) (walked : ℕ)
+    → IsWalk index walked candidates ahead → IsWalk index (walked + more) later left
+
+-- what contracts see of a ranked list: what it has left, how many entries of the index it took, and
+-- the whole index
+pub record RankedList : Type 0 where
+  pub left : List (List ℕ × ℕ)
+  pub walked : ℕ
+  pub index : List (ℕ × List ℕ)
+
+-- how many keys of an index have a bound of at least a value
+abbrev pub reach : List (ℕ × List ℕ) → ℕ → ℕ
+reach index value = count_by (λ e. nat_le value (bound_of e.0)) index
+
+-- the first of what is left is given; and no more entries are taken by then than there are keys
+-- with a bound of at least its value
+abbrev pub GivesFirst : RankedList → Option (Bor (List ℕ) × ℕ) → RankedList → Type 0
+GivesFirst old given new =
+    TakesFirst shown old.left given new.left × (new.index ≡ old.index)
+    × IfSome given (λ item. new.walked ≤ reach old.index item.1)

@@ -1,7 +1,7 @@
 ghost use Rattle.std.specs.Prelude.{◌≡◌, ◌≢◌, ◌≤◌, ◌+◌, ◌*◌, [], IfOk, OnOk, OnErr};
 ghost use Rattle.std.specs.Option.{IsSomeAnd};
 ghost use Rattle.std.specs.Map.{keys_of};
-ghost use Rattle.ranked.specs.Bounds.{AreAllBounded, AreOthersKept, bound_at, first_ranked, zeros_at};
+ghost use Rattle.ranked.specs.Bounds.{AreAllBounded, AreOthersKept, IsListOf, bound_at, first_ranked, zeros_at};
 
 use crate::Ranked;
 use crate::slack::{serves, zeros_for};
@@ -92,10 +92,12 @@ impl Bounds {
         requires bounds { AreAllBounded self.now
             (λ key. V.living values.now rank.now.table key now)
             (λ key. V.summed values.now rank.now.table key rank.now.col now) }
-        ensures list { IfOk result (λ list. list ≡ first_ranked rank.now.n
+        ensures list { IfOk result (λ list. list.left ≡ first_ranked rank.now.n
             (λ key. V.living values.now rank.now.table key now)
             (λ key. V.summed values.now rank.now.table key rank.now.col now)
             (keys_of self.now)) }
+        ensures index { IfOk result (λ list. IsListOf list.index self.now) }
+        ensures start { IfOk result (λ list. list.walked ≡ 0) }
     {
         Ranked::new(self.alloc, &self.index, rank, now, values)
     }

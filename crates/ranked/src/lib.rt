@@ -13,7 +13,8 @@
 //!
 //! Promised: a touched key has a bound of at least what was touched, and at most four times of it
 //! and 3, until it is touched again or dropped; `Ranked` lends the first keys that a sort of all
-//! live ones would give, each with its value. No clause says how many entries are taken.
+//! live ones would give, each with its value, and by then never took more entries than there are
+//! keys with a bound of at least that value. No clause says what a step costs.
 #![tactic(auto)]
 
 mod ahead;

@@ -1,10 +1,9 @@
 ghost use Rattle.std.specs.Prelude.{◌≡◌, ◌≤◌, [], length, IfOk};
 ghost use Rattle.std.specs.Iterator.{at_most};
-ghost use Rattle.std.specs.Map.Iter.{TakesFirst};
 ghost use Rattle.std.specs.Cmp.Lexicographic.{slice_cmp};
 ghost use Rattle.std.specs.Ordering.{nat_cmp};
 ghost use Rattle.expiry_wheel.specs.Entries.{IsInOrder};
-ghost use Rattle.ranked.specs.Walk.{AreBounds, found, shown};
+ghost use Rattle.ranked.specs.Walk.{AreBounds, GivesFirst, found};
 
 use crate::ahead::Ahead;
 use crate::walk::settle;
@@ -17,9 +16,11 @@ use std::marker::Model;
 /// Lends the keys of a ranked list, each with its value, the larger value first and of equal ones
 /// the smaller key. Takes no memory.
 ///
-/// Contracts see the list of what it has left.
+/// Contracts see what it has left and how many entries of the index it took. When it has given an
+/// item it never took more than there are keys with a bound of at least the item's value.
 #[derive(Drop)]
 pub struct Ranked<'a, V: Values> {
+    index: &'a OrderedDue<Key>,
     ahead: Ahead<'a>,
     // The best keys taken so far and not given yet, the best first.
     candidates: Vec<(&'a Key, u128)>,
@@ -34,17 +35,22 @@ pub struct Ranked<'a, V: Values> {
 
 impl<'a, V: Values> Model for Ranked<'a, V> {
     ghost use Rattle.std.specs.Prelude.{List, ℕ, map, vec_len, vec_capacity, ◌≤◌, ◌<◌};
-    ghost use Rattle.ranked.specs.Walk.{AreBounds, found, shown};
+    ghost use Rattle.ranked.specs.Walk.{AreBounds, IsWalk, RankedList, found, shown};
 
-    ghost Value = { List (List ℕ × ℕ) };
+    ghost Value = { RankedList };
 
-    ghost view = { λ r. found (λ key. V.living r.values.now r.table key r.now)
-        (λ key. V.summed r.values.now r.table key r.col r.now) r.left
-        (map shown r.candidates.items) r.ahead };
+    ghost view = { λ r. record {
+      left = found (λ key. V.living r.values.now r.table key r.now)
+          (λ key. V.summed r.values.now r.table key r.col r.now) r.left
+          (map shown r.candidates.items) r.ahead;
+      walked = r.walked;
+      index = r.index.now;
+    } };
 
     ghost invariant = { λ r. AreBounds (λ key. V.living r.values.now r.table key r.now)
         (λ key. V.summed r.values.now r.table key r.col r.now) r.ahead
-        × (vec_len r.candidates ≤ r.left) × (r.left < vec_capacity r.candidates) };
+        × (vec_len r.candidates ≤ r.left) × (r.left < vec_capacity r.candidates)
+        × IsWalk r.index.now r.walked (map shown r.candidates.items) r.ahead };
 }
 
 impl<'a, V: Values> Ranked<'a, V> {
@@ -60,14 +66,17 @@ impl<'a, V: Values> Ranked<'a, V> {
         requires short { rank.now.n ≤ 1000 }
         requires bounds { AreBounds (λ key. V.living values.now rank.now.table key now)
             (λ key. V.summed values.now rank.now.table key rank.now.col now) index.now }
-        ensures list { IfOk result (λ list. list
+        ensures list { IfOk result (λ list. list.left
             ≡ found (λ key. V.living values.now rank.now.table key now)
             (λ key. V.summed values.now rank.now.table key rank.now.col now) rank.now.n []
             index.now) }
+        ensures index { IfOk result (λ list. list.index ≡ index.now) }
+        ensures start { IfOk result (λ list. list.walked ≡ 0) }
         ensures ordered { IsInOrder (slice_cmp nat_cmp) index.now }
     {
         let left = rank.n as usize;
         Ok(Ranked {
+            index,
             ahead: Ahead::new(index),
             candidates: Vec::with_capacity(alloc, left + 1)?,
             values,
@@ -79,8 +88,10 @@ impl<'a, V: Values> Ranked<'a, V> {
         })
     }
 
-    /// How many entries of the index were taken so far. No clause says so.
-    pub fn walked(&self) -> usize {
+    /// How many entries of the index were taken so far.
+    pub fn walked(&self) -> usize
+        ensures { result ≡ self.entry.now.walked }
+    {
         self.walked
     }
 }
@@ -88,9 +99,9 @@ impl<'a, V: Values> Ranked<'a, V> {
 impl<'a, V: Values> Iterator for Ranked<'a, V> {
     type Item = (&'a Key, u128);
 
-    ghost next_gives = { TakesFirst shown };
+    ghost next_gives = { GivesFirst };
 
-    ghost remaining = { λ left. at_most (length left) };
+    ghost remaining = { λ list. at_most (length list.left) };
 
     fn next(&mut self) -> Option<(&'a Key, u128)> {
         if self.left == 0 {

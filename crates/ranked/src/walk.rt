@@ -1,11 +1,11 @@
 //! One walk from the greatest bound on.
 
-ghost use Rattle.std.specs.Prelude.{◌≡◌, ◌<◌, ◌≤◌, ◌⊎◌, [], true, length, map, slice_get, take, vec_len, vec_capacity};
+ghost use Rattle.std.specs.Prelude.{◌≡◌, ◌<◌, ◌≤◌, ◌⊎◌, [], false, true, length, map, slice_get, take, vec_len, vec_capacity};
 ghost use Rattle.expiry_wheel.specs.Items.{first_item, without_first};
 ghost use Rattle.fleet_model.specs.Ranking.{put_in_order, rank_cmp};
 ghost use Rattle.std.specs.Option.{option_map};
 ghost use Rattle.expiry_wheel.specs.Lent.{lent_entry};
-ghost use Rattle.ranked.specs.Walk.{AreBounds, AreFromFirst, found, is_done, shown};
+ghost use Rattle.ranked.specs.Walk.{AreBounds, AreFromFirst, WalksOn, found, is_done, shown};
 
 use crate::ahead::Ahead;
 use crate::candidates::{is_settled, place_of};
@@ -50,8 +50,13 @@ fn take_next<'a, V: Values>(
 )
     requires kept { vec_len candidates.old ≤ room }
     requires space { room < vec_capacity candidates.old }
+    requires bounds { AreBounds (λ key. V.living values.now table key now)
+        (λ key. V.summed values.now table key col now) ahead.old }
+    requires undone { is_done (map shown candidates.old.items) (first_item ahead.old) ≡ false }
     ensures kept { vec_len candidates.new ≤ room }
     ensures space { room < vec_capacity candidates.new }
+    ensures walked { WalksOn (map shown candidates.old.items) ahead.old 1
+        (map shown candidates.new.items) ahead.new }
     ensures taken { ahead.new ≡ without_first ahead.old }
     ensures same { found (λ key. V.living values.now table key now)
         (λ key. V.summed values.now table key col now) room
@@ -86,6 +91,8 @@ pub(crate) fn settle<'a, V: Values>(
     ensures space { room < vec_capacity candidates.new }
     ensures bounds { AreBounds (λ key. V.living values.now table key now)
         (λ key. V.summed values.now table key col now) ahead.new }
+    ensures walked { WalksOn (map shown candidates.old.items) ahead.old result
+        (map shown candidates.new.items) ahead.new }
     ensures settled { is_done (map shown candidates.new.items) (first_item ahead.new) ≡ true }
     ensures first { AreFromFirst ahead.new }
     ensures same { found (λ key. V.living values.now table key now)

@@ -3,7 +3,7 @@ use Rattle.std.proofs.lemmas.Result.{IfOk-weaker}
 use Rattle.std.specs.Map.{keys_of}
 use Rattle.ranked.proofs.Indexed.{bounds_hold}
 use Rattle.ranked.proofs.Sorting.{found_is}
-use Rattle.ranked.specs.Bounds.{AreAllBounded, first_ranked}
+use Rattle.ranked.specs.Bounds.{AreAllBounded, IsIndexOf, IsListOf, first_ranked}
 use Rattle.ranked.proofs.bounds.Bounds.top.Goals as goal
 
 pub new-requires-clause-bounds : goal.new-requires-clause-bounds
@@ -20,4 +20,9 @@ returns g c =
       list = IfOk-weaker c.new.result _ _ (λ list is. is
           ∙ found_is c.args.rank.now.n living value c.self.inside.index c.self.inside.zeros.entries c.self.invariant c.new.ensures.ordered
           ∙ ap (λ kept. first_ranked c.args.rank.now.n living value (keys_of kept)) c.self.view_is) c.new.ensures.list;
+      index = IfOk-weaker c.new.result _ _ (λ list is. subst (λ index. IsListOf index c.args.self.now) (sym is) (record {
+        exact = subst (λ kept. IsIndexOf c.self.inside.index kept) c.self.view_is c.self.invariant.indexed;
+        in_order = c.new.ensures.ordered;
+      })) c.new.ensures.index;
+      start = c.new.ensures.start;
     }
