@@ -1,4 +1,4 @@
-use Rattle.std.specs.Prelude.{◌≡◌, ℕ, ◌+◌, ◌*◌, ◌^◌, ◌≤◌, Bool, true, false, List, [], ◌∷◌, slice_index, take}
+use Rattle.std.specs.Prelude.{◌≡◌, ℕ, ◌+◌, ◌*◌, ◌^◌, ◌≤◌, Bool, true, false, List, [], ◌∷◌, slice_index as word, take}
 use Rattle.period_rate.specs.Words.{rate_of}
 use Rattle.peer_rows.specs.declared.row.Held.{Held}
 use Rattle.peer_rows.specs.declared.row.Held.TheVariants.{Count, Rate}
@@ -13,17 +13,22 @@ abbrev pub total_width : List Bool → ℕ
 total_width [] = 0
 total_width (rate ∷ rates) = width rate + total_width rates
 
+-- the five words from a place on
+abbrev pub five_from : List ℕ → ℕ → List ℕ
+five_from ws at =
+    word ws at ∷ word ws (at + 1) ∷ word ws (at + 2) ∷ word ws (at + 3) ∷ word ws (at + 4) ∷ []
+
 -- the cell, a rate or a count, whose words begin at a place
 abbrev pub cell_at : Bool → List ℕ → ℕ → Held
-cell_at false words at = Count (slice_index words at + 2 ^ 32 * slice_index words (at + 1))
-cell_at true words at =
-    Rate (rate_of (slice_index words at ∷ slice_index words (at + 1) ∷ slice_index words (at + 2) ∷ slice_index words (at + 3) ∷ slice_index words (at + 4) ∷ []))
+cell_at false ws at = Count (word ws at + 2 ^ 32 * word ws (at + 1))
+cell_at true ws at = Rate (rate_of (five_from ws at))
 
 -- cells whose words stand one behind the other, from a place on; of each is said whether it is a
 -- rate
 abbrev pub cells_from : ℕ → List Bool → List ℕ → List Held
 cells_from at [] words = []
-cells_from at (rate ∷ rates) words = cell_at rate words at ∷ cells_from (at + width rate) rates words
+cells_from at (rate ∷ rates) words =
+    cell_at rate words at ∷ cells_from (at + width rate) rates words
 
 -- so many cells use so many words of ten
 pub record IsFew (len used : ℕ) (rates : List Bool) : Type 0 where
