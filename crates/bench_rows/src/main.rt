@@ -7,6 +7,7 @@
 
 mod counted;
 mod due;
+mod held;
 mod measure;
 mod peers;
 
@@ -33,6 +34,9 @@ fn main(rt: HostRuntime) -> Result<()> {
     let part = args.next();
     if is_wanted(&part, "rows") {
         counted::run(&rt, number)?;
+    }
+    if is_wanted(&part, "held") {
+        held::run(&rt, number)?;
     }
     if is_wanted(&part, "peers") {
         peers::run(&rt, number)?;
