@@ -20,6 +20,7 @@ pub fn row(alloc: Global, id: u32, now: u64) -> Result<Row, NoMemory> {
         cells: Cells::copy(alloc, &held)?,
         arrived: now,
         ends: Some(now.saturating_add(30_000)),
+        planned: now.saturating_add(30_000),
     })
 }
 

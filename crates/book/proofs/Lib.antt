@@ -4,3 +4,4 @@ pub mod Reading
 pub mod Chosen
 pub mod Counting
 pub mod Listings
+pub mod Forgets

@@ -141,11 +141,6 @@ module _ {K X : Type 0} (C : K → K → Ordering) where
           let above : C f.0 e.0 ≡ Greater = o.antisymm f.0 e.0 ∙ ap ordering_reverse below.0 in
           (rw above found.0, behind fs below.1 found.1)
 
-  -- an entry at which nothing is found isn't among those taken away by a test of their keys
-  pub none_found : (test : K → Bool) (es : List (K × X)) → AllByRecursion (λ e. test e.0 ≡ false) es → lookup test es ≡ None
-  none_found test [] all = refl
-  none_found test (e ∷ es) all = rw all.0 (none_found test es all.1)
-
   -- entries as they are shown
   pub map-insert_entry : {Y : Type 0} (f : X → Y) (es : List (K × X)) (k : K) (v : X) → map (λ e. (e.0, f e.1)) (insert_entry C es k v) ≡ insert_entry C (map (λ e. (e.0, f e.1)) es) k (f v)
   map-insert_entry f [] k v = refl

@@ -29,7 +29,7 @@ use Rattle.book.specs.Shown.{as_arrival}
 use Rattle.book.specs.Store.{AreKept}
 use Rattle.book.proofs.Lists.{all-at, all-both, all-filter, all-insert_entry, all-insert_key, all-map, all-remove_entry, all_found, any-insert_key, any_more, filter-all, filter-filter, own-insert_key, remove-filter, same_filters, sorted-filter}
 
-abbrev Plan : Type 0
+abbrev pub Plan : Type 0
 Plan = ℕ × Place
 
 -- ---- the first is after t, so all are
@@ -53,10 +53,10 @@ all_after t at place (e ∷ es) is after s =
     (here, behind_first t e es here s.0)
 
 -- ---- places
-abbrev Entry : Type 0
+abbrev pub Entry : Type 0
 Entry = Place × Row
 
-equal_from : (r : Ordering) → is_eq r ≡ true → r ≡ Equal
+pub equal_from : (r : Ordering) → is_eq r ≡ true → r ≡ Equal
 equal_from Less is = cc
 equal_from Equal is = refl
 equal_from Greater is = cc
@@ -145,7 +145,7 @@ late_step t place item items left es at split late =
         seen_step item items e.0 (as_arrival e.1).life (as_arrival e.1).arrived (rw split at planned) apart
 
 -- ---- a plan more
-entry_exact : (x y : Plan) → entry_cmp place_cmp x y ≡ Equal → x ≡ y
+pub entry_exact : (x y : Plan) → entry_cmp place_cmp x y ≡ Equal → x ≡ y
 entry_exact x y is = by (nat_cmp x.0 y.0) refl is
   where
     by : (r : Ordering) → nat_cmp x.0 y.0 ≡ r → ordering_then r (place_cmp x.1 y.1) ≡ Equal → x ≡ y
@@ -185,7 +185,7 @@ any_right p (x ∷ xs) ys found = by (p x) (any_right p xs ys found)
     by true more = refl
     by false more = more
 
-seen_right : (items due : List Plan) (place : Place) (life : Option ℕ) (arrived : ℕ) → is_seen due place life arrived ≡ true → is_seen (items ++ due) place life arrived ≡ true
+pub seen_right : (items due : List Plan) (place : Place) (life : Option ℕ) (arrived : ℕ) → is_seen due place life arrived ≡ true → is_seen (items ++ due) place life arrived ≡ true
 seen_right items due place None arrived seen = refl
 seen_right items due place (Some life) arrived seen = any_right (is_by (arrived + life) place) items due seen
 
@@ -321,36 +321,6 @@ seen_earlier items es place end life arrived planned ends is =
     of None before over seen = absurd over
     of (Some n) before over seen = by_later (before + n) (arrived + life) place items (omega arith) seen
 
-pub seen_planned : (items due new : List Plan) (end life arrived : ℕ) (place : Place) → new ≡ with_entry place_cmp due (end, place) → arrived + life ≡ end → is_seen (items ++ new) place (Some life) arrived ≡ true
-seen_planned items due new end life arrived place is ends =
-    seen_right items new place (Some life) arrived (seen_own end place due new (Some life) arrived is (ap Some (sym ends)))
-
--- ---- rows of which one is put or taken
-pub kept_put : (peers tables : ℕ) (rows new : RowMap) (before items : List Plan) (place : Place) (row : Row) → AreRows peers tables rows → IsInside peers tables place → new ≡ record rows { entries = insert_entry place_cmp rows.entries place row } → AreInOrder new.entries
-    → ((e : Entry) → is_planned before e ≡ true → is_planned items e ≡ true) → is_planned items (place, row) ≡ true → ArePlanned before rows.entries → AreKept peers tables new items
-kept_put peers tables rows new before items place row are inside is ordered more here planned =
-    record {
-      are = record {
-        of_peers = ap (λ (m : RowMap). m.peers) is ∙ are.of_peers;
-        of_tables = ap (λ (m : RowMap). m.tables) is ∙ are.of_tables;
-        ordered = ordered;
-        inside = rw is (all-insert_entry place_cmp (λ e. IsInside peers tables e.0) rows.entries place row are.inside (λ q same. rw (← place_cmp_exact place q same) inside) inside);
-      };
-      planned = rw is (all-insert_entry place_cmp (λ e. is_planned items e ≡ true) rows.entries place row (all-map (λ e. is_planned before e ≡ true) (λ e. is_planned items e ≡ true) more rows.entries planned) (λ q same. rw (← place_cmp_exact place q same) here) here);
-    }
-
-pub kept_drop : (peers tables : ℕ) (rows new : RowMap) (items : List Plan) (place : Place) → new ≡ record rows { entries = remove_entry (is_at (place_cmp place)) rows.entries } → AreInOrder new.entries → AreKept peers tables rows items → AreKept peers tables new items
-kept_drop peers tables rows new items place is ordered kept =
-    record {
-      are = record {
-        of_peers = ap (λ (m : RowMap). m.peers) is ∙ kept.are.of_peers;
-        of_tables = ap (λ (m : RowMap). m.tables) is ∙ kept.are.of_tables;
-        ordered = ordered;
-        inside = rw is (all-remove_entry place_cmp (λ e. IsInside peers tables e.0) (is_at (place_cmp place)) rows.entries kept.are.inside);
-      };
-      planned = rw is (all-remove_entry place_cmp (λ e. is_planned items e ≡ true) (is_at (place_cmp place)) rows.entries kept.planned);
-    }
-
 pub seen_row : (items : List Plan) (place : Place) (row : Row) (end : ℕ) → Some end ≡ option_map (λ life. row.arrived + life) (as_arrival row).life → ((life arrived : ℕ) → arrived + life ≡ end → is_seen items place (Some life) arrived ≡ true) → is_planned items (place, row) ≡ true
 seen_row items place row end ends seen = of (as_arrival row).life ends
   where
@@ -373,10 +343,3 @@ with_living t rows place row live = rw live refl
 pub with_ended : (t : ℕ) (rows : List (Place × Arrival)) (place : Place) (row : Arrival) → is_live t row ≡ false → with_row t rows place row ≡ remove_entry (is_at (place_cmp place)) rows
 unfolding with_row
 with_ended t rows place row over = rw over refl
-
-pub kept_filter : (peers tables : ℕ) (p : Entry → Bool) (rows new : RowMap) (items : List Plan) → new ≡ record rows { entries = filter p rows.entries } → AreKept peers tables rows items → AreKept peers tables new items
-kept_filter peers tables p rows new items is kept =
-    rw is (record {
-      are = rows-filter peers tables p rows _ kept.are refl;
-      planned = all-filter (λ e. is_planned items e ≡ true) (λ e. is_planned items e ≡ true) p (λ e ok planned. planned) rows.entries kept.planned;
-    })

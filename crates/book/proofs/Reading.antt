@@ -4,8 +4,8 @@ use Rattle.std.specs.Prelude.{filter, map, slice_get}
 use Rattle.std.specs.Cmp.Lexicographic.{slice_cmp}
 use Rattle.std.specs.BTreeMap.{is_at}
 use Rattle.std.specs.Borrow.{Bor}
-use Rattle.std.specs.List.{AllByRecursion, dedup, fold, list_any}
-use Rattle.std.specs.Option.{option_copied, option_map}
+use Rattle.std.specs.List.{AllByRecursion, dedup, fold, list_all, list_any}
+use Rattle.std.specs.Option.{MatchOption, option_copied, option_map}
 use Rattle.std.proofs.lemmas.List.{take_more}
 use Rattle.std.proofs.lemmas.List.Folds.{list_any-append}
 use Rattle.fleet_model.specs.Answers.{left_of, longer, sum_up, tally}
@@ -26,17 +26,21 @@ use Rattle.std.proofs.lemmas.Bool.Decides.{nat_tests}
 use Rattle.std.proofs.lemmas.Map.Lookups.{exact_bytes}
 use Rattle.std.proofs.Math.Numerals.{add-one}
 use Rattle.std.proofs.lemmas.Cmp.{nat_list_cmp_total}
+use Rattle.peer_rows.proofs.Counting.{sum_by-map}
 use Rattle.peer_rows.proofs.Sorted.{equal_itself}
 use Rattle.agg_types.specs.Place.{place_cmp}
 use Rattle.agg_types.specs.declared.event.Cell.{Cell}
 use Rattle.agg_types.specs.declared.place.Place.{Place}
-use Rattle.fleet_model.specs.Keys.{key_rows}
+use Rattle.agg_types.specs.Col.{all_cols}
+use Rattle.agg_types.specs.Op.{op_holds}
+use Rattle.agg_types.specs.declared.config.Cond.{Cond}
+use Rattle.fleet_model.specs.Keys.{key_rows, meet_at, row_worth, worth_of}
 use Rattle.fleet_model.specs.Values.{column_worth, live_keys, same_key, same_place}
 use Rattle.fleet_model.specs.declared.arrival.Arrival.{Arrival}
 use Rattle.peer_rows.specs.Rows.{RowMap, in_table, of_table_key, peers_of}
 use Rattle.peer_rows.specs.declared.row.Row.{Row}
 use Rattle.book.specs.Planned.{AreRows, IsInside}
-use Rattle.book.specs.Shown.{arrivals, as_arrival, of_peer, of_spot, shown}
+use Rattle.book.specs.Shown.{arrivals, as_arrival, of_peer, of_spot, found_worth, rows_worth, shown}
 use Rattle.book.proofs.Lists.{all-filter, all-map, map-filter, same_filters, sorted-filter}
 
 abbrev Entry : Type 0
@@ -194,30 +198,33 @@ two_filters p q r both (x ∷ xs) = by (q x) refl (two_filters p q r both xs)
     by true is more = rw (both x, is, more) refl
     by false is more = rw (both x, is) more
 
-one_more : (t any same : Bool) → not (t && (any || (same || false))) ≡ (not (t && any) && not (t && same))
-one_more true true same = refl
-one_more true false true = refl
-one_more true false false = refl
-one_more false any same = refl
+first_more : (t any same : Bool) → not (t && (same || any)) ≡ (not (t && same) && not (t && any))
+first_more true any true = refl
+first_more true any false = refl
+first_more false any same = refl
 
-left_more : (table : ℕ) (keys : List (List ℕ)) (i : ℕ) (key : List ℕ) (rows : List Shown) → i < length keys → key ≡ get_or keys i key
-    → filter (λ row. not ((row.0.table == table) && same_key key row.0.key)) (filter (λ row. not ((row.0.table == table) && list_any (λ k. same_key k row.0.key) (take i keys))) rows)
-    ≡ filter (λ row. not ((row.0.table == table) && list_any (λ k. same_key k row.0.key) (take (i + 1) keys))) rows
-left_more table keys i key rows within is =
-    two_filters (λ row. not ((row.0.table == table) && same_key key row.0.key)) (λ row. not ((row.0.table == table) && list_any (λ k. same_key k row.0.key) (take i keys))) (λ row. not ((row.0.table == table) && list_any (λ k. same_key k row.0.key) (take (i + 1) keys)))
-    (λ row. ap (λ ks. not ((row.0.table == table) && list_any (λ k. same_key k row.0.key) ks)) (take_more keys i key within ∙ ap (λ k. take i keys ++ k ∷ []) (sym is))
-    ∙ ap (λ b. not ((row.0.table == table) && b)) (list_any-append (λ k. same_key k row.0.key) (take i keys) (key ∷ []))
-    ∙ one_more (row.0.table == table) (list_any (λ k. same_key k row.0.key) (take i keys)) (same_key key row.0.key))
-    rows
+-- a table's rows whose key is none of these
+abbrev pub rest_left : ℕ → List (List ℕ) → InForce → InForce
+rest_left table keys store = record store { rows = filter (λ row. not ((row.0.table == table) && list_any (λ key. same_key key row.0.key) keys)) store.rows }
 
-pub cleared_more : (table : ℕ) (keys : List (List ℕ)) (i : ℕ) (key : List ℕ) (first now new : InForce) → i < length keys → key ≡ get_or keys i key
-    → now ≡ record first { rows = filter (λ row. not ((row.0.table == table) && list_any (λ k. same_key k row.0.key) (take i keys))) first.rows }
+-- once a key's rows are gone, those of the keys behind it are left to go
+pub cleared_more : (table : ℕ) (key : List ℕ) (keys left : List (List ℕ)) (first now new : InForce) → left ≡ key ∷ keys
+    → rest_left table left now ≡ first
     → new ≡ record now { rows = filter (λ row. not ((row.0.table == table) && same_key key row.0.key)) now.rows }
-    → new ≡ record first { rows = filter (λ row. not ((row.0.table == table) && list_any (λ k. same_key k row.0.key) (take (i + 1) keys))) first.rows }
-cleared_more table keys i key first now new within is before after =
-    after
-    ∙ ap (λ (s : InForce). record s { rows = filter (λ row. not ((row.0.table == table) && same_key key row.0.key)) s.rows }) before
-    ∙ ap (λ (rows : List Shown). record first { rows = rows }) (left_more table keys i key first.rows within is)
+    → rest_left table keys new ≡ first
+cleared_more table key keys left first now new split before after =
+    ap (rest_left table keys) after
+    ∙ ap (λ (rows : List Shown). record now { rows = rows })
+    (two_filters (λ row. not ((row.0.table == table) && list_any (λ k. same_key k row.0.key) keys)) (λ row. not ((row.0.table == table) && same_key key row.0.key)) (λ row. not ((row.0.table == table) && list_any (λ k. same_key k row.0.key) (key ∷ keys)))
+    (λ row. first_more (row.0.table == table) (list_any (λ k. same_key k row.0.key) keys) (same_key key row.0.key)) now.rows)
+    ∙ sym (ap (λ ks. rest_left table ks now) split)
+    ∙ before
+
+pub none_more : (table : ℕ) (left : List (List ℕ)) (first now : InForce) → left ≡ [] → rest_left table left now ≡ first → now ≡ first
+none_more table left first now none before =
+    ap (λ (rows : List Shown). record now { rows = rows }) (all_left table now.rows)
+    ∙ sym (ap (λ ks. rest_left table ks now) none)
+    ∙ before
 
 and_yes : (b : Bool) → b ≡ (b && true)
 and_yes true = refl
@@ -363,3 +370,27 @@ walk_none rows table (Some found) walk is = cc
 pub walk_some : (rows : List Shown) (table : ℕ) (found : Option (List (Spot × Row))) (own : List (Spot × Row)) → IsWalk rows table found → found ≡ Some own → map (of_spot table) own ≡ filter (λ row. row.0.table == table) rows
 walk_some rows table None own walk is = cc
 walk_some rows table (Some found) own walk is = let same : found ≡ own = cc in rw (← same) walk
+
+-- ---- what a key's rows sum up to
+worth_shown : (table : ℕ) (key : List ℕ) (cols : List (Col × ℕ)) (col : Col) (t : ℕ) (rows : List (ℕ × Row)) → rows_worth cols col t rows ≡ worth_of cols (map (of_peer table key) rows) col t
+worth_shown table key cols col t rows = sym (sum_by-map (λ (row : Shown). row_worth cols col t row.1) (of_peer table key) rows)
+
+pub worths_shown : (table : ℕ) (key : List ℕ) (cols : List (Col × ℕ)) (t : ℕ) (rows : List (ℕ × Row)) (own : List Shown) → map (of_peer table key) rows ≡ own → map (λ col. rows_worth cols col t rows) all_cols ≡ map (λ col. worth_of cols own col t) all_cols
+worths_shown table key cols t rows own is = λ i. map (λ col. (worth_shown table key cols col t rows ∙ ap (λ own. worth_of cols own col t) is) i) all_cols
+
+found_shown_worth : (table : ℕ) (key : List ℕ) (cols : List (Col × ℕ)) (col : Col) (t : ℕ) (found : Option (Bor (List (ℕ × Row)))) (rows : Option (List (ℕ × Row))) (own : List Shown) → option_copied found ≡ rows → MatchOption rows (own ≡ []) (λ rows. map (of_peer table key) rows ≡ own) → found_worth cols col t found ≡ worth_of cols own col t
+found_shown_worth table key cols col t None None own same is = ap (λ rows. worth_of cols rows col t) (sym is)
+found_shown_worth table key cols col t None (Some rows) own same is = cc
+found_shown_worth table key cols col t (Some found) None own same is = cc
+found_shown_worth table key cols col t (Some found) (Some rows) own same is =
+    let first : found.now ≡ rows = cc in
+    ap (rows_worth cols col t) first ∙ worth_shown table key cols col t rows ∙ ap (λ rows. worth_of cols rows col t) is
+
+-- what is found meets conditions where the key's rows do
+pub found_shown_meets : (table : ℕ) (key : List ℕ) (cols : List (Col × ℕ)) (conds : List Cond) (t : ℕ) (found : Option (Bor (List (ℕ × Row)))) (rows : Option (List (ℕ × Row))) (own : List Shown) → option_copied found ≡ rows → MatchOption rows (own ≡ []) (λ rows. map (of_peer table key) rows ≡ own) → list_all (λ cond. op_holds cond.op (found_worth cols cond.col t found) cond.bound) conds ≡ meet_at cols own conds t
+found_shown_meets table key cols conds t found rows own same is =
+    λ i. list_all (λ cond. op_holds cond.op (found_shown_worth table key cols cond.col t found rows own same is i) cond.bound) conds
+
+pub nil_of : {X : Type 0} (xs : List X) → length xs ≡ 0 → xs ≡ []
+nil_of [] none = refl
+nil_of (x ∷ xs) none = absurd (omega arith)

@@ -5,11 +5,13 @@ use Rattle.std.specs.List.{AllByRecursion, list_any}
 use Rattle.std.specs.Map.{lookup}
 use Rattle.agg_types.specs.Place.{place_cmp}
 use Rattle.agg_types.specs.declared.place.Place.{Place}
+use Rattle.expiry_wheel.specs.Entries.{has_entry}
 use Rattle.fleet_model.specs.Moments.{is_live}
 use Rattle.fleet_model.specs.Values.{same_place}
 use Rattle.peer_rows.specs.Rows.{AreInOrder, RowMap}
 use Rattle.peer_rows.specs.declared.row.Row.{Row}
 use Rattle.book.specs.Shown.{as_arrival}
+use Rattle.book.specs.declared.at.At.{At}
 
 -- a moment up to an end, at which its place is looked at
 abbrev pub is_by : ℕ → Place → ℕ × Place → Bool
@@ -71,3 +73,19 @@ EndsBy entries place end =
 abbrev pub IsShort : Option ℕ → Type 0
 IsShort None = Unit {0}
 IsShort (Some life) = life < 2 ^ 32
+
+-- the place at which a row stands
+abbrev pub place_at : At → Place
+place_at at = record { table = at.table; key = at.key.now; peer = at.peer }
+
+-- an end, if there is one, is planned for a place
+abbrev pub HasPlan : List (ℕ × Place) → Place → Option ℕ → Type 0
+HasPlan items place None = Unit {0}
+HasPlan items place (Some end) = has_entry place_cmp items (end, place) ≡ true
+
+-- a row ends no earlier than the one before it, or neither ends
+abbrev pub Stays : Option ℕ → Option ℕ → Type 0
+Stays None None = Unit {0}
+Stays None (Some end) = ⊥
+Stays (Some before) None = ⊥
+Stays (Some before) (Some end) = before ≤ end

@@ -1,9 +1,12 @@
 -- What a row that is kept stands for.
-use Rattle.std.specs.Prelude.{ℕ, ◌-◌, List, map}
+use Rattle.std.specs.Prelude.{ℕ, ◌-◌, List, Option, None, Some, map, sum_by}
+use Rattle.std.specs.Borrow.{Bor}
 use Rattle.std.specs.Option.{option_map}
+use Rattle.agg_types.specs.declared.column.Col.{Col}
 use Rattle.agg_types.specs.declared.event.Cell.{Cell}
 use Rattle.agg_types.specs.declared.event.Cell.TheVariants as cell
 use Rattle.agg_types.specs.declared.place.Place.{Place}
+use Rattle.fleet_model.specs.Keys.{row_worth}
 use Rattle.fleet_model.specs.declared.arrival.Arrival.{Arrival}
 use Rattle.peer_rows.specs.declared.row.Held.{Held}
 use Rattle.peer_rows.specs.declared.row.Held.TheVariants.{Count, Rate}
@@ -35,6 +38,15 @@ arrivals entries = map shown entries
 -- a peer's row of a key, as it stands at its place
 abbrev pub of_peer : ℕ → List ℕ → ℕ × Row → Place × Arrival
 of_peer table key p = (record { table = table; key = key; peer = p.0 }, as_arrival p.1)
+
+-- what rows of one key, each with its peer, sum up to in a column at t
+abbrev pub rows_worth : List (Col × ℕ) → Col → ℕ → List (ℕ × Row) → ℕ
+rows_worth cols col t rows = sum_by (λ p. row_worth cols col t (as_arrival p.1)) rows
+
+-- the same of rows that were found, and nothing where none were
+abbrev pub found_worth : List (Col × ℕ) → Col → ℕ → Option (Bor (List (ℕ × Row))) → ℕ
+found_worth cols col t None = 0
+found_worth cols col t (Some rows) = rows_worth cols col t rows.now
 
 -- a row of a table, as it stands at its place
 abbrev pub of_spot : ℕ → Spot × Row → Place × Arrival

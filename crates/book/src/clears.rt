@@ -11,14 +11,14 @@ use peer_rows::ByKey;
 use std::alloc::Global;
 
 /// Takes away the rows of a table.
-pub fn clear_table(alloc: Global, store: &mut Store, table: usize) -> Result<(), NoMemory>
+pub fn clear_table(alloc: Global, store: &mut Store, table: usize, t: u64) -> Result<(), NoMemory>
     ensures ok { OnOk result (store.new ≡ record store.old {
       rows = filter (λ row. not ((row.0.table == table) && true)) store.old.rows;
     }) }
     ensures err { OnErr result (store.new ≡ store.old) }
 {
     let keys = table_keys(alloc, store, table)?;
-    clear_keys(store, table, keys.as_slice());
+    clear_keys(store, table, keys, t);
     Ok(())
 }
 
@@ -40,7 +40,7 @@ pub fn clear_where(
     ensures err { OnErr result (store.new ≡ store.old) }
 {
     let keys = keys_that_meet(alloc, store, cols, table, t, conds)?;
-    clear_keys(store, table, keys.as_slice());
+    clear_keys(store, table, keys, t);
     Ok(())
 }
 
@@ -83,14 +83,14 @@ fn keys_that_meet(
     Ok(keys)
 }
 
-fn clear_keys(store: &mut Store, table: usize, keys: &[Key])
+fn clear_keys(store: &mut Store, table: usize, keys: Vec<Key>, t: u64)
     ensures { store.new ≡ record store.old {
       rows = filter (λ row. not
-          ((row.0.table == table) && list_any (λ key. same_key key row.0.key) keys.now))
+          ((row.0.table == table) && list_any (λ key. same_key key row.0.key) keys.items))
           store.old.rows;
     } }
 {
     for key in keys {
-        store.clear_key(table, key);
+        store.clear_key(table, key, t);
     }
 }

@@ -9,6 +9,7 @@
 //! comes due, so some rows are looked at before they end.
 #![tactic(auto)]
 
+mod at;
 mod book;
 mod clears;
 mod ends;

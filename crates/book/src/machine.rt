@@ -11,9 +11,10 @@ ghost use Rattle.fleet_model.specs.Rows.{arrival_of, has_room};
 ghost use Rattle.fleet_model.specs.Seats.{is_number};
 ghost use Rattle.fleet_model.specs.Values.{cols_of, selects};
 ghost use Rattle.book.specs.Due.{FitsPlace, IsDue};
-ghost use Rattle.book.specs.Planned.{IsInside, IsShort};
+ghost use Rattle.book.specs.Planned.{IsInside, IsShort, place_at};
 ghost use Rattle.book.specs.Store.{row_keys};
 
+use crate::at::At;
 use crate::clears::{clear_table, clear_where};
 use crate::ends::Size;
 use crate::seats::{
@@ -23,7 +24,7 @@ use crate::seats::{
 use crate::store::Store;
 use crate::{queries, seats};
 use agg_types::{
-    Cells, Col, Config, Filter, Items, Key, MOST_FILTERS, NoMemory, Place, Select, Shape, What,
+    Cells, Col, Config, Filter, Items, Key, MOST_FILTERS, NoMemory, Select, Shape, What,
 };
 use fleet_model::Summed;
 use std::alloc::Global;
@@ -150,19 +151,19 @@ impl Machine {
                 life,
                 cells,
             } => {
-                let place = Place {
+                let at = At {
                     table: *table,
-                    key: key.duplicate(self.alloc)?,
+                    key,
                     peer: *peer,
+                    spot: self.rows.spot_of(*table, key),
                 };
-                let session = seats::session_of(&self.sessions, *peer);
                 put(
                     &mut self.rows,
                     self.config.tables.as_slice(),
-                    session,
+                    seats::session_of(&self.sessions, *peer),
                     seat,
                     self.moment,
-                    place,
+                    at,
                     *life,
                     cells,
                 )?;
@@ -230,9 +231,9 @@ fn clear(
     ensures err { OnErr result (rows.new ≡ rows.old) }
 {
     match sel {
-        Select::All => clear_table(alloc, rows, table),
+        Select::All => clear_table(alloc, rows, table, t),
         Select::One(key) => {
-            rows.clear_key(table, key);
+            rows.clear_key(table, key.duplicate(alloc)?, t);
             Ok(())
         }
         Select::Conds(conds) => clear_where(
@@ -253,23 +254,24 @@ fn put(
     session: Option<u64>,
     seat: u64,
     t: u64,
-    place: Place,
+    at: At<'_>,
     life: Option<u64>,
     cells: &Cells,
 ) -> Result<(), NoMemory>
     requires in_range { t ≤ 2 ^ 62 }
-    requires inside { IsInside rows.old.peers rows.old.tables place }
+    requires inside { IsInside rows.old.peers rows.old.tables (place_at at) }
     requires short { IsShort life }
     ensures ok { OnOk result (rows.new ≡ record rows.old {
-      rows = if is_number session seat && has_room tables.now rows.old.rows place
-          then with_row t rows.old.rows place (arrival_of tables.now place.table t life cells.now)
+      rows = if is_number session seat && has_room tables.now rows.old.rows (place_at at.entry)
+          then with_row t rows.old.rows (place_at at.entry)
+          (arrival_of tables.now at.entry.table t life cells.now)
           else rows.old.rows;
     }) }
     ensures err { OnErr result (rows.new ≡ rows.old) }
 {
-    if is_number(session, seat) && rows.has_room(tables, &place) {
-        let cols = cols_of(tables, place.table);
-        rows.put(t, place, life, cols, cells.as_slice())
+    if is_number(session, seat) && rows.has_room(tables, at) {
+        let cols = cols_of(tables, at.table);
+        rows.put(t, at, life, cols, cells.as_slice())
     } else {
         Ok(())
     }

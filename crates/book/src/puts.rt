@@ -1,6 +1,10 @@
-//! Rows that are put: each in the place of the older one, its end planned if it comes earlier.
+//! Rows that are put and taken away, and what is planned for their ends.
+//!
+//! A row that ends has one item in the index: at its end, or at the end of one that stood there
+//! before it and ended no later. That item goes with the row, and where an end moves earlier.
 
-ghost use Rattle.std.specs.Prelude.{◌≡◌, ◌≢◌, ◌≤◌, ◌^◌, ◌++◌, ℕ, ◌+◌, List, Some, true, map, IsTrue, IfOk, OnOk, OnErr};
+ghost use Rattle.std.specs.Prelude.{◌≡◌, ◌<◌, ◌≤◌, ◌^◌, ◌++◌, ℕ, ◌+◌, List, true, false, map, IsSome, IfSome, IfOk, OnOk, OnErr};
+ghost use Rattle.std.specs.Option.{option_map};
 ghost use Rattle.std.specs.BTreeMap.{insert_entry, is_at};
 ghost use Rattle.std.specs.Map.{remove_entry};
 ghost use Rattle.agg_types.specs.Place.{place_cmp};
@@ -8,13 +12,17 @@ ghost use Rattle.agg_types.specs.declared.place.Place.{Place};
 ghost use Rattle.fleet_model.specs.Kept.{kept_cell, kept_cells};
 ghost use Rattle.fleet_model.specs.Machine.{with_row};
 ghost use Rattle.peer_rows.specs.declared.row.Row.{Row};
-ghost use Rattle.book.specs.Planned.{ArePlanned, AreRows, EndsBy, IsInside, IsShort, is_planned, is_seen};
+ghost use Rattle.fleet_model.specs.Values.{same_place};
+ghost use Rattle.peer_rows.specs.Rows.{AreInOrder, of_table_key, without_key};
+ghost use Rattle.book.specs.Planned.{AreRows, EndsBy, HasPlan, IsInside, IsShort, Stays, is_planned, place_at};
 ghost use Rattle.book.specs.Shown.{arrivals, as_arrival, cell_of};
 ghost use Rattle.book.specs.Store.{AreKept, put_arrival};
 
-use crate::ends::{Size, row_at};
+use crate::at::At;
+use crate::ends::Size;
 use crate::row::{copy_place, end_of};
-use agg_types::{Cell, Col, NoMemory, Place};
+use crate::seats::is_number;
+use agg_types::{Cell, Col, Key, NoMemory, Place};
 use expiry_wheel::{DueIndex, Wheel};
 use peer_rows::{Cells, Held, Row, Rows};
 use period_rate::Rate;
@@ -32,22 +40,27 @@ pub fn new_row(
     requires short { IsShort life }
     ensures { IfOk result (λ row. as_arrival row ≡ put_arrival t life cols.now cells.now) }
 {
-    let mut held = Vec::with_capacity(alloc, cells.len())?;
+    let mut held = Cells::with_capacity(alloc, cells.len())?;
     hold(&mut held, t, cols, cells)?;
     Ok(Row {
-        cells: Cells::copy(alloc, held.as_slice())?,
+        cells: held,
         arrived: t,
         ends: match life {
             None => None,
             Some(life) => Some(t + life),
         },
+        planned: match life {
+            None => 0,
+            Some(life) => t + life,
+        },
     })
 }
 
-fn hold(held: &mut Vec<Held>, t: u64, cols: &[(Col, u32)], cells: &[Cell]) -> Result<(), NoMemory>
+// Puts cells that arrive at a moment behind others.
+fn hold(held: &mut Cells, t: u64, cols: &[(Col, u32)], cells: &[Cell]) -> Result<(), NoMemory>
     requires { t ≤ 2 ^ 62 }
-    ensures { OnOk result (map (cell_of t) held.new.items
-        ≡ map (cell_of t) held.old.items ++ kept_cells cols.now cells.now) }
+    ensures { OnOk result (map (cell_of t) held.new
+        ≡ map (cell_of t) held.old ++ kept_cells cols.now cells.now) }
 {
     match cols {
         [] => Ok(()),
@@ -75,98 +88,224 @@ fn hold_cell(t: u64, period: u32, cell: Cell) -> Held
     }
 }
 
-// Whether there is a row at a place, and it ends by then.
-fn ends_by(rows: &Rows, size: Size, place: &Place, end: u64) -> bool
-    requires { AreRows size.peers size.tables rows.now }
-    ensures { IsTrue result → EndsBy rows.now.entries place.now end }
-{
-    let Some(row) = row_at(rows, size, place) else {
-        return false;
-    };
-    let Some(planned) = end_of(row) else {
-        return false;
-    };
-    planned <= end
+/// Where a row that stands ends, and the moment at which it is looked at before.
+#[derive(Clone, Copy, Debug)]
+pub struct Plan {
+    pub end: u64,
+    planned: u64,
 }
 
-// Plans an end at a place, unless the row there ends by then and so is looked at.
+/// Where a row ends and when it is looked at, if it ends. Once what was planned for it has come
+/// due, that is at its end.
+pub fn plan_of(row: &Row, t: u64) -> Option<Plan>
+    ensures { option_map (λ plan. plan.end) result
+        ≡ option_map (λ life. row.now.arrived + life) (as_arrival row.now).life }
+{
+    let end = end_of(row)?;
+    let planned = if row.planned > t { row.planned } else { end };
+    Some(Plan { end, planned })
+}
+
+// When a row is looked at, if it ends.
+fn planned_of(plan: Option<Plan>) -> Option<u64> {
+    Some(plan?.planned)
+}
+
+// The plan of the row at a place, if there is one that ends.
+fn plan_at(rows: &Rows, size: Size, at: At<'_>, t: u64) -> Option<Plan>
+    requires rows { AreRows size.peers size.tables rows.now }
+    requires inside { IsInside size.peers size.tables (place_at at) }
+    ensures { IfSome result (λ plan. EndsBy rows.now.entries (place_at at.entry) plan.end) }
+{
+    plan_of(rows.get_at(at.spot, at.peer, at.table, at.key)?, t)
+}
+
+// The moment that stays planned where a row takes the place of another, or none where something is
+// to be planned or taken out.
+fn stays(before: Option<Plan>, end: Option<u64>) -> Option<u64>
+    ensures { IsSome result → Stays (option_map (λ plan. plan.end) before) end }
+{
+    match before {
+        None => match end {
+            None => Some(0),
+            Some(_) => None,
+        },
+        Some(before) => {
+            if before.end <= end? {
+                Some(before.planned)
+            } else {
+                None
+            }
+        }
+    }
+}
+
+// Plans the end of a row at a place, if it ends.
 fn plan_end(
     alloc: Global,
-    rows: &Rows,
-    size: Size,
     due: &mut Wheel<Place>,
     place: &Place,
-    end: u64,
+    end: Option<u64>,
 ) -> Result<(), NoMemory>
-    requires { AreRows size.peers size.tables rows.now }
     ensures more { (items : List (ℕ × Place)) (entry : Place × Row)
         → is_planned (items ++ due.old) entry ≡ true
         → is_planned (items ++ due.new) entry ≡ true }
-    ensures seen { OnOk result ((items : List (ℕ × Place)) (life arrived : ℕ)
-        → arrived + life ≡ end → ArePlanned (items ++ due.old) rows.now.entries
-        → is_seen (items ++ due.new) place.now (Some life) arrived ≡ true) }
+    ensures own { OnOk result (HasPlan due.new place.now end) }
+    ensures err { OnErr result (due.new ≡ due.old) }
 {
-    if ends_by(rows, size, place, end) {
+    let Some(end) = end else {
         return Ok(());
-    }
+    };
     due.plan(end, copy_place(alloc, place)?)?;
     Ok(())
 }
 
-// Plans the end of a row that is to stand at a place, if it ends.
-fn plan_row(
-    alloc: Global,
-    rows: &Rows,
-    size: Size,
-    due: &mut Wheel<Place>,
-    place: &Place,
-    row: &Row,
-) -> Result<(), NoMemory>
-    requires { AreRows size.peers size.tables rows.now }
-    ensures more { (items : List (ℕ × Place)) (entry : Place × Row)
+// Takes out what is planned for a place, unless it is planned at this end.
+fn forget(due: &mut Wheel<Place>, place: &Place, planned: Option<u64>, end: Option<u64>)
+    ensures others { (items : List (ℕ × Place)) (entry : Place × Row)
+        → same_place place.now entry.0 ≡ false
         → is_planned (items ++ due.old) entry ≡ true
         → is_planned (items ++ due.new) entry ≡ true }
-    ensures seen { OnOk result ((items : List (ℕ × Place))
-        → ArePlanned (items ++ due.old) rows.now.entries
-        → is_planned (items ++ due.new) (place.now, row.now) ≡ true) }
+    ensures own { HasPlan due.old place.now end → HasPlan due.new place.now end }
 {
-    let Some(end) = end_of(row) else {
-        return Ok(());
+    let Some(planned) = planned else {
+        return;
     };
-    plan_end(alloc, rows, size, due, place, end)
+    if !is_number(end, planned) {
+        due.cancel(planned, place);
+    }
 }
 
-/// Puts a row that arrives at a moment, in the place of the one that stood there.
-pub fn set_row(
+// Puts a row whose plan stays as it is.
+fn put_row(alloc: Global, rows: &mut Rows, size: Size, at: At<'_>, row: Row) -> Result<(), NoMemory>
+    requires rows { AreRows size.peers size.tables rows.old }
+    requires inside { IsInside size.peers size.tables (place_at at) }
+    ensures ok { OnOk result (rows.new ≡ record rows.old
+        { entries = insert_entry place_cmp rows.old.entries (place_at at.entry) row }) }
+    ensures err { OnErr result (rows.new ≡ rows.old) }
+    ensures ordered { AreInOrder rows.new.entries }
+{
+    let key = at.key.duplicate(alloc)?;
+    rows.put_at(at.spot, at.peer, at.table, key, row)?;
+    Ok(())
+}
+
+// Puts a row whose end is to be planned, or that no longer ends.
+fn plan_row(
     alloc: Global,
     rows: &mut Rows,
     size: Size,
     due: &mut Wheel<Place>,
-    place: Place,
+    at: At<'_>,
+    planned: Option<u64>,
     row: Row,
 ) -> Result<(), NoMemory>
     requires rows { AreRows size.peers size.tables rows.old }
-    requires inside { IsInside size.peers size.tables place }
+    requires inside { IsInside size.peers size.tables (place_at at) }
     ensures ok { OnOk result (arrivals rows.new.entries
-        ≡ insert_entry place_cmp (arrivals rows.old.entries) place (as_arrival row)) }
+        ≡ insert_entry place_cmp (arrivals rows.old.entries) (place_at at.entry) (as_arrival row)) }
     ensures err { OnErr result (rows.new ≡ rows.old) }
     ensures kept { (items : List (ℕ × Place))
         → AreKept size.peers size.tables rows.old (items ++ due.old)
         → AreKept size.peers size.tables rows.new (items ++ due.new) }
 {
-    plan_row(alloc, rows, size, due, &place, &row)?;
-    rows.put(place.peer, place.table, place.key, row)?;
+    let end = end_of(&row);
+    let place = at.place(alloc)?;
+    let key = at.key.duplicate(alloc)?;
+    plan_end(alloc, due, &place, end)?;
+    if let Err(refused) = rows.put_at(at.spot, at.peer, at.table, key, row) {
+        forget(due, &place, end, None);
+        return Err(refused);
+    }
+    forget(due, &place, planned, end);
     Ok(())
 }
 
-/// Takes the row at a place away.
-pub fn drop_row(rows: &mut Rows, size: Size, place: &Place)
+/// Puts a row that arrives at a moment `t`, in the place of the one that stood there. What is
+/// planned for that one stays where it ends no later, and is planned anew where it does.
+pub fn set_row(
+    alloc: Global,
+    rows: &mut Rows,
+    size: Size,
+    due: &mut Wheel<Place>,
+    at: At<'_>,
+    t: u64,
+    row: Row,
+) -> Result<(), NoMemory>
     requires rows { AreRows size.peers size.tables rows.old }
-    requires inside { IsInside size.peers size.tables place.now }
-    ensures value { arrivals rows.new.entries
-        ≡ remove_entry (is_at (place_cmp place.now)) (arrivals rows.old.entries) }
-    ensures kept { (items : List (ℕ × Place)) → AreKept size.peers size.tables rows.old items
-        → AreKept size.peers size.tables rows.new items }
+    requires inside { IsInside size.peers size.tables (place_at at) }
+    ensures ok { OnOk result (arrivals rows.new.entries
+        ≡ insert_entry place_cmp (arrivals rows.old.entries) (place_at at.entry) (as_arrival row)) }
+    ensures err { OnErr result (rows.new ≡ rows.old) }
+    ensures kept { (items : List (ℕ × Place))
+        → AreKept size.peers size.tables rows.old (items ++ due.old)
+        → AreKept size.peers size.tables rows.new (items ++ due.new) }
 {
-    rows.take(place.peer, place.table, &place.key);
+    let before = plan_at(rows, size, at, t);
+    match stays(before, end_of(&row)) {
+        None => plan_row(alloc, rows, size, due, at, planned_of(before), row),
+        Some(planned) => {
+            put_row(alloc, rows, size, at, Row { planned, ..row })?;
+            Ok(())
+        }
+    }
+}
+
+/// Takes the row at a place away, and what is planned for it.
+pub fn drop_row(
+    alloc: Global,
+    rows: &mut Rows,
+    size: Size,
+    due: &mut Wheel<Place>,
+    at: At<'_>,
+    t: u64,
+) -> Result<(), NoMemory>
+    requires rows { AreRows size.peers size.tables rows.old }
+    requires inside { IsInside size.peers size.tables (place_at at) }
+    ensures ok { OnOk result (arrivals rows.new.entries
+        ≡ remove_entry (is_at (place_cmp (place_at at.entry))) (arrivals rows.old.entries)) }
+    ensures err { OnErr result (rows.new ≡ rows.old) }
+    ensures kept { (items : List (ℕ × Place))
+        → AreKept size.peers size.tables rows.old (items ++ due.old)
+        → AreKept size.peers size.tables rows.new (items ++ due.new) }
+{
+    let place = at.place(alloc)?;
+    forget(due, &place, planned_of(plan_at(rows, size, at, t)), None);
+    rows.take_at(at.spot, at.peer, at.table, at.key);
+    Ok(())
+}
+
+/// Takes the rows of a key away, and what is planned for them.
+pub fn drop_key(rows: &mut Rows, size: Size, due: &mut Wheel<Place>, table: usize, key: Key, t: u64)
+    requires rows { AreRows size.peers size.tables rows.old }
+    requires inside { table < size.tables }
+    ensures after { rows.new ≡ without_key rows.old table key }
+    ensures kept { (items : List (ℕ × Place))
+        → AreKept size.peers size.tables rows.old (items ++ due.old)
+        → AreKept size.peers size.tables rows.new (items ++ due.new) }
+{
+    let mut place = Place {
+        table,
+        key,
+        peer: 0,
+    };
+    forget_key(rows, size, due, &mut place, t);
+    rows.clear_key(table, &place.key);
+}
+
+// Takes out what is planned for a key's rows. The place is one of the key; its peer changes.
+fn forget_key(rows: &Rows, size: Size, due: &mut Wheel<Place>, place: &mut Place, t: u64)
+    requires rows { AreRows size.peers size.tables rows.now }
+    requires inside { place.old.table < size.tables }
+    ensures others { (items : List (ℕ × Place)) (entry : Place × Row)
+        → of_table_key place.old.table place.old.key entry.0 ≡ false
+        → is_planned (items ++ due.old) entry ≡ true
+        → is_planned (items ++ due.new) entry ≡ true }
+    ensures table { place.new.table ≡ place.old.table }
+    ensures key { place.new.key ≡ place.old.key }
+{
+    for (peer, row) in rows.of_key(place.table, &place.key) {
+        place.peer = peer;
+        forget(due, place, planned_of(plan_of(row, t)), None);
+    }
 }

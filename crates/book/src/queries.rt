@@ -3,12 +3,12 @@
 ghost use Rattle.std.specs.Prelude.{◌≡◌, ◌<◌, ◌^◌, ◌&&◌, ◌==◌, not, [], length, map, filter, IfOk};
 ghost use Rattle.std.specs.List.{dedup};
 ghost use Rattle.agg_types.specs.Col.{all_cols};
-ghost use Rattle.fleet_model.specs.Answers.{longer, left_of, sum_up, tally};
-ghost use Rattle.fleet_model.specs.Keys.{key_rows, worth_of};
+ghost use Rattle.fleet_model.specs.Answers.{longer, left_of, tally};
+ghost use Rattle.fleet_model.specs.Keys.{key_rows, sum_of};
 ghost use Rattle.fleet_model.specs.Moments.{is_live};
 ghost use Rattle.fleet_model.specs.Values.{live_keys, same_key};
 ghost use Rattle.book.specs.Distinct.{is_other};
-ghost use Rattle.book.specs.Shown.{as_arrival, of_peer};
+ghost use Rattle.book.specs.Shown.{as_arrival, of_peer, rows_worth};
 
 use crate::row::{end_of, is_live};
 use crate::store::Store;
@@ -62,24 +62,17 @@ fn is_other(last: Option<&Key>, key: &Key) -> bool
     }
 }
 
-/// What the rows of a key sum up to at a moment, or none where the key has none.
+/// What the rows of a key sum up to at a moment, or none where the key has none: one search.
 pub fn summed(store: &Store, cols: &[(Col, u32)], table: usize, key: &Key, t: u64) -> Option<Summed>
-    ensures { result ≡ sum_up
-        (map (λ col. worth_of cols.now (key_rows store.now.rows table key.now) col t) all_cols) t
-        (key_rows store.now.rows table key.now) }
+    ensures { result ≡ sum_of cols.now (key_rows store.now.rows table key.now) t }
 {
-    let (peers, left) = key_tally(store, table, key, t)?;
+    let rows = store.of_key(table, key)?;
+    let (peers, left) = tally(rows.duplicate(), t)?;
     Some(Summed {
         peers,
         left,
-        values: values(store, cols, table, key, t),
+        values: values(&rows, cols, t),
     })
-}
-
-fn key_tally(store: &Store, table: usize, key: &Key, t: u64) -> Option<(usize, Option<u64>)>
-    ensures { result ≡ tally t (key_rows store.now.rows table key.now) }
-{
-    tally(store.of_key(table, key)?, t)
 }
 
 // How many rows there are, and the longest life left of them.
@@ -117,27 +110,28 @@ fn longer(left: Option<u64>, other: Option<u64>) -> Option<u64>
     }
 }
 
-fn values(store: &Store, cols: &[(Col, u32)], table: usize, key: &Key, t: u64) -> [u128; 17]
-    ensures { result
-        ≡ map (λ col. worth_of cols.now (key_rows store.now.rows table key.now) col t) all_cols }
+// What rows of one key sum up to, by column.
+fn values(rows: &OfKey<'_>, cols: &[(Col, u32)], t: u64) -> [u128; 17]
+    requires { length rows.now < 2 ^ 64 }
+    ensures { result ≡ map (λ col. rows_worth cols.now col t rows.now) all_cols }
 {
     [
-        worth(store, cols, table, key, Col::Gpc0, t),
-        worth(store, cols, table, key, Col::Gpc0Rate, t),
-        worth(store, cols, table, key, Col::ConnCnt, t),
-        worth(store, cols, table, key, Col::ConnRate, t),
-        worth(store, cols, table, key, Col::ConnCur, t),
-        worth(store, cols, table, key, Col::SessCnt, t),
-        worth(store, cols, table, key, Col::SessRate, t),
-        worth(store, cols, table, key, Col::HttpReqCnt, t),
-        worth(store, cols, table, key, Col::HttpReqRate, t),
-        worth(store, cols, table, key, Col::HttpErrCnt, t),
-        worth(store, cols, table, key, Col::HttpErrRate, t),
-        worth(store, cols, table, key, Col::BytesInCnt, t),
-        worth(store, cols, table, key, Col::BytesInRate, t),
-        worth(store, cols, table, key, Col::BytesOutCnt, t),
-        worth(store, cols, table, key, Col::BytesOutRate, t),
-        worth(store, cols, table, key, Col::Gpc1, t),
-        worth(store, cols, table, key, Col::Gpc1Rate, t),
+        worth(rows, cols, Col::Gpc0, t),
+        worth(rows, cols, Col::Gpc0Rate, t),
+        worth(rows, cols, Col::ConnCnt, t),
+        worth(rows, cols, Col::ConnRate, t),
+        worth(rows, cols, Col::ConnCur, t),
+        worth(rows, cols, Col::SessCnt, t),
+        worth(rows, cols, Col::SessRate, t),
+        worth(rows, cols, Col::HttpReqCnt, t),
+        worth(rows, cols, Col::HttpReqRate, t),
+        worth(rows, cols, Col::HttpErrCnt, t),
+        worth(rows, cols, Col::HttpErrRate, t),
+        worth(rows, cols, Col::BytesInCnt, t),
+        worth(rows, cols, Col::BytesInRate, t),
+        worth(rows, cols, Col::BytesOutCnt, t),
+        worth(rows, cols, Col::BytesOutRate, t),
+        worth(rows, cols, Col::Gpc1, t),
+        worth(rows, cols, Col::Gpc1Rate, t),
     ]
 }

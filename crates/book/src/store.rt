@@ -10,14 +10,15 @@ ghost use Rattle.fleet_model.specs.Rows.{has_room, size_of};
 ghost use Rattle.fleet_model.specs.Values.{same_key, same_place};
 ghost use Rattle.fleet_model.specs.Keys.{held_rows, key_rows};
 ghost use Rattle.book.specs.Shown.{of_peer, of_spot};
-ghost use Rattle.book.specs.Planned.{IsInside, IsShort};
+ghost use Rattle.book.specs.Planned.{IsInside, IsShort, place_at};
 ghost use Rattle.book.specs.Store.{IsWalk, put_arrival, row_keys};
 
-use crate::ends::{Size, end_late, plan_again, row_at, set_aside};
-use crate::puts::{drop_row, new_row, set_row};
+use crate::at::At;
+use crate::ends::{Size, end_late, plan_again, set_aside};
+use crate::puts::{drop_key, drop_row, new_row, set_row};
 use agg_types::{Cell, Col, Key, NoMemory, Place, Shape};
 use expiry_wheel::Wheel;
-use peer_rows::{ByKey, OfKey, Rows};
+use peer_rows::{ByKey, OfKey, Rows, Spot};
 use std::alloc::Global;
 use std::marker::Model;
 
@@ -85,27 +86,35 @@ impl Store {
         Ok(())
     }
 
+    /// Where the rows of a key may lie: a hint for the calls that take an `At`.
+    pub(crate) fn spot_of(&self, table: usize, key: &Key) -> Option<Spot>
+        requires { table < self.now.tables }
+    {
+        self.rows.spot_of(table, key)
+    }
+
     /// Puts a row that arrives at a moment, in ms, in the place of the one that stood there. One
     /// whose life is over takes that one away.
     #[tactic(auto, unfolding(fleet_model::specs::Machine::with_row))]
     pub(crate) fn put(
         &mut self,
         t: u64,
-        place: Place,
+        at: At<'_>,
         life: Option<u64>,
         cols: &[(Col, u32)],
         cells: &[Cell],
     ) -> Result<(), NoMemory>
         requires in_range { t ≤ 2 ^ 62 }
-        requires inside { IsInside self.old.peers self.old.tables place }
+        requires inside { IsInside self.old.peers self.old.tables (place_at at) }
         requires short { IsShort life }
         ensures ok { OnOk result (self.new ≡ record self.old {
-          rows = with_row t self.old.rows place (put_arrival t life cols.now cells.now);
+          rows = with_row t self.old.rows (place_at at.entry)
+              (put_arrival t life cols.now cells.now);
         }) }
         ensures err { OnErr result (self.new ≡ self.old) }
     {
         if is_over(life) {
-            drop_row(&mut self.rows, self.size, &place);
+            drop_row(self.alloc, &mut self.rows, self.size, &mut self.due, at, t)?;
             return Ok(());
         }
         let row = new_row(self.alloc, t, life, cols, cells)?;
@@ -114,7 +123,8 @@ impl Store {
             &mut self.rows,
             self.size,
             &mut self.due,
-            place,
+            at,
+            t,
             row,
         )?;
         Ok(())
@@ -165,32 +175,35 @@ impl Store {
     }
 
     /// Whether there is a row at a place.
-    fn has_row(&self, place: &Place) -> bool
-        ensures { result ≡ list_any (λ row. same_place place.now row.0) self.now.rows }
+    fn has_row(&self, at: At<'_>) -> bool
+        requires { IsInside self.now.peers self.now.tables (place_at at) }
+        ensures { result ≡ list_any (λ row. same_place (place_at at.entry) row.0) self.now.rows }
     {
-        row_at(&self.rows, self.size, place).is_some()
+        self.rows
+            .get_at(at.spot, at.peer, at.table, at.key)
+            .is_some()
     }
 
     /// Whether a peer may put a row at a place: it holds one there, or fewer of the table than its
     /// size.
     #[tactic(auto, unfolding(fleet_model::specs::Rows::has_room))]
-    pub(crate) fn has_room(&self, tables: &[Shape], place: &Place) -> bool
-        requires { IsInside self.now.peers self.now.tables place.now }
-        ensures { result ≡ has_room tables.now self.now.rows place.now }
+    pub(crate) fn has_room(&self, tables: &[Shape], at: At<'_>) -> bool
+        requires { IsInside self.now.peers self.now.tables (place_at at) }
+        ensures { result ≡ has_room tables.now self.now.rows (place_at at.entry) }
     {
-        let size = size_of(tables, place.table);
-        (self.held(place.table, place.peer) as u64) < size || self.has_row(place)
+        let size = size_of(tables, at.table);
+        (self.held(at.table, at.peer) as u64) < size || self.has_row(at)
     }
 
-    /// Takes away the rows of a key, over all peers: one search.
-    pub(crate) fn clear_key(&mut self, table: usize, key: &Key)
+    /// Takes away the rows of a key, over all peers, and what is planned for them.
+    pub(crate) fn clear_key(&mut self, table: usize, key: Key, t: u64)
         ensures { self.new ≡ record self.old {
           rows = filter
-              (λ row. not ((row.0.table == table) && same_key key.now row.0.key)) self.old.rows;
+              (λ row. not ((row.0.table == table) && same_key key row.0.key)) self.old.rows;
         } }
     {
         if table < self.size.tables {
-            self.rows.clear_key(table, key);
+            drop_key(&mut self.rows, self.size, &mut self.due, table, key, t);
         }
     }
 }

@@ -1,10 +1,11 @@
 //! The values of a key, by adding up over its rows.
 
-ghost use Rattle.std.specs.Prelude.{◌≡◌, ◌+◌, ◌-◌, ◌*◌, ◌<◌, ◌≤◌, ◌^◌, length, map, drop, sum_by};
-ghost use Rattle.agg_types.specs.Col.{all_cols};
-ghost use Rattle.fleet_model.specs.Keys.{key_rows, row_worth, worth_of};
+ghost use Rattle.std.specs.Prelude.{◌≡◌, ◌+◌, ◌-◌, ◌*◌, ◌<◌, ◌≤◌, ◌^◌, length, map, drop, IfSome};
+ghost use Rattle.std.specs.List.{list_all};
+ghost use Rattle.agg_types.specs.Op.{op_holds};
+ghost use Rattle.fleet_model.specs.Keys.{row_worth};
 ghost use Rattle.fleet_model.specs.Values.{cell_worth, column_worth, meets, value};
-ghost use Rattle.book.specs.Shown.{as_arrival, cell_of};
+ghost use Rattle.book.specs.Shown.{as_arrival, cell_of, found_worth, rows_worth};
 
 use crate::row::is_live;
 use crate::store::Store;
@@ -68,16 +69,27 @@ fn row_worth(cols: &[(Col, u32)], col: Col, t: u64, row: &Row) -> u64
     column_worth(col, row.arrived, since, cols, &row.cells, 0)
 }
 
-// What rows of one key sum up to.
-fn add_up(rows: OfKey<'_>, cols: &[(Col, u32)], col: Col, t: u64) -> u128
-    requires { length rows < 2 ^ 64 }
-    ensures { result ≡ sum_by (λ p. row_worth cols.now col t (as_arrival p.1)) rows.entry }
+/// What rows of one key sum up to in a column at a moment.
+pub fn worth(rows: &OfKey<'_>, cols: &[(Col, u32)], col: Col, t: u64) -> u128
+    requires { length rows.now < 2 ^ 64 }
+    ensures { result ≡ rows_worth cols.now col t rows.now }
 {
     let mut total = 0u128;
-    for (_, row) in rows {
+    for (_, row) in rows.duplicate() {
         total += u128::from(row_worth(cols, col, t, row));
     }
     total
+}
+
+// What the rows of a key that were found sum up to: nothing where none were.
+fn found_worth(rows: Option<&OfKey<'_>>, cols: &[(Col, u32)], col: Col, t: u64) -> u128
+    requires { IfSome rows (λ rows. length rows.now < 2 ^ 64) }
+    ensures { result ≡ found_worth cols.now col t rows.entry }
+{
+    match rows {
+        None => 0,
+        Some(rows) => worth(rows, cols, col, t),
+    }
 }
 
 /// A key's value of a column at a moment: one search, and then its rows.
@@ -85,20 +97,11 @@ pub fn value(store: &Store, cols: &[(Col, u32)], table: usize, key: &Key, col: C
     ensures { result ≡ value cols.now store.now.rows table key.now col t }
 {
     fleet_model::laws::keys::a_key_answers_by_its_rows();
-    worth(store, cols, table, key, col, t)
+    found_worth(store.of_key(table, key).as_ref(), cols, col, t)
 }
 
-/// What a key's rows add to a column at a moment.
-pub fn worth(store: &Store, cols: &[(Col, u32)], table: usize, key: &Key, col: Col, t: u64) -> u128
-    ensures { result ≡ worth_of cols.now (key_rows store.now.rows table key.now) col t }
-{
-    match store.of_key(table, key) {
-        None => 0,
-        Some(rows) => add_up(rows, cols, col, t),
-    }
-}
-
-/// Whether all conditions hold of a key's values at a moment.
+/// Whether all conditions hold of a key's values at a moment: one search, and then its rows for
+/// each condition.
 #[tactic(auto, unfolding(fleet_model::specs::Values::meets))]
 pub fn meets(
     store: &Store,
@@ -110,8 +113,19 @@ pub fn meets(
 ) -> bool
     ensures { result ≡ meets cols.now store.now.rows table key.now t conds.now }
 {
+    fleet_model::laws::keys::a_key_answers_by_its_rows();
+    found_meets(store.of_key(table, key).as_ref(), cols, t, conds)
+}
+
+// Whether all conditions hold of what the rows of the key that were found sum up to.
+fn found_meets(rows: Option<&OfKey<'_>>, cols: &[(Col, u32)], t: u64, conds: &[Cond]) -> bool
+    requires { IfSome rows (λ rows. length rows.now < 2 ^ 64) }
+    ensures { result ≡ list_all
+        (λ cond. op_holds cond.op (found_worth cols.now cond.col t rows.entry) cond.bound)
+        conds.now }
+{
     conds.iter().all(|cond| {
         cond.op
-            .holds(value(store, cols, table, key, cond.col, t), cond.bound)
+            .holds(found_worth(rows, cols, cond.col, t), cond.bound)
     })
 }

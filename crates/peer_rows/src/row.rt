@@ -162,4 +162,6 @@ pub struct Row {
     pub cells: Cells,
     pub arrived: u64,
     pub ends: Option<u64>,
+    /// The moment at which whoever keeps the row looks at it again; 0 where it never ends.
+    pub planned: u64,
 }

@@ -35,6 +35,7 @@ fn row(alloc: Global, count: u64) -> Result<Row, NoMemory> {
         cells: Cells::copy(alloc, &held)?,
         arrived: 7,
         ends: None,
+        planned: 0,
     })
 }
 

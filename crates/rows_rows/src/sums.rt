@@ -37,6 +37,7 @@ fn row(alloc: Global, count: u64) -> Result<Row, NoMemory>
         cells: Cells::copy(alloc, &[Held::Count(count), Held::Rate(rate)])?,
         arrived: 0,
         ends: None,
+        planned: 0,
     })
 }
 

@@ -1,9 +1,14 @@
-use Rattle.book.proofs.Reading.{all_left, cleared_more}
+use Rattle.std.proofs.Common.{◌≡◌, ◌∙◌, [], sym}
+use Rattle.std.specs.Vec.Iter.{into_iter_items}
+use Rattle.book.proofs.Reading.{cleared_more, nil_of, none_more, rest_left}
 use Rattle.book.proofs.clears.clear_keys.Goals as goal
-
-pub loop-key-init : goal.loop-key-init
-loop-key-init c = λ i. record c.args.store.now { rows = all_left c.args.table c.args.store.now.rows i }
 
 pub loop-key-preserved : goal.loop-key-preserved
 loop-key-preserved c =
-    cleared_more c.args.table c.args.keys.now c.loop-key.key-index c.key-item.result c.args.store.now c.loop-key.store c.clear_key.new.self c.loop-key-test.true c.key-item.is c.loop-key.invariant c.clear_key.ensures
+    cleared_more c.args.table c.in-Some.key (into_iter_items c.next.new.self) (into_iter_items c.loop-key.key-iterator) (rest_left c.args.table c.args.keys.items c.args.store.now) c.loop-key.store c.clear_key.new.self
+    c.in-Some.ensures.steps.0 c.loop-key.invariant c.clear_key.ensures
+
+pub returns : goal.returns
+returns c =
+    let none : into_iter_items c.loop-key.key-iterator ≡ [] = nil_of (into_iter_items c.loop-key.key-iterator) (sym c.loop-key.key-iterator.rest.ok.0 ∙ c.in-None.ensures.steps.0) in
+    none_more c.args.table (into_iter_items c.loop-key.key-iterator) (rest_left c.args.table c.args.keys.items c.args.store.now) c.loop-key.store none c.loop-key.invariant

@@ -1,9 +1,7 @@
-use Rattle.std.proofs.Common.{◌≡◌, ◌==◌, ◌&&◌, not, take}
-use Rattle.std.specs.Prelude.{filter}
-use Rattle.std.specs.List.{list_any}
-use Rattle.fleet_model.specs.Values.{same_key}
+use Rattle.std.proofs.Common.{◌≡◌}
+use Rattle.std.specs.Vec.Iter.{into_iter_items}
+use Rattle.book.proofs.Reading.{rest_left}
 use Rattle.book.proofs.clears.clear_keys.Given as goal
 
 abbrev pub invariant-loop-key : goal.invariant-loop-key
-invariant-loop-key l =
-    l.store ≡ record l.fn.store { rows = filter (λ row. not ((row.0.table == l.table) && list_any (λ key. same_key key row.0.key) (take l.key-index l.keys))) l.fn.store.rows }
+invariant-loop-key l = rest_left l.table (into_iter_items l.key-iterator) l.store ≡ rest_left l.table l.fn.keys.items l.fn.store

@@ -11,4 +11,4 @@ returns-clause-ok c =
     let chosen = λ (key : List ℕ). meets c.args.cols.now c.args.store.now.rows c.args.table key c.args.t c.args.conds.now in
     c.clear_keys.ensures
     ∙ ap (λ (rows : List (Place × Arrival)). record c.args.store.now { rows = rows })
-    (filter-chosen_keys c.args.table chosen c.args.store.now.rows c.as_slice.result.now (c.as_slice.ensures.value ∙ c.in_ok-keys.ensures ∙ where_chosen c.args.table chosen c.args.store.now.rows))
+    (filter-chosen_keys c.args.table chosen c.args.store.now.rows c.in_ok-keys.keys.items (c.in_ok-keys.ensures ∙ where_chosen c.args.table chosen c.args.store.now.rows))

@@ -1,28 +1,26 @@
-use Rattle.std.proofs.Common.{◌∙◌, ◌++◌, ◌==◌, ◌&&◌, not, List, sym, ap, arith}
+use Rattle.std.proofs.Common.{◌∙◌, ◌==◌, ◌&&◌, not, List, sym, ap, arith}
 use Rattle.std.specs.Prelude.{filter}
 use Rattle.agg_types.specs.declared.place.Place.{Place}
 use Rattle.fleet_model.specs.Values.{same_key}
 use Rattle.fleet_model.specs.declared.arrival.Arrival.{Arrival}
-use Rattle.peer_rows.specs.Rows.{RowMap, of_table_key}
+use Rattle.peer_rows.specs.Rows.{RowMap}
 use Rattle.book.specs.Shown.{arrivals}
 use Rattle.book.specs.Store.{InForce}
-use Rattle.book.proofs.Plans.{kept_filter}
 use Rattle.book.proofs.Reading.{cleared_shown, untouched}
 use Rattle.book.proofs.store.Store.clear_key.Goals as goal
 
 pub invariant_of-self : goal.invariant_of-self
-invariant_of-self c =
-    kept_filter c.self.inside.size.peers c.self.inside.size.tables (λ e. not (of_table_key c.args.table c.args.key.now e.0)) c.self.inside.rows c.clear_key.new.self (c.self.inside.late.items ++ c.self.inside.due) c.clear_key.ensures.after c.self.invariant
+invariant_of-self c = c.drop_key.ensures.kept c.self.inside.late.items c.self.invariant
 
 pub returns-then-table-self : goal.returns-then-table-self
 returns-then-table-self c =
     let made : RowMap → InForce = λ rows. record { peers = c.self.inside.size.peers; tables = c.self.inside.size.tables; rows = arrivals rows.entries } in
     let kept : List (Place × Arrival) → InForce = λ rows. record { peers = c.self.inside.size.peers; tables = c.self.inside.size.tables; rows = rows } in
-    let left : InForce → InForce = λ s. record s { rows = filter (λ (row : Place × Arrival). not ((row.0.table == c.args.table) && same_key c.args.key.now row.0.key)) s.rows } in
-    ap made c.clear_key.ensures.after ∙ ap kept (cleared_shown c.args.table c.args.key.now c.self.inside.rows.entries) ∙ ap left c.self.view_is
+    let left : InForce → InForce = λ s. record s { rows = filter (λ (row : Place × Arrival). not ((row.0.table == c.args.table) && same_key c.args.key row.0.key)) s.rows } in
+    ap made c.drop_key.ensures.after ∙ ap kept (cleared_shown c.args.table c.args.key c.self.inside.rows.entries) ∙ ap left c.self.view_is
 
 pub returns-else-table-self : goal.returns-else-table-self
 returns-else-table-self c =
     let kept : List (Place × Arrival) → InForce = λ rows. record { peers = c.self.inside.size.peers; tables = c.self.inside.size.tables; rows = rows } in
-    let left : InForce → InForce = λ s. record s { rows = filter (λ (row : Place × Arrival). not ((row.0.table == c.args.table) && same_key c.args.key.now row.0.key)) s.rows } in
-    sym c.self.view_is ∙ ap kept (untouched c.self.inside.size.peers c.self.inside.size.tables c.args.table c.args.key.now c.self.inside.rows.entries (omega arith) c.self.invariant.are.inside) ∙ ap left c.self.view_is
+    let left : InForce → InForce = λ s. record s { rows = filter (λ (row : Place × Arrival). not ((row.0.table == c.args.table) && same_key c.args.key row.0.key)) s.rows } in
+    sym c.self.view_is ∙ ap kept (untouched c.self.inside.size.peers c.self.inside.size.tables c.args.table c.args.key c.self.inside.rows.entries (omega arith) c.self.invariant.are.inside) ∙ ap left c.self.view_is

@@ -1,12 +1,13 @@
 use Rattle.std.proofs.Common.{◌∙◌, is_some, ap}
 use Rattle.std.specs.List.{list_any}
 use Rattle.fleet_model.specs.Values.{same_place}
+use Rattle.book.specs.Planned.{place_at}
 use Rattle.book.specs.Store.{InForce}
 use Rattle.book.proofs.Reading.{found_shown, is_some-copied}
 use Rattle.book.proofs.store.Store.has_row.Goals as goal
 
 pub returns : goal.returns
 returns c =
-    c.is_some.ensures ∙ is_some-copied c.row_at.result ∙ ap is_some c.row_at.ensures.found
-    ∙ found_shown c.args.place.now c.self.inside.rows.entries
-    ∙ ap (λ (s : InForce). list_any (λ row. same_place c.args.place.now row.0) s.rows) c.self.view_is
+    c.is_some.ensures ∙ is_some-copied c.get_at.result ∙ ap is_some c.get_at.ensures.value
+    ∙ found_shown (place_at c.args.at) c.self.inside.rows.entries
+    ∙ ap (λ (s : InForce). list_any (λ row. same_place (place_at c.args.at) row.0) s.rows) c.self.view_is

@@ -5,13 +5,17 @@ use Rattle.std.specs.BTreeMap.{insert_entry}
 use Rattle.fleet_model.specs.Machine.{with_row}
 use Rattle.fleet_model.specs.Moments.{is_live}
 use Rattle.fleet_model.specs.declared.arrival.Arrival.{Arrival}
+use Rattle.book.specs.Planned.{place_at}
 use Rattle.book.specs.Shown.{arrivals}
 use Rattle.book.specs.Store.{InForce, put_arrival}
 use Rattle.book.proofs.Plans.{with_ended, with_living}
 use Rattle.book.proofs.store.Store.put.Goals as goal
 
 pub invariant_of-self : goal.invariant_of-self
-invariant_of-self c = c.drop_row.ensures.kept (c.self.inside.late.items ++ c.self.inside.due) c.self.invariant
+invariant_of-self c = c.drop_row.ensures.kept c.self.inside.late.items c.self.invariant
+
+pub invariant_of-self-then-is_over : goal.invariant_of-self-then-is_over
+invariant_of-self-then-is_over c = c.drop_row.ensures.kept c.self.inside.late.items c.self.invariant
 
 pub invariant_of-self-2 : goal.invariant_of-self-2
 invariant_of-self-2 c = c.set_row.ensures.kept c.self.inside.late.items c.self.invariant
@@ -21,8 +25,8 @@ returns-then-is_over-clause-ok c =
     let row = put_arrival c.args.t c.args.life c.args.cols.now c.args.cells.now in
     let over : is_live c.args.t row ≡ false = c.is_over.ensures c.args.t c.args.cols.now c.args.cells.now ∙ ap not c.if-is_over.true in
     let kept : List (Place × Arrival) → InForce = λ rows. record { peers = c.self.inside.size.peers; tables = c.self.inside.size.tables; rows = rows } in
-    ap kept (c.drop_row.ensures.value ∙ sym (with_ended c.args.t (arrivals c.self.inside.rows.entries) c.args.place row over))
-    ∙ ap (λ (s : InForce). record s { rows = with_row c.args.t s.rows c.args.place row }) c.self.view_is
+    ap kept (c.in_ok-drop_row.ensures.ok ∙ sym (with_ended c.args.t (arrivals c.self.inside.rows.entries) (place_at c.args.at) row over))
+    ∙ ap (λ (s : InForce). record s { rows = with_row c.args.t s.rows (place_at c.args.at) row }) c.self.view_is
 
 pub returns-clause-ok : goal.returns-clause-ok
 returns-clause-ok c =
@@ -31,9 +35,9 @@ returns-clause-ok c =
     let kept : List (Place × Arrival) → InForce = λ rows. record { peers = c.self.inside.size.peers; tables = c.self.inside.size.tables; rows = rows } in
     let old = arrivals c.self.inside.rows.entries in
     ap kept (c.in_ok-set_row.ensures.ok
-    ∙ ap (insert_entry place_cmp old c.args.place) c.in_ok-row.ensures
-    ∙ sym (with_living c.args.t old c.args.place row live))
-    ∙ ap (λ (s : InForce). record s { rows = with_row c.args.t s.rows c.args.place row }) c.self.view_is
+    ∙ ap (insert_entry place_cmp old (place_at c.args.at)) c.in_ok-row.ensures
+    ∙ sym (with_living c.args.t old (place_at c.args.at) row live))
+    ∙ ap (λ (s : InForce). record s { rows = with_row c.args.t s.rows (place_at c.args.at) row }) c.self.view_is
 
 pub invariant_of-self-in_err-set_row : goal.invariant_of-self-in_err-set_row
 invariant_of-self-in_err-set_row c = c.set_row.ensures.kept c.self.inside.late.items c.self.invariant
