@@ -1,4 +1,5 @@
 pub mod CondLemmas
 pub mod Fitting
 pub mod Lines
+pub mod Chosen
 pub mod Stands

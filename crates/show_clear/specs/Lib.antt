@@ -2,4 +2,5 @@ pub mod Answer
 pub mod Change
 pub mod Parse
 pub mod Refusal
+pub mod Selected
 pub mod Tables

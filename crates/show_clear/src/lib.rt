@@ -13,6 +13,7 @@ mod command;
 mod conditions;
 mod fault;
 mod fleet;
+pub mod laws;
 mod lists;
 mod parsing;
 mod pieces;
