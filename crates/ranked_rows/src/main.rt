@@ -81,8 +81,8 @@ fn fallen<R: Print>(rt: &R, alloc: Global) -> Result<()> {
     show(rt, &board, &rank(alloc, 3)?)
 }
 
-// Each key has a part of the first one's value, as its number says. The tenth is 100,000, and 15 keys
-// have more than 65,535.
+// Each key has a part of the first one's value, as its number says. The tenth is 100,000, and 15
+// keys have more than 65,535.
 fn steep<R: Print>(rt: &R, alloc: Global) -> Result<()> {
     println!(rt; "steep")?;
     let mut board = Board::new(alloc);
