@@ -177,7 +177,7 @@ fn find(
     Some(*keys.get(key)?)
 }
 
-// The same, and what was searched for is remembered.
+// The same, and what was searched for is remembered, as are some keys that growth forgot.
 fn learn(
     keys: &BTreeMap<Key, usize>,
     slots: &Slots,
@@ -190,6 +190,7 @@ fn learn(
     ensures value { result ≡ lookup (is_at (slice_cmp nat_cmp key.now)) keys.now.entries }
     ensures some { IfSome result (λ at. key_at slots.now.places.items at ≡ Some key.now) }
 {
+    near.refill(slots);
     if let Some(at) = hinted(slots, hint, key) {
         return Some(at);
     }

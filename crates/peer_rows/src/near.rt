@@ -13,6 +13,9 @@ const WINDOW: usize = 8;
 /// How many words there are at least, once there are any.
 const LEAST: usize = 64;
 
+/// How many places are remembered again with a call, where words are missing.
+const REFILLED: usize = 4;
+
 /// An odd number whose bits are in no order.
 const MIX: u64 = 0x9e37_79b9_7f4a_7c15;
 
@@ -72,6 +75,8 @@ fn mixed(hash: u64, word: u64) -> u64 {
 #[derive(Debug, Drop)]
 pub(crate) struct Near {
     words: Vec<u32>,
+    // The number of the first place whose key may be missing since the words grew.
+    missing: usize,
 }
 
 impl Near {
@@ -79,6 +84,7 @@ impl Near {
     pub(crate) fn new(alloc: Global) -> Near {
         Near {
             words: Vec::new(alloc),
+            missing: 0,
         }
     }
 
@@ -134,7 +140,7 @@ impl Near {
         let spare = self
             .window(hash)
             .iter()
-            .position(|word| *word == 0)
+            .position(|old| *old == word || *old == 0)
             .unwrap_or(hash.spare());
         let place = self.first(hash).saturating_add(spare);
         if let Some(old) = self.words.get_mut(place) {
@@ -166,6 +172,20 @@ impl Near {
         let number = self.words.len().saturating_mul(2).max(LEAST);
         if let Ok(words) = vec![in alloc; 0u32; number] {
             self.words = words;
+            self.missing = 0;
+        }
+    }
+
+    /// Remembers the keys of the next few places that are missing since the words grew.
+    pub(crate) fn refill(&mut self, slots: &Slots) {
+        if self.missing >= slots.len() {
+            return;
+        }
+        for _ in 0..REFILLED {
+            if let Some(key) = slots.key(self.missing) {
+                self.remember(Hash::of(key), self.missing);
+            }
+            self.missing = self.missing.saturating_add(1);
         }
     }
 }

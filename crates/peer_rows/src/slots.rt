@@ -58,7 +58,7 @@ impl Slots {
     }
 
     /// The key whose rows lie in a place.
-    fn key(&self, at: usize) -> Option<&Key>
+    pub(crate) fn key(&self, at: usize) -> Option<&Key>
         ensures { option_copied result ≡ key_at self.now.places.items at }
     {
         match self.places.get(at)? {
