@@ -30,7 +30,8 @@ pub faded_falls : (start : Option ℕ) (t later : ℕ) → t ≤ later → faded
 faded_falls None t later h = omega arith
 faded_falls (Some start) t later h = omega (arith, h)
 
-pub faded_stays : (start : Option ℕ) (t : ℕ) → flat_of start ≤ t → faded start t ≡ faded start (flat_of start)
+pub faded_stays : (start : Option ℕ) (t : ℕ)
+    → flat_of start ≤ t → faded start t ≡ faded start (flat_of start)
 faded_stays None t h = omega arith
 faded_stays (Some start) t h = omega (arith, h)
 
