@@ -5,3 +5,4 @@ pub mod Chosen
 pub mod Counting
 pub mod Listings
 pub mod Forgets
+pub mod Foresight

@@ -6,3 +6,5 @@ pub mod Distinct
 pub mod Tally
 pub mod Lent
 pub mod PutAll
+pub mod Foreseen
+pub mod Flatness

@@ -6,16 +6,18 @@ ghost use Rattle.agg_types.specs.declared.event.Event.{Event};
 ghost use Rattle.agg_types.specs.declared.event.What.TheVariants.{Leave};
 ghost use Rattle.fleet_model.specs.Answers.{filter_of, keys_of, listed, set_at, summed};
 ghost use Rattle.fleet_model.specs.Machine.{after, counts_now, event_of, number_of, opened, session_of};
-ghost use Rattle.fleet_model.specs.Next.{IsNextChange, IsNextChangeBy, table_flat_from};
+ghost use Rattle.fleet_model.specs.Next.{IsNextChange, IsNextChangeBy};
 ghost use Rattle.fleet_model.specs.Ranking.{rank_of, ranked};
 ghost use Rattle.fleet_model.specs.Seats.{most_seats};
 ghost use Rattle.fleet_model.specs.Sound.{IsSound};
 ghost use Rattle.fleet_model.specs.State.{Stands};
+ghost use Rattle.book.specs.Foreseen.{IsFirstOf};
 ghost use Rattle.book.specs.Lent.{key_and_sums, shown_row, with_sums};
 
+use crate::foreseen::first_change;
 use crate::listing::{BookRows, push_found};
 use crate::machine::{Machine, cols_of};
-use crate::next::{are_same, flat_moment, longest_period};
+use crate::next::are_same;
 use crate::ranking::{Ranked, first_by_rank, rank_at};
 use crate::seats::has_free_seat;
 use crate::sets::{filter_at, keys_held};
@@ -250,28 +252,35 @@ impl Book {
     }
 
     /// The first moment above the book's, in ms, at which a filter holds other keys than now, if
-    /// only the clock goes on; none where it always holds the same. Judges each moment on the way,
-    /// so it is for small inputs.
+    /// only the clock goes on; none where it always holds the same. Judges each key of its table
+    /// once.
     pub fn next_change(&self, alloc: Global, filter: usize) -> Result<Option<u64>, NoMemory>
         requires { filter < length self.now.config.filters }
         ensures { IfOk result (IsNextChange self.now (filter_of self.now filter)) }
     {
-        fleet_model::laws::next_change_comes_before_flat();
-        let last = self.flat_from(filter)?;
-        self.next_change_until(alloc, filter, last)
+        fleet_model::laws::keys_are_exact();
+        let table = self.table_of(filter);
+        let keys = self.keys(alloc, table)?;
+        Ok(self.first_change(filter, keys.as_slice()))
     }
 
-    // The moment from which the clock changes no set of a filter.
-    fn flat_from(&self, filter: usize) -> Result<u64, NoMemory>
+    // The table of a filter.
+    fn table_of(&self, filter: usize) -> usize
         requires { filter < length self.now.config.filters }
-        ensures { IfOk result (λ flat. flat
-            ≡ table_flat_from self.now (filter_of self.now filter).table) }
+        ensures table { result ≡ (filter_of self.now filter).table }
+        ensures sound { IsSound self.now }
+    {
+        self.machine.filter_at(filter).table
+    }
+
+    // The first moment above the book's at which a filter holds one of these keys that it doesn't
+    // now, or the other way round; none where it never does.
+    fn first_change(&self, filter: usize, keys: &[&Key]) -> Option<u64>
+        requires { filter < length self.now.config.filters }
+        ensures { IsFirstOf self.now (filter_of self.now filter) keys.now result }
     {
         fleet_model::laws::sets_are_flat_in_time();
-        let held = &self.machine;
-        let standing = filter_at(held.config.filters.as_slice(), filter);
-        let cols = cols_of(held.config.tables.as_slice(), standing.table);
-        let flat = flat_moment(&held.rows, longest_period(cols))?;
-        Ok(flat)
+        let standing = self.machine.filter_at(filter);
+        first_change(&self.machine, standing, keys)
     }
 }

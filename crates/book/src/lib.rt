@@ -13,6 +13,7 @@ mod at;
 mod book;
 mod clears;
 mod ends;
+mod foreseen;
 mod listing;
 mod machine;
 mod next;

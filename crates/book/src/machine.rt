@@ -1,9 +1,10 @@
 //! The machine of one event: what a book holds, and what an event makes of it.
 
-ghost use Rattle.std.specs.Prelude.{◌≡◌, ◌≤◌, ◌^◌, ◌++◌, ◌&&◌, ◌==◌, [], ◌∷◌, nat_lt, length, not, if◌then◌else◌, false, filter, IsTrue, IfOk, IsOk, OnOk, OnErr};
+ghost use Rattle.std.specs.Prelude.{◌≡◌, ◌<◌, ◌≤◌, ◌^◌, ◌++◌, ◌&&◌, ◌==◌, [], ◌∷◌, nat_lt, length, not, if◌then◌else◌, false, filter, IsTrue, IfOk, IsOk, OnOk, OnErr};
 ghost use Rattle.std.specs.List.{list_any};
 ghost use Rattle.std.specs.Str.{bytes_eq};
 ghost use Rattle.agg_types.specs.declared.event.What.TheVariants.{Leave};
+ghost use Rattle.fleet_model.specs.Answers.{filter_of};
 ghost use Rattle.fleet_model.specs.Filters.{is_new};
 ghost use Rattle.fleet_model.specs.Keys.{key_rows, sum_of};
 ghost use Rattle.fleet_model.specs.Machine.{after, counts_now, event_of, number_of, opened, with_row};
@@ -21,6 +22,7 @@ use crate::seats::{
     Seats, Sessions, count_up, end_sessions, has_free_seat, is_next, is_number, open_session,
     sit_down, stand_up,
 };
+use crate::sets::filter_at;
 use crate::store::Store;
 use crate::{queries, seats};
 use agg_types::{
@@ -100,6 +102,14 @@ impl Machine {
     {
         let cols = cols_of(self.config.tables.as_slice(), table);
         queries::summed(&self.rows, cols, table, key, self.moment)
+    }
+
+    /// The standing filter at a position.
+    pub(crate) fn filter_at(&self, position: usize) -> &Filter
+        requires { position < length self.now.config.filters }
+        ensures { result.now ≡ filter_of self.now position }
+    {
+        filter_at(self.config.filters.as_slice(), position)
     }
 
     #[tactic(auto, unfolding(fleet_model::specs::Machine::counts_now))]

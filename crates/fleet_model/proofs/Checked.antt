@@ -5,7 +5,7 @@ use Rattle.std.proofs.lemmas.Bool.Decides.{nat_tests}
 use Rattle.std.proofs.lemmas.List.{append-nil}
 use Rattle.std.specs.List.{list_all, list_any}
 use Rattle.std.specs.Option.{option_map_or}
-use Rattle.std.specs.Prelude.{slice_get}
+use Rattle.std.specs.Prelude.{slice_get, slice_index_or}
 use Rattle.std.specs.Str.{bytes_eq}
 use Rattle.agg_types.specs.Check.{ascends, config_faults, each, fault_if, filter_faults, is_within, len_fits, peer_faults, period_fits, rank_faults, table_faults}
 use Rattle.agg_types.specs.Col.{col_id, is_rate}
@@ -140,3 +140,26 @@ periods_short config table none =
     let to_filters = front_none _ (each (rank_faults config.tables) [] config.ranks) none in
     let to_tables = front_none _ (each (filter_faults config.tables) [] config.filters) to_filters in
     tables_short [] config.tables table (back_none _ (each table_faults [] config.tables) to_tables)
+
+-- ---- conditions
+few_conds : (tables : List Shape) (before : List Filter) (filter : Filter) → filter_faults tables before filter ≡ [] → length filter.conds ≤ 4
+unfolding filter_faults
+few_conds tables before filter none =
+    let counts = was_no_fault (nat_le 32 (length before) || nat_lt 4 (length filter.conds)) TooMany (front_none _ _ (front_none _ _ (front_none _ _ (front_none _ _ (front_none _ _ none))))) in
+    let most : nat_lt 4 (length filter.conds) ≡ false = second (nat_le 32 (length before)) (nat_lt 4 (length filter.conds)) counts in
+    grind (arith, nat_tests)
+  where
+    second : (a b : Bool) → (a || b) ≡ false → b ≡ false
+    second true b e = cc
+    second false b e = e
+
+filters_few : (tables : List Shape) (before filters : List Filter) (position : ℕ) (other : Filter) → position < length filters → each (filter_faults tables) before filters ≡ [] → length (slice_index_or filters position other).conds ≤ 4
+filters_few tables before [] position other within none = absurd (omega arith)
+filters_few tables before (filter ∷ filters) zero other within none = few_conds tables before filter (front_none _ _ none)
+filters_few tables before (filter ∷ filters) (suc position) other within none = filters_few tables (before ++ filter ∷ []) filters position other (omega arith) (back_none _ _ none)
+
+-- each filter has at most four conditions
+pub conds_few : (config : Config) (position : ℕ) (other : Filter) → position < length config.filters → config_faults config ≡ [] → length (slice_index_or config.filters position other).conds ≤ 4
+conds_few config position other within none =
+    let to_filters = front_none _ (each (rank_faults config.tables) [] config.ranks) none in
+    filters_few config.tables [] config.filters position other within (back_none _ (each (filter_faults config.tables) [] config.filters) to_filters)

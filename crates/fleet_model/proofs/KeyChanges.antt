@@ -163,7 +163,7 @@ life_flat None arrived t later flat h = refl
 life_flat (Some life) arrived t later flat h = grind (arith, nat_tests)
 
 module _ (cols : List (Col × ℕ)) (t later : ℕ) (h : t ≤ later) where
-  live_flat : (row : Arrival) → row_flat_from cols row ≤ t → is_live later row ≡ is_live t row
+  pub live_flat : (row : Arrival) → row_flat_from cols row ≤ t → is_live later row ≡ is_live t row
   live_flat row flat = let over : row.arrived + unwrap_or row.life 0 ≤ t = omega arith in life_flat row.life row.arrived t later over h
 
   worth_flat : (col : Col) (row : Arrival) → row_flat_from cols row ≤ t → row_worth cols col later row ≡ row_worth cols col t row
@@ -171,7 +171,7 @@ module _ (cols : List (Col × ℕ)) (t later : ℕ) (h : t ≤ later) where
       let over : cells_flat_from row.arrived cols row.cells ≤ t = omega arith in
       (λ i. cond (live_flat row flat i) (column_flat col row.arrived t later cols row.cells over h i) 0)
 
-  rows_worth_flat : (col : Col) (rows : Rows) → rows_flat_from cols rows ≤ t → worth_of cols rows col later ≡ worth_of cols rows col t
+  pub rows_worth_flat : (col : Col) (rows : Rows) → rows_flat_from cols rows ≤ t → worth_of cols rows col later ≡ worth_of cols rows col t
   rows_worth_flat col [] flat = refl
   rows_worth_flat col (row ∷ rows) flat =
       let own : row_flat_from cols row.1 ≤ t = omega arith in
@@ -209,3 +209,11 @@ rows-within cols (row ∷ rows) table key =
     let rest = rows-within cols rows table key in
     let own = cells_within row.1.arrived cols row.1.cells in
     elim (is_at_key table key row.0) as (λ b. rows_flat_from cols (cond b (row ∷ key_rows rows table key) (key_rows rows table key)) ≤ flat_moment (longest_period cols) (row ∷ rows)) [ true ↦ omega arith | false ↦ omega arith ]
+
+-- the moment by the longest period is no earlier than that of each row's own rates
+pub rows-under : (cols : List (Col × ℕ)) (rows : Rows) → rows_flat_from cols rows ≤ flat_moment (longest_period cols) rows
+rows-under cols [] = omega arith
+rows-under cols (row ∷ rows) =
+    let rest = rows-under cols rows in
+    let own = cells_within row.1.arrived cols row.1.cells in
+    omega arith

@@ -1,0 +1,156 @@
+//! When a filter's set changes by the clock alone: when the first of its keys comes or goes.
+
+ghost use Rattle.std.specs.Prelude.{◌≡◌, ◌≤◌, ◌<◌, ◌^◌, ◌-◌, ℕ, List, length, map, min};
+ghost use Rattle.fleet_model.specs.Keys.{key_rows, worth_of};
+ghost use Rattle.fleet_model.specs.Changes.{IsKeyChange};
+ghost use Rattle.fleet_model.specs.Next.{flat_moment, table_flat_from};
+ghost use Rattle.book.specs.Foreseen.{IsFirstOf, earlier, living_of};
+ghost use Rattle.book.specs.Shown.{as_arrival, of_peer};
+
+use crate::machine::{Machine, cols_of};
+use crate::next::{flat_from, longest_period};
+use crate::row::is_live;
+use crate::store::Store;
+use crate::values::value;
+use agg_types::{Col, Filter, Key};
+use crossing::{Meter, Values};
+use peer_rows::OfKey;
+use standing_filters::judge;
+
+/// The values of a table's keys as the clock goes on, in ms.
+#[derive(Clone, Copy)]
+pub struct KeyValues<'a> {
+    store: &'a Store,
+    cols: &'a [(Col, u32)],
+}
+
+impl<'a> Values for KeyValues<'a> {
+    ghost use Rattle.fleet_model.specs.Keys.{key_rows};
+    ghost use Rattle.book.specs.Foreseen.{flat_within, living_within, worth_within};
+    ghost use Rattle.book.specs.Flatness.{living_falls, living_stays, worth_falls, worth_stays};
+
+    ghost summed = { λ v table key col t. worth_within v.cols.now
+        (key_rows v.store.now.rows table key) col t };
+
+    ghost living = { λ v table key t. living_within (key_rows v.store.now.rows table key) t };
+
+    ghost flat = { λ v table key. flat_within v.cols.now (key_rows v.store.now.rows table key) };
+
+    fn value(&self, table: usize, key: &Key, col: Col, t: u64) -> u128 {
+        worth_at(self.store, self.cols, table, key, col, t)
+    }
+
+    fn live(&self, table: usize, key: &Key, t: u64) -> usize {
+        live_rows(self.store, table, key, t)
+    }
+
+    fn flat_from(&self, table: usize, key: &Key) -> u64 {
+        key_flat(self.store, table, key, longest_period(self.cols))
+    }
+
+    ghost sums_fall = { λ v table key col t later.
+        worth_falls v.cols.now v.store.now.rows table key col t later };
+
+    ghost rows_end = { λ v table key t later.
+        living_falls (key_rows v.store.now.rows table key) t later };
+
+    ghost sums_stay = { λ v table key col t.
+        worth_stays v.cols.now (key_rows v.store.now.rows table key) col t };
+
+    ghost rows_stay = { λ v table key t.
+        living_stays v.cols.now (key_rows v.store.now.rows table key) t };
+}
+
+// What a key's rows sum up to in a column at a moment.
+fn worth_at(store: &Store, cols: &[(Col, u32)], table: usize, key: &Key, col: Col, t: u64) -> u128
+    ensures { result ≡ worth_of cols.now (key_rows store.now.rows table key.now) col t }
+{
+    fleet_model::laws::keys::a_key_answers_by_its_rows();
+    value(store, cols, table, key, col, t)
+}
+
+// How many rows of a key live at a moment.
+fn live_rows(store: &Store, table: usize, key: &Key, t: u64) -> usize
+    ensures { result ≡ living_of (key_rows store.now.rows table key.now) t }
+{
+    match store.of_key(table, key) {
+        None => 0,
+        Some(rows) => count_live(rows, t),
+    }
+}
+
+fn count_live(rows: OfKey<'_>, t: u64) -> usize
+    requires { length rows < 2 ^ 64 }
+    ensures { (table : ℕ) (key : List ℕ)
+        → result ≡ living_of (map (of_peer table key) rows.entry) t }
+{
+    let mut live = 0usize;
+    for (_, row) in rows {
+        if is_live(t, row) {
+            live += 1;
+        }
+    }
+    live
+}
+
+// The moment from which the clock changes nothing of a key, or the last one of all.
+fn key_flat(store: &Store, table: usize, key: &Key, longest: u32) -> u64
+    ensures { result ≡ min (flat_moment longest (key_rows store.now.rows table key.now))
+        (2 ^ 64 - 1) }
+{
+    match store.of_key(table, key) {
+        None => 0,
+        Some(rows) => rows_flat(rows, longest),
+    }
+}
+
+fn rows_flat(rows: OfKey<'_>, longest: u32) -> u64
+    ensures { (table : ℕ) (key : List ℕ)
+        → result ≡ min (flat_moment longest (map (of_peer table key) rows.entry)) (2 ^ 64 - 1) }
+{
+    let mut flat = 0u64;
+    for (_, row) in rows {
+        flat = flat.max(flat_from(longest, row));
+    }
+    flat
+}
+
+/// The first moment above the machine's, in ms, at which a filter holds one of these keys that it
+/// doesn't now, or the other way round; none where it never does.
+pub(crate) fn first_change(machine: &Machine, standing: &Filter, keys: &[&Key]) -> Option<u64>
+    requires few { length standing.now.conds ≤ 4 }
+    requires flat { table_flat_from machine.now standing.now.table < 2 ^ 64 }
+    ensures { IsFirstOf machine.now standing.now keys.now result }
+{
+    let mut next = None;
+    for key in keys {
+        next = earlier(next, key_change(machine, standing, *key));
+    }
+    next
+}
+
+// The first moment at which a filter holds a key that it doesn't now, or the other way round.
+fn key_change(machine: &Machine, standing: &Filter, key: &Key) -> Option<u64>
+    requires few { length standing.now.conds ≤ 4 }
+    requires flat { table_flat_from machine.now standing.now.table < 2 ^ 64 }
+    ensures { IsKeyChange machine.now standing.now key.now result }
+{
+    let values = KeyValues {
+        store: &machine.rows,
+        cols: cols_of(machine.config.tables.as_slice(), standing.table),
+    };
+    let mut meter = Meter::new();
+    judge(standing, key, &values, machine.moment, &mut meter).next
+}
+
+fn earlier(one: Option<u64>, other: Option<u64>) -> Option<u64>
+    ensures { result ≡ earlier one other }
+{
+    match one {
+        None => other,
+        Some(t) => match other {
+            None => Some(t),
+            Some(u) => Some(t.min(u)),
+        },
+    }
+}
