@@ -1,16 +1,19 @@
 -- What a line that prints, and a command, leave.
-use Rattle.std.proofs.Common.{◌≡◌, ◌≢◌, ℕ, List, [], ◌∷◌, ◌++◌, Option, None, Some, Result, Ok, Err, IfOk, OnOk, codes, inl, inr, sym, ap, subst, ◌∙◌, refl, append_assoc}
+use Rattle.std.proofs.Common.{◌≡◌, ◌≢◌, ℕ, List, [], ◌∷◌, ◌++◌, true, Option, None, Some, Result, Ok, Err, IfOk, OnOk, codes, inl, inr, sym, ap, subst, ◌∙◌, refl, append_assoc}
 use Rattle.std.specs.Fmt.{decimal}
 use Rattle.agg_types.specs.declared.config.Config.{Config}
 use Rattle.agg_types.specs.declared.no_memory.NoMemory as Refusal
+use Rattle.fleet_core.specs.Possible.{does_fit}
 use Rattle.fleet_core.specs.StandsFor.{Collected}
 use Rattle.fleet_core.specs.declared.step.Step.{Step}
 use Rattle.fleet_model.specs.State.{State}
 use Rattle.fleet_core.proofs.Opening.{all_taken}
 use Rattle.show_clear.specs.Answer.{Answers}
+use Rattle.show_clear.specs.Change.{ChangeFits}
 use Rattle.show_clear.specs.Parse.{Read, Tells, command_of}
 use Rattle.show_clear.specs.Refusal.{refusal_text}
 use Rattle.show_clear.specs.declared.command.Command.{Command}
+use Rattle.show_clear.specs.declared.command.Command.TheVariants.{ShowTables, ShowTable, ClearTable, ShowFilter, ShowRank, ShowNext, AddFilter}
 use Rattle.show_clear.specs.declared.fault.CommandFault.{CommandFault}
 use Rattle.show_clear.specs.declared.fault.CommandFault.TheVariants.{Empty, Unknown, NoTable, BadColumn, BadOperator, BadValue, BadKey, TooMany, NoMemory, BadName, Exists, Full}
 use Rattle.replay.specs.Given.{Did, Given, IsSettled, step_given}
@@ -91,3 +94,16 @@ pub bad_did : (r : Result (Option Ending) Refusal.NoMemory) (Gives : Given → T
 bad_did (Ok ending) Gives fleet config opening past number fault before after gives settled text ended =
     record { given = bad_line past number fault; gives = gives; did = record { settled = settled; text = text; ended = ended } }
 bad_did (Err e) Gives fleet config opening past number fault before after gives settled text ended = tt
+
+step_is : {x y : Step} → Some x ≡ Some y → x ≡ y
+step_is same = cc
+
+-- a step that a command asks for fits, where the command's change does
+pub step_fits : (state : State) (command : Command) (step : Step) → step_of command ≡ Some step → ChangeFits state command → does_fit state.config step ≡ true
+step_fits state ShowTables step is fits = absurd cc
+step_fits state (ShowTable table sel) step is fits = absurd cc
+step_fits state (ClearTable table sel) step is fits = rw (← step_is is) fits
+step_fits state (ShowFilter filter) step is fits = absurd cc
+step_fits state (ShowRank rank) step is fits = absurd cc
+step_fits state (ShowNext filter) step is fits = absurd cc
+step_fits state (AddFilter filter) step is fits = rw (← step_is is) fits

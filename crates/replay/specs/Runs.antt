@@ -1,7 +1,6 @@
 -- What the lines behind `start` print.
 use Rattle.std.specs.Prelude.{◌≡◌, ⊤, ◌⊎◌, ℕ, ◌+◌, List, [], ◌∷◌, ◌++◌, codes, Option, None, Some, Result, Ok, Err}
 use Rattle.std.specs.Fmt.{decimal}
-use Rattle.std.specs.Io.KnownBytes.{Appends}
 use Rattle.agg_types.specs.declared.config.Config.{Config}
 use Rattle.fleet_model.specs.State.{State, state_of}
 use Rattle.fleet_core.specs.Events.{events_of}
@@ -116,12 +115,3 @@ Prints config opening (line ∷ lines) past number text ending =
     ⊎ ((given : Given) × (more : List ℕ) × LineGives config opening past number line given
     × (text ≡ given.text ++ more)
     × Then given.ending (Prints config opening lines given.past (number + 1)) more ending)
-
--- a run of lines from the opening on wrote its text behind what was there, unless the opening
--- lacked memory
-pub record IsRun (config : Config) (opening : ℕ) (lines : List (List ℕ)) (number : ℕ)
-    (before after : Option (List ℕ)) (ending : Ending) : Type 0 where
-  pub text : List ℕ
-  pub appends : Appends before after text
-  pub prints : Prints config opening lines [] number text ending
-      ⊎ ((text ≡ []) × (ending ≡ Failed))

@@ -1,11 +1,13 @@
 //! Commands of a script, over the fleet.
 
-ghost use Rattle.std.specs.Prelude.{◌≡◌, ℕ, List, IfOk, MatchResult, Some, None};
+ghost use Rattle.std.specs.Prelude.{◌≡◌, ℕ, List, IfOk, IsTrue, MatchResult, Some, None};
 ghost use Rattle.agg_types.specs.declared.config.Config.{Config};
+ghost use Rattle.fleet_core.specs.Possible.{does_fit};
 ghost use Rattle.fleet_core.specs.declared.step.Step.{Step};
 ghost use Rattle.replay.specs.Given.{Did, IsSettled, step_given};
 ghost use Rattle.replay.specs.Runs.{AskOrRefusal, CommandGives, LineDid, step_of, change_given, state_after};
 ghost use Rattle.show_clear.specs.Answer.{NamesStand};
+ghost use Rattle.show_clear.specs.Change.{ChangeFits};
 ghost use Rattle.show_clear.specs.Parse.{command_of};
 
 use crate::doing::do_step;
@@ -16,8 +18,8 @@ use key_text::append_text;
 use show_clear::{Command, answer, parse, refusal};
 use std::alloc::Global;
 
-/// Does what a command asks for, and appends its answer or its refusal. After `NoMemory` neither the
-/// fleet nor the text are of use.
+/// Does what a command asks for, and appends its answer or its refusal. After `NoMemory` neither
+/// the fleet nor the text are of use.
 pub fn ask(
     alloc: Global,
     fleet: &mut Fleet,
@@ -48,6 +50,7 @@ fn obey(
     out: &mut Vec<u8>,
 ) -> Result<Option<Ending>, NoMemory>
     requires stands { NamesStand fleet.old.book command }
+    requires fits { ChangeFits fleet.old.book command }
     ensures { (config : Config) (opening : ℕ) (past : List Step)
         → IsSettled fleet.old config opening past
         → IfOk result (LineDid (CommandGives config opening past command (step_of command))
@@ -81,15 +84,12 @@ fn change(
     step: &Step,
     out: &mut Vec<u8>,
 ) -> Result<Option<Ending>, NoMemory>
+    requires fits { IsTrue (does_fit fleet.old.book.config step.now) }
     ensures { (config : Config) (opening : ℕ) (past : List Step)
         → IsSettled fleet.old config opening past
         → IfOk result (Did (change_given (step_given config opening past step.now)) fleet.new
         config opening out.old.items out.new.items) }
 {
-    // A command that was read fits.
-    if !step.fits(alloc, fleet.book().config())? {
-        return Err(NoMemory);
-    }
     let ending = do_step(alloc, fleet, step, out)?;
     if ending.is_none() {
         append_text(b"ok\n", out)?;

@@ -1,3 +1,6 @@
+ghost use Rattle.std.specs.Prelude.{◌≡◌};
+ghost use Rattle.replay.specs.Status.{status_of};
+
 /// How a replay ends. Its number is the exit status.
 #[derive(Clone, Copy, Debug, PartialEq, Eq)]
 pub enum Ending {
@@ -13,7 +16,9 @@ pub enum Ending {
 
 impl Ending {
     /// The exit status.
-    pub fn status(self) -> u8 {
+    pub fn status(self) -> u8
+        ensures { result ≡ status_of self }
+    {
         match self {
             Ending::Done => 0,
             Ending::BadConfiguration => 3,

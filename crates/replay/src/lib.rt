@@ -1,10 +1,11 @@
 //! Scripts of steps and commands, replayed over a fleet.
 //!
-//! `aggregator replay` and `replay_rows` call it. Each line behind `start` is one call of `do_line`,
-//! whose contract says what it does to the steps that the fleet stands for, what it prints, and how
-//! the replay ends by it: a step, a command's answer over the fleet's answers after the steps before
-//! it, or a faulty line. No clause says how the lines are joined, nor where `start` stands: the
-//! scripts of `replay_rows` show it.
+//! `aggregator replay` and `replay_rows` call it. `replay` writes what specs/Script says that a
+//! script prints: its first line `start` is looked for, its configuration is read, and then each
+//! line is done. The lines' texts stand one behind the other, each that of the fleet's answers
+//! after the steps before it (specs/Runs), up to a line that ends the replay or wants memory. Where
+//! a write fails, a beginning of that was written. No clause says that a growth is refused only for
+//! want of memory.
 #![tactic(auto)]
 
 mod commands;
@@ -12,8 +13,11 @@ mod doing;
 mod ending;
 mod running;
 mod script;
+mod slices;
+mod start;
 mod steps;
 mod texts;
+mod writing;
 
 pub use ending::Ending;
 pub use script::replay;

@@ -1,19 +1,21 @@
 //! The lines behind `start`, one after the other.
 
-ghost use Rattle.std.specs.Prelude.{◌≡◌, ◌++◌, ◌≤◌, ◌<◌, ◌^◌, ◌⊎◌, ◌+◌, [], ℕ, List, codes, IfOk, OnOk, length};
+ghost use Rattle.std.specs.Prelude.{◌≡◌, ◌++◌, ◌≤◌, ◌<◌, ◌^◌, ◌+◌, [], ℕ, List, codes, IfOk, OnOk, OnErr, length};
 ghost use Rattle.std.specs.Fmt.{decimal};
-ghost use Rattle.std.specs.Io.KnownBytes.{Appends};
 ghost use Rattle.agg_types.specs.Check.{config_faults};
 ghost use Rattle.agg_types.specs.declared.config.Config.{Config};
 ghost use Rattle.fleet_core.specs.declared.step.Step.{Step};
 ghost use Rattle.line_words.specs.Words.{lines_of};
 ghost use Rattle.replay.specs.Given.{IsSettled};
-ghost use Rattle.replay.specs.Runs.{IsRun, LineDid, LineGives};
+ghost use Rattle.replay.specs.Runs.{LineDid, LineGives, Prints};
+ghost use Rattle.replay.specs.Script.{OrNothing};
+ghost use Rattle.replay.specs.Writing.{Wrote, WroteFront};
 
 use crate::commands::ask;
 use crate::doing::do_step;
 use crate::ending::Ending;
 use crate::steps::{Meaning, meaning_of};
+use crate::writing::write_text;
 use agg_types::{Config, NoMemory};
 use fleet_core::Fleet;
 use key_text::{append_number, append_text};
@@ -35,27 +37,31 @@ pub fn run<W: Write>(
 ) -> io::Result<Ending>
     requires checked { config_faults config ≡ [] }
     requires in_range { opening ≤ 2 ^ 62 }
+    requires numbered { number + length text.now < 2 ^ 128 }
+    ensures whole { IfOk result
+        (Wrote (OrNothing (Prints config opening (lines_of text.now) [] number))
+        (W.contents out.old) (W.contents out.new)) }
+    ensures cut { OnErr result
+        (WroteFront (OrNothing (Prints config opening (lines_of text.now) [] number))
+        (W.contents out.old) (W.contents out.new)) }
 {
     let Ok(mut fleet) = Fleet::new(alloc, config, opening) else {
         return Ok(Ending::Failed);
     };
+    let mut printed = Vec::new(alloc);
     let mut left = text;
     let mut number = number;
-    while let Some((line, behind)) = next_line(left) {
-        let mut printed = Vec::new(alloc);
-        match do_line(alloc, &mut fleet, line, number, &mut printed) {
-            Ok(ending) => {
-                out.write_all(printed.as_slice())?;
-                if let Some(ending) = ending {
-                    return Ok(ending);
-                }
-            }
-            Err(NoMemory) => {
-                out.write_all(b"fault NoMemory\n")?;
-                return Ok(Ending::Failed);
-            }
+    'lines: while let Some((line, behind)) = next_line(left) {
+        printed.clear();
+        let Ok(ended) = do_line(alloc, &mut fleet, line, number, &mut printed) else {
+            write_text(b"fault NoMemory\n", out)?;
+            return Ok(Ending::Failed);
+        };
+        write_text(printed.as_slice(), out)?;
+        if let Some(ending) = ended {
+            return Ok(ending);
         }
-        number = number.saturating_add(1);
+        number += 1;
         left = behind;
     }
     Ok(Ending::Done)

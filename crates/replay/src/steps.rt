@@ -73,8 +73,8 @@ fn connect_of(behind: &[u8]) -> Meaning
     }
 }
 
-// The word of a text that has but one.
-fn only(text: &[u8]) -> Option<&[u8]>
+/// The word of a text that has but one.
+pub fn only(text: &[u8]) -> Option<&[u8]>
     ensures { option_copied result ≡ only (words text.now) }
 {
     let (word, behind) = next_word(text)?;

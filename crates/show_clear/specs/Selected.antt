@@ -13,5 +13,6 @@ key_row state table key = line_if (shape_of state table) [] (key, summed state t
 -- the keys of a table that a clear takes
 abbrev pub taken_keys : State → ℕ → Select → List (List ℕ)
 taken_keys state table sel =
-    filter (λ key. selects (cols_of state.config.tables table) state.rows table state.moment sel key)
+    filter
+    (λ key. selects (cols_of state.config.tables table) state.rows table state.moment sel key)
     (keys_of state table)

@@ -2,8 +2,11 @@ use Rattle.std.proofs.Common.{Option, sym, subst, refl}
 use Rattle.fleet_core.specs.declared.step.Step.{Step}
 use Rattle.replay.specs.Given.{step_given}
 use Rattle.replay.specs.Runs.{CommandGives, change_given, step_of}
-use Rattle.replay.proofs.Asking.{answered, just_given}
+use Rattle.replay.proofs.Asking.{answered, just_given, step_fits}
 use Rattle.replay.proofs.commands.obey.Goals as goal
+
+pub change-requires : goal.change-requires
+change-requires c = record { fits = step_fits c.args.fleet.now.book c.args.command c.in-Ok.step c.in-Ok.ensures c.requires.fits }
 
 pub returns-in-Ok : goal.returns-in-Ok
 returns-in-Ok c = λ config opening past settled.

@@ -1,0 +1,97 @@
+-- What a script prints: a configuration, a line `start`, and the lines of a run.
+use Rattle.std.specs.Prelude.{◌≡◌, ◌≢◌, ◌⊎◌, ℕ, ◌+◌, ◌^◌, Bool, false, nat_lt, if◌then◌else◌, List, [], ◌∷◌, ◌++◌, codes, length, take, drop, position, slice_index_or, Option, None, Some, Result, Ok, Err}
+use Rattle.std.specs.Fmt.{decimal}
+use Rattle.std.specs.Str.{bytes_eq}
+use Rattle.agg_types.specs.declared.config.Config.{Config}
+use Rattle.agg_config.specs.Reading.{IsFirstFault, Write}
+use Rattle.agg_config.specs.declared.causes.LineCause.TheVariants as cause
+use Rattle.agg_config.specs.declared.causes.LineFault.{LineFault}
+use Rattle.line_words.specs.Numbers.{number_of}
+use Rattle.line_words.specs.Words.{lines_of, words}
+use Rattle.line_words.specs.declared.numbers.NumberFault.{NumberFault}
+use Rattle.replay.specs.Meaning.{only}
+use Rattle.replay.specs.Runs.{Prints}
+use Rattle.replay.specs.Texts.{fault_text}
+use Rattle.replay.specs.declared.ending.Ending.{Ending}
+use Rattle.replay.specs.declared.ending.Ending.TheVariants.{BadConfiguration, BadScript, Failed}
+
+-- whether the first of these words is `start`
+abbrev pub begins_with_start : List (List ℕ) → Bool
+begins_with_start [] = false
+begins_with_start (first ∷ words) = bytes_eq first (codes "start")
+
+abbrev pub is_start : List ℕ → Bool
+is_start line = begins_with_start (words line)
+
+abbrev pub opening_by : Result ℕ NumberFault → Option ℕ
+opening_by (Ok moment) = if nat_lt (2 ^ 62) moment then None else Some moment
+opening_by (Err fault) = None
+
+abbrev pub opening_with : Option (List ℕ) → Option ℕ
+opening_with None = None
+opening_with (Some word) = opening_by (number_of word)
+
+-- the opening moment that these words say, if behind the first stands but one of at most 2^62 ms
+abbrev pub opening_of : List (List ℕ) → Option ℕ
+opening_of [] = None
+opening_of (first ∷ words) = opening_with (only words)
+
+-- what is printed, or nothing where memory was wanted before the fleet was open
+abbrev pub OrNothing : (List ℕ → Ending → Type 0) → List ℕ → Ending → Type 0
+OrNothing Says text ending = Says text ending ⊎ ((text ≡ []) × (ending ≡ Failed))
+
+-- a line `start` that says no opening moment, or that isn't there
+abbrev pub BadStart : ℕ → List ℕ → Ending → Type 0
+BadStart number text ending =
+    (text ≡ codes "script line " ++ decimal number ++ codes ": start\n") × (ending ≡ BadScript)
+
+-- a faulty line of the configuration
+abbrev pub BadLine : LineFault → List ℕ → Ending → Type 0
+BadLine fault text ending =
+    (fault.cause ≢ cause.NoMemory)
+    × (text ≡ codes "config line " ++ decimal fault.line ++ codes ": " ++ fault_text fault.cause
+    ++ codes "\n") × (ending ≡ BadConfiguration)
+
+-- the first fault of a configuration's lines, or what goes on with what they write
+abbrev pub Configures : List (List ℕ) → (Config → List ℕ → Ending → Type 0)
+    → List ℕ → Ending → Type 0
+Configures lines GoesOn text ending =
+    ((fault : LineFault) × IsFirstFault lines fault × BadLine fault text ending)
+    ⊎ ((config : Config) × Write lines config × GoesOn config text ending)
+
+-- what lines print where this many stand before `start`, which says this moment
+abbrev pub OpensAt : List (List ℕ) → ℕ → Option ℕ → List ℕ → Ending → Type 0
+OpensAt lines before None text ending = BadStart (before + 1) text ending
+OpensAt lines before (Some opening) text ending =
+    Configures (take before lines)
+    (λ config. Prints config opening (drop (before + 1) lines) [] (before + 2)) text ending
+
+abbrev pub StartsAt : List (List ℕ) → Option ℕ → List ℕ → Ending → Type 0
+StartsAt lines None text ending = BadStart (length lines + 1) text ending
+StartsAt lines (Some before) text ending =
+    OpensAt lines before (opening_of (words (slice_index_or lines before []))) text ending
+
+-- what a script prints, and how its replay ends: its first line `start` is looked for, then its
+-- configuration is read, then its lines are done
+abbrev pub ScriptPrints : List ℕ → List ℕ → Ending → Type 0
+ScriptPrints script =
+    OrNothing (StartsAt (lines_of script) (position is_start (lines_of script)))
+
+-- what stands before a line `start`, its number, what it says, and what stands behind it
+pub record Cuts (lines : List (List ℕ)) (at : ℕ) (front : List ℕ) (line : ℕ)
+    (said : Option ℕ) (rest : List ℕ) : Type 0 where
+  pub before : lines_of front ≡ take at lines
+  pub number : line ≡ at + 1
+  pub opening : said ≡ opening_of (words (slice_index_or lines at []))
+  pub behind : lines_of rest ≡ drop (at + 1) lines
+
+-- a script is cut at its first line `start`, or has none
+abbrev pub IsCutAt : List (List ℕ) → Option ℕ → List ℕ → ℕ → Option ℕ → List ℕ → Type 0
+IsCutAt lines None before number opening behind =
+    (number ≡ length lines + 1) × (opening ≡ None)
+IsCutAt lines (Some at) before number opening behind = Cuts lines at before number opening behind
+
+-- the bytes of a text's first line with its LF, by where the first LF stands
+abbrev pub length_by : Option ℕ → ℕ → ℕ
+length_by None length = length
+length_by (Some end) length = end + 1

@@ -1,0 +1,10 @@
+-- The exit status by which a replay tells how it ended.
+use Rattle.std.specs.Prelude.{ℕ}
+use Rattle.replay.specs.declared.ending.Ending.{Ending}
+use Rattle.replay.specs.declared.ending.Ending.TheVariants.{Done, BadConfiguration, BadScript, Failed}
+
+abbrev pub status_of : Ending → ℕ
+status_of Done = 0
+status_of BadConfiguration = 3
+status_of BadScript = 4
+status_of Failed = 5
