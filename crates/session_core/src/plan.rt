@@ -1,7 +1,7 @@
 //! How the values of a table's updates are read: the integers one after the other, and from them
 //! the cells of the configured columns.
 
-ghost use Rattle.std.specs.Prelude.{◌≡◌, ◌<◌, ◌≤◌, ◌*◌, length, drop, map, vec_len, IfOk};
+ghost use Rattle.std.specs.Prelude.{◌≡◌, ◌<◌, ◌≤◌, ◌*◌, length, drop, map, vec_len, IfOk, OnOk};
 ghost use Rattle.std.specs.Option.{option_map};
 ghost use Rattle.session_core.specs.Values.{types};
 ghost use Rattle.session_core.specs.Plan.{width_of, widths, numbers_at, source_of, count_in, rate_in, cell_from, IsPlan};
@@ -9,6 +9,9 @@ ghost use Rattle.session_core.specs.Plan.{width_of, widths, numbers_at, source_o
 use crate::values::{TYPES, elapsed_of, has_type, is_rate_type, low_word, number_at};
 use agg_types::{Cell, Cells, Col, NoMemory};
 use std::alloc::Global;
+
+/// Up to so many cells lie in their list itself, and are best put there one by one.
+const FEW: usize = 4;
 
 /// Where a column's integers are among those of an update.
 #[derive(Clone, Copy, Debug)]
@@ -30,6 +33,8 @@ pub(crate) struct Plan {
     pub(crate) numbers: Vec<u64>,
     /// Where each column's integers are among them.
     pub(crate) sources: Vec<Source>,
+    /// Room for the cells of an update, where they are more than a few.
+    pub(crate) cells: Vec<Cell>,
 }
 
 /// How many integers an update has of a data type.
@@ -98,7 +103,11 @@ impl Plan {
         }
         let mut numbers = Vec::new(alloc);
         numbers.resize(widths(bits, TYPES), 0)?;
-        Ok(Plan { numbers, sources })
+        Ok(Plan {
+            numbers,
+            sources,
+            cells: Vec::new(alloc),
+        })
     }
 
     /// The cells of an update's values; `None` where one is cut or too large.
@@ -114,12 +123,36 @@ impl Plan {
         }
         let numbers = self.numbers.as_slice();
         let sources = self.sources.as_slice();
-        let mut cells = Cells::with_capacity(alloc, sources.len())?;
-        for source in sources {
-            cells.push(cell_from(numbers, *source))?;
+        if sources.len() <= FEW {
+            return Ok(Some(few_cells(alloc, numbers, sources)?));
         }
-        Ok(Some(cells))
+        fill(&mut self.cells, numbers, sources)?;
+        Ok(Some(Cells::copy(alloc, self.cells.as_slice())?))
     }
+}
+
+/// The cells of up to four columns, which need no block.
+#[inline]
+fn few_cells(alloc: Global, numbers: &[u64], sources: &[Source]) -> Result<Cells, NoMemory>
+    ensures { IfOk result (λ cells. cells ≡ map (cell_from numbers.now) sources.now) }
+{
+    let mut cells = Cells::new(alloc);
+    for source in sources {
+        cells.push(cell_from(numbers, *source))?;
+    }
+    Ok(cells)
+}
+
+/// Puts the cells of all columns in place of what was there.
+#[inline]
+fn fill(cells: &mut Vec<Cell>, numbers: &[u64], sources: &[Source]) -> Result<(), NoMemory>
+    ensures { OnOk result (cells.new.items ≡ map (cell_from numbers.now) sources.now) }
+{
+    cells.clear();
+    for source in sources {
+        cells.push(cell_from(numbers, *source))?;
+    }
+    Ok(())
 }
 
 /// Reads as many integers as there is room for; `None` where one is cut or too large.
