@@ -1,209 +1,113 @@
-//! Seats, posts, receipts and looks of a hub, in one thread.
+//! Seats, posts, receipts and looks of a hub: in one thread, and in threads of their own.
 #![tactic(auto)]
 
-ghost use Rattle.std.specs.Prelude.{◌≡◌, IfOk};
+ghost use Rattle.std.specs.Prelude.{◌≡◌};
 
-use agg_types::{Cell, Cells, Col, Config, Items, Key, KeyKind, Name, Shape, What};
-use anyhow::{Result, anyhow};
-use hub::{Hub, Lens, Naming, Opening, Pass, Receipt};
+mod fleet;
+mod replaced;
+mod seats;
+mod stare;
+mod steps;
+mod threads;
+
+use anyhow::Result;
+use fleet::{long_batch, opening};
+use hub::{Hub, Lens, Naming, Opening};
+use replaced::replace;
+use seats::{fill, has_place};
 use std::alloc::Global;
 use std::marker::Brand;
 use std::sync::Wait;
-
-/// The collector `agg` of two peers, with a table of addresses that stores gpc0.
-fn config(alloc: Global) -> Result<Config> {
-    let table = Shape {
-        name: Name::copy(alloc, b"t")?,
-        kind: KeyKind::Ip,
-        size: 100,
-        cols: Items::copy(alloc, &[(Col::Gpc0, 0)])?,
-    };
-    let mut config = Config {
-        me: Name::copy(alloc, b"agg")?,
-        peers: Items::from_vec(Vec::new(alloc)),
-        tables: Items::from_vec(Vec::new(alloc)),
-        filters: Items::from_vec(Vec::new(alloc)),
-        ranks: Items::from_vec(Vec::new(alloc)),
-    };
-    config.peers.push(Name::copy(alloc, b"lb1")?)?;
-    config.peers.push(Name::copy(alloc, b"lb2")?)?;
-    config.tables.push(table)?;
-    Ok(config)
-}
-
-fn opening(alloc: Global) -> Result<Opening> {
-    let config = config(alloc)?;
-    config.check()?;
-    Ok(Opening::new(alloc, config, 0)?)
-}
-
-/// The one key.
-fn key(alloc: Global) -> Result<Key> {
-    Ok(Key::copy(alloc, &[10, 0, 0, 1])?)
-}
-
-/// A peer speaks, and puts a count of the one key.
-fn batch(alloc: Global, peer: usize, count: u64) -> Result<Vec<What>> {
-    let mut whats = Vec::new(alloc);
-    whats.push(What::Open(peer))?;
-    whats.push(What::Put {
-        peer,
-        table: 0,
-        key: key(alloc)?,
-        life: None,
-        cells: Cells::copy(alloc, &[Cell::Count(count)])?,
-    })?;
-    Ok(whats)
-}
-
-/// Takes a seat.
-fn sit<J: Naming, R: Wait + Drop, W: Wait>(rt: &W, hub: &Hub<J, R>) -> Result<Pass>
-    ensures { IfOk result (λ p. p.seen.of ≡ hub.now.of) }
-{
-    match hub.seat(rt) {
-        Ok(pass) => Ok(pass),
-        Err(_) => Err(anyhow!("no seat")),
-    }
-}
-
-/// Posts a batch.
-fn post<J: Naming, R: Wait + Drop, W: Wait>(
-    rt: &W,
-    hub: &Hub<J, R>,
-    pass: &mut Pass,
-    whats: Vec<What>,
-) -> Result<Receipt>
-    requires { pass.old.seen.of ≡ hub.now.of }
-    ensures { IfOk result (λ r. (r.of ≡ hub.now.of) × (pass.new.seen.of ≡ hub.now.of)) }
-{
-    if !hub.allows(whats.as_slice()) {
-        return Err(anyhow!("it does not fit"));
-    }
-    match hub.post(rt, pass, whats) {
-        Ok(receipt) => Ok(receipt),
-        Err(_) => Err(anyhow!("refused")),
-    }
-}
-
-/// Posts a batch of a session of its own, which stays.
-fn session<J: Naming, R: Wait + Drop, W: Wait>(
-    rt: &W,
-    alloc: Global,
-    hub: &Hub<J, R>,
-    mut pass: Pass,
-    peer: usize,
-    count: u64,
-) -> Result<Receipt>
-    requires { pass.seen.of ≡ hub.now.of }
-    ensures { IfOk result (λ r. r.of ≡ hub.now.of) }
-{
-    let whats = batch(alloc, peer, count)?;
-    post(rt, hub, &mut pass, whats)
-}
-
-/// The sum of the one key, as a look shows it; 0 where no peer holds it.
-fn seen(alloc: Global, lens: &mut Lens) -> Result<u64> {
-    let key = key(alloc)?;
-    let Some(look) = lens.look() else {
-        return Err(anyhow!("no look"));
-    };
-    Ok(gpc0(look.book().summed(0, &key)))
-}
-
-fn gpc0(summed: Option<book::Summed>) -> u64 {
-    match summed {
-        None => 0,
-        Some(summed) => summed
-            .values
-            .as_slice()
-            .first()
-            .map_or(0, |sum| u64::try_from(*sum).unwrap_or(u64::MAX)),
-    }
-}
-
-/// How often one look shows what it showed first.
-fn stare(alloc: Global, lens: &mut Lens, turns: u32) -> Result<u32> {
-    let key = key(alloc)?;
-    let Some(look) = lens.look() else {
-        return Err(anyhow!("no look"));
-    };
-    let first = gpc0(look.book().summed(0, &key));
-    let mut same = 0u32;
-    for _ in 0..turns {
-        if gpc0(look.book().summed(0, &key)) == first {
-            same = same.saturating_add(1);
-        }
-    }
-    Ok(same)
-}
-
-/// Takes seats until none is left, and says how many there were; the first then leaves.
-fn fill<J: Naming, R: Wait + Drop, W: Wait>(rt: &W, hub: &Hub<J, R>) -> Result<u32> {
-    let first = sit(rt, hub)?;
-    let mut count = 1u32;
-    for _ in 0..600 {
-        if hub.seat(rt).is_err() {
-            break;
-        }
-        count = count.saturating_add(1);
-    }
-    match hub.leave(rt, first) {
-        Ok(_) => Ok(count),
-        Err(_) => Err(anyhow!("the first one stays")),
-    }
-}
+use std::thread::Threads;
+use steps::{lens, post, seen, session, sit};
 
 /// Two sessions, one after the other, each with a peer of its own; what they posted is learned.
-fn learn_both<J: Naming, R: Wait + Drop, W: Wait>(
+fn learn_both<J: Naming, H: Wait + Drop, W: Wait>(
     rt: &W,
     alloc: Global,
-    hub: &Hub<J, R>,
+    hub: &Hub<J, H>,
     lens: &mut Lens,
 ) -> Result<()>
     requires { lens.old.seen.of ≡ hub.now.of }
 {
-    let first = sit(rt, hub)?;
-    let receipt = session(rt, alloc, hub, first, 0, 5)?;
+    let receipt = session(rt, alloc, hub, 0, 5)?;
     lens.learn(&receipt);
-    let second = sit(rt, hub)?;
-    let receipt = session(rt, alloc, hub, second, 1, 7)?;
+    let receipt = session(rt, alloc, hub, 1, 7)?;
     lens.learn(&receipt);
     Ok(())
 }
 
-/// Whether another lens is to be had.
-fn has_place<J: Naming, R: Wait + Drop, W: Wait>(rt: &W, hub: &Hub<J, R>) -> bool {
-    hub.lens(rt).is_ok()
-}
-
-/// What a lens shows before and after it learned of two sessions.
-fn look_on<J: Naming, R: Wait + Drop, W: Wait + Print>(
+/// What a lens shows once it learned of two sessions.
+fn look_on<J: Naming, H: Wait + Drop, W: Wait + Print>(
     rt: &W,
     alloc: Global,
-    hub: &Hub<J, R>,
+    hub: &Hub<J, H>,
 ) -> Result<()> {
-    let Ok(mut lens) = hub.lens(rt) else {
-        return Err(anyhow!("no lens"));
-    };
+    let mut lens = lens(rt, hub)?;
     println!(rt; "a second lens: {}", has_place(rt, hub))?;
     learn_both(rt, alloc, hub, &mut lens)?;
     println!(rt; "both learned: {}", seen(alloc, &mut lens)?)?;
-    println!(rt; "one look: {}", stare(alloc, &mut lens, 1000)?)?;
     Ok(())
 }
 
-/// The rows, over one hub with one place for a lens.
-fn run<J: Naming, R: Wait + Print>(rt: &R, alloc: Global, opening: Opening) -> Result<()>
+/// Batches of no event, of one and of 100,001.
+fn sizes<J: Naming, H: Wait + Drop, W: Wait + Print>(
+    rt: &W,
+    alloc: Global,
+    hub: &Hub<J, H>,
+) -> Result<()> {
+    let mut pass = sit(rt, hub)?;
+    for puts in [0, 100_000] {
+        let receipt = post(rt, alloc, hub, &mut pass, long_batch(alloc, 0, puts)?)?;
+        println!(rt; "a batch of {}: {} events in all", puts + 1, receipt.len())?;
+    }
+    let receipt = post(rt, alloc, hub, &mut pass, Vec::new(alloc))?;
+    println!(rt; "a batch of 0: {} events in all", receipt.len())?;
+    Ok(())
+}
+
+/// Rows over a hub with one place for a lens, in one thread.
+fn alone<J: Naming, R: Print + Wait>(rt: &R, alloc: Global, opening: Opening) -> Result<()>
     requires { opening.of ≡ J.book }
 {
     let hub = Hub::<J, &R>::new(alloc, rt, opening, 1)?;
     look_on(rt, alloc, &hub)?;
+    sizes(rt, alloc, &hub)?;
     println!(rt; "seats: {}", fill(rt, &hub)?)?;
     println!(rt; "then: {}", fill(rt, &hub)?)?;
     Ok(())
 }
 
+/// Two seats that open one peer.
+fn late<J: Naming, R: Print + Wait>(rt: &R, alloc: Global, opening: Opening) -> Result<()>
+    requires { opening.of ≡ J.book }
+{
+    let hub = Hub::<J, &R>::new(alloc, rt, opening, 1)?;
+    let mut lens = lens(rt, &hub)?;
+    replace(rt, alloc, &hub, &mut lens)
+}
+
+/// Rows over a hub that threads share.
+fn shared<J: Naming + Send + Sync, R: Print + Threads + Wait + Copy + Send + Sync>(
+    rt: &R,
+    alloc: Global,
+    opening: Opening,
+) -> Result<()>
+    requires { opening.of ≡ J.book }
+{
+    let hub = Hub::<J, &R>::new(alloc, rt, opening, 8)?;
+    let (shown, less) = threads::at_once(rt, alloc, &hub);
+    println!(rt; "sessions that saw what they posted: {shown}, looks that went back: {less}")?;
+    let mut lens = lens(rt, &hub)?;
+    println!(rt; "both have ended: {}", seen(alloc, &mut lens)?)?;
+    let (same, posted) = stare::at_once(rt, alloc, &hub, &mut lens);
+    println!(rt; "one look shows the same {same} times, batches posted: {posted}")?;
+    println!(rt; "the next look: {}", seen(alloc, &mut lens)?)?;
+    Ok(())
+}
+
 fn main(rt: HostRuntime) -> Result<()> {
-    let opening = opening(rt.alloc())?;
-    run::<Brand, HostRuntime>(&rt, rt.alloc(), opening)
+    alone::<Brand, HostRuntime>(&rt, rt.alloc(), opening(rt.alloc())?)?;
+    late::<Brand, HostRuntime>(&rt, rt.alloc(), opening(rt.alloc())?)?;
+    shared::<Brand, HostRuntime>(&rt, rt.alloc(), opening(rt.alloc())?)
 }

@@ -1,5 +1,11 @@
 use Rattle.hub_rows.proofs.main.Given as goal
 
--- the log that was just opened
-abbrev pub ghosts-run : goal.ghosts-run
-ghosts-run g a = record { book = a.opening.of }
+-- the logs that were just opened
+abbrev pub ghosts-alone : goal.ghosts-alone
+ghosts-alone g a = record { book = a.opening.of }
+
+abbrev pub ghosts-late : goal.ghosts-late
+ghosts-late g a = record { book = a.opening.of }
+
+abbrev pub ghosts-shared : goal.ghosts-shared
+ghosts-shared g a = record { book = a.opening.of }

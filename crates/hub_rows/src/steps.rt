@@ -1,0 +1,142 @@
+//! Single steps of the rows.
+
+ghost use Rattle.std.specs.Prelude.{◌≡◌, IfOk};
+
+use crate::fleet::{address, batch};
+use agg_types::What;
+use anyhow::{Result, anyhow};
+use hub::{Hub, Lens, Naming, Pass, PostFault, Receipt, SeatFault};
+use std::alloc::Global;
+use std::sync::Wait;
+
+/// Takes a seat, at the second call where the first one had no memory.
+pub fn sit<J: Naming, H: Wait + Drop, W: Wait>(rt: &W, hub: &Hub<J, H>) -> Result<Pass>
+    ensures { IfOk result (λ p. p.seen.of ≡ hub.now.of) }
+{
+    match hub.seat(rt) {
+        Ok(pass) => Ok(pass),
+        Err(SeatFault::NoMemory) => sit_again(rt, hub),
+        Err(SeatFault::NoSeat) => Err(anyhow!("no seat")),
+    }
+}
+
+fn sit_again<J: Naming, H: Wait + Drop, W: Wait>(rt: &W, hub: &Hub<J, H>) -> Result<Pass>
+    ensures { IfOk result (λ p. p.seen.of ≡ hub.now.of) }
+{
+    match hub.seat(rt) {
+        Ok(pass) => Ok(pass),
+        Err(_) => Err(anyhow!("no seat again")),
+    }
+}
+
+/// Makes a lens.
+pub fn lens<J: Naming, H: Wait + Drop, W: Wait>(rt: &W, hub: &Hub<J, H>) -> Result<Lens>
+    ensures { IfOk result (λ l. l.seen.of ≡ hub.now.of) }
+{
+    match hub.lens(rt) {
+        Ok(lens) => Ok(lens),
+        Err(_) => Err(anyhow!("no lens")),
+    }
+}
+
+/// Posts a batch. What had no memory is posted again, and what is pending is shown by an empty
+/// batch.
+pub fn post<J: Naming, H: Wait + Drop, W: Wait>(
+    rt: &W,
+    alloc: Global,
+    hub: &Hub<J, H>,
+    pass: &mut Pass,
+    whats: Vec<What>,
+) -> Result<Receipt>
+    requires { pass.old.seen.of ≡ hub.now.of }
+    ensures { IfOk result (λ r. (r.of ≡ hub.now.of) × (pass.new.seen.of ≡ hub.now.of)) }
+{
+    if !hub.allows(whats.as_slice()) {
+        return Err(anyhow!("it does not fit"));
+    }
+    match hub.post(rt, pass, whats) {
+        Ok(receipt) => Ok(receipt),
+        Err(PostFault::NoMemory(back)) => post_again(rt, hub, pass, back),
+        Err(PostFault::Pending) => post_again(rt, hub, pass, Vec::new(alloc)),
+        Err(_) => Err(anyhow!("refused")),
+    }
+}
+
+fn post_again<J: Naming, H: Wait + Drop, W: Wait>(
+    rt: &W,
+    hub: &Hub<J, H>,
+    pass: &mut Pass,
+    whats: Vec<What>,
+) -> Result<Receipt>
+    requires { pass.old.seen.of ≡ hub.now.of }
+    ensures { IfOk result (λ r. (r.of ≡ hub.now.of) × (pass.new.seen.of ≡ hub.now.of)) }
+{
+    if !hub.allows(whats.as_slice()) {
+        return Err(anyhow!("it does not fit"));
+    }
+    match hub.post(rt, pass, whats) {
+        Ok(receipt) => Ok(receipt),
+        Err(_) => Err(anyhow!("refused again")),
+    }
+}
+
+/// A seat leaves, at the second call where the first one had no memory.
+pub fn leave<J: Naming, H: Wait + Drop, W: Wait>(rt: &W, hub: &Hub<J, H>, pass: Pass) -> Result<()>
+    requires { pass.seen.of ≡ hub.now.of }
+{
+    match hub.leave(rt, pass) {
+        Ok(_) => Ok(()),
+        Err((pass, PostFault::NoMemory(_))) => leave_again(rt, hub, pass),
+        Err(_) => Err(anyhow!("it stays")),
+    }
+}
+
+fn leave_again<J: Naming, H: Wait + Drop, W: Wait>(
+    rt: &W,
+    hub: &Hub<J, H>,
+    pass: Pass,
+) -> Result<()>
+    requires { pass.seen.of ≡ hub.now.of }
+{
+    match hub.leave(rt, pass) {
+        Ok(_) => Ok(()),
+        Err(_) => Err(anyhow!("it stays again")),
+    }
+}
+
+/// A session of its own, which speaks for a peer, puts a count and stays.
+pub fn session<J: Naming, H: Wait + Drop, W: Wait>(
+    rt: &W,
+    alloc: Global,
+    hub: &Hub<J, H>,
+    peer: usize,
+    count: u64,
+) -> Result<Receipt>
+    ensures { IfOk result (λ r. r.of ≡ hub.now.of) }
+{
+    let mut pass = sit(rt, hub)?;
+    post(rt, alloc, hub, &mut pass, batch(alloc, peer, count)?)
+}
+
+/// The sum of the address 0.0.0.0, as a look shows it; 0 where no peer holds it.
+pub fn seen(alloc: Global, lens: &mut Lens) -> Result<u64>
+    ensures { lens.new.seen.of ≡ lens.old.seen.of }
+{
+    let key = address(alloc, 0)?;
+    let Some(look) = lens.look() else {
+        return Err(anyhow!("no look"));
+    };
+    Ok(gpc0(look.book().summed(0, &key)))
+}
+
+/// The first sum of a row, or 0.
+pub fn gpc0(summed: Option<book::Summed>) -> u64 {
+    match summed {
+        None => 0,
+        Some(summed) => summed
+            .values
+            .as_slice()
+            .first()
+            .map_or(0, |sum| u64::try_from(*sum).unwrap_or(u64::MAX)),
+    }
+}

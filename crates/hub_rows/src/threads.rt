@@ -1,0 +1,111 @@
+//! Two sessions and a reader, each in a thread of its own.
+
+use crate::fleet::{alone, put};
+use crate::steps::{lens, post, seen, session, sit};
+use anyhow::Result;
+use hub::{Hub, Lens, Naming, Pass};
+use std::alloc::Global;
+use std::sync::Wait;
+use std::sync::atomic::{AtomicU64, Ordering};
+use std::thread;
+use std::thread::Threads;
+
+/// What threads tell of themselves.
+#[derive(Drop)]
+struct Told {
+    // Sessions that ended well.
+    ended: AtomicU64,
+    // What a session's own lens showed, once it learned what it posted.
+    shown: AtomicU64,
+    // Looks that showed less than one before.
+    less: AtomicU64,
+}
+
+/// A session whose own lens learns what it posted.
+fn speak<J: Naming, H: Wait + Drop, W: Wait>(
+    rt: &W,
+    alloc: Global,
+    hub: &Hub<J, H>,
+    peer: usize,
+    count: u64,
+) -> Result<u64> {
+    let mut lens = lens(rt, hub)?;
+    let receipt = session(rt, alloc, hub, peer, count)?;
+    lens.learn(&receipt);
+    seen(alloc, &mut lens)
+}
+
+/// Speaks, and tells whether its own lens showed at least its own count.
+fn speak_up<J: Naming, H: Wait + Drop, W: Wait>(
+    rt: &W,
+    alloc: Global,
+    hub: &Hub<J, H>,
+    told: &Told,
+    peer: usize,
+    count: u64,
+) {
+    if let Ok(sum) = speak(rt, alloc, hub, peer, count)
+        && sum >= count
+    {
+        told.shown.fetch_add(1, Ordering::SeqCst);
+    }
+    told.ended.fetch_add(1, Ordering::SeqCst);
+}
+
+/// Looks until both sessions have ended, and counts the looks that show less than one before.
+fn watch<J: Naming, H: Wait + Drop, W: Wait>(
+    rt: &W,
+    alloc: Global,
+    hub: &Hub<J, H>,
+    told: &Told,
+) -> Result<()> {
+    let mut lens = lens(rt, hub)?;
+    let mut most = 0;
+    for _ in rt.forever() {
+        let last = told.ended.load(Ordering::SeqCst) >= 2;
+        let sum = seen(alloc, &mut lens)?;
+        if sum < most {
+            told.less.fetch_add(1, Ordering::SeqCst);
+        }
+        most = sum;
+        if last {
+            break;
+        }
+        thread::yield_now();
+    }
+    if most != 12 {
+        told.less.fetch_add(1, Ordering::SeqCst);
+    }
+    Ok(())
+}
+
+/// Two sessions and a reader at once: how many sessions saw what they posted, and how many looks
+/// showed less than one before.
+pub fn at_once<
+    J: Naming + Send + Sync,
+    H: Wait + Drop + Send,
+    R: Threads + Wait + Copy + Send + Sync,
+>(rt: &R, alloc: Global, hub: &Hub<J, H>) -> (u64, u64) {
+    let told = Told {
+        ended: AtomicU64::new(0),
+        shown: AtomicU64::new(0),
+        less: AtomicU64::new(0),
+    };
+    let all = &told;
+    thread::scope(thread::scope_env(), rt, |scope| {
+        let watching = scope.spawn(move || {
+            if watch(rt, alloc, hub, all).is_err() {
+                all.less.fetch_add(100, Ordering::SeqCst);
+            }
+        });
+        let first = scope.spawn(move || speak_up(rt, alloc, hub, all, 0, 5));
+        let second = scope.spawn(move || speak_up(rt, alloc, hub, all, 1, 7));
+        if watching.is_err() || first.is_err() || second.is_err() {
+            all.ended.fetch_add(2, Ordering::SeqCst);
+        }
+    });
+    (
+        told.shown.load(Ordering::SeqCst),
+        told.less.load(Ordering::SeqCst),
+    )
+}
