@@ -1,0 +1,5 @@
+pub mod Owns
+pub mod Facts
+pub mod Works
+pub mod Timed
+pub mod Sent

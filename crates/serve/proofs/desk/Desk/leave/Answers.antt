@@ -1,0 +1,18 @@
+use Rattle.std.proofs.Common.{◌≡◌, ℕ, List, [], ◌∷◌, Option, Some, None, IfSome, sym, subst}
+use Rattle.agg_types.specs.declared.event.What.{What}
+use Rattle.hub.specs.History.{Beginning}
+use Rattle.serve.proofs.Owns.{left_shown}
+use Rattle.serve.specs.Told.{HasTold, IsLeft, IsServed}
+use Rattle.serve.proofs.desk.Desk.leave.Goals.{in-Ok, in-Err}
+use Rattle.serve.proofs.desk.Desk.leave.Goals as goal
+
+pub returns : goal.returns
+returns g c =
+    λ whats waiting told.
+    let P : Option Beginning → Type 0 = λ o. IfSome o (IsLeft c.args.self.pass.seat whats waiting) in record {
+      last = told.last;
+      left = elim c.match-leave.branch [
+        | in-Ok w ↦ subst P (sym w.left-is) (left_shown c.args.self.pass whats waiting w.in-Ok.left told.tells told.number w.in-Ok.ensures)
+        | in-Err w ↦ subst P (sym w.left-is) tt
+      ];
+    }

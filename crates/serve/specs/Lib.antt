@@ -1,0 +1,6 @@
+pub mod Sources
+pub mod Told
+pub mod Turns
+pub mod Working
+pub mod Moments
+pub mod Commands

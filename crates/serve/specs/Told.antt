@@ -1,0 +1,53 @@
+-- What was told at a seat.
+use Rattle.std.specs.Prelude.{◌≡◌, ℕ, ◌+◌, List, [], ◌∷◌, ◌++◌, length, Option, MatchOption, IfSome, Result, Ok, Err}
+use Rattle.agg_types.specs.declared.event.Event.{Event}
+use Rattle.agg_types.specs.declared.event.What.{What}
+use Rattle.agg_types.specs.declared.event.What.TheVariants.{Sit, Leave}
+use Rattle.hub.specs.declared.faults.PostFault.{PostFault}
+use Rattle.hub.specs.declared.faults.PostFault.TheVariants.{Replaced, NotNext, NoMemory, Pending, Spent}
+use Rattle.hub.specs.History.{Beginning, made, own}
+use Rattle.hub.specs.Posts.{Seated}
+use Rattle.serve.specs.declared.desk.Desk.{Desk}
+use Rattle.serve.specs.declared.served.Served.{Served}
+
+-- a list's events of a seat are that it sat down and told this, and no others
+abbrev pub Tells : ℕ → List What → Beginning → Type 0
+Tells seat whats list = own seat list.events ≡ made seat 0 (Sit ∷ whats)
+
+-- the last receipt shows that all of this was told; without one nothing was
+abbrev pub TellsLast : ℕ → List What → Option Beginning → Type 0
+TellsLast seat whats last = MatchOption last (whats ≡ []) (Tells seat whats)
+
+-- a pass of this hub, and the last receipt of its posts, where this was told, and so many events
+-- more are stored and not shown yet
+pub record HasTold (hub : Beginning) (desk : Desk) (whats : List What) (waiting : ℕ) : Type 0 where
+  pub of : desk.pass.seen.of ≡ hub.of
+  pub number : desk.pass.number ≡ 1 + length whats + waiting
+  pub tells : Tells desk.pass.seat whats desk.pass.seen
+  pub last : TellsLast desk.pass.seat whats desk.last
+
+-- how many events of a refused batch are stored all the same
+abbrev pub stored_of : PostFault → ℕ → ℕ
+stored_of (Replaced by shown) count = 0
+stored_of (NotNext found shown) count = 0
+stored_of (NoMemory back) count = 0
+stored_of Pending count = count
+stored_of Spent count = 0
+
+-- after a post all of the batch was told; after a refusal nothing of it
+abbrev pub TellsMore : Beginning → Desk → List What → List What → Result (Unit {0}) PostFault
+    → Type 0
+TellsMore hub desk whats batch (Ok done) = HasTold hub desk (whats ++ batch) 0
+TellsMore hub desk whats batch (Err fault) = HasTold hub desk whats (stored_of fault (length batch))
+
+-- the events of a seat that left are what it told, so many more, and its leave
+pub record IsLeft (seat : ℕ) (whats : List What) (waiting : ℕ) (list : Beginning) : Type 0 where
+  pub more : List Event
+  pub count : length more ≡ waiting
+  pub events : own seat list.events ≡ made seat 0 (Sit ∷ whats) ++ more
+      ++ made seat (1 + length whats + waiting) (Leave ∷ [])
+
+-- what a worker's receipts show of its seat
+pub record IsServed (seat : ℕ) (whats : List What) (waiting : ℕ) (served : Served) : Type 0 where
+  pub last : TellsLast seat whats served.last
+  pub left : IfSome served.left (IsLeft seat whats waiting)

@@ -1,0 +1,142 @@
+-- A session at work.
+use Rattle.std.specs.Prelude.{◌≡◌, ℕ, Bool, List, [], ◌∷◌, ◌++◌, length, Option, None, Some, is_some, Result, Ok, Err}
+use Rattle.agg_types.specs.declared.event.What.{What}
+use Rattle.session_core.specs.declared.batch.SessionFault.{SessionFault}
+use Rattle.session_core.specs.declared.cause.SessionCause.{SessionCause}
+use Rattle.session_core.specs.declared.cause.SessionCause.TheVariants as causes
+use Rattle.session_core.specs.Batched.{Batched}
+use Rattle.session_core.specs.Piece.{Setup, setup_of}
+use Rattle.session_core.specs.Talk.{stage_of}
+use Rattle.hub.specs.History.{Beginning}
+use Rattle.serve.specs.declared.desk.Desk.{Desk}
+use Rattle.serve.specs.declared.served.Cause.{Cause}
+use Rattle.serve.specs.declared.served.Cause.TheVariants.{Read, Write, Session, Post, Look}
+use Rattle.serve.specs.declared.served.Faulted.{Faulted}
+use Rattle.serve.specs.declared.served.Served.{Served}
+use Rattle.serve.specs.declared.worker.Worker.{Worker}
+use Rattle.std.specs.Io.KnownBytes.{Appends}
+use Rattle.serve.specs.Told.{stored_of}
+use Rattle.serve.specs.Turns.{DeskTells, EndsBy, IsAnswered, SeatIsServed, Turn, WroteFront, answers_in, facts_in, taken_in}
+
+-- it stands for the bytes taken in these turns, and their facts were told
+pub record IsAtWork (hub : Beginning) (seated : Bool) (worker : Worker) (turns : List Turn)
+    : Type 0 where
+  pub has_seat : worker.session.seated ≡ seated
+  pub stands : worker.session.stage ≡ stage_of (setup_of hub.config) seated (taken_in turns)
+  pub told : DeskTells hub worker.desk (facts_in (setup_of hub.config) seated turns) 0
+
+-- the same, with what its source gave and its writer took since it began
+pub record Works (hub : Beginning) (seated : Bool) (worker : Worker)
+    (given0 given wrote0 wrote : Option (List ℕ))
+    : Type 0 where
+  pub turns : List Turn
+  pub work : IsAtWork hub seated worker turns
+  pub gave : Appends given0 given (taken_in turns)
+  pub took : Appends wrote0 wrote
+      (answers_in (setup_of hub.config) seated turns)
+
+-- it has ended for this cause
+pub record Stops (hub : Beginning) (seated : Bool) (worker : Worker)
+    (given0 given wrote0 wrote : Option (List ℕ))
+    (cause : Cause) : Type 0 where
+  pub bytes : List ℕ
+  pub written : List ℕ
+  pub gave : Appends given0 given bytes
+  pub took : Appends wrote0 wrote written
+  pub ends : EndsBy (setup_of hub.config) seated (DeskTells hub worker.desk) bytes
+      written cause
+
+-- it works on, or has ended
+abbrev pub WorksOn : {A : Type 0} → Beginning → Bool → Worker → Option (List ℕ)
+    → Option (List ℕ) → Option (List ℕ) → Option (List ℕ) → Result A Cause → Type 0
+WorksOn hub seated worker given0 given wrote0 wrote (Ok done) =
+    Works hub seated worker given0 given wrote0 wrote
+WorksOn hub seated worker given0 given wrote0 wrote (Err cause) =
+    Stops hub seated worker given0 given wrote0 wrote cause
+
+-- a batch is told behind what was told before it, or refused
+abbrev pub PostsTo : Beginning → Option Desk → List What → List What → Result (Unit {0}) Cause
+    → Type 0
+PostsTo hub desk whats batch (Ok done) = DeskTells hub desk (whats ++ batch) 0
+PostsTo hub desk whats batch (Err Read) = ⊥
+PostsTo hub desk whats batch (Err Write) = ⊥
+PostsTo hub desk whats batch (Err (Session cause)) = ⊥
+PostsTo hub desk whats batch (Err (Post fault)) =
+    DeskTells hub desk whats (stored_of fault (length batch))
+PostsTo hub desk whats batch (Err Look) = ⊥
+
+-- the facts of a batch are told, and then its bytes written; where they are refused, nothing is
+abbrev pub SettlesTo : Beginning → Option Desk → List What → Batched → Option (List ℕ)
+    → Option (List ℕ) → Result (Unit {0}) Cause → Type 0
+SettlesTo hub desk whats batch before after (Ok done) =
+    DeskTells hub desk (whats ++ batch.facts) 0
+    × Appends before after (batch.replies ++ batch.acks)
+SettlesTo hub desk whats batch before after (Err Read) = ⊥
+SettlesTo hub desk whats batch before after (Err Write) =
+    DeskTells hub desk (whats ++ batch.facts) 0
+    × WroteFront before after (batch.replies ++ batch.acks)
+SettlesTo hub desk whats batch before after (Err (Session cause)) = ⊥
+SettlesTo hub desk whats batch before after (Err (Post fault)) =
+    DeskTells hub desk whats (stored_of fault (length batch.facts)) × Appends before after []
+SettlesTo hub desk whats batch before after (Err Look) = ⊥
+
+-- a batch that came with a fault is settled, and then the fault is the cause
+abbrev pub SettlesThen : Beginning → Option Desk → List What → SessionFault → Option (List ℕ)
+    → Option (List ℕ) → Result (Unit {0}) Cause → Type 0
+SettlesThen hub desk whats fault before after (Ok done) = ⊥
+SettlesThen hub desk whats fault before after (Err Read) = ⊥
+SettlesThen hub desk whats fault before after (Err Write) =
+    SettlesTo hub desk whats fault.batch before after (Err Write)
+SettlesThen hub desk whats fault before after (Err (Session cause)) =
+    (cause ≡ fault.cause) × SettlesTo hub desk whats fault.batch before after (Ok tt)
+SettlesThen hub desk whats fault before after (Err (Post post)) =
+    SettlesTo hub desk whats fault.batch before after (Err (Post post))
+SettlesThen hub desk whats fault before after (Err Look) = ⊥
+
+-- for want of memory nothing is told nor written
+pub record EndsForMemory (old new : Option Desk) (before after : Option (List ℕ))
+    (result : Result (Unit {0}) Cause) : Type 0 where
+  pub is : result ≡ Err (Session causes.NoMemory)
+  pub desk : new ≡ old
+  pub kept : after ≡ before
+
+abbrev pub EndsFor : SessionCause → Beginning → Option Desk → Option Desk → List What
+    → SessionFault → Option (List ℕ) → Option (List ℕ) → Result (Unit {0}) Cause → Type 0
+EndsFor (causes.Refused status) hub old new whats fault before after result =
+    SettlesThen hub new whats fault before after result
+EndsFor (causes.Wire wire) hub old new whats fault before after result =
+    SettlesThen hub new whats fault before after result
+EndsFor causes.PeerError hub old new whats fault before after result =
+    SettlesThen hub new whats fault before after result
+EndsFor causes.TimedOut hub old new whats fault before after result =
+    SettlesThen hub new whats fault before after result
+EndsFor causes.NoMemory hub old new whats fault before after result =
+    EndsForMemory old new before after result
+
+-- how a session ends with a fault
+abbrev pub EndsTo : Beginning → Option Desk → Option Desk → List What → SessionFault
+    → Option (List ℕ) → Option (List ℕ) → Result (Unit {0}) Cause → Type 0
+EndsTo hub old new whats fault before after result =
+    EndsFor fault.cause hub old new whats fault before after result
+
+-- how a session was served at Ok: all that its source gave was told and answered
+pub record IsServedWhole (hub : Beginning) (seat : Option ℕ)
+    (given0 given wrote0 wrote : Option (List ℕ))
+    (served : Served) : Type 0 where
+  pub bytes : List ℕ
+  pub written : List ℕ
+  pub gave : Appends given0 given bytes
+  pub took : Appends wrote0 wrote written
+  pub ends : IsAnswered (setup_of hub.config) (is_some seat) (SeatIsServed seat served) bytes
+      written
+
+-- how a session was served that ended for a cause
+pub record IsServedUntil (hub : Beginning) (seat : Option ℕ)
+    (given0 given wrote0 wrote : Option (List ℕ))
+    (faulted : Faulted) : Type 0 where
+  pub bytes : List ℕ
+  pub written : List ℕ
+  pub gave : Appends given0 given bytes
+  pub took : Appends wrote0 wrote written
+  pub ends : EndsBy (setup_of hub.config) (is_some seat) (SeatIsServed seat faulted.served) bytes
+      written faulted.cause

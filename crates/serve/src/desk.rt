@@ -1,0 +1,88 @@
+//! A seat at work: what it posts, and what it leaves.
+
+ghost use Rattle.std.specs.Prelude.{◌≡◌, ℕ, List, [], IfSome, OnOk};
+ghost use Rattle.std.specs.List.{All};
+ghost use Rattle.agg_types.specs.declared.event.What.{What};
+ghost use Rattle.hub.specs.History.{Beginning};
+ghost use Rattle.hub.specs.Posts.{Follows, SitsDown};
+ghost use Rattle.hub.specs.Roll.{MayPost};
+
+use crate::served::Served;
+use agg_types::What;
+use hub::{Hub, Lens, Naming, Pass, PostFault, Receipt};
+use std::sync::Wait;
+
+/// A pass, and what its last post at Ok shows.
+#[derive(Drop)]
+pub struct Desk {
+    pass: Pass,
+    last: Option<Receipt>,
+}
+
+impl Desk {
+    ghost use Rattle.serve.specs.Told.{HasTold, IsServed, TellsMore};
+
+    /// A desk at which nothing was posted yet.
+    pub fn new(pass: Pass) -> Desk
+        ensures pass { result.pass ≡ pass }
+        ensures told { (hub : Beginning) → SitsDown pass → pass.seen.of ≡ hub.of
+            → HasTold hub result [] 0 }
+    {
+        Desk { pass, last: None }
+    }
+
+    /// Its seat.
+    pub fn seat(&self) -> u64
+        ensures { result ≡ self.now.pass.seat }
+    {
+        self.pass.seat()
+    }
+
+    /// Has a lens learn what was posted last, so that it shows no less from then on.
+    pub fn show(&self, lens: &mut Lens)
+        requires { IfSome self.now.last (λ list. list.of ≡ lens.old.seen.of) }
+        ensures { lens.new.seen.of ≡ lens.old.seen.of }
+    {
+        if let Some(receipt) = &self.last {
+            lens.learn(receipt);
+        }
+    }
+
+    /// Posts a batch.
+    pub fn post<J: Naming, H: Wait + Drop, R: Wait>(
+        &mut self,
+        rt: &R,
+        hub: &Hub<J, H>,
+        whats: Vec<What>,
+    ) -> Result<(), PostFault>
+        requires pass { self.old.pass.seen.of ≡ hub.now.of }
+        requires fits { All (MayPost hub.now.config) whats.items }
+        ensures seat { self.new.pass.seat ≡ self.old.pass.seat }
+        ensures of { self.new.pass.seen.of ≡ hub.now.of }
+        ensures last { OnOk result (IfSome self.new.last (λ list. list.of ≡ hub.now.of)) }
+        ensures told { (whats_before : List What) → HasTold hub.now self.old whats_before 0
+            → TellsMore hub.now self.new whats_before whats.items result }
+    {
+        match hub.post(rt, &mut self.pass, whats) {
+            Ok(receipt) => {
+                self.last = Some(receipt);
+                Ok(())
+            }
+            Err(fault) => Err(fault),
+        }
+    }
+
+    /// Gives the pass back to the hub. Where that is refused the seat stays taken.
+    pub fn leave<J: Naming, H: Wait + Drop, R: Wait>(self, rt: &R, hub: &Hub<J, H>) -> Served
+        requires pass { self.pass.seen.of ≡ hub.now.of }
+        ensures { (whats : List What) (waiting : ℕ) → HasTold hub.now self whats waiting
+            → IsServed self.pass.seat whats waiting result }
+    {
+        let Desk { pass, last } = self;
+        let left = match hub.leave(rt, pass) {
+            Ok(left) => left,
+            Err(_) => None,
+        };
+        Served { last, left }
+    }
+}

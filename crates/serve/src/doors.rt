@@ -1,0 +1,360 @@
+//! All workers of a collector, each in a thread.
+
+ghost use Rattle.std.specs.Prelude.{◌≡◌};
+
+use crate::admin::serve_admin;
+use crate::clock::Clock;
+use crate::gate::{Gate, News, Place};
+use crate::session::serve_session;
+use crate::source::Source;
+use crate::timer::run_timer;
+use hub::{Hub, Naming};
+use std::alloc::Global;
+use std::io::Write;
+use std::sync::Wait;
+use std::sync::atomic::{AtomicU64, Ordering};
+use std::thread;
+use std::thread::Threads;
+
+/// How many connections a door takes at most.
+const MOST_CALLERS: u64 = 1 << 40;
+
+/// How far the start has got: nothing is known yet; the timer has its seat, and the doors serve; or
+/// a thread or that seat was refused, and all end.
+const WAITS: u64 = 0;
+
+const SERVES: u64 = 1;
+
+const GIVES_UP: u64 = 2;
+
+/// A connection that came in, of which nothing was read yet.
+#[derive(Drop)]
+pub struct Caller<S: Source, W> {
+    pub source: S,
+    pub writer: W,
+    pub ghost fresh: { S.reads source ≡ 0 },
+}
+
+/// Where connections come in.
+pub trait Doors<S: Source, W> {
+    /// The next connection of a peer. None closes this door.
+    fn peer(&self) -> Option<Caller<S, W>>;
+
+    /// The next admin connection. None closes this door.
+    fn admin(&self) -> Option<Caller<S, W>>;
+}
+
+/// How many connections ended.
+#[derive(Clone, Copy, Debug, PartialEq, Eq)]
+pub struct Ended {
+    /// By themselves, or because the gate said so.
+    pub ended: u64,
+    /// With a fault.
+    pub faulted: u64,
+    /// Before they were served, for want of a thread, a seat, a lens or memory.
+    pub refused: u64,
+}
+
+/// The counts of `Ended`, which all workers share.
+#[derive(Drop)]
+struct Counts {
+    ended: AtomicU64,
+    faulted: AtomicU64,
+    refused: AtomicU64,
+    // how many doors have closed
+    closed: AtomicU64,
+    // how many connections of peers are being served
+    serving: AtomicU64,
+    // how far the start has got
+    begun: AtomicU64,
+}
+
+impl Counts {
+    fn new() -> Counts {
+        Counts {
+            ended: AtomicU64::new(0),
+            faulted: AtomicU64::new(0),
+            refused: AtomicU64::new(0),
+            closed: AtomicU64::new(0),
+            serving: AtomicU64::new(0),
+            begun: AtomicU64::new(WAITS),
+        }
+    }
+
+    fn count(&self, is_ok: bool) {
+        let counter = if is_ok { &self.ended } else { &self.faulted };
+        counter.fetch_add(1, Ordering::SeqCst);
+    }
+
+    fn refuse(&self) {
+        self.refused.fetch_add(1, Ordering::SeqCst);
+    }
+
+    fn close(&self) {
+        self.closed.fetch_add(1, Ordering::SeqCst);
+    }
+
+    // All have got so far.
+    fn reach(&self, stage: u64) {
+        self.begun.store(stage, Ordering::SeqCst);
+    }
+
+    // Nothing is served, for want of a thread or a seat: the doors' threads end.
+    fn give_up(&self) {
+        self.refuse();
+        self.begun.store(GIVES_UP, Ordering::SeqCst);
+    }
+
+    fn has_given_up(&self) -> bool {
+        self.begun.load(Ordering::SeqCst) == GIVES_UP
+    }
+
+    // Waits until all have got so far, or have given up. Whether they haven't given up.
+    fn waits_until<R: Wait>(&self, rt: &R, stage: u64) -> bool {
+        for _ in rt.forever() {
+            let begun = self.begun.load(Ordering::SeqCst);
+            if begun >= stage {
+                return begun != GIVES_UP;
+            }
+            thread::yield_now();
+        }
+        unreachable!()
+    }
+
+    // A connection of a peer is about to be served, or was.
+    fn begin(&self) {
+        self.serving.fetch_add(1, Ordering::SeqCst);
+    }
+
+    fn end(&self) {
+        self.serving.fetch_sub(1, Ordering::SeqCst);
+    }
+
+    // Whether both doors have closed, and their workers have ended.
+    fn are_done(&self) -> bool {
+        self.closed.load(Ordering::SeqCst) >= 2 && self.serving.load(Ordering::SeqCst) == 0
+    }
+
+    fn so_far(&self) -> Ended {
+        Ended {
+            ended: self.ended.load(Ordering::SeqCst),
+            faulted: self.faulted.load(Ordering::SeqCst),
+            refused: self.refused.load(Ordering::SeqCst),
+        }
+    }
+}
+
+/// The gate of the timer, which also ends once both doors have closed.
+#[derive(Drop)]
+struct TimerGate<'a, G> {
+    gate: &'a G,
+    counts: &'a Counts,
+}
+
+impl<'a, G: Gate> Gate for TimerGate<'a, G> {
+    fn turn(&self, place: Place) {
+        self.gate.turn(place);
+    }
+
+    fn stop(&self) -> bool {
+        self.gate.stop() || self.counts.are_done()
+    }
+
+    fn tell(&self, place: Place, news: News<'_>) {
+        self.gate.tell(place, news);
+    }
+}
+
+/// What serves connections, whatever it stands on and they are.
+trait Workers<K> {
+    /// The next connection of a peer. None closes this door.
+    fn next_peer(&self) -> Option<K>;
+
+    /// The next admin connection. None closes this door.
+    fn next_admin(&self) -> Option<K>;
+
+    /// Serves one connection of a peer.
+    fn peer<R: Wait>(&self, rt: &R, caller: K);
+
+    /// Serves one admin connection.
+    fn admin<R: Wait>(&self, rt: &R, caller: K);
+
+    /// Posts moments until both doors have closed.
+    fn timer<R: Wait>(&self, rt: &R);
+}
+
+/// What all workers of a collector share.
+#[derive(Drop)]
+struct House<'a, J: Naming, H: Wait + Drop, C, G, D> {
+    alloc: Global,
+    doors: &'a D,
+    clock: &'a C,
+    hub: &'a Hub<J, H>,
+    gate: &'a G,
+    counts: &'a Counts,
+}
+
+impl<
+    'a,
+    J: Naming,
+    H: Wait + Drop,
+    C: Clock,
+    G: Gate,
+    S: Source + Drop,
+    W: Write + Drop,
+    D: Doors<S, W>,
+> Workers<Caller<S, W>> for House<'a, J, H, C, G, D> {
+    fn next_peer(&self) -> Option<Caller<S, W>> {
+        self.doors.peer()
+    }
+
+    fn next_admin(&self) -> Option<Caller<S, W>> {
+        self.doors.admin()
+    }
+
+    // Without a seat it is served all the same, and refused.
+    fn peer<R: Wait>(&self, rt: &R, caller: Caller<S, W>) {
+        let Caller {
+            mut source,
+            mut writer,
+        } = caller;
+        let pass = self.hub.seat(rt).ok();
+        let ended = serve_session(
+            rt,
+            self.alloc,
+            &mut source,
+            &mut writer,
+            self.clock,
+            self.hub,
+            pass,
+            self.gate,
+        );
+        self.counts.count(ended.is_ok());
+    }
+
+    // Without a seat or a lens it is closed.
+    fn admin<R: Wait>(&self, rt: &R, caller: Caller<S, W>) {
+        let Caller {
+            mut source,
+            mut writer,
+        } = caller;
+        let Ok(lens) = self.hub.lens(rt) else {
+            self.counts.refuse();
+            return;
+        };
+        let Ok(pass) = self.hub.seat(rt) else {
+            self.counts.refuse();
+            return;
+        };
+        let ended = serve_admin(
+            rt,
+            self.alloc,
+            &mut source,
+            &mut writer,
+            self.hub,
+            lens,
+            pass,
+            self.gate,
+        );
+        self.counts.count(ended.is_ok());
+    }
+
+    // Its seat is taken first; then connections are served.
+    fn timer<R: Wait>(&self, rt: &R) {
+        let Ok(pass) = self.hub.seat(rt) else {
+            self.counts.give_up();
+            return;
+        };
+        self.counts.reach(SERVES);
+        let gate = TimerGate {
+            gate: self.gate,
+            counts: self.counts,
+        };
+        let _ = run_timer(rt, self.alloc, self.clock, self.hub, pass, &gate);
+    }
+}
+
+// Admin connections, one after the other, until their door closes.
+fn admins<R: Wait, K, U: Workers<K>>(rt: &R, workers: &U, counts: &Counts) {
+    if !counts.waits_until(rt, SERVES) {
+        return;
+    }
+    for _ in 0..MOST_CALLERS {
+        let Some(caller) = workers.next_admin() else {
+            break;
+        };
+        workers.admin(rt, caller);
+    }
+    counts.close();
+}
+
+// One connection of a peer, once connections are served.
+fn peer<R: Wait, K: Drop, U: Workers<K>>(rt: &R, workers: &U, counts: &Counts, caller: K) {
+    if counts.waits_until(rt, SERVES) {
+        workers.peer(rt, caller);
+    }
+    counts.end();
+}
+
+// Runs the timer and the admins' door in threads of their own, and each connection of a peer.
+fn open<R: Threads + Wait + Copy + Send + Sync, K: Send + Drop, U: Workers<K> + Sync>(
+    rt: &R,
+    workers: &U,
+    counts: &Counts,
+) {
+    thread::scope(thread::scope_env(), rt, |scope| {
+        if scope.spawn(move || workers.timer(rt)).is_err() {
+            counts.give_up();
+            return;
+        }
+        if scope.spawn(move || admins(rt, workers, counts)).is_err() {
+            counts.give_up();
+            return;
+        }
+        for _ in 0..MOST_CALLERS {
+            let Some(caller) = workers.next_peer() else {
+                break;
+            };
+            if counts.has_given_up() {
+                break;
+            }
+            counts.begin();
+            if scope
+                .spawn(move || peer(rt, workers, counts, caller))
+                .is_err()
+            {
+                counts.end();
+                counts.refuse();
+            }
+        }
+        counts.close();
+    });
+}
+
+/// Serves until both doors have closed and their workers have ended: one worker for each connection
+/// of a peer, admin connections one after the other, and a timer, whose seat is taken first.
+///
+/// Where that seat is refused, or the thread of the timer or of the admins' door, nothing is
+/// served.
+pub fn serve_all<
+    J: Naming + Send + Sync,
+    H: Wait + Drop + Send,
+    R: Threads + Wait + Copy + Send + Sync,
+    S: Source + Send + Drop,
+    W: Write + Send + Drop,
+    C: Clock + Sync,
+    G: Gate + Sync,
+    D: Doors<S, W> + Sync,
+>(rt: &R, alloc: Global, doors: &D, clock: &C, hub: &Hub<J, H>, gate: &G) -> Ended {
+    let counts = Counts::new();
+    let house = House {
+        alloc,
+        doors,
+        clock,
+        hub,
+        gate,
+        counts: &counts,
+    };
+    open(rt, &house, &counts);
+    counts.so_far()
+}

@@ -1,0 +1,96 @@
+//! The timer: what makes time pass in the fleet.
+
+ghost use Rattle.std.specs.Prelude.{◌≡◌, ℕ, IfOk, IfErr};
+ghost use Rattle.hub.specs.Posts.{Follows, SitsDown};
+ghost use Rattle.serve.specs.Moments.{HasTimed, IsTimed, stored_at, stored_by};
+
+use crate::clock::Clock;
+use crate::desk::Desk;
+use crate::gate::{Gate, Place};
+use crate::served::{Cause, Faulted, Served};
+use agg_types::What;
+use hub::{Hub, Naming, Pass, PostFault};
+use std::alloc::Global;
+use std::sync::Wait;
+
+/// How many turns a timer makes at most.
+const MOST_TURNS: u64 = 1 << 40;
+
+/// The greatest moment that may be posted, in ms.
+const LAST_MOMENT: u64 = 1 << 62;
+
+/// Posts the clock's moment.
+fn post_moment<J: Naming, H: Wait + Drop, R: Wait, C: Clock>(
+    rt: &R,
+    alloc: Global,
+    clock: &C,
+    hub: &Hub<J, H>,
+    desk: &mut Desk,
+) -> Result<(), Cause>
+    requires timed { HasTimed hub.now (C.gives clock.now) desk.old 0 }
+    ensures seat { desk.new.pass.seat ≡ desk.old.pass.seat }
+    ensures timed { HasTimed hub.now (C.gives clock.now) desk.new (stored_at result) }
+{
+    let moment = clock.now();
+    if moment > LAST_MOMENT {
+        return Ok(());
+    }
+    let mut whats = Vec::new(alloc);
+    if whats.push(What::Moment(moment)).is_err() {
+        return Err(Cause::Post(PostFault::NoMemory(Vec::new(alloc))));
+    }
+    match desk.post(rt, hub, whats) {
+        Ok(()) => Ok(()),
+        Err(fault) => Err(Cause::Post(fault)),
+    }
+}
+
+/// Posts moments until the gate says so, or a fault comes.
+fn run<J: Naming, H: Wait + Drop, R: Wait, C: Clock, G: Gate>(
+    rt: &R,
+    alloc: Global,
+    clock: &C,
+    hub: &Hub<J, H>,
+    desk: &mut Desk,
+    gate: &G,
+) -> Result<(), Cause>
+    requires timed { HasTimed hub.now (C.gives clock.now) desk.old 0 }
+    ensures seat { desk.new.pass.seat ≡ desk.old.pass.seat }
+    ensures timed { HasTimed hub.now (C.gives clock.now) desk.new (stored_at result) }
+{
+    for _ in 0..MOST_TURNS {
+        if gate.stop() {
+            return Ok(());
+        }
+        gate.turn(Place::Timer);
+        post_moment(rt, alloc, clock, hub, desk)?;
+        clock.rest();
+    }
+    Err(Cause::Read)
+}
+
+/// Posts the clock's moments, one after each rest, with a pass that has posted nothing.
+///
+/// A moment above 2^62 isn't posted. It ends when the gate says so; with Read after 2^40 turns;
+/// with Post at its first post that isn't Ok, and for want of memory of its own (of no events).
+pub fn run_timer<J: Naming, H: Wait + Drop, R: Wait, C: Clock, G: Gate>(
+    rt: &R,
+    alloc: Global,
+    clock: &C,
+    hub: &Hub<J, H>,
+    pass: Pass,
+    gate: &G,
+) -> Result<Served, Faulted>
+    requires pass { SitsDown pass × Follows hub.now pass.seen }
+    ensures ok { IfOk result (IsTimed (C.gives clock.now) pass.seat 0) }
+    ensures err { IfErr result (λ faulted. IsTimed (C.gives clock.now) pass.seat
+        (stored_by faulted.cause) faulted.served) }
+{
+    let mut desk = Desk::new(pass);
+    let ended = run(rt, alloc, clock, hub, &mut desk, gate);
+    let served = desk.leave(rt, hub);
+    match ended {
+        Ok(()) => Ok(served),
+        Err(cause) => Err(Faulted { cause, served }),
+    }
+}
