@@ -5,10 +5,12 @@
 #
 # It wants Debian's haproxy and curl, and python3 to ask the collector. It starts `aggregator listen` with
 # examples/fleet.conf and haproxy twice with examples/haproxy.cfg, sends requests of three clients through both
-# proxies, and ends all of them again. Nobody else is touched: all addresses are of this machine.
+# proxies, and ends all of them again. Nobody else is touched: all addresses are of this machine. A program that
+# isn't built yet is proved and built first, which takes a while.
 set -eu
 cd "$(dirname "$0")/.."
 collector=${1:-crates/aggregator/out/aggregator}
+[ -x "$collector" ] || (cd crates/aggregator && rt run -- --help > /dev/null)
 peers=${PEERS_PORT:-10900}
 admin=${ADMIN_PORT:-10901}
 DIR=$(mktemp -d)
