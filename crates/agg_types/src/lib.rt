@@ -1,14 +1,14 @@
-//! The types that every other crate speaks of: keys and names, columns, a fleet's configuration, and
-//! the events of its history, with the limits on their numbers.
+//! The types that every other crate speaks of: keys and names, columns, a fleet's configuration,
+//! and the events of its history, with the limits on their numbers.
 //!
-//! Every crate of the workspace uses it. Contracts see plain data: a key or a name is the list of its
-//! bytes, in their order; a collection is the list of its items; a configuration and an event are
-//! records of these. Promised are the tests: `Config::check` answers the first fault in a stated
+//! Every crate of the workspace uses it. Contracts see plain data: a key or a name is the list of
+//! its bytes, in their order; a collection is the list of its items; a configuration and an event
+//! are records of these. Promised are the tests: `Config::check` answers the first fault in a stated
 //! order and none exactly where there is none; `Config::fits` holds exactly of what may happen;
 //! `Op::holds` is the comparison; what is copied or duplicated is equal.
 //!
-//! No clause says that a copy succeeds while there is memory, nor how much room a key takes (24 bytes
-//! where it has up to 16), nor that up to four cells take none beside their list.
+//! No clause says that a copy succeeds while there is memory, nor how much room a key takes (24
+//! bytes where it has up to 16), nor that up to four cells take none beside their list.
 #![tactic(auto)]
 
 mod cells;

@@ -1,8 +1,12 @@
 //! Workers between the outside and the hub: a session for each connection of a peer, an admin that
 //! answers commands, a timer, and what starts them in threads.
 //!
-//! `aggregator listen` runs them over sockets, `serve_rows` over memory. They wait, so each takes a
-//! handle; all that they say, read and tell stands in the crates below.
+//! `aggregator listen` runs them over sockets; sources and writers may lie in memory as well. They
+//! wait, so each takes a handle; all that they say, read and tell stands in the crates below.
+//!
+//! Promised of a session: exactly the facts of the bytes that it took are told, and an answer is
+//! written only behind its facts. Promised of a timer: it tells moments of its clock. No clause says
+//! that an admin's changes are those of its lines, nor what `serve_all` counts.
 #![tactic(auto)]
 
 mod admin;

@@ -1,10 +1,10 @@
-//! Commands of one line each, and the texts of their answers, over a book: for scripts and for admin
-//! connections.
+//! Commands of one line each, and the texts of their answers, over a book: for scripts and for
+//! admin connections.
 //!
-//! `parse` gives the command that a line says, or its first fault from the left; `Command::change` the
-//! event that it asks for; `answer` and `refusal` append their texts whole, or leave what was there. What
-//! lines and answers say stands in specs/Parse and specs/Answer, as functions of bytes and of the book's
-//! state. No clause says that a growth is refused only for want of memory.
+//! `parse` gives the command that a line says, or its first fault from the left; `Command::change`
+//! the event that it asks for; `answer` and `refusal` append their texts whole, or leave what was
+//! there. What lines and answers say stands in specs/Parse and specs/Answer, as functions of bytes
+//! and of the book's state. No clause says that a growth is refused only for want of memory.
 #![tactic(auto)]
 
 mod answers;
