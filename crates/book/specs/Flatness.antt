@@ -42,7 +42,8 @@ living_falls_at (row ∷ rows) t later h =
     let rest : living_of rows later ≤ living_of rows t = living_falls_at rows t later h in
     omega arith
 
-pub living_falls : (rows : Rows) (t later : ℕ) → t ≤ later → living_within rows later ≤ living_within rows t
+pub living_falls : (rows : Rows) (t later : ℕ) → t ≤ later
+    → living_within rows later ≤ living_within rows t
 living_falls rows t later h = living_falls_at rows (within t) (within later) (omega arith)
 
 -- ---- and stay from some moment on
