@@ -24,6 +24,7 @@ use crate::sets::{filter_at, keys_held};
 use crate::{queries, seats};
 use agg_types::{Config, Event, Key, NoMemory, What};
 use fleet_model::Summed;
+use peer_rows::Spot;
 use std::alloc::Global;
 use std::marker::Model;
 
@@ -78,8 +79,25 @@ impl Book {
         ensures uncounted { counts_now self.old event.now ≡ false → IsOk result }
         ensures sound { IsSound self.new }
     {
+        self.step_at(event, None)?;
+        Ok(())
+    }
+
+    /// What `step` does and answers, whatever the hint at where the rows of a Put's key lie. It
+    /// says where they lay, for another book that took the same events: none where the key had no
+    /// rows, or where the event isn't a Put that counts.
+    pub fn step_at(&mut self, event: &Event, hint: Option<Spot>) -> Result<Option<Spot>, NoMemory>
+        ensures ok { OnOk result (self.new ≡ after self.old event.now) }
+        ensures stands { OnOk result ((config : Config) (opening : ℕ) (events : List Event)
+            → Stands self.old config opening events
+            → Stands self.new config opening (events ++ event.now ∷ [])) }
+        ensures err { OnErr result (self.new ≡ self.old) }
+        ensures leaving { event.now.what ≡ Leave → IsOk result }
+        ensures uncounted { counts_now self.old event.now ≡ false → IsOk result }
+        ensures sound { IsSound self.new }
+    {
         fleet_model::laws::stands_after_one_more();
-        self.take(event.seat, event.seq, &event.what)
+        self.take_at(event.seat, event.seq, &event.what, hint)
     }
 
     /// Takes one event by its parts, as `step` does.
@@ -90,8 +108,26 @@ impl Book {
         ensures uncounted { counts_now self.old (event_of seat seq what.now) ≡ false → IsOk result }
         ensures sound { IsSound self.new }
     {
+        self.take_at(seat, seq, what, None)?;
+        Ok(())
+    }
+
+    /// Takes one event by its parts, as `step_at` does.
+    pub fn take_at(
+        &mut self,
+        seat: u64,
+        seq: u64,
+        what: &What,
+        hint: Option<Spot>,
+    ) -> Result<Option<Spot>, NoMemory>
+        ensures ok { OnOk result (self.new ≡ after self.old (event_of seat seq what.now)) }
+        ensures err { OnErr result (self.new ≡ self.old) }
+        ensures leaving { what.now ≡ Leave → IsOk result }
+        ensures uncounted { counts_now self.old (event_of seat seq what.now) ≡ false → IsOk result }
+        ensures sound { IsSound self.new }
+    {
         fleet_model::laws::states_are_sound();
-        self.machine.apply(seat, seq, what)
+        self.machine.apply(seat, seq, what, hint)
     }
 
     /// Whether fewer seats sit than may. Takes no memory.

@@ -29,4 +29,5 @@ mod values;
 pub use book::Book;
 pub use fleet_model::Summed;
 pub use listing::BookRows;
+pub use peer_rows::Spot;
 pub use ranking::Ranked;

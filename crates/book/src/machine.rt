@@ -29,6 +29,7 @@ use agg_types::{
     Cells, Col, Config, Filter, Items, Key, MOST_FILTERS, NoMemory, Select, Shape, What,
 };
 use fleet_model::Summed;
+use peer_rows::Spot;
 use std::alloc::Global;
 use std::collections::BTreeMap;
 use std::marker::Model;
@@ -132,27 +133,34 @@ impl Machine {
         self.counts(seat, seq, what)
     }
 
-    // One event, as the machine of one event says; nothing has changed after NoMemory.
+    // One event, as the machine of one event says, whatever the hint; nothing has changed after
+    // NoMemory. Answers where the rows of a Put's key lay before it.
     #[tactic(auto, unfolding(fleet_model::specs::Machine::after, fleet_model::specs::Machine::happened, fleet_model::specs::Machine::with_put, fleet_model::specs::Rows::clears_at))]
-    pub(crate) fn apply(&mut self, seat: u64, seq: u64, what: &What) -> Result<(), NoMemory>
+    pub(crate) fn apply(
+        &mut self,
+        seat: u64,
+        seq: u64,
+        what: &What,
+        hint: Option<Spot>,
+    ) -> Result<Option<Spot>, NoMemory>
         ensures ok { OnOk result (self.new ≡ after self.old (event_of seat seq what.now)) }
         ensures err { OnErr result (self.new ≡ self.old) }
         ensures leaving { what.now ≡ Leave → IsOk result }
         ensures uncounted { counts_now self.old (event_of seat seq what.now) ≡ false → IsOk result }
     {
         if !self.is_due(seat, seq, what) {
-            return Ok(());
+            return Ok(None);
         }
         match what {
             What::Sit => {
                 sit_down(&mut self.seats, seat)?;
                 self.next_seat = seat + 1;
-                Ok(())
+                Ok(None)
             }
             What::Open(peer) => {
                 open_session(&mut self.sessions, *peer, seat)?;
                 count_up(&mut self.seats, seat, seq);
-                Ok(())
+                Ok(None)
             }
             What::Put {
                 peer,
@@ -165,7 +173,10 @@ impl Machine {
                     table: *table,
                     key,
                     peer: *peer,
-                    spot: self.rows.spot_of(*table, key),
+                    spot: match hint {
+                        Some(_) => hint,
+                        None => self.rows.spot_of(*table, key),
+                    },
                 };
                 put(
                     &mut self.rows,
@@ -178,7 +189,7 @@ impl Machine {
                     cells,
                 )?;
                 count_up(&mut self.seats, seat, seq);
-                Ok(())
+                Ok(at.spot)
             }
             What::Clear { table, sel } => {
                 clear(
@@ -190,24 +201,24 @@ impl Machine {
                     sel,
                 )?;
                 count_up(&mut self.seats, seat, seq);
-                Ok(())
+                Ok(None)
             }
             What::AddFilter(filter) => {
                 add_filter(self.alloc, &mut self.config.filters, filter)?;
                 count_up(&mut self.seats, seat, seq);
-                Ok(())
+                Ok(None)
             }
             What::Moment(moment) => {
                 let later = self.moment.max(*moment);
                 self.rows.end_rows(later)?;
                 self.moment = later;
                 count_up(&mut self.seats, seat, seq);
-                Ok(())
+                Ok(None)
             }
             What::Leave => {
                 stand_up(&mut self.seats, seat);
                 end_sessions(&mut self.sessions, seat);
-                Ok(())
+                Ok(None)
             }
         }
     }
