@@ -3,7 +3,7 @@
 //! Rows begin with `~` and a title, which fills the line; the configuration follows.
 #![tactic(auto)]
 
-use agg_config::LineFault;
+use agg_config::{LineCause, LineFault};
 use agg_types::{Col, Config, Filter, KeyKind, Rank, Shape};
 use line_words::{next_line, next_part};
 use std::alloc::Global;
@@ -32,9 +32,23 @@ fn print_row<W: Write>(alloc: Global, title: &[u8], text: &[u8], out: &mut W) ->
     out.write_all(b"== ")?;
     out.write_all(title)?;
     out.write_all(b": ")?;
-    match agg_config::read(alloc, text) {
+    match read(alloc, text) {
         Ok(config) => print_config(&config, out),
         Err(LineFault { line, cause }) => writeln!(out, "config line {line}: {cause}"),
+    }
+}
+
+// Reads a configuration, once more where a growth of memory was refused: so what is printed is the
+// same whichever growth is refused.
+fn read(alloc: Global, text: &[u8]) -> Result<Config, LineFault> {
+    match agg_config::read(alloc, text) {
+        Err(
+            LineFault {
+                line: _,
+                cause: LineCause::NoMemory,
+            },
+        ) => agg_config::read(alloc, text),
+        read => read,
     }
 }
 
