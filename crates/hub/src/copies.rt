@@ -5,16 +5,12 @@ ghost use Rattle.std.specs.Prelude.{◌≡◌};
 use crate::log::Front;
 use agg_types::Event;
 use atomic_table::{Join, Split};
-use book::Book;
+use book::{Book, Spot};
 use crossbeam_utils::rule::{Outcome, Protocol};
 use left_right::Absorb;
 use std::alloc::AllocError;
 use std::cell::Cell;
 use std::marker::Model;
-
-/// Where the first copy found what an event is about, for the second, which checks it.
-#[derive(Clone, Copy)]
-pub struct Hint(u32);
 
 /// A copy of the book, with the beginning of the history that it has taken.
 #[derive(Drop)]
@@ -45,7 +41,8 @@ impl Shown {
 pub struct Op {
     event: Event,
     at: Front,
-    hint: Cell<Option<Hint>>,
+    // Where the first copy found the rows of a Put's key, for the second, which looks there.
+    hint: Cell<Option<Spot>>,
 }
 
 impl Model for Op {
@@ -78,8 +75,9 @@ impl Absorb<Op> for Shown {
     ghost applied = { taken };
 
     fn absorb_first(&mut self, operation: &Op, _other: &Shown) -> Result<(), AllocError> {
-        match self.book.step(&operation.event) {
-            Ok(()) => {
+        match self.book.step_at(&operation.event, operation.hint.get()) {
+            Ok(spot) => {
+                operation.hint.set(spot);
                 self.at = operation.at.again();
                 Ok(())
             }
