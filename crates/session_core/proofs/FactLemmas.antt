@@ -9,8 +9,7 @@ use Rattle.peers_msg.specs.Message.{First, Unfinished, Faulty, Whole, Reading, f
 use Rattle.session_core.specs.declared.cause.Status.{Status}
 use Rattle.session_core.specs.declared.cause.Status.TheVariants.{LocalName}
 use Rattle.session_core.specs.declared.track.Followed.{Followed}
-use Rattle.session_core.specs.declared.track.Meaning.{Meaning}
-use Rattle.session_core.specs.declared.track.Meaning.TheVariants.{Nothing, Confirm, Partial, Fact, End}
+use Rattle.session_core.specs.Meaning.{Meaning, Nothing, Confirm, Partial, Fact, End}
 use Rattle.session_core.specs.Hello.{◌>>=◌, admitted, hello_of, line_at, peer_of, receiver_line, sender_line, sender_of, unless, version_fault}
 use Rattle.session_core.specs.HelloLines.{HasLine}
 use Rattle.session_core.specs.Piece.{Setup}

@@ -29,8 +29,7 @@ use Rattle.session_core.specs.declared.cause.SessionCause.TheVariants as causes
 use Rattle.session_core.specs.declared.cause.Status.{Status}
 use Rattle.session_core.specs.declared.cause.Status.TheVariants.{LocalName}
 use Rattle.session_core.specs.declared.stage.StageOutcome.{StageOutcome}
-use Rattle.session_core.specs.declared.track.Meaning.{Meaning}
-use Rattle.session_core.specs.declared.track.Meaning.TheVariants.{Nothing, Confirm, Partial, Fact, End}
+use Rattle.session_core.specs.Meaning.{Meaning, Nothing, Confirm, Partial, Fact, End}
 use Rattle.session_core.specs.declared.track.Followed.{Followed}
 use Rattle.session_core.specs.declared.values.Sent.{Sent}
 use Rattle.session_core.specs.declared.values.Sent.TheVariants.{Absent, Count, Rate}

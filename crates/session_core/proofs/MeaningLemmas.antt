@@ -12,8 +12,7 @@ use Rattle.agg_types.specs.declared.event.What.{What}
 use Rattle.session_core.specs.declared.cause.End.TheVariants.{Wire}
 use Rattle.session_core.specs.declared.track.Entry.{Entry}
 use Rattle.session_core.specs.declared.track.Followed.{Followed}
-use Rattle.session_core.specs.declared.track.Meaning.{Meaning}
-use Rattle.session_core.specs.declared.track.Meaning.TheVariants.{Nothing, Confirm, Partial, Fact, End}
+use Rattle.session_core.specs.Meaning.{Meaning, Nothing, Confirm, Partial, Fact, End}
 use Rattle.session_core.specs.InForce.{followed_ids, followed_under, id_given, id_in_force, is_under, is_updated, last_id, table_in_force, update_of_message, with_followed, with_id}
 use Rattle.session_core.specs.Talk.{current_for, entries_for, entry_for, meaning, row_or_end, track_for, update_under}
 use Rattle.session_core.specs.Tracked.{Step, Tracked, defined, entry_of, followed_of, step_of, id_after, place, place_if, place_of, put_of, updated_under, updated_if, updated_at, updated_by}

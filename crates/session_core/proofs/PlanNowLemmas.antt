@@ -1,5 +1,5 @@
 -- The plan of the table in force, where it is kept over an update.
-use Rattle.std.proofs.Common.{◌≡◌, ℕ, ◌<◌, List, length, Option, Some, None, get_or, get_or-set_same, refl, sym, ap, subst, ◌∙◌, arith}
+use Rattle.std.proofs.Common.{◌≡◌, ℕ, ◌<◌, List, length, Option, Some, None, true, false, get_or, get_or-set_same, refl, sym, ap, subst, ◌∙◌, arith}
 use Rattle.std.specs.Prelude.{slice_get, slice_set, IfSome}
 use Rattle.std.proofs.lemmas.List.{length-set}
 use Rattle.std.proofs.lemmas.Option.{slice_get_read}
@@ -8,8 +8,16 @@ use Rattle.session_core.specs.declared.plan.Plan.{Plan}
 use Rattle.session_core.specs.declared.track.Entry.{Entry}
 use Rattle.session_core.specs.declared.track.Followed.{Followed}
 use Rattle.session_core.specs.Plan.{IsPlanNow, IsPlanOf, followed_now}
-use Rattle.session_core.specs.Tracked.{Tracked, put_of, updated_by, updated_entry, updated_under}
+use Rattle.agg_types.specs.declared.event.What.{What}
+use Rattle.peers_msg.specs.declared.fault.WireCause.TheVariants.{BadField}
+use Rattle.session_core.specs.declared.cause.End.TheVariants.{Wire}
+use Rattle.session_core.specs.declared.track.Heard.TheVariants as heard
+use Rattle.session_core.specs.Meaning.{IsTold}
+use Rattle.session_core.specs.Tracked.{Tracked, IsStep, put_of, updated_by, updated_entry, updated_under}
 use Rattle.session_core.proofs.FitLemmas.{some_same}
+
+true_false : true ≡ false → ⊥
+true_false e = cc
 
 -- what is kept, from its parts
 abbrev pub track_of : List Entry → Option ℕ → Tracked
@@ -40,3 +48,12 @@ new_now inside current at new followed cur lt is =
     let len : length inside ≡ length (slice_set inside at new) = sym (length-set inside at new) in
     let get : slice_get (slice_set inside at new) at ≡ Some new = slice_get_read (slice_set inside at new) (length inside) at new len lt (sym (get_or-set_same inside at new new lt)) in
     rw (cur, get) is
+
+-- an update whose row was told, and one that can't be read
+pub told_step : (t : Tracked) (at : ℕ) (entry : Entry) (id : Option ℕ) (o : Option What) (old new : List What) (track : Tracked) → IsTold true old new o → track ≡ track_of (slice_set t.entries at (updated_entry entry id)) t.current → IsStep track heard.Nothing old new (updated_by t at entry id o)
+told_step t at entry id None old new track is same = elim (true_false is.0) [ ]
+told_step t at entry id (Some put) old new track is same = (same, (refl, is.1))
+
+pub cut_step : (t : Tracked) (at : ℕ) (entry : Entry) (id : Option ℕ) (o : Option What) (old new : List What) → IsTold false old new o → IsStep t (heard.End (Wire BadField)) old new (updated_by t at entry id o)
+cut_step t at entry id None old new is = (refl, (refl, is.1))
+cut_step t at entry id (Some put) old new is = elim (true_false (sym is.0)) [ ]

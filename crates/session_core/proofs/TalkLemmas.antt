@@ -6,8 +6,7 @@ use Rattle.agg_types.specs.declared.config.Shape.{Shape}
 use Rattle.agg_types.specs.declared.event.What.{What}
 use Rattle.session_core.specs.declared.cause.End.{End as Ending}
 use Rattle.session_core.specs.declared.track.Entry.{Entry}
-use Rattle.session_core.specs.declared.track.Meaning.{Meaning}
-use Rattle.session_core.specs.declared.track.Meaning.TheVariants.{Nothing, Confirm, Partial, Fact, End}
+use Rattle.session_core.specs.Meaning.{Meaning, Nothing, Confirm, Partial, Fact, End}
 use Rattle.session_core.specs.InForce.{followed_ids, id_in_force}
 use Rattle.session_core.specs.Run.{Run, ack_of, acks_of, behind, run, run_on, run_step, settled, settled_entry, resync_confirm, resync_partial}
 use Rattle.session_core.specs.Talk.{Words, acks_among, after_one, current_for, entries_for, entry_for, meaning, track_for, words_of, words_on}

@@ -2,6 +2,7 @@ pub mod Hello
 pub mod HelloLines
 pub mod Values
 pub mod Cause
+pub mod Meaning
 pub mod Tracked
 pub mod Plan
 pub mod Run

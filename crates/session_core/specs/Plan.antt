@@ -61,6 +61,11 @@ cell_from numbers sources.NoRate = cells.Rate 0 0 0
 cell_from numbers (sources.Count at wide) = count_in wide (drop at numbers)
 cell_from numbers (sources.Rate at) = rate_in (drop at numbers)
 
+-- whether all values are there, and then the cells
+abbrev pub AreCells : Bool → List Cell → Option (List Cell) → Type 0
+AreCells whole cells None = whole ≡ false
+AreCells whole cells (Some those) = (whole ≡ true) × (cells ≡ those)
+
 -- the plan has room for the integers of these data types, and knows where each column's are
 abbrev pub IsPlan : ℕ → List ℕ → List (Col × ℕ) → Plan → Type 0
 IsPlan bits periods cols plan =

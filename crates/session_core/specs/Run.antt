@@ -8,8 +8,7 @@ use Rattle.agg_types.specs.declared.config.Shape.{Shape}
 use Rattle.agg_types.specs.declared.event.What.{What}
 use Rattle.session_core.specs.declared.cause.End.{End as Ending}
 use Rattle.session_core.specs.declared.track.Entry.{Entry}
-use Rattle.session_core.specs.declared.track.Meaning.{Meaning}
-use Rattle.session_core.specs.declared.track.Meaning.TheVariants.{Nothing, Confirm, Partial, Fact, End}
+use Rattle.session_core.specs.Meaning.{Meaning, Nothing, Confirm, Partial, Fact, End}
 use Rattle.session_core.specs.Tracked.{Tracked, Step, step_of}
 
 -- what is kept after some messages, what they gave, and the end, if one of them showed it

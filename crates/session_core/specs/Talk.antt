@@ -18,8 +18,7 @@ use Rattle.session_core.specs.declared.stage.Stage.{Stage}
 use Rattle.session_core.specs.declared.stage.Stage.TheVariants.{Greeting, Talking, Over}
 use Rattle.session_core.specs.declared.track.Entry.{Entry}
 use Rattle.session_core.specs.declared.track.Followed.{Followed}
-use Rattle.session_core.specs.declared.track.Meaning.{Meaning}
-use Rattle.session_core.specs.declared.track.Meaning.TheVariants.{Nothing, Confirm, Partial, Fact, End}
+use Rattle.session_core.specs.Meaning.{Meaning, Nothing, Confirm, Partial, Fact, End}
 use Rattle.session_core.specs.Batched.{Batched}
 use Rattle.session_core.specs.Hello.{hello_of}
 use Rattle.session_core.specs.InForce.{followed_ids, followed_under, id_in_force, is_updated, last_id, table_in_force}

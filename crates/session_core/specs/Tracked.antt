@@ -16,8 +16,8 @@ use Rattle.agg_types.specs.declared.event.What.TheVariants.{Put}
 use Rattle.session_core.specs.declared.cause.End.TheVariants.{Wire, PeerError}
 use Rattle.session_core.specs.declared.track.Followed.{Followed}
 use Rattle.session_core.specs.declared.track.Entry.{Entry}
-use Rattle.session_core.specs.declared.track.Meaning.{Meaning}
-use Rattle.session_core.specs.declared.track.Meaning.TheVariants.{Nothing, Confirm, Partial, Fact, End}
+use Rattle.session_core.specs.Meaning.{Meaning, Nothing, Confirm, Partial, Fact, End, IsHeard}
+use Rattle.session_core.specs.declared.track.Heard.{Heard}
 use Rattle.session_core.specs.Values.{key_at, sents_at, periods_of, cells_of, life_of}
 
 -- the ids' entries, ascending by id, and the place of the one in force, if it is followed
@@ -175,6 +175,6 @@ step_of tables peer t (messages.Switch id) = switched t id
 step_of tables peer t (messages.Acked id last) = record { track = t; meaning = Nothing }
 step_of tables peer t (messages.Other class kind) = record { track = t; meaning = Nothing }
 
--- what was heard, and what is kept after it, are those of the step
-abbrev pub IsStep : Tracked → Meaning → Step → Type 0
-IsStep track heard step = (track ≡ step.track) × (heard ≡ step.meaning)
+-- what is kept, and what was heard and told, are those of the step
+abbrev pub IsStep : Tracked → Heard → List What → List What → Step → Type 0
+IsStep track heard old new step = (track ≡ step.track) × IsHeard heard old new step.meaning

@@ -1,8 +1,8 @@
 //! A plan that a session keeps from piece to piece, with what it was made of.
 
-ghost use Rattle.std.specs.Prelude.{◌≡◌, map, vec_len, IsTrue, IfOk, IfSome};
+ghost use Rattle.std.specs.Prelude.{◌≡◌, [], map, vec_len, IsTrue, IfOk, IfSome};
 ghost use Rattle.std.specs.Option.{option_map};
-ghost use Rattle.session_core.specs.Plan.{cell_from, numbers_at, IsPlan};
+ghost use Rattle.session_core.specs.Plan.{AreCells, cell_from, numbers_at, IsPlan};
 
 use crate::plan::Plan;
 use crate::track::Followed;
@@ -11,10 +11,15 @@ use agg_types::{Cells, Col, Items, NoMemory};
 use std::alloc::Global;
 use std::marker::Model;
 
-/// A plan, with the data types, the periods and the columns that it was made of. Contracts see the
-/// plan.
+/// A plan, with the data types, the periods and the columns that it was made of, in a block of their
+/// own, so that it is moved at little cost. Contracts see the plan.
 #[derive(Debug, Drop)]
 pub(crate) struct Kept {
+    made: Box<Made>,
+}
+
+#[derive(Debug, Drop)]
+struct Made {
     bits: u64,
     periods: [u64; TYPES],
     cols: Items<(Col, u32)>,
@@ -22,14 +27,23 @@ pub(crate) struct Kept {
 }
 
 impl Model for Kept {
+    ghost use Rattle.std.specs.Prelude.{box_value};
+    ghost use Rattle.session_core.specs.declared.plan.Plan.{Plan};
+
+    ghost Value = { Plan };
+
+    ghost view = { λ kept. box_value kept.made };
+}
+
+impl Model for Made {
     ghost use Rattle.session_core.specs.declared.plan.Plan.{Plan};
     ghost use Rattle.session_core.specs.Plan.{IsPlan};
 
     ghost Value = { Plan };
 
-    ghost view = { λ kept. kept.plan };
+    ghost view = { λ made. made.plan };
 
-    ghost invariant = { λ kept. IsPlan kept.bits kept.periods kept.cols kept.plan };
+    ghost invariant = { λ made. IsPlan made.bits made.periods made.cols made.plan };
 }
 
 impl Kept {
@@ -42,11 +56,14 @@ impl Kept {
     ) -> Result<Kept, NoMemory>
         ensures { IfOk result (IsPlan bits periods.now cols.now) }
     {
-        Ok(Kept {
+        let made = Made {
             bits,
             periods: *periods,
             cols: Items::copy(alloc, cols)?,
             plan: Plan::new(alloc, bits, periods, cols)?,
+        };
+        Ok(Kept {
+            made: Box::new(alloc, made)?,
         })
     }
 
@@ -54,21 +71,48 @@ impl Kept {
     pub(crate) fn is_of(&self, bits: u64, periods: &[u64; TYPES], cols: &[(Col, u32)]) -> bool
         ensures { IsTrue result → IsPlan bits periods.now cols.now self.now }
     {
+        self.made.is_of(bits, periods, cols)
+    }
+
+    /// Puts the cells of an update's values where there were none; false where one is cut or too
+    /// large.
+    #[inline]
+    pub(crate) fn read(
+        &mut self,
+        alloc: Global,
+        bytes: &[u8],
+        cells: &mut Cells,
+    ) -> Result<bool, NoMemory>
+        requires { cells.old ≡ [] }
+        ensures cells { IfOk result (λ whole. AreCells whole cells.new
+            (option_map (λ numbers. map (cell_from numbers) self.old.sources.items)
+            (numbers_at (vec_len self.old.numbers) bytes.now))) }
+        ensures width { vec_len self.new.numbers ≡ vec_len self.old.numbers }
+        ensures sources { self.new.sources ≡ self.old.sources }
+    {
+        self.made.read(alloc, bytes, cells)
+    }
+}
+
+impl Made {
+    fn is_of(&self, bits: u64, periods: &[u64; TYPES], cols: &[(Col, u32)]) -> bool
+        ensures { IsTrue result → IsPlan bits periods.now cols.now self.now }
+    {
         self.bits == bits
             && same_periods(&self.periods, periods)
             && same_cols(self.cols.as_slice(), cols)
     }
 
-    /// The cells of an update's values; `None` where one is cut or too large.
     #[inline]
-    pub(crate) fn cells(&mut self, alloc: Global, bytes: &[u8]) -> Result<Option<Cells>, NoMemory>
-        ensures cells { IfOk result (λ cells. cells
-            ≡ option_map (λ numbers. map (cell_from numbers) self.old.sources.items)
-            (numbers_at (vec_len self.old.numbers) bytes.now)) }
+    fn read(&mut self, alloc: Global, bytes: &[u8], cells: &mut Cells) -> Result<bool, NoMemory>
+        requires { cells.old ≡ [] }
+        ensures cells { IfOk result (λ whole. AreCells whole cells.new
+            (option_map (λ numbers. map (cell_from numbers) self.old.sources.items)
+            (numbers_at (vec_len self.old.numbers) bytes.now))) }
         ensures width { vec_len self.new.numbers ≡ vec_len self.old.numbers }
         ensures sources { self.new.sources ≡ self.old.sources }
     {
-        self.plan.cells(alloc, bytes)
+        self.plan.read(alloc, bytes, cells)
     }
 }
 

@@ -1,10 +1,10 @@
 //! How the values of a table's updates are read: the integers one after the other, and from them
 //! the cells of the configured columns.
 
-ghost use Rattle.std.specs.Prelude.{◌≡◌, ◌<◌, ◌≤◌, ◌*◌, length, drop, map, vec_len, IfOk, OnOk};
+ghost use Rattle.std.specs.Prelude.{◌≡◌, ◌<◌, ◌≤◌, ◌*◌, [], length, drop, map, vec_len, IfOk, OnOk};
 ghost use Rattle.std.specs.Option.{option_map};
 ghost use Rattle.session_core.specs.Values.{types};
-ghost use Rattle.session_core.specs.Plan.{width_of, widths, numbers_at, source_of, count_in, rate_in, cell_from, IsPlan};
+ghost use Rattle.session_core.specs.Plan.{width_of, widths, numbers_at, source_of, count_in, rate_in, cell_from, AreCells, IsPlan};
 
 use crate::values::{TYPES, elapsed_of, has_type, is_rate_type, low_word, number_at};
 use agg_types::{Cell, Cells, Col, NoMemory};
@@ -110,37 +110,47 @@ impl Plan {
         })
     }
 
-    /// The cells of an update's values; `None` where one is cut or too large.
-    pub(crate) fn cells(&mut self, alloc: Global, bytes: &[u8]) -> Result<Option<Cells>, NoMemory>
-        ensures cells { IfOk result (λ cells. cells
-            ≡ option_map (λ numbers. map (cell_from numbers) self.old.sources.items)
-            (numbers_at (vec_len self.old.numbers) bytes.now)) }
+    /// Puts the cells of an update's values where there were none; false where one is cut or too
+    /// large.
+    #[inline]
+    pub(crate) fn read(
+        &mut self,
+        alloc: Global,
+        bytes: &[u8],
+        cells: &mut Cells,
+    ) -> Result<bool, NoMemory>
+        requires { cells.old ≡ [] }
+        ensures cells { IfOk result (λ whole. AreCells whole cells.new
+            (option_map (λ numbers. map (cell_from numbers) self.old.sources.items)
+            (numbers_at (vec_len self.old.numbers) bytes.now))) }
         ensures width { vec_len self.new.numbers ≡ vec_len self.old.numbers }
         ensures sources { self.new.sources ≡ self.old.sources }
     {
         if read_numbers(bytes, &mut self.numbers).is_none() {
-            return Ok(None);
+            return Ok(false);
         }
         let numbers = self.numbers.as_slice();
         let sources = self.sources.as_slice();
         if sources.len() <= FEW {
-            return Ok(Some(few_cells(alloc, numbers, sources)?));
+            put_cells(cells, numbers, sources)?;
+        } else {
+            fill(&mut self.cells, numbers, sources)?;
+            *cells = Cells::copy(alloc, self.cells.as_slice())?;
         }
-        fill(&mut self.cells, numbers, sources)?;
-        Ok(Some(Cells::copy(alloc, self.cells.as_slice())?))
+        Ok(true)
     }
 }
 
-/// The cells of up to four columns, which need no block.
+/// Puts the cells of up to four columns, which need no block, where there were none.
 #[inline]
-fn few_cells(alloc: Global, numbers: &[u64], sources: &[Source]) -> Result<Cells, NoMemory>
-    ensures { IfOk result (λ cells. cells ≡ map (cell_from numbers.now) sources.now) }
+fn put_cells(cells: &mut Cells, numbers: &[u64], sources: &[Source]) -> Result<(), NoMemory>
+    requires { cells.old ≡ [] }
+    ensures { OnOk result (cells.new ≡ map (cell_from numbers.now) sources.now) }
 {
-    let mut cells = Cells::new(alloc);
     for source in sources {
         cells.push(cell_from(numbers, *source))?;
     }
-    Ok(cells)
+    Ok(())
 }
 
 /// Puts the cells of all columns in place of what was there.

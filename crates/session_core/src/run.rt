@@ -5,7 +5,7 @@ ghost use Rattle.session_core.specs.Tracked.{Tracked};
 ghost use Rattle.session_core.specs.Run.{Ran, run, ack_of, acks_of, settled};
 
 use crate::cause::End;
-use crate::track::{Entry, Meaning, Track};
+use crate::track::{Entry, Heard, Track};
 use agg_types::{NoMemory, Shape, What};
 use peers_msg::{Message, write_message};
 use std::alloc::Global;
@@ -28,12 +28,11 @@ pub(crate) fn run(
     // The plan of the table in force, if one was made.
     let mut plan = track.plan_now(tables);
     for message in messages {
-        match track.step(alloc, tables, peer, &mut plan, message)? {
-            Meaning::Nothing => {}
-            Meaning::Confirm => write_message(&Message::Confirm, replies)?,
-            Meaning::Partial => write_message(&Message::Partial, replies)?,
-            Meaning::Fact(fact) => facts.push(fact)?,
-            Meaning::End(cause) => return Ok(Some(cause)),
+        match track.step(alloc, tables, peer, &mut plan, message, facts)? {
+            Heard::Nothing => {}
+            Heard::Confirm => write_message(&Message::Confirm, replies)?,
+            Heard::Partial => write_message(&Message::Partial, replies)?,
+            Heard::End(cause) => return Ok(Some(cause)),
         }
     }
     track.keep(plan);

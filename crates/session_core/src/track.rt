@@ -1,9 +1,11 @@
 //! What a session keeps of its sender's tables, and what a message does to it.
 
-ghost use Rattle.std.specs.Prelude.{◌≡◌, ◌≤◌, [], length, position, IfOk, IfSome, OnOk, true};
+ghost use Rattle.std.specs.Prelude.{◌≡◌, ◌≤◌, List, [], length, position, IfOk, IfSome, OnOk, true};
 ghost use Rattle.std.specs.Str.{bytes_eq};
 ghost use Rattle.std.specs.Option.{option_map};
-ghost use Rattle.session_core.specs.Plan.{IsPlan, IsPlanOf, IsPlanNow, followed_now};
+ghost use Rattle.agg_types.specs.declared.event.What.{What};
+ghost use Rattle.session_core.specs.Meaning.{IsTold};
+ghost use Rattle.session_core.specs.Plan.{AreCells, IsPlan, IsPlanOf, IsPlanNow, followed_now};
 ghost use Rattle.session_core.specs.Run.{settled};
 ghost use Rattle.session_core.specs.Values.{cells_of, sents_at};
 ghost use Rattle.session_core.specs.Tracked.{is_key_of, followed_at, followed_of, put_of, id_after, place, entry_of, IsStep, defined, switched, updated_under, step_of};
@@ -48,16 +50,14 @@ pub(crate) struct Entry {
     pub(crate) followed: Option<Followed>,
 }
 
-/// What a message means for the session.
-#[derive(Debug, Drop)]
-pub(crate) enum Meaning {
+/// What a message wants of the session, beside a fact that it may add to the facts.
+#[derive(Clone, Copy, Debug)]
+pub(crate) enum Heard {
     Nothing,
     /// The end of a resync is to be confirmed.
     Confirm,
     /// A resync is to be answered as partial.
     Partial,
-    /// Something for the fleet.
-    Fact(What),
     /// The session ends here.
     End(End),
 }
@@ -123,10 +123,11 @@ fn table_named(tables: &[Shape], name: &[u8]) -> Option<usize>
     tables.iter().position(|shape| shape.name.is(name))
 }
 
-/// The row that an update gives; `None` where its key or a value is cut or too large. It is read
-/// along the plan of its table, which is made where there is none.
+/// Adds the row that an update gives to the facts; false where its key or a value is cut or too
+/// large. It is read along the plan of its table, which is made where there is none.
+#[inline]
 #[tactic(auto, unfolding(crate::specs::Tracked::put_of))]
-fn put_of(
+fn tell_put(
     alloc: Global,
     tables: &[Shape],
     peer: usize,
@@ -134,51 +135,65 @@ fn put_of(
     plan: &mut Option<Kept>,
     life: Option<u32>,
     bytes: &[u8],
-) -> Result<Option<What>, NoMemory>
+    facts: &mut Vec<What>,
+) -> Result<bool, NoMemory>
     requires { IfSome plan.old (IsPlanOf tables.now followed.now) }
-    ensures put { IfOk result (λ put. put ≡ put_of tables.now peer followed.now life bytes.now) }
+    ensures put { IfOk result (λ told. IsTold told facts.old.items facts.new.items
+        (put_of tables.now peer followed.now life bytes.now)) }
     ensures planned { OnOk result (IfSome plan.new (IsPlanOf tables.now followed.now)) }
 {
     let Some(shape) = tables.get(followed.table) else {
-        return Ok(None);
+        return Ok(false);
     };
     let Some((key, values)) = key_at(shape.kind, bytes) else {
-        return Ok(None);
+        return Ok(false);
     };
-    let Some(cells) = planned_cells(alloc, followed, shape.cols.as_slice(), plan, values)? else {
-        return Ok(None);
-    };
-    Ok(Some(What::Put {
+    let mut cells = Cells::new(alloc);
+    if !planned_cells(
+        alloc,
+        followed,
+        shape.cols.as_slice(),
+        plan,
+        values,
+        &mut cells,
+    )? {
+        return Ok(false);
+    }
+    facts.push(What::Put {
         peer,
         table: followed.table,
         key: Key::copy(alloc, key)?,
         life: life_of(followed.expiry, life),
         cells,
-    }))
+    })?;
+    Ok(true)
 }
 
-/// The cells of an update's values, read along the plan.
+/// Puts the cells of an update's values, read along the plan, where there were none.
+#[inline]
 fn planned_cells(
     alloc: Global,
     followed: &Followed,
     cols: &[(Col, u32)],
     plan: &mut Option<Kept>,
     values: &[u8],
-) -> Result<Option<Cells>, NoMemory>
-    requires { IfSome plan.old (IsPlan followed.now.bits followed.now.periods cols.now) }
-    ensures cells { IfOk result (λ cells. cells
-        ≡ option_map (λ sents. cells_of sents followed.now.periods cols.now)
-        (sents_at followed.now.bits values.now)) }
+    cells: &mut Cells,
+) -> Result<bool, NoMemory>
+    requires plan { IfSome plan.old (IsPlan followed.now.bits followed.now.periods cols.now) }
+    requires none { cells.old ≡ [] }
+    ensures cells { IfOk result (λ whole. AreCells whole cells.new
+        (option_map (λ sents. cells_of sents followed.now.periods cols.now)
+        (sents_at followed.now.bits values.now))) }
     ensures planned { OnOk result
         (IfSome plan.new (IsPlan followed.now.bits followed.now.periods cols.now)) }
 {
     if let Some(plan) = plan {
-        return plan.cells(alloc, values);
+        return plan.read(alloc, values, cells);
     }
     let mut made = Kept::new(alloc, followed.bits, &followed.periods, cols)?;
-    let cells = made.cells(alloc, values)?;
+    let whole = made.read(alloc, values, cells)?;
     *plan = Some(made);
-    Ok(cells)
+    Ok(whole)
 }
 
 fn id_after(last: u32, id: Option<u32>) -> u32
@@ -290,8 +305,8 @@ impl Track {
         settle(&mut self.entries);
     }
 
-    /// What a message does, with the plan of the table in force, where one was made. Nothing is said
-    /// of what is kept after `NoMemory`.
+    /// What a message does, with the plan of the table in force, where one was made. A fact is added
+    /// to the facts. Nothing is said of what is kept after `NoMemory`.
     #[tactic(auto, unfolding(crate::specs::Tracked::step_of))]
     pub(crate) fn step(
         &mut self,
@@ -300,39 +315,49 @@ impl Track {
         peer: usize,
         plan: &mut Option<Kept>,
         message: &Message,
-    ) -> Result<Meaning, NoMemory>
+        facts: &mut Vec<What>,
+    ) -> Result<Heard, NoMemory>
         requires { IfSome plan.old (IsPlanNow tables.now self.old) }
-        ensures step { IfOk result (λ meaning. IsStep self.new meaning
+        ensures step { IfOk result (λ heard. IsStep self.new heard facts.old.items facts.new.items
             (step_of tables.now peer self.old message.now)) }
         ensures planned { OnOk result (IfSome plan.new (IsPlanNow tables.now self.new)) }
     {
         match message {
-            Message::Request => Ok(Meaning::Partial),
-            Message::Finished | Message::Partial => Ok(Meaning::Confirm),
-            Message::ProtocolError | Message::SizeError => Ok(Meaning::End(End::PeerError)),
+            Message::Request => Ok(Heard::Partial),
+            Message::Finished | Message::Partial => Ok(Heard::Confirm),
+            Message::ProtocolError | Message::SizeError => Ok(Heard::End(End::PeerError)),
             Message::Update { id, life, rest } => {
-                self.update(alloc, tables, peer, plan, *id, *life, rest.as_slice())
+                self.update(
+                    alloc,
+                    tables,
+                    peer,
+                    plan,
+                    *id,
+                    *life,
+                    rest.as_slice(),
+                    facts,
+                )
             }
             Message::Define(definition) => {
                 self.keep(plan.take());
-                let meaning = self.define(definition.id, followed_of(tables, definition))?;
+                let heard = self.define(definition.id, followed_of(tables, definition))?;
                 *plan = self.plan_now(tables);
-                Ok(meaning)
+                Ok(heard)
             }
             Message::Switch(id) => {
                 self.keep(plan.take());
-                let meaning = self.switch(*id);
+                self.switch(*id);
                 *plan = self.plan_now(tables);
-                Ok(meaning)
+                Ok(Heard::Nothing)
             }
             Message::Confirm | Message::Heartbeat | Message::Acked { .. } | Message::Other { .. } =>
-                Ok(Meaning::Nothing),
+                Ok(Heard::Nothing),
         }
     }
 
     /// An id gets a definition, and is in force.
-    fn define(&mut self, id: u64, followed: Option<Followed>) -> Result<Meaning, NoMemory>
-        ensures { IfOk result (λ meaning. IsStep self.new meaning
+    fn define(&mut self, id: u64, followed: Option<Followed>) -> Result<Heard, NoMemory>
+        ensures { IfOk result (λ heard. (facts : List What) → IsStep self.new heard facts facts
             (defined self.old id followed (entry_of id self.old.entries))) }
     {
         let at = place(self.entries.as_slice(), id);
@@ -344,10 +369,10 @@ impl Track {
             None => {
                 if followed.is_none() {
                     self.current = None;
-                    return Ok(Meaning::Nothing);
+                    return Ok(Heard::Nothing);
                 }
                 if self.entries.len() >= MOST_FOLLOWED {
-                    return Ok(Meaning::End(End::Wire(WireCause::BadField)));
+                    return Ok(Heard::End(End::Wire(WireCause::BadField)));
                 }
                 let entry = Entry {
                     id,
@@ -359,12 +384,12 @@ impl Track {
                 self.current = Some(at);
             }
         }
-        Ok(Meaning::Nothing)
+        Ok(Heard::Nothing)
     }
 
     /// An id is in force, with its last definition.
-    fn switch(&mut self, id: u64) -> Meaning
-        ensures { IsStep self.new result (switched self.old id) }
+    fn switch(&mut self, id: u64)
+        ensures { self.new ≡ (switched self.old id).track }
     {
         self.current = match entry_of(self.entries.as_slice(), id) {
             Some(
@@ -375,10 +400,10 @@ impl Track {
             ) => Some(place(self.entries.as_slice(), id)),
             _ => None,
         };
-        Meaning::Nothing
     }
 
     /// An update under the id in force.
+    #[inline]
     fn update(
         &mut self,
         alloc: Global,
@@ -388,26 +413,27 @@ impl Track {
         id: Option<u32>,
         life: Option<u32>,
         bytes: &[u8],
-    ) -> Result<Meaning, NoMemory>
+        facts: &mut Vec<What>,
+    ) -> Result<Heard, NoMemory>
         requires { IfSome plan.old (IsPlanNow tables.now self.old) }
-        ensures step { IfOk result (λ meaning. IsStep self.new meaning
+        ensures step { IfOk result (λ heard. IsStep self.new heard facts.old.items facts.new.items
             (updated_under tables.now peer self.old self.old.current id life bytes.now)) }
         ensures planned { OnOk result (IfSome plan.new (IsPlanNow tables.now self.new)) }
     {
         let Some(at) = self.current else {
-            return Ok(Meaning::Nothing);
+            return Ok(Heard::Nothing);
         };
         let Some(entry) = self.entries.get(at) else {
-            return Ok(Meaning::Nothing);
+            return Ok(Heard::Nothing);
         };
         let Some(followed) = &entry.followed else {
-            return Ok(Meaning::Nothing);
+            return Ok(Heard::Nothing);
         };
-        let Some(put) = put_of(alloc, tables, peer, followed, plan, life, bytes)? else {
-            return Ok(Meaning::End(End::Wire(WireCause::BadField)));
-        };
+        if !tell_put(alloc, tables, peer, followed, plan, life, bytes, facts)? {
+            return Ok(Heard::End(End::Wire(WireCause::BadField)));
+        }
         note_update(&mut self.entries[at], id);
-        Ok(Meaning::Fact(put))
+        Ok(Heard::Nothing)
     }
 }
 
