@@ -37,7 +37,7 @@ impl Held {
     /// Puts a row, at the spot that a hint says or by a search.
     fn put(&mut self, hint: Option<Spot>, key: Key, now: u32) -> Result<(), NoMemory> {
         let row = row(self.alloc, now, u64::from(now))?;
-        self.rows.put_at(hint, 0, 0, key, row)?;
+        self.rows.put_at(hint, 0, 0, &key, row)?;
         Ok(())
     }
 

@@ -1,16 +1,17 @@
 -- What is planned for a place goes, and the plans of other rows stay.
-use Rattle.std.proofs.Common.{◌≡◌, ℕ, ◌+◌, ◌≤◌, ◌==◌, nat_le, Bool, true, false, cond, not, ◌&&◌, ◌||◌, List, [], ◌∷◌, ◌++◌, Option, None, Some, refl, sym, ap, ◌∙◌, arith}
-use Rattle.std.specs.Prelude.{IfSome, IsSome, filter}
+use Rattle.std.proofs.Common.{◌≡◌, ℕ, ◌+◌, ◌≤◌, ◌==◌, nat_le, Bool, true, false, cond, not, ◌&&◌, ◌||◌, List, [], ◌∷◌, ◌++◌, Option, None, Some, refl, sym, ap, subst, ◌∙◌, arith}
+use Rattle.std.specs.Prelude.{IfNone, IfSome, IsSome, filter, map}
 use Rattle.std.specs.BTreeMap.{insert_entry, is_at}
 use Rattle.std.specs.List.{AllByRecursion, list_any}
 use Rattle.std.specs.List.Sorted.{IsStrictlySortedBy}
 use Rattle.std.specs.Map.{keys_of, lookup, remove_entry}
-use Rattle.std.specs.Option.{option_map}
+use Rattle.std.specs.Option.{is_some, option_map}
 use Rattle.std.specs.Ordering.{is_eq, match_ordering, nat_cmp}
 use Rattle.std.specs.Set.{remove_key}
 use Rattle.std.specs.declared.cmp.Ordering.{Ordering}
 use Rattle.std.specs.declared.cmp.Ordering.TheVariants.{Less, Equal, Greater}
 use Rattle.std.proofs.lemmas.Bool.Decides.{nat_tests}
+use Rattle.std.proofs.lemmas.Cmp.{nat_list_cmp_total}
 use Rattle.agg_types.specs.Place.{place_cmp}
 use Rattle.agg_types.specs.declared.place.Place.{Place}
 use Rattle.expiry_wheel.specs.Entries.{entry_cmp, with_entry, without_entry}
@@ -235,3 +236,32 @@ pub kept_stays : (peers tables : ℕ) (rows new : RowMap) (items : List Plan) (p
     → IfSome before (EndsBy rows.entries place) → Stays before end → end ≡ option_map (λ life. row.arrived + life) (as_arrival row).life → AreKept peers tables rows items → AreKept peers tables new items
 kept_stays peers tables rows new items place row before end are inside is ordered ends stays at kept =
     kept_replaced peers tables rows new items items place row are inside is ordered (λ e apart was. was) (stays_seen items rows.entries place row before end ends stays at kept.planned) kept.planned
+
+-- ---- a key without rows
+own_key : (place : Place) → of_table_key place.table place.key place ≡ true
+own_key place =
+    let tables : (place.table == place.table) ≡ true = grind (arith, nat_tests) in
+    rw (tables, equal_itself nat_list_cmp_total place.key) refl
+
+-- no place of such a key is taken
+pub none_there : (place : Place) (es : List Entry) → map {B = ℕ × Row} (λ (e : Entry). (e.0.peer, e.1)) (filter (λ e. of_table_key place.table place.key e.0) es) ≡ [] → lookup (is_at (place_cmp place)) es ≡ None
+none_there place [] none = refl
+none_there place (e ∷ es) none = by (of_table_key place.table place.key e.0) refl none (none_there place es)
+  where
+    at : (b : Bool) → same_place place e.0 ≡ b → of_table_key place.table place.key e.0 ≡ false → lookup (is_at (place_cmp place)) es ≡ None → cond b (Some e.1) (lookup (is_at (place_cmp place)) es) ≡ None
+    at true is off more =
+        let same : place ≡ e.0 = same_place_is place e.0 is in
+        let own : of_table_key place.table place.key e.0 ≡ true = subst (λ (p : Place). of_table_key place.table place.key p ≡ true) same (own_key place) in
+        let never : true ≡ false = sym own ∙ off in
+        cc
+    at false is off more = more
+
+    by : (b : Bool) → of_table_key place.table place.key e.0 ≡ b → map {B = ℕ × Row} (λ (f : Entry). (f.0.peer, f.1)) (cond b (e ∷ filter (λ f. of_table_key place.table place.key f.0) es) (filter (λ f. of_table_key place.table place.key f.0) es)) ≡ []
+        → (map {B = ℕ × Row} (λ (f : Entry). (f.0.peer, f.1)) (filter (λ f. of_table_key place.table place.key f.0) es) ≡ [] → lookup (is_at (place_cmp place)) es ≡ None) → cond (same_place place e.0) (Some e.1) (lookup (is_at (place_cmp place)) es) ≡ None
+    by true is none more = cc
+    by false is none more = at (same_place place e.0) refl is (more none)
+
+-- what holds where there is nothing, of nothing
+pub where_none : {A : Type 0} {P : Type 0} (o : Option A) → is_some o ≡ false → IfNone o P → P
+where_none None is holds = holds
+where_none (Some x) is holds = cc

@@ -1,10 +1,12 @@
 -- What the rows of a book stand for.
-use Rattle.std.specs.Prelude.{◌≡◌, ℕ, ◌^◌, ◌≤◌, ◌==◌, List, [], Option, None, Some, filter, length, map}
+use Rattle.std.specs.Prelude.{◌≡◌, ℕ, ◌^◌, ◌≤◌, ◌==◌, List, [], Option, None, Some, IfNone, filter, length, map}
 use Rattle.std.specs.List.{dedup}
+use Rattle.fleet_model.specs.Keys.{key_rows}
 use Rattle.fleet_model.specs.Values.{same_key}
 use Rattle.peer_rows.specs.Table.{Spot}
 use Rattle.peer_rows.specs.declared.row.Row.{Row}
 use Rattle.book.specs.Shown.{of_spot}
+use Rattle.book.specs.declared.at.At.{At}
 use Rattle.agg_types.specs.declared.config.Config.{Config}
 use Rattle.agg_types.specs.declared.column.Col.{Col}
 use Rattle.agg_types.specs.declared.event.Cell.{Cell}
@@ -28,6 +30,10 @@ pub record AreKept (peers tables : ℕ) (rows : RowMap) (items : List (ℕ × Pl
 -- a row as it arrives
 abbrev pub put_arrival : ℕ → Option ℕ → List (Col × ℕ) → List Cell → Arrival
 put_arrival t life cols cells = record { arrived = t; life = life; cells = kept_cells cols cells }
+
+-- a key without a spot has no row
+abbrev pub IsFound : List (Place × Arrival) → At → Type 0
+IsFound rows at = IfNone at.spot (key_rows rows at.table at.key.now ≡ [])
 
 -- rows of a configuration's peers and tables, at a moment that is small
 pub record HasSizes (config : Config) (moment : ℕ) (rows : InForce) : Type 0 where

@@ -13,7 +13,7 @@ ghost use Rattle.fleet_model.specs.Seats.{is_number};
 ghost use Rattle.fleet_model.specs.Values.{cols_of, selects};
 ghost use Rattle.book.specs.Due.{FitsPlace, IsDue};
 ghost use Rattle.book.specs.Planned.{IsInside, IsShort, place_at};
-ghost use Rattle.book.specs.Store.{row_keys};
+ghost use Rattle.book.specs.Store.{IsFound, row_keys};
 
 use crate::at::At;
 use crate::clears::{clear_table, clear_where};
@@ -173,10 +173,7 @@ impl Machine {
                     table: *table,
                     key,
                     peer: *peer,
-                    spot: match hint {
-                        Some(_) => hint,
-                        None => self.rows.spot_of(*table, key),
-                    },
+                    spot: self.rows.spot_at(hint, *table, key),
                 };
                 put(
                     &mut self.rows,
@@ -281,6 +278,7 @@ fn put(
 ) -> Result<(), NoMemory>
     requires in_range { t ≤ 2 ^ 62 }
     requires inside { IsInside rows.old.peers rows.old.tables (place_at at) }
+    requires found { IsFound rows.old.rows at }
     requires short { IsShort life }
     ensures ok { OnOk result (rows.new ≡ record rows.old {
       rows = if is_number session seat && has_room tables.now rows.old.rows (place_at at.entry)

@@ -3,10 +3,10 @@
 //! A row that ends has one item in the index: at its end, or at the end of one that stood there
 //! before it and ended no later. That item goes with the row, and where an end moves earlier.
 
-ghost use Rattle.std.specs.Prelude.{◌≡◌, ◌<◌, ◌≤◌, ◌^◌, ◌++◌, ℕ, ◌+◌, List, true, false, map, IsSome, IfSome, IfOk, OnOk, OnErr};
+ghost use Rattle.std.specs.Prelude.{◌≡◌, ◌<◌, ◌≤◌, ◌^◌, ◌++◌, ℕ, ◌+◌, List, true, false, map, IsOk, IsSome, IfSome, IfOk, OnOk, OnErr};
 ghost use Rattle.std.specs.Option.{option_map};
 ghost use Rattle.std.specs.BTreeMap.{insert_entry, is_at};
-ghost use Rattle.std.specs.Map.{remove_entry};
+ghost use Rattle.std.specs.Map.{lookup, remove_entry};
 ghost use Rattle.agg_types.specs.Place.{place_cmp};
 ghost use Rattle.agg_types.specs.declared.place.Place.{Place};
 ghost use Rattle.fleet_model.specs.Kept.{kept_cell, kept_cells};
@@ -14,7 +14,7 @@ ghost use Rattle.fleet_model.specs.Machine.{with_row};
 ghost use Rattle.peer_rows.specs.declared.row.Row.{Row};
 ghost use Rattle.fleet_model.specs.Values.{same_place};
 ghost use Rattle.peer_rows.specs.Rows.{AreInOrder, of_table_key, without_key};
-ghost use Rattle.book.specs.Planned.{AreRows, EndsBy, HasPlan, IsInside, IsShort, Stays, is_planned, place_at};
+ghost use Rattle.book.specs.Planned.{AreRows, EndsBy, HasPlan, IsFoundIn, IsInside, IsShort, Stays, is_planned, place_at};
 ghost use Rattle.book.specs.Shown.{arrivals, as_arrival, cell_of};
 ghost use Rattle.book.specs.Store.{AreKept, put_arrival};
 
@@ -111,13 +111,14 @@ fn planned_of(plan: Option<Plan>) -> Option<u64> {
     Some(plan?.planned)
 }
 
-// The plan of the row at a place, if there is one that ends.
+// The plan of the row at a place, if there is one that ends. A key without a spot has no row.
 fn plan_at(rows: &Rows, size: Size, at: At<'_>, t: u64) -> Option<Plan>
     requires rows { AreRows size.peers size.tables rows.now }
     requires inside { IsInside size.peers size.tables (place_at at) }
     ensures { IfSome result (λ plan. EndsBy rows.now.entries (place_at at.entry) plan.end) }
 {
-    plan_of(rows.get_at(at.spot, at.peer, at.table, at.key)?, t)
+    let spot = at.spot?;
+    plan_of(rows.get_at(Some(spot), at.peer, at.table, at.key)?, t)
 }
 
 // The moment that stays planned where a row takes the place of another, or none where something is
@@ -176,17 +177,22 @@ fn forget(due: &mut Wheel<Place>, place: &Place, planned: Option<u64>, end: Opti
     }
 }
 
-// Puts a row whose plan stays as it is.
-fn put_row(alloc: Global, rows: &mut Rows, size: Size, at: At<'_>, row: Row) -> Result<(), NoMemory>
+// Puts a row at a place, by at most one search.
+fn put_row(rows: &mut Rows, size: Size, at: At<'_>, row: Row) -> Result<(), NoMemory>
     requires rows { AreRows size.peers size.tables rows.old }
     requires inside { IsInside size.peers size.tables (place_at at) }
+    requires found { IsFoundIn rows.old at }
     ensures ok { OnOk result (rows.new ≡ record rows.old
         { entries = insert_entry place_cmp rows.old.entries (place_at at.entry) row }) }
     ensures err { OnErr result (rows.new ≡ rows.old) }
+    ensures held { IsSome (lookup (is_at (place_cmp (place_at at.entry))) rows.old.entries)
+        → IsOk result }
     ensures ordered { AreInOrder rows.new.entries }
 {
-    let key = at.key.duplicate(alloc)?;
-    rows.put_at(at.spot, at.peer, at.table, key, row)?;
+    if at.spot.is_none() {
+        return rows.insert(at.peer, at.table, at.key, row);
+    }
+    rows.put_at(at.spot, at.peer, at.table, at.key, row)?;
     Ok(())
 }
 
@@ -202,6 +208,7 @@ fn plan_row(
 ) -> Result<(), NoMemory>
     requires rows { AreRows size.peers size.tables rows.old }
     requires inside { IsInside size.peers size.tables (place_at at) }
+    requires found { IsFoundIn rows.old at }
     ensures ok { OnOk result (arrivals rows.new.entries
         ≡ insert_entry place_cmp (arrivals rows.old.entries) (place_at at.entry) (as_arrival row)) }
     ensures err { OnErr result (rows.new ≡ rows.old) }
@@ -211,9 +218,8 @@ fn plan_row(
 {
     let end = end_of(&row);
     let place = at.place(alloc)?;
-    let key = at.key.duplicate(alloc)?;
     plan_end(alloc, due, &place, end)?;
-    if let Err(refused) = rows.put_at(at.spot, at.peer, at.table, key, row) {
+    if let Err(refused) = put_row(rows, size, at, row) {
         forget(due, &place, end, None);
         return Err(refused);
     }
@@ -234,6 +240,7 @@ pub fn set_row(
 ) -> Result<(), NoMemory>
     requires rows { AreRows size.peers size.tables rows.old }
     requires inside { IsInside size.peers size.tables (place_at at) }
+    requires found { IsFoundIn rows.old at }
     ensures ok { OnOk result (arrivals rows.new.entries
         ≡ insert_entry place_cmp (arrivals rows.old.entries) (place_at at.entry) (as_arrival row)) }
     ensures err { OnErr result (rows.new ≡ rows.old) }
@@ -245,7 +252,7 @@ pub fn set_row(
     match stays(before, end_of(&row)) {
         None => plan_row(alloc, rows, size, due, at, planned_of(before), row),
         Some(planned) => {
-            put_row(alloc, rows, size, at, Row { planned, ..row })?;
+            put_row(rows, size, at, Row { planned, ..row })?;
             Ok(())
         }
     }

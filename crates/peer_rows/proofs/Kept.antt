@@ -1,7 +1,7 @@
 -- What a table keeps beside its rows, as they change: each peer's number of rows.
 use Rattle.std.proofs.Common.{◌≡◌, ◌≢◌, ℕ, zero, suc, ◌+◌, ◌-◌, ◌<◌, ◌≤◌, Bool, true, false, cond, ◌&&◌, List, [], ◌∷◌, length, refl, sym, ◌∙◌, ap, subst, arith, get_or, set, get_or-set_same, get_or-set_other, ⊎_elim}
 use Rattle.std.specs.Option.{is_some}
-use Rattle.std.specs.Prelude.{Option, Some, None, not, filter, map, sum_by, ◌==◌}
+use Rattle.std.specs.Prelude.{Option, Some, None, IfNone, not, filter, map, sum_by, ◌==◌}
 use Rattle.std.specs.declared.cmp.Ordering.{Ordering}
 use Rattle.std.specs.declared.cmp.Ordering.TheVariants.{Less, Equal, Greater}
 use Rattle.std.specs.Ordering.{is_eq, nat_cmp, ordering_then}
@@ -21,7 +21,7 @@ use Rattle.peer_rows.proofs.Counting.{sum_by-map}
 use Rattle.peer_rows.proofs.Sorted.{equal_itself}
 use Rattle.peer_rows.proofs.Selecting.{filter_not-none, filter-none}
 use Rattle.peer_rows.proofs.Spreading.{spread-remove_entry, spread-none, filter_not-spread, map-filter-spread, sorted-spread}
-use Rattle.peer_rows.proofs.Keying.{Keys, one_key, once-remove_entry, rows_of_peer-split, length-filter-insert_entry_new, length-filter-insert_entry_held, length-filter-remove_entry}
+use Rattle.peer_rows.proofs.Keying.{Keys, one_key, once-remove_entry, peers-lookup, rows_of_peer-split, length-filter-insert_entry_new, length-filter-insert_entry_held, length-filter-remove_entry}
 
 -- each key's rows stand by peer
 once_sorted : (es : Keys) → EachPeerOnce es → AllByRecursion (λ (e : List ℕ × List (ℕ × Row)). IsStrictlySortedBy nat_cmp (keys_of e.1)) es
@@ -118,6 +118,16 @@ module _ (es : Keys) (key : List ℕ) where
     pub sum-rows_of_key : (f : Row → ℕ) → sum_by (λ e. f e.1) (filter (λ e. same_key key e.0.0) (rows_in es)) ≡ sum_by (λ r. f r.1) rows
     sum-rows_of_key f = sym (sum_by-map (λ (r : ℕ × Row). f r.1) (λ (e : Spot × Row). (e.0.1, e.1)) (filter (λ (e : Spot × Row). same_key key e.0.0) (rows_in es))) ∙ ap (λ rs. sum_by (λ (r : ℕ × Row). f r.1) rs) rows_of_key
 
+-- a key of whose rows none is listed isn't there
+pub none_in_keys : (es : Keys) (key : List ℕ) → IsStrictlySortedBy (slice_cmp nat_cmp) (keys_of es) → EachPeerOnce es → filter (λ e. same_key key e.0.0) (rows_in es) ≡ [] → lookup (is_at (slice_cmp nat_cmp key)) es ≡ None
+none_in_keys es key s once none = by (lookup (is_at (slice_cmp nat_cmp key)) es) refl
+  where
+    by : (found : Option (List (ℕ × Row))) → lookup (is_at (slice_cmp nat_cmp key)) es ≡ found → found ≡ None
+    by None is = refl
+    by (Some rows) is =
+        let listed : map {B = ℕ × Row} (λ (e : Spot × Row). (e.0.1, e.1)) [] ≡ rows = ap (λ l. map {B = ℕ × Row} (λ (e : Spot × Row). (e.0.1, e.1)) l) (sym none) ∙ rows_of_key es key rows s is in
+        absurd ((peers-lookup (is_at (slice_cmp nat_cmp key)) es rows once is).some (sym listed))
+
 pub rows_of_peer-remove : (test : List ℕ → Bool) (es : Keys) (rows : List (ℕ × Row)) (p : ℕ) → lookup test es ≡ Some rows → rows_of_peer p (rows_in (remove_entry test es)) + rows_at_peer p rows ≡ rows_of_peer p (rows_in es)
 rows_of_peer-remove test [] rows p found = cc
 rows_of_peer-remove test (e ∷ es) rows p found = by (rows_of_peer-remove test es rows p) (test e.0) found
@@ -181,3 +191,8 @@ record_of n rows = record { peers = n; entries = rows }
 
 pub same_rows : (n m : ℕ) (xs ys : List (Spot × Row)) → n ≡ m → xs ≡ ys → record_of n xs ≡ record_of m ys
 same_rows n m xs ys e f = rw (e, f) refl
+
+-- what holds where there is nothing
+pub none_then : {A : Type 0} {P Q : Type 0} (o : Option A) → (P → Q) → IfNone o P → IfNone o Q
+none_then None f p = f p
+none_then (Some x) f p = p

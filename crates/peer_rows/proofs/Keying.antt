@@ -91,14 +91,17 @@ once-insert_entry (e ∷ es) key peer row f = by (once-insert_entry es key peer 
     by more Equal = (one_row peer row, f.1)
     by more Greater = (f.0, more)
 
--- the rows of a found key stand by peer
-pub once-lookup : (test : List ℕ → Bool) (es : Keys) (rows : List (ℕ × Row)) → EachPeerOnce es → lookup test es ≡ Some rows → IsStrictlySortedBy nat_cmp (keys_of rows)
-once-lookup test [] rows f found = cc
-once-lookup test (e ∷ es) rows f found = by (once-lookup test es rows f.1) (test e.0) found
+-- the rows of a found key: at least one, by peer
+pub peers-lookup : (test : List ℕ → Bool) (es : Keys) (rows : List (ℕ × Row)) → EachPeerOnce es → lookup test es ≡ Some rows → ArePeers rows
+peers-lookup test [] rows f found = cc
+peers-lookup test (e ∷ es) rows f found = by (peers-lookup test es rows f.1) (test e.0) found
   where
-    by : (lookup test es ≡ Some rows → IsStrictlySortedBy nat_cmp (keys_of rows)) → (b : Bool) → cond b (Some e.1) (lookup test es) ≡ Some rows → IsStrictlySortedBy nat_cmp (keys_of rows)
-    by more true is = let same : e.1 ≡ rows = cc in subst (λ (rs : List (ℕ × Row)). IsStrictlySortedBy nat_cmp (keys_of rs)) same f.0.sorted
+    by : (lookup test es ≡ Some rows → ArePeers rows) → (b : Bool) → cond b (Some e.1) (lookup test es) ≡ Some rows → ArePeers rows
+    by more true is = let same : e.1 ≡ rows = cc in subst (λ (rs : List (ℕ × Row)). ArePeers rs) same f.0
     by more false is = more is
+
+pub once-lookup : (test : List ℕ → Bool) (es : Keys) (rows : List (ℕ × Row)) → EachPeerOnce es → lookup test es ≡ Some rows → IsStrictlySortedBy nat_cmp (keys_of rows)
+once-lookup test es rows f found = (peers-lookup test es rows f found).sorted
 
 -- ---- no peer has more rows than there are keys
 length-filter_once : (test : ℕ → Bool) (rows : List (ℕ × Row)) → PassesOnce test rows → length (filter (λ r. test r.0) rows) ≤ 1

@@ -204,21 +204,27 @@ module _ (peers : ℕ) (ts : List TableRows) (i : ℕ) (new table : TableRows) (
   pub tables-same : new ≡ table → AreTables peers (set ts i new)
   tables-same is = rw (is, set_itself ts i table found) are
 
+-- nothing is a list of which nothing comes
+pub none-mapped : {A B : Type 0} (f : A → B) (xs : List A) → map f xs ≡ [] → xs ≡ []
+none-mapped f [] is = refl
+none-mapped f (x ∷ xs) is = cc
+
 -- a table without rows
 abbrev pub no_rows : ℕ → TableRows
 no_rows peers = record { peers = peers; entries = [] }
 
-module _ (ts : List TableRows) (i : ℕ) (new table : TableRows) (found : slice_get ts i ≡ Some table) (key : List ℕ) (peer : ℕ) (row : Row) (result : Result (Option Row) NoMemory) (ok : OnOk result (new ≡ record table { entries = insert_entry spot_cmp table.entries (key, peer) row })) (err : OnErr result (new ≡ table)) where
-  put_result : (peers : ℕ) → AreTables peers ts → (r : Result (Option Row) NoMemory) → OnOk r (new ≡ record table { entries = insert_entry spot_cmp table.entries (key, peer) row }) → OnErr r (new ≡ table) → AreTables peers (set ts i new)
+-- a table with a row more in its place, or as it was where that was refused
+module _ {A : Type 0} (ts : List TableRows) (i : ℕ) (new table : TableRows) (found : slice_get ts i ≡ Some table) (key : List ℕ) (peer : ℕ) (row : Row) where
+  put_result : (peers : ℕ) → AreTables peers ts → (r : Result A NoMemory) → OnOk r (new ≡ record table { entries = insert_entry spot_cmp table.entries (key, peer) row }) → OnErr r (new ≡ table) → AreTables peers (set ts i new)
   put_result peers are (Ok old) is e = tables-put peers ts i new table are found (ap (λ (t : TableRows). t.peers) is) key peer row (ap (λ (t : TableRows). t.entries) is)
   put_result peers are (Err refused) o is = tables-same peers ts i new table are found (ap (λ (t : TableRows). t.peers) is) is
 
-  map_ok : (peers : ℕ) → (r : Result (Option Row) NoMemory) → OnOk r (new ≡ record table { entries = insert_entry spot_cmp table.entries (key, peer) row }) → OnOk r (row_map peers (length (set ts i new)) (placed (set ts i new)) ≡ row_map peers (length ts) (insert_entry place_cmp (placed ts) (place_of i key peer) row))
+  map_ok : (peers : ℕ) → (r : Result A NoMemory) → OnOk r (new ≡ record table { entries = insert_entry spot_cmp table.entries (key, peer) row }) → OnOk r (row_map peers (length (set ts i new)) (placed (set ts i new)) ≡ row_map peers (length ts) (insert_entry place_cmp (placed ts) (place_of i key peer) row))
   map_ok peers (Ok old) is = same_map peers _ _ _ _ (length-set ts i new) (placed-put ts i table found key peer row new (ap (λ (t : TableRows). t.entries) is))
   map_ok peers (Err refused) is = is
 
-pub tables-put_result : (peers : ℕ) (ts : List TableRows) → AreTables peers ts → (i : ℕ) (new table : TableRows) (found : slice_get ts i ≡ Some table) (key : List ℕ) (peer : ℕ) (row : Row) (result : Result (Option Row) NoMemory) (ok : OnOk result (new ≡ record table { entries = insert_entry spot_cmp table.entries (key, peer) row })) (err : OnErr result (new ≡ table)) → AreTables peers (set ts i new)
-tables-put_result peers ts are i new table found key peer row result ok err = put_result ts i new table found key peer row result ok err peers are result ok err
+pub tables-put_result : {A : Type 0} (peers : ℕ) (ts : List TableRows) → AreTables peers ts → (i : ℕ) (new table : TableRows) (found : slice_get ts i ≡ Some table) (key : List ℕ) (peer : ℕ) (row : Row) (result : Result A NoMemory) (ok : OnOk result (new ≡ record table { entries = insert_entry spot_cmp table.entries (key, peer) row })) (err : OnErr result (new ≡ table)) → AreTables peers (set ts i new)
+tables-put_result peers ts are i new table found key peer row result ok err = put_result ts i new table found key peer row peers are result ok err
 
-pub map-put_ok : (peers : ℕ) (ts : List TableRows) (i : ℕ) (new table : TableRows) (found : slice_get ts i ≡ Some table) (key : List ℕ) (peer : ℕ) (row : Row) (result : Result (Option Row) NoMemory) (ok : OnOk result (new ≡ record table { entries = insert_entry spot_cmp table.entries (key, peer) row })) (err : OnErr result (new ≡ table)) → OnOk result (row_map peers (length (set ts i new)) (placed (set ts i new)) ≡ row_map peers (length ts) (insert_entry place_cmp (placed ts) (place_of i key peer) row))
-map-put_ok peers ts i new table found key peer row result ok err = map_ok ts i new table found key peer row result ok err peers result ok
+pub map-put_ok : {A : Type 0} (peers : ℕ) (ts : List TableRows) (i : ℕ) (new table : TableRows) (found : slice_get ts i ≡ Some table) (key : List ℕ) (peer : ℕ) (row : Row) (result : Result A NoMemory) (ok : OnOk result (new ≡ record table { entries = insert_entry spot_cmp table.entries (key, peer) row })) (err : OnErr result (new ≡ table)) → OnOk result (row_map peers (length (set ts i new)) (placed (set ts i new)) ≡ row_map peers (length ts) (insert_entry place_cmp (placed ts) (place_of i key peer) row))
+map-put_ok peers ts i new table found key peer row result ok err = map_ok ts i new table found key peer row peers result ok

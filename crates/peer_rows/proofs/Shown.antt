@@ -1,5 +1,5 @@
 -- What becomes of a table's rows where the rows in a key's place change.
-use Rattle.std.proofs.Common.{◌≡◌, ◌≢◌, ◌<◌, ◌^◌, ℕ, List, length, sym, ◌∙◌, ap, subst, arith, Ok, Err, OnOk, OnErr, ⊎_elim}
+use Rattle.std.proofs.Common.{◌≡◌, ◌≢◌, ◌<◌, ◌^◌, ℕ, List, length, refl, sym, ◌∙◌, ap, subst, arith, Ok, Err, OnOk, OnErr, ⊎_elim}
 use Rattle.std.specs.Prelude.{Option, Some, None, Result}
 use Rattle.agg_types.specs.declared.no_memory.NoMemory.{NoMemory}
 use Rattle.std.specs.Option.{option_map}
@@ -23,6 +23,14 @@ module _ (k : KeyAt) (r : RowsAt) (es : Entries) (key : List ℕ) (is : IsIndexe
   -- a key without a place has no rows
   pub none-shown : lookup (is_at (slice_cmp nat_cmp key)) es ≡ None → lookup (is_at (slice_cmp nat_cmp key)) (seen r es) ≡ None
   none-shown none = lookup-seen r (is_at (slice_cmp nat_cmp key)) es ∙ ap (λ (o : Option ℕ). option_map r o) none
+
+  -- and a key without rows has no place
+  pub none-beneath : lookup (is_at (slice_cmp nat_cmp key)) (seen r es) ≡ None → lookup (is_at (slice_cmp nat_cmp key)) es ≡ None
+  none-beneath none = by (lookup (is_at (slice_cmp nat_cmp key)) es) (sym (lookup-seen r (is_at (slice_cmp nat_cmp key)) es) ∙ none)
+    where
+      by : (o : Option ℕ) → option_map r o ≡ None → o ≡ None
+      by None e = refl
+      by (Some n) e = cc
 
   module _ (at : ℕ) (found : lookup (is_at (slice_cmp nat_cmp key)) es ≡ Some at) where
     -- the rows of a key are those in its place

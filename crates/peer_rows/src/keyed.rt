@@ -59,10 +59,13 @@ impl Keyed {
         self.keys.len()
     }
 
-    /// Where the rows of a key lie.
-    pub(crate) fn spot_of(&self, key: &Key) -> Option<Spot> {
-        let at = find(&self.keys, &self.slots, &self.near, None, key)?;
-        Spot::new(at)
+    /// Where the rows of a key lie, if it has any.
+    pub(crate) fn spot_of(&self, hint: Option<Spot>, key: &Key) -> Option<Spot>
+        ensures { IfNone result
+            (lookup (is_at (slice_cmp nat_cmp key.now)) self.now ≡ None) }
+    {
+        let at = find(&self.keys, &self.slots, &self.near, hint, key)?;
+        Some(Spot::new(at))
     }
 
     /// The rows of a key.
@@ -87,15 +90,15 @@ impl Keyed {
         &mut self,
         hint: Option<Spot>,
         peer: usize,
-        key: Key,
+        key: &Key,
         row: Row,
     ) -> Result<Option<Row>, NoMemory>
         requires { EachPeerOnce self.old }
         ensures ok { OnOk result (rows_in self.new
-            ≡ insert_entry spot_cmp (rows_in self.old) (key, peer) row) }
+            ≡ insert_entry spot_cmp (rows_in self.old) (key.now, peer) row) }
         ensures old { IfOk result (λ old. old
-            ≡ lookup (is_at (spot_cmp (key, peer))) (rows_in self.old)) }
-        ensures held { IsSome (lookup (is_at (spot_cmp (key, peer))) (rows_in self.old))
+            ≡ lookup (is_at (spot_cmp (key.now, peer))) (rows_in self.old)) }
+        ensures held { IsSome (lookup (is_at (spot_cmp (key.now, peer))) (rows_in self.old))
             → IsOk result }
         ensures err { OnErr result (self.new ≡ self.old) }
 
@@ -105,15 +108,36 @@ impl Keyed {
         ensures few { (p : ℕ) → rows_of_peer p (rows_in self.old) < 2 ^ 63 }
     {
         let _few = self.keys.len();
-        let hash = Hash::of(&key);
-        let Some(at) = learn(&self.keys, &self.slots, &mut self.near, hint, hash, &key) else {
-            let rows = KeyRows::new(self.slots.allocator(), peer, row);
-            let at = insert_key(&mut self.keys, &mut self.slots, Slot { key, rows })?;
-            self.near.grow(self.slots.len());
-            self.near.remember(hash, at);
+        let hash = Hash::of(key);
+        let Some(at) = learn(&self.keys, &self.slots, &mut self.near, hint, hash, key) else {
+            self.insert(peer, key, row)?;
             return Ok(None);
         };
         self.slots.put(at, peer, row)
+    }
+
+    /// Puts the first row of a key.
+    pub(crate) fn insert(&mut self, peer: usize, key: &Key, row: Row) -> Result<(), NoMemory>
+        requires once { EachPeerOnce self.old }
+        requires none { lookup (is_at (slice_cmp nat_cmp key.now)) self.old ≡ None }
+        ensures ok { OnOk result (rows_in self.new
+            ≡ insert_entry spot_cmp (rows_in self.old) (key.now, peer) row) }
+        ensures err { OnErr result (self.new ≡ self.old) }
+        ensures once { EachPeerOnce self.new }
+        ensures ordered { IsStrictlySortedBy (slice_cmp nat_cmp) (keys_of self.new) }
+        ensures few { (p : ℕ) → rows_of_peer p (rows_in self.old) < 2 ^ 63 }
+    {
+        let _few = self.keys.len();
+        let alloc = self.slots.allocator();
+        let slot = Slot {
+            key: key.duplicate(alloc)?,
+            rows: KeyRows::new(alloc, peer, row),
+        };
+        let at = insert_key(&mut self.keys, &mut self.slots, slot)?;
+        self.near.refill(&self.slots);
+        self.near.grow(self.slots.len());
+        self.near.remember(Hash::of(key), at);
+        Ok(())
     }
 
     /// Takes a row out, and its key with it where it was the key's last.

@@ -12,7 +12,7 @@
 //!
 //! No clause says how long a call takes: a look-up is at most one search of a table's keys, `count`
 //! and `used` take constant time, and a row that replaces another takes no memory. Nor does one say
-//! anything of a `Spot` but that no answer depends on it.
+//! anything of a `Spot` but that no answer depends on it, and that a key with rows has one.
 #![tactic(auto)]
 
 mod by_key;

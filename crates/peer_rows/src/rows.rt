@@ -1,4 +1,4 @@
-ghost use Rattle.std.specs.Prelude.{◌≡◌, ◌<◌, [], length, count_by, IsOk, IsSome, IfOk, OnOk, OnErr};
+ghost use Rattle.std.specs.Prelude.{◌≡◌, ◌<◌, [], length, count_by, IsOk, IsSome, IfNone, IfOk, OnOk, OnErr};
 ghost use Rattle.std.specs.Option.{option_copied};
 
 use crate::table::Table;
@@ -98,7 +98,7 @@ impl Rows {
         ensures err { OnErr result (self.new ≡ self.old) }
         ensures ordered { AreInOrder self.new.entries }
     {
-        self.put_at(None, peer, table, key, row)
+        self.put_at(None, peer, table, &key, row)
     }
 
     /// Takes the row of a peer, table and key out, if there is one. Takes no memory.
@@ -156,13 +156,21 @@ impl Rows {
 
     // ---- with a hint at where the rows of a key lie
 
-    /// Where the rows of a table and key lie, as a hint for a later call: nothing is promised of
-    /// it.
-    /// Takes no memory.
+    /// Where the rows of a table and key lie, as a hint for a later call: nothing is promised of it
+    /// but that there is one where the key has rows. Takes no memory.
     pub fn spot_of(&self, table: usize, key: &Key) -> Option<Spot>
         requires { table < self.now.tables }
+        ensures { IfNone result (peers_of self.now table key.now ≡ []) }
     {
-        self.tables[table].spot_of(key)
+        self.spot_at(None, table, key)
+    }
+
+    /// What `spot_of` answers, whatever the hint: a hint that was looked at.
+    pub fn spot_at(&self, hint: Option<Spot>, table: usize, key: &Key) -> Option<Spot>
+        requires { table < self.now.tables }
+        ensures { IfNone result (peers_of self.now table key.now ≡ []) }
+    {
+        self.tables[table].spot_of(hint, key)
     }
 
     /// What `get` answers, whatever the hint: one that doesn't fit costs a search.
@@ -175,24 +183,37 @@ impl Rows {
         self.tables[table].get(hint, peer, key)
     }
 
-    /// What `put` does and answers, whatever the hint.
+    /// What `put` does and answers, whatever the hint. The key is copied only where it has no row
+    /// yet.
     pub fn put_at(
         &mut self,
         hint: Option<Spot>,
         peer: usize,
         table: usize,
-        key: Key,
+        key: &Key,
         row: Row,
     ) -> Result<Option<Row>, NoMemory>
         requires peer_in { peer < self.old.peers }
         requires table_in { table < self.old.tables }
-        ensures ok { OnOk result (self.new ≡ with_row self.old peer table key row) }
-        ensures old { IfOk result (λ old. old ≡ row_at self.old peer table key) }
-        ensures held { IsSome (row_at self.old peer table key) → IsOk result }
+        ensures ok { OnOk result (self.new ≡ with_row self.old peer table key.now row) }
+        ensures old { IfOk result (λ old. old ≡ row_at self.old peer table key.now) }
+        ensures held { IsSome (row_at self.old peer table key.now) → IsOk result }
         ensures err { OnErr result (self.new ≡ self.old) }
         ensures ordered { AreInOrder self.new.entries }
     {
         self.tables[table].put(hint, peer, key, row)
+    }
+
+    /// Puts the first row of a key, as `put` does, by one search of the ordered map.
+    pub fn insert(&mut self, peer: usize, table: usize, key: &Key, row: Row) -> Result<(), NoMemory>
+        requires peer_in { peer < self.old.peers }
+        requires table_in { table < self.old.tables }
+        requires none { peers_of self.old table key.now ≡ [] }
+        ensures ok { OnOk result (self.new ≡ with_row self.old peer table key.now row) }
+        ensures err { OnErr result (self.new ≡ self.old) }
+        ensures ordered { AreInOrder self.new.entries }
+    {
+        self.tables[table].insert(peer, key, row)
     }
 
     /// What `take` does and answers, whatever the hint.

@@ -8,9 +8,10 @@ pub struct Spot {
 }
 
 impl Spot {
-    // The spot in a place, if there is a hint for it.
-    pub(crate) fn new(at: usize) -> Option<Spot> {
-        let slot = u32::try_from(at).ok()?;
-        Some(Spot { slot })
+    // The spot in a place. Beyond the last number it names another one, which fits no key then.
+    pub(crate) fn new(at: usize) -> Spot {
+        Spot {
+            slot: u32::try_from(at).unwrap_or(u32::MAX),
+        }
     }
 }

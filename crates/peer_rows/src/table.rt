@@ -1,4 +1,4 @@
-ghost use Rattle.std.specs.Prelude.{◌≡◌, ◌+◌, ◌<◌, ◌≤◌, ℕ, [], length, filter, not, map, sum_by, slice_index, IsOk, IsSome, IfOk, OnOk, OnErr};
+ghost use Rattle.std.specs.Prelude.{◌≡◌, ◌+◌, ◌<◌, ◌≤◌, ℕ, [], length, filter, not, map, sum_by, slice_index, IsOk, IsSome, IfNone, IfOk, OnOk, OnErr};
 ghost use Rattle.std.specs.Option.{option_copied};
 ghost use Rattle.std.specs.List.{dedup};
 ghost use Rattle.std.specs.Map.{lookup, remove_entry};
@@ -56,9 +56,12 @@ impl Table {
         self.keys.row_at(hint, peer, key)
     }
 
-    /// Where the rows of a key lie.
-    pub(crate) fn spot_of(&self, key: &Key) -> Option<Spot> {
-        self.keys.spot_of(key)
+    /// Where the rows of a key lie, if it has any.
+    pub(crate) fn spot_of(&self, hint: Option<Spot>, key: &Key) -> Option<Spot>
+        ensures { IfNone result
+            (filter (λ e. same_key key.now e.0.0) self.now.entries ≡ []) }
+    {
+        self.keys.spot_of(hint, key)
     }
 
     /// How many rows a peer holds.
@@ -81,15 +84,15 @@ impl Table {
         &mut self,
         hint: Option<Spot>,
         peer: usize,
-        key: Key,
+        key: &Key,
         row: Row,
     ) -> Result<Option<Row>, NoMemory>
         requires { peer < self.old.peers }
         ensures ok { OnOk result (self.new ≡ record self.old
-            { entries = insert_entry spot_cmp self.old.entries (key, peer) row }) }
+            { entries = insert_entry spot_cmp self.old.entries (key.now, peer) row }) }
         ensures old { IfOk result (λ old. old
-            ≡ lookup (is_at (spot_cmp (key, peer))) self.old.entries) }
-        ensures held { IsSome (lookup (is_at (spot_cmp (key, peer))) self.old.entries)
+            ≡ lookup (is_at (spot_cmp (key.now, peer))) self.old.entries) }
+        ensures held { IsSome (lookup (is_at (spot_cmp (key.now, peer))) self.old.entries)
             → IsOk result }
         ensures err { OnErr result (self.new ≡ self.old) }
     {
@@ -98,6 +101,19 @@ impl Table {
             self.counts[peer] += 1;
         }
         Ok(old)
+    }
+
+    /// Puts the first row of a key.
+    pub(crate) fn insert(&mut self, peer: usize, key: &Key, row: Row) -> Result<(), NoMemory>
+        requires peer { peer < self.old.peers }
+        requires none { filter (λ e. same_key key.now e.0.0) self.old.entries ≡ [] }
+        ensures ok { OnOk result (self.new ≡ record self.old
+            { entries = insert_entry spot_cmp self.old.entries (key.now, peer) row }) }
+        ensures err { OnErr result (self.new ≡ self.old) }
+    {
+        self.keys.insert(peer, key, row)?;
+        self.counts[peer] += 1;
+        Ok(())
     }
 
     /// Takes a row out.

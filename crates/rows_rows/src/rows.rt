@@ -64,7 +64,7 @@ impl Fleet {
         let key = key(self.alloc, last)?;
         let row = row(self.alloc, count)?;
         let spot = self.rows.spot_of(0, &key);
-        let old = self.rows.put_at(spot, peer, 0, key, row)?;
+        let old = self.rows.put_at(spot, peer, 0, &key, row)?;
         Ok(old.is_some())
     }
 

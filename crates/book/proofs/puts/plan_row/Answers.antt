@@ -12,22 +12,21 @@ use Rattle.book.proofs.puts.plan_row.Goals as goal
 pub returns-in-Err-clause-kept : goal.returns-in-Err-clause-kept
 returns-in-Err-clause-kept c = λ items kept.
     let none : lookup (is_at (place_cmp (place_at c.args.at))) c.args.rows.now.entries ≡ None =
-    none_of (lookup (is_at (place_cmp (place_at c.args.at))) c.args.rows.now.entries) (λ some. c.in-Err.ensures.held (rw c.in_ok-key.ensures some)) in
-    kept_none c.args.size.peers c.args.size.tables c.args.rows.now c.put_at.new.self (items ++ c.args.due.now) (items ++ c.forget.new.due) (place_at c.args.at) c.in-Err.ensures.err none
+    none_of (lookup (is_at (place_cmp (place_at c.args.at))) c.args.rows.now.entries) c.in-Err.ensures.held in
+    kept_none c.args.size.peers c.args.size.tables c.args.rows.now c.put_row.new.rows (items ++ c.args.due.now) (items ++ c.forget.new.due) (place_at c.args.at) c.in-Err.ensures.err none
     (λ e apart was. c.forget.ensures.others items e (rw c.in_ok-place.ensures apart) (c.plan_end.ensures.more items e was)) kept
 
 pub returns-clause-ok : goal.returns-clause-ok
 returns-clause-ok c =
     ap (λ (rows : RowMap). arrivals rows.entries) c.in_default.ensures.ok
-    ∙ ap (λ key. arrivals (insert_entry place_cmp c.args.rows.now.entries (record { table = c.args.at.table; key = key; peer = c.args.at.peer }) c.args.row)) c.in_ok-key.ensures
     ∙ map-insert_entry place_cmp as_arrival c.args.rows.now.entries (place_at c.args.at) c.args.row
 
 pub returns-clause-kept : goal.returns-clause-kept
 returns-clause-kept c = λ items kept.
-    kept_replaced c.args.size.peers c.args.size.tables c.args.rows.now c.put_at.new.self (items ++ c.args.due.now) (items ++ c.forget-2.new.due) (place_at c.args.at) c.args.row
+    kept_replaced c.args.size.peers c.args.size.tables c.args.rows.now c.put_row.new.rows (items ++ c.args.due.now) (items ++ c.forget-2.new.due) (place_at c.args.at) c.args.row
     c.requires.rows c.requires.inside
-    (c.in_default.ensures.ok ∙ ap (λ key. record c.args.rows.now { entries = insert_entry place_cmp c.args.rows.now.entries (record { table = c.args.at.table; key = key; peer = c.args.at.peer }) c.args.row }) c.in_ok-key.ensures)
-    c.put_at.ensures.ordered
+    c.in_default.ensures.ok
+    c.put_row.ensures.ordered
     (λ e apart was. c.forget-2.ensures.others items e (rw c.in_ok-place.ensures apart) (c.plan_end.ensures.more items e was))
     (planned_own items c.forget-2.new.due (place_at c.args.at) c.args.row c.end_of-end.result c.end_of-end.ensures (rw (← c.in_ok-place.ensures) (c.forget-2.ensures.own c.in_ok-plan_end.ensures.own)))
     kept.planned
