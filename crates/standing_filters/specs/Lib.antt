@@ -1,1 +1,4 @@
+pub mod Laws
+pub mod Plans
 pub mod Verdicts
+pub mod Watched

@@ -1,5 +1,5 @@
 -- What is known of a filter and a key at a moment.
-use Rattle.std.specs.Prelude.{◌≡◌, ◌≢◌, ℕ, ◌+◌, ◌≤◌, Bool, false, ◌&&◌, nat_lt, List, Option, None, Some}
+use Rattle.std.specs.Prelude.{◌≡◌, ◌≢◌, ℕ, ◌+◌, Bool, false, ◌&&◌, nat_lt, List, None}
 use Rattle.std.specs.List.{list_all}
 use Rattle.agg_types.specs.Op.{op_holds}
 use Rattle.agg_types.specs.declared.column.Col.{Col}

@@ -1,6 +1,6 @@
 //! One filter and one key.
 
-ghost use Rattle.std.specs.Prelude.{◌≡◌, ℕ, ◌+◌, ◌≤◌, IsTrue, false, length, nat_lt, MatchOption};
+ghost use Rattle.std.specs.Prelude.{◌≡◌, ◌↔◌, ℕ, ◌+◌, ◌≤◌, IsTrue, false, length, nat_lt, MatchOption};
 ghost use Rattle.crossing.specs.First.{IsFlatSoon};
 ghost use Rattle.crossing.specs.Parts.{AreFlatSoon, all_hold};
 ghost use Rattle.crossing.specs.Shown.{measured};
@@ -20,11 +20,20 @@ pub struct Verdict {
     pub next: Option<u64>,
 }
 
-// The verdict of a key that a filter doesn't hold, and never will by the clock alone.
-const OUT: Verdict = Verdict {
+/// The verdict of a key that a filter doesn't hold, and never will by the clock alone.
+pub(crate) const OUT: Verdict = Verdict {
     holds: false,
     next: None,
 };
+
+impl Verdict {
+    /// Whether the filter doesn't hold the key, and never will by the clock alone.
+    pub fn is_out(self) -> bool
+        ensures { IsTrue result ↔ (self ≡ out) }
+    {
+        !self.holds && self.next.is_none()
+    }
+}
 
 /// Judges a key at a moment, in ms. Reads at most 505 values where they stay from 2^33 ms on, and
 /// one of each condition up to the first that fails for good. Takes no memory.

@@ -3,13 +3,25 @@
 //! Books list the keys of filters by it, and name the moment at which a set changes next. `judge`
 //! reads one key's summed values, as they fall with time, and answers whether some row of it lives
 //! and all conditions hold now, and the least later moment at which that is otherwise: to the
-//! millisecond, ends of rows included.
+//! millisecond, ends of rows included. `Standing` keeps these verdicts for all filters of a
+//! configuration, but for keys that a filter doesn't hold and never will by the clock alone; a key
+//! whose values have changed is touched, and then judged by each filter of its table.
 //!
-//! Promised: the verdict is exact; none is named exactly where it never changes; at most 505 values
-//! are read where they stay from 2^33 ms on. Nothing takes memory. That a key which can't come into
-//! a set again is told by one value of each condition is meant for speed, and no clause says so.
+//! Promised: a verdict is exact; none is named as its change exactly where it never changes; at
+//! most 505 values are read for it where they stay from 2^33 ms on. A touch gives the key's verdicts
+//! at its moment and leaves all others, or changes nothing where memory was refused. `keys` lends
+//! the keys whose verdict is that they are held, and `next_change` is the least moment at which a
+//! verdict changes. That a key which can't come into a set again is told by one value of each
+//! condition is meant for speed, and no clause says so.
 #![tactic(auto)]
 
 mod judging;
+mod keys;
+pub mod laws;
+mod standing;
+mod touching;
+mod watch;
 
 pub use judging::{Verdict, judge};
+pub use keys::Keys;
+pub use standing::Standing;

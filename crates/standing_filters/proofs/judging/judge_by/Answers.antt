@@ -1,4 +1,4 @@
-use Rattle.std.proofs.Common.{◌≡◌, length, arith}
+use Rattle.std.proofs.Common.{arith}
 use Rattle.agg_types.specs.Op.{op_holds}
 use Rattle.standing_filters.proofs.Told.{told_same, one_hold, two_hold, three_hold, four_hold}
 use Rattle.standing_filters.proofs.judging.judge_by.Goals as goal

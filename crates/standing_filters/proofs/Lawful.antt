@@ -1,0 +1,75 @@
+-- The laws of kept verdicts.
+use Rattle.std.proofs.Common.{◌≡◌, ℕ, ◌+◌, ◌<◌, ◌≤◌, Bool, true, false, ◌&&◌, nat_lt, List, Option, None, Some, refl, sym, ap, ◌∙◌, subst, arith, inl, inr, ⊎_elim}
+use Rattle.std.specs.Prelude.{◌≢◌, ◌⊎◌}
+use Rattle.std.proofs.lemmas.Bool.{cases_eq, false≢true}
+use Rattle.std.proofs.lemmas.Cmp.{nat_list_cmp_total, tied_itself}
+use Rattle.std.proofs.lemmas.Map.Lookups.{exact_bytes}
+use Rattle.std.specs.BTreeMap.{is_at}
+use Rattle.std.specs.Cmp.Lexicographic.{slice_cmp}
+use Rattle.std.specs.List.{list_all}
+use Rattle.std.specs.Ordering.{is_eq, nat_cmp}
+use Rattle.agg_types.specs.Op.{op_holds}
+use Rattle.agg_types.specs.declared.column.Col.{Col}
+use Rattle.agg_types.specs.declared.config.Filter.{Filter}
+use Rattle.crossing.specs.First.{IsFirstAt, IsFirstFrom}
+use Rattle.standing_filters.specs.Laws.{FirstChangeIsTheSets, TouchKeepsVerdicts}
+use Rattle.standing_filters.specs.Verdicts.{IsTold, IsVerdict, holds_at}
+use Rattle.standing_filters.specs.Watched.{verdict_at}
+use Rattle.standing_filters.specs.declared.judging.Verdict.{Verdict}
+use Rattle.standing_filters.proofs.Members.{equal_from}
+use Rattle.standing_filters.proofs.Told.{told_same}
+
+quiet : (truth : ℕ → Bool) (now : ℕ) (v : Verdict) → IsTold truth now v → v.next ≡ None → IsFirstFrom (now + 1) (λ t. truth t ≢ truth now) None
+quiet truth now v told none = subst (λ o. IsFirstFrom (now + 1) (λ t. truth t ≢ truth now) o) none told.next
+
+early : (truth : ℕ → Bool) (now u : ℕ) (v : Verdict) → IsTold truth now v → v.next ≡ Some u → IsFirstAt (now + 1) (λ t. truth t ≢ truth now) u
+early truth now u v told some = subst (λ o. IsFirstFrom (now + 1) (λ t. truth t ≢ truth now) o) some told.next
+
+pub first_change_is_the_sets : FirstChangeIsTheSets
+first_change_is_the_sets summed living now w None verdicts first =
+    λ t since changed. quiet (λ t. holds_at summed living w.filter changed.0 t) now (verdict_at w.kept changed.0) (verdicts changed.0) (first changed.0) t since changed.1
+first_change_is_the_sets summed living now w (Some t) verdicts first =
+    let key = first.0.0 in
+    let at = early (λ t. holds_at summed living w.filter key t) now t (verdict_at w.kept key) (verdicts key) first.0.1 in
+    record {
+      since = at.since;
+      holds = (key, at.holds);
+      not_before = λ s since before changed. not_yet changed.0 s since before changed.1 (verdict_at w.kept changed.0).next refl;
+    }
+  where
+    not_yet : (key : List ℕ) (s : ℕ) → now + 1 ≤ s → s < t → holds_at summed living w.filter key s ≢ holds_at summed living w.filter key now → (o : Option ℕ) → (verdict_at w.kept key).next ≡ o → ⊥
+    not_yet key s since before differs None is = quiet (λ t. holds_at summed living w.filter key t) now (verdict_at w.kept key) (verdicts key) is s since differs
+    not_yet key s since before differs (Some u) is =
+        let later : t ≤ u = first.1 key u is in
+        let sooner : s < u = omega arith in
+        (early (λ t. holds_at summed living w.filter key t) now u (verdict_at w.kept key) (verdicts key) is).not_before s since sooner differs
+
+same_truth : (summed sums : Col → ℕ → ℕ) (living lives : ℕ → ℕ) (filter : Filter) (t : ℕ) → sums ≡ summed → lives ≡ living
+    → (nat_lt 0 (lives t) && list_all (λ cond. op_holds cond.op (sums cond.col t) cond.bound) filter.conds) ≡ (nat_lt 0 (living t) && list_all (λ cond. op_holds cond.op (summed cond.col t) cond.bound) filter.conds)
+same_truth summed sums living lives filter t same alive =
+    ap (λ (l : ℕ → ℕ). nat_lt 0 (l t) && list_all (λ cond. op_holds cond.op (sums cond.col t) cond.bound) filter.conds) alive
+    ∙ ap (λ (s : Col → ℕ → ℕ). nat_lt 0 (living t) && list_all (λ cond. op_holds cond.op (s cond.col t) cond.bound) filter.conds) same
+
+pub touch_keeps_verdicts : TouchKeepsVerdicts
+touch_keeps_verdicts before after living lives table key now old new same verdicts touch q =
+    subst (λ f. IsVerdict after lives f now q (verdict_at new.kept q)) (sym touch.filter) (⊎_elim here there (cases_eq old.filter.table table))
+  where
+    -- a key whose values and verdict are what they were
+    kept : (old.filter.table ≢ table) ⊎ (q ≢ key) → verdict_at new.kept q ≡ verdict_at old.kept q → IsVerdict after lives old.filter now q (verdict_at new.kept q)
+    kept other stays =
+        let values = same old.filter.table q other in
+        subst (λ v. IsVerdict after lives old.filter now q v) (sym stays)
+        (told_same (λ t. holds_at before living old.filter q t) (λ t. holds_at after lives old.filter q t) now (verdict_at old.kept q)
+        (λ t. same_truth (before old.filter.table q) (after old.filter.table q) (living old.filter.table q) (lives old.filter.table q) old.filter t values.0 values.1) (verdicts q))
+
+    there : old.filter.table ≢ table → IsVerdict after lives old.filter now q (verdict_at new.kept q)
+    there apart = kept (inl apart) (ap (λ k. verdict_at k q) (touch.elsewhere apart))
+
+    by : old.filter.table ≡ table → (b : Bool) → is_at (slice_cmp nat_cmp key) q ≡ b → IsVerdict after lives old.filter now q (verdict_at new.kept q)
+    by of true is = subst (λ k. IsVerdict after lives old.filter now k (verdict_at new.kept k)) (exact_bytes key q (equal_from _ is)) (touch.judged of)
+    by of false is =
+        let other : q ≢ key = λ e. false≢true (sym is ∙ ap (λ k. is_at (slice_cmp nat_cmp key) k) e ∙ ap is_eq (tied_itself nat_list_cmp_total key)) in
+        kept (inr other) (touch.others q other)
+
+    here : old.filter.table ≡ table → IsVerdict after lives old.filter now q (verdict_at new.kept q)
+    here of = by of (is_at (slice_cmp nat_cmp key) q) refl

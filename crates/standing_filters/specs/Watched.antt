@@ -1,0 +1,64 @@
+-- What contracts see of standing filters: each with the keys on which its verdict isn't `out`, in
+-- order, and their verdicts.
+use Rattle.std.specs.Prelude.{◌≡◌, ◌≢◌, ℕ, ◌≤◌, List, [], Option, None, Some, filter, map, slice_index_or, unwrap_or}
+use Rattle.std.specs.BTreeMap.{is_at}
+use Rattle.std.specs.Cmp.Lexicographic.{slice_cmp}
+use Rattle.std.specs.List.{AllZip}
+use Rattle.std.specs.Map.{lookup}
+use Rattle.std.specs.Ordering.{nat_cmp}
+use Rattle.agg_types.specs.declared.column.Col.{Col}
+use Rattle.agg_types.specs.declared.config.Filter.{Filter}
+use Rattle.standing_filters.specs.Verdicts.{IsVerdict, out}
+use Rattle.standing_filters.specs.declared.judging.Verdict.{Verdict}
+
+-- a standing filter and the verdicts on its keys
+pub record Watched : Type 0 where
+  pub filter : Filter
+  pub kept : List (List ℕ × Verdict)
+
+-- standing filters, and how many values were read for them
+pub record AllWatched : Type 0 where
+  pub filters : List Watched
+  pub evals : ℕ
+
+-- the verdict on a key: `out` where none is kept
+abbrev pub verdict_at : List (List ℕ × Verdict) → List ℕ → Verdict
+verdict_at kept key = unwrap_or (lookup (is_at (slice_cmp nat_cmp key)) kept) out
+
+-- a filter that holds no key, and never will by the clock alone
+abbrev pub unheld : Filter → Watched
+unheld filter = record { filter = filter; kept = [] }
+
+-- the keys that a filter holds
+abbrev pub keys_held : List (List ℕ × Verdict) → List (List ℕ)
+keys_held kept = map (λ e. e.0) (filter (λ e. e.1.holds) kept)
+
+abbrev pub no_filter : Filter
+no_filter = record { name = []; table = 0; conds = [] }
+
+-- the verdicts of the filter at a position
+abbrev pub kept_of : AllWatched → ℕ → List (List ℕ × Verdict)
+kept_of standing position = (slice_index_or standing.filters position (unheld no_filter)).kept
+
+-- the first moment at which the verdict on some key changes, or none where none ever does
+abbrev pub IsFirstChange : List (List ℕ × Verdict) → Option ℕ → Type 0
+IsFirstChange kept None = (key : List ℕ) → (verdict_at kept key).next ≡ None
+IsFirstChange kept (Some t) = ((key : List ℕ) × ((verdict_at kept key).next ≡ Some t))
+    × ((key : List ℕ) (u : ℕ) → (verdict_at kept key).next ≡ Some u → t ≤ u)
+
+-- A filter of the key's table has that key's verdict at a moment, and its other verdicts are what
+-- they were. A filter of another table is what it was.
+pub record IsTouched (summed : ℕ → List ℕ → Col → ℕ → ℕ) (living : ℕ → List ℕ → ℕ → ℕ) (table : ℕ)
+    (key : List ℕ) (now : ℕ) (old new : Watched) : Type 0 where
+  pub filter : new.filter ≡ old.filter
+  pub judged : old.filter.table ≡ table
+      → IsVerdict summed living old.filter now key (verdict_at new.kept key)
+  pub others : (other : List ℕ) → other ≢ key
+      → verdict_at new.kept other ≡ verdict_at old.kept other
+  pub elsewhere : old.filter.table ≢ table → new.kept ≡ old.kept
+
+-- each of some filters
+abbrev pub AreTouched : (ℕ → List ℕ → Col → ℕ → ℕ) → (ℕ → List ℕ → ℕ → ℕ) → ℕ → List ℕ → ℕ
+    → List Watched → List Watched → Type 0
+AreTouched summed living table key now old new =
+    AllZip (λ a b. IsTouched summed living table key now a b) old new

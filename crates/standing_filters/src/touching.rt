@@ -1,0 +1,50 @@
+//! One key, judged by the filters of its table: all of them, or none.
+
+ghost use Rattle.std.specs.Prelude.{◌≡◌, ◌≤◌, ◌+◌, ◌*◌, length, map, IsOk, OnOk, OnErr};
+ghost use Rattle.crossing.specs.First.{IsFlatSoon};
+ghost use Rattle.standing_filters.specs.Plans.{AreWatches, shown};
+ghost use Rattle.standing_filters.specs.Watched.{AreTouched};
+
+use crate::watch::Watch;
+use agg_types::{Key, NoMemory};
+use crossing::{Meter, Values};
+
+/// Judges a key by each filter of its table at a moment. After `NoMemory` no verdict has changed.
+/// A key that has no live row takes no memory.
+pub(crate) fn touch_each<V: Values>(
+    watches: &mut [Watch],
+    table: usize,
+    key: &Key,
+    values: &V,
+    now: u64,
+    meter: &mut Meter,
+) -> Result<(), NoMemory>
+    requires { AreWatches watches.old }
+    ensures stay { AreWatches watches.new }
+    ensures ok { OnOk result (AreTouched (V.summed values.now) (V.living values.now) table key.now
+        now (map shown watches.old) (map shown watches.new)) }
+    ensures err { OnErr result (map shown watches.new ≡ map shown watches.old) }
+    ensures dead { V.living values.now table key.now now ≡ 0 → IsOk result }
+    ensures counted { IsFlatSoon now (V.flat values.now table key.now)
+        → meter.new.evals ≤ meter.old.evals + 505 * length watches.old }
+{
+    let Some((first, rest)) = watches.split_first_mut() else {
+        return Ok(());
+    };
+    if !first.is_of(table) {
+        return touch_each(rest, table, key, values, now, meter);
+    }
+    let verdict = first.judge(key, values, now, meter);
+    if verdict.is_out() {
+        touch_each(rest, table, key, values, now, meter)?;
+        first.forget(key);
+        return Ok(());
+    }
+    let old = first.prepare(key, verdict)?;
+    if let Err(refused) = touch_each(rest, table, key, values, now, meter) {
+        first.back_out(key, old, verdict);
+        return Err(refused);
+    }
+    first.commit(key, old, verdict);
+    Ok(())
+}

@@ -1,0 +1,229 @@
+//! One standing filter: the verdicts on its keys, and an index of when they change.
+
+ghost use Rattle.std.specs.Prelude.{ℕ, List, ◌≡◌, ◌≤◌, ◌+◌, ◌==◌, [], length, is_some, if◌then◌else◌, IsSome, IfOk, OnOk, OnErr};
+ghost use Rattle.std.specs.List.{list_any};
+ghost use Rattle.std.specs.List.Sorted.{IsStrictlySortedBy};
+ghost use Rattle.std.specs.BTreeMap.{is_at};
+ghost use Rattle.std.specs.Cmp.Lexicographic.{slice_cmp};
+ghost use Rattle.std.specs.Ordering.{nat_cmp};
+ghost use Rattle.crossing.specs.First.{IsFlatSoon};
+ghost use Rattle.standing_filters.specs.Verdicts.{IsVerdict, out};
+ghost use Rattle.standing_filters.specs.Watched.{IsFirstChange, keys_held, verdict_at};
+ghost use Rattle.standing_filters.specs.Plans.{Becomes, IsPlanOf, IsPlanned, IsUnplanned, Watching, change_of, kept_at, with_room, without_key};
+
+use crate::judging::{OUT, Verdict, judge};
+use crate::keys::Keys;
+use agg_types::{Filter, Key, NoMemory};
+use crossing::{Meter, Values};
+use expiry_wheel::{DueIndex, Wheel};
+use std::alloc::Global;
+use std::collections::BTreeMap;
+use std::marker::Model;
+
+/// A standing filter with the verdicts on its keys.
+///
+/// A change is made in two steps, so that several filters can be changed together or not at all:
+/// `prepare` takes all the memory, and then `commit` or `back_out` takes none.
+#[derive(Drop)]
+pub(crate) struct Watch {
+    filter: Filter,
+    // By key: its verdict, where that isn't `OUT`.
+    kept: BTreeMap<Key, Verdict>,
+    // Each of them at the moment at which its verdict changes, if it does.
+    due: Wheel<Key>,
+    alloc: Global,
+}
+
+impl Model for Watch {
+    ghost use Rattle.standing_filters.specs.Plans.{Watching};
+
+    ghost Value = { Watching };
+
+    ghost view = { λ w. record { filter = w.filter; kept = w.kept.entries; due = w.due } };
+}
+
+impl Watch {
+    /// A standing filter that holds no key.
+    pub(crate) fn new(alloc: Global, filter: Filter) -> Result<Watch, NoMemory>
+        ensures { IfOk result (λ w. w ≡ record { filter = filter; kept = []; due = [] }) }
+    {
+        Ok(Watch {
+            filter,
+            kept: BTreeMap::new(alloc),
+            due: Wheel::new(alloc, 0)?,
+            alloc,
+        })
+    }
+
+    /// Whether the filter is one of a table.
+    pub(crate) fn is_of(&self, table: usize) -> bool
+        ensures { result ≡ (self.now.filter.table == table) }
+    {
+        self.filter.table == table
+    }
+
+    /// The keys that the filter holds, in order.
+    pub(crate) fn keys(&self) -> Keys<'_>
+        ensures held { result ≡ keys_held self.now.kept }
+        ensures ordered { IsStrictlySortedBy (slice_cmp nat_cmp) (keys_held self.now.kept) }
+        ensures exact { (key : List ℕ)
+            → list_any (is_at (slice_cmp nat_cmp key)) (keys_held self.now.kept)
+            ≡ (verdict_at self.now.kept key).holds }
+    {
+        Keys::new(self.kept.iter())
+    }
+
+    /// The first moment at which a verdict on a key changes.
+    pub(crate) fn next_change(&self) -> Option<u64>
+        requires { IsPlanOf self.now.kept self.now.due }
+        ensures { IsFirstChange self.now.kept result }
+    {
+        self.due.next_at()
+    }
+
+    /// Judges a key by its values at a moment.
+    pub(crate) fn judge<V: Values>(
+        &self,
+        key: &Key,
+        values: &V,
+        now: u64,
+        meter: &mut Meter,
+    ) -> Verdict
+        requires few { length self.now.filter.conds ≤ 4 }
+        ensures verdict { IsVerdict (V.summed values.now) (V.living values.now) self.now.filter now
+            key.now result }
+        ensures counted { IsFlatSoon now (V.flat values.now self.now.filter.table key.now)
+            → meter.new.evals ≤ meter.old.evals + 505 }
+        ensures dead { V.living values.now self.now.filter.table key.now now ≡ 0 → result ≡ out }
+    {
+        judge(&self.filter, key, values, now, meter)
+    }
+
+    /// Makes room for a verdict on a key and plans its change, and answers the verdict that is
+    /// kept. After `NoMemory` nothing has changed.
+    pub(crate) fn prepare(
+        &mut self,
+        key: &Key,
+        verdict: Verdict,
+    ) -> Result<Option<Verdict>, NoMemory>
+        ensures filter { self.new.filter ≡ self.old.filter }
+        ensures found { IfOk result (λ old. old ≡ kept_at self.old.kept key.now) }
+        ensures room { OnOk result (self.new.kept ≡ with_room key.now self.old.kept) }
+        ensures there { OnOk result (IsSome (kept_at self.new.kept key.now)) }
+        ensures same { OnOk result ((q : _) → verdict_at self.new.kept q
+            ≡ verdict_at self.old.kept q) }
+        ensures planned { IfOk result (λ old. IsPlanned key.now (change_of old) verdict.next
+            self.old.due self.new.due) }
+        ensures err { OnErr result (self.new ≡ self.old) }
+    {
+        let old = self.make_room(key)?;
+        if let Err(refused) = self.plan(key, change_of(old), verdict.next) {
+            if old.is_none() {
+                self.take_out(key);
+            }
+            return Err(refused);
+        }
+        Ok(old)
+    }
+
+    /// Takes back what `prepare` did for a verdict on a key, where this one was kept.
+    pub(crate) fn back_out(&mut self, key: &Key, old: Option<Verdict>, verdict: Verdict)
+        ensures filter { self.new.filter ≡ self.old.filter }
+        ensures kept { self.new.kept
+            ≡ (if is_some old then self.old.kept else without_key key.now self.old.kept) }
+        ensures due { IsUnplanned key.now verdict.next (change_of old) self.old.due self.new.due }
+    {
+        self.unplan(key, verdict.next, change_of(old));
+        if old.is_none() {
+            self.take_out(key);
+        }
+    }
+
+    /// Keeps a verdict on a key, for which all is prepared, in place of an old one.
+    pub(crate) fn commit(&mut self, key: &Key, old: Option<Verdict>, verdict: Verdict)
+        ensures filter { self.new.filter ≡ self.old.filter }
+        ensures kept { IsSome (kept_at self.old.kept key.now)
+            → Becomes key.now verdict self.old.kept self.new.kept }
+        ensures due { IsUnplanned key.now (change_of old) verdict.next self.old.due self.new.due }
+    {
+        self.unplan(key, change_of(old), verdict.next);
+        if let Some(kept) = self.kept.get_mut(key) {
+            *kept = verdict;
+        }
+    }
+
+    /// Keeps no verdict on a key, so that it is `OUT`.
+    pub(crate) fn forget(&mut self, key: &Key)
+        ensures filter { self.new.filter ≡ self.old.filter }
+        ensures kept { Becomes key.now out self.old.kept self.new.kept }
+        ensures due { IsUnplanned key.now (change_of (kept_at self.old.kept key.now)) None
+            self.old.due self.new.due }
+    {
+        if let Some(old) = self.kept.remove(key) {
+            self.unplan(key, old.next, None);
+        }
+    }
+}
+
+impl Watch {
+    // Makes room for a verdict on a key, and answers the one that is kept.
+    fn make_room(&mut self, key: &Key) -> Result<Option<Verdict>, NoMemory>
+        ensures found { IfOk result (λ old. old ≡ kept_at self.old.kept key.now) }
+        ensures room { OnOk result (self.new
+            ≡ record self.old { kept = with_room key.now self.old.kept }) }
+        ensures there { OnOk result (IsSome (kept_at self.new.kept key.now)) }
+        ensures same { OnOk result ((q : _) → verdict_at self.new.kept q
+            ≡ verdict_at self.old.kept q) }
+        ensures err { OnErr result (self.new ≡ self.old) }
+    {
+        let old = self.kept.get(key).copied();
+        if old.is_none() {
+            self.kept.insert(key.duplicate(self.alloc)?, OUT)?;
+        }
+        Ok(old)
+    }
+
+    // Takes a key's verdict out.
+    fn take_out(&mut self, key: &Key)
+        ensures { self.new ≡ record self.old { kept = without_key key.now self.old.kept } }
+    {
+        self.kept.remove(key);
+    }
+
+    // Plans a key's change at `after` beside that at `before`, if it is another.
+    fn plan(&mut self, key: &Key, before: Option<u64>, after: Option<u64>) -> Result<(), NoMemory>
+        ensures filter { self.new.filter ≡ self.old.filter }
+        ensures kept { self.new.kept ≡ self.old.kept }
+        ensures planned { OnOk result (IsPlanned key.now before after self.old.due self.new.due) }
+        ensures err { OnErr result (self.new ≡ self.old) }
+    {
+        if before == after {
+            return Ok(());
+        }
+        if let Some(at) = after {
+            self.due.plan(at, key.duplicate(self.alloc)?)?;
+        }
+        Ok(())
+    }
+
+    // Cancels a key's change at `gone`, if that isn't the one that stays.
+    fn unplan(&mut self, key: &Key, gone: Option<u64>, stays: Option<u64>)
+        ensures filter { self.new.filter ≡ self.old.filter }
+        ensures kept { self.new.kept ≡ self.old.kept }
+        ensures due { IsUnplanned key.now gone stays self.old.due self.new.due }
+    {
+        if gone == stays {
+            return;
+        }
+        if let Some(at) = gone {
+            self.due.cancel(at, key);
+        }
+    }
+}
+
+// The moment at which a verdict changes, where there is a verdict that does.
+fn change_of(verdict: Option<Verdict>) -> Option<u64>
+    ensures { result ≡ change_of verdict }
+{
+    verdict.and_then(|verdict| verdict.next)
+}
