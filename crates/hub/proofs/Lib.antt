@@ -8,3 +8,4 @@ pub mod Recalling
 pub mod Replacing
 pub mod Filling
 pub mod Held
+pub mod Allowing

@@ -1,6 +1,6 @@
 //! The hub: one lock, one history, and lenses that take no lock.
 
-ghost use Rattle.std.specs.Prelude.{◌≡◌, ◌<◌, ◌≤◌, ◌^◌, [], ◌∷◌, true, false, IfOk, IfSome, OnOk, MatchResult};
+ghost use Rattle.std.specs.Prelude.{◌≡◌, ◌<◌, ◌≤◌, ◌^◌, [], ◌∷◌, ◌↔◌, true, false, IfOk, IfSome, IsTrue, OnOk, MatchResult};
 ghost use Rattle.std.specs.List.{All};
 ghost use Rattle.agg_types.specs.Check.{config_faults};
 ghost use Rattle.agg_types.specs.declared.event.What.TheVariants.{Leave};
@@ -127,17 +127,12 @@ impl<J: Naming, R: Wait + Drop> Hub<J, R> {
         &self.config
     }
 
-    /// Whether a batch may be posted: each of it fits the configuration, and none is a Sit or a
-    /// Leave. Takes no memory and no lock.
+    /// Whether a batch may be posted, exactly: each of it fits the configuration, and none is a Sit
+    /// or a Leave. Takes no memory and no lock.
     pub fn allows(&self, whats: &[What]) -> bool
-        ensures { result ≡ true → All (MayPost self.now.config) whats.now }
+        ensures { IsTrue result ↔ All (MayPost self.now.config) whats.now }
     {
-        for what in whats {
-            if !may_post(&self.config, what) {
-                return false;
-            }
-        }
-        true
+        whats.iter().all(|what| may_post(&self.config, what))
     }
 
     // What a pass of this hub has seen is of the hub's fleet.
@@ -226,7 +221,7 @@ impl<J: Naming, R: Wait + Drop> Hub<J, R> {
 }
 
 fn may_post(config: &Config, what: &What) -> bool
-    ensures { result ≡ true → MayPost config.now what.now }
+    ensures { IsTrue result ↔ MayPost config.now what.now }
 {
     match what {
         What::Sit | What::Leave => false,

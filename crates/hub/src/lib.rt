@@ -18,6 +18,7 @@ mod faults;
 mod hand;
 mod hub;
 mod keeper;
+pub mod laws;
 mod lens;
 mod log;
 mod naming;
