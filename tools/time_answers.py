@@ -1,0 +1,83 @@
+#!/usr/bin/env python3
+"""Times the answers of the collector, or of HAProxy itself, over the same keys.
+
+    time_answers.py --haproxy /usr/sbin/haproxy --keys 100000
+    time_answers.py --collector ../crates/aggregator/out/aggregator --keys 100000
+
+It speaks as the peer `lb1` to the receiver `agg`, as time_receiver.py does, and defines a table `t` of addresses
+with gpc0, conn_cnt and http_req_rate(10s). The key of each number n has gpc0 n modulo 200. Then it asks for the
+whole table, for the rows of one key in 200, and for one key, each the least of five times, and clears the table.
+A time is from the question's first byte to the answer's last; the bytes of each answer are told with it.
+"""
+
+import argparse
+import pathlib
+import struct
+import tempfile
+import time
+
+from ask import ask_proxy
+from peers_protocol import UPDATE, put_int
+from proxies import Collector, free_ports
+from time_receiver import COLLECTOR_CONFIG, Peer, definition, message, start_haproxy
+
+EXPIRY = 600000
+
+QUESTIONS = ["show table t", "show table t data.gpc0 gt 198", "show table t key 10.0.0.7"]
+
+
+def stream(keys):
+    """The bytes that make each key known."""
+    out = bytearray(definition(EXPIRY))
+    for number in range(keys):
+        key = struct.pack(">I", 0x0A000000 + number)
+        values = put_int(number % 200) + put_int(number) + put_int(100) + put_int(30) + put_int(100)
+        out += message(UPDATE, struct.pack(">I", number + 1) + key + values)
+    return bytes(out)
+
+
+def timed(question, asked, times):
+    """Prints how long an answer takes, the least of some times, and how long it is."""
+    took = []
+    for _ in range(times):
+        start = time.perf_counter()
+        answer = asked(question)
+        took.append(time.perf_counter() - start)
+    print(f"{question}: {min(took) * 1e3:.1f} ms, {len(answer)} bytes")
+
+
+def measure(address, keys, asked):
+    data = stream(keys)
+    Peer(address, "lb1", "agg").push(data, keys)
+    for question in QUESTIONS:
+        timed(question, asked, 5)
+    timed("clear table t", asked, 1)
+
+
+def main():
+    words = argparse.ArgumentParser(description=__doc__, formatter_class=argparse.RawDescriptionHelpFormatter)
+    words.add_argument("--collector", help="the aggregator program to ask")
+    words.add_argument("--haproxy", help="the haproxy program to ask")
+    words.add_argument("--keys", type=int, default=100000)
+    options = words.parse_args()
+    with tempfile.TemporaryDirectory() as folder:
+        if options.haproxy:
+            process, address = start_haproxy(options.haproxy, 1, folder)
+            asked = lambda question: ask_proxy(f"{folder}/stats", question, timeout=60)
+        elif options.collector:
+            config = pathlib.Path(folder) / "collector.conf"
+            config.write_text(COLLECTOR_CONFIG.format(peers="peer lb1"))
+            peers, admin = free_ports(2)
+            collector = Collector(options.collector, peers, admin, config)
+            process, address, asked = collector.process, ("127.0.0.1", peers), collector.ask
+        else:
+            words.error("--collector or --haproxy is needed")
+        try:
+            measure(address, options.keys, asked)
+        finally:
+            process.terminate()
+            process.wait()
+
+
+if __name__ == "__main__":
+    main()
