@@ -1,0 +1,221 @@
+//! Touches keys under standing filters as the clock goes on, and prints what each filter holds,
+//! when that changes next, and how many values were read.
+//!
+//! It shows what no contract says: that these calls succeed while there is memory, and how few
+//! values they read.
+#![tactic(auto)]
+
+ghost use Rattle.std.specs.Prelude.{◌≤◌, length, IfOk};
+ghost use Rattle.std.specs.List.{All};
+
+mod pair;
+
+use agg_types::{Col, Cond, Config, Filter, Items, Key, Name, NoMemory, Op};
+use anyhow::Result;
+use pair::Pair;
+use period_rate::Rate;
+use standing_filters::Standing;
+use std::alloc::Global;
+use std::io::Print;
+
+// The end of a row that outlasts all rows here.
+const LATE: u64 = 1_000_000;
+
+fn main(rt: HostRuntime) -> Result<()> {
+    let alloc = rt.alloc();
+    passing(&rt, alloc)?;
+    fleet(&rt, alloc)?;
+    ending(&rt, alloc)?;
+    contrary(&rt, alloc)?;
+    bounds(&rt, alloc)?;
+    four(&rt, alloc)
+}
+
+// A rate of 3 events in the second before, which falls to 0 within the next one.
+fn falling(elapsed: u64) -> Rate {
+    Rate::arrive(1000, elapsed, 0, 3, 0)
+}
+
+// A condition on the value.
+fn cond(op: Op, bound: u64) -> Cond {
+    Cond {
+        col: Col::Gpc0,
+        op,
+        bound,
+    }
+}
+
+// A configuration with one filter on its first table.
+fn config(alloc: Global, conds: &[Cond]) -> Result<Config, NoMemory>
+    requires { length conds.now ≤ 4 }
+    ensures { IfOk result (λ config. All (λ filter. length filter.conds ≤ 4) config.filters) }
+{
+    let mut filters = Vec::new(alloc);
+    filters.push(Filter {
+        name: Name::copy(alloc, b"f")?,
+        table: 0,
+        conds: Items::copy(alloc, conds)?,
+    })?;
+    Ok(Config {
+        me: Name::copy(alloc, b"agg")?,
+        peers: Items::from_vec(Vec::new(alloc)),
+        tables: Items::from_vec(Vec::new(alloc)),
+        filters: Items::from_vec(filters),
+        ranks: Items::from_vec(Vec::new(alloc)),
+    })
+}
+
+// Touches a key at each moment, and prints what the filter says then.
+fn tell<R: Print>(
+    rt: &R,
+    alloc: Global,
+    name: &str,
+    conds: &[Cond],
+    values: &Pair,
+    moments: &[u64],
+) -> Result<()>
+    requires { length conds.now ≤ 4 }
+{
+    println!(rt; "{name}")?;
+    let mut standing = Standing::new(alloc, &config(alloc, conds)?)?;
+    let key = Key::copy(alloc, b"k")?;
+    for t in moments {
+        standing.touch(0, &key, values, *t)?;
+        show(rt, &standing, *t)?;
+    }
+    Ok(())
+}
+
+fn show<R: Print>(rt: &R, standing: &Standing, t: u64) -> Result<()> {
+    if standing.len() == 0 {
+        return Ok(());
+    }
+    let mut keys = standing.keys(0);
+    let held = keys.next().is_some();
+    let next = standing.next_change(0);
+    let evals = standing.evals();
+    println!(rt; "at {t}: held:{held} next:{next:?} evals:{evals}")?;
+    Ok(())
+}
+
+// A value that passes 2 from above: the key comes at 1 and goes at 334.
+fn passing<R: Print>(rt: &R, alloc: Global) -> Result<()> {
+    let values = Pair {
+        first: falling(0),
+        second: Rate::arrive(1000, 3000, 0, 0, 0),
+        ends: LATE,
+    };
+    tell(
+        rt,
+        alloc,
+        "passing",
+        &[cond(Op::Eq, 2)],
+        &values,
+        &[0, 1, 333, 334],
+    )?;
+    tell(rt, alloc, "jump", &[cond(Op::Eq, 2)], &values, &[0, 334])
+}
+
+// Two proxies' rates, each rounded down by itself.
+fn fleet<R: Print>(rt: &R, alloc: Global) -> Result<()> {
+    let values = Pair {
+        first: falling(0),
+        second: falling(500),
+        ends: LATE,
+    };
+    tell(
+        rt,
+        alloc,
+        "fleet",
+        &[cond(Op::Ge, 3)],
+        &values,
+        &[0, 1, 166, 167],
+    )
+}
+
+// A row that ends in the millisecond in which its value falls below the bound, or before.
+fn ending<R: Print>(rt: &R, alloc: Global) -> Result<()> {
+    let mut values = Pair {
+        first: falling(0),
+        second: falling(500),
+        ends: 167,
+    };
+    tell(
+        rt,
+        alloc,
+        "ends with",
+        &[cond(Op::Ge, 3)],
+        &values,
+        &[0, 166, 167],
+    )?;
+    values.ends = 100;
+    tell(
+        rt,
+        alloc,
+        "ends before",
+        &[cond(Op::Ge, 3)],
+        &values,
+        &[0, 99, 100],
+    )
+}
+
+// Conditions that never hold together.
+fn contrary<R: Print>(rt: &R, alloc: Global) -> Result<()> {
+    let values = Pair {
+        first: falling(0),
+        second: falling(0),
+        ends: LATE,
+    };
+    let conds = [cond(Op::Ge, 3), cond(Op::Lt, 3)];
+    tell(rt, alloc, "contrary", &conds, &values, &[0, 500])
+}
+
+// The least and the greatest bound.
+fn bounds<R: Print>(rt: &R, alloc: Global) -> Result<()> {
+    let values = Pair {
+        first: falling(0),
+        second: falling(0),
+        ends: 2000,
+    };
+    tell(
+        rt,
+        alloc,
+        "ge 0",
+        &[cond(Op::Ge, 0)],
+        &values,
+        &[0, 1999, 2000],
+    )?;
+    tell(rt, alloc, "lt 0", &[cond(Op::Lt, 0)], &values, &[0])?;
+    tell(
+        rt,
+        alloc,
+        "le most",
+        &[cond(Op::Le, u64::MAX)],
+        &values,
+        &[0, 2000],
+    )?;
+    tell(
+        rt,
+        alloc,
+        "gt most",
+        &[cond(Op::Gt, u64::MAX)],
+        &values,
+        &[0],
+    )
+}
+
+// Four conditions on one value.
+fn four<R: Print>(rt: &R, alloc: Global) -> Result<()> {
+    let values = Pair {
+        first: falling(0),
+        second: falling(0),
+        ends: LATE,
+    };
+    let conds = [
+        cond(Op::Lt, 6),
+        cond(Op::Ge, 2),
+        cond(Op::Ne, 4),
+        cond(Op::Le, 5),
+    ];
+    tell(rt, alloc, "four", &conds, &values, &[0, 1, 333, 334, 667])
+}
