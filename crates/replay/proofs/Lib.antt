@@ -4,3 +4,4 @@ pub mod SoFar
 pub mod Written
 pub mod Cutting
 pub mod Scripts
+pub mod Known

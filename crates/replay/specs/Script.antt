@@ -12,6 +12,7 @@ use Rattle.line_words.specs.declared.numbers.NumberFault.{NumberFault}
 use Rattle.replay.specs.Meaning.{only}
 use Rattle.replay.specs.Runs.{Prints}
 use Rattle.replay.specs.Texts.{fault_text}
+use Rattle.replay.specs.Writing.{Wrote, WroteFront}
 use Rattle.replay.specs.declared.ending.Ending.{Ending}
 use Rattle.replay.specs.declared.ending.Ending.TheVariants.{BadConfiguration, BadScript, Failed}
 
@@ -76,6 +77,12 @@ StartsAt lines (Some before) text ending =
 abbrev pub ScriptPrints : List ℕ → List ℕ → Ending → Type 0
 ScriptPrints script =
     OrNothing (StartsAt (lines_of script) (position is_start (lines_of script)))
+
+-- a script was replayed whole, or a read or a write failed: then a beginning was written
+abbrev pub IsReplayed : List ℕ → Option (List ℕ) → Option (List ℕ) → Ending → Type 0
+IsReplayed script before after ending =
+    Wrote (ScriptPrints script) before after ending
+    ⊎ (WroteFront (ScriptPrints script) before after × (ending ≡ Failed))
 
 -- what stands before a line `start`, its number, what it says, and what stands behind it
 pub record Cuts (lines : List (List ℕ)) (at : ℕ) (front : List ℕ) (line : ℕ)

@@ -1,11 +1,11 @@
 //! Scripts of steps and commands, replayed over a fleet.
 //!
-//! `aggregator replay` and `replay_rows` call it. `replay` writes what specs/Script says that a
-//! script prints: its first line `start` is looked for, its configuration is read, and then each
-//! line is done. The lines' texts stand one behind the other, each that of the fleet's answers
+//! `aggregator replay` and the programs of its rows call it. `replay` writes what specs/Script says
+//! that a script prints: its first line `start` is looked for, its configuration is read, and then
+//! each line is done. The lines' texts stand one behind the other, each that of the fleet's answers
 //! after the steps before it (specs/Runs), up to a line that ends the replay or wants memory. Where
-//! a write fails, a beginning of that was written. No clause says that a growth is refused only for
-//! want of memory.
+//! a write fails, a beginning of that was written. `replay_from` does the same with what a reader
+//! has. No clause says that a growth is refused only for want of memory.
 #![tactic(auto)]
 
 mod commands;
@@ -16,8 +16,10 @@ mod script;
 mod slices;
 mod start;
 mod steps;
+mod streams;
 mod texts;
 mod writing;
 
 pub use ending::Ending;
 pub use script::replay;
+pub use streams::replay_from;
