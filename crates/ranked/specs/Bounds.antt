@@ -44,6 +44,10 @@ ranking_of living value keys =
 abbrev pub first_ranked : ℕ → (List ℕ → ℕ) → (List ℕ → ℕ) → List (List ℕ) → List (List ℕ × ℕ)
 first_ranked n living value keys = take n (ranking_of living value keys)
 
+-- each key stands once, in order
+abbrev pub IsByKey : List (List ℕ × ℕ) → Type 0
+IsByKey bounds = IsStrictlySortedBy (slice_cmp nat_cmp) (keys_of bounds)
+
 -- an index has each key by its bound, and nothing else
 abbrev pub IsIndexOf : List (ℕ × List ℕ) → List (List ℕ × ℕ) → Type 0
 IsIndexOf index bounds = (e : ℕ × List ℕ)
@@ -52,7 +56,7 @@ IsIndexOf index bounds = (e : ℕ × List ℕ)
 -- what holds of bounds beside their index
 pub record AreKept (index : List (ℕ × List ℕ)) (bounds : List (List ℕ × ℕ)) : Type 0 where
   pub indexed : IsIndexOf index bounds
-  pub ordered : IsStrictlySortedBy (slice_cmp nat_cmp) (keys_of bounds)
+  pub ordered : IsByKey bounds
 
 -- an index has each key once, by its bound, and nothing else
 pub record IsListOf (index : List (ℕ × List ℕ)) (bounds : List (List ℕ × ℕ)) : Type 0 where

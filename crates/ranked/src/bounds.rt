@@ -1,7 +1,7 @@
 ghost use Rattle.std.specs.Prelude.{◌≡◌, ◌≢◌, ◌≤◌, ◌+◌, ◌*◌, [], IfOk, OnOk, OnErr};
 ghost use Rattle.std.specs.Option.{IsSomeAnd};
 ghost use Rattle.std.specs.Map.{keys_of};
-ghost use Rattle.ranked.specs.Bounds.{AreAllBounded, AreOthersKept, IsListOf, bound_at, first_ranked, zeros_at};
+ghost use Rattle.ranked.specs.Bounds.{AreAllBounded, AreOthersKept, IsByKey, IsListOf, bound_at, first_ranked, zeros_at};
 
 use crate::Ranked;
 use crate::slack::{serves, zeros_for};
@@ -84,6 +84,7 @@ impl Bounds {
     /// live row has a bound of at least its value. Takes all memory that the list needs.
     pub fn top<'a, V: Values>(
         &'a self,
+        alloc: Global,
         rank: &Rank,
         now: u64,
         values: &'a V,
@@ -98,8 +99,9 @@ impl Bounds {
             (keys_of self.now)) }
         ensures index { IfOk result (λ list. IsListOf list.index self.now) }
         ensures start { IfOk result (λ list. list.walked ≡ 0) }
+        ensures ordered { IsByKey self.now }
     {
-        Ranked::new(self.alloc, &self.index, rank, now, values)
+        Ranked::new(alloc, &self.index, rank, now, values)
     }
 }
 

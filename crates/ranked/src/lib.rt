@@ -9,7 +9,7 @@
 //! above four times of what it bounds. So a count that grows moves its entry each time it doubles,
 //! and a value that moves a little moves nothing. A list looks at all keys whose bound isn't below
 //! the value that it gives: where values are spread, a few more than it gives; where nearly all
-//! have as many digits, nearly all.
+//! have as many digits, nearly all. `Leaders` keeps bounds for several lists, by their positions.
 //!
 //! Promised: a touched key has a bound of at least what was touched, and at most four times of it
 //! and 3, until it is touched again or dropped; `Ranked` lends the first keys that a sort of all
@@ -20,9 +20,11 @@
 mod ahead;
 mod bounds;
 mod candidates;
+mod leaders;
 mod list;
 mod slack;
 mod walk;
 
 pub use bounds::Bounds;
+pub use leaders::Leaders;
 pub use list::Ranked;

@@ -114,9 +114,9 @@ impl Board {
     }
 
     /// The first keys now.
-    pub fn top(&self, rank: &Rank) -> Result<Ranked<'_, Starts>, NoMemory>
+    pub fn top(&self, alloc: Global, rank: &Rank) -> Result<Ranked<'_, Starts>, NoMemory>
         requires { rank.now.n ≤ 1000 }
     {
-        self.bounds.top(rank, self.now, &self.starts)
+        self.bounds.top(alloc, rank, self.now, &self.starts)
     }
 }

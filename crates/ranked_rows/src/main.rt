@@ -40,10 +40,10 @@ fn rank(alloc: Global, n: u64) -> Result<Rank, NoMemory>
 }
 
 // Prints the first keys, and after each how many entries were looked at so far.
-fn show<R: Print>(rt: &R, board: &Board, rank: &Rank) -> Result<()>
+fn show<R: Print>(rt: &R, alloc: Global, board: &Board, rank: &Rank) -> Result<()>
     requires { rank.now.n ≤ 1000 }
 {
-    let mut top = board.top(rank)?;
+    let mut top = board.top(alloc, rank)?;
     for _ in 0..rank.n {
         let Some((key, value)) = top.next() else {
             break;
@@ -61,10 +61,10 @@ fn alike<R: Print>(rt: &R, alloc: Global) -> Result<()> {
     for number in [3, 1, 2] {
         board.set(key(alloc, number)?, 5)?;
     }
-    show(rt, &board, &rank(alloc, 2)?)?;
+    show(rt, alloc, &board, &rank(alloc, 2)?)?;
     println!(rt; "without 1")?;
     board.drop_key(&key(alloc, 1)?);
-    show(rt, &board, &rank(alloc, 3)?)
+    show(rt, alloc, &board, &rank(alloc, 3)?)
 }
 
 // The first of three bounds is of a key whose value has fallen far below it.
@@ -75,10 +75,10 @@ fn fallen<R: Print>(rt: &R, alloc: Global) -> Result<()> {
     board.wait(99);
     board.set(key(alloc, 1)?, 5)?;
     board.set(key(alloc, 2)?, 3)?;
-    show(rt, &board, &rank(alloc, 2)?)?;
+    show(rt, alloc, &board, &rank(alloc, 2)?)?;
     println!(rt; "set anew")?;
     board.set(key(alloc, 3)?, 1)?;
-    show(rt, &board, &rank(alloc, 3)?)
+    show(rt, alloc, &board, &rank(alloc, 3)?)
 }
 
 // Each key has a part of the first one's value, as its number says. The tenth is 100,000, and 15
@@ -89,7 +89,7 @@ fn steep<R: Print>(rt: &R, alloc: Global) -> Result<()> {
     for number in 1..=2_000u16 {
         board.set(key(alloc, number)?, 1_000_000 / u64::from(number))?;
     }
-    show(rt, &board, &rank(alloc, 10)?)
+    show(rt, alloc, &board, &rank(alloc, 10)?)
 }
 
 // Values between 1,000 and 1,006, and so bounds of 1,023: all keys are looked at.
@@ -99,5 +99,5 @@ fn level<R: Print>(rt: &R, alloc: Global) -> Result<()> {
     for number in 0..1_000u16 {
         board.set(key(alloc, number)?, 1_000 + u64::from(number % 7))?;
     }
-    show(rt, &board, &rank(alloc, 3)?)
+    show(rt, alloc, &board, &rank(alloc, 3)?)
 }

@@ -3,7 +3,7 @@ use Rattle.std.proofs.lemmas.Result.{IfOk-weaker}
 use Rattle.std.specs.Map.{keys_of}
 use Rattle.ranked.proofs.Indexed.{bounds_hold}
 use Rattle.ranked.proofs.Sorting.{found_is}
-use Rattle.ranked.specs.Bounds.{AreAllBounded, IsIndexOf, IsListOf, first_ranked}
+use Rattle.ranked.specs.Bounds.{AreAllBounded, IsIndexOf, IsByKey, IsListOf, first_ranked}
 use Rattle.ranked.proofs.bounds.Bounds.top.Goals as goal
 
 pub new-requires-clause-bounds : goal.new-requires-clause-bounds
@@ -25,4 +25,5 @@ returns g c =
         in_order = c.new.ensures.ordered;
       })) c.new.ensures.index;
       start = c.new.ensures.start;
+      ordered = subst IsByKey c.self.view_is c.self.invariant.ordered;
     }

@@ -1,0 +1,83 @@
+ghost use Rattle.std.specs.Prelude.{◌≡◌, ◌<◌, ◌≤◌, ℕ, [], length, IfOk, OnOk, OnErr};
+ghost use Rattle.std.specs.Map.{keys_of};
+ghost use Rattle.ranked.specs.Bounds.{AreAllBounded, IsBounded, IsByKey, IsListOf, bound_at, first_ranked};
+ghost use Rattle.ranked.specs.Leaders.{IsOneKeyOf, bounds_of};
+
+use crate::{Bounds, Ranked};
+use agg_types::{Key, NoMemory, Rank};
+use crossing::Values;
+use std::alloc::Global;
+use std::marker::Model;
+
+/// The bounds of several ranked lists, by their positions.
+#[derive(Drop)]
+pub struct Leaders {
+    lists: Vec<Bounds>,
+}
+
+impl Model for Leaders {
+    ghost use Rattle.std.specs.Prelude.{List, ℕ};
+
+    ghost Value = { List (List (List ℕ × ℕ)) };
+
+    ghost view = { λ leaders. leaders.lists.items };
+}
+
+impl Leaders {
+    /// No bounds, for so many ranked lists.
+    pub fn new(alloc: Global, count: usize) -> Result<Leaders, NoMemory>
+        ensures count { IfOk result (λ leaders. length leaders ≡ count) }
+        ensures none { IfOk result (λ leaders. (list : ℕ) → bounds_of leaders list ≡ []) }
+    {
+        let mut lists = Vec::new(alloc);
+        for _ in 0..count {
+            lists.push(Bounds::new(alloc))?;
+        }
+        Ok(Leaders { lists })
+    }
+
+    /// Sees to it that a key's bound in a list is at least this. After `NoMemory` nothing has
+    /// changed.
+    pub fn touch(&mut self, list: usize, key: &Key, bound: u128) -> Result<(), NoMemory>
+        requires { list < length self.old }
+        ensures holds { OnOk result (IsBounded (bounds_of self.new list) key.now bound) }
+        ensures others { IsOneKeyOf list key.now self.old self.new }
+        ensures err { OnErr result (self.new ≡ self.old) }
+    {
+        self.lists[list].touch(key, bound)
+    }
+
+    /// Takes a key's bound in a list away. Takes no memory.
+    pub fn drop_key(&mut self, list: usize, key: &Key)
+        requires { list < length self.old }
+        ensures gone { bound_at (bounds_of self.new list) key.now ≡ None }
+        ensures others { IsOneKeyOf list key.now self.old self.new }
+    {
+        self.lists[list].drop_key(key);
+    }
+
+    /// A ranked list at a moment, as `Bounds::top` finds it.
+    pub fn top<'a, V: Values>(
+        &'a self,
+        alloc: Global,
+        list: usize,
+        rank: &Rank,
+        now: u64,
+        values: &'a V,
+    ) -> Result<Ranked<'a, V>, NoMemory>
+        requires there { list < length self.now }
+        requires short { rank.now.n ≤ 1000 }
+        requires bounds { AreAllBounded (bounds_of self.now list)
+            (λ key. V.living values.now rank.now.table key now)
+            (λ key. V.summed values.now rank.now.table key rank.now.col now) }
+        ensures list { IfOk result (λ found. found.left ≡ first_ranked rank.now.n
+            (λ key. V.living values.now rank.now.table key now)
+            (λ key. V.summed values.now rank.now.table key rank.now.col now)
+            (keys_of (bounds_of self.now list))) }
+        ensures index { IfOk result (λ found. IsListOf found.index (bounds_of self.now list)) }
+        ensures start { IfOk result (λ found. found.walked ≡ 0) }
+        ensures ordered { IsByKey (bounds_of self.now list) }
+    {
+        self.lists[list].top(alloc, rank, now, values)
+    }
+}
