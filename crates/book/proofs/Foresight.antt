@@ -1,5 +1,5 @@
 -- When the first key of a filter comes or goes, and that this is when its set changes.
-use Rattle.std.proofs.Common.{◌≡◌, ◌≢◌, ℕ, ◌+◌, ◌-◌, ◌^◌, ◌≤◌, ◌<◌, Bool, true, false, not, ◌&&◌, ◌||◌, cond, nat_le, nat_lt, List, [], ◌∷◌, ◌++◌, length, get_or, take, map, min, Option, None, Some, IfSome, refl, sym, ap, ◌∙◌, subst, arith}
+use Rattle.std.proofs.Common.{◌≡◌, ◌≢◌, ℕ, ◌+◌, ◌-◌, ◌^◌, ◌≤◌, ◌<◌, Bool, true, false, ◌&&◌, ◌||◌, cond, nat_le, nat_lt, List, [], ◌∷◌, ◌++◌, length, get_or, take, map, min, Option, None, Some, IfSome, refl, sym, ap, ◌∙◌, subst, arith}
 use Rattle.std.proofs.lemmas.Bool.Decides.{nat_tests}
 use Rattle.std.proofs.lemmas.List.{take_more, take_all}
 use Rattle.std.proofs.lemmas.Map.Lookups.{exact_bytes}
@@ -15,12 +15,11 @@ use Rattle.agg_types.specs.declared.config.Filter.{Filter}
 use Rattle.crossing.specs.First.{IsFirstFrom}
 use Rattle.standing_filters.specs.Verdicts.{IsTold}
 use Rattle.standing_filters.specs.declared.judging.Verdict.{Verdict}
-use Rattle.fleet_model.specs.Answers.{keys_of}
-use Rattle.fleet_model.specs.Changes.{IsKeyChange, IsTurn, NoKeyChangesBefore, rows_flat_from}
-use Rattle.fleet_model.specs.Keys.{Rows, has_live, holds, is_at_key, key_rows, meet_at, one_if, worth_of}
-use Rattle.fleet_model.specs.Laws.{AreLive, IsKeyList, IsOrdered, has_live_row, is_key_among}
+use Rattle.fleet_model.specs.Changes.{IsKeyChange, IsTurn, rows_flat_from}
+use Rattle.fleet_model.specs.Keys.{Rows, has_live, holds, is_at_key, key_rows, meet_at, one_if}
+use Rattle.fleet_model.specs.Laws.{AreLive, IsKeyList, IsOrdered, is_key_among}
 use Rattle.fleet_model.specs.Moments.{is_live}
-use Rattle.fleet_model.specs.Next.{IsNextChange, flat_moment, longest_period, table_flat_from}
+use Rattle.fleet_model.specs.Next.{IsNextChange, table_flat_from}
 use Rattle.fleet_model.specs.State.{State}
 use Rattle.fleet_model.specs.Values.{cols_of, same_key}
 use Rattle.fleet_model.proofs.KeyChanges.{first-change, key-flat, never-empty, no-change, rows-within}
@@ -54,7 +53,7 @@ turn_from truth test now verdict same told = by verdict.next told.next
 some_more : (n : ℕ) → nat_lt 0 (1 + n) ≡ true
 some_more n = grind (arith, nat_tests)
 
-live_any : (rows : Rows) (t : ℕ) → nat_lt 0 (living_of rows t) ≡ has_live rows t
+pub live_any : (rows : Rows) (t : ℕ) → nat_lt 0 (living_of rows t) ≡ has_live rows t
 live_any [] t = refl
 live_any (row ∷ rows) t = by (is_live t row.1) (live_any rows t)
   where

@@ -3,8 +3,7 @@ use Rattle.std.proofs.Common.{◌≡◌, ℕ, ◌+◌, ◌≤◌, ◌==◌, nat_
 use Rattle.std.specs.Prelude.{IfNone, IfSome, IsSome, filter, map}
 use Rattle.std.specs.BTreeMap.{insert_entry, is_at}
 use Rattle.std.specs.List.{AllByRecursion, list_any}
-use Rattle.std.specs.List.Sorted.{IsStrictlySortedBy}
-use Rattle.std.specs.Map.{keys_of, lookup, remove_entry}
+use Rattle.std.specs.Map.{lookup, remove_entry}
 use Rattle.std.specs.Option.{is_some, option_map}
 use Rattle.std.specs.Ordering.{is_eq, match_ordering, nat_cmp}
 use Rattle.std.specs.Set.{remove_key}
@@ -24,7 +23,7 @@ use Rattle.book.specs.Planned.{AreRows, EndsBy, HasPlan, IsInside, IsOverBy, Sta
 use Rattle.book.specs.declared.puts.Plan.{Plan as PlanOf}
 use Rattle.book.specs.Shown.{as_arrival}
 use Rattle.book.specs.Store.{AreKept}
-use Rattle.book.proofs.Lists.{all-both, all-filter, all-insert_entry, all-map, all-remove_entry, all_found, any_more, own-insert_key, remove-filter}
+use Rattle.book.proofs.Lists.{all-both, all-filter, all-insert_entry, all-map, all_found, any_more, own-insert_key, remove-filter}
 use Rattle.fleet_model.proofs.InForce.{place_cmp_exact, place_cmp_total}
 use Rattle.book.proofs.Plans.{Entry, Plan, entry_exact, equal_from, own_place, rows-filter, same_place_is, seen_earlier, seen_right, seen_row, unending_row}
 

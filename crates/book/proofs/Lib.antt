@@ -6,3 +6,5 @@ pub mod Counting
 pub mod Listings
 pub mod Forgets
 pub mod Foresight
+pub mod Leading
+pub mod FirstKeys

@@ -27,7 +27,7 @@ use Rattle.peer_rows.specs.declared.row.Row.{Row}
 use Rattle.book.specs.Planned.{AreAfter, AreLate, ArePlanned, AreRows, AreSeenLater, EndsBy, IsInside, IsOverBy, is_by, is_planned, is_seen, lives_at}
 use Rattle.book.specs.Shown.{as_arrival}
 use Rattle.book.specs.Store.{AreKept}
-use Rattle.book.proofs.Lists.{all-at, all-both, all-filter, all-insert_entry, all-insert_key, all-map, all-remove_entry, all_found, any-insert_key, any_more, filter-all, filter-filter, own-insert_key, remove-filter, same_filters, sorted-filter}
+use Rattle.book.proofs.Lists.{all-at, all-both, all-filter, all-insert_key, all-map, all_found, any-insert_key, any_more, filter-all, filter-filter, own-insert_key, remove-filter, same_filters, sorted-filter}
 
 abbrev pub Plan : Type 0
 Plan = ℕ × Place

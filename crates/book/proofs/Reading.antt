@@ -1,13 +1,11 @@
 -- What rows that are read stand for.
-use Rattle.std.proofs.Common.{◌≡◌, ℕ, zero, suc, ◌++◌, ◌^◌, ◌-◌, ◌||◌, not, max, min, nat_lt, is_some, take, get_or, ◌+◌, ◌<◌, ◌≤◌, ◌==◌, Bool, true, false, cond, ◌&&◌, List, [], ◌∷◌, Option, None, Some, length, refl, sym, ap, ◌∙◌, drop, arith}
+use Rattle.std.proofs.Common.{◌≡◌, ℕ, zero, suc, ◌^◌, ◌-◌, ◌||◌, not, max, min, nat_lt, is_some, take, ◌+◌, ◌<◌, ◌≤◌, ◌==◌, Bool, true, false, cond, ◌&&◌, List, [], ◌∷◌, Option, None, Some, length, refl, sym, ap, ◌∙◌, drop, arith}
 use Rattle.std.specs.Prelude.{filter, map, slice_get}
 use Rattle.std.specs.Cmp.Lexicographic.{slice_cmp}
 use Rattle.std.specs.BTreeMap.{is_at}
 use Rattle.std.specs.Borrow.{Bor}
 use Rattle.std.specs.List.{AllByRecursion, dedup, fold, list_all, list_any}
 use Rattle.std.specs.Option.{MatchOption, option_copied, option_map}
-use Rattle.std.proofs.lemmas.List.{take_more}
-use Rattle.std.proofs.lemmas.List.Folds.{list_any-append}
 use Rattle.fleet_model.specs.Answers.{left_of, longer, sum_up, tally}
 use Rattle.fleet_model.specs.declared.summed.Summed.{Summed}
 use Rattle.agg_types.specs.Col.{same_col}

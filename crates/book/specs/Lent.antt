@@ -2,10 +2,6 @@
 use Rattle.std.specs.Prelude.{ℕ, List, Option, Some}
 use Rattle.std.specs.Borrow.{Bor}
 use Rattle.std.specs.Option.{option_map}
-use Rattle.agg_types.specs.declared.column.Col.{Col}
-use Rattle.agg_types.specs.declared.place.Place.{Place}
-use Rattle.fleet_model.specs.Values.{value}
-use Rattle.fleet_model.specs.declared.arrival.Arrival.{Arrival}
 use Rattle.fleet_model.specs.declared.summed.Summed.{Summed}
 
 -- a key with its value
@@ -19,10 +15,6 @@ key_and_sums row = (row.0.now, row.1)
 -- a key that has a summed row
 abbrev pub shown_row : List ℕ × Summed → List ℕ × Option Summed
 shown_row row = (row.0, Some row.1)
-
--- a key with its value of a column
-abbrev pub value_of : List (Col × ℕ) → List (Place × Arrival) → ℕ → Col → ℕ → List ℕ → List ℕ × ℕ
-value_of cols rows table col t key = (key, value cols rows table key col t)
 
 -- a key with its summed row, if it has one
 abbrev pub with_sums : List ℕ → Option Summed → Option (List ℕ × Summed)

@@ -5,6 +5,6 @@ pub mod Due
 pub mod Distinct
 pub mod Tally
 pub mod Lent
-pub mod PutAll
 pub mod Foreseen
 pub mod Flatness
+pub mod Leading

@@ -18,7 +18,7 @@ use crate::foreseen::first_change;
 use crate::listing::{BookRows, push_found};
 use crate::machine::{Machine, cols_of};
 use crate::next::are_same;
-use crate::ranking::{Ranked, first_by_rank, rank_at};
+use crate::ranking::Ranked;
 use crate::seats::has_free_seat;
 use crate::sets::{filter_at, keys_held};
 use crate::{queries, seats};
@@ -249,18 +249,12 @@ impl Book {
         keys_held(alloc, &held.rows, cols, standing, t)
     }
 
-    /// The ranked list at a position of the configuration.
-    #[tactic(auto, unfolding(fleet_model::specs::Ranking::ranked, fleet_model::specs::Ranking::ranking))]
+    /// The ranked list at a position of the configuration, found by bounds on the values of keys.
     pub fn top(&self, alloc: Global, rank: usize) -> Result<Ranked<'_>, NoMemory>
         requires { rank < length self.now.config.ranks }
         ensures { IfOk result (λ entries. entries ≡ ranked self.now (rank_of self.now rank)) }
     {
-        let held = &self.machine;
-        let rank = rank_at(held.config.ranks.as_slice(), rank);
-        let cols = cols_of(held.config.tables.as_slice(), rank.table);
-        let keys = self.keys(alloc, rank.table)?;
-        let entries = first_by_rank(alloc, &held.rows, cols, rank, held.moment, keys)?;
-        Ok(Ranked::new(entries))
+        Ok(Ranked::new(self.machine.top(alloc, rank)?))
     }
 
     /// The first moment above the book's, up to a last one, both in ms, at which a filter holds

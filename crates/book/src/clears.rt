@@ -1,46 +1,82 @@
 //! Clears of several keys: the keys are found first, then their rows are taken away.
 
-ghost use Rattle.std.specs.Prelude.{◌≡◌, ◌&&◌, ◌==◌, true, not, filter, map, IfOk, OnOk, OnErr};
+ghost use Rattle.std.specs.Prelude.{◌≡◌, ◌≤◌, ◌&&◌, ◌==◌, true, not, filter, length, map, IfOk, OnOk, OnErr};
 ghost use Rattle.std.specs.List.{list_any};
 ghost use Rattle.fleet_model.specs.Values.{meets, same_key};
+ghost use Rattle.book.specs.Leading.{StaysLed};
 
+use crate::leaders::drop_bounds;
 use crate::store::Store;
 use crate::values::meets;
-use agg_types::{Col, Cond, Key, NoMemory};
+use agg_types::{Col, Cond, Key, NoMemory, Rank};
 use peer_rows::ByKey;
+use ranked::Leaders;
 use std::alloc::Global;
 
-/// Takes away the rows of a table.
-pub fn clear_table(alloc: Global, store: &mut Store, table: usize, t: u64) -> Result<(), NoMemory>
+/// Takes away the rows of a key and its bounds.
+pub fn clear_key(
+    store: &mut Store,
+    leaders: &mut Leaders,
+    ranks: &[Rank],
+    table: usize,
+    key: Key,
+    t: u64,
+)
+    requires { length ranks.now ≤ length leaders.old }
+    ensures rows { store.new ≡ record store.old {
+      rows = filter (λ row. not ((row.0.table == table) && same_key key row.0.key)) store.old.rows;
+    } }
+    ensures count { length leaders.new ≡ length leaders.old }
+    ensures led { StaysLed ranks.now store.old.rows t leaders.old store.new.rows t leaders.new }
+{
+    drop_bounds(leaders, ranks, table, &key);
+    store.clear_key(table, key, t);
+}
+
+/// Takes away the rows of a table, and the bounds of its keys.
+pub fn clear_table(
+    alloc: Global,
+    store: &mut Store,
+    leaders: &mut Leaders,
+    ranks: &[Rank],
+    table: usize,
+    t: u64,
+) -> Result<(), NoMemory>
+    requires { length ranks.now ≤ length leaders.old }
     ensures ok { OnOk result (store.new ≡ record store.old {
       rows = filter (λ row. not ((row.0.table == table) && true)) store.old.rows;
     }) }
     ensures err { OnErr result (store.new ≡ store.old) }
+    ensures led { StaysLed ranks.now store.old.rows t leaders.old store.new.rows t leaders.new }
 {
     let keys = table_keys(alloc, store, table)?;
-    clear_keys(store, table, keys, t);
+    clear_keys(store, leaders, ranks, table, keys, t);
     Ok(())
 }
 
 /// Takes away the rows of each key of a table whose values meet the conditions, as they were
-/// before.
+/// before, and its bounds.
 pub fn clear_where(
     alloc: Global,
     store: &mut Store,
+    leaders: &mut Leaders,
+    ranks: &[Rank],
     cols: &[(Col, u32)],
     table: usize,
     t: u64,
     conds: &[Cond],
 ) -> Result<(), NoMemory>
+    requires { length ranks.now ≤ length leaders.old }
     ensures ok { OnOk result (store.new ≡ record store.old {
       rows = filter (λ row. not
           ((row.0.table == table) && meets cols.now store.old.rows table row.0.key t conds.now))
           store.old.rows;
     }) }
     ensures err { OnErr result (store.new ≡ store.old) }
+    ensures led { StaysLed ranks.now store.old.rows t leaders.old store.new.rows t leaders.new }
 {
     let keys = keys_that_meet(alloc, store, cols, table, t, conds)?;
-    clear_keys(store, table, keys, t);
+    clear_keys(store, leaders, ranks, table, keys, t);
     Ok(())
 }
 
@@ -83,14 +119,23 @@ fn keys_that_meet(
     Ok(keys)
 }
 
-fn clear_keys(store: &mut Store, table: usize, keys: Vec<Key>, t: u64)
-    ensures { store.new ≡ record store.old {
+fn clear_keys(
+    store: &mut Store,
+    leaders: &mut Leaders,
+    ranks: &[Rank],
+    table: usize,
+    keys: Vec<Key>,
+    t: u64,
+)
+    requires { length ranks.now ≤ length leaders.old }
+    ensures rows { store.new ≡ record store.old {
       rows = filter (λ row. not
           ((row.0.table == table) && list_any (λ key. same_key key row.0.key) keys.items))
           store.old.rows;
     } }
+    ensures led { StaysLed ranks.now store.old.rows t leaders.old store.new.rows t leaders.new }
 {
     for key in keys {
-        store.clear_key(table, key, t);
+        clear_key(store, leaders, ranks, table, key, t);
     }
 }

@@ -4,7 +4,8 @@ ghost use Rattle.std.specs.Prelude.{◌≡◌, ◌≤◌, ◌<◌, ◌^◌, ◌-
 ghost use Rattle.fleet_model.specs.Keys.{key_rows, worth_of};
 ghost use Rattle.fleet_model.specs.Changes.{IsKeyChange};
 ghost use Rattle.fleet_model.specs.Next.{flat_moment, table_flat_from};
-ghost use Rattle.book.specs.Foreseen.{IsFirstOf, earlier, living_of};
+ghost use Rattle.fleet_model.specs.Values.{cols_of};
+ghost use Rattle.book.specs.Foreseen.{IsFirstOf, earlier, flat_within, living_of};
 ghost use Rattle.book.specs.Shown.{as_arrival, of_peer};
 
 use crate::machine::{Machine, cols_of};
@@ -17,48 +18,71 @@ use crossing::{Meter, Values};
 use peer_rows::OfKey;
 use standing_filters::judge;
 
-/// The values of a table's keys as the clock goes on, in ms.
-#[derive(Clone, Copy)]
-pub struct KeyValues<'a> {
-    store: &'a Store,
-    cols: &'a [(Col, u32)],
-}
-
-impl<'a> Values for KeyValues<'a> {
+/// The values of keys as the clock goes on, in ms.
+impl Values for Machine {
     ghost use Rattle.fleet_model.specs.Keys.{key_rows};
+    ghost use Rattle.fleet_model.specs.Values.{cols_of};
     ghost use Rattle.book.specs.Foreseen.{flat_within, living_within, worth_within};
     ghost use Rattle.book.specs.Flatness.{living_falls, living_stays, worth_falls, worth_stays};
 
-    ghost summed = { λ v table key col t. worth_within v.cols.now
-        (key_rows v.store.now.rows table key) col t };
+    ghost summed = { λ v table key col t. worth_within (cols_of v.config.tables table)
+        (key_rows v.rows table key) col t };
 
-    ghost living = { λ v table key t. living_within (key_rows v.store.now.rows table key) t };
+    ghost living = { λ v table key t. living_within (key_rows v.rows table key) t };
 
-    ghost flat = { λ v table key. flat_within v.cols.now (key_rows v.store.now.rows table key) };
+    ghost flat = { λ v table key. flat_within (cols_of v.config.tables table)
+        (key_rows v.rows table key) };
 
     fn value(&self, table: usize, key: &Key, col: Col, t: u64) -> u128 {
-        worth_at(self.store, self.cols, table, key, col, t)
+        self.worth(table, key, col, t)
     }
 
     fn live(&self, table: usize, key: &Key, t: u64) -> usize {
-        live_rows(self.store, table, key, t)
+        self.living(table, key, t)
     }
 
     fn flat_from(&self, table: usize, key: &Key) -> u64 {
-        key_flat(self.store, table, key, longest_period(self.cols))
+        self.key_flat(table, key)
     }
 
     ghost sums_fall = { λ v table key col t later.
-        worth_falls v.cols.now v.store.now.rows table key col t later };
+        worth_falls (cols_of v.config.tables table) v.rows table key col t later };
 
     ghost rows_end = { λ v table key t later.
-        living_falls (key_rows v.store.now.rows table key) t later };
+        living_falls (key_rows v.rows table key) t later };
 
     ghost sums_stay = { λ v table key col t.
-        worth_stays v.cols.now (key_rows v.store.now.rows table key) col t };
+        worth_stays (cols_of v.config.tables table) (key_rows v.rows table key) col t };
 
     ghost rows_stay = { λ v table key t.
-        living_stays v.cols.now (key_rows v.store.now.rows table key) t };
+        living_stays (cols_of v.config.tables table) (key_rows v.rows table key) t };
+}
+
+impl Machine {
+    // What a key's rows sum up to in a column at a moment.
+    fn worth(&self, table: usize, key: &Key, col: Col, t: u64) -> u128
+        ensures { result ≡ worth_of (cols_of self.now.config.tables table)
+            (key_rows self.now.rows table key.now) col t }
+    {
+        let cols = cols_of(self.config.tables.as_slice(), table);
+        worth_at(&self.rows, cols, table, key, col, t)
+    }
+
+    // How many rows of a key live at a moment.
+    fn living(&self, table: usize, key: &Key, t: u64) -> usize
+        ensures { result ≡ living_of (key_rows self.now.rows table key.now) t }
+    {
+        live_rows(&self.rows, table, key, t)
+    }
+
+    // The moment from which the clock changes nothing of a key, or the last one of all.
+    fn key_flat(&self, table: usize, key: &Key) -> u64
+        ensures { result ≡ flat_within (cols_of self.now.config.tables table)
+            (key_rows self.now.rows table key.now) }
+    {
+        let cols = cols_of(self.config.tables.as_slice(), table);
+        key_flat(&self.rows, table, key, longest_period(cols))
+    }
 }
 
 // What a key's rows sum up to in a column at a moment.
@@ -69,8 +93,8 @@ fn worth_at(store: &Store, cols: &[(Col, u32)], table: usize, key: &Key, col: Co
     value(store, cols, table, key, col, t)
 }
 
-// How many rows of a key live at a moment.
-fn live_rows(store: &Store, table: usize, key: &Key, t: u64) -> usize
+/// How many rows of a key live at a moment.
+pub fn live_rows(store: &Store, table: usize, key: &Key, t: u64) -> usize
     ensures { result ≡ living_of (key_rows store.now.rows table key.now) t }
 {
     match store.of_key(table, key) {
@@ -135,12 +159,8 @@ fn key_change(machine: &Machine, standing: &Filter, key: &Key) -> Option<u64>
     requires flat { table_flat_from machine.now standing.now.table < 2 ^ 64 }
     ensures { IsKeyChange machine.now standing.now key.now result }
 {
-    let values = KeyValues {
-        store: &machine.rows,
-        cols: cols_of(machine.config.tables.as_slice(), standing.table),
-    };
     let mut meter = Meter::new();
-    judge(standing, key, &values, machine.moment, &mut meter).next
+    judge(standing, key, machine, machine.moment, &mut meter).next
 }
 
 fn earlier(one: Option<u64>, other: Option<u64>) -> Option<u64>

@@ -12,12 +12,14 @@ ghost use Rattle.fleet_model.specs.Rows.{arrival_of, has_room};
 ghost use Rattle.fleet_model.specs.Seats.{is_number};
 ghost use Rattle.fleet_model.specs.Values.{cols_of, selects};
 ghost use Rattle.book.specs.Due.{FitsPlace, IsDue};
+ghost use Rattle.book.specs.Leading.{AreLed};
 ghost use Rattle.book.specs.Planned.{IsInside, IsShort, place_at};
 ghost use Rattle.book.specs.Store.{IsFound, row_keys};
 
 use crate::at::At;
-use crate::clears::{clear_table, clear_where};
+use crate::clears::{clear_key, clear_table, clear_where};
 use crate::ends::Size;
+use crate::leaders::{go_on, put_led};
 use crate::seats::{
     Seats, Sessions, count_up, end_sessions, has_free_seat, is_next, is_number, open_session,
     sit_down, stand_up,
@@ -30,6 +32,7 @@ use agg_types::{
 };
 use fleet_model::Summed;
 use peer_rows::Spot;
+use ranked::Leaders;
 use std::alloc::Global;
 use std::collections::BTreeMap;
 use std::marker::Model;
@@ -42,6 +45,8 @@ pub(crate) struct Machine {
     pub(crate) config: Config,
     pub(crate) moment: u64,
     pub(crate) rows: Store,
+    // Bounds for each ranked list, by its position.
+    pub(crate) leaders: Leaders,
     pub(crate) sessions: Sessions,
     pub(crate) seats: Seats,
     pub(crate) next_seat: u64,
@@ -61,9 +66,9 @@ impl Model for Machine {
       next_seat = b.next_seat;
     } };
 
-    ghost use Rattle.book.specs.Store.{HasSizes};
+    ghost use Rattle.book.specs.Leading.{IsWhole};
 
-    ghost invariant = { λ b. HasSizes b.config b.moment b.rows };
+    ghost invariant = { λ b. IsWhole b.config b.moment b.rows b.leaders };
 }
 
 impl Machine {
@@ -78,11 +83,13 @@ impl Machine {
             tables: config.tables.len(),
         };
         let rows = Store::new(alloc, size, moment)?;
+        let leaders = Leaders::new(alloc, config.ranks.len())?;
         Ok(Machine {
             alloc,
             config,
             moment,
             rows,
+            leaders,
             sessions: BTreeMap::new(alloc),
             seats: BTreeMap::new(alloc),
             next_seat: 0,
@@ -177,7 +184,8 @@ impl Machine {
                 };
                 put(
                     &mut self.rows,
-                    self.config.tables.as_slice(),
+                    &mut self.leaders,
+                    &self.config,
                     seats::session_of(&self.sessions, *peer),
                     seat,
                     self.moment,
@@ -192,7 +200,8 @@ impl Machine {
                 clear(
                     self.alloc,
                     &mut self.rows,
-                    self.config.tables.as_slice(),
+                    &mut self.leaders,
+                    &self.config,
                     *table,
                     self.moment,
                     sel,
@@ -207,7 +216,13 @@ impl Machine {
             }
             What::Moment(moment) => {
                 let later = self.moment.max(*moment);
-                self.rows.end_rows(later)?;
+                go_on(
+                    &mut self.rows,
+                    &mut self.leaders,
+                    &self.config,
+                    self.moment,
+                    later,
+                )?;
                 self.moment = later;
                 count_up(&mut self.seats, seat, seq);
                 Ok(None)
@@ -231,33 +246,40 @@ pub fn cols_of(tables: &[Shape], table: usize) -> &[(Col, u32)]
     }
 }
 
-/// Takes away the rows that a clear selects, judged by the values that stand before it.
+/// Takes away the rows that a clear selects, judged by the values that stand before it, and the
+/// bounds of their keys.
 fn clear(
     alloc: Global,
     rows: &mut Store,
-    tables: &[Shape],
+    leaders: &mut Leaders,
+    config: &Config,
     table: usize,
     t: u64,
     sel: &Select,
 ) -> Result<(), NoMemory>
+    requires { AreLed config.now.tables config.now.ranks rows.old.rows t leaders.old }
     ensures ok { OnOk result (rows.new ≡ record rows.old {
       rows = filter (λ row. not
           ((row.0.table == table)
-          && selects (cols_of tables.now table) rows.old.rows table t sel.now row.0.key))
+          && selects (cols_of config.now.tables table) rows.old.rows table t sel.now row.0.key))
           rows.old.rows;
     }) }
     ensures err { OnErr result (rows.new ≡ rows.old) }
+    ensures led { AreLed config.now.tables config.now.ranks rows.new.rows t leaders.new }
 {
+    let ranks = config.ranks.as_slice();
     match sel {
-        Select::All => clear_table(alloc, rows, table, t),
+        Select::All => clear_table(alloc, rows, leaders, ranks, table, t),
         Select::One(key) => {
-            rows.clear_key(table, key.duplicate(alloc)?, t);
+            clear_key(rows, leaders, ranks, table, key.duplicate(alloc)?, t);
             Ok(())
         }
         Select::Conds(conds) => clear_where(
             alloc,
             rows,
-            cols_of(tables, table),
+            leaders,
+            ranks,
+            cols_of(config.tables.as_slice(), table),
             table,
             t,
             conds.as_slice(),
@@ -268,7 +290,8 @@ fn clear(
 /// Puts a row, if its seat is the session in force and there is room.
 fn put(
     rows: &mut Store,
-    tables: &[Shape],
+    leaders: &mut Leaders,
+    config: &Config,
     session: Option<u64>,
     seat: u64,
     t: u64,
@@ -280,17 +303,19 @@ fn put(
     requires inside { IsInside rows.old.peers rows.old.tables (place_at at) }
     requires found { IsFound rows.old.rows at }
     requires short { IsShort life }
+    requires led { AreLed config.now.tables config.now.ranks rows.old.rows t leaders.old }
     ensures ok { OnOk result (rows.new ≡ record rows.old {
-      rows = if is_number session seat && has_room tables.now rows.old.rows (place_at at.entry)
+      rows = if is_number session seat
+          && has_room config.now.tables rows.old.rows (place_at at.entry)
           then with_row t rows.old.rows (place_at at.entry)
-          (arrival_of tables.now at.entry.table t life cells.now)
+          (arrival_of config.now.tables at.entry.table t life cells.now)
           else rows.old.rows;
     }) }
     ensures err { OnErr result (rows.new ≡ rows.old) }
+    ensures led { AreLed config.now.tables config.now.ranks rows.new.rows t leaders.new }
 {
-    if is_number(session, seat) && rows.has_room(tables, at) {
-        let cols = cols_of(tables, at.table);
-        rows.put(t, at, life, cols, cells.as_slice())
+    if is_number(session, seat) && rows.has_room(config.tables.as_slice(), at) {
+        put_led(rows, leaders, config, t, at, life, cells.as_slice())
     } else {
         Ok(())
     }

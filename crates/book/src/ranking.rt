@@ -1,19 +1,16 @@
 //! The keys of a table by their values of a column.
 
-ghost use Rattle.std.specs.Prelude.{◌≡◌, ◌++◌, ◌<◌, ◌≤◌, ◌∷◌, length, map, take, drop, slice_index_or, IfOk, OnOk};
+ghost use Rattle.std.specs.Prelude.{◌≡◌, ◌<◌, length, slice_index_or, IfOk};
 ghost use Rattle.std.specs.Iterator.{at_most};
 ghost use Rattle.std.specs.Map.Iter.{TakesFirst};
-ghost use Rattle.std.specs.Ordering.{is_lt};
-ghost use Rattle.fleet_model.specs.Ranking.{in_order, no_rank, put_in_order, rank_cmp};
-ghost use Rattle.fleet_model.specs.Values.{value};
-ghost use Rattle.book.specs.Lent.{key_and_value, value_of};
+ghost use Rattle.fleet_model.specs.Ranking.{no_rank, rank_of, ranked};
+ghost use Rattle.fleet_model.specs.Sound.{IsSound};
+ghost use Rattle.book.specs.Lent.{key_and_value};
 
-use crate::store::Store;
-use crate::values::value;
-use agg_types::{Col, Key, NoMemory, Rank};
+use crate::machine::Machine;
+use agg_types::{Key, NoMemory, Rank};
 use std::alloc::Global;
 use std::marker::Model;
-use std::vec::IntoIter;
 
 /// Lends the keys of a ranked list, each with its value, the larger value first and of equal ones
 /// the smaller key. Takes no memory.
@@ -21,27 +18,29 @@ use std::vec::IntoIter;
 /// Contracts see the list of what it has left.
 #[derive(Drop)]
 pub struct Ranked<'a> {
-    entries: IntoIter<(&'a Key, u128)>,
+    list: ranked::Ranked<'a, Machine>,
 }
 
 impl<'a> Model for Ranked<'a> {
-    ghost use Rattle.std.specs.Prelude.{List, ℕ, map};
-    ghost use Rattle.std.specs.Vec.Iter.{into_iter_items};
-    ghost use Rattle.book.specs.Lent.{key_and_value};
+    ghost use Rattle.std.specs.Prelude.{List, ℕ};
 
     ghost Value = { List (List ℕ × ℕ) };
 
-    ghost view = { λ ranked. map key_and_value (into_iter_items ranked.entries) };
+    ghost view = { λ ranked. ranked.list.left };
 }
 
 impl<'a> Ranked<'a> {
-    // These entries, one after the other.
-    pub(crate) fn new(entries: Vec<(&'a Key, u128)>) -> Ranked<'a>
-        ensures { result ≡ map key_and_value entries.entry.items }
+    // What this list finds.
+    pub(crate) fn new(list: ranked::Ranked<'a, Machine>) -> Ranked<'a>
+        ensures { result ≡ list.entry.left }
     {
-        Ranked {
-            entries: entries.into_iter(),
-        }
+        Ranked { list }
+    }
+
+    /// At how many keys it has looked so far. When it has given one, these are at most the keys of
+    /// the table with a bound of at least that one's value.
+    pub fn walked(&self) -> usize {
+        self.list.walked()
     }
 }
 
@@ -53,91 +52,29 @@ impl<'a> Iterator for Ranked<'a> {
     ghost remaining = { λ entries. at_most (length entries) };
 
     fn next(&mut self) -> Option<(&'a Key, u128)> {
-        self.entries.next()
+        self.list.next()
     }
 }
 
-/// The ranked list at a position.
-pub fn rank_at(ranks: &[Rank], position: usize) -> &Rank
+impl Machine {
+    /// The ranked list at a position of the configuration.
+    pub(crate) fn top(
+        &self,
+        alloc: Global,
+        list: usize,
+    ) -> Result<ranked::Ranked<'_, Machine>, NoMemory>
+        requires there { list < length self.now.config.ranks }
+        requires sound { IsSound self.now }
+        ensures { IfOk result (λ found. found.left ≡ ranked self.now (rank_of self.now list)) }
+    {
+        let rank = rank_at(self.config.ranks.as_slice(), list);
+        self.leaders.top(alloc, list, rank, self.moment, self)
+    }
+}
+
+fn rank_at(ranks: &[Rank], position: usize) -> &Rank
     requires { position < length ranks.now }
     ensures { result.now ≡ slice_index_or ranks.now position no_rank }
 {
     &ranks[position]
-}
-
-/// The first keys of a ranked list, each with its value, from all keys of its table.
-pub fn first_by_rank<'a>(
-    alloc: Global,
-    store: &Store,
-    cols: &[(Col, u32)],
-    rank: &Rank,
-    t: u64,
-    keys: Vec<&'a Key>,
-) -> Result<Vec<(&'a Key, u128)>, NoMemory>
-    ensures { IfOk result (λ entries. map key_and_value entries.items
-        ≡ take rank.now.n (in_order rank_cmp
-        (map (value_of cols.now store.now.rows rank.now.table rank.now.col t)
-        (map (λ key. key.now) keys.entry.items)))) }
-{
-    let mut entries = by_rank(alloc, store, cols, rank.table, rank.col, t, keys)?;
-    entries.truncate(rank.n as usize);
-    Ok(entries)
-}
-
-// Keys with their values of a column, by rank.
-fn by_rank<'a>(
-    alloc: Global,
-    store: &Store,
-    cols: &[(Col, u32)],
-    table: usize,
-    col: Col,
-    t: u64,
-    mut keys: Vec<&'a Key>,
-) -> Result<Vec<(&'a Key, u128)>, NoMemory>
-    ensures { IfOk result (λ entries. map key_and_value entries.items
-        ≡ in_order rank_cmp (map (value_of cols.now store.now.rows table col t)
-        (map (λ key. key.now) keys.entry.items))) }
-{
-    let mut entries = Vec::new(alloc);
-    while let Some(key) = keys.pop() {
-        let worth = value(store, cols, table, key, col, t);
-        put_in_order(&mut entries, (key, worth))?;
-    }
-    Ok(entries)
-}
-
-/// Puts an entry in its place among entries by rank.
-fn put_in_order<'a>(
-    entries: &mut Vec<(&'a Key, u128)>,
-    entry: (&'a Key, u128),
-) -> Result<(), NoMemory>
-    ensures { OnOk result (map key_and_value entries.new.items
-        ≡ put_in_order rank_cmp (key_and_value entry.entry)
-        (map key_and_value entries.old.items)) }
-{
-    let place = place_of(entries.as_slice(), entry);
-    entries.insert(place, entry)?;
-    Ok(())
-}
-
-// Before how many entries an entry's place is.
-fn place_of(entries: &[(&Key, u128)], entry: (&Key, u128)) -> usize
-    ensures within { result ≤ length entries.now }
-    ensures place { put_in_order rank_cmp (key_and_value entry.entry)
-        (map key_and_value entries.now)
-        ≡ map key_and_value (take result entries.now)
-        ++ key_and_value entry.entry ∷ map key_and_value (drop result entries.now) }
-{
-    for (place, other) in entries.iter().enumerate() {
-        if comes_before(entry, *other) {
-            return place;
-        }
-    }
-    entries.len()
-}
-
-fn comes_before(entry: (&Key, u128), other: (&Key, u128)) -> bool
-    ensures { result ≡ is_lt (rank_cmp (key_and_value entry.entry) (key_and_value other.entry)) }
-{
-    entry.1 > other.1 || (entry.1 == other.1 && *entry.0 < *other.0)
 }

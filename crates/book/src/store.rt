@@ -1,6 +1,6 @@
 //! The rows in force, with their ends planned.
 
-ghost use Rattle.std.specs.Prelude.{◌≡◌, ◌<◌, ◌≤◌, ◌^◌, ℕ, List, [], ◌==◌, ◌&&◌, not, length, map, filter, MatchOption, IfSome, IfNone, IfOk, OnOk, OnErr};
+ghost use Rattle.std.specs.Prelude.{◌≡◌, ◌<◌, ◌≤◌, ◌^◌, ℕ, List, [], Option, ◌==◌, ◌&&◌, not, length, map, filter, MatchOption, IfSome, IfNone, IfOk, OnOk, OnErr};
 ghost use Rattle.agg_types.specs.declared.column.Col.{Col as ColName};
 ghost use Rattle.agg_types.specs.declared.event.Cell.{Cell as CellValue};
 ghost use Rattle.fleet_model.specs.Machine.{with_row};
@@ -8,7 +8,7 @@ ghost use Rattle.std.specs.List.{list_any};
 ghost use Rattle.fleet_model.specs.Moments.{is_live};
 ghost use Rattle.fleet_model.specs.Rows.{has_room, size_of};
 ghost use Rattle.fleet_model.specs.Values.{same_key, same_place};
-ghost use Rattle.fleet_model.specs.Keys.{held_rows, key_rows};
+ghost use Rattle.fleet_model.specs.Keys.{AreInOrder, held_rows, key_rows, worth_of};
 ghost use Rattle.book.specs.Shown.{of_peer, of_spot};
 ghost use Rattle.book.specs.Planned.{IsInside, IsShort, place_at};
 ghost use Rattle.book.specs.Store.{IsFound, IsWalk, put_arrival, row_keys};
@@ -16,11 +16,13 @@ ghost use Rattle.book.specs.Store.{IsFound, IsWalk, put_arrival, row_keys};
 use crate::at::At;
 use crate::ends::{Size, end_late, plan_again, set_aside};
 use crate::puts::{drop_key, drop_row, new_row, set_row};
+use crate::values::{arriving_worth, value};
 use agg_types::{Cell, Col, Key, NoMemory, Place, Shape};
 use expiry_wheel::Wheel;
 use peer_rows::{ByKey, OfKey, Rows, Spot};
 use std::alloc::Global;
 use std::marker::Model;
+use std::mem;
 
 /// The rows in force. Contracts see them by place, and how many peers and tables there are.
 ///
@@ -67,7 +69,8 @@ impl Store {
     }
 
     /// Takes away the rows that have ended at a moment: what is due then is looked at, and no more.
-    pub(crate) fn end_rows(&mut self, t: u64) -> Result<(), NoMemory>
+    /// Answers what was.
+    pub(crate) fn end_rows(&mut self, t: u64) -> Result<Vec<(u64, Place)>, NoMemory>
         ensures ok { OnOk result (self.new
             ≡ record self.old { rows = filter (λ row. is_live t row.1) self.old.rows }) }
         ensures err { OnErr result (self.new ≡ self.old) }
@@ -82,8 +85,7 @@ impl Store {
             t,
         )?;
         end_late(&mut self.rows, self.size, self.late.as_slice(), t);
-        self.late.clear();
-        Ok(())
+        Ok(mem::replace(&mut self.late, Vec::new(self.alloc)))
     }
 
     /// Where the rows of a key lie, whatever the hint, for the calls that take an `At`: none where
@@ -172,7 +174,8 @@ impl Store {
     fn held(&self, table: usize, peer: usize) -> usize
         requires table_in { table < self.now.tables }
         requires peer_in { peer < self.now.peers }
-        ensures { result ≡ held_rows self.now.rows table peer }
+        ensures count { result ≡ held_rows self.now.rows table peer }
+        ensures ordered { AreInOrder self.now.rows }
     {
         self.rows.count(peer, table)
     }
@@ -192,10 +195,33 @@ impl Store {
     #[tactic(auto, unfolding(fleet_model::specs::Rows::has_room))]
     pub(crate) fn has_room(&self, tables: &[Shape], at: At<'_>) -> bool
         requires { IsInside self.now.peers self.now.tables (place_at at) }
-        ensures { result ≡ has_room tables.now self.now.rows (place_at at.entry) }
+        ensures exact { result ≡ has_room tables.now self.now.rows (place_at at.entry) }
+        ensures ordered { AreInOrder self.now.rows }
     {
         let size = size_of(tables, at.table);
         (self.held(at.table, at.peer) as u64) < size || self.has_row(at)
+    }
+
+    /// At least what a key is worth in a column as a row of it arrives at a moment, before it and
+    /// after it.
+    pub(crate) fn worth_with(
+        &self,
+        cols: &[(Col, u32)],
+        col: Col,
+        t: u64,
+        at: At<'_>,
+        cells: &[Cell],
+    ) -> u128
+        requires { AreInOrder self.now.rows }
+        ensures before { worth_of cols.now
+            (key_rows self.now.rows at.entry.table at.entry.key.now) col t ≤ result }
+        ensures after { (life : Option ℕ) → worth_of cols.now
+            (key_rows (with_row t self.now.rows (place_at at.entry)
+            (put_arrival t life cols.now cells.now)) at.entry.table at.entry.key.now) col t
+            ≤ result }
+    {
+        let standing = value(self, cols, at.table, at.key, col, t);
+        standing + u128::from(arriving_worth(col, cols, cells))
     }
 
     /// Takes away the rows of a key, over all peers, and what is planned for them.

@@ -9,7 +9,7 @@ ghost use Rattle.book.specs.Shown.{as_arrival, cell_of, found_worth, rows_worth}
 
 use crate::row::is_live;
 use crate::store::Store;
-use agg_types::{Col, Cond, Key};
+use agg_types::{Cell, Col, Cond, Key};
 use peer_rows::{Cells, Held, OfKey, Row};
 use period_rate::Rate;
 
@@ -59,6 +59,35 @@ fn column_worth(
     }
 }
 
+/// What the cell of a column is worth as it arrives.
+pub fn arriving_worth(col: Col, cols: &[(Col, u32)], cells: &[Cell]) -> u64
+    ensures { result ≡ column_worth col 0 cols.now cells.now }
+{
+    match cols {
+        [] => 0,
+        [stored, cols @ ..] => match cells {
+            [] => 0,
+            [cell, cells @ ..] => {
+                if stored.0.id() == col.id() {
+                    arriving_cell(stored.1, *cell)
+                } else {
+                    arriving_worth(col, cols, cells)
+                }
+            }
+        },
+    }
+}
+
+#[tactic(auto, unfolding(fleet_model::specs::Values::cell_worth))]
+fn arriving_cell(period: u32, cell: Cell) -> u64
+    ensures { result ≡ cell_worth period 0 cell }
+{
+    match cell {
+        Cell::Count(count) => count,
+        Cell::Rate { elapsed, cur, prev } => Rate::arrive(period, elapsed, cur, prev, 0).at(0),
+    }
+}
+
 fn row_worth(cols: &[(Col, u32)], col: Col, t: u64, row: &Row) -> u64
     ensures { result ≡ row_worth cols.now col t (as_arrival row.now) }
 {
@@ -72,7 +101,8 @@ fn row_worth(cols: &[(Col, u32)], col: Col, t: u64, row: &Row) -> u64
 /// What rows of one key sum up to in a column at a moment.
 pub fn worth(rows: &OfKey<'_>, cols: &[(Col, u32)], col: Col, t: u64) -> u128
     requires { length rows.now < 2 ^ 64 }
-    ensures { result ≡ rows_worth cols.now col t rows.now }
+    ensures exact { result ≡ rows_worth cols.now col t rows.now }
+    ensures small { result + 2 ^ 64 ≤ 2 ^ 128 }
 {
     let mut total = 0u128;
     for (_, row) in rows.duplicate() {
@@ -84,7 +114,8 @@ pub fn worth(rows: &OfKey<'_>, cols: &[(Col, u32)], col: Col, t: u64) -> u128
 // What the rows of a key that were found sum up to: nothing where none were.
 fn found_worth(rows: Option<&OfKey<'_>>, cols: &[(Col, u32)], col: Col, t: u64) -> u128
     requires { IfSome rows (λ rows. length rows.now < 2 ^ 64) }
-    ensures { result ≡ found_worth cols.now col t rows.entry }
+    ensures exact { result ≡ found_worth cols.now col t rows.entry }
+    ensures small { result + 2 ^ 64 ≤ 2 ^ 128 }
 {
     match rows {
         None => 0,
@@ -94,7 +125,8 @@ fn found_worth(rows: Option<&OfKey<'_>>, cols: &[(Col, u32)], col: Col, t: u64) 
 
 /// A key's value of a column at a moment: one search, and then its rows.
 pub fn value(store: &Store, cols: &[(Col, u32)], table: usize, key: &Key, col: Col, t: u64) -> u128
-    ensures { result ≡ value cols.now store.now.rows table key.now col t }
+    ensures exact { result ≡ value cols.now store.now.rows table key.now col t }
+    ensures small { result + 2 ^ 64 ≤ 2 ^ 128 }
 {
     fleet_model::laws::keys::a_key_answers_by_its_rows();
     found_worth(store.of_key(table, key).as_ref(), cols, col, t)

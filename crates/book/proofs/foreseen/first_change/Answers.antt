@@ -1,6 +1,3 @@
-use Rattle.std.proofs.Common.{sym, subst, arith}
-use Rattle.std.specs.Prelude.{Option}
-use Rattle.book.specs.Foreseen.{IsFirstOf}
 use Rattle.book.proofs.Foresight.{first_all, first_more}
 use Rattle.book.proofs.foreseen.first_change.Goals as goal
 

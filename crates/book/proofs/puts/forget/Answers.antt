@@ -1,4 +1,4 @@
-use Rattle.std.proofs.Common.{◌≡◌, ◌∙◌, false, not, sym, ap}
+use Rattle.std.proofs.Common.{◌∙◌, sym}
 use Rattle.book.proofs.Forgets.{forgotten, own_kept}
 use Rattle.book.proofs.puts.forget.Goals as goal
 

@@ -1,4 +1,4 @@
-use Rattle.std.proofs.Common.{◌≡◌, ◌∙◌, ap}
+use Rattle.std.proofs.Common.{◌∙◌, ap}
 use Rattle.agg_types.specs.Place.{place_cmp}
 use Rattle.expiry_wheel.specs.Entries.{with_entry}
 use Rattle.book.proofs.Forgets.{own_planned}

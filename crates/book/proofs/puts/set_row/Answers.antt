@@ -1,4 +1,4 @@
-use Rattle.std.proofs.Common.{◌≡◌, ◌∙◌, ◌++◌, ap, refl, subst, sym}
+use Rattle.std.proofs.Common.{◌∙◌, ◌++◌, ap, refl, subst, sym}
 use Rattle.std.specs.Option.{option_map}
 use Rattle.agg_types.specs.Place.{place_cmp}
 use Rattle.peer_rows.specs.Rows.{RowMap}

@@ -1,4 +1,4 @@
-use Rattle.std.proofs.Common.{◌∙◌, ◌++◌, List, ℕ, sym, ap, subst}
+use Rattle.std.proofs.Common.{◌≡◌, ◌∙◌, ◌++◌, [], List, ℕ, sym, ap, subst}
 use Rattle.std.specs.Prelude.{filter}
 use Rattle.agg_types.specs.declared.place.Place.{Place}
 use Rattle.fleet_model.specs.Moments.{is_live}
@@ -18,7 +18,8 @@ end_late-requires-clause-late c =
 
 pub invariant_of-self-2 : goal.invariant_of-self-2
 invariant_of-self-2 c =
-    kept_living c.self.inside.size.peers c.self.inside.size.tables c.args.t c.self.inside.rows c.end_late.new.rows c.clear.new.self.items c.plan_again.new.due c.self.invariant.are c.end_late.ensures c.in_ok-plan_again.ensures.ok c.clear.ensures.items
+    let none : c.replace.new.dest.items ≡ [] = rw c.replace.ensures.after c.new.ensures.items in
+    kept_living c.self.inside.size.peers c.self.inside.size.tables c.args.t c.self.inside.rows c.end_late.new.rows c.replace.new.dest.items c.plan_again.new.due c.self.invariant.are c.end_late.ensures c.in_ok-plan_again.ensures.ok none
 
 pub returns-clause-ok : goal.returns-clause-ok
 returns-clause-ok c =

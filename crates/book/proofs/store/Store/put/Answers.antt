@@ -1,4 +1,4 @@
-use Rattle.std.proofs.Common.{◌≡◌, ◌∙◌, ◌++◌, List, not, true, false, sym, ap}
+use Rattle.std.proofs.Common.{◌≡◌, ◌∙◌, List, not, true, false, sym, ap}
 use Rattle.agg_types.specs.declared.place.Place.{Place}
 use Rattle.agg_types.specs.Place.{place_cmp}
 use Rattle.std.specs.BTreeMap.{insert_entry}

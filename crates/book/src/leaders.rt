@@ -1,0 +1,190 @@
+//! Bounds on the values of keys, by which ranked lists are found: each key with a row has one of at
+//! least its value in each list of its table.
+//!
+//! A bound is made before its row is put, of at least what the key is worth before and after, so
+//! that a refused growth leaves bounds that hold. A key whose last row goes takes its bounds with
+//! it.
+
+ghost use Rattle.std.specs.Prelude.{◌≡◌, ◌<◌, ◌≤◌, ◌^◌, ℕ, List, Option, length, filter, OnOk, OnErr};
+ghost use Rattle.fleet_model.specs.Keys.{AreInOrder};
+ghost use Rattle.fleet_model.specs.Machine.{with_row};
+ghost use Rattle.fleet_model.specs.Moments.{is_live};
+ghost use Rattle.fleet_model.specs.Rows.{arrival_of};
+ghost use Rattle.book.specs.Leading.{AreLed, IsKeyDropped, StaysLed};
+ghost use Rattle.book.specs.Planned.{IsInside, IsShort, place_at};
+ghost use Rattle.book.specs.Store.{IsFound};
+
+use crate::at::At;
+use crate::foreseen::live_rows;
+use crate::machine::cols_of;
+use crate::store::Store;
+use agg_types::{Cell, Config, Key, NoMemory, Place, Rank, Shape};
+use ranked::Leaders;
+
+/// Sees to it that bounds hold of a key as a row of it arrives, before and after.
+pub fn lead(
+    leaders: &mut Leaders,
+    tables: &[Shape],
+    ranks: &[Rank],
+    rows: &Store,
+    t: u64,
+    at: At<'_>,
+    cells: &[Cell],
+) -> Result<(), NoMemory>
+    requires ordered { AreInOrder rows.now.rows }
+    requires led { AreLed tables.now ranks.now rows.now.rows t leaders.old }
+    ensures led { AreLed tables.now ranks.now rows.now.rows t leaders.new }
+    ensures put { OnOk result ((life : Option ℕ) → AreLed tables.now ranks.now
+        (with_row t rows.now.rows (place_at at.entry)
+        (arrival_of tables.now at.entry.table t life cells.now)) t leaders.new) }
+{
+    let cols = cols_of(tables, at.table);
+    for (list, rank) in ranks.iter().enumerate() {
+        if rank.table == at.table {
+            let bound = rows.worth_with(cols, rank.col, t, at, cells);
+            leaders.touch(list, at.key, bound)?;
+        }
+    }
+    Ok(())
+}
+
+/// Puts a row that arrives at a moment, in ms, with bounds that hold before and after.
+pub fn put_led(
+    rows: &mut Store,
+    leaders: &mut Leaders,
+    config: &Config,
+    t: u64,
+    at: At<'_>,
+    life: Option<u64>,
+    cells: &[Cell],
+) -> Result<(), NoMemory>
+    requires in_range { t ≤ 2 ^ 62 }
+    requires inside { IsInside rows.old.peers rows.old.tables (place_at at) }
+    requires found { IsFound rows.old.rows at }
+    requires short { IsShort life }
+    requires ordered { AreInOrder rows.old.rows }
+    requires led { AreLed config.now.tables config.now.ranks rows.old.rows t leaders.old }
+    ensures ok { OnOk result (rows.new ≡ record rows.old {
+      rows = with_row t rows.old.rows (place_at at.entry)
+          (arrival_of config.now.tables at.entry.table t life cells.now);
+    }) }
+    ensures err { OnErr result (rows.new ≡ rows.old) }
+    ensures led { AreLed config.now.tables config.now.ranks rows.new.rows t leaders.new }
+{
+    let ranks = config.ranks.as_slice();
+    let put = lead_and_put(rows, leaders, config, t, at, life, cells);
+    if put.is_err() || life == Some(0) {
+        drop_gone(leaders, ranks, rows, t, at.table, at.key);
+    }
+    put
+}
+
+// Puts a row once bounds hold of its key; where that was refused, bounds may be left of a key that
+// has no row.
+fn lead_and_put(
+    rows: &mut Store,
+    leaders: &mut Leaders,
+    config: &Config,
+    t: u64,
+    at: At<'_>,
+    life: Option<u64>,
+    cells: &[Cell],
+) -> Result<(), NoMemory>
+    requires in_range { t ≤ 2 ^ 62 }
+    requires inside { IsInside rows.old.peers rows.old.tables (place_at at) }
+    requires found { IsFound rows.old.rows at }
+    requires short { IsShort life }
+    requires ordered { AreInOrder rows.old.rows }
+    requires led { AreLed config.now.tables config.now.ranks rows.old.rows t leaders.old }
+    ensures ok { OnOk result (rows.new ≡ record rows.old {
+      rows = with_row t rows.old.rows (place_at at.entry)
+          (arrival_of config.now.tables at.entry.table t life cells.now);
+    }) }
+    ensures err { OnErr result (rows.new ≡ rows.old) }
+    ensures led { AreLed config.now.tables config.now.ranks rows.new.rows t leaders.new }
+{
+    let tables = config.tables.as_slice();
+    lead(leaders, tables, config.ranks.as_slice(), rows, t, at, cells)?;
+    rows.put(t, at, life, cols_of(tables, at.table), cells)
+}
+
+/// Takes away the rows that have ended as the clock goes on to a moment, in ms, and the bounds of
+/// keys that have none left.
+pub fn go_on(
+    rows: &mut Store,
+    leaders: &mut Leaders,
+    config: &Config,
+    now: u64,
+    later: u64,
+) -> Result<(), NoMemory>
+    requires up { now ≤ later }
+    requires led { AreLed config.now.tables config.now.ranks rows.old.rows now leaders.old }
+    ensures ok { OnOk result (rows.new
+        ≡ record rows.old { rows = filter (λ row. is_live later row.1) rows.old.rows }) }
+    ensures led { OnOk result
+        (AreLed config.now.tables config.now.ranks rows.new.rows later leaders.new) }
+    ensures err { OnErr result (rows.new ≡ rows.old) }
+    ensures same { OnErr result
+        (AreLed config.now.tables config.now.ranks rows.new.rows now leaders.new) }
+{
+    let ended = rows.end_rows(later)?;
+    drop_ended(
+        leaders,
+        config.ranks.as_slice(),
+        rows,
+        later,
+        ended.as_slice(),
+    );
+    Ok(())
+}
+
+/// Takes the bounds of a key away.
+pub fn drop_bounds(leaders: &mut Leaders, ranks: &[Rank], table: usize, key: &Key)
+    requires { length ranks.now ≤ length leaders.old }
+    ensures { IsKeyDropped ranks.now table key.now leaders.old leaders.new }
+{
+    for (list, rank) in ranks.iter().enumerate() {
+        if rank.table == table {
+            leaders.drop_key(list, key);
+        }
+    }
+}
+
+/// Takes the bounds of a key away, if it has no row that lives at a moment.
+pub fn drop_gone(
+    leaders: &mut Leaders,
+    ranks: &[Rank],
+    rows: &Store,
+    t: u64,
+    table: usize,
+    key: &Key,
+)
+    requires { length ranks.now ≤ length leaders.old }
+    ensures count { length leaders.new ≡ length leaders.old }
+    ensures led { StaysLed ranks.now rows.now.rows t leaders.old rows.now.rows t leaders.new }
+{
+    if is_ranked(ranks, table) && live_rows(rows, table, key, t) == 0 {
+        drop_bounds(leaders, ranks, table, key);
+    }
+}
+
+/// Takes the bounds of those of these keys away that have no row that lives at a moment.
+pub fn drop_ended(
+    leaders: &mut Leaders,
+    ranks: &[Rank],
+    rows: &Store,
+    t: u64,
+    ended: &[(u64, Place)],
+)
+    requires { length ranks.now ≤ length leaders.old }
+    ensures { StaysLed ranks.now rows.now.rows t leaders.old rows.now.rows t leaders.new }
+{
+    for (_, place) in ended {
+        drop_gone(leaders, ranks, rows, t, place.table, &place.key);
+    }
+}
+
+// Whether a table has a ranked list.
+fn is_ranked(ranks: &[Rank], table: usize) -> bool {
+    ranks.iter().any(|rank| rank.table == table)
+}
