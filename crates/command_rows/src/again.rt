@@ -1,0 +1,66 @@
+//! Calls that are made once more where a growth of memory was refused.
+//!
+//! So what is printed is the same whichever growth is refused: `tools/refuse_growths.py` refuses
+//! each in turn.
+
+ghost use Rattle.std.specs.Prelude.{IfOk};
+ghost use Rattle.show_clear.specs.Answer.{NamesStand};
+
+use agg_types::{NoMemory, What};
+use anyhow::{Result, ensure};
+use book::Book;
+use show_clear::{Command, CommandFault, answer, parse, refusal};
+use std::alloc::Global;
+
+/// What a line asks for, or its first fault, which isn't want of memory unless two growths were
+/// refused.
+pub fn parsed(alloc: Global, book: &Book, line: &[u8]) -> Result<Command, CommandFault>
+    ensures { IfOk result (NamesStand book.now) }
+{
+    match parse(alloc, book, line) {
+        Err(CommandFault::NoMemory) => parse(alloc, book, line),
+        read => read,
+    }
+}
+
+/// Appends an answer behind these bytes, which a refused growth has to leave as they are.
+pub fn answered(
+    alloc: Global,
+    book: &Book,
+    command: &Command,
+    before: &[u8],
+    out: &mut Vec<u8>,
+) -> Result<()>
+    requires { NamesStand book.now command.now }
+{
+    if answer(alloc, book, command, out).is_err() {
+        ensure!(out.as_slice() == before, "a refused answer left something");
+        answer(alloc, book, command, out)?;
+    }
+    Ok(())
+}
+
+/// Appends a refusal behind these bytes, which a refused growth has to leave as they are.
+pub fn refused(fault: &CommandFault, before: &[u8], out: &mut Vec<u8>) -> Result<()> {
+    if refusal(fault, out).is_err() {
+        ensure!(out.as_slice() == before, "a refused refusal left something");
+        refusal(fault, out)?;
+    }
+    Ok(())
+}
+
+/// What a command changes, if it changes anything.
+pub fn changed(alloc: Global, command: &Command) -> Result<Option<What>, NoMemory> {
+    match command.change(alloc) {
+        Err(NoMemory) => command.change(alloc),
+        made => made,
+    }
+}
+
+/// Does what a command asks for, as the next event of a seat.
+pub fn taken(book: &mut Book, seat: u64, seq: u64, what: &What) -> Result<()> {
+    if book.take(seat, seq, what).is_err() {
+        book.take(seat, seq, what)?;
+    }
+    Ok(())
+}
