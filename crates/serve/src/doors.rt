@@ -94,12 +94,14 @@ impl Counts {
         self.closed.fetch_add(1, Ordering::SeqCst);
     }
 
-    // All have got so far.
-    fn reach(&self, stage: u64) {
-        self.begun.store(stage, Ordering::SeqCst);
+    // The timer has its seat. Nothing is served all the same where all have given up.
+    fn begin_to_serve(&self) {
+        let _ = self
+            .begun
+            .compare_exchange(WAITS, SERVES, Ordering::SeqCst, Ordering::SeqCst);
     }
 
-    // Nothing is served, for want of a thread or a seat: the doors' threads end.
+    // Nothing is served, for want of a thread or a seat: all threads end.
     fn give_up(&self) {
         self.refuse();
         self.begun.store(GIVES_UP, Ordering::SeqCst);
@@ -109,12 +111,12 @@ impl Counts {
         self.begun.load(Ordering::SeqCst) == GIVES_UP
     }
 
-    // Waits until all have got so far, or have given up. Whether they haven't given up.
-    fn waits_until<R: Wait>(&self, rt: &R, stage: u64) -> bool {
+    // Waits until the timer has its seat, or all have given up. Whether connections are served.
+    fn are_served<R: Wait>(&self, rt: &R) -> bool {
         for _ in rt.forever() {
             let begun = self.begun.load(Ordering::SeqCst);
-            if begun >= stage {
-                return begun != GIVES_UP;
+            if begun != WAITS {
+                return begun == SERVES;
             }
             thread::yield_now();
         }
@@ -130,9 +132,11 @@ impl Counts {
         self.serving.fetch_sub(1, Ordering::SeqCst);
     }
 
-    // Whether both doors have closed, and their workers have ended.
+    // Whether all have given up, or both doors have closed and their workers have ended.
     fn are_done(&self) -> bool {
-        self.closed.load(Ordering::SeqCst) >= 2 && self.serving.load(Ordering::SeqCst) == 0
+        let have_ended = self.closed.load(Ordering::SeqCst) >= 2
+            && self.serving.load(Ordering::SeqCst) == 0;
+        have_ended || self.has_given_up()
     }
 
     fn so_far(&self) -> Ended {
@@ -265,7 +269,7 @@ impl<
             self.counts.give_up();
             return;
         };
-        self.counts.reach(SERVES);
+        self.counts.begin_to_serve();
         let gate = TimerGate {
             gate: self.gate,
             counts: self.counts,
@@ -276,7 +280,7 @@ impl<
 
 // Admin connections, one after the other, until their door closes.
 fn admins<R: Wait, K, U: Workers<K>>(rt: &R, workers: &U, counts: &Counts) {
-    if !counts.waits_until(rt, SERVES) {
+    if !counts.are_served(rt) {
         return;
     }
     for _ in 0..MOST_CALLERS {
@@ -288,11 +292,9 @@ fn admins<R: Wait, K, U: Workers<K>>(rt: &R, workers: &U, counts: &Counts) {
     counts.close();
 }
 
-// One connection of a peer, once connections are served.
-fn peer<R: Wait, K: Drop, U: Workers<K>>(rt: &R, workers: &U, counts: &Counts, caller: K) {
-    if counts.waits_until(rt, SERVES) {
-        workers.peer(rt, caller);
-    }
+// One connection of a peer.
+fn peer<R: Wait, K, U: Workers<K>>(rt: &R, workers: &U, counts: &Counts, caller: K) {
+    workers.peer(rt, caller);
     counts.end();
 }
 
@@ -311,13 +313,13 @@ fn open<R: Threads + Wait + Copy + Send + Sync, K: Send + Drop, U: Workers<K> + 
             counts.give_up();
             return;
         }
+        if !counts.are_served(rt) {
+            return;
+        }
         for _ in 0..MOST_CALLERS {
             let Some(caller) = workers.next_peer() else {
                 break;
             };
-            if counts.has_given_up() {
-                break;
-            }
             counts.begin();
             if scope
                 .spawn(move || peer(rt, workers, counts, caller))
