@@ -3,3 +3,5 @@ pub mod Facts
 pub mod Works
 pub mod Timed
 pub mod Sent
+pub mod Pieces
+pub mod Commanded

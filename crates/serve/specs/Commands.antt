@@ -1,62 +1,163 @@
--- What an admin reads and tells.
-use Rattle.std.specs.Prelude.{◌≡◌, ℕ, ◌==◌, ◌⊎◌, List, [], ◌∷◌, ◌++◌, take, false, Option, Some, Result, Ok, Err}
-use Rattle.std.specs.List.{All, list_any}
+-- What an admin reads, tells and answers, line by line.
+use Rattle.std.specs.Prelude.{◌≡◌, ◌≢◌, ℕ, ◌==◌, ◌⊎◌, ⊤, false, List, [], ◌∷◌, ◌++◌, codes, Option, None, Result, Ok, Err}
+use Rattle.std.specs.Io.KnownBytes.{Appends}
+use Rattle.std.specs.List.{list_any}
+use Rattle.std.specs.Option.{option_to_list}
+use mathlib.Core.List.{IsPrefix}
 use Rattle.agg_types.specs.declared.event.What.{What}
+use Rattle.agg_types.specs.declared.event.What.TheVariants.{Sit}
 use Rattle.fleet_model.specs.State.{State}
-use Rattle.show_clear.specs.declared.command.Command.{Command}
+use Rattle.show_clear.specs.Answer.{IsAnswer}
 use Rattle.show_clear.specs.Change.{change_of}
 use Rattle.show_clear.specs.Parse.{command_of}
-use Rattle.hub.specs.History.{Beginning}
-use Rattle.serve.specs.declared.desk.Desk.{Desk}
+use Rattle.show_clear.specs.Refusal.{refusal_text}
+use Rattle.show_clear.specs.declared.command.Command.{Command}
+use Rattle.show_clear.specs.declared.fault.CommandFault.{CommandFault}
+use Rattle.show_clear.specs.declared.fault.CommandFault.TheVariants.{NoMemory}
+use Rattle.hub.specs.History.{Beginning, made, own}
+use Rattle.hub.specs.Posts.{Follows}
+use Rattle.hub.specs.Views.{IsBookOf}
+use Rattle.serve.specs.declared.served.Cause.{Cause}
+use Rattle.serve.specs.declared.served.Cause.TheVariants.{Read, Write, Session, Post, Look}
+use Rattle.serve.specs.declared.served.Faulted.{Faulted}
 use Rattle.serve.specs.declared.served.Served.{Served}
-use Rattle.serve.specs.Told.{HasTold, IsServed}
-
--- nothing, or whole lines
-abbrev pub EndsLine : List ℕ → Type 0
-EndsLine bytes = (bytes ≡ []) ⊎ ((front : List ℕ) × (bytes ≡ front ++ 10 ∷ []))
+use Rattle.serve.specs.Told.{IsServed, stored_of}
 
 -- no LF is among the bytes
 abbrev pub HasNoEnd : List ℕ → Type 0
 HasNoEnd bytes = list_any (λ byte. byte == 10) bytes ≡ false
 
--- a line that ended with LF within the bytes
-pub record IsLineOf (bytes line : List ℕ) : Type 0 where
-  pub front : List ℕ
-  pub behind : List ℕ
-  pub split : bytes ≡ front ++ (line ++ 10 ∷ behind)
-  pub begins : EndsLine front
-  pub whole : HasNoEnd line
+-- a command's answer, and an empty line
+pub record AnswersWith (book : State) (command : Command) (text : List ℕ) : Type 0 where
+  pub answer : List ℕ
+  pub is : IsAnswer book command answer
+  pub ends : text ≡ answer ++ codes "\n"
 
--- what is kept of a line shows whether it is too long for a command
-abbrev pub kept_of : List ℕ → List ℕ
-kept_of line = take 4098 line
-
--- the bytes that were read are whole lines and one that hasn't ended
-pub record IsReading (bytes kept : List ℕ) : Type 0 where
-  pub lines : List ℕ
-  pub line : List ℕ
-  pub split : bytes ≡ lines ++ line
-  pub begins : EndsLine lines
-  pub whole : HasNoEnd line
-  pub keeps : kept ≡ kept_of line
-
--- a clear or an added filter that a line read asks for, over what some book held
-pub record IsAskedIn (bytes : List ℕ) (what : What) : Type 0 where
-  pub line : List ℕ
-  pub read : IsLineOf bytes line
-  pub book : State
+-- a line says a command, whose change is asked for and whose answer is the text
+pub record IsObeyed (book : State) (line : List ℕ) (change : Option What) (text : List ℕ)
+    : Type 0 where
   pub command : Command
-  pub says : command_of book (kept_of line) ≡ Ok command
-  pub asks : change_of command ≡ Some what
+  pub says : command_of book line ≡ Ok command
+  pub asks : change ≡ change_of command
+  pub answers : AnswersWith book command text
 
--- a desk where what lines asked for was told, and nothing else
-pub record HasChanged (hub : Beginning) (bytes : List ℕ) (desk : Desk) (waiting : ℕ) : Type 0 where
-  pub changes : List What
-  pub asked : All (IsAskedIn bytes) changes
-  pub told : HasTold hub desk changes waiting
+-- a line is refused and asks for no change: the text tells its first fault, or that it couldn't be
+-- read for want of memory, and an empty line
+pub record IsRefusedLine (book : State) (line : List ℕ) (change : Option What) (text : List ℕ)
+    : Type 0 where
+  pub fault : CommandFault
+  pub says : fault ≢ NoMemory → command_of book line ≡ Err fault
+  pub none : change ≡ None
+  pub tells : text ≡ refusal_text fault ++ codes "\n"
 
--- what an admin's receipts show: changes that lines read asked for, and so many events more
-pub record IsCommanded (bytes : List ℕ) (seat waiting : ℕ) (served : Served) : Type 0 where
-  pub changes : List What
-  pub asked : All (IsAskedIn bytes) changes
-  pub shown : IsServed seat changes waiting served
+-- what a line is answered over a book, and what it changes
+abbrev pub Replies : State → List ℕ → Option What → List ℕ → Type 0
+Replies book line change text = IsObeyed book line change text ⊎ IsRefusedLine book line change text
+
+-- a line without its LF, what it changed if it asked for a change, and the text that answers it
+pub record Reply : Type 0 where
+  pub line : List ℕ
+  pub change : Option What
+  pub text : List ℕ
+
+-- a list shows what a seat told, if it told anything
+abbrev pub ShowsTold : ℕ → List What → Beginning → Type 0
+ShowsTold seat whats list = whats ≢ [] → IsPrefix (made seat 0 (Sit ∷ whats)) (own seat list.events)
+
+-- a line is answered over the book of some beginning of the hub's history, which shows all that its
+-- seat told before
+pub record IsReply (hub : Beginning) (seat : ℕ) (told : List What) (reply : Reply) : Type 0 where
+  pub whole : HasNoEnd reply.line
+  pub seen : Beginning
+  pub follows : Follows hub seen
+  pub shows : ShowsTold seat told seen
+  pub book : State
+  pub stands : IsBookOf book seen
+  pub says : Replies book reply.line reply.change reply.text
+
+-- the lines that were answered, of which the newest reply is first, each with its LF
+abbrev pub lines_in : List Reply → List ℕ
+lines_in [] = []
+lines_in (reply ∷ earlier) = lines_in earlier ++ (reply.line ++ 10 ∷ [])
+
+-- what they changed
+abbrev pub changes_in : List Reply → List What
+changes_in [] = []
+changes_in (reply ∷ earlier) = changes_in earlier ++ option_to_list reply.change
+
+-- what they were answered
+abbrev pub texts_in : List Reply → List ℕ
+texts_in [] = []
+texts_in (reply ∷ earlier) = texts_in earlier ++ reply.text
+
+-- each line was answered behind what those before it changed
+abbrev pub AreReplies : Beginning → ℕ → List Reply → Type 0
+AreReplies hub seat [] = ⊤
+AreReplies hub seat (reply ∷ earlier) =
+    IsReply hub seat (changes_in earlier) reply × AreReplies hub seat earlier
+
+-- all lines that ended were answered, and what they changed was told; one that hasn't ended is
+-- dropped
+pub record AllAnswered (hub : Beginning) (seat : ℕ) (Told : List What → ℕ → Type 0)
+    (bytes written : List ℕ) : Type 0 where
+  pub replies : List Reply
+  pub line : List ℕ
+  pub are : AreReplies hub seat replies
+  pub read : bytes ≡ lines_in replies ++ line
+  pub unended : HasNoEnd line
+  pub told : Told (changes_in replies) 0
+  pub answered : written ≡ texts_in replies
+
+-- the first lines were answered, and what they changed was told; but of the last one's answer only
+-- a beginning was written
+pub record LastCutShort (hub : Beginning) (seat : ℕ) (Told : List What → ℕ → Type 0)
+    (bytes written : List ℕ) : Type 0 where
+  pub replies : List Reply
+  pub last : Reply
+  pub later : List ℕ
+  pub front : List ℕ
+  pub rest : List ℕ
+  pub are : AreReplies hub seat (last ∷ replies)
+  pub read : bytes ≡ lines_in (last ∷ replies) ++ later
+  pub told : Told (changes_in (last ∷ replies)) 0
+  pub text : last.text ≡ front ++ rest
+  pub answered : written ≡ texts_in replies ++ front
+
+-- the first lines were answered, and what they changed was told; of the later ones nothing was told
+-- nor answered, and so many events are stored all the same
+pub record LaterRefused (hub : Beginning) (seat : ℕ) (Told : List What → ℕ → Type 0)
+    (bytes written : List ℕ) (stored : ℕ) : Type 0 where
+  pub replies : List Reply
+  pub later : List ℕ
+  pub are : AreReplies hub seat replies
+  pub read : bytes ≡ lines_in replies ++ later
+  pub told : Told (changes_in replies) stored
+  pub answered : written ≡ texts_in replies
+
+-- how an admin ends that read and wrote these bytes
+abbrev pub EndsCommands : Beginning → ℕ → (List What → ℕ → Type 0) → List ℕ → List ℕ → Cause → Type 0
+EndsCommands hub seat Told bytes written Read = AllAnswered hub seat Told bytes written
+EndsCommands hub seat Told bytes written Write = LastCutShort hub seat Told bytes written
+EndsCommands hub seat Told bytes written (Session cause) = ⊥
+EndsCommands hub seat Told bytes written (Post fault) =
+    LaterRefused hub seat Told bytes written (stored_of fault 1)
+EndsCommands hub seat Told bytes written Look = LaterRefused hub seat Told bytes written 0
+
+-- how an admin was served at Ok: all lines that its source gave were answered
+pub record IsCommandedWhole (hub : Beginning) (seat : ℕ) (given0 given wrote0 wrote : Option (List ℕ))
+    (served : Served) : Type 0 where
+  pub bytes : List ℕ
+  pub written : List ℕ
+  pub gave : Appends given0 given bytes
+  pub took : Appends wrote0 wrote written
+  pub ends : AllAnswered hub seat (λ whats waiting. IsServed seat whats waiting served) bytes written
+
+-- how an admin was served that ended for a cause
+pub record IsCommandedUntil (hub : Beginning) (seat : ℕ) (given0 given wrote0 wrote : Option (List ℕ))
+    (faulted : Faulted) : Type 0 where
+  pub bytes : List ℕ
+  pub written : List ℕ
+  pub gave : Appends given0 given bytes
+  pub took : Appends wrote0 wrote written
+  pub ends : EndsCommands hub seat (λ whats waiting. IsServed seat whats waiting faulted.served)
+      bytes written faulted.cause

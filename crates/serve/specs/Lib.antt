@@ -4,3 +4,4 @@ pub mod Turns
 pub mod Working
 pub mod Moments
 pub mod Commands
+pub mod Commanding

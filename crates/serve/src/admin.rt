@@ -1,7 +1,17 @@
 //! One admin connection: commands of a line each, and their answers.
 
-ghost use Rattle.std.specs.Prelude.{◌≡◌, ◌<◌, ◌+◌, ◌^◌};
+ghost use Rattle.std.specs.Prelude.{◌≡◌, ◌≢◌, ◌<◌, ◌≤◌, ◌+◌, ◌^◌, ◌⊎◌, ◌++◌, ℕ, List, [], ◌∷◌, codes, Option, None, IfOk, IfSome, IfErr, Ok, Err, MatchResult};
+ghost use Rattle.std.specs.Option.{option_to_list};
+ghost use Rattle.agg_types.specs.declared.config.Config.{Config};
+ghost use Rattle.agg_types.specs.declared.event.What.{What};
+ghost use Rattle.hub.specs.History.{Beginning};
 ghost use Rattle.hub.specs.Posts.{Follows, SitsDown};
+ghost use Rattle.hub.specs.Roll.{MayPost};
+ghost use Rattle.serve.specs.Commands.{AnswersWith, HasNoEnd, IsCommandedUntil, IsCommandedWhole, Replies};
+ghost use Rattle.serve.specs.Told.{stored_of};
+ghost use Rattle.show_clear.specs.Answer.{NamesStand};
+ghost use Rattle.show_clear.specs.Change.{change_of};
+ghost use Rattle.show_clear.specs.Refusal.{refusal_text};
 
 use crate::desk::Desk;
 use crate::gate::{Gate, Place};
@@ -9,17 +19,67 @@ use crate::lines::{Line, split_line};
 use crate::served::{Cause, Faulted, Served};
 use crate::source::{Came, Source, buffer};
 use crate::worker::MOST_READS;
-use crate::writing::send;
+use crate::writing::{front, send};
 use agg_types::{NoMemory, What};
 use book::Book;
 use hub::{Hub, Lens, Naming, Pass, PostFault};
-use show_clear::{answer, parse, refusal};
+use show_clear::{Command, CommandFault, answer, parse, refusal};
 use std::alloc::Global;
 use std::io::Write;
 use std::sync::Wait;
 
 /// After so many reads in a row that gave nothing an admin connection is over.
 const MOST_SILENT: u32 = 20;
+
+/// What a line is answered, with an empty line behind it, and the change that it asks for.
+#[derive(Drop)]
+struct Answered {
+    change: Option<What>,
+    text: Vec<u8>,
+}
+
+/// A growth of one's own that was refused.
+fn refused(alloc: Global) -> PostFault
+    ensures { stored_of result 1 ≡ 0 }
+{
+    PostFault::NoMemory(Vec::new(alloc))
+}
+
+/// The answer to a command.
+fn obeyed(alloc: Global, book: &Book, command: &Command) -> Result<Answered, NoMemory>
+    requires { NamesStand book.now command.now }
+    ensures change { IfOk result (λ a. a.change ≡ change_of command.now) }
+    ensures text { IfOk result (λ a. AnswersWith book.now command.now a.text.items) }
+{
+    let mut text = Vec::new(alloc);
+    answer(alloc, book, command, &mut text)?;
+    text.push(b'\n')?;
+    let change = command.change(alloc)?;
+    Ok(Answered { change, text })
+}
+
+/// The refusal of a line.
+fn refused_line(alloc: Global, fault: CommandFault) -> Result<Answered, NoMemory>
+    ensures change { IfOk result (λ a. a.change ≡ None) }
+    ensures text { IfOk result (λ a. a.text.items ≡ refusal_text fault ++ codes "\n") }
+{
+    let mut text = Vec::new(alloc);
+    refusal(&fault, &mut text)?;
+    text.push(b'\n')?;
+    Ok(Answered { change: None, text })
+}
+
+/// What a line is answered over a book.
+fn answer_to(alloc: Global, book: &Book, line: &[u8]) -> Result<Answered, NoMemory>
+    ensures replies { IfOk result (λ a. Replies book.now line.now a.change a.text.items) }
+    ensures fits { (config : Config) → config.tables ≡ book.now.config.tables
+        → IfOk result (λ a. IfSome a.change (MayPost config)) }
+{
+    match parse(alloc, book, line) {
+        Ok(command) => obeyed(alloc, book, &command),
+        Err(fault) => refused_line(alloc, fault),
+    }
+}
 
 /// An admin at work.
 #[derive(Drop)]
@@ -31,44 +91,45 @@ struct Worker {
     silent: u32,
 }
 
-/// A growth of one's own that was refused.
-fn refused(alloc: Global) -> Cause {
-    Cause::Post(PostFault::NoMemory(Vec::new(alloc)))
-}
-
-/// The text that answers a line, with an empty line behind it, and the change that it asks for.
-fn answered(
-    alloc: Global,
-    book: &Book,
-    line: &[u8],
-    out: &mut Vec<u8>,
-) -> Result<Option<What>, NoMemory> {
-    let change = match parse(alloc, book, line) {
-        Ok(command) => {
-            answer(alloc, book, &command, out)?;
-            command.change(alloc)?
-        }
-        Err(fault) => {
-            refusal(&fault, out)?;
-            None
-        }
-    };
-    out.push(b'\n')?;
-    Ok(change)
-}
-
 impl Worker {
+    ghost use Rattle.serve.specs.Commanding.{ChangesTo, HasLearned, KeepsTo, LooksTo, ObeysTo, Works, WorksOn, kept_of};
+
+    // An admin that has read nothing.
+    fn new(alloc: Global, lens: Lens, pass: Pass) -> Worker
+        ensures pass { result.desk.pass ≡ pass }
+        ensures lens { result.lens ≡ lens }
+        ensures line { result.line.bytes.items ≡ [] }
+        ensures learned { (hub : Beginning) → SitsDown pass → pass.seen.of ≡ hub.of
+            → Follows hub lens.seen → HasLearned hub pass.seat result [] }
+    {
+        let desk = Desk::new(pass);
+        let line = Line::new(alloc);
+        Worker {
+            alloc,
+            lens,
+            desk,
+            line,
+            silent: 0,
+        }
+    }
+
     // Answers the line that is kept, over a look that has all that was posted and learned.
-    fn look(&mut self, out: &mut Vec<u8>) -> Result<Option<What>, Cause>
+    fn look(&mut self) -> Result<Answered, Cause>
+        ensures read { result ≢ Err Cause.Read }
         ensures desk { self.new.desk ≡ self.old.desk }
-        ensures lens { self.new.lens.seen.of ≡ self.old.lens.seen.of }
+        ensures lens { Follows self.old.lens.seen self.new.lens.seen }
+        ensures fits { (hub : Beginning) → Follows hub self.old.lens.seen
+            → IfOk result (λ a. IfSome a.change (MayPost hub.config)) }
+        ensures looks { (hub : Beginning) (seat : ℕ) (whats : List What) (line : List ℕ)
+            → HasLearned hub seat self.old whats → self.old.line.bytes.items ≡ kept_of line
+            → HasNoEnd line → LooksTo hub seat self.new whats line result }
     {
         let Some(look) = self.lens.look() else {
             return Err(Cause::Look);
         };
-        match answered(self.alloc, look.book(), self.line.as_slice(), out) {
-            Ok(change) => Ok(change),
-            Err(NoMemory) => Err(refused(self.alloc)),
+        match answer_to(self.alloc, look.book(), self.line.as_slice()) {
+            Ok(answered) => Ok(answered),
+            Err(NoMemory) => Err(Cause::Post(refused(self.alloc))),
         }
     }
 
@@ -80,16 +141,18 @@ impl Worker {
         what: What,
     ) -> Result<(), Cause>
         requires of { self.old.desk.pass.seen.of ≡ hub.now.of }
-        requires lens { self.old.lens.seen.of ≡ hub.now.of }
+        requires lens { Follows hub.now self.old.lens.seen }
+        requires fits { MayPost hub.now.config what }
+        ensures read { result ≢ Err Cause.Read }
         ensures of { self.new.desk.pass.seen.of ≡ hub.now.of }
-        ensures lens { self.new.lens.seen.of ≡ hub.now.of }
+        ensures lens { Follows hub.now self.new.lens.seen }
+        ensures seat { self.new.desk.pass.seat ≡ self.old.desk.pass.seat }
+        ensures changes { (seat : ℕ) (whats : List What) → HasLearned hub.now seat self.old whats
+            → ChangesTo hub.now seat self.new whats (what ∷ []) result }
     {
         let mut whats = Vec::new(self.alloc);
         if whats.push(what).is_err() {
-            return Err(refused(self.alloc));
-        }
-        if !hub.allows(whats.as_slice()) {
-            return Err(refused(self.alloc));
+            return Err(Cause::Post(refused(self.alloc)));
         }
         match self.desk.post(rt, hub, whats) {
             Err(fault) => Err(Cause::Post(fault)),
@@ -97,6 +160,56 @@ impl Worker {
                 self.desk.show(&mut self.lens);
                 Ok(())
             }
+        }
+    }
+
+    // Does what a line asks for.
+    fn carry_out<J: Naming, H: Wait + Drop, R: Wait>(
+        &mut self,
+        rt: &R,
+        hub: &Hub<J, H>,
+        change: Option<What>,
+    ) -> Result<(), Cause>
+        requires of { self.old.desk.pass.seen.of ≡ hub.now.of }
+        requires lens { Follows hub.now self.old.lens.seen }
+        requires fits { IfSome change (MayPost hub.now.config) }
+        ensures read { result ≢ Err Cause.Read }
+        ensures of { self.new.desk.pass.seen.of ≡ hub.now.of }
+        ensures lens { Follows hub.now self.new.lens.seen }
+        ensures seat { self.new.desk.pass.seat ≡ self.old.desk.pass.seat }
+        ensures changes { (seat : ℕ) (whats : List What) → HasLearned hub.now seat self.old whats
+            → ChangesTo hub.now seat self.new whats (option_to_list change) result }
+    {
+        match change {
+            None => Ok(()),
+            Some(what) => self.change(rt, hub, what),
+        }
+    }
+
+    // Does what a line asks for that was looked at, and writes its answer.
+    fn reply<J: Naming, H: Wait + Drop, R: Wait, W: Write>(
+        &mut self,
+        rt: &R,
+        hub: &Hub<J, H>,
+        writer: &mut W,
+        answered: Answered,
+    ) -> Result<(), Cause>
+        requires of { self.old.desk.pass.seen.of ≡ hub.now.of }
+        requires lens { Follows hub.now self.old.lens.seen }
+        requires fits { IfSome answered.change (MayPost hub.now.config) }
+        ensures read { result ≢ Err Cause.Read }
+        ensures of { self.new.desk.pass.seen.of ≡ hub.now.of }
+        ensures lens { Follows hub.now self.new.lens.seen }
+        ensures seat { self.new.desk.pass.seat ≡ self.old.desk.pass.seat }
+        ensures obeys { (seat : ℕ) (whats : List What) (line : List ℕ)
+            → LooksTo hub.now seat self.old whats line (Ok answered)
+            → ObeysTo hub.now seat self.new whats line (W.contents writer.old)
+            (W.contents writer.new) result }
+    {
+        let Answered { change, text } = answered;
+        match self.carry_out(rt, hub, change) {
+            Ok(()) => send(writer, text.as_slice()),
+            Err(cause) => Err(cause),
         }
     }
 
@@ -109,26 +222,67 @@ impl Worker {
         gate: &G,
     ) -> Result<(), Cause>
         requires of { self.old.desk.pass.seen.of ≡ hub.now.of }
-        requires lens { self.old.lens.seen.of ≡ hub.now.of }
+        requires lens { Follows hub.now self.old.lens.seen }
+        ensures read { result ≢ Err Cause.Read }
         ensures of { self.new.desk.pass.seen.of ≡ hub.now.of }
-        ensures lens { self.new.lens.seen.of ≡ hub.now.of }
+        ensures lens { Follows hub.now self.new.lens.seen }
+        ensures seat { self.new.desk.pass.seat ≡ self.old.desk.pass.seat }
+        ensures obeys { (seat : ℕ) (whats : List What) (line : List ℕ)
+            → HasLearned hub.now seat self.old whats → self.old.line.bytes.items ≡ kept_of line
+            → HasNoEnd line → ObeysTo hub.now seat self.new whats line
+            (W.contents writer.old) (W.contents writer.new) result }
     {
         gate.turn(Place::Admin);
-        let mut out = Vec::new(self.alloc);
-        if let Some(what) = self.look(&mut out)? {
-            self.change(rt, hub, what)?;
+        match self.look() {
+            Ok(answered) => self.reply(rt, hub, writer, answered),
+            Err(cause) => Err(cause),
         }
-        send(writer, &out)
     }
 
     // Adds bytes to the line that is kept.
     fn keep(&mut self, bytes: &[u8]) -> Result<(), Cause>
+        ensures read { result ≢ Err Cause.Read }
         ensures desk { self.new.desk ≡ self.old.desk }
         ensures lens { self.new.lens ≡ self.old.lens }
+        ensures keeps { (line : List ℕ) → self.old.line.bytes.items ≡ kept_of line
+            → KeepsTo self.new (line ++ bytes.now) result }
     {
         match self.line.add(bytes) {
             Ok(()) => Ok(()),
-            Err(NoMemory) => Err(refused(self.alloc)),
+            Err(NoMemory) => Err(Cause::Post(refused(self.alloc))),
+        }
+    }
+
+    // Obeys the line that these bytes end.
+    fn end_line<J: Naming, H: Wait + Drop, R: Wait, W: Write, G: Gate>(
+        &mut self,
+        rt: &R,
+        hub: &Hub<J, H>,
+        writer: &mut W,
+        gate: &G,
+        bytes: &[u8],
+    ) -> Result<(), Cause>
+        requires of { self.old.desk.pass.seen.of ≡ hub.now.of }
+        requires lens { Follows hub.now self.old.lens.seen }
+        ensures read { result ≢ Err Cause.Read }
+        ensures of { self.new.desk.pass.seen.of ≡ hub.now.of }
+        ensures lens { Follows hub.now self.new.lens.seen }
+        ensures seat { self.new.desk.pass.seat ≡ self.old.desk.pass.seat }
+        ensures works { (seat : ℕ) (rest : List ℕ) (given0 given wrote0 : Option (List ℕ))
+            → HasNoEnd bytes.now
+            → Works hub.now seat self.old (bytes.now ++ 10 ∷ rest) given0 given wrote0
+            (W.contents writer.old)
+            → WorksOn hub.now seat self.new rest given0 given wrote0 (W.contents writer.new) result }
+    {
+        match self.keep(bytes) {
+            Err(cause) => Err(cause),
+            Ok(()) => match self.obey(rt, hub, writer, gate) {
+                Err(cause) => Err(cause),
+                Ok(()) => {
+                    self.line.clear();
+                    Ok(())
+                }
+            },
         }
     }
 
@@ -142,18 +296,59 @@ impl Worker {
         piece: &[u8],
     ) -> Result<(), Cause>
         requires of { self.old.desk.pass.seen.of ≡ hub.now.of }
-        requires lens { self.old.lens.seen.of ≡ hub.now.of }
+        requires lens { Follows hub.now self.old.lens.seen }
+        ensures read { result ≢ Err Cause.Read }
         ensures of { self.new.desk.pass.seen.of ≡ hub.now.of }
-        ensures lens { self.new.lens.seen.of ≡ hub.now.of }
+        ensures lens { Follows hub.now self.new.lens.seen }
+        ensures seat { self.new.desk.pass.seat ≡ self.old.desk.pass.seat }
+        ensures works { (seat : ℕ) (given0 given wrote0 : Option (List ℕ))
+            → Works hub.now seat self.old piece.now given0 given wrote0 (W.contents writer.old)
+            → WorksOn hub.now seat self.new [] given0 given wrote0 (W.contents writer.new) result }
     {
         let mut rest = piece;
         while let Some((front, behind)) = split_line(rest) {
-            self.keep(front)?;
-            self.obey(rt, hub, writer, gate)?;
-            self.line.clear();
-            rest = behind;
+            match self.end_line(rt, hub, writer, gate, front) {
+                Ok(()) => rest = behind,
+                Err(cause) => return Err(cause),
+            }
         }
         self.keep(rest)
+    }
+
+    // Takes a piece, and goes on.
+    fn treat<J: Naming, H: Wait + Drop, R: Wait, W: Write, G: Gate>(
+        &mut self,
+        rt: &R,
+        hub: &Hub<J, H>,
+        writer: &mut W,
+        gate: &G,
+        piece: &[u8],
+    ) -> Result<bool, Cause>
+        requires of { self.old.desk.pass.seen.of ≡ hub.now.of }
+        requires lens { Follows hub.now self.old.lens.seen }
+        ensures of { self.new.desk.pass.seen.of ≡ hub.now.of }
+        ensures lens { Follows hub.now self.new.lens.seen }
+        ensures seat { self.new.desk.pass.seat ≡ self.old.desk.pass.seat }
+        ensures read { result ≢ Err Cause.Read }
+        ensures works { (seat : ℕ) (given0 given wrote0 : Option (List ℕ))
+            → Works hub.now seat self.old piece.now given0 given wrote0 (W.contents writer.old)
+            → WorksOn hub.now seat self.new [] given0 given wrote0 (W.contents writer.new) result }
+    {
+        self.silent = 0;
+        match self.take(rt, hub, writer, gate, piece) {
+            Ok(()) => Ok(true),
+            Err(cause) => Err(cause),
+        }
+    }
+
+    // Notes that a read gave nothing. Whether the connection goes on.
+    fn wait(&mut self) -> bool
+        ensures desk { self.new.desk ≡ self.old.desk }
+        ensures lens { self.new.lens ≡ self.old.lens }
+        ensures line { self.new.line ≡ self.old.line }
+    {
+        self.silent = self.silent.saturating_add(1);
+        self.silent < MOST_SILENT
     }
 
     // Reads once, and does what that asks for. Whether the connection goes on.
@@ -168,23 +363,24 @@ impl Worker {
     ) -> Result<bool, Cause>
         requires reads { S.reads source.old < 2 ^ 62 }
         requires of { self.old.desk.pass.seen.of ≡ hub.now.of }
-        requires lens { self.old.lens.seen.of ≡ hub.now.of }
-        ensures reads { S.reads source.new ≡ S.reads source.old + 1 }
+        requires lens { Follows hub.now self.old.lens.seen }
         ensures of { self.new.desk.pass.seen.of ≡ hub.now.of }
-        ensures lens { self.new.lens.seen.of ≡ hub.now.of }
+        ensures lens { Follows hub.now self.new.lens.seen }
+        ensures seat { self.new.desk.pass.seat ≡ self.old.desk.pass.seat }
+        ensures reads { S.reads source.new ≡ S.reads source.old + 1 }
+        ensures failed { S.failed source.old ≤ S.failed source.new }
+        ensures read { result ≡ Err Cause.Read → S.failed source.old < S.failed source.new }
+        ensures works { (seat : ℕ) (given0 wrote0 : Option (List ℕ))
+            → Works hub.now seat self.old [] given0 (S.given source.old) wrote0
+            (W.contents writer.old)
+            → WorksOn hub.now seat self.new [] given0 (S.given source.new) wrote0
+            (W.contents writer.new) result }
     {
         match source.read(buffer) {
             Err(_) => Err(Cause::Read),
             Ok(Came::End) => Ok(false),
-            Ok(Came::Nothing) => {
-                self.silent = self.silent.saturating_add(1);
-                Ok(self.silent < MOST_SILENT)
-            }
-            Ok(Came::Bytes(count)) => {
-                self.silent = 0;
-                self.take(rt, hub, writer, gate, &buffer[..count])?;
-                Ok(true)
-            }
+            Ok(Came::Nothing) => Ok(self.wait()),
+            Ok(Came::Bytes(count)) => self.treat(rt, hub, writer, gate, front(buffer, count)),
         }
     }
 
@@ -200,9 +396,15 @@ impl Worker {
     ) -> Result<(), Cause>
         requires reads { S.reads source.old ≡ 0 }
         requires of { self.old.desk.pass.seen.of ≡ hub.now.of }
-        requires lens { self.old.lens.seen.of ≡ hub.now.of }
+        requires lens { Follows hub.now self.old.lens.seen }
+        requires line { self.old.line.bytes.items ≡ [] }
+        requires learned { HasLearned hub.now self.old.desk.pass.seat self.old [] }
+        ensures seat { self.new.desk.pass.seat ≡ self.old.desk.pass.seat }
         ensures of { self.new.desk.pass.seen.of ≡ hub.now.of }
-        ensures lens { self.new.lens.seen.of ≡ hub.now.of }
+        ensures works { WorksOn hub.now self.old.desk.pass.seat self.new [] (S.given source.old)
+            (S.given source.new) (W.contents writer.old) (W.contents writer.new) result }
+        ensures read { result ≡ Err Cause.Read
+            → (S.failed source.old < S.failed source.new) ⊎ (S.reads source.new ≡ 2 ^ 40) }
     {
         for made in 0..MOST_READS {
             if gate.stop() || !self.turn(rt, hub, source, writer, gate, buffer)? {
@@ -210,6 +412,41 @@ impl Worker {
             }
         }
         Err(Cause::Read)
+    }
+
+    // Runs with a buffer of its own.
+    fn serve<J: Naming, H: Wait + Drop, R: Wait, S: Source, W: Write, G: Gate>(
+        &mut self,
+        rt: &R,
+        hub: &Hub<J, H>,
+        source: &mut S,
+        writer: &mut W,
+        gate: &G,
+    ) -> Result<(), Cause>
+        requires reads { S.reads source.old ≡ 0 }
+        requires of { self.old.desk.pass.seen.of ≡ hub.now.of }
+        requires lens { Follows hub.now self.old.lens.seen }
+        requires line { self.old.line.bytes.items ≡ [] }
+        requires learned { HasLearned hub.now self.old.desk.pass.seat self.old [] }
+        ensures seat { self.new.desk.pass.seat ≡ self.old.desk.pass.seat }
+        ensures of { self.new.desk.pass.seen.of ≡ hub.now.of }
+        ensures works { WorksOn hub.now self.old.desk.pass.seat self.new [] (S.given source.old)
+            (S.given source.new) (W.contents writer.old) (W.contents writer.new) result }
+        ensures read { result ≡ Err Cause.Read
+            → (S.failed source.old < S.failed source.new) ⊎ (S.reads source.new ≡ 2 ^ 40) }
+    {
+        match buffer(self.alloc) {
+            None => Err(Cause::Post(refused(self.alloc))),
+            Some(mut buffer) => self.run(rt, hub, source, writer, gate, buffer.as_mut_slice()),
+        }
+    }
+
+    // What is left of it once it has ended.
+    fn into_desk(self) -> Desk
+        ensures { result ≡ self.desk }
+    {
+        let Worker { desk, .. } = self;
+        desk
     }
 }
 
@@ -230,22 +467,23 @@ pub fn serve_admin<J: Naming, H: Wait + Drop, R: Wait, S: Source, W: Write, G: G
     gate: &G,
 ) -> Result<Served, Faulted>
     requires pass { SitsDown pass × Follows hub.now pass.seen }
-    requires lens { lens.seen.of ≡ hub.now.of }
+    requires lens { Follows hub.now lens.seen }
     requires reads { S.reads source.old ≡ 0 }
+
+    // What was read, changed and answered; and what the receipts show of that.
+    ensures served { MatchResult result
+        (IsCommandedWhole hub.now pass.seat (S.given source.old) (S.given source.new)
+        (W.contents writer.old) (W.contents writer.new))
+        (IsCommandedUntil hub.now pass.seat (S.given source.old) (S.given source.new)
+        (W.contents writer.old) (W.contents writer.new)) }
+
+    // It ends with Read only where a read failed, or 2^40 were made.
+    ensures read { IfErr result (λ faulted. faulted.cause ≡ Cause.Read
+        → (S.failed source.old < S.failed source.new) ⊎ (S.reads source.new ≡ 2 ^ 40)) }
 {
-    let mut worker = Worker {
-        alloc,
-        lens,
-        desk: Desk::new(pass),
-        line: Line::new(alloc),
-        silent: 0,
-    };
-    let ended = match buffer(alloc) {
-        None => Err(refused(alloc)),
-        Some(mut buffer) => worker.run(rt, hub, source, writer, gate, &mut buffer),
-    };
-    let Worker { desk, .. } = worker;
-    let served = desk.leave(rt, hub);
+    let mut worker = Worker::new(alloc, lens, pass);
+    let ended = worker.serve(rt, hub, source, writer, gate);
+    let served = worker.into_desk().leave(rt, hub);
     match ended {
         Ok(()) => Ok(served),
         Err(cause) => Err(Faulted { cause, served }),

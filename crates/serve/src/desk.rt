@@ -41,7 +41,8 @@ impl Desk {
     /// Has a lens learn what was posted last, so that it shows no less from then on.
     pub fn show(&self, lens: &mut Lens)
         requires { IfSome self.now.last (λ list. list.of ≡ lens.old.seen.of) }
-        ensures { lens.new.seen.of ≡ lens.old.seen.of }
+        ensures kept { Follows lens.old.seen lens.new.seen }
+        ensures learned { IfSome self.now.last (λ list. Follows list lens.new.seen) }
     {
         if let Some(receipt) = &self.last {
             lens.learn(receipt);

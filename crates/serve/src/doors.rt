@@ -237,6 +237,7 @@ impl<
     }
 
     // Without a seat or a lens it is closed.
+    #[tactic(auto, using(crate::proofs::Commanded::lens_follows))]
     fn admin<R: Wait>(&self, rt: &R, caller: Caller<S, W>) {
         let Caller {
             mut source,

@@ -5,8 +5,10 @@
 //! wait, so each takes a handle; all that they say, read and tell stands in the crates below.
 //!
 //! Promised of a session: exactly the facts of the bytes that it took are told, and an answer is
-//! written only behind its facts. Promised of a timer: it tells moments of its clock. No clause says
-//! that an admin's changes are those of its lines, nor what `serve_all` counts.
+//! written only behind its facts. Promised of an admin: exactly the changes that its lines ask for
+//! are told, in their order, and each line is answered over a book that shows those before it; a
+//! change is answered only once it was told. Promised of a timer: it tells moments of its clock. No
+//! clause says what `serve_all` starts, when it ends, or what it counts.
 #![tactic(auto)]
 
 mod admin;

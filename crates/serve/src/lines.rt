@@ -1,6 +1,7 @@
 //! The line that hasn't ended.
 
-ghost use Rattle.std.specs.Prelude.{◌≡◌, ◌<◌, [], length, IfSome, OnErr};
+ghost use Rattle.std.specs.Prelude.{◌≡◌, ◌<◌, ◌++◌, ◌-◌, [], ◌∷◌, length, take, IfSome, IfNone, OnOk, OnErr};
+ghost use Rattle.serve.specs.Commands.{HasNoEnd};
 
 use agg_types::NoMemory;
 use line_words::place_of;
@@ -35,7 +36,9 @@ impl Line {
 
     /// Adds bytes of the line. After NoMemory it is as it was.
     pub fn add(&mut self, bytes: &[u8]) -> Result<(), NoMemory>
-        ensures { OnErr result (self.new.bytes.items ≡ self.old.bytes.items) }
+        ensures ok { OnOk result (self.new.bytes.items
+            ≡ self.old.bytes.items ++ take (4098 - length self.old.bytes.items) bytes.now) }
+        ensures err { OnErr result (self.new.bytes.items ≡ self.old.bytes.items) }
     {
         let room = LONGEST_KEPT.saturating_sub(self.bytes.len());
         let count = bytes.len().min(room);
@@ -52,7 +55,11 @@ impl Line {
 }
 
 /// The bytes before the first LF and those behind it, if there is one.
+#[tactic(auto, using(crate::proofs::Pieces::parting))]
 pub fn split_line(piece: &[u8]) -> Option<(&[u8], &[u8])>
+    ensures whole { IfNone result (HasNoEnd piece.now) }
+    ensures line { IfSome result (λ parts. HasNoEnd parts.0.now) }
+    ensures parts { IfSome result (λ parts. piece.now ≡ parts.0.now ++ 10 ∷ parts.1.now) }
     ensures shorter { IfSome result (λ parts. length parts.1.now < length piece.now) }
 {
     let end = place_of(piece, b'\n')?;

@@ -1,0 +1,121 @@
+-- An admin at work.
+use Rattle.std.specs.Prelude.{◌≡◌, ℕ, List, [], ◌∷◌, ◌++◌, take, Option, IfSome, Result, Ok, Err}
+use Rattle.std.specs.Io.KnownBytes.{Appends}
+use Rattle.std.specs.Option.{option_to_list}
+use Rattle.agg_types.specs.declared.event.What.{What}
+use Rattle.hub.specs.declared.faults.PostFault.{PostFault}
+use Rattle.hub.specs.History.{Beginning}
+use Rattle.hub.specs.Posts.{Follows}
+use Rattle.hub.specs.Roll.{MayPost}
+use Rattle.serve.specs.declared.admin.Answered.{Answered}
+use Rattle.serve.specs.declared.admin.Worker.{Worker}
+use Rattle.serve.specs.declared.served.Cause.{Cause}
+use Rattle.serve.specs.declared.served.Cause.TheVariants.{Read, Write, Session, Post, Look}
+use Rattle.serve.specs.Commands.{AreReplies, EndsCommands, HasNoEnd, IsReply, Reply, ShowsTold, changes_in, lines_in, texts_in}
+use Rattle.serve.specs.Told.{HasTold, stored_of}
+use Rattle.serve.specs.Turns.{WroteFront}
+
+-- what is kept of a line shows whether it is too long for a command
+abbrev pub kept_of : List ℕ → List ℕ
+kept_of line = take 4098 line
+
+-- this was told at a seat, and what its lens has seen shows it
+pub record HasLearned (hub : Beginning) (seat : ℕ) (worker : Worker) (whats : List What)
+    : Type 0 where
+  pub at : worker.desk.pass.seat ≡ seat
+  pub sees : Follows hub worker.lens.seen
+  pub told : HasTold hub worker.desk whats 0
+  pub shows : ShowsTold seat whats worker.lens.seen
+
+-- a line's reply
+abbrev pub reply_of : List ℕ → Option What → List ℕ → Reply
+reply_of line change text = record { line = line; change = change; text = text }
+
+-- no more was told, and nothing is stored that isn't shown
+pub record HasPaused (hub : Beginning) (worker : Worker) (whats : List What) (fault : PostFault)
+    : Type 0 where
+  pub told : HasTold hub worker.desk whats 0
+  pub none : stored_of fault 1 ≡ 0
+
+-- a line is answered; else no copy could be entered, or memory was wanting
+abbrev pub LooksTo : Beginning → ℕ → Worker → List What → List ℕ → Result Answered Cause → Type 0
+LooksTo hub seat worker whats line (Ok answered) =
+    HasLearned hub seat worker whats
+    × IsReply hub seat whats (reply_of line answered.change answered.text.items)
+LooksTo hub seat worker whats line (Err Read) = ⊥
+LooksTo hub seat worker whats line (Err Write) = ⊥
+LooksTo hub seat worker whats line (Err (Session cause)) = ⊥
+LooksTo hub seat worker whats line (Err (Post fault)) = HasPaused hub worker whats fault
+LooksTo hub seat worker whats line (Err Look) = HasTold hub worker.desk whats 0
+
+-- what a line asks for is told behind what was told before it, and learned; or refused
+abbrev pub ChangesTo : Beginning → ℕ → Worker → List What → List What → Result (Unit {0}) Cause
+    → Type 0
+ChangesTo hub seat worker whats batch (Ok done) = HasLearned hub seat worker (whats ++ batch)
+ChangesTo hub seat worker whats batch (Err Read) = ⊥
+ChangesTo hub seat worker whats batch (Err Write) = ⊥
+ChangesTo hub seat worker whats batch (Err (Session cause)) = ⊥
+ChangesTo hub seat worker whats batch (Err (Post fault)) =
+    HasTold hub worker.desk whats (stored_of fault 1)
+ChangesTo hub seat worker whats batch (Err Look) = ⊥
+
+-- a line has a reply, and what it asks for was told and learned
+pub record HasObeyed (hub : Beginning) (seat : ℕ) (worker : Worker) (whats : List What)
+    (line : List ℕ) (reply : Reply) : Type 0 where
+  pub answers : reply.line ≡ line
+  pub is : IsReply hub seat whats reply
+  pub learned : HasLearned hub seat worker (whats ++ option_to_list reply.change)
+
+-- its answer was written, or a beginning of it; or nothing of a line was told nor written
+abbrev pub ObeysTo : Beginning → ℕ → Worker → List What → List ℕ → Option (List ℕ)
+    → Option (List ℕ) → Result (Unit {0}) Cause → Type 0
+ObeysTo hub seat worker whats line before after (Ok done) =
+    (reply : Reply) × HasObeyed hub seat worker whats line reply × Appends before after reply.text
+ObeysTo hub seat worker whats line before after (Err Read) = ⊥
+ObeysTo hub seat worker whats line before after (Err Write) =
+    (reply : Reply) × HasObeyed hub seat worker whats line reply
+    × WroteFront before after reply.text
+ObeysTo hub seat worker whats line before after (Err (Session cause)) = ⊥
+ObeysTo hub seat worker whats line before after (Err (Post fault)) =
+    HasTold hub worker.desk whats (stored_of fault 1) × Appends before after []
+ObeysTo hub seat worker whats line before after (Err Look) =
+    HasTold hub worker.desk whats 0 × Appends before after []
+
+-- bytes were kept, or memory was wanting
+abbrev pub KeepsTo : Worker → List ℕ → Result (Unit {0}) Cause → Type 0
+KeepsTo worker line (Ok done) = worker.line.bytes.items ≡ kept_of line
+KeepsTo worker line (Err Read) = ⊥
+KeepsTo worker line (Err Write) = ⊥
+KeepsTo worker line (Err (Session cause)) = ⊥
+KeepsTo worker line (Err (Post fault)) = stored_of fault 1 ≡ 0
+KeepsTo worker line (Err Look) = ⊥
+
+-- an admin at work, with what its source gave and its writer took since it began; so many bytes of
+-- a piece are left
+pub record Works (hub : Beginning) (seat : ℕ) (worker : Worker) (rest : List ℕ)
+    (given0 given wrote0 wrote : Option (List ℕ)) : Type 0 where
+  pub replies : List Reply
+  pub line : List ℕ
+  pub are : AreReplies hub seat replies
+  pub learned : HasLearned hub seat worker (changes_in replies)
+  pub keeps : worker.line.bytes.items ≡ kept_of line
+  pub unended : HasNoEnd line
+  pub gave : Appends given0 given (lines_in replies ++ (line ++ rest))
+  pub took : Appends wrote0 wrote (texts_in replies)
+
+-- it has ended for this cause
+pub record Stops (hub : Beginning) (seat : ℕ) (worker : Worker)
+    (given0 given wrote0 wrote : Option (List ℕ)) (cause : Cause) : Type 0 where
+  pub bytes : List ℕ
+  pub written : List ℕ
+  pub gave : Appends given0 given bytes
+  pub took : Appends wrote0 wrote written
+  pub ends : EndsCommands hub seat (HasTold hub worker.desk) bytes written cause
+
+-- it works on, or has ended
+abbrev pub WorksOn : {A : Type 0} → Beginning → ℕ → Worker → List ℕ → Option (List ℕ)
+    → Option (List ℕ) → Option (List ℕ) → Option (List ℕ) → Result A Cause → Type 0
+WorksOn hub seat worker rest given0 given wrote0 wrote (Ok done) =
+    Works hub seat worker rest given0 given wrote0 wrote
+WorksOn hub seat worker rest given0 given wrote0 wrote (Err cause) =
+    Stops hub seat worker given0 given wrote0 wrote cause
