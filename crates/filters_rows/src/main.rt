@@ -28,7 +28,9 @@ fn main(rt: HostRuntime) -> Result<()> {
     ending(&rt, alloc)?;
     contrary(&rt, alloc)?;
     bounds(&rt, alloc)?;
-    four(&rt, alloc)
+    four(&rt, alloc)?;
+    clock(&rt, alloc)?;
+    added(&rt, alloc)
 }
 
 // A rate of 3 events in the second before, which falls to 0 within the next one.
@@ -45,17 +47,25 @@ fn cond(op: Op, bound: u64) -> Cond {
     }
 }
 
+// A filter on the first table.
+fn filter(alloc: Global, conds: &[Cond]) -> Result<Filter, NoMemory>
+    requires { length conds.now ≤ 4 }
+    ensures { IfOk result (λ filter. length filter.conds ≤ 4) }
+{
+    Ok(Filter {
+        name: Name::copy(alloc, b"f")?,
+        table: 0,
+        conds: Items::copy(alloc, conds)?,
+    })
+}
+
 // A configuration with one filter on its first table.
 fn config(alloc: Global, conds: &[Cond]) -> Result<Config, NoMemory>
     requires { length conds.now ≤ 4 }
     ensures { IfOk result (λ config. All (λ filter. length filter.conds ≤ 4) config.filters) }
 {
     let mut filters = Vec::new(alloc);
-    filters.push(Filter {
-        name: Name::copy(alloc, b"f")?,
-        table: 0,
-        conds: Items::copy(alloc, conds)?,
-    })?;
+    filters.push(filter(alloc, conds)?)?;
     Ok(Config {
         me: Name::copy(alloc, b"agg")?,
         peers: Items::from_vec(Vec::new(alloc)),
@@ -218,4 +228,82 @@ fn four<R: Print>(rt: &R, alloc: Global) -> Result<()> {
         cond(Op::Le, 5),
     ];
     tell(rt, alloc, "four", &conds, &values, &[0, 1, 333, 334, 667])
+}
+
+// Touches a key at 0, lets the clock go on to each moment, and prints what the filter says then.
+fn go_on<R: Print>(
+    rt: &R,
+    alloc: Global,
+    name: &str,
+    conds: &[Cond],
+    values: &Pair,
+    moments: &[u64],
+) -> Result<()>
+    requires { length conds.now ≤ 4 }
+{
+    println!(rt; "{name}")?;
+    let mut standing = Standing::new(alloc, &config(alloc, conds)?)?;
+    standing.touch(0, &Key::copy(alloc, b"k")?, values, 0)?;
+    show(rt, &standing, 0)?;
+    for t in moments {
+        standing.moment(values, *t)?;
+        show(rt, &standing, *t)?;
+    }
+    Ok(())
+}
+
+// The clock alone: a change that has come is judged once, whatever was passed, and nothing else is.
+fn clock<R: Print>(rt: &R, alloc: Global) -> Result<()> {
+    let mut values = Pair {
+        first: falling(0),
+        second: Rate::arrive(1000, 3000, 0, 0, 0),
+        ends: LATE,
+    };
+    let passing = [cond(Op::Eq, 2)];
+    go_on(rt, alloc, "clock", &passing, &values, &[1, 333, 334, 400])?;
+    go_on(rt, alloc, "clock jumps", &passing, &values, &[334])?;
+    go_on(rt, alloc, "clock between", &passing, &values, &[333, 334])?;
+    values.second = falling(500);
+    values.ends = 167;
+    let falling = [cond(Op::Ge, 3)];
+    go_on(rt, alloc, "clock and end", &falling, &values, &[166, 167])?;
+    let contrary = [cond(Op::Ge, 3), cond(Op::Lt, 3)];
+    go_on(rt, alloc, "clock for none", &contrary, &values, &[167])
+}
+
+// A filter that is added with the keys that have rows, and taken away.
+fn added<R: Print>(rt: &R, alloc: Global) -> Result<()> {
+    println!(rt; "added")?;
+    let values = Pair {
+        first: falling(0),
+        second: falling(500),
+        ends: LATE,
+    };
+    let mut standing = Standing::new(alloc, &config(alloc, &[cond(Op::Eq, 2)])?)?;
+    let (one, other) = (Key::copy(alloc, b"a")?, Key::copy(alloc, b"b")?);
+    let more = filter(alloc, &[cond(Op::Ge, 3)])?;
+    standing.add(&more, &[&one, &other], &values, 0)?;
+    count(rt, &standing)?;
+    standing.moment(&values, 166)?;
+    count(rt, &standing)?;
+    standing.moment(&values, 167)?;
+    count(rt, &standing)?;
+    standing.drop_last();
+    count(rt, &standing)
+}
+
+// Prints how many filters there are, and of the last one how many keys it holds and its next change.
+fn count<R: Print>(rt: &R, standing: &Standing) -> Result<()> {
+    let filters = standing.len();
+    if filters == 0 {
+        return Ok(());
+    }
+    let mut held = 0u64;
+    for _ in standing.keys(filters - 1) {
+        held = held.saturating_add(1);
+    }
+    let next = standing.next_change(filters - 1);
+    let evals = standing.evals();
+    println!(rt; "filters:{filters} held:{held} next:{next:?} evals:{evals}")?;
+    Ok(())
 }

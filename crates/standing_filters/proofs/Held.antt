@@ -77,7 +77,7 @@ found_all : (P : ℕ × List ℕ → Type 0) (f : ℕ × List ℕ) (entries : Li
 found_all P f [] h there = absurd (false≢true there)
 found_all P f (e ∷ entries) h there = ⊎_elim (λ here. subst P (sym (exact_entry f e (equal_from _ here))) h.0) (λ later. found_all P f entries h.1 later) (or_cases (is_eq (entry_cmp (slice_cmp nat_cmp) f e)) (list_any (is_at (entry_cmp (slice_cmp nat_cmp) f)) entries) there)
 
-least : (e f : ℕ × List ℕ) (entries : List (ℕ × List ℕ)) → IsInOrder (slice_cmp nat_cmp) (e ∷ entries) → has_plan (e ∷ entries) f ≡ true → e.0 ≤ f.0
+pub least : (e f : ℕ × List ℕ) (entries : List (ℕ × List ℕ)) → IsInOrder (slice_cmp nat_cmp) (e ∷ entries) → has_plan (e ∷ entries) f ≡ true → e.0 ≤ f.0
 least e f entries ordered there =
     let same : e.0 ≤ e.0 = omega arith in
     found_all (λ x. e.0 ≤ x.0) f (e ∷ entries) (same, lower entries (sorted_head (entry_cmp (slice_cmp nat_cmp)) e entries ordered)) there
@@ -86,7 +86,7 @@ least e f entries ordered there =
     lower [] h = tt
     lower (x ∷ xs) h = (not_earlier e x h.0, lower xs h.1)
 
-stands : (kept : Kept) (due : List (ℕ × List ℕ)) → IsPlanOf kept due → (key : List ℕ) (u : ℕ) → (verdict_at kept key).next ≡ Some u → has_plan due (u, key) ≡ true
+pub stands : (kept : Kept) (due : List (ℕ × List ℕ)) → IsPlanOf kept due → (key : List ℕ) (u : ℕ) → (verdict_at kept key).next ≡ Some u → has_plan due (u, key) ≡ true
 stands kept due exact key u is = exact (u, key) ∙ ap (λ m. is_moment m u) is ∙ eq-eqb u u refl
 
 pub first_change : (kept : Kept) (due : List (ℕ × List ℕ)) → IsPlanOf kept due → IsInOrder (slice_cmp nat_cmp) due → IsFirstChange kept (first_moment due)

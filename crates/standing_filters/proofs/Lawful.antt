@@ -1,7 +1,7 @@
 -- The laws of kept verdicts.
 use Rattle.std.proofs.Common.{◌≡◌, ℕ, ◌+◌, ◌<◌, ◌≤◌, Bool, true, false, ◌&&◌, nat_lt, List, Option, None, Some, refl, sym, ap, ◌∙◌, subst, arith, inl, inr, ⊎_elim}
 use Rattle.std.specs.Prelude.{◌≢◌, ◌⊎◌}
-use Rattle.std.proofs.lemmas.Bool.{cases_eq, false≢true}
+use Rattle.std.proofs.lemmas.Bool.{cases_Bool, cases_eq, cases_lt, false≢true, true≢false}
 use Rattle.std.proofs.lemmas.Cmp.{nat_list_cmp_total, tied_itself}
 use Rattle.std.proofs.lemmas.Map.Lookups.{exact_bytes}
 use Rattle.std.specs.BTreeMap.{is_at}
@@ -12,12 +12,14 @@ use Rattle.agg_types.specs.Op.{op_holds}
 use Rattle.agg_types.specs.declared.column.Col.{Col}
 use Rattle.agg_types.specs.declared.config.Filter.{Filter}
 use Rattle.crossing.specs.First.{IsFirstAt, IsFirstFrom}
-use Rattle.standing_filters.specs.Laws.{FirstChangeIsTheSets, TouchKeepsVerdicts}
-use Rattle.standing_filters.specs.Verdicts.{IsTold, IsVerdict, holds_at}
-use Rattle.standing_filters.specs.Watched.{verdict_at}
+use Rattle.standing_filters.specs.Laws.{AddGivesVerdicts, FirstChangeIsTheSets, MomentKeepsVerdicts, TouchKeepsVerdicts}
+use Rattle.standing_filters.specs.Turns.{has_come, is_due}
+use Rattle.standing_filters.specs.Verdicts.{IsTold, IsVerdict, holds_at, out}
+use Rattle.standing_filters.specs.Watched.{is_among, verdict_at}
 use Rattle.standing_filters.specs.declared.judging.Verdict.{Verdict}
 use Rattle.standing_filters.proofs.Members.{equal_from}
-use Rattle.standing_filters.proofs.Told.{told_same}
+use Rattle.standing_filters.proofs.Told.{dead_never, told_same}
+use Rattle.standing_filters.proofs.Walking.{not_come}
 
 quiet : (truth : ℕ → Bool) (now : ℕ) (v : Verdict) → IsTold truth now v → v.next ≡ None → IsFirstFrom (now + 1) (λ t. truth t ≢ truth now) None
 quiet truth now v told none = subst (λ o. IsFirstFrom (now + 1) (λ t. truth t ≢ truth now) o) none told.next
@@ -73,3 +75,91 @@ touch_keeps_verdicts before after living lives table key now old new same verdic
 
     here : old.filter.table ≡ table → IsVerdict after lives old.filter now q (verdict_at new.kept q)
     here of = by of (is_at (slice_cmp nat_cmp key) q) refl
+
+-- ---- the clock goes on
+
+apart : (a b : Bool) → (a ≡ b) ⊎ (a ≢ b)
+apart true true = inl refl
+apart true false = inr true≢false
+apart false true = inr false≢true
+apart false false = inl refl
+
+-- a truth that stays up to t is told at t as it was
+told_later : (truth : ℕ → Bool) (now t : ℕ) (v : Verdict) → now ≤ t → is_due t v ≡ false → IsTold truth now v → IsTold truth t v
+told_later truth now t v since quiet told = by v.next refl told.next
+  where
+    still : ((s : ℕ) → now + 1 ≤ s → s ≤ t → truth s ≢ truth now → ⊥) → truth t ≡ truth now
+    still never = ⊎_elim (λ same. same) (λ differs. ⊎_elim
+        (λ later. let from : now + 1 ≤ t = omega arith in let upto : t ≤ t = omega arith in absurd (never t from upto differs))
+        (λ before. let same : t ≡ now = omega arith in ap truth same) (cases_lt now t)) (apart (truth t) (truth now))
+
+    by : (o : Option ℕ) → v.next ≡ o → IsFirstFrom (now + 1) (λ s. truth s ≢ truth now) o → IsTold truth t v
+    by None is first =
+        let same = still (λ s from upto differs. first s from differs) in
+        record {
+          holds = told.holds ∙ sym same;
+          next = subst (λ o. IsFirstFrom (t + 1) (λ s. truth s ≢ truth t) o) (sym is) (λ s after differs.
+              let from : now + 1 ≤ s = omega arith in first s from (λ is. differs (is ∙ sym same)));
+        }
+    by (Some u) is first =
+        let beyond : t < u = not_come t u (sym (ap (has_come t) is) ∙ quiet) in
+        let same = still (λ s from upto differs. let before : s < u = omega arith in first.not_before s from before differs) in
+        record {
+          holds = told.holds ∙ sym same;
+          next = subst (λ o. IsFirstFrom (t + 1) (λ s. truth s ≢ truth t) o) (sym is) (record {
+            since = omega arith;
+            holds = λ is. first.holds (is ∙ same);
+            not_before = λ s after before differs. let from : now + 1 ≤ s = omega arith in first.not_before s from before (λ is. differs (is ∙ sym same));
+          });
+        }
+
+-- ---- values that are the same from now on
+
+told_ahead : (truth other : ℕ → Bool) (now : ℕ) (v : Verdict) → ((t : ℕ) → now ≤ t → other t ≡ truth t) → IsTold truth now v → IsTold other now v
+told_ahead truth other now v same told = by v.next refl told.next
+  where
+    here : other now ≡ truth now
+    here = same now (omega arith)
+
+    later : (s : ℕ) → now + 1 ≤ s → other s ≡ truth s
+    later s since = same s (omega arith)
+
+    by : (o : Option ℕ) → v.next ≡ o → IsFirstFrom (now + 1) (λ s. truth s ≢ truth now) o → IsTold other now v
+    by None is first = record {
+      holds = told.holds ∙ sym here;
+      next = subst (λ o. IsFirstFrom (now + 1) (λ s. other s ≢ other now) o) (sym is) (λ s since differs. first s since (λ is. differs (later s since ∙ is ∙ sym here)));
+    }
+    by (Some u) is first = record {
+      holds = told.holds ∙ sym here;
+      next = subst (λ o. IsFirstFrom (now + 1) (λ s. other s ≢ other now) o) (sym is) (record {
+        since = first.since;
+        holds = λ is. first.holds (sym (later u first.since) ∙ is ∙ here);
+        not_before = λ s since before differs. first.not_before s since before (λ is. differs (later s since ∙ is ∙ sym here));
+      });
+    }
+
+pub moment_keeps_verdicts : MomentKeepsVerdicts
+moment_keeps_verdicts before after living lives now t old new since same verdicts turn key =
+    subst (λ f. IsVerdict after lives f t key (verdict_at new.kept key)) (sym turn.filter) (⊎_elim
+    (λ comes. turn.judged key comes)
+    (λ stays. subst (λ v. IsVerdict after lives old.filter t key v) (sym (turn.others key stays))
+    (told_ahead (λ s. holds_at before living old.filter key s) (λ s. holds_at after lives old.filter key s) t (verdict_at old.kept key) (same key)
+    (told_later (λ s. holds_at before living old.filter key s) now t (verdict_at old.kept key) since stays (verdicts key))))
+    (cases_Bool (is_due t (verdict_at old.kept key))))
+
+-- ---- an added filter
+
+none_told : (truth : ℕ → Bool) (now : ℕ) → ((t : ℕ) → now ≤ t → truth t ≡ false) → IsTold truth now out
+none_told truth now never = record {
+  holds = sym (never now (omega arith));
+  next = λ s since differs. let from : now ≤ s = omega arith in let same : now ≤ now = omega arith in differs (never s from ∙ sym (never now same));
+}
+
+pub add_gives_verdicts : AddGivesVerdicts
+add_gives_verdicts summed living now filter keys w falls dead added key =
+    subst (λ f. IsVerdict summed living f now key (verdict_at w.kept key)) (sym added.same) (⊎_elim
+    (λ among. added.judged key among)
+    (λ apart. subst (λ v. IsVerdict summed living filter now key v) (sym (added.others key apart))
+    (none_told (λ t. holds_at summed living filter key t) now
+    (λ t later. dead_never (living filter.table key) (λ t. list_all (λ cond. op_holds cond.op (summed filter.table key cond.col t) cond.bound) filter.conds) now t (dead key apart) (falls key t later))))
+    (cases_Bool (is_among keys key)))

@@ -4,3 +4,6 @@ pub mod Members
 pub mod Planning
 pub mod Told
 pub mod Touched
+pub mod Ahead
+pub mod Walking
+pub mod Added

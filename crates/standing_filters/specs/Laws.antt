@@ -1,10 +1,12 @@
 -- What kept verdicts say of a filter's set, now and as the clock goes on.
-use Rattle.std.specs.Prelude.{◌≡◌, ◌≢◌, ◌⊎◌, ℕ, ◌+◌, List, Option}
+use Rattle.std.specs.Prelude.{◌≡◌, ◌≢◌, ◌⊎◌, ℕ, ◌+◌, ◌≤◌, false, List, Option}
+use Rattle.std.specs.Borrow.{Bor}
 use Rattle.agg_types.specs.declared.column.Col.{Col}
 use Rattle.agg_types.specs.declared.config.Filter.{Filter}
 use Rattle.crossing.specs.First.{IsFirstFrom}
+use Rattle.standing_filters.specs.Turns.{IsTurned}
 use Rattle.standing_filters.specs.Verdicts.{IsVerdict, holds_at}
-use Rattle.standing_filters.specs.Watched.{IsFirstChange, IsTouched, Watched, verdict_at}
+use Rattle.standing_filters.specs.Watched.{IsAdded, IsFirstChange, IsTouched, Watched, is_among, verdict_at}
 
 -- every key has its verdict of a moment
 abbrev pub AreVerdicts : (ℕ → List ℕ → Col → ℕ → ℕ) → (ℕ → List ℕ → ℕ → ℕ) → ℕ → Watched → Type 0
@@ -31,3 +33,23 @@ TouchKeepsVerdicts = (before after : ℕ → List ℕ → Col → ℕ → ℕ) (
     → (after t other ≡ before t other) × (lives t other ≡ living t other))
     → AreVerdicts before living now old → IsTouched after lives table key now old new
     → AreVerdicts after lives now new
+
+-- where every key had its verdict, and the clock has gone on to t, every key has its verdict once
+-- those that were to change up to then are judged, by values that are the same from t on
+abbrev pub MomentKeepsVerdicts : Type 0
+MomentKeepsVerdicts = (before after : ℕ → List ℕ → Col → ℕ → ℕ) (living lives : ℕ → List ℕ → ℕ → ℕ)
+    (now t : ℕ) (old new : Watched) → now ≤ t
+    → ((key : List ℕ) (s : ℕ) → t ≤ s
+    → holds_at after lives old.filter key s ≡ holds_at before living old.filter key s)
+    → AreVerdicts before living now old → IsTurned after lives t old new
+    → AreVerdicts after lives t new
+
+-- where no other key of its table has a live row, every key has its verdict by a filter that was
+-- added with these keys
+abbrev pub AddGivesVerdicts : Type 0
+AddGivesVerdicts = (summed : ℕ → List ℕ → Col → ℕ → ℕ) (living : ℕ → List ℕ → ℕ → ℕ) (now : ℕ)
+    (filter : Filter) (keys : List (Bor (List ℕ))) (w : Watched)
+    → ((key : List ℕ) (t : ℕ) → now ≤ t
+    → living filter.table key t ≤ living filter.table key now)
+    → ((key : List ℕ) → is_among keys key ≡ false → living filter.table key now ≡ 0)
+    → IsAdded summed living now filter keys w → AreVerdicts summed living now w

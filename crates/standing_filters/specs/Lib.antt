@@ -1,4 +1,5 @@
 pub mod Laws
 pub mod Plans
+pub mod Turns
 pub mod Verdicts
 pub mod Watched

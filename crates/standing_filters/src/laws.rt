@@ -1,6 +1,6 @@
 //! What kept verdicts say of a filter's set.
 
-ghost use Rattle.standing_filters.specs.Laws.{FirstChangeIsTheSets, TouchKeepsVerdicts};
+ghost use Rattle.standing_filters.specs.Laws.{AddGivesVerdicts, FirstChangeIsTheSets, MomentKeepsVerdicts, TouchKeepsVerdicts};
 
 /// Where every key has its verdict of now, the first change of a verdict is the first moment at
 /// which the filter holds a key that it doesn't now, or the other way round.
@@ -12,4 +12,16 @@ pub fn first_change_is_the_sets()
 /// verdict again once that one is touched.
 pub fn touch_keeps_verdicts()
     ensures { TouchKeepsVerdicts }
+{}
+
+/// Where every key had its verdict and the clock has gone on, every key has its verdict again once
+/// those that were to change up to then are judged, though rows that have ended are gone.
+pub fn moment_keeps_verdicts()
+    ensures { MomentKeepsVerdicts }
+{}
+
+/// Where a filter was added with all keys of its table that have a live row, every key has its
+/// verdict.
+pub fn add_gives_verdicts()
+    ensures { AddGivesVerdicts }
 {}

@@ -4,22 +4,28 @@
 //! reads one key's summed values, as they fall with time, and answers whether some row of it lives
 //! and all conditions hold now, and the least later moment at which that is otherwise: to the
 //! millisecond, ends of rows included. `Standing` keeps these verdicts for all filters of a
-//! configuration, but for keys that a filter doesn't hold and never will by the clock alone; a key
-//! whose values have changed is touched, and then judged by each filter of its table.
+//! configuration, but for keys that a filter doesn't hold and never will by the clock alone. A key
+//! whose values have changed is touched, and then judged by each filter of its table; as the clock
+//! goes on, only keys whose change has come are judged.
 //!
 //! Promised: a verdict is exact; none is named as its change exactly where it never changes; at
 //! most 505 values are read for it where they stay from 2^33 ms on. A touch gives the key's verdicts
-//! at its moment and leaves all others, or changes nothing where memory was refused. `keys` lends
-//! the keys whose verdict is that they are held, and `next_change` is the least moment at which a
-//! verdict changes. That a key which can't come into a set again is told by one value of each
-//! condition is meant for speed, and no clause says so.
+//! at its moment and leaves all others, `moment` gives each key whose change has come its verdict
+//! then, however many changes were passed, and `add` and `drop_last` add and take away the last
+//! filter; each changes nothing where memory was refused. `keys` lends the keys whose verdict is
+//! that they are held, and `next_change` is the least moment at which a verdict changes. That a key
+//! which can't come into a set again is told by one value of each condition is meant for speed, and
+//! no clause says so.
 #![tactic(auto)]
 
+mod adding;
+mod coming;
 mod judging;
 mod keys;
 pub mod laws;
 mod standing;
 mod touching;
+mod turning;
 mod watch;
 
 pub use judging::{Verdict, judge};

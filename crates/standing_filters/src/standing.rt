@@ -1,16 +1,19 @@
 //! The standing filters of a collector.
 
-ghost use Rattle.std.specs.Prelude.{◌≡◌, ◌≤◌, ◌<◌, ◌+◌, ◌*◌, ◌==◌, ◌++◌, ◌∷◌, [], ℕ, List, length, map, IfOk, IsOk, OnOk, OnErr};
-ghost use Rattle.std.specs.List.{All, list_any};
+ghost use Rattle.std.specs.Prelude.{◌≡◌, ◌≤◌, ◌<◌, ◌+◌, ◌-◌, ◌*◌, ◌==◌, ◌++◌, ◌∷◌, [], ℕ, List, length, map, take, IfOk, IsOk, OnOk, OnErr};
+ghost use Rattle.std.specs.List.{All, AllByRecursion, list_any};
 ghost use Rattle.std.specs.List.Sorted.{IsStrictlySortedBy};
 ghost use Rattle.std.specs.BTreeMap.{is_at};
 ghost use Rattle.std.specs.Cmp.Lexicographic.{slice_cmp};
 ghost use Rattle.std.specs.Ordering.{nat_cmp};
 ghost use Rattle.crossing.specs.First.{IsFlatSoon};
-ghost use Rattle.standing_filters.specs.Watched.{AreTouched, IsFirstChange, kept_of, keys_held, unheld, verdict_at};
+ghost use Rattle.standing_filters.specs.Turns.{AreTurned, IsQuiet, pairs_due};
+ghost use Rattle.standing_filters.specs.Watched.{AreTouched, IsAdded, IsFirstChange, Watched, kept_of, keys_held, unheld, verdict_at};
 
+use crate::adding::watch_keys;
 use crate::keys::Keys;
 use crate::touching::touch_each;
+use crate::turning::turn_each;
 use crate::watch::Watch;
 use agg_types::{Config, Filter, Key, NoMemory};
 use crossing::{Meter, Values};
@@ -87,6 +90,61 @@ impl Standing {
         )?;
         self.evals = meter.evals;
         Ok(())
+    }
+
+    /// The clock goes on to a moment, in ms: judges each key whose verdict changes up to then, by
+    /// its values at that moment, and no other. After `NoMemory` nothing has changed. Where no
+    /// verdict changes up to then, no value is read and no memory taken. Reads at most 505 values
+    /// for each filter and key of which a change has come, where they stay from 2^33 ms on.
+    pub fn moment<V: Values>(&mut self, values: &V, t: u64) -> Result<(), NoMemory>
+        ensures ok { OnOk result (AreTurned (V.summed values.now) (V.living values.now) t
+            self.old.filters self.new.filters) }
+        ensures err { OnErr result (self.new ≡ self.old) }
+        ensures quiet { AllByRecursion (IsQuiet t) self.old.filters
+            → IsOk result × (self.new.evals ≡ self.old.evals) }
+        ensures counted { ((table : ℕ) (key : List ℕ)
+            → IsFlatSoon t (V.flat values.now table key))
+            → self.new.evals ≤ self.old.evals + 505 * pairs_due t self.old.filters }
+    {
+        let mut meter = Meter { evals: self.evals };
+        turn_each(self.watches.as_mut_slice(), values, t, &mut meter)?;
+        self.evals = meter.evals;
+        Ok(())
+    }
+
+    /// Adds a filter behind the others, with the verdicts on these keys of its table by their
+    /// values at a moment, in ms. A key that is not among them isn't held. After `NoMemory` nothing
+    /// has changed. Reads at most 505 values for each key where they stay from 2^33 ms on.
+    pub fn add<V: Values>(
+        &mut self,
+        filter: &Filter,
+        keys: &[&Key],
+        values: &V,
+        now: u64,
+    ) -> Result<(), NoMemory>
+        requires few { length filter.now.conds ≤ 4 }
+        ensures ok { OnOk result ((added : Watched)
+            × (self.new.filters ≡ self.old.filters ++ added ∷ [])
+            × IsAdded (V.summed values.now) (V.living values.now) now filter.now keys.now added) }
+        ensures err { OnErr result (self.new ≡ self.old) }
+        ensures counted { OnOk result (((key : List ℕ)
+            → IsFlatSoon now (V.flat values.now filter.now.table key))
+            → self.new.evals ≤ self.old.evals + 505 * length keys.now) }
+    {
+        let mut meter = Meter { evals: self.evals };
+        let watch = watch_keys(self.alloc, filter, keys, values, now, &mut meter)?;
+        self.watches.push(watch)?;
+        self.evals = meter.evals;
+        Ok(())
+    }
+
+    /// Takes the last filter away, if there is one. Takes no memory.
+    pub fn drop_last(&mut self)
+        ensures others { self.new.filters
+            ≡ take (length self.old.filters - 1) self.old.filters }
+        ensures evals { self.new.evals ≡ self.old.evals }
+    {
+        self.watches.pop();
     }
 
     /// The keys that a filter holds, in order.

@@ -1,7 +1,7 @@
 //! One standing filter: the verdicts on its keys, and an index of when they change.
 
-ghost use Rattle.std.specs.Prelude.{ℕ, List, ◌≡◌, ◌≤◌, ◌+◌, ◌==◌, [], length, is_some, if◌then◌else◌, IsSome, IfOk, OnOk, OnErr};
-ghost use Rattle.std.specs.List.{list_any};
+ghost use Rattle.std.specs.Prelude.{ℕ, List, ◌≡◌, ◌≤◌, ◌+◌, ◌*◌, ◌==◌, ◌&&◌, nat_lt, [], length, is_some, if◌then◌else◌, IsSome, IsOk, IsOkAnd, IfOk, OnOk, OnErr};
+ghost use Rattle.std.specs.List.{IsDistinct, list_any};
 ghost use Rattle.std.specs.List.Sorted.{IsStrictlySortedBy};
 ghost use Rattle.std.specs.BTreeMap.{is_at};
 ghost use Rattle.std.specs.Cmp.Lexicographic.{slice_cmp};
@@ -9,8 +9,10 @@ ghost use Rattle.std.specs.Ordering.{nat_cmp};
 ghost use Rattle.crossing.specs.First.{IsFlatSoon};
 ghost use Rattle.standing_filters.specs.Verdicts.{IsVerdict, out};
 ghost use Rattle.standing_filters.specs.Watched.{IsFirstChange, keys_held, verdict_at};
-ghost use Rattle.standing_filters.specs.Plans.{Becomes, IsPlanOf, IsPlanned, IsUnplanned, Watching, change_of, kept_at, with_room, without_key};
+ghost use Rattle.standing_filters.specs.Plans.{Becomes, IsPlanOf, IsPlanned, IsUnplanned, Watching, change_of, has_plan, kept_at, shown, with_room, without_key};
+ghost use Rattle.standing_filters.specs.Turns.{AreJudged, ArePlans, IsAhead, IsQuiet, count_due, keys_judged, same_key, verdict_after};
 
+use crate::coming::{Coming, Judged};
 use crate::judging::{OUT, Verdict, judge};
 use crate::keys::Keys;
 use agg_types::{Filter, Key, NoMemory};
@@ -166,6 +168,112 @@ impl Watch {
 }
 
 impl Watch {
+    /// Judges each key whose verdict changes up to a moment, by its values then.
+    pub(crate) fn judge_due<V: Values>(
+        &self,
+        values: &V,
+        t: u64,
+        meter: &mut Meter,
+    ) -> Result<Vec<Judged>, NoMemory>
+        requires few { length self.now.filter.conds ≤ 4 }
+        requires planned { IsPlanOf self.now.kept self.now.due }
+        ensures judged { IfOk result (λ judged. AreJudged (V.summed values.now)
+            (V.living values.now) t (shown self.now) judged.items) }
+        ensures quiet { IsQuiet t (shown self.now) → IsOkAnd result (λ judged. judged.items ≡ []) }
+        ensures unread { IsQuiet t (shown self.now) → meter.new.evals ≡ meter.old.evals }
+        ensures counted { OnOk result (((table : ℕ) (key : List ℕ)
+            → IsFlatSoon t (V.flat values.now table key))
+            → meter.new.evals ≤ meter.old.evals + 505 * count_due t self.now.kept) }
+    {
+        let mut judged = Vec::new(self.alloc);
+        for (at, key) in Coming::new(&self.due, t) {
+            let verdict = self.judge(key, values, t, meter);
+            judged.push(Judged {
+                key: key.duplicate(self.alloc)?,
+                at,
+                verdict,
+            })?;
+        }
+        Ok(judged)
+    }
+
+    /// Plans the next changes of judged keys, beside those that were planned. After `NoMemory`
+    /// nothing more is planned.
+    pub(crate) fn prepare_all(&mut self, judged: &[Judged]) -> Result<(), NoMemory>
+        requires planned { IsPlanOf self.old.kept self.old.due }
+        requires plans { ArePlans self.old.kept judged.now }
+        requires apart { IsDistinct same_key (keys_judged judged.now) }
+        ensures filter { self.new.filter ≡ self.old.filter }
+        ensures kept { self.new.kept ≡ self.old.kept }
+        ensures ahead { OnOk result (IsAhead self.old.kept judged.now self.new.due) }
+        ensures err { OnErr result (IsPlanOf self.old.kept self.new.due) }
+        ensures none { judged.now ≡ [] → IsOk result }
+    {
+        for (done, key) in judged.iter().enumerate() {
+            if let Err(refused) = self.plan(&key.key, Some(key.at), key.verdict.next) {
+                self.back_out_all(&judged[..done]);
+                return Err(refused);
+            }
+        }
+        Ok(())
+    }
+
+    /// Takes back what was planned for judged keys.
+    pub(crate) fn back_out_all(&mut self, judged: &[Judged])
+        requires ahead { IsAhead self.old.kept judged.now self.old.due }
+        requires plans { ArePlans self.old.kept judged.now }
+        requires apart { IsDistinct same_key (keys_judged judged.now) }
+        ensures filter { self.new.filter ≡ self.old.filter }
+        ensures kept { self.new.kept ≡ self.old.kept }
+        ensures planned { IsPlanOf self.old.kept self.new.due }
+    {
+        for key in judged {
+            self.unplan(&key.key, key.verdict.next, Some(key.at));
+        }
+    }
+
+    /// Keeps the verdicts of judged keys, whose changes up to a moment have come.
+    pub(crate) fn settle(&mut self, judged: &[Judged], t: u64)
+        requires plans { ArePlans self.old.kept judged.now }
+        requires apart { IsDistinct same_key (keys_judged judged.now) }
+        ensures filter { self.new.filter ≡ self.old.filter }
+        ensures kept { (key : List ℕ) → verdict_at self.new.kept key
+            ≡ verdict_after judged.now self.old.kept key }
+        ensures due { (e : ℕ × List ℕ) → has_plan self.new.due e
+            ≡ (has_plan self.old.due e && nat_lt t e.0) }
+    {
+        self.drop_due(t);
+        for key in judged {
+            self.keep(&key.key, key.verdict);
+        }
+    }
+}
+
+impl Watch {
+    // Takes out what is planned up to a moment.
+    fn drop_due(&mut self, t: u64)
+        ensures filter { self.new.filter ≡ self.old.filter }
+        ensures kept { self.new.kept ≡ self.old.kept }
+        ensures due { (e : ℕ × List ℕ) → has_plan self.new.due e
+            ≡ (has_plan self.old.due e && nat_lt t e.0) }
+    {
+        while self.due.take_due(t).is_some() {}
+    }
+
+    // Keeps a verdict on a key in place of the one that is kept.
+    fn keep(&mut self, key: &Key, verdict: Verdict)
+        ensures filter { self.new.filter ≡ self.old.filter }
+        ensures due { self.new.due ≡ self.old.due }
+        ensures kept { IsSome (kept_at self.old.kept key.now)
+            → Becomes key.now verdict self.old.kept self.new.kept }
+    {
+        if verdict.is_out() {
+            self.kept.remove(key);
+        } else if let Some(kept) = self.kept.get_mut(key) {
+            *kept = verdict;
+        }
+    }
+
     // Makes room for a verdict on a key, and answers the one that is kept.
     fn make_room(&mut self, key: &Key) -> Result<Option<Verdict>, NoMemory>
         ensures found { IfOk result (λ old. old ≡ kept_at self.old.kept key.now) }

@@ -1,0 +1,88 @@
+-- What standing filters are as the clock goes on, and what is planned on the way.
+use Rattle.std.specs.Prelude.{◌≡◌, ℕ, ◌≤◌, Bool, true, false, ◌&&◌, ◌||◌, nat_le, if◌then◌else◌, List, [], ◌∷◌, Option, None, Some, count_by, map, sum_by}
+use Rattle.std.specs.BTreeMap.{is_at}
+use Rattle.std.specs.Cmp.Lexicographic.{slice_cmp}
+use Rattle.std.specs.List.{AllByRecursion, AllZip, IsDistinct, list_any}
+use Rattle.std.specs.Ordering.{nat_cmp}
+use Rattle.agg_types.specs.declared.column.Col.{Col}
+use Rattle.standing_filters.specs.Plans.{has_plan, is_moment}
+use Rattle.standing_filters.specs.Verdicts.{IsVerdict}
+use Rattle.standing_filters.specs.Watched.{Watched, verdict_at}
+use Rattle.standing_filters.specs.declared.coming.Judged.{Judged}
+use Rattle.standing_filters.specs.declared.judging.Verdict.{Verdict}
+
+-- whether there is a moment, and it is t or before
+abbrev pub has_come : ℕ → Option ℕ → Bool
+has_come t None = false
+has_come t (Some moment) = nat_le moment t
+
+-- whether a verdict changes up to t
+abbrev pub is_due : ℕ → Verdict → Bool
+is_due t verdict = has_come t verdict.next
+
+-- Each key whose verdict was to change up to t has its verdict at t, and the others have theirs.
+pub record IsTurned (summed : ℕ → List ℕ → Col → ℕ → ℕ) (living : ℕ → List ℕ → ℕ → ℕ) (t : ℕ)
+    (old new : Watched) : Type 0 where
+  pub filter : new.filter ≡ old.filter
+  pub judged : (key : List ℕ) → is_due t (verdict_at old.kept key) ≡ true
+      → IsVerdict summed living old.filter t key (verdict_at new.kept key)
+  pub others : (key : List ℕ) → is_due t (verdict_at old.kept key) ≡ false
+      → verdict_at new.kept key ≡ verdict_at old.kept key
+
+-- each of some filters
+abbrev pub AreTurned : (ℕ → List ℕ → Col → ℕ → ℕ) → (ℕ → List ℕ → ℕ → ℕ) → ℕ → List Watched
+    → List Watched → Type 0
+AreTurned summed living t old new = AllZip (λ a b. IsTurned summed living t a b) old new
+
+-- no verdict changes up to t
+abbrev pub IsQuiet : ℕ → Watched → Type 0
+IsQuiet t w = (key : List ℕ) → is_due t (verdict_at w.kept key) ≡ false
+
+-- how many keys of a filter have a verdict that changes up to t
+abbrev pub count_due : ℕ → List (List ℕ × Verdict) → ℕ
+count_due t kept = count_by (λ e. is_due t e.1) kept
+
+-- how many pairs of a filter and a key there are like that
+abbrev pub pairs_due : ℕ → List Watched → ℕ
+pairs_due t filters = sum_by (λ w. count_due t w.kept) filters
+
+-- ---- keys that were judged
+
+-- a judged key at the moment at which its verdict was to change
+abbrev pub planned_at : Judged → ℕ × List ℕ
+planned_at judged = (judged.at, judged.key)
+
+abbrev pub keys_judged : List Judged → List (List ℕ)
+keys_judged judged = map (λ j. j.key) judged
+
+abbrev pub same_key : List ℕ → List ℕ → Bool
+same_key key other = is_at (slice_cmp nat_cmp key) other
+
+-- the kept verdict on each of them changes at that moment
+abbrev pub ArePlans : List (List ℕ × Verdict) → List Judged → Type 0
+ArePlans kept judged = AllByRecursion (λ j. (verdict_at kept j.key).next ≡ Some j.at) judged
+
+-- Keys that were judged at t, each once: those whose verdict was to change up to then.
+pub record AreJudged (summed : ℕ → List ℕ → Col → ℕ → ℕ) (living : ℕ → List ℕ → ℕ → ℕ) (t : ℕ)
+    (w : Watched) (judged : List Judged) : Type 0 where
+  pub verdicts : AllByRecursion (λ j. IsVerdict summed living w.filter t j.key j.verdict) judged
+  pub come : AllByRecursion (λ j. j.at ≤ t) judged
+  pub plans : ArePlans w.kept judged
+  pub apart : IsDistinct same_key (keys_judged judged)
+  pub complete : (key : List ℕ) → is_due t (verdict_at w.kept key) ≡ true
+      → list_any (same_key key) (keys_judged judged) ≡ true
+
+-- the verdict on a key once those of judged keys are kept
+abbrev pub verdict_after : List Judged → List (List ℕ × Verdict) → List ℕ → Verdict
+verdict_after [] kept key = verdict_at kept key
+verdict_after (j ∷ judged) kept key =
+    if same_key j.key key then j.verdict else verdict_after judged kept key
+
+-- whether an entry is a judged key at the moment at which its verdict changes next
+abbrev pub is_next_of : List Judged → ℕ × List ℕ → Bool
+is_next_of judged e = list_any (λ j. same_key j.key e.1 && is_moment j.verdict.next e.0) judged
+
+-- an index has each key at its change, and judged keys at their next ones too
+abbrev pub IsAhead : List (List ℕ × Verdict) → List Judged → List (ℕ × List ℕ) → Type 0
+IsAhead kept judged due = (e : ℕ × List ℕ) → has_plan due e
+    ≡ (is_moment (verdict_at kept e.1).next e.0 || is_next_of judged e)
