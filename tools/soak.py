@@ -1,12 +1,13 @@
 #!/usr/bin/env python3
 """Keeps a collector busy for a long time, and compares its answers with what they have to be.
 
-    soak.py [--collector crates/aggregator/out/aggregator] [--minutes 60]
+    soak.py [--collector crates/aggregator/out/aggregator] [--minutes 60] [--pause 0]
 
 Peers push random updates, are lost and come back; others send garbage; an admin clears keys and asks; filters
 are added. Every half a minute all acknowledgements are awaited, and the collector's whole table, a filter's set
 and a ranked list are compared with those of the updates that were sent. Memory, descriptors and threads are
-told each time. The status is 1 where an answer was wrong.
+told each time. The status is 1 where an answer was wrong. With a pause, in seconds, between one peer's push and the
+next one's it leaves the machine to others, too.
 """
 
 import argparse
@@ -92,10 +93,11 @@ def wrong_in(collector, senders):
     return ""
 
 
-def round_of(collector, senders, draw, seconds):
+def round_of(collector, senders, draw, seconds, pause):
     """Half a minute of everything; how many updates were sent."""
     sent, end = 0, time.monotonic() + seconds
     while time.monotonic() < end:
+        time.sleep(pause)
         sender = draw.choice(senders)
         before = sender.sent
         sender.push(draw)
@@ -116,6 +118,7 @@ def main():
     words = argparse.ArgumentParser(description=__doc__, formatter_class=argparse.RawDescriptionHelpFormatter)
     words.add_argument("--collector", default=COLLECTOR)
     words.add_argument("--minutes", type=float, default=60)
+    words.add_argument("--pause", type=float, default=0)
     words.add_argument("--seed", type=int, default=1)
     options = words.parse_args()
     draw, total = random.Random(options.seed), 0
@@ -127,7 +130,7 @@ def main():
         senders = [Sender(name, collector.peers) for name in names[:PEERS]]
         end, added = time.monotonic() + 60 * options.minutes, 0
         while time.monotonic() < end:
-            total += round_of(collector, senders, draw, 30)
+            total += round_of(collector, senders, draw, 30, options.pause)
             if added < 30:
                 added += 1
                 collector.ask(f"add filter f{added} t data.gpc0 ge {added * 50}")
