@@ -1,0 +1,22 @@
+use Rattle.std.proofs.Common.{List, ℕ, refl}
+use Rattle.clap.proofs.OnLiterals.{clap_on_literals}
+use Rattle.command_line.specs.Lines.{Refuses, ShowsHelp}
+use Rattle.command_line.proofs.laws.refused_lines.Goals as goal
+
+shows_help : (self : List ℕ) → ShowsHelp self
+unfolding clap_on_literals
+shows_help self = record { long = refl; short = refl; of_listen = refl }
+
+refuses : (self text : List ℕ) → Refuses self text
+unfolding clap_on_literals
+refuses self text = record {
+  none = refl;
+  another = refl;
+  too_many = refl;
+  unknown = refl;
+  missing = refl;
+  twice = refl;
+}
+
+pub returns : goal.returns
+returns c = record { help = shows_help; mistakes = refuses }

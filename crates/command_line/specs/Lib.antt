@@ -1,0 +1,4 @@
+pub mod Address
+pub mod Asked
+pub mod Lines
+pub mod Status

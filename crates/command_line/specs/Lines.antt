@@ -1,0 +1,60 @@
+-- What the lines ask for that the documents show, whatever the program is called.
+use Rattle.std.specs.Prelude.{◌≡◌, ◌++◌, List, [], ◌∷◌, codes, Option, None, Some}
+use Rattle.std.specs.Option.{option_map, option_and_then}
+use Rattle.clap.specs.Words.{Kinds, Row, Text, fault_of, first_of, subcommand_of}
+use Rattle.clap.specs.declared.error.kind.ErrorKind.TheVariants.{ArgumentConflict, DisplayHelp, InvalidSubcommand, MissingRequiredArgument, MissingSubcommand, UnknownArgument}
+use Rattle.command_line.specs.Asked.{program}
+
+-- the text that an option of the command has
+abbrev pub text_in : Text → Option (Text × List Row) → Option Text
+text_in name = option_and_then (λ command. first_of name command.1)
+
+-- clap takes the words as this command, with these texts for its two options
+pub record IsTaken (words : List Text) (name : Text) (peers admin : Option Text) : Type 0 where
+  pub taken : fault_of program words ≡ []
+  pub named : option_map (λ command. command.0) (subcommand_of program words) ≡ Some name
+  pub peers_is : text_in (codes "peers") (subcommand_of program words) ≡ peers
+  pub admin_is : text_in (codes "admin") (subcommand_of program words) ≡ admin
+
+-- `replay`
+abbrev pub TakesReplay : Type 0
+TakesReplay = (self : Text) → IsTaken (self ∷ codes "replay" ∷ []) (codes "replay") None None
+
+-- `--peers=` and `--admin=` with these texts
+abbrev pub peers_word : Text → Text
+peers_word text = codes "--peers=" ++ text
+
+abbrev pub admin_word : Text → Text
+admin_word text = codes "--admin=" ++ text
+
+-- `listen` with these words behind it
+abbrev pub listen_words : Text → List Text → List Text
+listen_words self words = self ∷ codes "listen" ∷ words
+
+-- `listen --peers=P --admin=A`, in either order, for all texts
+abbrev pub TakesJoined : Type 0
+TakesJoined = (self peers admin : Text)
+    → IsTaken (listen_words self (peers_word peers ∷ admin_word admin ∷ []))
+    (codes "listen") (Some peers) (Some admin)
+    × IsTaken (listen_words self (admin_word admin ∷ peers_word peers ∷ []))
+    (codes "listen") (Some peers) (Some admin)
+
+-- the kinds of error that clap has for these words behind the program's name
+abbrev pub faults : Text → List Text → Kinds
+faults self words = fault_of program (self ∷ words)
+
+-- help, in the three ways to ask for it
+pub record ShowsHelp (self : Text) : Type 0 where
+  pub long : faults self (codes "--help" ∷ []) ≡ DisplayHelp ∷ []
+  pub short : faults self (codes "-h" ∷ []) ≡ DisplayHelp ∷ []
+  pub of_listen : faults self (codes "listen" ∷ codes "--help" ∷ []) ≡ DisplayHelp ∷ []
+
+-- no command, another one, one word too many, an option that isn't there, one too few, one twice
+pub record Refuses (self text : Text) : Type 0 where
+  pub none : faults self [] ≡ MissingSubcommand ∷ []
+  pub another : faults self (codes "collect" ∷ []) ≡ UnknownArgument ∷ InvalidSubcommand ∷ []
+  pub too_many : faults self (codes "replay" ∷ codes "now" ∷ []) ≡ UnknownArgument ∷ []
+  pub unknown : faults self (codes "replay" ∷ codes "--peers" ∷ []) ≡ UnknownArgument ∷ []
+  pub missing : faults self (codes "listen" ∷ peers_word text ∷ []) ≡ MissingRequiredArgument ∷ []
+  pub twice : faults self (codes "listen" ∷ peers_word text ∷ peers_word text ∷ [])
+      ≡ ArgumentConflict ∷ []

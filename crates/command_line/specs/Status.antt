@@ -1,0 +1,29 @@
+-- The exit statuses of command lines that ask for no job.
+use Rattle.std.specs.Prelude.{◌≡◌, ◌≢◌, ℕ}
+use Rattle.clap.specs.Values.{kind_of}
+use Rattle.clap.specs.declared.error.Error.{Error}
+use Rattle.clap.specs.declared.error.kind.ErrorKind.{ErrorKind}
+use Rattle.clap.specs.declared.error.kind.ErrorKind.TheVariants as kind
+use Rattle.command_line.specs.declared.usage.Usage.{Usage}
+use Rattle.command_line.specs.declared.usage.Usage.TheVariants.{Words, BadAddress, NoMemory}
+
+-- help and the version are no mistake
+abbrev pub kind_status : ErrorKind → ℕ
+kind_status kind.DisplayHelp = 0
+kind_status kind.DisplayVersion = 0
+kind_status _ = 2
+
+abbrev pub status_of : Usage → ℕ
+status_of (Words error) = kind_status (kind_of error)
+status_of BadAddress = 2
+status_of NoMemory = 5
+
+-- what is told of a refused growth
+abbrev pub IsWant : Usage → Type 0
+IsWant usage = usage ≡ NoMemory
+
+-- what is told of an error of clap: that a growth was refused, or the error
+abbrev pub IsUsageOf : Error → Usage → Type 0
+IsUsageOf error (Words told) = (told ≡ error) × (kind_of error ≢ kind.OutOfMemory)
+IsUsageOf error BadAddress = ⊥
+IsUsageOf error NoMemory = kind_of error ≡ kind.OutOfMemory
