@@ -1,0 +1,127 @@
+//! The fleet that is posted to, and what its proxies say, in few events that grow all that a book
+//! has.
+
+use agg_types::{
+    Cell, Cells, Col, Cond, Config, Filter, Items, Key, KeyKind, Name, NoMemory, Op, Rank, Select,
+    Shape, What,
+};
+use anyhow::Result;
+use hub::Opening;
+use std::alloc::Global;
+
+/// The batches of a run, each made when it is posted.
+#[derive(Clone, Copy)]
+pub enum Batch {
+    /// A peer speaks, and puts rows of these keys, which live for 1,000 ms.
+    Rows(usize, &'static [&'static [u8]]),
+    /// A filter of this name is added.
+    Filter(&'static [u8]),
+    /// The clock goes on to this moment, in ms.
+    Moment(u64),
+    /// The rows with a count above 0 are cleared.
+    Clear,
+    /// No event.
+    Nothing,
+}
+
+/// The collector `agg` of two peers, with a table of texts that stores gpc0 and a ranked list.
+fn config(alloc: Global) -> Result<Config, NoMemory> {
+    let mut config = Config {
+        me: Name::copy(alloc, b"agg")?,
+        peers: Items::from_vec(Vec::new(alloc)),
+        tables: Items::from_vec(Vec::new(alloc)),
+        filters: Items::from_vec(Vec::new(alloc)),
+        ranks: Items::from_vec(Vec::new(alloc)),
+    };
+    config.peers.push(Name::copy(alloc, b"lb1")?)?;
+    config.peers.push(Name::copy(alloc, b"lb2")?)?;
+    config.tables.push(Shape {
+        name: Name::copy(alloc, b"t")?,
+        kind: KeyKind::Str(64),
+        size: 1000,
+        cols: Items::copy(alloc, &[(Col::Gpc0, 0)])?,
+    })?;
+    config.ranks.push(Rank {
+        name: Name::copy(alloc, b"top")?,
+        table: 0,
+        col: Col::Gpc0,
+        n: 2,
+    })?;
+    Ok(config)
+}
+
+/// The fleet, just opened.
+pub fn opening(alloc: Global) -> Result<Opening> {
+    let config = config(alloc)?;
+    config.check()?;
+    Ok(Opening::new(alloc, config, 0)?)
+}
+
+fn above_zero(alloc: Global) -> Result<Items<Cond>, NoMemory> {
+    let cond = Cond {
+        col: Col::Gpc0,
+        op: Op::Gt,
+        bound: 0,
+    };
+    Items::copy(alloc, &[cond])
+}
+
+fn put(alloc: Global, peer: usize, key: &[u8]) -> Result<What, NoMemory> {
+    Ok(What::Put {
+        peer,
+        table: 0,
+        key: Key::copy(alloc, key)?,
+        life: Some(1000),
+        cells: Cells::copy(alloc, &[Cell::Count(1)])?,
+    })
+}
+
+fn rows(alloc: Global, peer: usize, keys: &[&[u8]]) -> Result<Vec<What>, NoMemory> {
+    let mut whats = Vec::new(alloc);
+    whats.push(What::Open(peer))?;
+    for key in keys {
+        whats.push(put(alloc, peer, key)?)?;
+    }
+    Ok(whats)
+}
+
+fn filter(alloc: Global, name: &[u8]) -> Result<What, NoMemory> {
+    Ok(What::AddFilter(Filter {
+        name: Name::copy(alloc, name)?,
+        table: 0,
+        conds: above_zero(alloc)?,
+    }))
+}
+
+fn clear(alloc: Global) -> Result<What, NoMemory> {
+    Ok(What::Clear {
+        table: 0,
+        sel: Select::Conds(above_zero(alloc)?),
+    })
+}
+
+fn alone(alloc: Global, what: What) -> Result<Vec<What>, NoMemory> {
+    let mut whats = Vec::new(alloc);
+    whats.push(what)?;
+    Ok(whats)
+}
+
+impl Batch {
+    fn make(self, alloc: Global) -> Result<Vec<What>, NoMemory> {
+        match self {
+            Batch::Rows(peer, keys) => rows(alloc, peer, keys),
+            Batch::Filter(name) => alone(alloc, filter(alloc, name)?),
+            Batch::Moment(moment) => alone(alloc, What::Moment(moment)),
+            Batch::Clear => alone(alloc, clear(alloc)?),
+            Batch::Nothing => Ok(Vec::new(alloc)),
+        }
+    }
+
+    /// Its events, made once more where a growth was refused.
+    pub fn made(self, alloc: Global) -> Result<Vec<What>, NoMemory> {
+        match self.make(alloc) {
+            Err(NoMemory) => self.make(alloc),
+            made => made,
+        }
+    }
+}
