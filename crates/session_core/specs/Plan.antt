@@ -37,9 +37,9 @@ source_of bits periods col =
     let id = col_id col.0 in
     if is_rate col.0
     then (if has_type bits id && unwrap_or (slice_get periods id) 0 == col.1
-    then sources.Rate (widths bits id 0) else sources.NoRate)
+    then sources.Rate (widths bits id 0) else sources.Blank (cells.Rate 0 0 0))
     else (if has_type bits id then sources.Count (widths bits id 0) (is_wide col.0)
-    else sources.NoCount)
+    else sources.Blank (cells.Count 0))
 
 -- a count that stands at the front
 abbrev pub count_in : Bool → List ℕ → Cell
@@ -56,8 +56,7 @@ rate_in [] = cells.Rate 0 0 0
 
 -- the cell of a column whose integers are there
 abbrev pub cell_from : List ℕ → Source → Cell
-cell_from numbers sources.NoCount = cells.Count 0
-cell_from numbers sources.NoRate = cells.Rate 0 0 0
+cell_from numbers (sources.Blank cell) = cell
 cell_from numbers (sources.Count at wide) = count_in wide (drop at numbers)
 cell_from numbers (sources.Rate at) = rate_in (drop at numbers)
 

@@ -10,16 +10,12 @@ use crate::values::{TYPES, elapsed_of, has_type, is_rate_type, low_word, number_
 use agg_types::{Cell, Cells, Col, NoMemory};
 use std::alloc::Global;
 
-/// Up to so many cells lie in their list itself, and are best put there one by one.
-const FEW: usize = 4;
-
-/// Where a column's integers are among those of an update.
+/// Where a column's integers are among those of an update. Three kinds are told apart by branches,
+/// which are foreseen; four would take a table of jumps, which took half the time of a long row.
 #[derive(Clone, Copy, Debug)]
 pub(crate) enum Source {
-    /// A count that isn't sent.
-    NoCount,
-    /// A rate that isn't sent, or has another period.
-    NoRate,
+    /// This cell stands for a column that isn't sent, or whose rate has another period.
+    Blank(Cell),
     /// A count, which is kept modulo 2^64 if it is wide, else modulo 2^32.
     Count { at: usize, wide: bool },
     /// A rate's three.
@@ -33,7 +29,7 @@ pub(crate) struct Plan {
     pub(crate) numbers: Vec<u64>,
     /// Where each column's integers are among them.
     pub(crate) sources: Vec<Source>,
-    /// Room for the cells of an update, where they are more than a few.
+    /// Room for the cells of an update.
     pub(crate) cells: Vec<Cell>,
 }
 
@@ -75,7 +71,7 @@ fn source_of(bits: u64, periods: &[u64], col: (Col, u32)) -> Source
                 at: widths(bits, id),
             }
         } else {
-            Source::NoRate
+            Source::Blank(rate(0, 0, 0))
         }
     } else if has_type(bits, id) {
         Source::Count {
@@ -83,7 +79,7 @@ fn source_of(bits: u64, periods: &[u64], col: (Col, u32)) -> Source
             wide: col.0.is_wide(),
         }
     } else {
-        Source::NoCount
+        Source::Blank(Cell::Count(0))
     }
 }
 
@@ -131,26 +127,10 @@ impl Plan {
         }
         let numbers = self.numbers.as_slice();
         let sources = self.sources.as_slice();
-        if sources.len() <= FEW {
-            put_cells(cells, numbers, sources)?;
-        } else {
-            fill(&mut self.cells, numbers, sources)?;
-            *cells = Cells::copy(alloc, self.cells.as_slice())?;
-        }
+        fill(&mut self.cells, numbers, sources)?;
+        *cells = Cells::copy(alloc, self.cells.as_slice())?;
         Ok(true)
     }
-}
-
-/// Puts the cells of up to four columns, which need no block, where there were none.
-#[inline]
-fn put_cells(cells: &mut Cells, numbers: &[u64], sources: &[Source]) -> Result<(), NoMemory>
-    requires { cells.old ≡ [] }
-    ensures { OnOk result (cells.new ≡ map (cell_from numbers.now) sources.now) }
-{
-    for source in sources {
-        cells.push(cell_from(numbers, *source))?;
-    }
-    Ok(())
 }
 
 /// Puts the cells of all columns in place of what was there.
@@ -183,8 +163,7 @@ fn cell_from(numbers: &[u64], source: Source) -> Cell
     ensures { result ≡ cell_from numbers.now source }
 {
     match source {
-        Source::NoCount => Cell::Count(0),
-        Source::NoRate => rate(0, 0, 0),
+        Source::Blank(cell) => cell,
         Source::Count { at, wide } => count_in(from(numbers, at), wide),
         Source::Rate { at } => rate_in(from(numbers, at)),
     }
