@@ -11,8 +11,8 @@ use agg_types::{Cells, Col, Items, NoMemory};
 use std::alloc::Global;
 use std::marker::Model;
 
-/// A plan, with the data types, the periods and the columns that it was made of, in a block of their
-/// own, so that it is moved at little cost. Contracts see the plan.
+/// A plan, with the data types, the periods and the columns that it was made of, in a block of
+/// their own, so that it is moved at little cost. Contracts see the plan.
 #[derive(Debug, Drop)]
 pub(crate) struct Kept {
     made: Box<Made>,

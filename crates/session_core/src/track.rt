@@ -159,13 +159,16 @@ fn tell_put(
     )? {
         return Ok(false);
     }
-    facts.push(What::Put {
+    let key = Key::copy(alloc, key)?;
+    // With room for it a row is moved once; a plain push would hand it back where it is refused.
+    facts.reserve(1)?;
+    facts.push_reserved(What::Put {
         peer,
         table: followed.table,
-        key: Key::copy(alloc, key)?,
+        key,
         life: life_of(followed.expiry, life),
         cells,
-    })?;
+    });
     Ok(true)
 }
 
@@ -305,8 +308,8 @@ impl Track {
         settle(&mut self.entries);
     }
 
-    /// What a message does, with the plan of the table in force, where one was made. A fact is added
-    /// to the facts. Nothing is said of what is kept after `NoMemory`.
+    /// What a message does, with the plan of the table in force, where one was made. A fact is
+    /// added to the facts. Nothing is said of what is kept after `NoMemory`.
     #[tactic(auto, unfolding(crate::specs::Tracked::step_of))]
     pub(crate) fn step(
         &mut self,
