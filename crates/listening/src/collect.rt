@@ -117,12 +117,7 @@ where
     let Ok(hub) = Hub::<J, R>::new(rt.alloc(), *rt, opening, PLACES) else {
         return Ok(ExitCode::from(FAULT));
     };
-    let doors = Sockets {
-        rt: *rt,
-        alloc: rt.alloc(),
-        peers: TcpListener::bind(rt, peers)?,
-        admins: TcpListener::bind(rt, admin)?,
-    };
+    let doors = Sockets::bind(rt, rt.alloc(), peers, admin)?;
     let clock = Ticks {
         rt: *rt,
         start: Instant::now(rt)?,

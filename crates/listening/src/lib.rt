@@ -10,3 +10,4 @@ mod notes;
 mod sockets;
 
 pub use collect::{address, listen};
+pub use sockets::{Incoming, Outgoing, Sockets};

@@ -3,8 +3,9 @@
 
 use agg_types::{Config, Name};
 use hub::PostFault;
-use serve::{Cause, Gate, News, Place};
-use session_core::SessionCause;
+use serve::{Cause, Gate, Gone, News, Place};
+use std::fmt;
+use std::net::SocketAddr;
 
 /// The gate of the collector: it lets all pass, and writes the news.
 #[derive(Drop)]
@@ -27,37 +28,69 @@ impl<'a, R: Eprint> Notes<'a, R> {
         let name = self.name(peer);
         let _ = match cause {
             None => eprintln!(self.rt; "peer {name} went after {updates} updates"),
-            Some(Cause::Session(cause)) => {
-                eprintln!(self.rt; "peer {name} was ended after {updates} updates: {cause}")
-            }
             Some(cause) => {
-                let cause = cause_text(cause);
+                let cause = Told(cause);
                 eprintln!(self.rt; "peer {name} was ended after {updates} updates: {cause}")
             }
         };
     }
 
     // A connection ended of which no hello was accepted.
-    fn refused(&self, cause: Option<&Cause>) {
-        let _ = match cause {
-            None => eprintln!(self.rt; "a connection went without a hello"),
-            Some(Cause::Session(cause)) => eprintln!(self.rt; "a connection was ended: {cause}"),
-            Some(cause) => {
-                let cause = cause_text(cause);
-                eprintln!(self.rt; "a connection was ended: {cause}")
+    fn refused(&self, gone: Gone<'_>) {
+        let sender = Sender(gone.sender);
+        let _ = match (gone.cause, gone.name) {
+            (None, _) => eprintln!(self.rt; "a connection from {sender} went without a hello"),
+            (Some(cause), None) => {
+                let cause = Told(cause);
+                eprintln!(self.rt; "a connection from {sender} was ended: {cause}")
             }
+            (Some(cause), Some(name)) => {
+                let cause = Told(cause);
+                let name = name.escape_ascii();
+                eprintln!(self.rt; "a connection from {sender} as {name} was ended: {cause}")
+            }
+        };
+    }
+
+    // A connection that isn't served.
+    fn turned_away(&self, place: Place, sender: Option<SocketAddr>) {
+        let sender = Sender(sender);
+        let _ = match place {
+            Place::Admin => {
+                eprintln!(self.rt; "an admin from {sender} was turned away: no seat, or no memory")
+            }
+            _ => eprintln!(self.rt; "a connection from {sender} was turned away: no thread"),
         };
     }
 }
 
-fn cause_text(cause: &Cause) -> &'static str {
-    match cause {
-        Cause::Read => "a read failed",
-        Cause::Write => "a write failed",
-        Cause::Session(_) => "its session",
-        Cause::Post(PostFault::NoMemory(_)) => "out of memory",
-        Cause::Post(_) => "a post was refused",
-        Cause::Look => "no look",
+/// Where a connection comes from, in words.
+#[derive(Clone, Copy)]
+struct Sender(Option<SocketAddr>);
+
+impl fmt::Display for Sender {
+    fn fmt<W: fmt::Write>(&self, f: &mut fmt::Formatter<W>) -> fmt::Result {
+        match self.0 {
+            None => write!(f, "somewhere"),
+            Some(address) => write!(f, "{address}"),
+        }
+    }
+}
+
+/// A cause, in words.
+#[derive(Clone, Copy)]
+struct Told<'a>(&'a Cause);
+
+impl<'a> fmt::Display for Told<'a> {
+    fn fmt<W: fmt::Write>(&self, f: &mut fmt::Formatter<W>) -> fmt::Result {
+        match self.0 {
+            Cause::Read => write!(f, "a read failed"),
+            Cause::Write => write!(f, "a write failed"),
+            Cause::Session(cause) => write!(f, "{cause}"),
+            Cause::Post(PostFault::NoMemory(_)) => write!(f, "out of memory"),
+            Cause::Post(_) => write!(f, "a post was refused"),
+            Cause::Look => write!(f, "no look"),
+        }
     }
 }
 
@@ -68,20 +101,17 @@ impl<'a, R: Eprint> Gate for Notes<'a, R> {
         false
     }
 
-    fn tell(&self, _place: Place, news: News<'_>) {
+    fn tell(&self, place: Place, news: News<'_>) {
         match news {
             News::Came(peer) => {
                 let name = self.name(peer);
                 let _ = eprintln!(self.rt; "peer {name} came");
             }
-            News::Gone {
-                peer,
-                updates,
-                cause,
-            } => match peer {
-                Some(peer) => self.gone(peer, updates, cause),
-                None => self.refused(cause),
+            News::Gone(gone) => match gone.peer {
+                Some(peer) => self.gone(peer, gone.updates, gone.cause),
+                None => self.refused(gone),
             },
+            News::TurnedAway(sender) => self.turned_away(place, sender),
         }
     }
 }

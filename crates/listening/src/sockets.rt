@@ -6,7 +6,7 @@ use serve::{Caller, Came, Doors, ReadFailed, Source};
 use std::alloc::Global;
 use std::io;
 use std::io::{ErrorKind, Read, Write};
-use std::net::{TcpListener, TcpStream};
+use std::net::{Net, SocketAddr, TcpListener, TcpStream};
 use std::sync::Arc;
 use std::time::{Clock, Duration, Instant};
 
@@ -45,6 +45,7 @@ impl<R: Clock> serve::Clock for Ticks<R> {
 #[derive(Drop)]
 pub struct Incoming {
     stream: Arc<TcpStream, Global>,
+    sender: SocketAddr,
     reads: u64,
     failed: u64,
     // Whether a read ends by itself where nothing comes.
@@ -87,6 +88,10 @@ impl Source for Incoming {
             },
         }
     }
+
+    fn sender(&self) -> Option<SocketAddr> {
+        Some(self.sender)
+    }
 }
 
 /// What is sent to a peer or an admin.
@@ -106,13 +111,13 @@ impl Write for Outgoing {
     }
 }
 
-/// Both listeners.
+/// Both listeners: the doors of a collector.
 #[derive(Drop)]
 pub struct Sockets<R> {
-    pub rt: R,
-    pub alloc: Global,
-    pub peers: TcpListener,
-    pub admins: TcpListener,
+    rt: R,
+    alloc: Global,
+    peers: TcpListener,
+    admins: TcpListener,
 }
 
 /// Whether an accept may do better later: the caller is gone, the call was interrupted, or
@@ -137,9 +142,40 @@ fn passes(fault: &io::Error) -> bool {
     }
 }
 
+impl<R> Sockets<R> {
+    /// Binds the address of the peers and that of the admins.
+    pub fn bind(
+        rt: &R,
+        alloc: Global,
+        peers: SocketAddr,
+        admins: SocketAddr,
+    ) -> io::Result<Sockets<R>>
+    where
+        R: Copy + Net<Listener = TcpListener, Stream = TcpStream>,
+    {
+        let peers = TcpListener::bind(rt, peers)?;
+        let admins = TcpListener::bind(rt, admins)?;
+        Ok(Sockets {
+            rt: *rt,
+            alloc,
+            peers,
+            admins,
+        })
+    }
+
+    /// The addresses that were bound, of the peers and of the admins.
+    pub fn addresses(&self) -> io::Result<(SocketAddr, SocketAddr)> {
+        Ok((self.peers.local_addr()?, self.admins.local_addr()?))
+    }
+}
+
 impl<R: Clock> Sockets<R> {
     // A connection with its limits. What is sent leaves at once.
-    fn caller(&self, stream: TcpStream) -> io::Result<Caller<Incoming, Outgoing>> {
+    fn caller(
+        &self,
+        stream: TcpStream,
+        sender: SocketAddr,
+    ) -> io::Result<Caller<Incoming, Outgoing>> {
         stream.set_nodelay(true)?;
         stream.set_write_timeout(Some(Duration::from_millis(WRITE_LIMIT)))?;
         let limit = stream.set_read_timeout(Some(Duration::from_millis(READ_LIMIT)));
@@ -149,6 +185,7 @@ impl<R: Clock> Sockets<R> {
         };
         let source = Incoming {
             stream,
+            sender,
             reads: 0,
             failed: 0,
             is_limited: limit.is_ok(),
@@ -161,8 +198,8 @@ impl<R: Clock> Sockets<R> {
     fn accept(&self, listener: &TcpListener) -> Option<Caller<Incoming, Outgoing>> {
         for _ in 0..u64::MAX {
             match listener.accept() {
-                Ok((stream, _)) => {
-                    if let Ok(caller) = self.caller(stream) {
+                Ok((stream, sender)) => {
+                    if let Ok(caller) = self.caller(stream, sender) {
                         return Some(caller);
                     }
                 }

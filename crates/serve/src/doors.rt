@@ -11,6 +11,7 @@ use crate::timer::run_timer;
 use hub::{Hub, Naming};
 use std::alloc::Global;
 use std::io::Write;
+use std::net::SocketAddr;
 use std::sync::Wait;
 use std::sync::atomic::{AtomicU64, Ordering};
 use std::thread;
@@ -177,6 +178,12 @@ trait Workers<K> {
     /// The next admin connection. None closes this door.
     fn next_admin(&self) -> Option<K>;
 
+    /// Who calls, where that has an address.
+    fn sender(&self, caller: &K) -> Option<SocketAddr>;
+
+    /// Tells that a connection of a peer isn't served, for want of a thread.
+    fn turn_away(&self, sender: Option<SocketAddr>);
+
     /// Serves one connection of a peer.
     fn peer<R: Wait>(&self, rt: &R, caller: K);
 
@@ -198,6 +205,14 @@ struct House<'a, J: Naming, H: Wait + Drop, C, G, D> {
     counts: &'a Counts,
 }
 
+impl<'a, J: Naming, H: Wait + Drop, C, G: Gate, D> House<'a, J, H, C, G, D> {
+    // Tells that an admin connection isn't served.
+    fn close_admin(&self, sender: Option<SocketAddr>) {
+        self.counts.refuse();
+        self.gate.tell(Place::Admin, News::TurnedAway(sender));
+    }
+}
+
 impl<
     'a,
     J: Naming,
@@ -214,6 +229,16 @@ impl<
 
     fn next_admin(&self) -> Option<Caller<S, W>> {
         self.doors.admin()
+    }
+
+    fn sender(&self, caller: &Caller<S, W>) -> Option<SocketAddr> {
+        caller.source.sender()
+    }
+
+    fn turn_away(&self, sender: Option<SocketAddr>) {
+        self.counts.refuse();
+        self.gate
+            .tell(Place::Session(None), News::TurnedAway(sender));
     }
 
     // Without a seat it is served all the same, and refused.
@@ -244,11 +269,11 @@ impl<
             mut writer,
         } = caller;
         let Ok(lens) = self.hub.lens(rt) else {
-            self.counts.refuse();
+            self.close_admin(source.sender());
             return;
         };
         let Ok(pass) = self.hub.seat(rt) else {
-            self.counts.refuse();
+            self.close_admin(source.sender());
             return;
         };
         let ended = serve_admin(
@@ -322,12 +347,13 @@ fn open<R: Threads + Wait + Copy + Send + Sync, K: Send + Drop, U: Workers<K> + 
                 break;
             };
             counts.begin();
+            let sender = workers.sender(&caller);
             if scope
                 .spawn(move || peer(rt, workers, counts, caller))
                 .is_err()
             {
                 counts.end();
-                counts.refuse();
+                workers.turn_away(sender);
             }
         }
         counts.close();

@@ -65,7 +65,7 @@ pub fn serve_session<J: Naming, H: Wait + Drop, R: Wait, S: Source, W: Write, C:
 {
     let mut worker = Worker::new(alloc, pass, clock.now());
     let ended = worker.serve(rt, alloc, hub, source, writer, clock, gate);
-    worker.bid_farewell(gate, &ended);
+    worker.bid_farewell(gate, source.sender(), &ended);
     let served = leave(rt, hub, worker.into_desk());
     match ended {
         Ok(()) => Ok(served),

@@ -5,6 +5,7 @@ ghost use Rattle.std.specs.Io.KnownBytes.{Appends};
 ghost use Rattle.serve.specs.Sources.{failures_in, read_of, IsWithin};
 
 use std::alloc::Global;
+use std::net::SocketAddr;
 
 /// What a read answers.
 #[derive(Clone, Copy, Debug, PartialEq, Eq)]
@@ -40,6 +41,11 @@ pub trait Source {
         ensures failures { failed self.new ≡ failed self.old + failures_in result }
         ensures within { IsWithin result buffer.new }
         ensures gives { Appends (given self.old) (given self.new) (read_of result buffer.new) };
+
+    /// Who sends its bytes, where that has an address.
+    fn sender(&self) -> Option<SocketAddr> {
+        None
+    }
 }
 
 /// The room for the bytes of one read.

@@ -11,7 +11,8 @@ ghost use Rattle.std.specs.Io.KnownBytes.{Appends};
 
 use crate::clock::Clock;
 use crate::desk::Desk;
-use crate::gate::{Gate, News, Place};
+use crate::gate::{Gate, Gone, News, Place};
+use crate::hello::Hello;
 use crate::served::Cause;
 use crate::source::{Came, Source, buffer};
 use crate::writing::{front, send};
@@ -20,6 +21,7 @@ use hub::{Hub, Naming, Pass};
 use session_core::{Batch, Idle, Session, SessionCause, SessionFault};
 use std::alloc::Global;
 use std::io::Write;
+use std::net::SocketAddr;
 use std::sync::Wait;
 
 /// How many reads a worker makes at most.
@@ -33,6 +35,7 @@ const HEARTBEAT: [u8; 2] = [0, 4];
 pub struct Worker {
     session: Session,
     desk: Option<Desk>,
+    hello: Hello,
     peer: Option<usize>,
     told: u64,
 }
@@ -55,6 +58,7 @@ impl Worker {
         Worker {
             session: Session::accept(alloc, desk.is_some(), now),
             desk,
+            hello: Hello::new(),
             peer: None,
             told: 0,
         }
@@ -179,6 +183,16 @@ impl Worker {
         }
     }
 
+    // Keeps what it hears of a hello.
+    fn listen(&mut self, piece: &[u8])
+        ensures session { self.new.session ≡ self.old.session }
+        ensures desk { self.new.desk ≡ self.old.desk }
+    {
+        if self.peer.is_none() {
+            self.hello.add(piece);
+        }
+    }
+
     // Tells that a peer's hello was accepted, once.
     fn greet<G: Gate>(&mut self, gate: &G)
         ensures session { self.new.session ≡ self.old.session }
@@ -192,15 +206,30 @@ impl Worker {
         }
     }
 
-    /// Tells how the connection ended.
-    pub fn bid_farewell<G: Gate>(&self, gate: &G, ended: &Result<(), Cause>) {
-        let updates = self.told.saturating_sub(1);
-        let news = News::Gone {
-            peer: self.peer,
-            updates,
+    /// Tells how the connection of a sender ended, and who came if that wasn't told yet.
+    pub fn bid_farewell<G: Gate>(
+        &self,
+        gate: &G,
+        sender: Option<SocketAddr>,
+        ended: &Result<(), Cause>,
+    ) {
+        let peer = self.session.peer();
+        if let (None, Some(peer)) = (self.peer, peer) {
+            gate.tell(self.place(), News::Came(peer));
+        }
+        let name = if peer.is_none() {
+            self.hello.name()
+        } else {
+            None
+        };
+        let gone = Gone {
+            sender,
+            peer,
+            name,
+            updates: self.told.saturating_sub(1),
             cause: ended.as_ref().err(),
         };
-        gate.tell(self.place(), news);
+        gate.tell(self.place(), News::Gone(gone));
     }
 
     // Sends a heartbeat where one is due, and ends a session that was silent for too long.
@@ -252,6 +281,7 @@ impl Worker {
             → WorksOn hub.now seated self.new given0 after wrote0 (W.contents writer.new) result }
     {
         gate.turn(self.place());
+        self.listen(piece);
         match self.take(rt, hub, writer, piece, clock.now()) {
             Err(cause) => Err(cause),
             Ok(()) => {
