@@ -1,5 +1,5 @@
 -- An admin at work: how it goes on, and how it stops.
-use Rattle.std.proofs.Common.{◌≡◌, ◌≢◌, Bool, true, false, ℕ, ◌+◌, ◌-◌, ◌==◌, ◌⊎◌, inl, inr, List, [], ◌∷◌, ◌++◌, length, take, Option, None, Some, Result, Ok, Err, IfSome, refl, sym, ap, ◌∙◌, subst, arith, append-nil, append_assoc}
+use Rattle.std.proofs.Common.{◌≡◌, Bool, true, false, ℕ, ◌==◌, inl, inr, List, [], ◌∷◌, ◌++◌, Option, None, Some, Result, Ok, Err, IfSome, refl, sym, ap, ◌∙◌, subst, append-nil, append_assoc}
 use Rattle.std.specs.Io.KnownBytes.{Appends}
 use Rattle.std.specs.Bool.{if◌then◌else◌}
 use Rattle.std.specs.Option.{option_to_list}
@@ -12,7 +12,6 @@ use Rattle.agg_types.specs.declared.event.What.{What}
 use Rattle.agg_types.specs.declared.event.What.TheVariants.{Sit}
 use Rattle.fleet_model.specs.State.{Stands, State}
 use Rattle.show_clear.specs.Change.{ChangeFits, change_of}
-use Rattle.show_clear.specs.Parse.{command_of}
 use Rattle.show_clear.specs.declared.command.Command.{Command}
 use Rattle.show_clear.specs.declared.command.Command.TheVariants.{ShowTables, ShowTable, ClearTable, ShowFilter, ShowRank, ShowNext, AddFilter}
 use Rattle.hub.proofs.Fronts.{prefix_self, prefix_trans}
@@ -22,11 +21,11 @@ use Rattle.hub.specs.Posts.{Follows}
 use Rattle.hub.specs.Roll.{MayPost}
 use Rattle.hub.specs.Views.{IsBookOf, Seeing}
 use Rattle.hub.specs.declared.faults.PostFault.{PostFault}
-use Rattle.serve.proofs.Pieces.{kept_on, kept_says, none_in_both}
+use Rattle.serve.proofs.Pieces.{kept_says, none_in_both}
 use Rattle.serve.proofs.Works.{wrote_more, wrote_none}
-use Rattle.serve.specs.Commands.{AllAnswered, AreReplies, EndsCommands, HasNoEnd, IsCommandedUntil, IsCommandedWhole, IsObeyed, IsRefusedLine, IsReply, LastCutShort, LaterRefused, Replies, Reply, ShowsTold, changes_in, lines_in, texts_in}
-use Rattle.serve.specs.Commanding.{ChangesTo, HasLearned, HasObeyed, HasPaused, KeepsTo, LooksTo, ObeysTo, Stops, Works, WorksOn, kept_of, reply_of}
-use Rattle.serve.specs.Told.{HasTold, IsServed, Tells, TellsLast, stored_of}
+use Rattle.serve.specs.Commands.{AllAnswered, EndsCommands, HasNoEnd, IsCommandedUntil, IsCommandedWhole, IsReply, LastCutShort, LaterRefused, Replies, Reply, ShowsTold, changes_in, lines_in, texts_in}
+use Rattle.serve.specs.Commanding.{ChangesTo, HasLearned, HasObeyed, KeepsTo, LooksTo, ObeysTo, Stops, Works, WorksOn, kept_of, reply_of}
+use Rattle.serve.specs.Told.{HasTold, IsServed, TellsLast, stored_of}
 use Rattle.serve.specs.Turns.{Sends, WroteFront}
 use Rattle.serve.specs.declared.admin.Answered.{Answered}
 use Rattle.serve.specs.declared.admin.Worker.{Worker}

@@ -1,5 +1,5 @@
 -- A seat's own events, as its posts add to them.
-use Rattle.std.proofs.Common.{◌≡◌, ℕ, ◌+◌, ◌==◌, Bool, true, List, [], ◌∷◌, ◌++◌, length, Option, None, Some, Result, Ok, Err, IfSome, MatchOption, refl, sym, ap, subst, ◌∙◌, cond, arith, append-nil, append_assoc, length-append}
+use Rattle.std.proofs.Common.{◌≡◌, ℕ, ◌+◌, ◌==◌, Bool, true, List, [], ◌∷◌, ◌++◌, length, Option, None, Some, IfSome, refl, sym, ap, subst, ◌∙◌, cond, arith, append-nil, length-append}
 use Rattle.std.proofs.lemmas.Bool.Decides.{nat_tests}
 use Rattle.std.proofs.lemmas.List.Elements.{filter-append}
 use mathlib.Core.List.{IsPrefix}
@@ -9,10 +9,9 @@ use Rattle.agg_types.specs.declared.event.What.TheVariants.{Sit, Leave}
 use Rattle.hub.specs.History.{Beginning, longer_by, made, own}
 use Rattle.hub.specs.declared.faults.PostFault.{PostFault}
 use Rattle.hub.specs.declared.faults.PostFault.TheVariants.{Replaced, NotNext, NoMemory, Pending, Spent}
-use Rattle.hub.specs.Posts.{Follows, PostRefused, PostsAfter, Seated, ShowsBatch, SitsDown, advanced}
+use Rattle.hub.specs.Posts.{PostRefused, PostsAfter, Seated, ShowsBatch, advanced}
 use Rattle.serve.specs.declared.desk.Desk.{Desk}
-use Rattle.serve.specs.declared.served.Served.{Served}
-use Rattle.serve.specs.Told.{HasTold, IsLeft, IsServed, Tells, TellsLast, stored_of}
+use Rattle.serve.specs.Told.{HasTold, IsLeft, Tells, stored_of}
 
 same_seat : (seat : ℕ) → (seat == seat) ≡ true
 same_seat seat = grind (arith, nat_tests)

@@ -1,5 +1,5 @@
 -- Lines within pieces, and what is kept of them.
-use Rattle.std.proofs.Common.{◌≡◌, ℕ, ◌+◌, ◌-◌, ◌<◌, ◌≤◌, Bool, true, false, ◌||◌, eqb, ltb, List, [], ◌∷◌, ◌++◌, length, get_or, take, drop, Some, None, zero, suc, refl, ap, sym, subst, ◌∙◌, ◌⊎◌, inl, inr, add-one, arith, length-take-le, length-append}
+use Rattle.std.proofs.Common.{◌≡◌, ℕ, ◌+◌, ◌-◌, ◌<◌, ◌≤◌, true, ◌||◌, eqb, ltb, List, [], ◌∷◌, ◌++◌, length, get_or, take, drop, Some, None, zero, suc, refl, ap, sym, ◌∙◌, inl, inr, add-one, arith, length-take-le}
 use Rattle.std.proofs.Math.Seq.{drop-cons}
 use Rattle.std.specs.List.{list_any, position}
 use Rattle.std.specs.Str.Lines.{strip_carriage_return}
@@ -11,8 +11,7 @@ use Rattle.std.proofs.lemmas.List.Sums.{fails_before_first}
 use Rattle.std.proofs.lemmas.List.Quantifiers.{position-Some}
 use Rattle.fleet_model.specs.State.{State}
 use Rattle.line_words.proofs.Splitting.{position-is, position-none}
-use Rattle.line_words.specs.Words.{words}
-use Rattle.show_clear.specs.Parse.{asked, command_of}
+use Rattle.show_clear.specs.Parse.{command_of}
 use Rattle.serve.specs.Commands.{HasNoEnd}
 use Rattle.serve.specs.Commanding.{kept_of}
 

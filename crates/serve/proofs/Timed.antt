@@ -1,16 +1,15 @@
 -- A timer's desk.
-use Rattle.std.proofs.Common.{◌≡◌, ℕ, List, [], ◌∷◌, ◌++◌, length, refl, arith}
+use Rattle.std.proofs.Common.{ℕ, List, [], ◌∷◌, ◌++◌, refl, arith}
 use Rattle.std.specs.List.{All}
 use Rattle.std.proofs.lemmas.List.Elements.{All-append}
 use Rattle.agg_types.specs.declared.event.What.{What}
 use Rattle.agg_types.specs.declared.event.What.TheVariants.{Moment}
 use Rattle.hub.specs.History.{Beginning}
-use Rattle.hub.specs.declared.faults.PostFault.{PostFault}
 use Rattle.serve.proofs.Facts.{all_cons}
 use Rattle.serve.specs.declared.desk.Desk.{Desk}
 use Rattle.serve.specs.declared.served.Served.{Served}
 use Rattle.serve.specs.Moments.{HasTimed, IsMomentOf, IsTimed}
-use Rattle.serve.specs.Told.{HasTold, IsServed, stored_of}
+use Rattle.serve.specs.Told.{HasTold, IsServed}
 
 none_at_all : {X : Type 0} (P : X → Type 0) → All P []
 none_at_all P = λ k d below. absurd (omega arith)

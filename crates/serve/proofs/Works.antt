@@ -1,5 +1,5 @@
 -- How a session at work goes on, and how it stops.
-use Rattle.std.proofs.Common.{is_some, ◌≡◌, ℕ, ◌-◌, ◌+◌, ◌≤◌, Bool, true, false, List, [], ◌∷◌, ◌++◌, length, drop, Option, None, Some, Result, ◌≢◌, Ok, Err, IfSome, MatchOption, refl, sym, ap, ◌∙◌, subst, arith, append-nil, append_assoc, length-append}
+use Rattle.std.proofs.Common.{is_some, ◌≡◌, ℕ, ◌-◌, ◌≤◌, Bool, List, [], ◌∷◌, ◌++◌, length, drop, Option, None, Some, Result, Ok, Err, refl, sym, ap, ◌∙◌, subst, arith, append-nil, append_assoc, length-append}
 use Rattle.std.proofs.Math.Seq.{drop-append_seam}
 use Rattle.agg_types.specs.declared.event.What.{What}
 use Rattle.session_core.specs.declared.batch.SessionFault.{SessionFault}
@@ -22,8 +22,8 @@ use Rattle.serve.specs.declared.served.Served.{Served}
 use Rattle.serve.specs.declared.worker.Worker.{Worker}
 use Rattle.std.specs.Io.KnownBytes.{Appends, Keeps}
 use Rattle.serve.specs.Told.{stored_of}
-use Rattle.serve.specs.Turns.{DeskTells, EndsBy, EndsBySession, IsDeskOf, IsAnswered, IsCutShort, IsRefused, SeatIsServed, Sends, Turn, WroteFront, answer_at, answers_in, facts_in, heartbeat, said_beyond, seat_at, taken_in}
-use Rattle.serve.specs.Working.{EndsFor, EndsForMemory, EndsTo, IsAtWork, IsServedUntil, IsServedWhole, SettlesThen, SettlesTo, Stops, Works, WorksOn}
+use Rattle.serve.specs.Turns.{DeskTells, EndsBy, EndsBySession, IsDeskOf, IsAnswered, IsRefused, SeatIsServed, Sends, answer_at, answers_in, facts_in, heartbeat, said_beyond, taken_in}
+use Rattle.serve.specs.Working.{EndsFor, EndsTo, IsAtWork, IsServedUntil, IsServedWhole, SettlesThen, SettlesTo, Stops, Works, WorksOn}
 
 -- what was written goes on
 pub wrote_more : (a b c : Option (List ℕ)) (xs ys : List ℕ) → Appends a b xs → Appends b c ys → Appends a c (xs ++ ys)

@@ -1,12 +1,11 @@
 -- An admin at work.
-use Rattle.std.specs.Prelude.{◌≡◌, ℕ, List, [], ◌∷◌, ◌++◌, take, Option, IfSome, Result, Ok, Err}
+use Rattle.std.specs.Prelude.{◌≡◌, ℕ, List, [], ◌++◌, take, Option, Result, Ok, Err}
 use Rattle.std.specs.Io.KnownBytes.{Appends}
 use Rattle.std.specs.Option.{option_to_list}
 use Rattle.agg_types.specs.declared.event.What.{What}
 use Rattle.hub.specs.declared.faults.PostFault.{PostFault}
 use Rattle.hub.specs.History.{Beginning}
 use Rattle.hub.specs.Posts.{Follows}
-use Rattle.hub.specs.Roll.{MayPost}
 use Rattle.serve.specs.declared.admin.Answered.{Answered}
 use Rattle.serve.specs.declared.admin.Worker.{Worker}
 use Rattle.serve.specs.declared.served.Cause.{Cause}

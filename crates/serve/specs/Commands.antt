@@ -1,5 +1,5 @@
 -- What an admin reads, tells and answers, line by line.
-use Rattle.std.specs.Prelude.{◌≡◌, ◌≢◌, ℕ, ◌==◌, ◌⊎◌, ⊤, false, List, [], ◌∷◌, ◌++◌, codes, Option, None, Result, Ok, Err}
+use Rattle.std.specs.Prelude.{◌≡◌, ◌≢◌, ℕ, ◌==◌, ◌⊎◌, ⊤, false, List, [], ◌∷◌, ◌++◌, codes, Option, None, Ok, Err}
 use Rattle.std.specs.Io.KnownBytes.{Appends}
 use Rattle.std.specs.List.{list_any}
 use Rattle.std.specs.Option.{option_to_list}
@@ -135,7 +135,8 @@ pub record LaterRefused (hub : Beginning) (seat : ℕ) (Told : List What → ℕ
   pub answered : written ≡ texts_in replies
 
 -- how an admin ends that read and wrote these bytes
-abbrev pub EndsCommands : Beginning → ℕ → (List What → ℕ → Type 0) → List ℕ → List ℕ → Cause → Type 0
+abbrev pub EndsCommands : Beginning → ℕ → (List What → ℕ → Type 0) → List ℕ → List ℕ → Cause
+    → Type 0
 EndsCommands hub seat Told bytes written Read = AllAnswered hub seat Told bytes written
 EndsCommands hub seat Told bytes written Write = LastCutShort hub seat Told bytes written
 EndsCommands hub seat Told bytes written (Session cause) = ⊥
@@ -144,17 +145,18 @@ EndsCommands hub seat Told bytes written (Post fault) =
 EndsCommands hub seat Told bytes written Look = LaterRefused hub seat Told bytes written 0
 
 -- how an admin was served at Ok: all lines that its source gave were answered
-pub record IsCommandedWhole (hub : Beginning) (seat : ℕ) (given0 given wrote0 wrote : Option (List ℕ))
-    (served : Served) : Type 0 where
+pub record IsCommandedWhole (hub : Beginning) (seat : ℕ)
+    (given0 given wrote0 wrote : Option (List ℕ)) (served : Served) : Type 0 where
   pub bytes : List ℕ
   pub written : List ℕ
   pub gave : Appends given0 given bytes
   pub took : Appends wrote0 wrote written
-  pub ends : AllAnswered hub seat (λ whats waiting. IsServed seat whats waiting served) bytes written
+  pub ends : AllAnswered hub seat (λ whats waiting. IsServed seat whats waiting served) bytes
+      written
 
 -- how an admin was served that ended for a cause
-pub record IsCommandedUntil (hub : Beginning) (seat : ℕ) (given0 given wrote0 wrote : Option (List ℕ))
-    (faulted : Faulted) : Type 0 where
+pub record IsCommandedUntil (hub : Beginning) (seat : ℕ)
+    (given0 given wrote0 wrote : Option (List ℕ)) (faulted : Faulted) : Type 0 where
   pub bytes : List ℕ
   pub written : List ℕ
   pub gave : Appends given0 given bytes

@@ -1,5 +1,5 @@
 -- What a read gives.
-use Rattle.std.specs.Prelude.{◌≡◌, ℕ, ◌<◌, ◌≤◌, List, [], ◌++◌, length, take, Option, IfSome, Some, Result, Ok, Err}
+use Rattle.std.specs.Prelude.{ℕ, ◌<◌, ◌≤◌, List, [], length, take, Result, Ok, Err}
 use Rattle.serve.specs.declared.source.Came.{Came}
 use Rattle.serve.specs.declared.source.Came.TheVariants.{Bytes, Nothing, End}
 use Rattle.serve.specs.declared.source.ReadFailed.{ReadFailed}

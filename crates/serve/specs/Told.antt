@@ -6,7 +6,6 @@ use Rattle.agg_types.specs.declared.event.What.TheVariants.{Sit, Leave}
 use Rattle.hub.specs.declared.faults.PostFault.{PostFault}
 use Rattle.hub.specs.declared.faults.PostFault.TheVariants.{Replaced, NotNext, NoMemory, Pending, Spent}
 use Rattle.hub.specs.History.{Beginning, made, own}
-use Rattle.hub.specs.Posts.{Seated}
 use Rattle.serve.specs.declared.desk.Desk.{Desk}
 use Rattle.serve.specs.declared.served.Served.{Served}
 

@@ -1,12 +1,11 @@
 -- What a session reads, tells and writes, turn by turn.
 use Rattle.std.specs.Option.{option_map}
-use Rattle.std.specs.Prelude.{◌≡◌, ℕ, ◌-◌, Bool, true, List, [], ◌∷◌, ◌++◌, length, drop, Option, None, Some, IfSome, MatchOption, is_some, Result, Ok, Err}
+use Rattle.std.specs.Prelude.{◌≡◌, ℕ, ◌-◌, Bool, List, [], ◌∷◌, ◌++◌, length, drop, Option, None, Some, MatchOption, Result, Ok, Err}
 use Rattle.std.specs.Io.KnownBytes.{Appends}
-use Rattle.agg_types.specs.declared.config.Config.{Config}
 use Rattle.agg_types.specs.declared.event.What.{What}
 use Rattle.session_core.specs.declared.cause.SessionCause.{SessionCause}
 use Rattle.session_core.specs.declared.cause.SessionCause.TheVariants as causes
-use Rattle.session_core.specs.Piece.{Setup, setup_of}
+use Rattle.session_core.specs.Piece.{Setup}
 use Rattle.session_core.specs.Talk.{Talk, acks_among, talk}
 use Rattle.hub.specs.History.{Beginning}
 use Rattle.serve.specs.declared.desk.Desk.{Desk}

@@ -1,11 +1,11 @@
 -- A session at work.
-use Rattle.std.specs.Prelude.{◌≡◌, ℕ, Bool, List, [], ◌∷◌, ◌++◌, length, Option, None, Some, is_some, Result, Ok, Err}
+use Rattle.std.specs.Prelude.{◌≡◌, ℕ, Bool, List, [], ◌++◌, length, Option, is_some, Result, Ok, Err}
 use Rattle.agg_types.specs.declared.event.What.{What}
 use Rattle.session_core.specs.declared.batch.SessionFault.{SessionFault}
 use Rattle.session_core.specs.declared.cause.SessionCause.{SessionCause}
 use Rattle.session_core.specs.declared.cause.SessionCause.TheVariants as causes
 use Rattle.session_core.specs.Batched.{Batched}
-use Rattle.session_core.specs.Piece.{Setup, setup_of}
+use Rattle.session_core.specs.Piece.{setup_of}
 use Rattle.session_core.specs.Talk.{stage_of}
 use Rattle.hub.specs.History.{Beginning}
 use Rattle.serve.specs.declared.desk.Desk.{Desk}

@@ -272,7 +272,8 @@ impl Worker {
             → HasNoEnd bytes.now
             → Works hub.now seat self.old (bytes.now ++ 10 ∷ rest) given0 given wrote0
             (W.contents writer.old)
-            → WorksOn hub.now seat self.new rest given0 given wrote0 (W.contents writer.new) result }
+            → WorksOn hub.now seat self.new rest given0 given wrote0 (W.contents writer.new)
+            result }
     {
         match self.keep(bytes) {
             Err(cause) => Err(cause),

@@ -1,4 +1,4 @@
-use Rattle.std.proofs.Common.{◌≡◌, ℕ, List, [], Option, Result, Ok, Err, ap, sym, subst, ◌∙◌}
+use Rattle.std.proofs.Common.{◌≡◌, ℕ, [], Result, Ok, Err, ap, sym, subst, ◌∙◌}
 use Rattle.hub.specs.History.{Beginning}
 use Rattle.hub.specs.Posts.{Seated}
 use Rattle.serve.proofs.Commanded.{commanded_until, commanded_whole}

@@ -1,9 +1,7 @@
-use Rattle.std.proofs.Common.{◌≡◌, ℕ, List, ap, sym, subst, ◌∙◌}
-use Rattle.agg_types.specs.declared.event.What.{What}
+use Rattle.std.proofs.Common.{◌≡◌, ap, subst, ◌∙◌}
 use Rattle.hub.specs.History.{Beginning}
 use Rattle.serve.proofs.Timed.{timed_none, timed_served}
-use Rattle.serve.specs.Moments.{HasTimed, IsTimed, stored_by}
-use Rattle.serve.specs.Told.{HasTold, IsServed}
+use Rattle.serve.specs.Moments.{IsTimed, stored_by}
 use Rattle.serve.proofs.timer.run_timer.Goals as goal
 
 pub run-ended-requires : goal.run-ended-requires

@@ -1,8 +1,6 @@
-use Rattle.std.proofs.Common.{◌≡◌, ◌++◌, ℕ, List, take, drop, ap, sym, subst, ◌∙◌}
-use Rattle.std.specs.Io.KnownBytes.{Appends}
+use Rattle.std.proofs.Common.{◌++◌, take, ap, sym, ◌∙◌}
 use Rattle.serve.proofs.Works.{wrote_more}
 use Rattle.serve.proofs.Sent.{sent_more}
-use Rattle.serve.specs.Turns.{WroteFront}
 use Rattle.serve.proofs.writing.send.Goals as goal
 
 pub loop-preserved : goal.loop-preserved

@@ -1,4 +1,4 @@
-use Rattle.std.proofs.Common.{◌≡◌, ℕ, List, [], ◌∷◌, ◌++◌, refl, ap}
+use Rattle.std.proofs.Common.{◌∷◌, ◌++◌, refl, ap}
 use Rattle.hub.specs.Views.{Seeing}
 use Rattle.serve.proofs.Commanded.{learned_same, stops_keeping, stops_obeying, works_obeyed}
 use Rattle.serve.proofs.Pieces.{none_in_both}

@@ -1,4 +1,3 @@
-use Rattle.std.proofs.Common.{◌≡◌, ℕ, List}
 use Rattle.serve.proofs.Pieces.{kept_on}
 use Rattle.serve.proofs.admin.Worker.keep.Goals as goal
 

@@ -1,4 +1,4 @@
-use Rattle.std.proofs.Common.{rules, ◌≡◌, ℕ, List, refl, subst, ◌∙◌}
+use Rattle.std.proofs.Common.{rules, ℕ, List, refl, subst, ◌∙◌}
 use Rattle.serve.proofs.Commanded.{change_may_post, follows_on, looked}
 use Rattle.serve.specs.Commanding.{kept_of}
 use Rattle.serve.specs.Commands.{Replies}

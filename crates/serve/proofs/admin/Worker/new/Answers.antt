@@ -1,4 +1,4 @@
-use Rattle.std.proofs.Common.{◌≡◌, ℕ, List, ap}
+use Rattle.std.proofs.Common.{ap}
 use Rattle.hub.specs.Posts.{Seated}
 use Rattle.serve.proofs.Commanded.{learned_none}
 use Rattle.serve.proofs.admin.Worker.new.Goals as goal

@@ -1,4 +1,3 @@
-use Rattle.std.proofs.Common.{◌≡◌, ℕ, List}
 use Rattle.serve.proofs.Commanded.{obeys_unlooked}
 use Rattle.serve.proofs.admin.Worker.obey.Goals as goal
 

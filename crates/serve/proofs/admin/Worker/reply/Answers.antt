@@ -1,4 +1,3 @@
-use Rattle.std.proofs.Common.{◌≡◌, ℕ, List}
 use Rattle.std.specs.Option.{option_to_list}
 use Rattle.serve.proofs.Commanded.{obeys_sent, obeys_unchanged}
 use Rattle.serve.proofs.admin.Worker.reply.Goals as goal

@@ -1,4 +1,4 @@
-use Rattle.std.proofs.Common.{◌≡◌, ℕ, List, [], ◌∷◌, ◌++◌, ◌∙◌, ap, subst}
+use Rattle.std.proofs.Common.{ℕ, List, ◌∙◌, ap, subst}
 use Rattle.hub.specs.Views.{Seeing}
 use Rattle.serve.proofs.Commanded.{works_kept}
 use Rattle.serve.specs.Commanding.{Works}

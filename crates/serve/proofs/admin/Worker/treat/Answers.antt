@@ -1,4 +1,4 @@
-use Rattle.std.proofs.Common.{◌≡◌, ℕ, List, Option, refl}
+use Rattle.std.proofs.Common.{refl}
 use Rattle.serve.proofs.Commanded.{works_alike}
 use Rattle.serve.proofs.admin.Worker.treat.Goals as goal
 

@@ -1,4 +1,4 @@
-use Rattle.std.proofs.Common.{◌≡◌, ℕ, List, [], Option, ap, sym, subst, take}
+use Rattle.std.proofs.Common.{ℕ, List, [], ap, sym, subst}
 use Rattle.std.specs.Io.KnownBytes.{Appends}
 use Rattle.hub.specs.Views.{Seeing}
 use Rattle.serve.proofs.Commanded.{stops_failed, works_alike, works_piece}

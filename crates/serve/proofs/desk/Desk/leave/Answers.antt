@@ -1,8 +1,7 @@
-use Rattle.std.proofs.Common.{◌≡◌, ℕ, List, [], ◌∷◌, Option, Some, None, IfSome, sym, subst}
-use Rattle.agg_types.specs.declared.event.What.{What}
+use Rattle.std.proofs.Common.{Option, IfSome, sym, subst}
 use Rattle.hub.specs.History.{Beginning}
 use Rattle.serve.proofs.Owns.{left_shown}
-use Rattle.serve.specs.Told.{HasTold, IsLeft, IsServed}
+use Rattle.serve.specs.Told.{IsLeft}
 use Rattle.serve.proofs.desk.Desk.leave.Goals.{in-Ok, in-Err}
 use Rattle.serve.proofs.desk.Desk.leave.Goals as goal
 

@@ -1,6 +1,4 @@
-use Rattle.serve.proofs.Owns.{posted, refused, same_log}
-use Rattle.std.proofs.Common.{◌∙◌, ap}
-use Rattle.hub.specs.Posts.{Seated}
+use Rattle.serve.proofs.Owns.{posted, refused}
 use Rattle.serve.proofs.desk.Desk.post.Goals as goal
 
 pub returns-in-Ok-clause-told : goal.returns-in-Ok-clause-told

@@ -1,5 +1,4 @@
-use Rattle.std.proofs.Common.{◌≡◌, Bool, is_some, List, [], Option, Some, None, IfSome, ap, sym, subst, ◌∙◌, refl}
-use Rattle.agg_types.specs.declared.event.What.{What}
+use Rattle.std.proofs.Common.{◌≡◌, [], Option, IfSome, ap, sym, subst, ◌∙◌, refl}
 use Rattle.hub.specs.History.{Beginning}
 use Rattle.hub.specs.Posts.{Follows, Seated, SitsDown}
 use Rattle.session_core.specs.Piece.{Setup, setup_of}
@@ -8,7 +7,6 @@ use Rattle.serve.proofs.Works.{no_facts}
 use Rattle.serve.specs.declared.desk.Desk.{Desk}
 use Rattle.serve.specs.Told.{HasTold}
 use Rattle.serve.specs.Turns.{DeskTells, facts_in}
-use Rattle.serve.specs.Working.{IsAtWork}
 use Rattle.serve.proofs.worker.Worker.new.Goals.{in-None, in-Some}
 use Rattle.serve.proofs.worker.Worker.new.Goals as goal
 

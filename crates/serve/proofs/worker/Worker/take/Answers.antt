@@ -1,4 +1,4 @@
-use Rattle.std.proofs.Common.{◌≡◌, ℕ, List, Option, None, Bool, ap, sym, subst, ◌∙◌}
+use Rattle.std.proofs.Common.{◌≡◌, None, ap, sym, subst, ◌∙◌}
 use Rattle.session_core.specs.Piece.{setup_of}
 use Rattle.session_core.specs.State.{SessionState}
 use Rattle.session_core.specs.TalkAnswers.{FaultAnswersTalk, Stands}

@@ -1,4 +1,4 @@
-use Rattle.std.proofs.Common.{◌≡◌, ℕ, List, sym, subst, take}
+use Rattle.std.proofs.Common.{ℕ, List, sym, subst}
 use Rattle.std.specs.Io.KnownBytes.{Appends}
 use Rattle.serve.proofs.Works.{stops_by_read, works_same}
 use Rattle.serve.proofs.worker.Worker.turn.Goals as goal
