@@ -13,3 +13,4 @@ pub mod CountedLemmas
 pub mod PlanLemmas
 pub mod FactLemmas
 pub mod PlanNowLemmas
+pub mod UndoLemmas

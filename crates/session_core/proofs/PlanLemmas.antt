@@ -1,5 +1,5 @@
 -- Reading the values of an update along a plan.
-use Rattle.std.proofs.Common.{inl, inr, ◌⊎◌, ◌≡◌, ℕ, zero, suc, ◌+◌, ◌-◌, ◌<◌, ◌≤◌, ◌%◌, ◌^◌, Bool, true, false, ◌==◌, ◌&&◌, if◌then◌else◌, List, [], ◌∷◌, ◌++◌, length, take, drop, map, Option, Some, None, refl, sym, ap, ◌∙◌, arith, append_assoc, append-nil, add-one}
+use Rattle.std.proofs.Common.{inl, inr, ◌≡◌, ℕ, zero, suc, ◌+◌, ◌-◌, ◌<◌, ◌≤◌, ◌^◌, Bool, true, false, ◌==◌, if◌then◌else◌, List, [], ◌∷◌, ◌++◌, drop, map, Option, Some, None, refl, sym, ap, ◌∙◌, arith, append_assoc, append-nil, add-one}
 use Rattle.std.specs.Prelude.{slice_get, unwrap_or}
 use Rattle.std.specs.Option.{option_map}
 use Rattle.std.specs.Prelude.{vec_len}
@@ -9,9 +9,7 @@ use Rattle.peers_msg.specs.Payload.{◌>>=◌, number_at}
 use Rattle.agg_types.specs.Col.{col_id, is_rate, is_wide}
 use Rattle.agg_types.specs.declared.column.Col.{Col}
 use Rattle.agg_types.specs.declared.column.Col.TheVariants as cols
-use Rattle.agg_types.specs.declared.event.Cell.{Cell}
 use Rattle.agg_types.specs.declared.event.Cell.TheVariants as cells
-use Rattle.session_core.specs.declared.plan.Source.{Source}
 use Rattle.session_core.specs.declared.values.Sent.{Sent}
 use Rattle.session_core.specs.declared.values.Sent.TheVariants.{Absent, Count, Rate}
 use Rattle.session_core.specs.Values.{cell_of, cells_of, count_at, has_type, is_rate_type, rate_at, sent_at, sents_at, sents_from, types}

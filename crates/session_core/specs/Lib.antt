@@ -13,3 +13,4 @@ pub mod State
 pub mod InForce
 pub mod Talk
 pub mod TalkAnswers
+pub mod Undo

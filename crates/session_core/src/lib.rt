@@ -20,6 +20,7 @@ mod run;
 mod session;
 mod stage;
 mod track;
+mod undo;
 mod values;
 
 pub use batch::{Batch, SessionFault};

@@ -11,7 +11,7 @@ use agg_types::{Cell, Cells, Col, NoMemory};
 use std::alloc::Global;
 
 /// Where a column's integers are among those of an update. Three kinds are told apart by branches,
-/// which are foreseen; four would take a table of jumps, which took half the time of a long row.
+/// which are foreseen; four took a table of jumps, and a third of the time of a long row.
 #[derive(Clone, Copy, Debug)]
 pub(crate) enum Source {
     /// This cell stands for a column that isn't sent, or whose rate has another period.

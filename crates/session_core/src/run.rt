@@ -2,10 +2,12 @@
 
 ghost use Rattle.std.specs.Prelude.{◌≡◌, ◌++◌, List, [], ◌∷◌, IfOk, OnOk, vec_len};
 ghost use Rattle.session_core.specs.Tracked.{Tracked};
+ghost use Rattle.session_core.specs.Undo.{LeadBack};
 ghost use Rattle.session_core.specs.Run.{Ran, run, ack_of, acks_of, settled};
 
 use crate::cause::End;
 use crate::track::{Entry, Heard, Track};
+use crate::undo::Change;
 use agg_types::{NoMemory, Shape, What};
 use peers_msg::{Message, write_message};
 use std::alloc::Global;
@@ -21,14 +23,17 @@ pub(crate) fn run(
     messages: &[Message],
     facts: &mut Vec<What>,
     replies: &mut Vec<u8>,
+    changes: &mut Vec<Change>,
 ) -> Result<Option<End>, NoMemory>
-    ensures { IfOk result (λ end. Ran end track.new facts.old.items facts.new.items
+    ensures undo { LeadBack changes.old.items track.old.entries
+        changes.new.items track.new.entries }
+    ensures ran { IfOk result (λ end. Ran end track.new facts.old.items facts.new.items
         replies.old.items replies.new.items (run tables.now peer track.old messages.now)) }
 {
     // The plan of the table in force, if one was made.
     let mut plan = track.plan_now(tables);
     for message in messages {
-        match track.step(alloc, tables, peer, &mut plan, message, facts)? {
+        match track.step(alloc, tables, peer, &mut plan, message, facts, changes)? {
             Heard::Nothing => {}
             Heard::Confirm => write_message(&Message::Confirm, replies)?,
             Heard::Partial => write_message(&Message::Partial, replies)?,

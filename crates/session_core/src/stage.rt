@@ -4,6 +4,8 @@ ghost use Rattle.std.specs.Prelude.{◌≡◌, ◌++◌, Some, IfOk, IsOkAnd, On
 ghost use Rattle.std.specs.Option.{option_map};
 ghost use Rattle.peers_msg.specs.Feed.{fed};
 ghost use Rattle.session_core.specs.Hello.{hello_of};
+ghost use Rattle.session_core.specs.Run.{run};
+ghost use Rattle.session_core.specs.Undo.{LeadBack, IsSaid};
 ghost use Rattle.session_core.specs.Silence.{over_with, IsOverAs};
 ghost use Rattle.session_core.specs.declared.cause.SessionCause.{SessionCause};
 ghost use Rattle.session_core.specs.Piece.{with_stage, stage_at_end, end_reply, AreSettled, IsSettled, setup_of, status_text, end_text, first_end, piece_of, messages_outcome, with_front, hello_outcome, accepted_outcome, refused_outcome};
@@ -14,6 +16,7 @@ use crate::cause::End;
 use crate::hello::hello_of;
 use crate::run::{run, write_acks};
 use crate::track::Track;
+use crate::undo::Change;
 use agg_types::{Config, Items, NoMemory, Shape, What};
 use peers_msg::{Feed, Given, Message, WireCause, write_message};
 use std::alloc::Global;
@@ -243,27 +246,65 @@ fn answer(
     // A message is a fact at most.
     facts.reserve(given.messages().len())?;
     let mut out = replies;
-    let mut track = dialogue.track.duplicate(alloc)?;
-    let end = run(
+    let current = dialogue.track.current();
+    let mut changes = Vec::new(alloc);
+    match say(
         alloc,
         tables,
         dialogue.peer,
-        &mut track,
-        given.messages(),
+        &mut dialogue.track,
+        &given,
         &mut facts,
         &mut out,
+        &mut changes,
+    ) {
+        Ok((end, split)) => {
+            dialogue.track.settle();
+            dialogue.feed.commit(given);
+            Ok(Outcome {
+                batch: Batch::new(facts, out, split),
+                end,
+            })
+        }
+        Err(NoMemory) => {
+            dialogue.track.take_back(current, changes);
+            Err(NoMemory)
+        }
+    }
+}
+
+/// What messages and the fault behind them give, and how many bytes of it are replies. The changes
+/// of the track lead back to what it was.
+fn say(
+    alloc: Global,
+    tables: &[Shape],
+    peer: usize,
+    track: &mut Track,
+    given: &Given,
+    facts: &mut Vec<What>,
+    out: &mut Vec<u8>,
+    changes: &mut Vec<Change>,
+) -> Result<(Option<End>, usize), NoMemory>
+    ensures undo { LeadBack changes.old.items track.old.entries
+        changes.new.items track.new.entries }
+    ensures said { IfOk result (λ x. IsSaid x.0 x.1 track.new facts.old.items facts.new.items
+        out.old.items out.new.items (run tables.now peer track.old given.now.messages) given.now) }
+{
+    let end = run(
+        alloc,
+        tables,
+        peer,
+        track,
+        given.messages(),
+        facts,
+        out,
+        changes,
     )?;
     let end = first_end(end, given.fault());
-    say_end(end, &mut out)?;
+    say_end(end, out)?;
     let split = out.len();
-    write_acks(track.entries(), &mut out)?;
-    track.settle();
-    dialogue.track = track;
-    dialogue.feed.commit(given);
-    Ok(Outcome {
-        batch: Batch::new(facts, out, split),
-        end,
-    })
+    write_acks(track.entries(), out)?;
+    Ok((end, split))
 }
 
 /// The end that a message showed, or else that of the stream.

@@ -8,16 +8,17 @@ ghost use Rattle.session_core.specs.Meaning.{IsTold};
 ghost use Rattle.session_core.specs.Plan.{AreCells, IsPlan, IsPlanOf, IsPlanNow, followed_now};
 ghost use Rattle.session_core.specs.Run.{settled};
 ghost use Rattle.session_core.specs.Values.{cells_of, sents_at};
+ghost use Rattle.session_core.specs.Undo.{undone, LeadBack};
 ghost use Rattle.session_core.specs.Tracked.{is_key_of, followed_at, followed_of, put_of, id_after, place, entry_of, IsStep, defined, switched, updated_under, step_of};
 
 use crate::cause::End;
 use crate::kept::{Kept, take_plan};
 use crate::run::settle;
+use crate::undo::{Change, note, take_back};
 use crate::values::{TYPES, key_at, life_of, periods_of};
 use agg_types::{Cells, Col, Key, KeyKind, NoMemory, Shape, What};
 use peers_msg::{Definition, Message, WireCause};
 use std::alloc::Global;
-use std::mem;
 
 /// The most ids that are ever followed in a session.
 const MOST_FOLLOWED: usize = 256;
@@ -253,16 +254,22 @@ impl Track {
         }
     }
 
-    /// An equal track, in memory of its own, which gets the plans.
-    pub(crate) fn duplicate(&mut self, alloc: Global) -> Result<Track, NoMemory>
-        ensures equal { IfOk result (λ track. track ≡ self.old) }
-        ensures same { self.new ≡ self.old }
+    /// The place of the id in force.
+    pub(crate) fn current(&self) -> Option<usize>
+        ensures { result ≡ self.now.current }
     {
-        Ok(Track {
-            entries: Vec::from_slice(alloc, self.entries.as_slice())?,
-            current: self.current,
-            plans: mem::replace(&mut self.plans, Vec::new(alloc)),
-        })
+        self.current
+    }
+
+    /// Takes the changes back, and puts the id in force that was.
+    pub(crate) fn take_back(&mut self, current: Option<usize>, changes: Vec<Change>)
+        ensures { self.new ≡ record {
+          entries = undone changes.items self.old.entries;
+          current = current;
+        } }
+    {
+        take_back(changes, &mut self.entries);
+        self.current = current;
     }
 
     /// The entries, ascending by id.
@@ -319,8 +326,11 @@ impl Track {
         plan: &mut Option<Kept>,
         message: &Message,
         facts: &mut Vec<What>,
+        changes: &mut Vec<Change>,
     ) -> Result<Heard, NoMemory>
         requires { IfSome plan.old (IsPlanNow tables.now self.old) }
+        ensures undo { LeadBack changes.old.items self.old.entries
+            changes.new.items self.new.entries }
         ensures step { IfOk result (λ heard. IsStep self.new heard facts.old.items facts.new.items
             (step_of tables.now peer self.old message.now)) }
         ensures planned { OnOk result (IfSome plan.new (IsPlanNow tables.now self.new)) }
@@ -339,11 +349,12 @@ impl Track {
                     *life,
                     rest.as_slice(),
                     facts,
+                    changes,
                 )
             }
             Message::Define(definition) => {
                 self.keep(plan.take());
-                let heard = self.define(definition.id, followed_of(tables, definition))?;
+                let heard = self.define(definition.id, followed_of(tables, definition), changes)?;
                 *plan = self.plan_now(tables);
                 Ok(heard)
             }
@@ -359,13 +370,21 @@ impl Track {
     }
 
     /// An id gets a definition, and is in force.
-    fn define(&mut self, id: u64, followed: Option<Followed>) -> Result<Heard, NoMemory>
-        ensures { IfOk result (λ heard. (facts : List What) → IsStep self.new heard facts facts
+    fn define(
+        &mut self,
+        id: u64,
+        followed: Option<Followed>,
+        changes: &mut Vec<Change>,
+    ) -> Result<Heard, NoMemory>
+        ensures undo { LeadBack changes.old.items self.old.entries
+            changes.new.items self.new.entries }
+        ensures step { IfOk result (λ heard. (facts : List What) → IsStep self.new heard facts facts
             (defined self.old id followed (entry_of id self.old.entries))) }
     {
         let at = place(self.entries.as_slice(), id);
         match entry_of(self.entries.as_slice(), id) {
             Some(entry) => {
+                note(changes, at, &entry)?;
                 self.entries[at] = Entry { followed, ..entry };
                 self.current = followed.map(|_| at);
             }
@@ -383,7 +402,9 @@ impl Track {
                     updated: false,
                     followed,
                 };
+                changes.reserve(1)?;
                 self.entries.insert(at, entry)?;
+                changes.push_reserved(Change::Added(at));
                 self.current = Some(at);
             }
         }
@@ -417,8 +438,11 @@ impl Track {
         life: Option<u32>,
         bytes: &[u8],
         facts: &mut Vec<What>,
+        changes: &mut Vec<Change>,
     ) -> Result<Heard, NoMemory>
         requires { IfSome plan.old (IsPlanNow tables.now self.old) }
+        ensures undo { LeadBack changes.old.items self.old.entries
+            changes.new.items self.new.entries }
         ensures step { IfOk result (λ heard. IsStep self.new heard facts.old.items facts.new.items
             (updated_under tables.now peer self.old self.old.current id life bytes.now)) }
         ensures planned { OnOk result (IfSome plan.new (IsPlanNow tables.now self.new)) }
@@ -435,6 +459,7 @@ impl Track {
         if !tell_put(alloc, tables, peer, followed, plan, life, bytes, facts)? {
             return Ok(Heard::End(End::Wire(WireCause::BadField)));
         }
+        note(changes, at, entry)?;
         note_update(&mut self.entries[at], id);
         Ok(Heard::Nothing)
     }

@@ -1,5 +1,4 @@
 use Rattle.std.proofs.Common.{arith, ◌≤◌}
-use Rattle.session_core.specs.Plan.{width_of}
 use Rattle.session_core.proofs.PlanLemmas.{widths_more, width_small}
 use Rattle.session_core.proofs.plan.widths.Goals as goal
 

@@ -1,9 +1,10 @@
 use Rattle.std.proofs.Common.{drop, IfSome}
 use Rattle.session_core.specs.Plan.{IsPlanNow}
 use Rattle.session_core.specs.Run.{run}
+use Rattle.session_core.specs.Undo.{LeadBack}
 use Rattle.session_core.proofs.RunLemmas.{GoesOn}
 use Rattle.session_core.proofs.run.run.Given as goal
 
 abbrev pub invariant-loop-message : goal.invariant-loop-message
 invariant-loop-message l =
-    (IfSome l.plan (IsPlanNow l.tables l.track)) × (GoesOn l.initial.facts.items l.facts.items l.initial.replies.items l.replies.items (run l.tables l.peer l.track (drop l.message-index l.messages)) (run l.tables l.peer l.initial.track l.messages))
+    (IfSome l.plan (IsPlanNow l.tables l.track)) × (GoesOn l.initial.facts.items l.facts.items l.initial.replies.items l.replies.items (run l.tables l.peer l.track (drop l.message-index l.messages)) (run l.tables l.peer l.initial.track l.messages)) × LeadBack l.initial.changes.items l.initial.track.entries l.changes.items l.track.entries
