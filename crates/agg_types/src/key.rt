@@ -92,6 +92,7 @@ impl PartialEq for Key {
 
     ghost laws = { Prim.search (comparing, rules) };
 
+    #[inline]
     fn eq(&self, other: &Key) -> bool {
         match (&self.form, &other.form) {
             (Form::Short(own), Form::Short(others)) => own.is(others),
@@ -124,6 +125,7 @@ impl Ord for Key {
 
     ghost matches_eq = { Prim.search (comparing, rules) };
 
+    #[inline]
     fn cmp(&self, other: &Key) -> Ordering {
         match (&self.form, &other.form) {
             (Form::Short(own), Form::Short(others)) => own.order(others),

@@ -115,12 +115,26 @@ fn cell(words: &[u32; WORDS], at: usize, rate: bool) -> Held
     cell.held()
 }
 
-// Writes a cell's words from a place on.
+// Writes a cell's words from a place on: one by one where there are as many as a count or a rate
+// has, since a copy of a few words is dearer.
 fn write(words: &mut [u32; WORDS], at: usize, cell: &[u32])
     requires { at + length cell.now ≤ 10 }
     ensures here { (k : ℕ) → k < length cell.now
         → slice_index words.new (at + k) ≡ slice_index cell.now k }
     ensures before { (k : ℕ) → k < at → slice_index words.new k ≡ slice_index words.old k }
 {
-    words[at..at + cell.len()].copy_from_slice(cell);
+    match cell {
+        [low, high] => {
+            words[at] = *low;
+            words[at + 1] = *high;
+        }
+        [first, second, third, fourth, fifth] => {
+            words[at] = *first;
+            words[at + 1] = *second;
+            words[at + 2] = *third;
+            words[at + 3] = *fourth;
+            words[at + 4] = *fifth;
+        }
+        _ => words[at..at + cell.len()].copy_from_slice(cell),
+    }
 }
