@@ -2,7 +2,7 @@
 
 use crate::answers::{Seen, differences};
 use crate::deeds::{Deed, seat_of, what};
-use agg_types::{Col, Cond, Config, Filter, Items, KeyKind, Name, NoMemory, Op, Rank, Shape};
+use agg_types::{Col, Cond, Config, Filter, Items, KeyKind, Name, NoMemory, Op, Rank, Shape, What};
 use anyhow::Result;
 use book::Book;
 use plain_book::Book as PlainBook;
@@ -80,6 +80,14 @@ fn config(alloc: Global, few: bool) -> Result<Config, NoMemory> {
     Ok(config)
 }
 
+// What happens, made once more where a growth was refused.
+fn made(alloc: Global, deed: Deed) -> Result<What, NoMemory> {
+    match what(alloc, deed) {
+        Err(NoMemory) => what(alloc, deed),
+        made => made,
+    }
+}
+
 /// The book that the product runs on and the plain book, of one fleet. Contracts see nothing of
 /// them.
 #[derive(Drop)]
@@ -121,13 +129,20 @@ impl Pair {
         self.fast.moment()
     }
 
-    /// Lets something happen to both, under the next number of its seat.
+    /// Lets something happen to both, under the next number of its seat, and once more where a
+    /// growth was refused. The first has to answer then what the second does, to which it hasn't
+    /// happened yet.
     pub fn happen(&mut self, alloc: Global, deed: Deed) -> Result<()> {
         let seat = seat_of(deed);
-        let what = what(alloc, deed)?;
+        let what = made(alloc, deed)?;
         let seq = self.plain.next_seq(seat).unwrap_or(0);
-        self.fast.take(seat, seq, &what)?;
-        self.plain.take(seat, seq, &what)?;
+        if self.fast.take(seat, seq, &what).is_err() {
+            self.differ = self.differ.saturating_add(self.differences(alloc)?.0);
+            self.fast.take(seat, seq, &what)?;
+        }
+        if self.plain.take(seat, seq, &what).is_err() {
+            self.plain.take(seat, seq, &what)?;
+        }
         self.events = self.events.saturating_add(1);
         Ok(())
     }
@@ -141,10 +156,21 @@ impl Pair {
         }
     }
 
-    /// Compares all that both answer.
+    /// Compares all that both answer, once more where a growth was refused.
     pub fn compare(&mut self, alloc: Global) -> Result<()> {
-        let found = differences(alloc, &self.fast, &self.plain, self.near, &mut self.seen)?;
+        let (found, seen) = match self.differences(alloc) {
+            Err(NoMemory) => self.differences(alloc)?,
+            Ok(found) => found,
+        };
         self.differ = self.differ.saturating_add(found);
+        self.seen = seen;
         Ok(())
+    }
+
+    // How many answers differ, and what was ever among them.
+    fn differences(&self, alloc: Global) -> Result<(u64, Seen), NoMemory> {
+        let mut seen = self.seen;
+        let found = differences(alloc, &self.fast, &self.plain, self.near, &mut seen)?;
+        Ok((found, seen))
     }
 }
