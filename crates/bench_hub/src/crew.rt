@@ -1,0 +1,112 @@
+//! Threads that work at once, whatever they work on.
+
+use crate::load::Load;
+use crate::tell::{Shown, Speed};
+use anyhow::{Result, ensure};
+use std::rt::Clock;
+use std::sync::Wait;
+use std::sync::atomic::{AtomicU32, AtomicU64, Ordering};
+use std::thread;
+use std::thread::Threads;
+use std::time::Instant;
+
+/// What the threads of a run do.
+pub trait Crew {
+    /// Posts the share of the pass of a peer, and says whether all of it was shown.
+    fn speak<W: Wait>(&self, rt: &W, load: Load, peer: u32) -> bool;
+
+    /// Looks again and again until all passes have ended, and says how often.
+    fn watch<W: Wait>(&self, rt: &W, load: Load, told: &Told) -> u64;
+
+    /// What is shown in the end, if a last seat could be taken and all is shown.
+    fn shown<W: Wait>(&self, rt: &W) -> Option<Shown>;
+}
+
+/// What the threads of a run tell of themselves.
+#[derive(Drop)]
+pub struct Told {
+    // Passes that have yet to end.
+    left: AtomicU32,
+    // Passes of which all was shown.
+    shown: AtomicU32,
+    looks: AtomicU64,
+}
+
+impl Told {
+    fn new(passes: u32) -> Told {
+        Told {
+            left: AtomicU32::new(passes),
+            shown: AtomicU32::new(0),
+            looks: AtomicU64::new(0),
+        }
+    }
+
+    /// Whether all passes have ended.
+    pub fn is_over(&self) -> bool {
+        self.left.load(Ordering::SeqCst) == 0
+    }
+
+    fn end(&self, shown: bool) {
+        if shown {
+            self.shown.fetch_add(1, Ordering::SeqCst);
+        }
+        self.left.fetch_sub(1, Ordering::SeqCst);
+    }
+}
+
+// A pass, in its thread.
+fn speak<W: Wait, C: Crew>(rt: &W, crew: &C, load: Load, told: &Told, peer: u32) {
+    let shown = crew.speak(rt, load, peer);
+    told.end(shown);
+}
+
+// A reader, in its thread.
+fn watch<W: Wait, C: Crew>(rt: &W, crew: &C, load: Load, told: &Told) {
+    let looks = crew.watch(rt, load, told);
+    told.looks.fetch_add(looks, Ordering::SeqCst);
+}
+
+// Runs each pass and each reader in a thread of its own, until the passes have ended.
+fn at_once<R: Threads + Wait + Copy + Send + Sync, C: Crew + Sync>(
+    rt: &R,
+    crew: &C,
+    load: Load,
+) -> Told {
+    let told = Told::new(load.passes);
+    let all = &told;
+    thread::scope(thread::scope_env(), rt, |scope| {
+        for _ in 0..load.readers {
+            if scope.spawn(move || watch(rt, crew, load, all)).is_err() {
+                break;
+            }
+        }
+        for peer in 0..load.passes {
+            if scope
+                .spawn(move || speak(rt, crew, load, all, peer))
+                .is_err()
+            {
+                all.end(false);
+            }
+        }
+    });
+    told
+}
+
+/// Lets the passes of a crew post all that they have to, beside its readers, and says how fast that
+/// was.
+pub fn timed<R: Threads + Wait + Clock + Copy + Send + Sync, C: Crew + Sync>(
+    rt: &R,
+    crew: &C,
+    load: Load,
+) -> Result<Speed> {
+    let start = Instant::now(rt)?;
+    let told = at_once(rt, crew, load);
+    let time = start.elapsed(rt)?;
+    let shown = told.shown.load(Ordering::SeqCst);
+    ensure!(shown == load.passes, "a post was refused");
+    Ok(Speed {
+        updates: load.updates,
+        looks: told.looks.load(Ordering::SeqCst),
+        time,
+    })
+}

@@ -1,0 +1,151 @@
+//! What the proxies of a run send: updates of an address, two counts and a rate, in batches.
+
+use agg_types::{Cell, Cells, Col, Config, Items, Key, KeyKind, Name, NoMemory, Shape, What};
+use anyhow::Result;
+use std::alloc::Global;
+use std::fmt;
+use std::fmt::{Display, Formatter, Write};
+
+/// How many updates come in a batch.
+const BATCH: u32 = 900;
+
+/// How long a row lives, in ms.
+const LIFE: u64 = 600_000;
+
+/// One run: how many keys there are, how many updates of them are posted, and by how many passes
+/// and beside how many readers. No pass stands for one book alone, without a hub.
+#[derive(Clone, Copy)]
+pub struct Load {
+    pub keys: u32,
+    pub updates: u32,
+    pub passes: u32,
+    pub readers: u32,
+}
+
+/// What one pass posts: so many updates of its share of the keys, in a scattered order.
+#[derive(Clone, Copy)]
+pub struct Share {
+    peer: u32,
+    passes: u32,
+    keys: u32,
+    updates: u32,
+}
+
+/// The collector `agg` of four proxies, with the table that they send.
+pub fn config(alloc: Global) -> Result<Config> {
+    let cols = [
+        (Col::Gpc0, 0),
+        (Col::ConnCnt, 0),
+        (Col::HttpReqRate, 10_000),
+    ];
+    let table = Shape {
+        name: Name::copy(alloc, b"t")?,
+        kind: KeyKind::Ip,
+        size: 1_000_000,
+        cols: Items::copy(alloc, &cols)?,
+    };
+    let mut config = Config {
+        me: Name::copy(alloc, b"agg")?,
+        peers: Items::from_vec(Vec::new(alloc)),
+        tables: Items::from_vec(Vec::new(alloc)),
+        filters: Items::from_vec(Vec::new(alloc)),
+        ranks: Items::from_vec(Vec::new(alloc)),
+    };
+    for name in [b"lb1", b"lb2", b"lb3", b"lb4"] {
+        config.peers.push(Name::copy(alloc, name)?)?;
+    }
+    config.tables.push(table)?;
+    Ok(config)
+}
+
+/// The place at which a turn finds its key: each in turn, and none beside its neighbour.
+pub fn scattered(turn: u32, keys: u32) -> u64 {
+    u64::from(turn).wrapping_mul(2_147_483_647) % u64::from(keys.max(1))
+}
+
+/// The address of a number.
+pub fn address(alloc: Global, number: u64) -> Result<Key, NoMemory> {
+    Key::copy(alloc, &number.to_be_bytes()[4..])
+}
+
+impl Display for Load {
+    fn fmt<W: Write>(&self, f: &mut Formatter<W>) -> fmt::Result {
+        if self.passes == 0 {
+            return write!(f, "one book alone");
+        }
+        write!(f, "{} passes, {} readers", self.passes, self.readers)
+    }
+}
+
+impl Load {
+    /// The same by so many passes and readers.
+    pub fn by(self, passes: u32, readers: u32) -> Load {
+        Load {
+            passes,
+            readers,
+            ..self
+        }
+    }
+
+    /// One update of each key.
+    pub fn of_new_keys(self) -> Load {
+        Load {
+            updates: self.keys,
+            ..self
+        }
+    }
+
+    /// What the pass of this peer posts.
+    pub fn share(self, peer: u32) -> Share {
+        let passes = self.passes.max(1);
+        Share {
+            peer,
+            passes,
+            keys: (self.keys / passes).max(1),
+            updates: self.updates / passes,
+        }
+    }
+}
+
+impl Share {
+    /// Which proxy the pass speaks for.
+    pub fn peer(self) -> usize {
+        self.peer as usize
+    }
+
+    /// How many batches it posts.
+    pub fn batches(self) -> u32 {
+        self.updates.saturating_add(BATCH - 1) / BATCH
+    }
+
+    /// One of its batches: the clock goes on by a ms, and then keys are put.
+    pub fn batch(self, alloc: Global, number: u32) -> Result<Vec<What>, NoMemory> {
+        let from = number.saturating_mul(BATCH);
+        let to = from.saturating_add(BATCH).min(self.updates);
+        let mut whats = Vec::new(alloc);
+        whats.push(What::Moment(u64::from(number)))?;
+        for turn in from..to {
+            whats.push(self.put(alloc, turn)?)?;
+        }
+        Ok(whats)
+    }
+
+    // One update. Passes share the keys out: each has as many, and they lie beside one another.
+    fn put(self, alloc: Global, turn: u32) -> Result<What, NoMemory> {
+        let number = scattered(turn, self.keys)
+            .wrapping_mul(u64::from(self.passes))
+            .wrapping_add(u64::from(self.peer));
+        let rate = Cell::Rate {
+            elapsed: 0,
+            cur: 30,
+            prev: 100,
+        };
+        Ok(What::Put {
+            peer: self.peer(),
+            table: 0,
+            key: address(alloc, number)?,
+            life: Some(LIFE),
+            cells: Cells::copy(alloc, &[Cell::Count(5), Cell::Count(u64::from(turn)), rate])?,
+        })
+    }
+}
