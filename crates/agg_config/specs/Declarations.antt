@@ -1,5 +1,6 @@
 -- What a line declares, by its words. A number that is none is a fault only behind the last word.
-use Rattle.std.specs.Prelude.{ℕ, ◌==◌, if◌then◌else◌, List, length, codes, Option, None, Some, Result, Ok, Err}
+use Rattle.std.specs.Prelude.{ℕ, ◌==◌, if◌then◌else◌, List, length, codes, Option, None, Some}
+use Rattle.std.specs.Prelude.{Result, Ok, Err}
 use Rattle.std.specs.Option.{option_map}
 use Rattle.std.specs.Str.{bytes_eq}
 use Rattle.agg_types.specs.declared.column.Col.{Col}
@@ -12,7 +13,8 @@ use Rattle.agg_config.specs.Front.{◌>>=◌, end, keyword, numeral, read_each, 
 use Rattle.agg_config.specs.declared.causes.LineCause.{LineCause}
 use Rattle.agg_config.specs.declared.causes.LineCause.TheVariants.{Syntax, Number}
 use Rattle.agg_config.specs.declared.declarations.Declaration.{Declaration}
-use Rattle.agg_config.specs.declared.declarations.Declaration.TheVariants.{Me, Peer, Table, Filter, Rank}
+use Rattle.agg_config.specs.declared.declarations.Declaration.TheVariants.{Me, Peer, Table, Filter}
+use Rattle.agg_config.specs.declared.declarations.Declaration.TheVariants.{Rank}
 
 -- `name <name>`, behind its first word
 unfoldable pub me_line : List (List ℕ) → Result Declaration LineCause

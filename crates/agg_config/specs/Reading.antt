@@ -1,5 +1,7 @@
 -- A text's configuration: what each line declares, behind the lines before it.
-use Rattle.std.specs.Prelude.{◌≡◌, ℕ, ◌+◌, ◌<◌, ◌≤◌, Bool, true, false, ◌&&◌, ◌||◌, List, [], ◌∷◌, ◌++◌, length, take, map, fold, position, unwrap_or, slice_get, slice_index_or, Option, None, Some, Result, Ok, Err, ◌⊎◌}
+use Rattle.std.specs.Prelude.{◌≡◌, ℕ, ◌+◌, ◌<◌, ◌≤◌, Bool, true, false, ◌&&◌, ◌||◌, List, [], ◌∷◌}
+use Rattle.std.specs.Prelude.{◌++◌, length, take, map, fold, position, unwrap_or, slice_get}
+use Rattle.std.specs.Prelude.{slice_index_or, Option, None, Some, Result, Ok, Err, ◌⊎◌}
 use Rattle.std.specs.List.{list_any}
 use Rattle.std.specs.Str.{bytes_eq}
 use Rattle.agg_types.specs.Check.{config_faults, fault_if}
@@ -14,7 +16,8 @@ use Rattle.agg_config.specs.declared.causes.LineCause.{LineCause}
 use Rattle.agg_config.specs.declared.causes.LineCause.TheVariants.{Syntax, Number, Check, NoMemory}
 use Rattle.agg_config.specs.declared.causes.LineFault.{LineFault}
 use Rattle.agg_config.specs.declared.declarations.Declaration.{Declaration}
-use Rattle.agg_config.specs.declared.declarations.Declaration.TheVariants.{Me, Peer, Table, Filter, Rank}
+use Rattle.agg_config.specs.declared.declarations.Declaration.TheVariants.{Me, Peer, Table, Filter}
+use Rattle.agg_config.specs.declared.declarations.Declaration.TheVariants.{Rank}
 
 -- the position of the table of this name; past the last where there is none
 abbrev pub table_at : List Shape → List ℕ → ℕ

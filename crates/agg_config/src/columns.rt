@@ -2,7 +2,8 @@
 
 ghost use Rattle.std.specs.Prelude.{◌≡◌, ◌++◌, OnOk, IfOk};
 ghost use Rattle.line_words.specs.Words.{parts, words};
-ghost use Rattle.agg_config.specs.Columns.{column, count_item, in_order, item, known_period, of_column, ordered_by, period_of, rate_item, stored};
+ghost use Rattle.agg_config.specs.Columns.{column, count_item, in_order, item, known_period};
+ghost use Rattle.agg_config.specs.Columns.{of_column, ordered_by, period_of, rate_item, stored};
 ghost use Rattle.agg_config.specs.Front.{Gives, read_each};
 
 use crate::LineCause;

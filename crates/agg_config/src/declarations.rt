@@ -2,7 +2,9 @@
 
 ghost use Rattle.std.specs.Prelude.{◌≡◌};
 ghost use Rattle.line_words.specs.Words.{words};
-ghost use Rattle.agg_config.specs.Declarations.{declared, filter_line, key_kind, length_of, line_declaration, me_line, peer_line, rank_line, shape, table_line};
+ghost use Rattle.agg_config.specs.Declarations.{declared, filter_line, key_kind, length_of};
+ghost use Rattle.agg_config.specs.Declarations.{line_declaration, me_line, peer_line, rank_line};
+ghost use Rattle.agg_config.specs.Declarations.{shape, table_line};
 ghost use Rattle.agg_config.specs.Front.{Gives, there};
 ghost use Rattle.agg_config.specs.declared.causes.LineCause.TheVariants.{Number};
 

@@ -2,7 +2,8 @@
 
 ghost use Rattle.std.specs.Prelude.{◌≡◌};
 ghost use Rattle.line_words.specs.Words.{words};
-ghost use Rattle.agg_config.specs.Filters.{condition, conditions, data_column, known_bound, next_condition};
+ghost use Rattle.agg_config.specs.Filters.{condition, conditions, data_column, known_bound};
+ghost use Rattle.agg_config.specs.Filters.{next_condition};
 ghost use Rattle.agg_config.specs.Front.{Gives, read_each};
 
 use crate::LineCause;

@@ -1,9 +1,11 @@
-//! A collector's configuration, read from its text: `name`, `peer`, `table`, `filter`, `rank` lines.
+//! A collector's configuration, read from its text: `name`, `peer`, `table`, `filter`, `rank`
+//! lines.
 //!
 //! For the programs, which read it before they serve or replay. `read` answers the configuration
 //! that the text writes, or the first faulty line with what is wrong with it, exactly; what each
-//! line means, and when it is faulty behind the lines before it, is said in specs/ of whole lists of
-//! words and lines. No clause says that there is memory; the texts of the faults are only tested.
+//! line means, and when it is faulty behind the lines before it, is said in specs/ of whole lists
+//! of words and lines. No clause says that there is memory; the texts of the faults are only
+//! tested.
 #![tactic(auto)]
 
 mod causes;

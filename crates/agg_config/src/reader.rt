@@ -4,7 +4,8 @@ ghost use Rattle.std.specs.Prelude.{◌≡◌, [], position, OnOk, IfOk, IfErr};
 ghost use Rattle.std.specs.Str.{bytes_eq};
 ghost use Rattle.agg_types.specs.Check.{config_faults};
 ghost use Rattle.line_words.specs.Words.{lines_of};
-ghost use Rattle.agg_config.specs.Reading.{FailsFirst, IsFirstFault, Passes, Write, declaring, faults_behind, is_me, meaning, opening, table_at};
+ghost use Rattle.agg_config.specs.Reading.{FailsFirst, IsFirstFault, Passes, Write, declaring};
+ghost use Rattle.agg_config.specs.Reading.{faults_behind, is_me, meaning, opening, table_at};
 
 use crate::declarations::{Declaration, declared};
 use crate::{LineCause, LineFault};
@@ -111,8 +112,8 @@ fn opening(alloc: Global) -> Result<Config, NoMemory>
 /// The configuration that a text writes, or its first faulty line.
 ///
 /// Each line is judged behind the lines before it: Syntax comes before Number, and that before
-/// Check. A text without a `name` line has the fault Syntax at the line after its last. `NoMemory` is
-/// told at the line where a growth of memory was refused, and may come before any other fault.
+/// Check. A text without a `name` line has the fault Syntax at the line after its last. `NoMemory`
+/// is told at the line where a growth of memory was refused, and may come before any other fault.
 /// docs/CONFIGURATION.md has the lines; what they declare is HAProxy's `peers` section and its
 /// `stick-table` lines (Configuration Manual).
 pub fn read(alloc: Global, text: &[u8]) -> Result<Config, LineFault>

@@ -1,6 +1,10 @@
 use Rattle.std.specs.Prelude.{ℕ, Bool, true, false, List, [], ◌∷◌, codes, ◌==◌}
 use Rattle.agg_types.specs.declared.column.Col.{Col}
-use Rattle.agg_types.specs.declared.column.Col.TheVariants.{Gpc0, Gpc0Rate, ConnCnt, ConnRate, ConnCur, SessCnt, SessRate, HttpReqCnt, HttpReqRate, HttpErrCnt, HttpErrRate, BytesInCnt, BytesInRate, BytesOutCnt, BytesOutRate, Gpc1, Gpc1Rate}
+use Rattle.agg_types.specs.declared.column.Col.TheVariants.{Gpc0, Gpc0Rate, ConnCnt, ConnRate}
+use Rattle.agg_types.specs.declared.column.Col.TheVariants.{ConnCur, SessCnt, SessRate, HttpReqCnt}
+use Rattle.agg_types.specs.declared.column.Col.TheVariants.{HttpReqRate, HttpErrCnt, HttpErrRate}
+use Rattle.agg_types.specs.declared.column.Col.TheVariants.{BytesInCnt, BytesInRate, BytesOutCnt}
+use Rattle.agg_types.specs.declared.column.Col.TheVariants.{BytesOutRate, Gpc1, Gpc1Rate}
 
 -- the number of a column's data type in the peers protocol
 abbrev pub col_id : Col → ℕ

@@ -2,7 +2,9 @@ ghost use Rattle.std.specs.Prelude.{◌≡◌, [], map};
 ghost use Rattle.std.specs.List.{list_all, list_any};
 ghost use Rattle.std.specs.Str.{bytes_eq};
 ghost use Rattle.agg_types.specs.Col.{col_id};
-ghost use Rattle.agg_types.specs.Check.{FindsFirst, ascends, config_faults, each, filter_faults, is_within, len_fits, peer_faults, period_fits, rank_faults, table_faults};
+ghost use Rattle.agg_types.specs.Check.{FindsFirst, ascends, config_faults, each, filter_faults};
+ghost use Rattle.agg_types.specs.Check.{is_within, len_fits, peer_faults, period_fits, rank_faults};
+ghost use Rattle.agg_types.specs.Check.{table_faults};
 
 use crate::fits::{MOST_CONDS, all_stored};
 use crate::{Col, Config, Filter, KeyKind, Name, Rank, Shape};

@@ -1,6 +1,7 @@
 ghost use Rattle.std.specs.Prelude.{◌≡◌, ◌&&◌};
 ghost use Rattle.std.specs.List.{list_all};
-ghost use Rattle.agg_types.specs.Fits.{key_fits, cell_fits, cells_fit, stores, conds_fit, select_fits, at_table, life_fits, filter_fits, fits};
+ghost use Rattle.agg_types.specs.Fits.{key_fits, cell_fits, cells_fit, stores, conds_fit};
+ghost use Rattle.agg_types.specs.Fits.{select_fits, at_table, life_fits, filter_fits, fits};
 
 use crate::{Cell, Col, Cond, Config, Filter, Key, KeyKind, Select, Shape, What};
 

@@ -3,8 +3,9 @@
 //!
 //! Every crate of the workspace uses it. Contracts see plain data: a key or a name is the list of
 //! its bytes, in their order; a collection is the list of its items; a configuration and an event
-//! are records of these. Promised are the tests: `Config::check` answers the first fault in a stated
-//! order and none exactly where there is none; `Config::fits` holds exactly of what may happen;
+//! are records of these. Promised are the tests: `Config::check` answers the first fault in a
+//! stated order and none exactly where there is none; `Config::fits` holds exactly of what may
+//! happen;
 //! `Op::holds` is the comparison; what is copied or duplicated is equal.
 //!
 //! No clause says that a copy succeeds while there is memory, nor how much room a key takes (24

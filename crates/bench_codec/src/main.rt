@@ -1,6 +1,7 @@
 //! Measures how fast a feed reads a million updates, and how fast a session makes facts of them: of
 //! three columns, 18 bytes each, and of all columns, in pieces of several sizes. The keys come in a
-//! scattered order. What was counted goes to standard output, and how fast it went to standard error.
+//! scattered order. What was counted goes to standard output, and how fast it went to standard
+//! error.
 #![tactic(auto)]
 
 ghost use Rattle.std.specs.Prelude.{◌<◌};

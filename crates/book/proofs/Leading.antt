@@ -1,5 +1,7 @@
 -- Bounds that hold as rows come and go, and as the clock goes on.
-use Rattle.std.proofs.Common.{◌≡◌, ◌≢◌, ℕ, ◌+◌, ◌-◌, ◌<◌, ◌≤◌, Bool, true, false, cond, ◌&&◌, ◌==◌, not, List, [], ◌∷◌, Option, None, Some, length, get_or, refl, sym, ap, ◌∙◌, subst, arith, eq-eqb, Ok, Err}
+use Rattle.std.proofs.Common.{◌≡◌, ◌≢◌, ℕ, ◌+◌, ◌-◌, ◌<◌, ◌≤◌, Bool, true, false, cond, ◌&&◌, ◌==◌}
+use Rattle.std.proofs.Common.{not, List, [], ◌∷◌, Option, None, Some, length, get_or, refl, sym, ap}
+use Rattle.std.proofs.Common.{◌∙◌, subst, arith, eq-eqb, Ok, Err}
 use Rattle.std.specs.Prelude.{Result, OnErr, OnOk, filter, sum_by}
 use Rattle.std.proofs.lemmas.Bool.{eqb-true, false≢true}
 use Rattle.std.proofs.lemmas.Bool.Decides.{nat_tests}
@@ -39,7 +41,8 @@ use Rattle.book.proofs.Chosen.{same_key-decides}
 abbrev Bounds : Type 0
 Bounds = List (List ℕ × ℕ)
 
-pub rank_is : (ranks : List Rank) (list : ℕ) (item : Rank) → item ≡ get_or ranks list item → list < length ranks → rank_at ranks list ≡ item
+pub rank_is : (ranks : List Rank) (list : ℕ) (item : Rank) → item ≡ get_or ranks list item
+    → list < length ranks → rank_at ranks list ≡ item
 rank_is ranks list item is inside = get_or_default ranks list no_rank item inside ∙ sym is
 
 -- ---- rows in order
@@ -47,92 +50,142 @@ keys_shown : (es : List (Place × Row)) → keys_of (arrivals es) ≡ keys_of es
 keys_shown [] = refl
 keys_shown (e ∷ es) = ap (λ places. e.0 ∷ places) (keys_shown es)
 
-pub ordered_shown : (es : List (Place × Row)) → IsStrictlySortedBy place_cmp (keys_of es) → AreInOrder (arrivals es)
+pub ordered_shown : (es : List (Place × Row)) → IsStrictlySortedBy place_cmp (keys_of es)
+    → AreInOrder (arrivals es)
 ordered_shown es sorted = subst (IsStrictlySortedBy place_cmp) (sym (keys_shown es)) sorted
 
 -- ---- a row arrives
-value_sum : (cols : List (Col × ℕ)) (rows : Rows) (table : ℕ) (key : List ℕ) (col : Col) (t : ℕ) → worth_of cols (key_rows rows table key) col t ≡ sum_by (share cols table key col t) rows
+value_sum : (cols : List (Col × ℕ)) (rows : Rows) (table : ℕ) (key : List ℕ) (col : Col) (t : ℕ)
+    → worth_of cols (key_rows rows table key) col t ≡ sum_by (share cols table key col t) rows
 unfolding value
 value_sum cols rows table key col t = sym (value-rows cols rows table key col t)
 
-share_less : (cols : List (Col × ℕ)) (table : ℕ) (key : List ℕ) (col : Col) (t : ℕ) (row : Place × Arrival) → share cols table key col t row ≤ column_worth col (t - row.1.arrived) cols row.1.cells
+share_less : (cols : List (Col × ℕ)) (table : ℕ) (key : List ℕ) (col : Col) (t : ℕ) (row : Place
+    × Arrival) → share cols table key col t row ≤ column_worth col (t - row.1.arrived)
+    cols row.1.cells
 unfolding share
 share_less cols table key col t row = by (is_of table key t row)
   where
-    by : (b : Bool) → cond b (column_worth col (t - row.1.arrived) cols row.1.cells) 0 ≤ column_worth col (t - row.1.arrived) cols row.1.cells
+    by : (b : Bool) → cond b (column_worth col (t - row.1.arrived) cols row.1.cells) 0 ≤
+        column_worth col (t - row.1.arrived) cols row.1.cells
     by true = omega arith
     by false = omega arith
 
-put_more : (cols : List (Col × ℕ)) (rows : Rows) (t : ℕ) (place : Place) (row : Arrival) (col : Col) (live : Bool) → is_live t row ≡ live → AreInOrder rows
-    → sum_by (share cols place.table place.key col t) (with_row t rows place row) ≤ sum_by (share cols place.table place.key col t) rows + column_worth col (t - row.arrived) cols row.cells
+put_more : (cols : List (Col × ℕ)) (rows : Rows) (t : ℕ) (place : Place) (row : Arrival) (col : Col)
+    (live : Bool) → is_live t row ≡ live → AreInOrder rows
+    → sum_by (share cols place.table place.key col t) (with_row t rows place row) ≤ sum_by
+    (share cols place.table place.key col t) rows + column_worth col (t - row.arrived)
+    cols row.cells
 put_more cols rows t place row col true live ordered =
     let f : Place × Arrival → ℕ = share cols place.table place.key col t in
-    let own : f (place, row) ≤ column_worth col (t - row.arrived) cols row.cells = share_less cols place.table place.key col t (place, row) in
-    let sums : sum_by f (insert_entry place_cmp rows place row) + worth_at f rows place ≡ sum_by f rows + f (place, row) = sum-insert f rows place row ordered in
+    let own : f (place, row) ≤ column_worth col (t - row.arrived) cols row.cells =
+    share_less cols place.table place.key col t (place, row) in
+    let sums : sum_by f (insert_entry place_cmp rows place row) + worth_at f rows place
+    ≡ sum_by f rows + f (place, row) = sum-insert f rows place row ordered in
     rw (with_living t rows place row live) (omega arith)
 put_more cols rows t place row col false ended ordered =
     let f : Place × Arrival → ℕ = share cols place.table place.key col t in
-    let sums : sum_by f (remove_entry (is_at (place_cmp place)) rows) + worth_at f rows place ≡ sum_by f rows = sum-remove f rows place in
+    let sums : sum_by f (remove_entry (is_at (place_cmp place)) rows) + worth_at f rows place
+    ≡ sum_by f rows = sum-remove f rows place in
     rw (with_ended t rows place row ended) (omega arith)
 
 -- a key is worth at most what it was, and what its new row is worth as it arrives
-pub arriving_more : (cols : List (Col × ℕ)) (rows : Rows) (t : ℕ) (place : Place) (life : Option ℕ) (cells : List Cell) (col : Col) → AreInOrder rows
-    → worth_of cols (key_rows (with_row t rows place (put_arrival t life cols cells)) place.table place.key) col t
+pub arriving_more : (cols : List (Col × ℕ)) (rows : Rows) (t : ℕ) (place : Place) (life : Option ℕ)
+    (cells : List Cell) (col : Col) → AreInOrder rows
+    → worth_of cols (key_rows (with_row t rows place (put_arrival t life cols cells)) place.table
+    place.key) col t
     ≤ worth_of cols (key_rows rows place.table place.key) col t + column_worth col 0 cols cells
 arriving_more cols rows t place life cells col ordered =
     let row : Arrival = put_arrival t life cols cells in
     let now : t - t ≡ 0 = omega arith in
-    let kept : column_worth col (t - t) cols (kept_cells cols cells) ≡ column_worth col 0 cols cells = ap (λ n. column_worth col n cols (kept_cells cols cells)) now ∙ column_kept cols cells col 0 in
-    let more : sum_by (share cols place.table place.key col t) (with_row t rows place row) ≤ sum_by (share cols place.table place.key col t) rows + column_worth col (t - t) cols (kept_cells cols cells) = put_more cols rows t place row col (is_live t row) refl ordered in
-    let before : worth_of cols (key_rows rows place.table place.key) col t ≡ sum_by (share cols place.table place.key col t) rows = value_sum cols rows place.table place.key col t in
-    let after : worth_of cols (key_rows (with_row t rows place row) place.table place.key) col t ≡ sum_by (share cols place.table place.key col t) (with_row t rows place row) = value_sum cols (with_row t rows place row) place.table place.key col t in
+    let kept : column_worth col (t - t) cols (kept_cells cols cells) ≡ column_worth col 0 cols cells
+    = ap (λ n. column_worth col n cols (kept_cells cols cells)) now
+    ∙ column_kept cols cells col 0 in
+    let more : sum_by (share cols place.table place.key col t) (with_row t rows place row) ≤ sum_by
+    (share cols place.table place.key col t) rows + column_worth col (t - t) cols
+    (kept_cells cols cells) = put_more cols rows t place row col (is_live t row) refl ordered in
+    let before : worth_of cols (key_rows rows place.table place.key) col t
+    ≡ sum_by (share cols place.table place.key col t) rows =
+    value_sum cols rows place.table place.key col t in
+    let after : worth_of cols (key_rows (with_row t rows place row) place.table place.key) col t
+    ≡ sum_by (share cols place.table place.key col t) (with_row t rows place row) =
+    value_sum cols (with_row t rows place row) place.table place.key col t in
     omega arith
 
 -- ---- one list
-weaker : (found : Option ℕ) (bound least : ℕ) → least ≤ bound → IsSomeAnd found (λ kept. bound ≤ kept) → IsSomeAnd found (λ kept. least ≤ kept)
+weaker : (found : Option ℕ) (bound least : ℕ) → least ≤ bound
+    → IsSomeAnd found (λ kept. bound ≤ kept) → IsSomeAnd found (λ kept. least ≤ kept)
 weaker None bound least less holds = holds
 weaker (Some kept) bound least less holds = omega arith
 
-same_bound : (old new : Bounds) (key : List ℕ) (least : ℕ) → bound_at new key ≡ bound_at old key → IsBounded old key least → IsBounded new key least
-same_bound old new key least same bounded = subst (λ (found : Option ℕ). IsSomeAnd found (λ kept. least ≤ kept)) (sym same) bounded
+same_bound : (old new : Bounds) (key : List ℕ) (least : ℕ) → bound_at new key ≡ bound_at old key
+    → IsBounded old key least → IsBounded new key least
+same_bound old new key least same bounded =
+    subst (λ (found : Option ℕ). IsSomeAnd found (λ kept. least ≤ kept)) (sym same) bounded
 
 worth : List Shape → Rank → Rows → ℕ → ℕ
 worth tables rank rows t = worth_of (cols_of tables rank.table) rows rank.col t
 
 -- a key whose rows and bound stay
-stays : (tables : List Shape) (rows later : Rows) (t : ℕ) (rank : Rank) (old new : Bounds) (key : List ℕ) → IsLed tables rows t rank old
-    → key_rows later rank.table key ≡ key_rows rows rank.table key → bound_at new key ≡ bound_at old key → 0 < living_of (key_rows later rank.table key) t
-    → IsBounded new key (worth_of (cols_of tables rank.table) (key_rows later rank.table key) rank.col t)
+stays : (tables : List Shape) (rows later : Rows) (t : ℕ) (rank : Rank) (old new : Bounds)
+    (key : List ℕ) → IsLed tables rows t rank old
+    → key_rows later rank.table key ≡ key_rows rows rank.table key
+    → bound_at new key ≡ bound_at old key → 0 < living_of (key_rows later rank.table key) t
+    → IsBounded new key (worth_of (cols_of tables rank.table)
+    (key_rows later rank.table key) rank.col t)
 stays tables rows later t rank old new key led same bound alive =
-    let was : 0 < living_of (key_rows rows rank.table key) t = subst (λ (own : Rows). 0 < living_of own t) same alive in
-    subst (λ (own : Rows). IsBounded new key (worth_of (cols_of tables rank.table) own rank.col t)) (sym same)
-    (same_bound old new key (worth_of (cols_of tables rank.table) (key_rows rows rank.table key) rank.col t) bound (led key was))
+    let was : 0 < living_of (key_rows rows rank.table key) t =
+    subst (λ (own : Rows). 0 < living_of own t) same alive in
+    subst (λ (own : Rows). IsBounded new key (worth_of (cols_of tables rank.table) own rank.col t))
+    (sym same)
+    (same_bound old new key (worth_of (cols_of tables rank.table) (key_rows rows rank.table key)
+    rank.col t) bound (led key was))
 
 -- a key's bound was made at least its value, and other keys' rows stay
-touched_at : (tables : List Shape) (rows later : Rows) (t : ℕ) (rank : Rank) (old new : Bounds) (key : List ℕ) (bound : ℕ) → IsLed tables rows t rank old → AreOthersKept key old new → IsBounded new key bound
+touched_at : (tables : List Shape) (rows later : Rows) (t : ℕ) (rank : Rank) (old new : Bounds)
+    (key : List ℕ) (bound : ℕ) → IsLed tables rows t rank old → AreOthersKept key old new
+    → IsBounded new key bound
     → worth_of (cols_of tables rank.table) (key_rows later rank.table key) rank.col t ≤ bound
-    → ((other : List ℕ) → same_key key other ≡ false → key_rows later rank.table other ≡ key_rows rows rank.table other)
-    → (other : List ℕ) (same : Bool) → same_key key other ≡ same → 0 < living_of (key_rows later rank.table other) t
-    → IsBounded new other (worth_of (cols_of tables rank.table) (key_rows later rank.table other) rank.col t)
-touched_at tables rows later t rank old new key bound led others holds within apart other true e alive =
-    subst (λ (k : List ℕ). IsBounded new k (worth_of (cols_of tables rank.table) (key_rows later rank.table k) rank.col t)) ((same_key-decides key other).0 e)
-    (weaker (bound_at new key) bound (worth_of (cols_of tables rank.table) (key_rows later rank.table key) rank.col t) within holds)
-touched_at tables rows later t rank old new key bound led others holds within apart other false e alive =
+    → ((other : List ℕ) → same_key key other ≡ false → key_rows later rank.table other
+    ≡ key_rows rows rank.table other)
+    → (other : List ℕ) (same : Bool) → same_key key other ≡ same
+    → 0 < living_of (key_rows later rank.table other) t
+    → IsBounded new other (worth_of (cols_of tables rank.table)
+    (key_rows later rank.table other) rank.col t)
+touched_at tables rows later t rank old new key bound led others holds within apart other
+    true e alive =
+    subst (λ (k : List ℕ). IsBounded new k
+    (worth_of (cols_of tables rank.table) (key_rows later rank.table k) rank.col t))
+    ((same_key-decides key other).0 e)
+    (weaker (bound_at new key) bound
+    (worth_of (cols_of tables rank.table) (key_rows later rank.table key) rank.col t) within
+    holds)
+touched_at tables rows later t rank old new key bound led others holds within apart other
+    false e alive =
     stays tables rows later t rank old new other led (apart other e) (others other e) alive
 
-pub touched_led : (tables : List Shape) (rows later : Rows) (t : ℕ) (rank : Rank) (old new : Bounds) (key : List ℕ) (bound : ℕ) → IsLed tables rows t rank old → AreOthersKept key old new → IsBounded new key bound
+pub touched_led : (tables : List Shape) (rows later : Rows) (t : ℕ) (rank : Rank) (old new : Bounds)
+    (key : List ℕ) (bound : ℕ) → IsLed tables rows t rank old → AreOthersKept key old new
+    → IsBounded new key bound
     → worth_of (cols_of tables rank.table) (key_rows later rank.table key) rank.col t ≤ bound
-    → ((other : List ℕ) → same_key key other ≡ false → key_rows later rank.table other ≡ key_rows rows rank.table other)
+    → ((other : List ℕ) → same_key key other ≡ false → key_rows later rank.table other
+    ≡ key_rows rows rank.table other)
     → IsLed tables later t rank new
-touched_led tables rows later t rank old new key bound led others holds within apart = λ other alive. touched_at tables rows later t rank old new key bound led others holds within apart other (same_key key other) refl alive
+touched_led tables rows later t rank old new key bound led others holds within apart =
+    λ other alive. touched_at tables rows later t rank old new key bound led others holds within
+    apart other (same_key key other) refl alive
 
-pub same_led : (tables : List Shape) (rows later : Rows) (t : ℕ) (rank : Rank) (bounds : Bounds) → IsLed tables rows t rank bounds
-    → ((other : List ℕ) → key_rows later rank.table other ≡ key_rows rows rank.table other) → IsLed tables later t rank bounds
-same_led tables rows later t rank bounds led same = λ other alive. stays tables rows later t rank bounds bounds other led (same other) refl alive
+pub same_led : (tables : List Shape) (rows later : Rows) (t : ℕ) (rank : Rank) (bounds : Bounds)
+    → IsLed tables rows t rank bounds
+    → ((other : List ℕ) → key_rows later rank.table other ≡ key_rows rows rank.table other)
+    → IsLed tables later t rank bounds
+same_led tables rows later t rank bounds led same =
+    λ other alive. stays tables rows later t rank bounds bounds other led (same other) refl alive
 
 -- ---- all lists
 -- of a list, or of all others
-other_list : (P : ℕ → Type 0) (list : ℕ) → P list → ((other : ℕ) → other ≢ list → P other) → (other : ℕ) → P other
+other_list : (P : ℕ → Type 0) (list : ℕ) → P list → ((other : ℕ) → other ≢ list → P other)
+    → (other : ℕ) → P other
 other_list P list own rest other = by (other == list) refl
   where
     by : (same : Bool) → (other == list) ≡ same → P other
@@ -140,162 +193,268 @@ other_list P list own rest other = by (other == list) refl
     by false e = rest other (λ is. false≢true (sym e ∙ grind (arith, nat_tests)))
 
 -- a touch of a key at least as high as it is worth
-pub touched_stands : (tables : List Shape) (ranks : List Rank) (rows : Rows) (t list : ℕ) (key : List ℕ) (bound : ℕ) (old new : Lists) → AreLed tables ranks rows t old → IsOneKeyOf list key old new → IsBounded (bounds_of new list) key bound
-    → worth_of (cols_of tables (rank_at ranks list).table) (key_rows rows (rank_at ranks list).table key) (rank_at ranks list).col t ≤ bound
+pub touched_stands : (tables : List Shape) (ranks : List Rank) (rows : Rows) (t list : ℕ)
+    (key : List ℕ) (bound : ℕ) (old new : Lists) → AreLed tables ranks rows t old
+    → IsOneKeyOf list key old new → IsBounded (bounds_of new list) key bound
+    → worth_of (cols_of tables (rank_at ranks list).table)
+    (key_rows rows (rank_at ranks list).table key) (rank_at ranks list).col t ≤ bound
     → AreLed tables ranks rows t new
 touched_stands tables ranks rows t list key bound old new led one holds within = record {
   count = one.count ∙ led.count;
-  each = other_list (λ (other : ℕ). other < length ranks → IsLed tables rows t (rank_at ranks other) (bounds_of new other)) list
-      (λ inside. touched_led tables rows rows t (rank_at ranks list) (bounds_of old list) (bounds_of new list) key bound (led.each list inside) one.keys holds within (λ other apart. refl))
-      (λ other apart inside. subst (IsLed tables rows t (rank_at ranks other)) (sym (one.lists other apart)) (led.each other inside));
+  each = other_list (λ (other : ℕ). other < length ranks
+      → IsLed tables rows t (rank_at ranks other) (bounds_of new other)) list
+      (λ inside. touched_led tables rows rows t (rank_at ranks list) (bounds_of old list)
+      (bounds_of new list) key bound (led.each list inside) one.keys holds within
+      (λ other apart. refl))
+      (λ other apart inside. subst (IsLed tables rows t (rank_at ranks other))
+      (sym (one.lists other apart)) (led.each other inside));
 }
 
 -- so the rows that are to come are led in one list more
-pub touched_more : (tables : List Shape) (ranks : List Rank) (rows later : Rows) (t list : ℕ) (key : List ℕ) (bound : ℕ) (old new : Lists) → list < length ranks → AreLed tables ranks rows t old → IsOneKeyOf list key old new → IsBounded (bounds_of new list) key bound
-    → worth_of (cols_of tables (rank_at ranks list).table) (key_rows later (rank_at ranks list).table key) (rank_at ranks list).col t ≤ bound
-    → ((other : List ℕ) → same_key key other ≡ false → key_rows later (rank_at ranks list).table other ≡ key_rows rows (rank_at ranks list).table other)
-    → ((other : ℕ) → other < list → IsLed tables later t (rank_at ranks other) (bounds_of old other))
-    → (other : ℕ) → other < list + 1 → IsLed tables later t (rank_at ranks other) (bounds_of new other)
-touched_more tables ranks rows later t list key bound old new inside led one holds within apart before =
-    other_list (λ (other : ℕ). other < list + 1 → IsLed tables later t (rank_at ranks other) (bounds_of new other)) list
-    (λ _. touched_led tables rows later t (rank_at ranks list) (bounds_of old list) (bounds_of new list) key bound (led.each list inside) one.keys holds within apart)
-    (λ other differs up. subst (IsLed tables later t (rank_at ranks other)) (sym (one.lists other differs)) (before other (omega arith)))
+pub touched_more : (tables : List Shape) (ranks : List Rank) (rows later : Rows) (t list : ℕ)
+    (key : List ℕ) (bound : ℕ) (old new : Lists) → list < length ranks
+    → AreLed tables ranks rows t old → IsOneKeyOf list key old new
+    → IsBounded (bounds_of new list) key bound
+    → worth_of (cols_of tables (rank_at ranks list).table)
+    (key_rows later (rank_at ranks list).table key) (rank_at ranks list).col t ≤ bound
+    → ((other : List ℕ) → same_key key other ≡ false
+    → key_rows later (rank_at ranks list).table other
+    ≡ key_rows rows (rank_at ranks list).table other)
+    → ((other : ℕ) → other < list → IsLed tables later t (rank_at ranks other)
+    (bounds_of old other))
+    → (other : ℕ) → other < list + 1
+    → IsLed tables later t (rank_at ranks other) (bounds_of new other)
+touched_more tables ranks rows later t list key bound old new inside led one holds within
+    apart before =
+    other_list (λ (other : ℕ). other < list + 1
+    → IsLed tables later t (rank_at ranks other) (bounds_of new other)) list
+    (λ _. touched_led tables rows later t (rank_at ranks list) (bounds_of old list)
+    (bounds_of new list) key bound (led.each list inside) one.keys holds within apart)
+    (λ other differs up. subst (IsLed tables later t (rank_at ranks other))
+    (sym (one.lists other differs)) (before other (omega arith)))
 
 -- a list of another table
-pub passed_more : (tables : List Shape) (ranks : List Rank) (rows later : Rows) (t list : ℕ) (lists : Lists) → list < length ranks → AreLed tables ranks rows t lists
-    → ((other : List ℕ) → key_rows later (rank_at ranks list).table other ≡ key_rows rows (rank_at ranks list).table other)
-    → ((other : ℕ) → other < list → IsLed tables later t (rank_at ranks other) (bounds_of lists other))
-    → (other : ℕ) → other < list + 1 → IsLed tables later t (rank_at ranks other) (bounds_of lists other)
+pub passed_more : (tables : List Shape) (ranks : List Rank) (rows later : Rows) (t list : ℕ)
+    (lists : Lists) → list < length ranks → AreLed tables ranks rows t lists
+    → ((other : List ℕ) → key_rows later (rank_at ranks list).table other
+    ≡ key_rows rows (rank_at ranks list).table other)
+    → ((other : ℕ) → other < list → IsLed tables later t (rank_at ranks other)
+    (bounds_of lists other))
+    → (other : ℕ) → other < list + 1
+    → IsLed tables later t (rank_at ranks other) (bounds_of lists other)
 passed_more tables ranks rows later t list lists inside led same before =
-    other_list (λ (other : ℕ). other < list + 1 → IsLed tables later t (rank_at ranks other) (bounds_of lists other)) list
-    (λ _. same_led tables rows later t (rank_at ranks list) (bounds_of lists list) (led.each list inside) same)
+    other_list (λ (other : ℕ). other < list + 1
+    → IsLed tables later t (rank_at ranks other) (bounds_of lists other)) list
+    (λ _. same_led tables rows later t (rank_at ranks list) (bounds_of lists list)
+    (led.each list inside) same)
     (λ other differs up. before other (omega arith))
 
 -- what a key is worth by a list's column, where the list is of its table
-pub rank_worth : (tables : List Shape) (later : List (Col × ℕ) → Rows) (t : ℕ) (rank item : Rank) (cols : List (Col × ℕ)) (table : ℕ) (key : List ℕ) (bound : ℕ) → rank ≡ item → item.table ≡ table → cols ≡ cols_of tables table
+pub rank_worth : (tables : List Shape) (later : List (Col × ℕ) → Rows) (t : ℕ) (rank item : Rank)
+    (cols : List (Col × ℕ)) (table : ℕ) (key : List ℕ) (bound : ℕ) → rank ≡ item
+    → item.table ≡ table → cols ≡ cols_of tables table
     → worth_of cols (key_rows (later cols) table key) item.col t ≤ bound
-    → worth_of (cols_of tables rank.table) (key_rows (later (cols_of tables table)) rank.table key) rank.col t ≤ bound
+    → worth_of (cols_of tables rank.table) (key_rows (later (cols_of tables table)) rank.table key)
+    rank.col t ≤ bound
 rank_worth tables later t rank item cols table key bound is here are less =
     let rows : Rows = later (cols_of tables table) in
-    let of_table : worth_of (cols_of tables table) (key_rows rows table key) item.col t ≤ bound = subst (λ (cs : List (Col × ℕ)). worth_of cs (key_rows (later cs) table key) item.col t ≤ bound) are less in
-    let of_item : worth_of (cols_of tables item.table) (key_rows rows item.table key) item.col t ≤ bound = subst (λ (n : ℕ). worth_of (cols_of tables n) (key_rows rows n key) item.col t ≤ bound) (sym here) of_table in
-    subst (λ (r : Rank). worth_of (cols_of tables r.table) (key_rows rows r.table key) r.col t ≤ bound) (sym is) of_item
+    let of_table : worth_of (cols_of tables table) (key_rows rows table key) item.col t ≤ bound =
+    subst (λ (cs : List (Col × ℕ)). worth_of cs (key_rows (later cs) table key) item.col t ≤
+    bound) are less in
+    let of_item : worth_of (cols_of tables item.table) (key_rows rows item.table key) item.col t ≤
+    bound = subst (λ (n : ℕ). worth_of (cols_of tables n) (key_rows rows n key) item.col t ≤
+    bound) (sym here) of_table in
+    subst (λ (r : Rank). worth_of (cols_of tables r.table) (key_rows rows r.table key) r.col t ≤
+    bound) (sym is) of_item
 
 and_none : (b : Bool) → b && false ≡ false
 and_none true = refl
 and_none false = refl
 
 -- a row that arrives changes no other key's rows
-pub apart_rows : (rows : Rows) (t : ℕ) (place : Place) (row : Arrival) (table : ℕ) (other : List ℕ) → AreInOrder rows → same_key place.key other ≡ false → key_rows (with_row t rows place row) table other ≡ key_rows rows table other
-apart_rows rows t place row table other ordered apart = put-others t rows place row table other ordered (by (same_key other place.key) refl)
+pub apart_rows : (rows : Rows) (t : ℕ) (place : Place) (row : Arrival) (table : ℕ) (other : List ℕ)
+    → AreInOrder rows → same_key place.key other ≡ false
+    → key_rows (with_row t rows place row) table other ≡ key_rows rows table other
+apart_rows rows t place row table other ordered apart =
+    put-others t rows place row table other ordered (by (same_key other place.key) refl)
   where
-    by : (b : Bool) → same_key other place.key ≡ b → (place.table == table) && same_key other place.key ≡ false
-    by true e = absurd (false≢true (sym apart ∙ (same_key-decides place.key other).1 (sym ((same_key-decides other place.key).0 e))))
+    by : (b : Bool) → same_key other place.key ≡ b
+        → (place.table == table) && same_key other place.key ≡ false
+    by true e = absurd (false≢true (sym apart
+        ∙ (same_key-decides place.key other).1 (sym ((same_key-decides other place.key).0 e))))
     by false e = ap (λ (b : Bool). (place.table == table) && b) e ∙ and_none (place.table == table)
 
 -- nor any rows of another table
-pub elsewhere_rows : (rows : Rows) (t : ℕ) (place : Place) (row : Arrival) (rank item : Rank) (other : List ℕ) → AreInOrder rows → rank ≡ item → item.table ≢ place.table → key_rows (with_row t rows place row) rank.table other ≡ key_rows rows rank.table other
-elsewhere_rows rows t place row rank item other ordered is apart = put-others t rows place row rank.table other ordered (by (place.table == rank.table) refl)
+pub elsewhere_rows : (rows : Rows) (t : ℕ) (place : Place) (row : Arrival) (rank item : Rank)
+    (other : List ℕ) → AreInOrder rows → rank ≡ item → item.table ≢ place.table
+    → key_rows (with_row t rows place row) rank.table other ≡ key_rows rows rank.table other
+elsewhere_rows rows t place row rank item other ordered is apart =
+    put-others t rows place row rank.table other ordered (by (place.table == rank.table) refl)
   where
-    by : (b : Bool) → (place.table == rank.table) ≡ b → (place.table == rank.table) && same_key other place.key ≡ false
-    by true e = absurd (apart (sym (eqb-true place.table rank.table e ∙ ap (λ (r : Rank). r.table) is)))
+    by : (b : Bool) → (place.table == rank.table) ≡ b → (place.table == rank.table)
+        && same_key other place.key ≡ false
+    by true e = absurd (apart (sym (eqb-true place.table rank.table e
+        ∙ ap (λ (r : Rank). r.table) is)))
     by false e = ap (λ (b : Bool). b && same_key other place.key) e
 
 -- ---- a key's bounds dropped
 none_alive : {C : Type 0} (n : ℕ) → n ≡ 0 → 0 < n → C
 none_alive n none some = absurd (omega arith)
 
-pub dropped_more : (ranks : List Rank) (table : ℕ) (key : List ℕ) (list : ℕ) (old mid new : Lists) → IsKeyDropped ranks table key old mid → IsOneKeyOf list key mid new → (rank_at ranks list).table ≡ table → IsKeyDropped ranks table key old new
+pub dropped_more : (ranks : List Rank) (table : ℕ) (key : List ℕ) (list : ℕ) (old mid new : Lists)
+    → IsKeyDropped ranks table key old mid → IsOneKeyOf list key mid new
+    → (rank_at ranks list).table ≡ table → IsKeyDropped ranks table key old new
 dropped_more ranks table key list old mid new so_far one here = record {
   count = one.count ∙ so_far.count;
-  others = other_list (λ (other : ℕ). (k : List ℕ) → ((rank_at ranks other).table == table) && same_key key k ≡ false → bound_at (bounds_of new other) k ≡ bound_at (bounds_of old other) k) list
-      (λ k apart. one.keys k (own_apart (rank_at ranks list).table table (same_key key k) here apart) ∙ so_far.others list k apart)
-      (λ other differs k apart. ap (λ (bounds : Bounds). bound_at bounds k) (one.lists other differs) ∙ so_far.others other k apart);
+  others = other_list (λ (other : ℕ). (k : List ℕ) → ((rank_at ranks other).table == table)
+      && same_key key k ≡ false → bound_at (bounds_of new other) k
+      ≡ bound_at (bounds_of old other) k) list
+      (λ k apart. one.keys k (own_apart (rank_at ranks list).table table (same_key key k) here
+      apart) ∙ so_far.others list k apart)
+      (λ other differs k apart. ap (λ (bounds : Bounds). bound_at bounds k)
+      (one.lists other differs) ∙ so_far.others other k apart);
 }
   where
     own_apart : (n m : ℕ) (b : Bool) → n ≡ m → (n == m) && b ≡ false → b ≡ false
     own_apart n m false same apart = refl
-    own_apart n m true same apart = absurd (false≢true (sym apart ∙ ap (λ (e : Bool). e && true) (eq-eqb n m same)))
+    own_apart n m true same apart =
+        absurd (false≢true (sym apart ∙ ap (λ (e : Bool). e && true) (eq-eqb n m same)))
 
-pub dropped_gone : (tables : List Shape) (ranks : List Rank) (rows : Rows) (t table : ℕ) (key : List ℕ) (old new : Lists) → AreLed tables ranks rows t old → IsKeyDropped ranks table key old new → living_of (key_rows rows table key) t ≡ 0 → AreLed tables ranks rows t new
+pub dropped_gone : (tables : List Shape) (ranks : List Rank) (rows : Rows) (t table : ℕ)
+    (key : List ℕ) (old new : Lists) → AreLed tables ranks rows t old
+    → IsKeyDropped ranks table key old new → living_of (key_rows rows table key) t ≡ 0
+    → AreLed tables ranks rows t new
 dropped_gone tables ranks rows t table key old new led dropped gone = record {
   count = dropped.count ∙ led.count;
-  each = λ list inside other alive. by list inside other ((rank_at ranks list).table == table) (same_key key other) refl refl alive;
+  each = λ list inside other alive. by list inside other ((rank_at ranks list).table == table)
+      (same_key key other) refl refl alive;
 }
   where
-    by : (list : ℕ) → list < length ranks → (other : List ℕ) (here same : Bool) → ((rank_at ranks list).table == table) ≡ here → same_key key other ≡ same
+    by : (list : ℕ) → list < length ranks → (other : List ℕ) (here same : Bool)
+        → ((rank_at ranks list).table == table) ≡ here → same_key key other ≡ same
         → 0 < living_of (key_rows rows (rank_at ranks list).table other) t
-        → IsBounded (bounds_of new list) other (worth_of (cols_of tables (rank_at ranks list).table) (key_rows rows (rank_at ranks list).table other) (rank_at ranks list).col t)
+        → IsBounded (bounds_of new list) other (worth_of (cols_of tables (rank_at ranks list).table)
+        (key_rows rows (rank_at ranks list).table other) (rank_at ranks list).col t)
     by list inside other true true e f alive =
         none_alive (living_of (key_rows rows (rank_at ranks list).table other) t)
-        (ap (λ (n : ℕ). living_of (key_rows rows n other) t) (eqb-true (rank_at ranks list).table table e) ∙ ap (λ (k : List ℕ). living_of (key_rows rows table k) t) (sym ((same_key-decides key other).0 f)) ∙ gone) alive
-    by list inside other true false e f alive = stays tables rows rows t (rank_at ranks list) (bounds_of old list) (bounds_of new list) other (led.each list inside) refl (dropped.others list other (λ i. e i && f i)) alive
-    by list inside other false same e f alive = stays tables rows rows t (rank_at ranks list) (bounds_of old list) (bounds_of new list) other (led.each list inside) refl (dropped.others list other (λ i. e i && f i)) alive
+        (ap (λ (n : ℕ). living_of (key_rows rows n other) t)
+        (eqb-true (rank_at ranks list).table table e)
+        ∙ ap (λ (k : List ℕ). living_of (key_rows rows table k) t)
+        (sym ((same_key-decides key other).0 f)) ∙ gone) alive
+    by list inside other true false e f alive =
+        stays tables rows rows t (rank_at ranks list) (bounds_of old list) (bounds_of new list)
+        other (led.each list inside) refl (dropped.others list other (λ i. e i && f i)) alive
+    by list inside other false same e f alive =
+        stays tables rows rows t (rank_at ranks list) (bounds_of old list) (bounds_of new list)
+        other (led.each list inside) refl (dropped.others list other (λ i. e i && f i)) alive
 
 -- with its rows
-pub dropped_cleared : (tables : List Shape) (ranks : List Rank) (rows later : Rows) (t table : ℕ) (key : List ℕ) (old new : Lists) → AreLed tables ranks rows t old → IsKeyDropped ranks table key old new
-    → later ≡ filter (λ row. not ((row.0.table == table) && same_key key row.0.key)) rows → AreLed tables ranks later t new
+pub dropped_cleared : (tables : List Shape) (ranks : List Rank) (rows later : Rows) (t table : ℕ)
+    (key : List ℕ) (old new : Lists) → AreLed tables ranks rows t old
+    → IsKeyDropped ranks table key old new
+    → later ≡ filter (λ row. not ((row.0.table == table) && same_key key row.0.key)) rows
+    → AreLed tables ranks later t new
 dropped_cleared tables ranks rows later t table key old new led dropped cleared = record {
   count = dropped.count ∙ led.count;
-  each = λ list inside other alive. by list inside other (((rank_at ranks list).table == table) && same_key key other) refl alive;
+  each = λ list inside other alive. by list inside other (((rank_at ranks list).table == table)
+      && same_key key other) refl alive;
 }
   where
-    own : (n : ℕ) (other : List ℕ) → key_rows later n other ≡ cond ((n == table) && same_key key other) [] (key_rows rows n other)
-    own n other = ap (λ (rs : Rows). key_rows rs n other) cleared ∙ clear-each (same_key key) rows table n other
+    own : (n : ℕ) (other : List ℕ)
+        → key_rows later n other ≡ cond ((n == table) && same_key key other) []
+        (key_rows rows n other)
+    own n other = ap (λ (rs : Rows). key_rows rs n other) cleared
+        ∙ clear-each (same_key key) rows table n other
 
-    by : (list : ℕ) → list < length ranks → (other : List ℕ) (gone : Bool) → ((rank_at ranks list).table == table) && same_key key other ≡ gone
+    by : (list : ℕ) → list < length ranks → (other : List ℕ) (gone : Bool)
+        → ((rank_at ranks list).table == table) && same_key key other ≡ gone
         → 0 < living_of (key_rows later (rank_at ranks list).table other) t
-        → IsBounded (bounds_of new list) other (worth_of (cols_of tables (rank_at ranks list).table) (key_rows later (rank_at ranks list).table other) (rank_at ranks list).col t)
+        → IsBounded (bounds_of new list) other (worth_of (cols_of tables (rank_at ranks list).table)
+        (key_rows later (rank_at ranks list).table other) (rank_at ranks list).col t)
     by list inside other true e alive =
         none_alive (living_of (key_rows later (rank_at ranks list).table other) t)
-        (ap (λ (rs : Rows). living_of rs t) (own (rank_at ranks list).table other ∙ ap (λ b. cond b [] (key_rows rows (rank_at ranks list).table other)) e)) alive
+        (ap (λ (rs : Rows). living_of rs t) (own (rank_at ranks list).table other
+        ∙ ap (λ b. cond b [] (key_rows rows (rank_at ranks list).table other)) e)) alive
     by list inside other false e alive =
-        stays tables rows later t (rank_at ranks list) (bounds_of old list) (bounds_of new list) other (led.each list inside)
-        (own (rank_at ranks list).table other ∙ ap (λ b. cond b [] (key_rows rows (rank_at ranks list).table other)) e) (dropped.others list other e) alive
+        stays tables rows later t (rank_at ranks list) (bounds_of old list) (bounds_of new list)
+        other (led.each list inside)
+        (own (rank_at ranks list).table other
+        ∙ ap (λ b. cond b [] (key_rows rows (rank_at ranks list).table other)) e)
+        (dropped.others list other e) alive
 
 -- ---- the clock goes on
-one_less : (from t : ℕ) → from ≤ t → (row : Arrival) (rest all : ℕ) → rest ≤ all → is_live t row ≡ true → one_if (is_live t row) + rest ≤ one_if (is_live from row) + all
-one_less from t later row rest all less lives = rw (lives, lived_before row.life row.arrived from t later lives) (omega arith)
+one_less : (from t : ℕ) → from ≤ t → (row : Arrival) (rest all : ℕ) → rest ≤ all
+    → is_live t row ≡ true → one_if (is_live t row) + rest ≤ one_if (is_live from row) + all
+one_less from t later row rest all less lives =
+    rw (lives, lived_before row.life row.arrived from t later lives) (omega arith)
 
-living_less : (from t : ℕ) → from ≤ t → (rows : Rows) → living_of (filter (λ row. is_live t row.1) rows) t ≤ living_of rows from
+living_less : (from t : ℕ) → from ≤ t → (rows : Rows)
+    → living_of (filter (λ row. is_live t row.1) rows) t ≤ living_of rows from
 living_less from t later [] = omega arith
 living_less from t later (row ∷ rows) = by (living_less from t later rows) (is_live t row.1) refl
   where
-    by : living_of (filter (λ row. is_live t row.1) rows) t ≤ living_of rows from → (b : Bool) → is_live t row.1 ≡ b → living_of (cond b (row ∷ filter (λ row. is_live t row.1) rows) (filter (λ row. is_live t row.1) rows)) t ≤ one_if (is_live from row.1) + living_of rows from
-    by rest true e = one_less from t later row.1 (living_of (filter (λ row. is_live t row.1) rows) t) (living_of rows from) rest e
+    by : living_of (filter (λ row. is_live t row.1) rows) t ≤ living_of rows from → (b : Bool)
+        → is_live t row.1 ≡ b → living_of (cond b (row ∷ filter (λ row. is_live t row.1) rows)
+        (filter (λ row. is_live t row.1) rows)) t ≤ one_if (is_live from row.1) +
+        living_of rows from
+    by rest true e = one_less from t later row.1 (living_of (filter (λ row. is_live t row.1) rows)
+        t) (living_of rows from) rest e
     by rest false e = omega arith
 
-worth_less : (cols : List (Col × ℕ)) (rows : Rows) (table : ℕ) (key : List ℕ) (col : Col) (from t : ℕ) → from ≤ t
-    → worth_of cols (key_rows (filter (λ row. is_live t row.1) rows) table key) col t ≤ worth_of cols (key_rows rows table key) col from
+worth_less : (cols : List (Col × ℕ)) (rows : Rows) (table : ℕ) (key : List ℕ) (col : Col)
+    (from t : ℕ) → from ≤ t
+    → worth_of cols (key_rows (filter (λ row. is_live t row.1) rows) table key) col t ≤ worth_of
+    cols (key_rows rows table key) col from
 worth_less cols rows table key col from t later =
-    let same : worth_of cols (key_rows (filter (λ row. is_live t row.1) rows) table key) col t ≡ value cols rows table key col t =
-    sym (value-rows cols (filter (λ row. is_live t row.1) rows) table key col t) ∙ value-later cols rows table key col t t (omega arith) in
-    let less : value cols rows table key col t ≤ value cols rows table key col from = value_falls cols rows table key col from t later in
-    let was : value cols rows table key col from ≡ worth_of cols (key_rows rows table key) col from = value-rows cols rows table key col from in
+    let same : worth_of cols (key_rows (filter (λ row. is_live t row.1) rows) table key) col t
+    ≡ value cols rows table key col t =
+    sym (value-rows cols (filter (λ row. is_live t row.1) rows) table key col t)
+    ∙ value-later cols rows table key col t t (omega arith) in
+    let less : value cols rows table key col t ≤ value cols rows table key col from =
+    value_falls cols rows table key col from t later in
+    let was : value cols rows table key col from ≡ worth_of cols (key_rows rows table key) col
+    from = value-rows cols rows table key col from in
     omega arith
 
-pub later_led : (tables : List Shape) (ranks : List Rank) (rows later : Rows) (from t : ℕ) (lists : Lists) → from ≤ t → later ≡ filter (λ row. is_live t row.1) rows → AreLed tables ranks rows from lists → AreLed tables ranks later t lists
-later_led tables ranks rows later from t lists up ended led = subst (λ (rs : Rows). AreLed tables ranks rs t lists) (sym ended) (record {
-  count = led.count;
-  each = λ list inside other alive. at list inside other alive;
-})
+pub later_led : (tables : List Shape) (ranks : List Rank) (rows later : Rows) (from t : ℕ)
+    (lists : Lists) → from ≤ t → later ≡ filter (λ row. is_live t row.1) rows
+    → AreLed tables ranks rows from lists → AreLed tables ranks later t lists
+later_led tables ranks rows later from t lists up ended led =
+    subst (λ (rs : Rows). AreLed tables ranks rs t lists) (sym ended) (record {
+      count = led.count;
+      each = λ list inside other alive. at list inside other alive;
+    })
   where
-    at : (list : ℕ) → list < length ranks → (other : List ℕ) → 0 < living_of (key_rows (filter (λ row. is_live t row.1) rows) (rank_at ranks list).table other) t
-        → IsBounded (bounds_of lists list) other (worth_of (cols_of tables (rank_at ranks list).table) (key_rows (filter (λ row. is_live t row.1) rows) (rank_at ranks list).table other) (rank_at ranks list).col t)
+    at : (list : ℕ) → list < length ranks → (other : List ℕ)
+        → 0 < living_of (key_rows (filter (λ row. is_live t row.1) rows)
+        (rank_at ranks list).table other) t
+        → IsBounded (bounds_of lists list) other
+        (worth_of (cols_of tables (rank_at ranks list).table)
+        (key_rows (filter (λ row. is_live t row.1) rows) (rank_at ranks list).table other)
+        (rank_at ranks list).col t)
     at list inside other alive =
         let rank = rank_at ranks list in
-        let less : living_of (filter (λ row. is_live t row.1) (key_rows rows rank.table other)) t ≤ living_of (key_rows rows rank.table other) from = living_less from t up (key_rows rows rank.table other) in
-        let some : 0 < living_of (filter (λ row. is_live t row.1) (key_rows rows rank.table other)) t = subst (λ (own : Rows). 0 < living_of own t) (moment-each t rows rank.table other) alive in
-        weaker (bound_at (bounds_of lists list) other) (worth_of (cols_of tables rank.table) (key_rows rows rank.table other) rank.col from) _
+        let less : living_of (filter (λ row. is_live t row.1) (key_rows rows rank.table other)) t ≤
+        living_of (key_rows rows rank.table other) from =
+        living_less from t up (key_rows rows rank.table other) in
+        let some : 0 < living_of (filter (λ row. is_live t row.1) (key_rows rows rank.table other))
+        t = subst (λ (own : Rows). 0 < living_of own t) (moment-each t rows rank.table other)
+        alive in
+        weaker (bound_at (bounds_of lists list) other)
+        (worth_of (cols_of tables rank.table) (key_rows rows rank.table other) rank.col from) _
         (worth_less (cols_of tables rank.table) rows rank.table other rank.col from t up)
         (led.each list inside other (omega arith))
 
 -- ---- what calls promise
-pub led_by : (tables : List Shape) (ranks seen : List Rank) (rows later : Rows) (t u : ℕ) (old new : Lists) → seen ≡ ranks → StaysLed seen rows t old later u new → AreLed tables ranks rows t old → AreLed tables ranks later u new
+pub led_by : (tables : List Shape) (ranks seen : List Rank) (rows later : Rows) (t u : ℕ)
+    (old new : Lists) → seen ≡ ranks → StaysLed seen rows t old later u new
+    → AreLed tables ranks rows t old → AreLed tables ranks later u new
 led_by tables ranks seen rows later t u old new same stays led =
-    subst (λ (rs : List Rank). AreLed tables rs later u new) same (stays tables (subst (λ (rs : List Rank). AreLed tables rs rows t old) (sym same) led))
+    subst (λ (rs : List Rank). AreLed tables rs later u new) same
+    (stays tables (subst (λ (rs : List Rank). AreLed tables rs rows t old) (sym same) led))
 
 -- what holds before and after a call that may be refused
-pub put_or_not : {T E S : Type 0} (P : S → Type 0) (result : Result T E) (before after new : S) → OnOk result (new ≡ after) → OnErr result (new ≡ before) → P before → P after → P new
+pub put_or_not : {T E S : Type 0} (P : S → Type 0) (result : Result T E) (before after new : S)
+    → OnOk result (new ≡ after) → OnErr result (new ≡ before) → P before → P after → P new
 put_or_not P (Ok u) before after new ok err was is = subst P (sym ok) is
 put_or_not P (Err e) before after new ok err was is = subst P (sym err) was

@@ -1,5 +1,6 @@
 -- What the rows of a book stand for.
-use Rattle.std.specs.Prelude.{◌≡◌, ℕ, ◌^◌, ◌≤◌, ◌==◌, List, [], Option, None, Some, IfNone, filter, length, map}
+use Rattle.std.specs.Prelude.{◌≡◌, ℕ, ◌^◌, ◌≤◌, ◌==◌, List, [], Option, None, Some, IfNone, filter}
+use Rattle.std.specs.Prelude.{length, map}
 use Rattle.std.specs.List.{dedup}
 use Rattle.fleet_model.specs.Keys.{key_rows}
 use Rattle.fleet_model.specs.Values.{same_key}

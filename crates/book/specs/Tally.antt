@@ -6,7 +6,8 @@ use Rattle.fleet_model.specs.Answers.{left_of, longer, tally}
 -- a tally with more rows
 abbrev pub tally_more : ℕ → Option (ℕ × Option ℕ) → List (Place × Arrival) → Option (ℕ × Option ℕ)
 tally_more t None rows = tally t rows
-tally_more t (Some found) rows = Some (found.0 + length rows, fold (λ left other. longer left (left_of t other.1)) found.1 rows)
+tally_more t (Some found) rows =
+    Some (found.0 + length rows, fold (λ left other. longer left (left_of t other.1)) found.1 rows)
 
 abbrev pub peers_of : Option (ℕ × Option ℕ) → ℕ
 peers_of None = 0

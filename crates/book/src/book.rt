@@ -1,11 +1,13 @@
-ghost use Rattle.std.specs.Prelude.{◌≡◌, ◌<◌, ◌≤◌, ◌^◌, ℕ, List, map, length, nat_lt, false, [], ◌∷◌, ◌++◌, IfOk, IsOk, OnOk, OnErr};
+ghost use Rattle.std.specs.Prelude.{◌≡◌, ◌<◌, ◌≤◌, ◌^◌, ℕ, List, map, length, nat_lt, false, []};
+ghost use Rattle.std.specs.Prelude.{◌∷◌, ◌++◌, IfOk, IsOk, OnOk, OnErr};
 ghost use Rattle.std.specs.List.{filter_map};
 ghost use Rattle.agg_types.specs.Check.{config_faults};
 ghost use Rattle.agg_types.specs.declared.config.Config.{Config};
 ghost use Rattle.agg_types.specs.declared.event.Event.{Event};
 ghost use Rattle.agg_types.specs.declared.event.What.TheVariants.{Leave};
 ghost use Rattle.fleet_model.specs.Answers.{filter_of, keys_of, listed, set_at, summed};
-ghost use Rattle.fleet_model.specs.Machine.{after, counts_now, event_of, number_of, opened, session_of};
+ghost use Rattle.fleet_model.specs.Machine.{after, counts_now, event_of, number_of, opened};
+ghost use Rattle.fleet_model.specs.Machine.{session_of};
 ghost use Rattle.fleet_model.specs.Next.{IsNextChange, IsNextChangeBy};
 ghost use Rattle.fleet_model.specs.Ranking.{rank_of, ranked};
 ghost use Rattle.fleet_model.specs.Seats.{most_seats};

@@ -1,6 +1,7 @@
 //! Clears of several keys: the keys are found first, then their rows are taken away.
 
-ghost use Rattle.std.specs.Prelude.{◌≡◌, ◌≤◌, ◌&&◌, ◌==◌, true, not, filter, length, map, IfOk, OnOk, OnErr};
+ghost use Rattle.std.specs.Prelude.{◌≡◌, ◌≤◌, ◌&&◌, ◌==◌, true, not, filter, length, map, IfOk};
+ghost use Rattle.std.specs.Prelude.{OnOk, OnErr};
 ghost use Rattle.std.specs.List.{list_any};
 ghost use Rattle.fleet_model.specs.Values.{meets, same_key};
 ghost use Rattle.book.specs.Leading.{StaysLed};

@@ -4,7 +4,8 @@
 //! three steps, so that a refused growth leaves all rows: it is set aside, then what lives on is
 //! planned again, and then what has ended goes.
 
-ghost use Rattle.std.specs.Prelude.{◌≡◌, ◌<◌, ◌&&◌, true, not, ℕ, List, ◌++◌, Some, filter, IfSome, OnOk};
+ghost use Rattle.std.specs.Prelude.{◌≡◌, ◌<◌, ◌&&◌, true, not, ℕ, List, ◌++◌, Some, filter, IfSome};
+ghost use Rattle.std.specs.Prelude.{OnOk};
 ghost use Rattle.std.specs.BTreeMap.{is_at};
 ghost use Rattle.std.specs.Map.{lookup};
 ghost use Rattle.std.specs.Option.{option_copied};
@@ -12,7 +13,8 @@ ghost use Rattle.agg_types.specs.Place.{place_cmp};
 ghost use Rattle.agg_types.specs.declared.place.Place.{Place};
 ghost use Rattle.fleet_model.specs.Values.{same_place};
 ghost use Rattle.peer_rows.specs.declared.row.Row.{Row};
-ghost use Rattle.book.specs.Planned.{AreAfter, AreLate, ArePlanned, AreRows, AreSeenLater, IsInside, is_planned, lives_at};
+ghost use Rattle.book.specs.Planned.{AreAfter, AreLate, ArePlanned, AreRows, AreSeenLater};
+ghost use Rattle.book.specs.Planned.{IsInside, is_planned, lives_at};
 
 use crate::row::{copy_place, end_of, is_live};
 use agg_types::{NoMemory, Place};

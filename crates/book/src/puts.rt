@@ -3,7 +3,8 @@
 //! A row that ends has one item in the index: at its end, or at the end of one that stood there
 //! before it and ended no later. That item goes with the row, and where an end moves earlier.
 
-ghost use Rattle.std.specs.Prelude.{◌≡◌, ◌<◌, ◌≤◌, ◌^◌, ◌++◌, ℕ, ◌+◌, List, true, false, map, IsOk, IsSome, IfSome, IfOk, OnOk, OnErr};
+ghost use Rattle.std.specs.Prelude.{◌≡◌, ◌<◌, ◌≤◌, ◌^◌, ◌++◌, ℕ, ◌+◌, List, true, false, map, IsOk};
+ghost use Rattle.std.specs.Prelude.{IsSome, IfSome, IfOk, OnOk, OnErr};
 ghost use Rattle.std.specs.Option.{option_map};
 ghost use Rattle.std.specs.BTreeMap.{insert_entry, is_at};
 ghost use Rattle.std.specs.Map.{lookup, remove_entry};
@@ -14,7 +15,8 @@ ghost use Rattle.fleet_model.specs.Machine.{with_row};
 ghost use Rattle.peer_rows.specs.declared.row.Row.{Row};
 ghost use Rattle.fleet_model.specs.Values.{same_place};
 ghost use Rattle.peer_rows.specs.Rows.{AreInOrder, of_table_key, without_key};
-ghost use Rattle.book.specs.Planned.{AreRows, EndsBy, HasPlan, IsFoundIn, IsInside, IsShort, Stays, is_planned, place_at};
+ghost use Rattle.book.specs.Planned.{AreRows, EndsBy, HasPlan, IsFoundIn, IsInside, IsShort, Stays};
+ghost use Rattle.book.specs.Planned.{is_planned, place_at};
 ghost use Rattle.book.specs.Shown.{arrivals, as_arrival, cell_of};
 ghost use Rattle.book.specs.Store.{AreKept, put_arrival};
 

@@ -1,6 +1,8 @@
 //! The rows in force, with their ends planned.
 
-ghost use Rattle.std.specs.Prelude.{◌≡◌, ◌<◌, ◌≤◌, ◌^◌, ℕ, List, [], Option, ◌==◌, ◌&&◌, not, length, map, filter, MatchOption, IfSome, IfNone, IfOk, OnOk, OnErr};
+ghost use Rattle.std.specs.Prelude.{◌≡◌, ◌<◌, ◌≤◌, ◌^◌, ℕ, List, [], Option, ◌==◌, ◌&&◌, not};
+ghost use Rattle.std.specs.Prelude.{length, map, filter, MatchOption, IfSome, IfNone, IfOk, OnOk};
+ghost use Rattle.std.specs.Prelude.{OnErr};
 ghost use Rattle.agg_types.specs.declared.column.Col.{Col as ColName};
 ghost use Rattle.agg_types.specs.declared.event.Cell.{Cell as CellValue};
 ghost use Rattle.fleet_model.specs.Machine.{with_row};

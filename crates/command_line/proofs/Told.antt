@@ -1,8 +1,10 @@
 -- From what clap's matches tell to what the words ask for.
-use Rattle.std.proofs.Common.{◌≡◌, ◌∙◌, true, List, [], Option, None, Some, option_map, ap, sym, subst}
+use Rattle.std.proofs.Common.{◌≡◌, ◌∙◌, true, List, [], Option, None, Some, option_map, ap, sym}
+use Rattle.std.proofs.Common.{subst}
 use Rattle.std.specs.Prelude.{Box}
 use Rattle.std.specs.Box.{box_value}
-use Rattle.clap.specs.Words.{App, HasMatchesOf, Row, Text, fault_of, is_simple, is_simple_and_free, subcommand_of, subcommand_rows_of}
+use Rattle.clap.specs.Words.{App, HasMatchesOf, Row, Text, fault_of, is_simple, is_simple_and_free}
+use Rattle.clap.specs.Words.{subcommand_of, subcommand_rows_of}
 use Rattle.clap.specs.Simple.{subcommand_rows}
 use Rattle.clap.specs.declared.parser.matches.ArgMatches.{ArgMatches}
 use Rattle.clap.specs.declared.parser.matches.ArgMatches.TheViews.{out-SubCommand}
@@ -14,18 +16,22 @@ use Rattle.command_line.proofs.Commands.{EntersCommand, is_plain, is_read}
 
 module _ {Z : Type 0} where
   -- a subcommand's name and rows, told apart
-  pub both_told : (found : Option (Box SubCommand Z)) (name : Text) (rows : List Row) → Some name ≡ option_map (λ b. (out-SubCommand (box_value b)).name.now) found
-      → Some rows ≡ option_map (λ p. p.1) (subcommand_rows found) → subcommand_rows found ≡ Some (name, rows)
+  pub both_told : (found : Option (Box SubCommand Z)) (name : Text) (rows : List Row)
+      → Some name ≡ option_map (λ b. (out-SubCommand (box_value b)).name.now) found
+      → Some rows ≡ option_map (λ p. p.1) (subcommand_rows found)
+      → subcommand_rows found ≡ Some (name, rows)
   both_told None name rows e f = absurd (cc)
   both_told (Some b) name rows e f = cc
 
 -- no rows are told, so no command was entered
-pub none_entered : (found : Option (Text × List Row)) → None ≡ option_map (λ p. p.1) found → EntersCommand found → ⊥
+pub none_entered : (found : Option (Text × List Row)) → None ≡ option_map (λ p. p.1) found
+    → EntersCommand found → ⊥
 none_entered None e entered = entered
 none_entered (Some command) e entered = absurd (cc)
 
 -- clap takes the words, and tells the command that they name
-pub words_taken : (app : App) (words : List Text) (m : ArgMatches) → app ≡ program → (is_simple_and_free app ≡ true → fault_of app words ≡ []) → HasMatchesOf app words m
+pub words_taken : (app : App) (words : List Text) (m : ArgMatches) → app ≡ program
+    → (is_simple_and_free app ≡ true → fault_of app words ≡ []) → HasMatchesOf app words m
     → (fault_of program words ≡ []) × (subcommand_rows_of m ≡ subcommand_of program words)
 words_taken app words m is kinds matches = (
   ap (λ (a : App). fault_of a words) (sym is) ∙ kinds (ap is_simple_and_free is ∙ is_read),
@@ -33,7 +39,8 @@ words_taken app words m is kinds matches = (
 )
 
 -- a command that is no job is no job of the words
-pub is_refused : (words : List Text) (found : Option (Text × List Row)) (usage : Usage) → fault_of program words ≡ [] → found ≡ subcommand_of program words → IsNoJob found usage
+pub is_refused : (words : List Text) (found : Option (Text × List Row)) (usage : Usage)
+    → fault_of program words ≡ [] → found ≡ subcommand_of program words → IsNoJob found usage
     → IsRefused words usage
 is_refused words found (Words error) taken is none = absurd none
 is_refused words found BadAddress taken is none = (taken, subst SaysNoAddress is none)

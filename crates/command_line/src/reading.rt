@@ -4,7 +4,8 @@ ghost use Rattle.std.specs.Prelude.{◌≡◌, Some, codes, false, map, IfErr, I
 ghost use Rattle.std.specs.Option.{option_map};
 ghost use Rattle.clap.specs.Words.{app_of, found_of, kind_of, rows_of, rule_of};
 ghost use Rattle.command_line.specs.Address.{parts_of};
-ghost use Rattle.command_line.specs.Asked.{AsksFor, IsCommand, IsJob, IsNoJob, IsRefused, address_in, option, program};
+ghost use Rattle.command_line.specs.Asked.{AsksFor, IsCommand, IsJob, IsNoJob, IsRefused};
+ghost use Rattle.command_line.specs.Asked.{address_in, option, program};
 
 use crate::address::read_address;
 use crate::job::Job;

@@ -1,4 +1,5 @@
-//! Reads each configuration on standard input, and prints what it declares, or its first faulty line.
+//! Reads each configuration on standard input, and prints what it declares, or its first faulty
+//! line.
 //!
 //! Rows begin with `~` and a title, which fills the line; the configuration follows.
 #![tactic(auto)]

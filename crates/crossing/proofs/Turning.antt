@@ -1,5 +1,7 @@
 -- A joint truth changes only where one of its conditions turns.
-use Rattle.std.proofs.Common.{◌≡◌, ◌≢◌, ℕ, ◌+◌, ◌-◌, ◌<◌, ◌≤◌, zero, suc, Bool, true, false, ◌&&◌, List, [], ◌∷◌, length, get_or, drop, Option, None, Some, ◌⊎◌, inl, inr, refl, sym, ap, subst, ◌∙◌, take, arith}
+use Rattle.std.proofs.Common.{◌≡◌, ◌≢◌, ℕ, ◌+◌, ◌-◌, ◌<◌, ◌≤◌, zero, suc, Bool, true, false, ◌&&◌}
+use Rattle.std.proofs.Common.{List, [], ◌∷◌, length, get_or, drop, Option, None, Some, ◌⊎◌, inl}
+use Rattle.std.proofs.Common.{inr, refl, sym, ap, subst, ◌∙◌, take, arith}
 use Rattle.std.specs.Prelude.{IfSome}
 use Rattle.std.proofs.lemmas.List.{take_rest}
 use Rattle.crossing.specs.First.{IsFirstFrom}
@@ -17,32 +19,39 @@ pub of_found : (p : ℕ → Type 0) (o : Option ℕ) (t : ℕ) → o ≡ Some t 
 of_found p o t e h = subst (λ o. IfSome o p) e h
 
 -- the first condition turns, or one of the others
-pub first_or_others : {F : Type 0} (value : F → ℕ → ℕ) (d : ℕ) (parts : List (Part F)) (part : Part F)
+pub first_or_others : {F : Type 0} (value : F → ℕ → ℕ) (d : ℕ) (parts : List (Part F))
+    (part : Part F)
     → part ≡ get_or parts 0 part → 1 ≤ length parts → AnyTurnsAfter value d parts
     → TurnsAfter value d part ⊎ AnyTurnsAfter value d (take (length parts - 1) (drop 1 parts))
 first_or_others value d [] part is some any = absurd (omega arith)
-first_or_others value d (p ∷ parts) part is some (inl turns) = inl (subst (TurnsAfter value d) (sym is) turns)
-first_or_others value d (p ∷ parts) part is some (inr any) = inr (subst (AnyTurnsAfter value d) (sym (take_rest (p ∷ parts) 1)) any)
+first_or_others value d (p ∷ parts) part is some (inl turns) =
+    inl (subst (TurnsAfter value d) (sym is) turns)
+first_or_others value d (p ∷ parts) part is some (inr any) =
+    inr (subst (AnyTurnsAfter value d) (sym (take_rest (p ∷ parts) 1)) any)
 
 -- either some condition turns after a moment, or their joint truth stays
 pub turn_or_same : {F : Type 0} (value : F → ℕ → ℕ) (d : ℕ) (parts : List (Part F))
     → AnyTurnsAfter value d parts ⊎ (all_hold value parts (suc d) ≡ all_hold value parts d)
 turn_or_same value d [] = inr refl
-turn_or_same value d (part ∷ parts) = elim (same_or_not (part_holds value part (suc d)) (part_holds value part d)) [
-  | inl same ↦ elim (turn_or_same value d parts) [
-    | inl any ↦ inl (inr any)
-    | inr others ↦ inr (ap (λ b. b && all_hold value parts (suc d)) same ∙ ap (λ b. part_holds value part d && b) others)
-  ]
-  | inr turns ↦ inl (inl turns)
-]
+turn_or_same value d (part ∷ parts) =
+    elim (same_or_not (part_holds value part (suc d)) (part_holds value part d)) [
+      | inl same ↦ elim (turn_or_same value d parts) [
+        | inl any ↦ inl (inr any)
+        | inr others ↦ inr (ap (λ b. b && all_hold value parts (suc d)) same
+            ∙ ap (λ b. part_holds value part d && b) others)
+      ]
+      | inr turns ↦ inl (inl turns)
+    ]
 
 -- a truth stays as it was while no change of it is found
 pub same_before : (truth : ℕ → Bool) (now : ℕ) (found : Option ℕ)
-    → ((d : ℕ) → now ≤ d → (truth (suc d) ≡ truth d) ⊎ (truth (suc d) ≢ truth now → IsBy found (suc d)))
+    → ((d : ℕ) → now ≤ d → (truth (suc d) ≡ truth d)
+    ⊎ (truth (suc d) ≢ truth now → IsBy found (suc d)))
     → (k : ℕ) → ((u : ℕ) → now < u → u ≤ now + k → IsBy found u → ⊥) → truth (now + k) ≡ truth now
 same_before truth now found step zero none = ap truth (omega arith)
 same_before truth now found step (suc k) none =
-    let before : truth (now + k) ≡ truth now = same_before truth now found step k (λ u a b. none u a (omega arith)) in
+    let before : truth (now + k) ≡ truth now =
+    same_before truth now found step k (λ u a b. none u a (omega arith)) in
     let next : now + suc k ≡ suc (now + k) = omega arith in
     ap truth next ∙ elim (step (now + k) (omega arith)) [
       | inl same ↦ same ∙ before
@@ -54,16 +63,19 @@ same_before truth now found step (suc k) none =
 
 -- what was found is the first change
 pub is_first_change : (truth : ℕ → Bool) (now : ℕ) (found : Option ℕ)
-    → ((d : ℕ) → now ≤ d → (truth (suc d) ≡ truth d) ⊎ (truth (suc d) ≢ truth now → IsBy found (suc d)))
+    → ((d : ℕ) → now ≤ d → (truth (suc d) ≡ truth d)
+    ⊎ (truth (suc d) ≢ truth now → IsBy found (suc d)))
     → IfSome found (λ t. (now < t) × (truth t ≢ truth now))
     → IsFirstFrom (now + 1) (λ t. truth t ≢ truth now) found
 is_first_change truth now None step is = λ s since other.
-    let same : truth (now + (s - now)) ≡ truth now = same_before truth now None step (s - now) (λ u a b by. by) in
+    let same : truth (now + (s - now)) ≡ truth now =
+    same_before truth now None step (s - now) (λ u a b by. by) in
     other (ap truth (omega arith) ∙ same)
 is_first_change truth now (Some t) step is = record {
   since = let later : now < t = is.0 in omega arith;
   holds = is.1;
   not_before = λ s since before other.
-      let same : truth (now + (s - now)) ≡ truth now = same_before truth now (Some t) step (s - now) (λ u a b by. absurd (omega arith)) in
+      let same : truth (now + (s - now)) ≡ truth now =
+      same_before truth now (Some t) step (s - now) (λ u a b by. absurd (omega arith)) in
       other (ap truth (omega arith) ∙ same);
 }

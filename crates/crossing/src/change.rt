@@ -1,6 +1,8 @@
-ghost use Rattle.std.specs.Prelude.{◌≡◌, ℕ, ◌+◌, ◌*◌, ◌<◌, ◌≤◌, suc, length, MatchBool, IfSome, Option, None, Some};
+ghost use Rattle.std.specs.Prelude.{◌≡◌, ℕ, ◌+◌, ◌*◌, ◌<◌, ◌≤◌, suc, length, MatchBool, IfSome};
+ghost use Rattle.std.specs.Prelude.{Option, None, Some};
 ghost use Rattle.crossing.specs.First.{IsFirstFrom, IsFlatSoon};
-ghost use Rattle.crossing.specs.Parts.{AnyTurnsAfter, AreFlatSoon, Differs, IsBy, IsOneOf, TurnsAfter, all_hold, part_holds};
+ghost use Rattle.crossing.specs.Parts.{AnyTurnsAfter, AreFlatSoon, Differs, IsBy, IsOneOf};
+ghost use Rattle.crossing.specs.Parts.{TurnsAfter, all_hold, part_holds};
 
 use crate::{Falls, Meter, first_below};
 use agg_types::Op;

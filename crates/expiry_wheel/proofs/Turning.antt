@@ -1,5 +1,6 @@
 -- The slots of moments: they rise with the moments, and later ones stay as a wheel turns.
-use Rattle.std.proofs.Common.{◌≡◌, ℕ, zero, suc, ◌+◌, ◌-◌, ◌*◌, ◌/◌, ◌%◌, ◌<◌, ◌≤◌, true, false, refl, ap, sym, ◌∙◌, arith, inl, inr}
+use Rattle.std.proofs.Common.{◌≡◌, ℕ, zero, suc, ◌+◌, ◌-◌, ◌*◌, ◌/◌, ◌%◌, ◌<◌, ◌≤◌, true, false}
+use Rattle.std.proofs.Common.{refl, ap, sym, ◌∙◌, arith, inl, inr}
 use Rattle.std.specs.Prelude.{◌==◌}
 use Rattle.std.proofs.lemmas.Bool.{cases_eq, cases_lt}
 use Rattle.std.proofs.lemmas.Bool.Decides.{nat_tests}
@@ -15,7 +16,8 @@ slot-same : (n now at : ℕ) → at / 256 ≡ now / 256 → slot_of (suc n) now 
 unfolding slot_of
 slot-same n now at e = rw (same_test (at / 256) (now / 256) e) refl
 
-slot-apart : (n now at : ℕ) → (at / 256 ≡ now / 256 → ⊥) → slot_of (suc n) now at ≡ 256 + slot_of n (now / 256) (at / 256)
+slot-apart : (n now at : ℕ) → (at / 256 ≡ now / 256 → ⊥)
+    → slot_of (suc n) now at ≡ 256 + slot_of n (now / 256) (at / 256)
 unfolding slot_of
 slot-apart n now at e = rw (apart_test (at / 256) (now / 256) e) refl
 
@@ -23,7 +25,8 @@ start-same : (n now at : ℕ) → at / 256 ≡ now / 256 → start_of (suc n) no
 unfolding start_of
 start-same n now at e = rw (same_test (at / 256) (now / 256) e) refl
 
-start-apart : (n now at : ℕ) → (at / 256 ≡ now / 256 → ⊥) → start_of (suc n) now at ≡ 256 * start_of n (now / 256) (at / 256)
+start-apart : (n now at : ℕ) → (at / 256 ≡ now / 256 → ⊥)
+    → start_of (suc n) now at ≡ 256 * start_of n (now / 256) (at / 256)
 unfolding start_of
 start-apart n now at e = rw (apart_test (at / 256) (now / 256) e) refl
 
@@ -38,7 +41,12 @@ slots_rise (suc n) now a b h k = elim (cases_eq (a / 256) (now / 256)) [
   ]
   | inr beyond ↦
       let later : b / 256 ≡ now / 256 → ⊥ = λ e. beyond (omega arith) in
-      omega (arith, slot-apart n now a beyond, slot-apart n now b later, slots_rise n (now / 256) (a / 256) (b / 256) (omega arith) (omega arith))
+      omega (
+        arith,
+        slot-apart n now a beyond,
+        slot-apart n now b later,
+        slots_rise n (now / 256) (a / 256) (b / 256) (omega arith) (omega arith),
+      )
 ]
 
 -- a moment with an earlier slot is earlier
@@ -49,20 +57,25 @@ earlier_slot n now a b h k = elim (cases_lt a b) [
 ]
 
 -- a wheel that turns to a moment leaves later slots as they are
-pub slots_stay : (n now new at : ℕ) → now ≤ new → new ≤ at → slot_of n now new < slot_of n now at → slot_of n new at ≡ slot_of n now at
+pub slots_stay : (n now new at : ℕ) → now ≤ new → new ≤ at → slot_of n now new < slot_of n now at
+    → slot_of n new at ≡ slot_of n now at
 unfolding slot_of
 slots_stay zero now new at h k l = refl
 slots_stay (suc n) now new at h k l = elim (cases_eq (new / 256) (now / 256)) [
   | inl here ↦ elim (cases_eq (at / 256) (now / 256)) [
     | inl there ↦ slot-same n new at (there ∙ sym here) ∙ sym (slot-same n now at there)
-    | inr beyond ↦ slot-apart n new at (λ e. beyond (e ∙ here)) ∙ ap (λ m. 256 + slot_of n m (at / 256)) here ∙ sym (slot-apart n now at beyond)
+    | inr beyond ↦ slot-apart n new at (λ e. beyond (e ∙ here))
+        ∙ ap (λ m. 256 + slot_of n m (at / 256)) here ∙ sym (slot-apart n now at beyond)
   ]
   | inr beyond ↦
       let later : at / 256 ≡ now / 256 → ⊥ = λ e. beyond (omega arith) in
-      let inner : slot_of n (now / 256) (new / 256) < slot_of n (now / 256) (at / 256) = omega (arith, slot-apart n now new beyond, slot-apart n now at later) in
-      let apart : at / 256 ≡ new / 256 → ⊥ = λ e. let same : slot_of n (now / 256) (at / 256) ≡ slot_of n (now / 256) (new / 256) = ap (slot_of n (now / 256)) e in omega arith in
+      let inner : slot_of n (now / 256) (new / 256) < slot_of n (now / 256) (at / 256) =
+      omega (arith, slot-apart n now new beyond, slot-apart n now at later) in
+      let apart : at / 256 ≡ new / 256 → ⊥ = λ e. let same : slot_of n (now / 256) (at / 256)
+      ≡ slot_of n (now / 256) (new / 256) = ap (slot_of n (now / 256)) e in omega arith in
       slot-apart n new at apart
-      ∙ ap (λ s. 256 + s) (slots_stay n (now / 256) (new / 256) (at / 256) (omega arith) (omega arith) inner)
+      ∙ ap (λ s. 256 + s) (slots_stay n (now / 256) (new / 256) (at / 256) (omega arith)
+      (omega arith) inner)
       ∙ sym (slot-apart n now at later)
 ]
 
@@ -72,7 +85,11 @@ unfolding start_of
 start_after zero now at h = h
 start_after (suc n) now at h = elim (cases_eq (at / 256) (now / 256)) [
   | inl here ↦ omega (arith, start-same n now at here)
-  | inr beyond ↦ omega (arith, start-apart n now at beyond, start_after n (now / 256) (at / 256) (omega arith))
+  | inr beyond ↦ omega (
+    arith,
+    start-apart n now at beyond,
+    start_after n (now / 256) (at / 256) (omega arith),
+  )
 ]
 
 pub start_up_to : (n now at : ℕ) → start_of n now at ≤ at
@@ -84,17 +101,21 @@ start_up_to (suc n) now at = elim (cases_eq (at / 256) (now / 256)) [
 ]
 
 -- from the start up to a moment all have its slot
-pub slot_from_start : (n now at m : ℕ) → now < at → start_of n now at ≤ m → m ≤ at → slot_of n now m ≡ slot_of n now at
+pub slot_from_start : (n now at m : ℕ) → now < at → start_of n now at ≤ m → m ≤ at
+    → slot_of n now m ≡ slot_of n now at
 unfolding slot_of start_of
 slot_from_start zero now at m h k l = omega arith
 slot_from_start (suc n) now at m h k l = elim (cases_eq (at / 256) (now / 256)) [
   | inl here ↦ ap (slot_of (suc n) now) (omega (arith, start-same n now at here))
   | inr beyond ↦
       let later : now / 256 < at / 256 = omega arith in
-      let after : now / 256 < start_of n (now / 256) (at / 256) = start_after n (now / 256) (at / 256) later in
-      let from : start_of n (now / 256) (at / 256) ≤ m / 256 = omega (arith, start-apart n now at beyond) in
+      let after : now / 256 < start_of n (now / 256) (at / 256) =
+      start_after n (now / 256) (at / 256) later in
+      let from : start_of n (now / 256) (at / 256) ≤ m / 256 =
+      omega (arith, start-apart n now at beyond) in
       slot-apart n now m (λ e. omega arith)
-      ∙ ap (λ s. 256 + s) (slot_from_start n (now / 256) (at / 256) (m / 256) later from (omega arith))
+      ∙ ap (λ s. 256 + s) (slot_from_start n (now / 256) (at / 256) (m / 256) later
+      from (omega arith))
       ∙ sym (slot-apart n now at beyond)
 ]
 
@@ -109,9 +130,12 @@ pub slot_here : (l now at : ℕ) → 0 < l → at / 256 ≡ now / 256 → slot_o
 slot_here zero now at h e = absurd (omega arith)
 slot_here (suc n) now at h e = slot-same n now at e
 
-pub slot_beyond : (l now at : ℕ) → 0 < l → (at / 256 ≡ now / 256 → ⊥) → slot_of l now at ≡ 256 + slot_of (l - 1) (now / 256) (at / 256)
+pub slot_beyond : (l now at : ℕ) → 0 < l → (at / 256 ≡ now / 256 → ⊥)
+    → slot_of l now at ≡ 256 + slot_of (l - 1) (now / 256) (at / 256)
 slot_beyond zero now at h e = absurd (omega arith)
-slot_beyond (suc n) now at h e = slot-apart n now at e ∙ ap (λ m. 256 + slot_of m (now / 256) (at / 256)) (let same : n ≡ suc n - 1 = omega arith in same)
+slot_beyond (suc n) now at h e = slot-apart n now at e
+    ∙ ap (λ m. 256 + slot_of m (now / 256) (at / 256)) (let same : n ≡ suc n - 1 =
+    omega arith in same)
 
 pub start_zero : (l now at : ℕ) → l ≡ 0 → start_of l now at ≡ at
 unfolding start_of
@@ -123,6 +147,9 @@ unfolding start_of
 start_here zero now at e = refl
 start_here (suc n) now at e = start-same n now at e
 
-pub start_beyond : (l now at : ℕ) → 0 < l → (at / 256 ≡ now / 256 → ⊥) → start_of l now at ≡ 256 * start_of (l - 1) (now / 256) (at / 256)
+pub start_beyond : (l now at : ℕ) → 0 < l → (at / 256 ≡ now / 256 → ⊥)
+    → start_of l now at ≡ 256 * start_of (l - 1) (now / 256) (at / 256)
 start_beyond zero now at h e = absurd (omega arith)
-start_beyond (suc n) now at h e = start-apart n now at e ∙ ap (λ m. 256 * start_of m (now / 256) (at / 256)) (let same : n ≡ suc n - 1 = omega arith in same)
+start_beyond (suc n) now at h e = start-apart n now at e
+    ∙ ap (λ m. 256 * start_of m (now / 256) (at / 256)) (let same : n ≡ suc n - 1 =
+    omega arith in same)

@@ -1,6 +1,7 @@
 ghost use Rattle.std.specs.Prelude.{◌≡◌, ℕ, ◌≤◌, List, Option, OnOk, OnErr};
 ghost use Rattle.std.specs.Option.{option_map};
-ghost use Rattle.expiry_wheel.specs.Entries.{IsInOrder, has_entry, with_entry, without_entry, first_moment, first_due, without_due, first_above};
+ghost use Rattle.expiry_wheel.specs.Entries.{IsInOrder, has_entry, with_entry, without_entry};
+ghost use Rattle.expiry_wheel.specs.Entries.{first_moment, first_due, without_due, first_above};
 ghost use Rattle.expiry_wheel.specs.Lent.{lent_entry};
 
 use agg_types::NoMemory;

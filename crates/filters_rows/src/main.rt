@@ -292,7 +292,8 @@ fn added<R: Print>(rt: &R, alloc: Global) -> Result<()> {
     count(rt, &standing)
 }
 
-// Prints how many filters there are, and of the last one how many keys it holds and its next change.
+// Prints how many filters there are, and of the last one how many keys it holds and its next
+// change.
 fn count<R: Print>(rt: &R, standing: &Standing) -> Result<()> {
     let filters = standing.len();
     if filters == 0 {

@@ -11,7 +11,8 @@ pub struct Pair {
 }
 
 impl Values for Pair {
-    ghost use Rattle.filters_rows.specs.Pair.{flat_of, living_of, pair_falls, pair_stays, rows_fall, rows_stay, worth_of};
+    ghost use Rattle.filters_rows.specs.Pair.{flat_of, living_of, pair_falls, pair_stays};
+    ghost use Rattle.filters_rows.specs.Pair.{rows_fall, rows_stay, worth_of};
 
     ghost summed = { λ v table key col t. worth_of v.first v.second t };
 

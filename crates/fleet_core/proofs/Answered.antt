@@ -1,5 +1,6 @@
 -- What a step answers, from what is known behind it.
-use Rattle.std.proofs.Common.{◌≡◌, ◌↔◌, ℕ, Bool, true, false, ◌&&◌, List, ◌∷◌, Option, None, Some, Result, Ok, Err, sym, ap, ap₂, ◌∙◌, refl}
+use Rattle.std.proofs.Common.{◌≡◌, ◌↔◌, ℕ, Bool, true, false, ◌&&◌, List, ◌∷◌, Option, None, Some}
+use Rattle.std.proofs.Common.{Result, Ok, Err, sym, ap, ap₂, ◌∙◌, refl}
 use Rattle.agg_types.specs.declared.config.Config.{Config}
 use Rattle.session_core.specs.declared.cause.SessionCause.{SessionCause}
 use Rattle.fleet_core.specs.declared.step.FleetFault.{FleetFault}
@@ -12,22 +13,30 @@ use Rattle.fleet_core.specs.Possible.{can_be, end_by, is_spent, sent_by, spends_
 use Rattle.fleet_core.specs.StandsFor.{Collected, StandsFor}
 
 -- a step that names an open connection, and whether numbers are spent for it
-pub record Finds (config : Config) (opening : ℕ) (past : List Step) (step : Step) (spent : Bool) : Type 0 where
+pub record Finds (config : Config) (opening : ℕ) (past : List Step) (step : Step) (spent : Bool)
+    : Type 0 where
   pub could_be : can_be config opening past step ≡ true
   pub numbers : is_spent config opening past step ≡ spent
 
-other_than : (answer fault : Answer) (b tells : Bool) → b ≡ tells → (answer ≡ fault → ⊥) → (tells ≡ true → ⊥) → (answer ≡ fault) ↔ (b ≡ true)
-other_than answer fault b tells is apart never = (λ same. absurd (apart same), λ yes. absurd (never (sym is ∙ yes)))
+other_than : (answer fault : Answer) (b tells : Bool) → b ≡ tells → (answer ≡ fault → ⊥)
+    → (tells ≡ true → ⊥) → (answer ≡ fault) ↔ (b ≡ true)
+other_than answer fault b tells is apart never =
+    (λ same. absurd (apart same), λ yes. absurd (never (sym is ∙ yes)))
 
-found_open : (answer : Answer) (b : Bool) → b ≡ true → (answer ≡ Err NoConn → ⊥) → (answer ≡ Err NoConn) ↔ (b ≡ false)
-found_open answer b is apart = (λ same. absurd (apart same), λ no. absurd (let both = sym is ∙ no in cc))
+found_open : (answer : Answer) (b : Bool) → b ≡ true → (answer ≡ Err NoConn → ⊥)
+    → (answer ≡ Err NoConn) ↔ (b ≡ false)
+found_open answer b is apart =
+    (λ same. absurd (apart same), λ no. absurd (let both = sym is ∙ no in cc))
 
 no_spending : (a b : Bool) → a ≡ true → b ≡ false → (a && b) ≡ false
 no_spending a b is none = rw (is, none) refl
 
-unspent : (answer : Answer) (config : Config) (opening : ℕ) (past : List Step) (step : Step) → Finds config opening past step false → (answer ≡ Err Spent → ⊥) → (answer ≡ Err Spent) ↔ (spends_at config opening past step ≡ true)
+unspent : (answer : Answer) (config : Config) (opening : ℕ) (past : List Step) (step : Step)
+    → Finds config opening past step false → (answer ≡ Err Spent → ⊥)
+    → (answer ≡ Err Spent) ↔ (spends_at config opening past step ≡ true)
 unspent answer config opening past step finds apart =
-    other_than answer (Err Spent) _ false (no_spending _ _ finds.could_be finds.numbers) apart (λ yes. cc)
+    other_than answer (Err Spent) _ false (no_spending _ _ finds.could_be finds.numbers)
+    apart (λ yes. cc)
 
 pub same_replies : (a b : Replies) → a.conn ≡ b.conn → a.out ≡ b.out → a ≡ b
 same_replies a b conn out = ap₂ make conn out
@@ -35,9 +44,12 @@ same_replies a b conn out = ap₂ make conn out
     make : ℕ → List ℕ → Replies
     make conn out = record { conn = conn; out = out }
 
-pub at_ok : (replies : Replies) (old new : Collected) (config : Config) (opening : ℕ) (past : List Step) (step : Step)
-    → Finds config opening past step false → Adds new config opening past step → end_by config opening past step ≡ None
-    → replies.conn ≡ (sent_by config opening past step).conn → replies.out ≡ (sent_by config opening past step).out
+pub at_ok : (replies : Replies) (old new : Collected) (config : Config) (opening : ℕ)
+    (past : List Step) (step : Step)
+    → Finds config opening past step false → Adds new config opening past step
+    → end_by config opening past step ≡ None
+    → replies.conn ≡ (sent_by config opening past step).conn
+    → replies.out ≡ (sent_by config opening past step).out
     → Answers (Ok replies) old new config opening past step
 at_ok replies old new config opening past step finds adds ended conn out =
     record {
@@ -51,8 +63,10 @@ at_ok replies old new config opening past step finds adds ended conn out =
       handed = tt;
     }
 
-pub at_session : (cause : SessionCause) (out : List ℕ) (old new : Collected) (config : Config) (opening : ℕ) (past : List Step) (step : Step)
-    → Finds config opening past step false → Adds new config opening past step → end_by config opening past step ≡ Some cause
+pub at_session : (cause : SessionCause) (out : List ℕ) (old new : Collected) (config : Config)
+    (opening : ℕ) (past : List Step) (step : Step)
+    → Finds config opening past step false → Adds new config opening past step
+    → end_by config opening past step ≡ Some cause
     → out ≡ (sent_by config opening past step).out
     → Answers (Err (Session cause out)) old new config opening past step
 at_session cause out old new config opening past step finds adds ended sent =
@@ -67,13 +81,16 @@ at_session cause out old new config opening past step finds adds ended sent =
       handed = tt;
     }
 
-pub at_no_conn : (fleet : Collected) (config : Config) (opening : ℕ) (past : List Step) (step : Step)
-    → StandsFor fleet config opening past → can_be config opening past step ≡ false → Answers (Err NoConn) fleet fleet config opening past step
+pub at_no_conn : (fleet : Collected) (config : Config) (opening : ℕ)
+    (past : List Step) (step : Step)
+    → StandsFor fleet config opening past → can_be config opening past step ≡ false
+    → Answers (Err NoConn) fleet fleet config opening past step
 at_no_conn fleet config opening past step h none =
     record {
       stands = h;
       no_conn = (λ same. none, λ no. refl);
-      spent = other_than _ (Err Spent) _ false (ap (λ b. b && is_spent config opening past step) none) (λ same. cc) (λ yes. cc);
+      spent = other_than _ (Err Spent) _ false (ap (λ b. b && is_spent config opening past step)
+          none) (λ same. cc) (λ yes. cc);
       sent = tt;
       ended = tt;
       own = tt;
@@ -82,7 +99,8 @@ at_no_conn fleet config opening past step h none =
     }
 
 pub at_spent : (fleet : Collected) (config : Config) (opening : ℕ) (past : List Step) (step : Step)
-    → StandsFor fleet config opening past → Finds config opening past step true → Answers (Err Spent) fleet fleet config opening past step
+    → StandsFor fleet config opening past → Finds config opening past step true
+    → Answers (Err Spent) fleet fleet config opening past step
 at_spent fleet config opening past step h finds =
     record {
       stands = h;
@@ -95,8 +113,10 @@ at_spent fleet config opening past step h finds =
       handed = tt;
     }
 
-pub at_no_memory : (old new : Collected) (config : Config) (opening : ℕ) (past : List Step) (step : Step)
-    → Finds config opening past step false → Keeps old new config opening past → Answers (Err NoMemory) old new config opening past step
+pub at_no_memory : (old new : Collected) (config : Config) (opening : ℕ)
+    (past : List Step) (step : Step)
+    → Finds config opening past step false → Keeps old new config opening past
+    → Answers (Err NoMemory) old new config opening past step
 at_no_memory old new config opening past step finds keeps =
     record {
       stands = keeps.stands;

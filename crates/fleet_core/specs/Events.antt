@@ -1,5 +1,6 @@
 -- The events that a list of steps makes, oldest first, while lists of steps begin with the newest.
-use Rattle.std.specs.Prelude.{ℕ, ◌+◌, Bool, ◌==◌, nat_lt, if◌then◌else◌, List, [], ◌∷◌, ◌++◌, length, drop, count_by, Option, None, Some}
+use Rattle.std.specs.Prelude.{ℕ, ◌+◌, Bool, ◌==◌, nat_lt, if◌then◌else◌, List, [], ◌∷◌, ◌++◌}
+use Rattle.std.specs.Prelude.{length, drop, count_by, Option, None, Some}
 use Rattle.agg_types.specs.declared.config.Config.{Config}
 use Rattle.agg_types.specs.declared.event.Event.{Event}
 use Rattle.agg_types.specs.declared.event.What.{What}
@@ -10,7 +11,8 @@ use Rattle.session_core.specs.Piece.{setup_of}
 use Rattle.session_core.specs.Talk.{Talk, talk}
 use Rattle.session_core.specs.declared.cause.End.{End}
 use Rattle.fleet_core.specs.declared.step.Step.{Step}
-use Rattle.fleet_core.specs.declared.step.Step.TheVariants.{Connect, Bytes, Lost, Clear, AddFilter, Moment}
+use Rattle.fleet_core.specs.declared.step.Step.TheVariants.{Connect, Bytes, Lost, Clear, AddFilter}
+use Rattle.fleet_core.specs.declared.step.Step.TheVariants.{Moment}
 use Rattle.fleet_core.specs.Steps.{connects, stream}
 
 -- what happens at a seat, one event each, under numbers from this one on

@@ -1,5 +1,6 @@
 -- What a connection makes of a piece of its stream.
-use Rattle.std.specs.Prelude.{Bool, true, false, None, ◌≡◌, ℕ, ◌+◌, ◌==◌, if◌then◌else◌, List, ◌++◌, length, drop, Option, Some}
+use Rattle.std.specs.Prelude.{Bool, true, false, None, ◌≡◌, ℕ, ◌+◌, ◌==◌, if◌then◌else◌, List, ◌++◌}
+use Rattle.std.specs.Prelude.{length, drop, Option, Some}
 use Rattle.std.specs.Option.{option_map}
 use Rattle.agg_types.specs.declared.config.Config.{Config}
 use Rattle.session_core.specs.Cause.{cause_of}

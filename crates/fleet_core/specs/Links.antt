@@ -1,5 +1,6 @@
 -- Which connections are open after a list of steps, newest first, and what is kept of each.
-use Rattle.std.specs.Prelude.{ℕ, ◌<◌, ◌^◌, IfSome, Bool, ◌&&◌, not, nat_le, nat_lt, is_none, List, Option}
+use Rattle.std.specs.Prelude.{ℕ, ◌<◌, ◌^◌, IfSome, Bool, ◌&&◌, not, nat_le, nat_lt, is_none, List}
+use Rattle.std.specs.Prelude.{Option}
 use Rattle.std.specs.Bool.{then_some}
 use Rattle.std.specs.BTreeMap.{is_at}
 use Rattle.std.specs.Map.{lookup}

@@ -1,5 +1,6 @@
 -- Which steps can be done after others, and what they send. Lists of steps begin with the newest.
-use Rattle.std.specs.Prelude.{◌≡◌, ℕ, ◌+◌, ◌-◌, ◌^◌, Bool, true, false, ◌&&◌, not, nat_le, nat_lt, List, [], ◌∷◌, ◌++◌, length, drop, Option, None, Some}
+use Rattle.std.specs.Prelude.{◌≡◌, ℕ, ◌+◌, ◌-◌, ◌^◌, Bool, true, false, ◌&&◌, not, nat_le, nat_lt}
+use Rattle.std.specs.Prelude.{List, [], ◌∷◌, ◌++◌, length, drop, Option, None, Some}
 use Rattle.std.specs.Option.{option_map, option_map_or}
 use Rattle.agg_types.specs.Fits.{fits}
 use Rattle.agg_types.specs.declared.config.Config.{Config}
@@ -8,7 +9,8 @@ use Rattle.session_core.specs.Talk.{Talk, acks_among}
 use Rattle.session_core.specs.declared.cause.SessionCause.{SessionCause}
 use Rattle.fleet_core.specs.declared.step.Replies.{Replies}
 use Rattle.fleet_core.specs.declared.step.Step.{Step}
-use Rattle.fleet_core.specs.declared.step.Step.TheVariants.{Connect, Bytes, Lost, Clear, AddFilter, Moment}
+use Rattle.fleet_core.specs.declared.step.Step.TheVariants.{Connect, Bytes, Lost, Clear, AddFilter}
+use Rattle.fleet_core.specs.declared.step.Step.TheVariants.{Moment}
 use Rattle.fleet_core.specs.Events.{count_of, events_of, is_seated, talk_of, talk_with}
 use Rattle.fleet_core.specs.Links.{is_open}
 use Rattle.fleet_core.specs.Steps.{connects, what_at}

@@ -1,10 +1,12 @@
 -- What a list of steps brought of each connection. Lists of steps begin with the newest.
-use Rattle.std.specs.Prelude.{ℕ, ◌+◌, Bool, true, false, ◌==◌, if◌then◌else◌, List, [], ◌∷◌, ◌++◌, Option, None, Some}
+use Rattle.std.specs.Prelude.{ℕ, ◌+◌, Bool, true, false, ◌==◌, if◌then◌else◌, List, [], ◌∷◌, ◌++◌}
+use Rattle.std.specs.Prelude.{Option, None, Some}
 use Rattle.std.specs.List.{list_any}
 use Rattle.agg_types.specs.declared.event.What.{What}
 use Rattle.agg_types.specs.declared.event.What.TheVariants as whats
 use Rattle.fleet_core.specs.declared.step.Step.{Step}
-use Rattle.fleet_core.specs.declared.step.Step.TheVariants.{Connect, Bytes, Lost, Clear, AddFilter, Moment}
+use Rattle.fleet_core.specs.declared.step.Step.TheVariants.{Connect, Bytes, Lost, Clear, AddFilter}
+use Rattle.fleet_core.specs.declared.step.Step.TheVariants.{Moment}
 
 abbrev pub is_connect : Step → Bool
 is_connect Connect = true

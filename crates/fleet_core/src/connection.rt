@@ -1,6 +1,7 @@
 //! One open connection.
 
-ghost use Rattle.std.specs.Prelude.{◌≡◌, ◌+◌, ◌++◌, ◌<◌, ◌^◌, [], ℕ, List, length, IfSome, IfOk, OnErr, option_map};
+ghost use Rattle.std.specs.Prelude.{◌≡◌, ◌+◌, ◌++◌, ◌<◌, ◌^◌, [], ℕ, List, length, IfSome, IfOk};
+ghost use Rattle.std.specs.Prelude.{OnErr, option_map};
 ghost use Rattle.std.specs.Bool.{then_some};
 ghost use Rattle.session_core.specs.Piece.{Setup};
 ghost use Rattle.session_core.specs.Talk.{stage_of};

@@ -1,9 +1,12 @@
-ghost use Rattle.std.specs.Prelude.{◌≡◌, ◌+◌, ◌↔◌, ◌≤◌, ◌<◌, ◌^◌, ◌∷◌, [], true, false, length, IfSome, IsSome, IsTrue, IfOk, OnOk, option_to_list, MatchResult, if◌then◌else◌};
+ghost use Rattle.std.specs.Prelude.{◌≡◌, ◌+◌, ◌↔◌, ◌≤◌, ◌<◌, ◌^◌, ◌∷◌, [], true, false, length};
+ghost use Rattle.std.specs.Prelude.{IfSome, IsSome, IsTrue, IfOk, OnOk, option_to_list};
+ghost use Rattle.std.specs.Prelude.{MatchResult, if◌then◌else◌};
 ghost use Rattle.std.specs.Option.{option_map_or};
 ghost use Rattle.agg_types.specs.Check.{config_faults};
 ghost use Rattle.agg_types.specs.declared.event.What.TheVariants.{Sit};
 ghost use Rattle.fleet_core.specs.declared.step.Step.TheVariants.{Bytes, Connect, Lost};
-ghost use Rattle.fleet_core.specs.Answers.{Answers, EndsBy, IfDone, IfNoMemory, IfRefused, Sends, past_after};
+ghost use Rattle.fleet_core.specs.Answers.{Answers, EndsBy, IfDone, IfNoMemory, IfRefused, Sends};
+ghost use Rattle.fleet_core.specs.Answers.{past_after};
 ghost use Rattle.fleet_core.specs.Events.{added_by};
 ghost use Rattle.fleet_core.specs.Adds.{Adds, IsFed, Keeps};
 ghost use Rattle.fleet_core.specs.Links.{next_seq_at};

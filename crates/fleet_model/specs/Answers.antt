@@ -1,5 +1,6 @@
 -- What is answered of a state.
-use Rattle.std.specs.Prelude.{ℕ, ◌+◌, ◌-◌, List, [], ◌∷◌, length, Option, None, Some, map, filter, fold, max, slice_index_or}
+use Rattle.std.specs.Prelude.{ℕ, ◌+◌, ◌-◌, List, [], ◌∷◌, length, Option, None, Some, map, filter}
+use Rattle.std.specs.Prelude.{fold, max, slice_index_or}
 use Rattle.std.specs.Option.{option_map}
 use Rattle.agg_types.specs.Col.{all_cols}
 use Rattle.agg_types.specs.declared.column.Col.{Col}

@@ -1,5 +1,6 @@
 -- What holds of each state that a list of events leaves.
-use Rattle.std.specs.Prelude.{◌≡◌, ◌≢◌, ◌⊎◌, ℕ, ◌≤◌, ◌==◌, ◌&&◌, Bool, true, false, List, Some, map, count_by, Option, None, is_none, not, ◌∷◌, ◌++◌}
+use Rattle.std.specs.Prelude.{◌≡◌, ◌≢◌, ◌⊎◌, ℕ, ◌≤◌, ◌==◌, ◌&&◌, Bool, true, false, List, Some, map}
+use Rattle.std.specs.Prelude.{count_by, Option, None, is_none, not, ◌∷◌, ◌++◌}
 use Rattle.std.specs.BTreeMap.{is_at}
 use Rattle.std.specs.Cmp.Lexicographic.{slice_cmp}
 use Rattle.std.specs.List.{All, AllByRecursion, list_all, list_any}
@@ -17,14 +18,16 @@ use Rattle.agg_types.specs.declared.config.Filter.{Filter}
 use Rattle.agg_types.specs.declared.config.Rank.{Rank}
 use Rattle.agg_types.specs.declared.event.Event.{Event}
 use Rattle.agg_types.specs.declared.event.What.{What}
-use Rattle.agg_types.specs.declared.event.What.TheVariants.{Sit, Open, Put, Clear, AddFilter, Moment, Leave}
+use Rattle.agg_types.specs.declared.event.What.TheVariants.{Sit, Open, Put, Clear, AddFilter}
+use Rattle.agg_types.specs.declared.event.What.TheVariants.{Moment, Leave}
 use Rattle.agg_types.specs.declared.place.Place.{Place}
 use Rattle.fleet_model.specs.Answers.{key_value, left_of, rows_of, set_at, summed}
 use Rattle.fleet_model.specs.Filters.{is_new}
 use Rattle.fleet_model.specs.Machine.{counts_now, session_of}
 use Rattle.fleet_model.specs.Moments.{is_live}
 use Rattle.fleet_model.specs.Ranking.{Entries, rank_cmp, ranked, with_value}
-use Rattle.fleet_model.specs.Rows.{clears_at, has_room, held_rows, if_counted, putter, puts_at, row_of, size_of}
+use Rattle.fleet_model.specs.Rows.{clears_at, has_room, held_rows, if_counted, putter, puts_at}
+use Rattle.fleet_model.specs.Rows.{row_of, size_of}
 use Rattle.fleet_model.specs.Seats.{is_number}
 use Rattle.fleet_model.specs.Sessions.{opens}
 use Rattle.fleet_model.specs.State.{State, state_of}

@@ -1,5 +1,6 @@
 -- The machine of one event, which bodies are compared with.
-use Rattle.std.specs.Prelude.{ℕ, ◌+◌, Bool, ◌&&◌, not, if◌then◌else◌, ◌==◌, nat_lt, List, [], length, Option, filter, max}
+use Rattle.std.specs.Prelude.{ℕ, ◌+◌, Bool, ◌&&◌, not, if◌then◌else◌, ◌==◌, nat_lt, List, []}
+use Rattle.std.specs.Prelude.{length, Option, filter, max}
 use Rattle.std.specs.BTreeMap.{insert_entry, is_at}
 use Rattle.std.specs.Map.{lookup, remove_entry}
 use Rattle.std.specs.Ordering.{nat_cmp}
@@ -8,7 +9,8 @@ use Rattle.agg_types.specs.Place.{place_cmp}
 use Rattle.agg_types.specs.declared.config.Config.{Config}
 use Rattle.agg_types.specs.declared.event.Event.{Event}
 use Rattle.agg_types.specs.declared.event.What.{What}
-use Rattle.agg_types.specs.declared.event.What.TheVariants.{Sit, Open, Put, Clear, AddFilter, Moment, Leave}
+use Rattle.agg_types.specs.declared.event.What.TheVariants.{Sit, Open, Put, Clear, AddFilter}
+use Rattle.agg_types.specs.declared.event.What.TheVariants.{Moment, Leave}
 use Rattle.agg_types.specs.declared.place.Place.{Place}
 use Rattle.fleet_model.specs.declared.arrival.Arrival.{Arrival}
 use Rattle.fleet_model.specs.Filters.{filters_after}

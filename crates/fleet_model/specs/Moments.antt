@@ -2,7 +2,8 @@
 use Rattle.std.specs.Prelude.{ℕ, ◌+◌, Bool, true, nat_lt, List, Option, None, Some, fold, max}
 use Rattle.agg_types.specs.declared.event.Event.{Event}
 use Rattle.agg_types.specs.declared.event.What.{What}
-use Rattle.agg_types.specs.declared.event.What.TheVariants.{Sit, Open, Put, Clear, AddFilter, Moment, Leave}
+use Rattle.agg_types.specs.declared.event.What.TheVariants.{Sit, Open, Put, Clear, AddFilter}
+use Rattle.agg_types.specs.declared.event.What.TheVariants.{Moment, Leave}
 use Rattle.fleet_model.specs.declared.arrival.Arrival.{Arrival}
 
 -- the moment after something happened: a later one that it tells, else the same

@@ -1,5 +1,6 @@
 -- Small runs made by hand, and what they show.
-use Rattle.std.specs.Prelude.{ℕ, ◌==◌, if◌then◌else◌, List, [], ◌∷◌, ◌++◌, codes, Option, None, Some, map, fold, count_by}
+use Rattle.std.specs.Prelude.{ℕ, ◌==◌, if◌then◌else◌, List, [], ◌∷◌, ◌++◌, codes, Option, None}
+use Rattle.std.specs.Prelude.{Some, map, fold, count_by}
 use Rattle.agg_types.specs.Col.{all_cols, same_col}
 use Rattle.agg_types.specs.declared.column.Col.{Col}
 use Rattle.agg_types.specs.declared.column.Col.TheVariants.{Gpc0}
@@ -15,7 +16,8 @@ use Rattle.agg_types.specs.declared.event.Cell.{Cell}
 use Rattle.agg_types.specs.declared.event.Cell.TheVariants.{Count, Rate}
 use Rattle.agg_types.specs.declared.event.Event.{Event}
 use Rattle.agg_types.specs.declared.event.What.{What}
-use Rattle.agg_types.specs.declared.event.What.TheVariants.{Sit, Open, Put, AddFilter, Moment, Leave}
+use Rattle.agg_types.specs.declared.event.What.TheVariants.{Sit, Open, Put, AddFilter, Moment}
+use Rattle.agg_types.specs.declared.event.What.TheVariants.{Leave}
 use Rattle.fleet_model.specs.Answers.{keys_of, summed}
 use Rattle.fleet_model.specs.Machine.{event_of}
 use Rattle.fleet_model.specs.State.{State, state_of}

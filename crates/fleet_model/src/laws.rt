@@ -1,7 +1,9 @@
 //! What the definitions promise. Each law stands on a function that does nothing: its clause is the
 //! law, over every configuration, opening moment and list of events.
 
-ghost use Rattle.std.specs.Prelude.{◌≡◌, ◌≢◌, ℕ, ◌+◌, ◌<◌, ◌≤◌, ◌^◌, Bool, not, true, false, is_some, length, List, [], ◌∷◌, ◌++◌, Option, Some, filter, fold, min, sum_by, take, ◌-◌};
+ghost use Rattle.std.specs.Prelude.{◌≡◌, ◌≢◌, ℕ, ◌+◌, ◌<◌, ◌≤◌, ◌^◌, Bool, not, true, false};
+ghost use Rattle.std.specs.Prelude.{is_some, length, List, [], ◌∷◌, ◌++◌, Option, Some, filter};
+ghost use Rattle.std.specs.Prelude.{fold, min, sum_by, take, ◌-◌};
 ghost use Rattle.std.specs.BTreeMap.{insert_entry, is_at};
 ghost use Rattle.std.specs.List.{AllByRecursion, IsDistinct, list_any};
 ghost use Rattle.std.specs.List.Sorted.{IsStrictlySortedBy};
@@ -21,9 +23,12 @@ ghost use Rattle.fleet_model.specs.Answers as answers;
 ghost use Rattle.fleet_model.specs.Filters.{added_by, first_named, most_filters};
 ghost use Rattle.fleet_model.specs.History.{judged};
 ghost use Rattle.fleet_model.specs.Kept.{GivesElapsedBack, kept_cells};
-ghost use Rattle.fleet_model.specs.Laws.{AnswersAlike, AreLive, IsInForce, IsKeyList, IsOrdered, IsRanking, IsRankingStart, IsSetAt, IsSummedRow, IsWithinSizes, SaysNothing, opens_at, worth_at};
+ghost use Rattle.fleet_model.specs.Laws.{AnswersAlike, AreLive, IsInForce, IsKeyList, IsOrdered};
+ghost use Rattle.fleet_model.specs.Laws.{IsRanking, IsRankingStart, IsSetAt, IsSummedRow};
+ghost use Rattle.fleet_model.specs.Laws.{IsWithinSizes, SaysNothing, opens_at, worth_at};
 ghost use Rattle.fleet_model.specs.Machine.{after, counts_now, number_of, opened, session_of};
-ghost use Rattle.fleet_model.specs.Next.{IsNextChange, IsNextChangeBy, longest_period, table_flat_from};
+ghost use Rattle.fleet_model.specs.Next.{IsNextChange, IsNextChangeBy, longest_period};
+ghost use Rattle.fleet_model.specs.Next.{table_flat_from};
 ghost use Rattle.fleet_model.specs.Ranking.{ranked, ranking};
 ghost use Rattle.fleet_model.specs.Rows.{counted_of};
 ghost use Rattle.fleet_model.specs.Seats.{counts, number};

@@ -2,10 +2,11 @@
 //! and the machine of one event that every book is compared with.
 //!
 //! Books, the fleet and what shows their answers stand on it. It promises, as laws that are the
-//! clauses of functions that do nothing: that the machine leaves what recomputing from the whole list
-//! gives; what holds of every state of a checked configuration; that rows, sums, sets and ranked lists
-//! are what their words say; and what an event does to the rows of one key, for a book that keeps less
-//! than the list. No clause says that these are the right rules: docs/MODEL.md says them in words, and
+//! clauses of functions that do nothing: that the machine leaves what recomputing from the whole
+//! list gives; what holds of every state of a checked configuration; that rows, sums, sets and
+//! ranked lists are what their words say; and what an event does to the rows of one key, for a book
+//! that keeps less than the list. No clause says that these are the right rules: docs/MODEL.md says
+//! them in words, and
 //! `worked` shows them on small runs.
 #![tactic(auto)]
 

@@ -6,11 +6,15 @@ ghost use Rattle.agg_types.specs.declared.column.Col.TheVariants.{Gpc0, HttpReqR
 ghost use Rattle.agg_types.specs.declared.config.Op.TheVariants.{Eq, Ge, Gt};
 ghost use Rattle.agg_types.specs.declared.event.Cell.TheVariants.{Count, Rate};
 ghost use Rattle.agg_types.specs.declared.event.Select.TheVariants.{All, Conds};
-ghost use Rattle.agg_types.specs.declared.event.What.TheVariants.{Sit, Open, Clear, AddFilter, Moment, Leave};
+ghost use Rattle.agg_types.specs.declared.event.What.TheVariants.{Sit, Open, Clear, AddFilter};
+ghost use Rattle.agg_types.specs.declared.event.What.TheVariants.{Moment, Leave};
 ghost use Rattle.fleet_model.specs.Answers.{filter_of, set_at};
 ghost use Rattle.fleet_model.specs.Machine.{session_of};
 ghost use Rattle.fleet_model.specs.Ranking.{ranked, ranking};
-ghost use Rattle.fleet_model.specs.Worked.{fleet_of, ip, filter_on, row, left_by, shown, sums_to, joined, full_table, reconnected, lives_over, cleared_on_sums, summed_rates, one_rate, slow_rate, added_late, equal_keys, falling_keys, first_two};
+ghost use Rattle.fleet_model.specs.Worked.{fleet_of, ip, filter_on, row, left_by, shown, sums_to};
+ghost use Rattle.fleet_model.specs.Worked.{joined, full_table, reconnected, lives_over};
+ghost use Rattle.fleet_model.specs.Worked.{cleared_on_sums, summed_rates, one_rate, slow_rate};
+ghost use Rattle.fleet_model.specs.Worked.{added_late, equal_keys, falling_keys, first_two};
 
 /// A table holds two rows of a peer. A third key isn't taken, until the row that lives 100 ms has
 /// ended.

@@ -1,4 +1,5 @@
-ghost use Rattle.std.specs.Prelude.{◌≡◌, ◌+◌, ◌-◌, ◌*◌, ◌^◌, ◌<◌, ◌≤◌, ℕ, length, replicate, slice_index, IfOk};
+ghost use Rattle.std.specs.Prelude.{◌≡◌, ◌+◌, ◌-◌, ◌*◌, ◌^◌, ◌<◌, ◌≤◌, ℕ, length, replicate};
+ghost use Rattle.std.specs.Prelude.{slice_index, IfOk};
 ghost use Rattle.peer_rows.specs.Counted.{counted_at};
 ghost use Rattle.fleet_sums.specs.Totals.{totals_by};
 

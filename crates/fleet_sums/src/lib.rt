@@ -4,8 +4,8 @@
 //! It is for a caller that keeps rows and asks for their sums more often than it changes them.
 //! Contracts see a finite map from tables and keys to totals, and each call as what it makes of it.
 //! Two laws tie them to the rows: the totals are the sums over the rows that were added and not
-//! dropped, and each of those can be dropped. Whoever calls sees to it that only rows that stand are
-//! dropped. No clause says how long a call takes: each is one search of a table's keys.
+//! dropped, and each of those can be dropped. Whoever calls sees to it that only rows that stand
+//! are dropped. No clause says how long a call takes: each is one search of a table's keys.
 #![tactic(auto)]
 
 mod key_sums;

@@ -1,4 +1,5 @@
-ghost use Rattle.std.specs.Prelude.{◌≡◌, ◌<◌, ◌^◌, [], length, map, slice_index, IsOk, IfOk, OnOk, OnErr};
+ghost use Rattle.std.specs.Prelude.{◌≡◌, ◌<◌, ◌^◌, [], length, map, slice_index, IsOk, IfOk, OnOk};
+ghost use Rattle.std.specs.Prelude.{OnErr};
 
 use crate::Keys;
 use crate::table_sums::Table;
@@ -31,7 +32,8 @@ impl Model for Sums {
 }
 
 impl Sums {
-    ghost use Rattle.fleet_sums.specs.Sums.{sums_of, keys_in, HasRow, CanDrop, added, dropped, replaced};
+    ghost use Rattle.fleet_sums.specs.Sums.{sums_of, keys_in, HasRow, CanDrop, added, dropped};
+    ghost use Rattle.fleet_sums.specs.Sums.{replaced};
 
     /// The sums of no row, for tables of these columns.
     pub fn new(alloc: Global, tables: &[Shape]) -> Result<Sums, NoMemory>

@@ -1,5 +1,7 @@
 -- The exchange that adds an event keeps the rule.
-use Rattle.std.proofs.Common.{◌≡◌, ◌≢◌, ℕ, ◌+◌, ◌<◌, ◌==◌, MatchBool, Bool, true, false, List, [], ◌∷◌, ◌++◌, length, refl, ap, sym, subst, arith, inl, ◌∙◌, length-append, None}
+use Rattle.std.proofs.Common.{◌≡◌, ◌≢◌, ℕ, ◌+◌, ◌<◌, ◌==◌, MatchBool, Bool, true, false, List, []}
+use Rattle.std.proofs.Common.{◌∷◌, ◌++◌, length, refl, ap, sym, subst, arith, inl, ◌∙◌}
+use Rattle.std.proofs.Common.{length-append, None}
 use Rattle.std.proofs.lemmas.List.{append-nil}
 use Rattle.std.proofs.lemmas.Bool.Decides.{nat_tests}
 use mathlib.Core.List.{IsPrefix}
@@ -13,7 +15,8 @@ use Rattle.hub.specs.declared.entry.Entry.TheVariants.{Happened}
 use Rattle.hub.specs.History.{IsLonger}
 use Rattle.hub.specs.Law.{Adds, IsHistory, IsKept, begun, events_of}
 use Rattle.hub.proofs.Fronts.{prefix_length, prefix_self, prefix_whole}
-use Rattle.hub.proofs.Histories.{begins, events-history, events_of-append, history-more, length-entries}
+use Rattle.hub.proofs.Histories.{begins, events-history, events_of-append, history-more}
+use Rattle.hub.proofs.Histories.{length-entries}
 
 abbrev pub shown : List Entry → List Entry
 shown log = []
@@ -22,25 +25,34 @@ abbrev pub moved : List Entry → List Entry → ℕ → Type 0
 moved xs ys n = Unit {0}
 
 length-history : (log : List Entry) → IsHistory log → length log ≡ length (events_of log) + 1
-length-history log h = let whole : length log ≡ length h.events + 1 = ap length h.formed ∙ length-entries h.config h.opening h.events in omega (arith, ap length (events-history log h))
+length-history log h = let whole : length log ≡ length h.events + 1 = ap length h.formed
+    ∙ length-entries h.config h.opening h.events in omega (arith, ap length (events-history log h))
 
-events-more : (log : List Entry) (e : Event) → IsHistory log → IsHistory (log ++ Happened e ∷ []) → length (events_of (log ++ Happened e ∷ [])) ≡ length (events_of log) + 1
+events-more : (log : List Entry) (e : Event) → IsHistory log → IsHistory (log ++ Happened e ∷ [])
+    → length (events_of (log ++ Happened e ∷ [])) ≡ length (events_of log) + 1
 events-more log e h k =
     let old = length-history log h in
     let new = length-history (log ++ Happened e ∷ []) k in
     omega (arith, length-append log (Happened e ∷ []))
 
-pub adds_goes : (log v : List Entry) (e : Event) (old : ℕ) → length (events_of v) ≡ old → (h : IsHistory v) → counts_now (state_of h.config h.opening h.events) e ≡ true → IsHistory log → IsPrefix v log
+pub adds_goes : (log v : List Entry) (e : Event) (old : ℕ) → length (events_of v) ≡ old
+    → (h : IsHistory v) → counts_now (state_of h.config h.opening h.events) e ≡ true → IsHistory log
+    → IsPrefix v log
     → (b : Bool) → (length (events_of log) == old) ≡ b
-    → Goes IsKept shown moved 0 (v, (no_nib, None)) (λ n. either (n == old) (old + 1) n) (Adds (step 0 old (old + 1) (Happened e)) (v, (no_nib, None))) ((length (events_of log), true) ∷ []) log
+    → Goes IsKept shown moved 0 (v, (no_nib, None)) (λ n. either (n == old) (old + 1) n)
+    (Adds (step 0 old (old + 1) (Happened e)) (v, (no_nib, None)))
+    ((length (events_of log), true) ∷ []) log
 adds_goes log v e old len h may k pre true is =
     let here : length (events_of log) ≡ old = grind (arith, nat_tests) in
     let long = length-history log k in
     let short = length-history v h in
     let same : v ≡ log = prefix_whole v log pre (omega arith) in
     let more : IsHistory (v ++ Happened e ∷ []) = history-more v e h may in
-    let more' : IsHistory (log ++ Happened e ∷ []) = subst (λ (l : List Entry). IsHistory (l ++ Happened e ∷ [])) same more in
-    let n : either (length (events_of log) == old) (old + 1) (length (events_of log)) ≡ length (events_of (log ++ Happened e ∷ [])) = rw is (omega (arith, events-more log e k more')) in (
+    let more' : IsHistory (log ++ Happened e ∷ []) =
+    subst (λ (l : List Entry). IsHistory (l ++ Happened e ∷ [])) same more in
+    let n : either (length (events_of log) == old) (old + 1) (length (events_of log))
+    ≡ length (events_of (log ++ Happened e ∷ [])) =
+    rw is (omega (arith, events-more log e k more')) in (
       keeps,
       Happened e ∷ [],
       None,
@@ -52,7 +64,8 @@ adds_goes log v e old len h may k pre true is =
 adds_goes log v e old len h may k pre false is =
     let all : log ++ [] ≡ log = append-nil log in
     let k' : IsHistory (log ++ []) = subst IsHistory (sym all) k in
-    let n : either (length (events_of log) == old) (old + 1) (length (events_of log)) ≡ length (events_of (log ++ [])) = rw is (ap (λ l. length (events_of l)) (sym all)) in (
+    let n : either (length (events_of log) == old) (old + 1) (length (events_of log))
+    ≡ length (events_of (log ++ [])) = rw is (ap (λ l. length (events_of l)) (sym all)) in (
       keeps,
       [],
       None,
@@ -62,17 +75,30 @@ adds_goes log v e old len h may k pre false is =
       rw is (ap (λ l. length (events_of l)) all, k'),
     )
 
--- whatever the log is, the exchange adds the event to all that was seen, or finds that the history is longer
-pub adds_moves : (v : List Entry) (e : Event) (old : ℕ) → length (events_of v) ≡ old → (h : IsHistory v) → counts_now (state_of h.config h.opening h.events) e ≡ true
-    → Moves IsKept shown moved 0 (v, (no_nib, None)) (λ n. either (n == old) (old + 1) n) (Adds (step 0 old (old + 1) (Happened e)) (v, (no_nib, None)))
+-- whatever the log is, the exchange adds the event to all that was seen, or finds that the history
+-- is longer
+pub adds_moves : (v : List Entry) (e : Event) (old : ℕ) → length (events_of v) ≡ old
+    → (h : IsHistory v) → counts_now (state_of h.config h.opening h.events) e ≡ true
+    → Moves IsKept shown moved 0 (v, (no_nib, None)) (λ n. either (n == old) (old + 1) n)
+    (Adds (step 0 old (old + 1) (Happened e)) (v, (no_nib, None)))
 adds_moves v e old len h may cs log kept pre away =
-    let P : List Cell → Type 0 = λ c. (0 < length c) × ((cell c 0).1 ≡ true) × Goes IsKept shown moved 0 (v, (no_nib, None)) (λ n. either (n == old) (old + 1) n) (Adds (step 0 old (old + 1) (Happened e)) (v, (no_nib, None))) c log in
-    subst P (sym kept.words) (omega arith, refl, adds_goes log v e old len h may kept.history pre (length (events_of log) == old) refl)
+    let P : List Cell → Type 0 = λ c. (0 < length c) × ((cell c 0).1 ≡ true)
+    × Goes IsKept shown moved 0 (v, (no_nib, None)) (λ n. either (n == old) (old + 1) n)
+    (Adds (step 0 old (old + 1) (Happened e)) (v, (no_nib, None))) c log in
+    subst P (sym kept.words) (
+      omega arith,
+      refl,
+      adds_goes log v e old len h may kept.history pre
+          (length (events_of log) == old) refl,
+    )
 
 -- what the exchange told
-pub added : (of of' : Book) (v w : List Entry) (e : Event) (found old : ℕ) → IsHistory v → length (events_of v) ≡ old → IsPrefix v w
-    → (b : Bool) → (found == old) ≡ b → MatchBool b ((w ≡ v ++ Happened e ∷ []) × IsHistory w) ((length (events_of w) ≡ found) × IsHistory w)
-    → MatchBool b ((begun of' w).events ≡ (begun of v).events ++ e ∷ []) (IsLonger (begun of v).events (begun of' w).events)
+pub added : (of of' : Book) (v w : List Entry) (e : Event) (found old : ℕ) → IsHistory v
+    → length (events_of v) ≡ old → IsPrefix v w
+    → (b : Bool) → (found == old) ≡ b → MatchBool b ((w ≡ v ++ Happened e ∷ []) × IsHistory w)
+    ((length (events_of w) ≡ found) × IsHistory w)
+    → MatchBool b ((begun of' w).events ≡ (begun of v).events ++ e ∷ [])
+    (IsLonger (begun of v).events (begun of' w).events)
 added of of' v w e found old h len pre true is told =
     ap events_of told.0 ∙ events_of-append v (Happened e ∷ [])
 added of of' v w e found old h len pre false is told =
@@ -84,15 +110,21 @@ added of of' v w e found old h len pre false is told =
       omega arith,
     )
 
-pub recounted : (v w : List Entry) (e : Event) (found old : ℕ) → IsHistory v → length (events_of v) ≡ old
-    → MatchBool (found == old) ((w ≡ v ++ Happened e ∷ []) × IsHistory w) ((length (events_of w) ≡ found) × IsHistory w)
-    → (n : ℕ) → (found ≡ old → n ≡ old + 1) → (found ≢ old → n ≡ found) → (n ≡ length (events_of w)) × IsHistory w
+pub recounted : (v w : List Entry) (e : Event) (found old : ℕ) → IsHistory v
+    → length (events_of v) ≡ old
+    → MatchBool (found == old) ((w ≡ v ++ Happened e ∷ []) × IsHistory w)
+    ((length (events_of w) ≡ found) × IsHistory w)
+    → (n : ℕ) → (found ≡ old → n ≡ old + 1) → (found ≢ old → n ≡ found)
+    → (n ≡ length (events_of w)) × IsHistory w
 recounted v w e found old h len told n same other = by_test (found == old) refl told
   where
-    by_test : (b : Bool) → (found == old) ≡ b → MatchBool b ((w ≡ v ++ Happened e ∷ []) × IsHistory w) ((length (events_of w) ≡ found) × IsHistory w) → (n ≡ length (events_of w)) × IsHistory w
+    by_test : (b : Bool) → (found == old) ≡ b
+        → MatchBool b ((w ≡ v ++ Happened e ∷ []) × IsHistory w) ((length (events_of w) ≡ found)
+        × IsHistory w) → (n ≡ length (events_of w)) × IsHistory w
     by_test true is told =
         let eq : found ≡ old = grind (arith, nat_tests) in
-        let all : events_of w ≡ events_of v ++ e ∷ [] = ap events_of told.0 ∙ events_of-append v (Happened e ∷ []) in
+        let all : events_of w ≡ events_of v ++ e ∷ [] = ap events_of told.0
+        ∙ events_of-append v (Happened e ∷ []) in
         (same eq ∙ (omega (arith, ap length all, length-append (events_of v) (e ∷ []))), told.1)
     by_test false is told =
         let ne : found ≢ old = grind (arith, nat_tests) in

@@ -3,7 +3,8 @@ use Rattle.std.proofs.Common.{◌≡◌, ◌≢◌, ◌↔◌, true, false, ap, 
 use Rattle.agg_types.specs.Fits.{fits}
 use Rattle.agg_types.specs.declared.config.Config.{Config}
 use Rattle.agg_types.specs.declared.event.What.{What}
-use Rattle.agg_types.specs.declared.event.What.TheVariants.{Sit, Open, Put, Clear, AddFilter, Moment, Leave}
+use Rattle.agg_types.specs.declared.event.What.TheVariants.{Sit, Open, Put, Clear, AddFilter}
+use Rattle.agg_types.specs.declared.event.What.TheVariants.{Moment, Leave}
 use Rattle.fleet_model.specs.Seats.{is_leave, is_sit}
 use Rattle.hub.specs.Roll.{MayPost}
 
@@ -25,7 +26,8 @@ other_than_leave (AddFilter filter) apart = refl
 other_than_leave (Moment moment) apart = refl
 other_than_leave Leave apart = absurd (apart refl)
 
-pub may_post : (config : Config) (what : What) → fits config what ≡ true → what ≢ Sit → what ≢ Leave → MayPost config what
+pub may_post : (config : Config) (what : What) → fits config what ≡ true → what ≢ Sit → what ≢ Leave
+    → MayPost config what
 may_post config what fit no_sit no_leave = record {
   fits = fit;
   sits = other_than_sit what no_sit;
@@ -33,6 +35,7 @@ may_post config what fit no_sit no_leave = record {
 }
 
 -- it is neither of the two
-pub apart_from_both : (config : Config) (what : What) → MayPost config what → (what ≢ Sit) × (what ≢ Leave)
+pub apart_from_both : (config : Config) (what : What) → MayPost config what → (what ≢ Sit)
+    × (what ≢ Leave)
 apart_from_both config what may =
     (λ is. absurd (cc (may.sits, ap is_sit is)), λ is. absurd (cc (may.leaves, ap is_leave is)))

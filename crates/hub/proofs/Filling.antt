@@ -1,5 +1,6 @@
 -- A batch on its way into the history, one event after the other.
-use Rattle.std.proofs.Common.{◌≡◌, ℕ, suc, ◌+◌, ◌<◌, ◌^◌, cond, true, List, [], ◌∷◌, ◌++◌, length, Some, sym, ap, ◌∙◌, subst, arith, append_assoc}
+use Rattle.std.proofs.Common.{◌≡◌, ℕ, suc, ◌+◌, ◌<◌, ◌^◌, cond, true, List, [], ◌∷◌, ◌++◌, length}
+use Rattle.std.proofs.Common.{Some, sym, ap, ◌∙◌, subst, arith, append_assoc}
 use Rattle.std.proofs.lemmas.Bool.Decides.{nat_tests}
 use Rattle.std.proofs.lemmas.Cmp.{nat_cmp_total}
 use Rattle.std.proofs.lemmas.List.Sums.{fold-append}
@@ -21,19 +22,26 @@ use Rattle.hub.proofs.Counting.{found}
 use Rattle.hub.proofs.Rolling.{event_at, longer, post_counts, post_more, state_at}
 
 -- one event more brings a copy to the longer beginning
-pub stores_one : (queue : List Brought) (b : Beginning) (e : Event) → Stores queue b (queue ++ (record { event = e; at = longer b e }) ∷ []) (longer b e)
+pub stores_one : (queue : List Brought) (b : Beginning) (e : Event)
+    → Stores queue b (queue ++ (record { event = e; at = longer b e }) ∷ []) (longer b e)
 stores_one queue b e x brings =
     let op : Brought = record { event = e; at = longer b e } in
-    fold-append taken x queue (op ∷ []) ∙ (ap (λ y. taken y op) brings ∙ ap (λ s. record { at = longer b e; state = s }) (sym (one_more b.config b.opening b.events e)))
+    fold-append taken x queue (op ∷ [])
+    ∙ (ap (λ y. taken y op) brings ∙ ap (λ s. record { at = longer b e; state = s })
+    (sym (one_more b.config b.opening b.events e)))
 
-pub stored_one : (queue later : List Brought) (b b' : Beginning) (e : Event) → b' ≡ longer b e → later ≡ queue ++ (record { event = e; at = b' }) ∷ [] → Stores queue b later b'
+pub stored_one : (queue later : List Brought) (b b' : Beginning) (e : Event) → b' ≡ longer b e
+    → later ≡ queue ++ (record { event = e; at = b' }) ∷ [] → Stores queue b later b'
 stored_one queue later b b' e b_is later_is x brings =
-    ap (all_taken x) (later_is ∙ ap (λ c. queue ++ (record { event = e; at = c }) ∷ []) b_is) ∙ (stores_one queue b e x brings ∙ ap whole (sym b_is))
+    ap (all_taken x) (later_is ∙ ap (λ c. queue ++ (record { event = e; at = c }) ∷ []) b_is)
+    ∙ (stores_one queue b e x brings ∙ ap whole (sym b_is))
 
-pub found_same : (seat n : ℕ) (seats : List (ℕ × ℕ)) → found seat (insert_entry nat_cmp seats seat n) ≡ Some n
+pub found_same : (seat n : ℕ) (seats : List (ℕ × ℕ))
+    → found seat (insert_entry nat_cmp seats seat n) ≡ Some n
 found_same seat n seats =
     let same : is_eq (nat_cmp seat seat) ≡ true = grind (arith, nat_tests) in
-    lookup-insert nat_cmp nat_cmp_total exact_unsigned seat seats seat n ∙ ap (λ b. cond b (Some n) (found seat seats)) same
+    lookup-insert nat_cmp nat_cmp_total exact_unsigned seat seats seat n
+    ∙ ap (λ b. cond b (Some n) (found seat seats)) same
 
 pub all_head : {X : Type 0} (P : X → Type 0) (x : X) (xs : List X) → All P (x ∷ xs) → P x
 all_head P x xs h = h 0 x (omega arith)
@@ -42,7 +50,9 @@ pub all_tail : {X : Type 0} (P : X → Type 0) (x : X) (xs : List X) → All P (
 all_tail P x xs h k d below = h (suc k) d (omega arith)
 
 -- what is left of a batch, and where it stands
-pub record Filling (r0 : Recalled) (all : List What) (q0 : List Brought) (b0 : Beginning) (rest : List What) (q : List Brought) (b : Beginning) (roll : Counted) (r : Recalled) : Type 0 where
+pub record Filling (r0 : Recalled) (all : List What) (q0 : List Brought) (b0 : Beginning)
+    (rest : List What) (q : List Brought) (b : Beginning) (roll : Counted) (r : Recalled)
+    : Type 0 where
   pub seat : r.seat ≡ r0.seat
   pub number : r.number + length rest ≡ r0.number + length all
   pub front : longer_by b (made r.seat r.number rest) ≡ longer_by b0 (made r0.seat r0.number all)
@@ -53,11 +63,19 @@ pub record Filling (r0 : Recalled) (all : List What) (q0 : List Brought) (b0 : B
   pub last : r.number + length rest < 2 ^ 62
   pub stored : Stores q0 b0 q b
 
-pub filled_one : (r0 : Recalled) (all : List What) (q0 : List Brought) (b0 : Beginning) (what : What) (rest : List What) (q : List Brought) (b : Beginning) (roll : Counted) (r : Recalled)
+pub filled_one : (r0 : Recalled) (all : List What) (q0 : List Brought) (b0 : Beginning)
+    (what : What) (rest : List What) (q : List Brought) (b : Beginning) (roll : Counted)
+    (r : Recalled)
     → Filling r0 all q0 b0 (what ∷ rest) q b roll r
-    → (e : Event) (b' : Beginning) (q' : List Brought) (roll' : Counted) (r' : Recalled) → e ≡ event_at r.seat r.number what → b' ≡ longer b e
+    → (e : Event) (b' : Beginning) (q' : List Brought) (roll' : Counted) (r' : Recalled)
+    → e ≡ event_at r.seat r.number what → b' ≡ longer b e
     → q' ≡ q ++ (record { event = e; at = b' }) ∷ []
-    → roll' ≡ record { seats = insert_entry nat_cmp roll.seats e.seat (e.seq + 1); next_seat = roll.next_seat; last = last_after roll.last e.seat e.what }
+    → roll' ≡ record {
+      seats = insert_entry nat_cmp roll.seats e.seat (e.seq + 1);
+      next_seat =
+          roll.next_seat;
+      last = last_after roll.last e.seat e.what;
+    }
     → r' ≡ record { seat = r.seat; number = r.number + 1; opened = opened_after r.opened what }
     → Filling r0 all q0 b0 rest q' b' roll' r'
 filled_one r0 all q0 b0 what rest q b roll r h e b' q' roll' r' e_is b_is q_is roll_is r_is =
@@ -65,27 +83,53 @@ filled_one r0 all q0 b0 what rest q b roll r h e b' q' roll' r' e_is b_is q_is r
     let small : r.number < 2 ^ 62 = let l = h.last in omega arith in
     let may = all_head (MayPost b.config) what rest h.fits in
     let longer_is : b' ≡ longer b f = b_is ∙ ap (longer b) e_is in
-    let rolled : roll' ≡ record { seats = insert_entry nat_cmp roll.seats r.seat (r.number + 1); next_seat = roll.next_seat; last = last_after roll.last r.seat what }
-    = roll_is ∙ ap (λ (e : Event). record { seats = insert_entry nat_cmp roll.seats e.seat (e.seq + 1); next_seat = roll.next_seat; last = last_after roll.last e.seat e.what }) e_is in
+    let rolled : roll' ≡ record {
+      seats = insert_entry nat_cmp roll.seats r.seat (r.number + 1);
+      next_seat = roll.next_seat;
+      last = last_after roll.last r.seat what;
+    }
+    = roll_is ∙ ap (λ (e : Event). record {
+      seats =
+          insert_entry nat_cmp roll.seats e.seat (e.seq + 1);
+      next_seat = roll.next_seat;
+      last =
+          last_after roll.last e.seat e.what;
+    }) e_is in
     let count = post_more b roll r.seat r.number what h.counted may h.due small in
     let recall = recalls_more r b what h.recalled may.fits in
-    let r'' : Recalled = record { seat = r.seat; number = r.number + 1; opened = opened_after r.opened what } in
+    let r'' : Recalled = record {
+      seat = r.seat;
+      number = r.number + 1;
+      opened =
+          opened_after r.opened what;
+    } in
     subst (Filling r0 all q0 b0 rest q' b' roll') (sym r_is)
     (record {
       seat = h.seat;
       number = let n = h.number in omega arith;
-      front = ap (λ (c : Beginning). longer_by c (made r.seat (r.number + 1) rest)) longer_is ∙ (ap (λ es. record b { events = es }) (append_assoc b.events (f ∷ []) (made r.seat (r.number + 1) rest)) ∙ h.front);
-      counted = subst (λ (c : Counted). IsCountOf c b') (sym rolled) (subst (IsCountOf _) (sym longer_is) count);
+      front = ap (λ (c : Beginning). longer_by c (made r.seat (r.number + 1) rest)) longer_is
+          ∙ (ap (λ es. record b { events = es })
+          (append_assoc b.events (f ∷ []) (made r.seat (r.number + 1) rest)) ∙ h.front);
+      counted = subst (λ (c : Counted). IsCountOf c b') (sym rolled)
+          (subst (IsCountOf _) (sym longer_is) count);
       recalled = subst (Recalls r'') (sym longer_is) recall;
-      fits = subst (λ (c : Beginning). All (MayPost c.config) rest) (sym longer_is) (all_tail (MayPost b.config) what rest h.fits);
-      due = ap (λ (c : Counted). found r.seat c.seats) rolled ∙ found_same r.seat (r.number + 1) roll.seats;
+      fits = subst (λ (c : Beginning). All (MayPost c.config) rest) (sym longer_is)
+          (all_tail (MayPost b.config) what rest h.fits);
+      due = ap (λ (c : Counted). found r.seat c.seats) rolled
+          ∙ found_same r.seat (r.number + 1) roll.seats;
       last = let l = h.last in omega arith;
-      stored = λ x brings. stored_one q q' b b' f longer_is (q_is ∙ ap (λ (e : Event). q ++ (record { event = e; at = b' }) ∷ []) e_is) x (h.stored x brings);
+      stored = λ x brings. stored_one q q' b b' f longer_is (q_is
+          ∙ ap (λ (e : Event). q ++ (record { event = e; at = b' }) ∷ []) e_is) x
+          (h.stored x brings);
     })
 
-pub filling_counts : (r0 : Recalled) (all : List What) (q0 : List Brought) (b0 : Beginning) (what : What) (rest : List What) (q : List Brought) (b : Beginning) (roll : Counted) (r : Recalled)
-    → Filling r0 all q0 b0 (what ∷ rest) q b roll r → (e : Event) → e ≡ event_at r.seat r.number what → counts_now (state_at b) e ≡ true
+pub filling_counts : (r0 : Recalled) (all : List What) (q0 : List Brought) (b0 : Beginning)
+    (what : What) (rest : List What) (q : List Brought) (b : Beginning) (roll : Counted)
+    (r : Recalled)
+    → Filling r0 all q0 b0 (what ∷ rest) q b roll r → (e : Event)
+    → e ≡ event_at r.seat r.number what → counts_now (state_at b) e ≡ true
 filling_counts r0 all q0 b0 what rest q b roll r h e e_is =
     let may = all_head (MayPost b.config) what rest h.fits in
     let small : r.number < 2 ^ 62 = let l = h.last in omega arith in
-    ap (counts_now (state_at b)) e_is ∙ post_counts b roll r.seat r.number what h.counted may.sits may.fits h.due small
+    ap (counts_now (state_at b)) e_is ∙ post_counts b roll r.seat r.number what h.counted may.sits
+    may.fits h.due small

@@ -1,5 +1,6 @@
 -- Each step keeps the rule over the copy that is shown.
-use Rattle.std.proofs.Common.{◌≡◌, ◌≢◌, ℕ, List, [], ◌∷◌, Option, None, Some, refl, ap, ◌∙◌, subst, sym, ⊎_elim, set}
+use Rattle.std.proofs.Common.{◌≡◌, ◌≢◌, ℕ, List, [], ◌∷◌, Option, None, Some, refl, ap, ◌∙◌, subst}
+use Rattle.std.proofs.Common.{sym, ⊎_elim, set}
 use mathlib.Core.Option.{some}
 use lib.ListN.{get_elem?}
 use Rattle.fleet_model.specs.State.{Stands}
@@ -16,24 +17,36 @@ fits_newcomer x v e = subst (Fits x) e tt
 
 -- a new hub's writer was told nothing
 pub begins : (x : Copied) → IsWhole x → Keeps x (None ∷ [])
-begins x is = (is, λ seat v at. ⊎_elim (λ (e : get_elem? [] seat ≡ some v). absurd (cc e)) (fits_newcomer x v) (at_snoc [] None v seat at))
+begins x is = (
+  is,
+  λ seat v at. ⊎_elim (λ (e : get_elem? [] seat ≡ some v). absurd (cc e))
+      (fits_newcomer x v) (at_snoc [] None v seat at),
+)
 
 -- a new reader was told nothing
 pub admits : Admits Keeps None
-admits x views h = (h.0, λ seat v at. ⊎_elim (h.1 seat v) (fits_newcomer x v) (at_snoc views None v seat at))
+admits x views h = (
+  h.0,
+  λ seat v at. ⊎_elim (h.1 seat v) (fits_newcomer x v)
+      (at_snoc views None v seat at),
+)
 
 fits_same : (x y : Copied) (v : View) → y.at.of ≡ x.at.of → Fits x v → Fits y v
 fits_same x y None same h = tt
 fits_same x y (Some told) same h = subst (λ of. told.of ≡ of) (sym same) h
 
-fits_set : (x y : Copied) (views : List View) (place : ℕ) (w : View) → y.at.of ≡ x.at.of → ((seat : ℕ) (v : View) → get_elem? views seat ≡ some v → Fits x v) → Fits y w
+fits_set : (x y : Copied) (views : List View) (place : ℕ) (w : View) → y.at.of ≡ x.at.of
+    → ((seat : ℕ) (v : View) → get_elem? views seat ≡ some v → Fits x v) → Fits y w
     → (seat : ℕ) (v : View) → get_elem? (set views place w) seat ≡ some v → Fits y v
 fits_set x y views place w same h fits seat v at =
-    ⊎_elim (λ (t : (seat ≡ place) × (w ≡ v)). subst (Fits y) t.1 fits) (λ (t : (seat ≢ place) × (get_elem? views seat ≡ some v)). fits_same x y v same (h seat v t.1))
+    ⊎_elim (λ (t : (seat ≡ place) × (w ≡ v)). subst (Fits y) t.1 fits)
+    (λ (t : (seat ≢ place) × (get_elem? views seat ≡ some v)). fits_same x y v same
+    (h seat v t.1))
     (at_set views place seat w v at)
 
 -- another copy of the same log is shown
-pub publishes : (seat : ℕ) (v : View) (x y : Copied) → IsWhole y → y.at.of ≡ x.at.of → TurnsAt Keeps seat v x y Sees
+pub publishes : (seat : ℕ) (v : View) (x y : Copied) → IsWhole y → y.at.of ≡ x.at.of
+    → TurnsAt Keeps seat v x y Sees
 publishes seat v x y is same views h at = (
   Some y.at,
   (is, fits_set x y views seat (Some y.at) same h.1 refl),
@@ -47,14 +60,22 @@ looks seat v x views h at = publishes seat v x x h.0 refl views h at
 -- the writer tells what it knows
 pub forks : (seat : ℕ) (v : View) → Forks Keeps seat v v v
 forks seat v x views h at =
-    let fits = h.1 seat v at in
-    (h.0, λ place u there. ⊎_elim (fits_set x x views seat v refl h.1 fits place u) (λ (e : v ≡ u). subst (Fits x) e fits) (at_snoc (set views seat v) v u place there))
+    let fits = h.1 seat v at in (
+      h.0,
+      λ place u there. ⊎_elim (fits_set x x views seat v refl h.1 fits place u)
+          (λ (e : v ≡ u). subst (Fits x) e fits) (at_snoc (set views seat v) v u place there),
+    )
 
 -- a reader takes in what the writer told
 pub merges : (seat : ℕ) (v : View) (other : ℕ) (w : View) → Merges Keeps seat v other w w None
 merges seat v other w x views h at apart there =
-    let fits : Fits x w = ⊎_elim (λ (t : (other ≡ seat) × (w ≡ w)). absurd (apart t.0)) (λ (t : (other ≢ seat) × (get_elem? views other ≡ some w)). h.1 other w t.1) (at_set views seat other w w there) in
-    (h.0, fits_set x x (set views seat w) other None refl (fits_set x x views seat w refl h.1 fits) tt)
+    let fits : Fits x w = ⊎_elim (λ (t : (other ≡ seat) × (w ≡ w)). absurd (apart t.0))
+    (λ (t : (other ≢ seat) × (get_elem? views other ≡ some w)). h.1 other w t.1)
+    (at_set views seat other w w there) in (
+      h.0,
+      fits_set x x (set views seat w) other None refl (fits_set x x views seat w refl h.1 fits)
+          tt,
+    )
 
 -- a copy that has taken exactly a beginning is whole
 pub whole_is : (x : Copied) (b : Beginning) → x ≡ whole b → IsWhole x
@@ -62,5 +83,7 @@ unfolding Stands
 whole_is x b is = subst IsWhole (sym is) refl
 
 -- what publishing owes, where the operations bring the copy to a beginning of its log
-pub shows : (seat : ℕ) (v : View) (x y : Copied) (b : Beginning) → y ≡ whole b → x.at.of ≡ b.of → TurnsAt Keeps seat v x y Sees
-shows seat v x y b is same = publishes seat v x y (whole_is y b is) (ap (λ (c : Copied). c.at.of) is ∙ sym same)
+pub shows : (seat : ℕ) (v : View) (x y : Copied) (b : Beginning) → y ≡ whole b → x.at.of ≡ b.of
+    → TurnsAt Keeps seat v x y Sees
+shows seat v x y b is same = publishes seat v x y (whole_is y b is) (ap (λ (c : Copied). c.at.of) is
+    ∙ sym same)

@@ -1,5 +1,7 @@
 -- What a pass keeps of its seat, as the history goes on.
-use Rattle.std.proofs.Common.{◌≡◌, ◌≢◌, ℕ, zero, suc, ◌+◌, ◌<◌, ◌≤◌, ◌==◌, ◌&&◌, Bool, true, false, cond, List, [], ◌∷◌, ◌++◌, length, replicate, get_or, set, refl, sym, ap, ◌∙◌, subst, arith, append-nil, length-append}
+use Rattle.std.proofs.Common.{◌≡◌, ◌≢◌, ℕ, zero, suc, ◌+◌, ◌<◌, ◌≤◌, ◌==◌, ◌&&◌, Bool, true, false}
+use Rattle.std.proofs.Common.{cond, List, [], ◌∷◌, ◌++◌, length, replicate, get_or, set, refl, sym}
+use Rattle.std.proofs.Common.{ap, ◌∙◌, subst, arith, append-nil, length-append}
 use Rattle.std.proofs.lemmas.Bool.Decides.{nat_tests}
 use Rattle.std.proofs.lemmas.List.{get_or-set_other, get_or-set_same, length-replicate}
 use Rattle.std.proofs.lemmas.List.Elements.{filter-append}
@@ -12,7 +14,8 @@ use mathlib.Core.List.{IsPrefix}
 use Rattle.agg_types.specs.Fits.{fits}
 use Rattle.agg_types.specs.declared.event.Event.{Event}
 use Rattle.agg_types.specs.declared.event.What.{What}
-use Rattle.agg_types.specs.declared.event.What.TheVariants.{Sit, Open, Put, Clear, AddFilter, Moment, Leave}
+use Rattle.agg_types.specs.declared.event.What.TheVariants.{Sit, Open, Put, Clear, AddFilter}
+use Rattle.agg_types.specs.declared.event.What.TheVariants.{Moment, Leave}
 use Rattle.fleet_model.specs.Laws.{opens_at}
 use Rattle.fleet_model.specs.Sessions.{opens}
 use Rattle.hub.specs.History.{AllCount, Beginning, own}
@@ -31,15 +34,20 @@ or_false true = refl
 or_false false = refl
 
 -- which peers a seat opened is told by its own events
-opens-own : (seat peer : ℕ) (events : List Event) → list_any (opens_at seat peer) (own seat events) ≡ list_any (opens_at seat peer) events
+opens-own : (seat peer : ℕ) (events : List Event) → list_any (opens_at seat peer) (own seat events)
+    ≡ list_any (opens_at seat peer) events
 opens-own seat peer events =
-    any-filter_same (opens_at seat peer) (λ e. e.seat == seat) true (λ e is. and_first (e.seat == seat) (opens peer e.what) is) events
+    any-filter_same (opens_at seat peer) (λ e. e.seat == seat) true
+    (λ e is. and_first (e.seat == seat) (opens peer e.what) is) events
 
 -- where no event of the seat came, its own events are the same
-own_same : (seat : ℕ) (some all : List Event) → IsPrefix some all → length (own seat all) ≡ length (own seat some) → own seat all ≡ own seat some
+own_same : (seat : ℕ) (some all : List Event) → IsPrefix some all
+    → length (own seat all) ≡ length (own seat some) → own seat all ≡ own seat some
 own_same seat some all is same =
-    let parts : own seat all ≡ own seat some ++ own seat is.0 = ap (own seat) (sym is.1) ∙ filter-append (λ (e : Event). e.seat == seat) some is.0 in
-    let none : own seat is.0 ≡ [] = nothing (own seat is.0) (let total = ap length parts in omega (arith, length-append (own seat some) (own seat is.0))) in
+    let parts : own seat all ≡ own seat some ++ own seat is.0 = ap (own seat) (sym is.1)
+    ∙ filter-append (λ (e : Event). e.seat == seat) some is.0 in
+    let none : own seat is.0 ≡ [] = nothing (own seat is.0) (let total = ap length parts in
+    omega (arith, length-append (own seat some) (own seat is.0))) in
     parts ∙ (ap (λ es. own seat some ++ es) none ∙ append-nil (own seat some))
   where
     nothing : (es : List Event) → length es ≡ 0 → es ≡ []
@@ -47,18 +55,23 @@ own_same seat some all is same =
     nothing (e ∷ es) is = absurd (omega (arith, is))
 
 -- what is kept of a seat stays while others go on
-pub recalls_all : (r : Recalled) (b b' : Beginning) → Recalls r b → b'.config ≡ b.config → IsPrefix b.events b'.events → length (own r.seat b'.events) ≡ r.number → Recalls r b'
+pub recalls_all : (r : Recalled) (b b' : Beginning) → Recalls r b → b'.config ≡ b.config
+    → IsPrefix b.events b'.events → length (own r.seat b'.events) ≡ r.number → Recalls r b'
 recalls_all r b b' h config prefix owns =
-    let same : own r.seat b'.events ≡ own r.seat b.events = own_same r.seat b.events b'.events prefix (owns ∙ sym h.owns) in
+    let same : own r.seat b'.events ≡ own r.seat b.events =
+    own_same r.seat b.events b'.events prefix (owns ∙ sym h.owns) in
     record {
       owns = owns;
       peers = h.peers ∙ ap (λ c. length c.peers) (sym config);
-      opened = λ peer. h.opened peer ∙ (sym (opens-own r.seat peer b.events) ∙ (ap (list_any (opens_at r.seat peer)) (sym same) ∙ opens-own r.seat peer b'.events));
+      opened = λ peer. h.opened peer
+          ∙ (sym (opens-own r.seat peer b.events) ∙ (ap (list_any (opens_at r.seat peer)) (sym same)
+          ∙ opens-own r.seat peer b'.events));
     }
 
 -- ---- one event more
 
-length-opened_after : (opened : List Bool) (what : What) → length (opened_after opened what) ≡ length opened
+length-opened_after : (opened : List Bool) (what : What) → length (opened_after opened what)
+    ≡ length opened
 length-opened_after opened Sit = refl
 length-opened_after opened (Open peer) = length-set opened peer true
 length-opened_after opened (Put peer table key life cells) = refl
@@ -67,7 +80,9 @@ length-opened_after opened (AddFilter filter) = refl
 length-opened_after opened (Moment moment) = refl
 length-opened_after opened Leave = refl
 
-opened_by : (opened : List Bool) (what : What) → ((peer : ℕ) → what ≡ Open peer → peer < length opened) → (w : What) → w ≡ what → (peer : ℕ) → get_or (opened_after opened w) peer false ≡ (get_or opened peer false || opens peer w)
+opened_by : (opened : List Bool) (what : What)
+    → ((peer : ℕ) → what ≡ Open peer → peer < length opened) → (w : What) → w ≡ what → (peer : ℕ)
+    → get_or (opened_after opened w) peer false ≡ (get_or opened peer false || opens peer w)
 opened_by opened what within Sit is peer = sym (or_false _)
 opened_by opened what within (Open new) is peer = by_test (new == peer) refl
   where
@@ -75,10 +90,12 @@ opened_by opened what within (Open new) is peer = by_test (new == peer) refl
     or_true true = refl
     or_true false = refl
 
-    by_test : (b : Bool) → (new == peer) ≡ b → get_or (set opened new true) peer false ≡ (get_or opened peer false || b)
+    by_test : (b : Bool) → (new == peer) ≡ b → get_or (set opened new true) peer false
+        ≡ (get_or opened peer false || b)
     by_test true same =
         let eq : new ≡ peer = grind (arith, nat_tests) in
-        ap (λ p. get_or (set opened new true) p false) (sym eq) ∙ (get_or-set_same opened new true false (within new (sym is)) ∙ sym (or_true _))
+        ap (λ p. get_or (set opened new true) p false) (sym eq)
+        ∙ (get_or-set_same opened new true false (within new (sym is)) ∙ sym (or_true _))
     by_test false apart =
         let ne : peer ≢ new = grind (arith, nat_tests) in
         get_or-set_other opened new peer true false ne ∙ sym (or_false _)
@@ -89,8 +106,10 @@ opened_by opened what within (Moment moment) is peer = sym (or_false _)
 opened_by opened what within Leave is peer = sym (or_false _)
 
 -- a seat posts something
-pub recalls_more : (r : Recalled) (b : Beginning) (what : What) → Recalls r b → fits b.config what ≡ true
-    → Recalls (record { seat = r.seat; number = r.number + 1; opened = opened_after r.opened what }) (longer b (event_at r.seat r.number what))
+pub recalls_more : (r : Recalled) (b : Beginning) (what : What) → Recalls r b
+    → fits b.config what ≡ true
+    → Recalls (record { seat = r.seat; number = r.number + 1; opened = opened_after r.opened what })
+    (longer b (event_at r.seat r.number what))
 recalls_more r b what h fit =
     let e = event_at r.seat r.number what in
     let this : (r.seat == r.seat) ≡ true = grind (arith, nat_tests) in
@@ -98,9 +117,13 @@ recalls_more r b what h fit =
       owns = own-this r.seat b.events e this ∙ ap (λ n. n + 1) h.owns;
       peers = length-opened_after r.opened what ∙ h.peers;
       opened = λ peer.
-          opened_by r.opened what (λ p same. let in_range : fits b.config (Open p) ≡ true = ap (fits b.config) (sym same) ∙ fit in let len = h.peers in grind (arith, nat_tests)) what refl peer
+          opened_by r.opened what (λ p same. let in_range : fits b.config (Open p) ≡ true =
+          ap (fits b.config) (sym same) ∙ fit in let len = h.peers in grind (arith, nat_tests))
+          what refl peer
           ∙ (ap (λ a. a || opens peer what) (h.opened peer)
-          ∙ (ap (λ a. list_any (opens_at r.seat peer) b.events || a) (sym (or_false (opens peer what)) ∙ ap (λ s. (s && opens peer what) || false) (sym this))
+          ∙ (ap (λ a. list_any (opens_at r.seat peer) b.events || a)
+          (sym (or_false (opens peer what))
+          ∙ ap (λ s. (s && opens peer what) || false) (sym this))
           ∙ sym (list_any-append (opens_at r.seat peer) b.events (e ∷ []))));
     }
 
@@ -115,7 +138,9 @@ and_false : (b : Bool) → (b && false) ≡ false
 and_false true = refl
 and_false false = refl
 
-pub recalls_new : (b : Beginning) (roll : Counted) → IsCountOf roll b → AllCount b.config b.opening b.events → Recalls (sits_new roll) (longer b (event_at roll.next_seat 0 Sit))
+pub recalls_new : (b : Beginning) (roll : Counted) → IsCountOf roll b
+    → AllCount b.config b.opening b.events
+    → Recalls (sits_new roll) (longer b (event_at roll.next_seat 0 Sit))
 recalls_new b roll is all =
     let e = event_at roll.next_seat 0 Sit in
     let alone = sits_alone b roll is all in
@@ -125,5 +150,6 @@ recalls_new b roll is all =
       opened = λ peer.
           none_opened (length roll.last) peer
           ∙ (sym (ap (λ a. a || false) (and_false (roll.next_seat == roll.next_seat)))
-          ∙ (ap (list_any (opens_at roll.next_seat peer)) (sym alone) ∙ opens-own roll.next_seat peer (b.events ++ e ∷ [])));
+          ∙ (ap (list_any (opens_at roll.next_seat peer)) (sym alone)
+          ∙ opens-own roll.next_seat peer (b.events ++ e ∷ [])));
     }

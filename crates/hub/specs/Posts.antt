@@ -1,16 +1,19 @@
 -- What a post tells: which list its receipt shows, and what a refusal leaves.
-use Rattle.std.specs.Prelude.{◌≡◌, ◌≢◌, ℕ, ◌+◌, ◌-◌, ◌<◌, ◌^◌, List, [], ◌∷◌, length, Bool, true, false, ◌&&◌, ◌==◌, not, ◌++◌}
+use Rattle.std.specs.Prelude.{◌≡◌, ◌≢◌, ℕ, ◌+◌, ◌-◌, ◌<◌, ◌^◌, List, [], ◌∷◌, length, Bool, true}
+use Rattle.std.specs.Prelude.{false, ◌&&◌, ◌==◌, not, ◌++◌}
 use Rattle.std.specs.List.{list_any}
 use mathlib.Core.List.{IsPrefix}
 use Rattle.agg_types.specs.declared.event.Event.{Event}
 use Rattle.agg_types.specs.declared.event.What.{What}
-use Rattle.agg_types.specs.declared.event.What.TheVariants.{Sit, Open, Put, Clear, AddFilter, Moment, Leave}
+use Rattle.agg_types.specs.declared.event.What.TheVariants.{Sit, Open, Put, Clear, AddFilter}
+use Rattle.agg_types.specs.declared.event.What.TheVariants.{Moment, Leave}
 use Rattle.fleet_model.specs.Laws.{opens_at}
 use Rattle.fleet_model.specs.Rows.{putter}
 use Rattle.fleet_model.specs.Seats.{is_number}
 use Rattle.fleet_model.specs.Sessions.{last_opener}
 use Rattle.hub.specs.declared.faults.PostFault.{PostFault}
-use Rattle.hub.specs.declared.faults.PostFault.TheVariants.{Replaced, NotNext, NoMemory, Pending, Spent}
+use Rattle.hub.specs.declared.faults.PostFault.TheVariants.{Replaced, NotNext, NoMemory, Pending}
+use Rattle.hub.specs.declared.faults.PostFault.TheVariants.{Spent}
 use Rattle.hub.specs.History.{AllCount, Beginning, longer_by, made, own}
 
 -- a seat, the number of its next event, and the list that it has seen

@@ -1,8 +1,10 @@
 -- What a pass keeps of its own seat.
-use Rattle.std.specs.Prelude.{◌≡◌, ℕ, Bool, true, false, ◌&&◌, ◌==◌, not, if◌then◌else◌, List, length, replicate, Option, None, Some, slice_index_or, slice_set}
+use Rattle.std.specs.Prelude.{◌≡◌, ℕ, Bool, true, false, ◌&&◌, ◌==◌, not, if◌then◌else◌, List}
+use Rattle.std.specs.Prelude.{length, replicate, Option, None, Some, slice_index_or, slice_set}
 use Rattle.std.specs.List.{list_any}
 use Rattle.agg_types.specs.declared.event.What.{What}
-use Rattle.agg_types.specs.declared.event.What.TheVariants.{Sit, Open, Put, Clear, AddFilter, Moment, Leave}
+use Rattle.agg_types.specs.declared.event.What.TheVariants.{Sit, Open, Put, Clear, AddFilter}
+use Rattle.agg_types.specs.declared.event.What.TheVariants.{Moment, Leave}
 use Rattle.fleet_model.specs.Laws.{opens_at}
 use Rattle.fleet_model.specs.Rows.{putter}
 use Rattle.fleet_model.specs.Sessions.{opens}

@@ -1,11 +1,13 @@
 //! The hub: one lock, one history, and lenses that take no lock.
 
-ghost use Rattle.std.specs.Prelude.{◌≡◌, ◌<◌, ◌≤◌, ◌^◌, [], ◌∷◌, ◌↔◌, true, false, IfOk, IfSome, IsTrue, OnOk, MatchResult};
+ghost use Rattle.std.specs.Prelude.{◌≡◌, ◌<◌, ◌≤◌, ◌^◌, [], ◌∷◌, ◌↔◌, true, false, IfOk, IfSome};
+ghost use Rattle.std.specs.Prelude.{IsTrue, OnOk, MatchResult};
 ghost use Rattle.std.specs.List.{All};
 ghost use Rattle.agg_types.specs.Check.{config_faults};
 ghost use Rattle.agg_types.specs.declared.event.What.TheVariants.{Leave};
 ghost use Rattle.hub.specs.Hosting.{IsOpening};
-ghost use Rattle.hub.specs.Posts.{Follows, LeaveRefused, PostRefused, PostsAfter, ShowsBatch, SitsDown};
+ghost use Rattle.hub.specs.Posts.{Follows, LeaveRefused, PostRefused, PostsAfter, ShowsBatch};
+ghost use Rattle.hub.specs.Posts.{SitsDown};
 ghost use Rattle.hub.specs.Roll.{MayPost};
 
 use crate::faults::{LensFault, PostFault, SeatFault};

@@ -1,6 +1,7 @@
 //! What lies under the lock: the whole history, and what readers don't see of it yet.
 
-ghost use Rattle.std.specs.Prelude.{◌≡◌, ◌<◌, ◌≤◌, ◌+◌, ◌^◌, ◌++◌, [], drop, length, Some, if◌then◌else◌, vec_len, IfOk, IfSome, MatchOption, MatchResult};
+ghost use Rattle.std.specs.Prelude.{◌≡◌, ◌<◌, ◌≤◌, ◌+◌, ◌^◌, ◌++◌, [], drop, length, Some};
+ghost use Rattle.std.specs.Prelude.{if◌then◌else◌, vec_len, IfOk, IfSome, MatchOption, MatchResult};
 ghost use Rattle.std.specs.BTreeMap.{is_at};
 ghost use Rattle.std.specs.List.{All};
 ghost use Rattle.std.specs.Map.{lookup};
@@ -11,7 +12,8 @@ ghost use Rattle.fleet_model.specs.Machine.{opened};
 ghost use Rattle.hub.specs.Copied.{whole};
 ghost use Rattle.hub.specs.Kept.{IsTold};
 ghost use Rattle.hub.specs.Keeping.{IsShownAll, KeepsAtErr, KeepsAtOk};
-ghost use Rattle.hub.specs.Posts.{FindsReplaced, Follows, NoneReplaced, PostRefused, PostsAfter, advanced};
+ghost use Rattle.hub.specs.Posts.{FindsReplaced, Follows, NoneReplaced, PostRefused, PostsAfter};
+ghost use Rattle.hub.specs.Posts.{advanced};
 ghost use Rattle.hub.specs.Roll.{MayPost};
 
 use crate::copies::{Note, Op, Shown};

@@ -1,6 +1,7 @@
 //! What the locked side of the history counts: the seats that sit, and who opened which peer last.
 
-ghost use Rattle.std.specs.Prelude.{◌≡◌, [], ◌≤◌, ◌<◌, ◌^◌, ◌+◌, ◌-◌, ◌∷◌, false, true, replicate, length, nat_lt, None, Some, slice_index_or, IfOk, OnOk, OnErr};
+ghost use Rattle.std.specs.Prelude.{◌≡◌, [], ◌≤◌, ◌<◌, ◌^◌, ◌+◌, ◌-◌, ◌∷◌, false, true, replicate};
+ghost use Rattle.std.specs.Prelude.{length, nat_lt, None, Some, slice_index_or, IfOk, OnOk, OnErr};
 ghost use Rattle.std.specs.BTreeMap.{insert_entry, is_at};
 ghost use Rattle.std.specs.Map.{lookup, remove_entry};
 ghost use Rattle.std.specs.Ordering.{nat_cmp};

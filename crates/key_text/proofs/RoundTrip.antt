@@ -1,5 +1,7 @@
 -- What is printed of a key is read as the key.
-use Rattle.std.proofs.Common.{◌≡◌, ℕ, zero, suc, ◌+◌, ◌*◌, ◌-◌, ◌/◌, ◌%◌, ◌^◌, ◌<◌, ◌≤◌, Bool, true, false, eqb, leb, ltb, ◌&&◌, not, List, [], ◌∷◌, ◌++◌, length, map, slice_index, Some, refl, ap, ◌∙◌, arith, inl, inr, lit<}
+use Rattle.std.proofs.Common.{◌≡◌, ℕ, zero, suc, ◌+◌, ◌*◌, ◌-◌, ◌/◌, ◌%◌, ◌^◌, ◌<◌, ◌≤◌, Bool, true}
+use Rattle.std.proofs.Common.{false, eqb, leb, ltb, ◌&&◌, not, List, [], ◌∷◌, ◌++◌, length, map}
+use Rattle.std.proofs.Common.{slice_index, Some, refl, ap, ◌∙◌, arith, inl, inr, lit<}
 use Rattle.std.proofs.lemmas.Bool.{cases_Bool, cases_lt}
 use Rattle.std.proofs.lemmas.Bool.Decides.{nat_tests}
 use Rattle.std.proofs.lemmas.Bool.{eqb-true}
@@ -19,7 +21,8 @@ use Rattle.hex.proofs.HexLemmas.{IsDigits-lower_digits, decode_of-encode_lower}
 use Rattle.line_words.specs.Words.{parts}
 use Rattle.key_text.specs.declared.parts.Part.TheVariants.{Octet, Group}
 use Rattle.key_text.specs.Printed.{escaped, groups, hex_of, integer_text, is_plain, signed_text}
-use Rattle.key_text.specs.Read.{all_bytes, before, hex_byte, integer_of, number_up_to, octet, part_bytes, string_of}
+use Rattle.key_text.specs.Read.{all_bytes, before, hex_byte, integer_of, number_up_to, octet}
+use Rattle.key_text.specs.Read.{part_bytes, string_of}
 
 -- ---- parts
 
@@ -31,7 +34,8 @@ same_byte : (c : ℕ) → eqb c c ≡ true
 same_byte c = grind (arith, nat_tests)
 
 -- a part before the byte between parts
-split_front : (c : ℕ) (front rest : List ℕ) → list_all (differs c) front ≡ true → slice_split (λ b. eqb b c) (front ++ c ∷ rest) ≡ front ∷ slice_split (λ b. eqb b c) rest
+split_front : (c : ℕ) (front rest : List ℕ) → list_all (differs c) front ≡ true
+    → slice_split (λ b. eqb b c) (front ++ c ∷ rest) ≡ front ∷ slice_split (λ b. eqb b c) rest
 split_front c [] rest free = rw (same_byte c) refl
 split_front c (x ∷ front) rest free =
     elim (cases_Bool (eqb x c)) [
@@ -42,7 +46,8 @@ split_front c (x ∷ front) rest free =
     ]
 
 -- the last part
-split_last : (c : ℕ) (front : List ℕ) → list_all (differs c) front ≡ true → slice_split (λ b. eqb b c) front ≡ front ∷ []
+split_last : (c : ℕ) (front : List ℕ) → list_all (differs c) front ≡ true
+    → slice_split (λ b. eqb b c) front ≡ front ∷ []
 split_last c [] free = refl
 split_last c (x ∷ front) free =
     elim (cases_Bool (eqb x c)) [
@@ -57,16 +62,21 @@ both true b h = (refl, h)
 both false b h = absurd cc
 
 -- parts that were joined come apart again
-pub parts-join : (c : ℕ) (front : List ℕ) (others : List (List ℕ)) → list_all (list_all (differs c)) (front ∷ others) ≡ true → parts c (join_with_byte c (front ∷ others)) ≡ front ∷ others
+pub parts-join : (c : ℕ) (front : List ℕ) (others : List (List ℕ))
+    → list_all (list_all (differs c)) (front ∷ others) ≡ true
+    → parts c (join_with_byte c (front ∷ others)) ≡ front ∷ others
 unfolding parts
 parts-join c front [] free = split_last c front (both (list_all (differs c) front) true free).0
 parts-join c front (next ∷ others) free =
-    let h = both (list_all (differs c) front) (list_all (list_all (differs c)) (next ∷ others)) free in
-    split_front c front (join_with_byte c (next ∷ others)) h.0 ∙ ap (λ more. front ∷ more) (parts-join c next others h.1)
+    let h = both (list_all (differs c) front) (list_all (list_all (differs c)) (next ∷ others))
+    free in
+    split_front c front (join_with_byte c (next ∷ others)) h.0
+    ∙ ap (λ more. front ∷ more) (parts-join c next others h.1)
 
 -- ---- numbers
 
-all_digits : (radix : ℕ) (ds : List ℕ) → AllDigits radix ds → list_all (λ c. is_digit c radix) ds ≡ true
+all_digits : (radix : ℕ) (ds : List ℕ) → AllDigits radix ds
+    → list_all (λ c. is_digit c radix) ds ≡ true
 all_digits radix [] h = refl
 all_digits radix (c ∷ cs) h =
     let digit : is_digit c radix ≡ true = grind (arith, nat_tests) in
@@ -80,7 +90,8 @@ no_dots (c ∷ cs) h =
     rw other (no_dots cs h.1)
 
 -- a number's digits are read as the number
-pub number_up_to-decimal : (most n : ℕ) → n ≤ most → n < 2 ^ 64 → number_up_to 10 most (decimal n) ≡ Some n
+pub number_up_to-decimal : (most n : ℕ) → n ≤ most → n < 2 ^ 64
+    → number_up_to 10 most (decimal n) ≡ Some n
 unfolding number_up_to
 number_up_to-decimal most n within fits =
     let h = decimal_is_IsNumeral n fits in
@@ -91,7 +102,8 @@ number_up_to-decimal most n within fits =
 -- ---- integers
 
 -- digits don't begin with a minus
-plain_number : (text : List ℕ) (n : ℕ) → 0 < length text → AllDigits 10 text → number_up_to 10 (2 ^ 31 - 1) text ≡ Some n → integer_of text ≡ Some n
+plain_number : (text : List ℕ) (n : ℕ) → 0 < length text → AllDigits 10 text
+    → number_up_to 10 (2 ^ 31 - 1) text ≡ Some n → integer_of text ≡ Some n
 plain_number [] n some digits h = absurd (omega arith)
 plain_number (c ∷ cs) n some digits h =
     let range = digit_from_value c digits.0 in
@@ -105,15 +117,18 @@ integer_of-signed n fits =
       | inl low ↦
           let small : ltb n (2 ^ 31) ≡ true = grind (arith, nat_tests) in
           let h = decimal_is_IsNumeral n (omega arith) in
-          rw small (plain_number (decimal n) n h.0.0 h.0.1 (number_up_to-decimal (2 ^ 31 - 1) n (omega arith) (omega arith)))
+          rw small (plain_number (decimal n) n h.0.0 h.0.1
+          (number_up_to-decimal (2 ^ 31 - 1) n (omega arith) (omega arith)))
       | inr high ↦
           let large : ltb n (2 ^ 31) ≡ false = grind (arith, nat_tests) in
           let back : (2 ^ 32 - (2 ^ 32 - n)) % 2 ^ 32 ≡ n = omega arith in
-          rw (large, number_up_to-decimal (2 ^ 31) (2 ^ 32 - n) (omega arith) (omega arith)) (ap Some back)
+          rw (large, number_up_to-decimal (2 ^ 31) (2 ^ 32 - n) (omega arith) (omega arith))
+          (ap Some back)
     ]
 
 -- four bytes are read back
-pub integer_back : (key : List ℕ) → IsBytes key → length key ≡ 4 → option_map (to_be_bytes w32) (integer_of (integer_text key)) ≡ Some key
+pub integer_back : (key : List ℕ) → IsBytes key → length key ≡ 4
+    → option_map (to_be_bytes w32) (integer_of (integer_text key)) ≡ Some key
 integer_back [] bytes four = absurd (omega arith)
 integer_back (a ∷ []) bytes four = absurd (omega arith)
 integer_back (a ∷ b ∷ []) bytes four = absurd (omega arith)
@@ -132,14 +147,16 @@ integer_back (a ∷ b ∷ c ∷ d ∷ []) bytes four =
 
 octet_back : (n : ℕ) → n < 256 → octet (decimal n) ≡ Some n
 octet_back n fits =
-    let short : leb (length (decimal n)) 3 ≡ true = grind (arith, nat_tests, length-decimal-le 3 n (omega arith) (omega arith) (omega arith)) in
+    let short : leb (length (decimal n)) 3 ≡ true =
+    grind (arith, nat_tests, length-decimal-le 3 n (omega arith) (omega arith) (omega arith)) in
     rw short (number_up_to-decimal 255 n (omega arith) (omega arith))
 
 octets_read : (key : List ℕ) → IsBytes key → all_bytes Octet (map decimal key) ≡ Some key
 octets_read [] bytes = refl
 octets_read (b ∷ key) bytes = rw (octet_back b (bytes 0), octets_read key (λ i. bytes (suc i))) refl
 
-octets_free : (key : List ℕ) → IsBytes key → list_all (list_all (differs 46)) (map decimal key) ≡ true
+octets_free : (key : List ℕ) → IsBytes key
+    → list_all (list_all (differs 46)) (map decimal key) ≡ true
 octets_free [] bytes = refl
 octets_free (b ∷ key) bytes =
     let fits : b < 256 = bytes 0 in
@@ -147,16 +164,19 @@ octets_free (b ∷ key) bytes =
     rw (no_dots (decimal b) h.0.1, octets_free key (λ i. bytes (suc i))) refl
 
 -- bytes joined by dots are read back
-pub octets_back : (key : List ℕ) → IsBytes key → 0 < length key → all_bytes Octet (parts 46 (join_with_byte 46 (map decimal key))) ≡ Some key
+pub octets_back : (key : List ℕ) → IsBytes key → 0 < length key
+    → all_bytes Octet (parts 46 (join_with_byte 46 (map decimal key))) ≡ Some key
 octets_back [] bytes some = absurd (omega arith)
 octets_back (b ∷ key) bytes some =
-    rw (parts-join 46 (decimal b) (map decimal key) (octets_free (b ∷ key) bytes)) (octets_read (b ∷ key) bytes)
+    rw (parts-join 46 (decimal b) (map decimal key) (octets_free (b ∷ key) bytes))
+    (octets_read (b ∷ key) bytes)
 
 -- ---- hexadecimal digits
 
 -- the test of one digit, which computes
 abbrev is_glyph : ℕ → Bool
-is_glyph d = eqb (digit_value (slice_index lower_digits d)) d && differs 58 (slice_index lower_digits d)
+is_glyph d = eqb (digit_value (slice_index lower_digits d)) d
+    && differs 58 (slice_index lower_digits d)
 
 abbrev are_glyphs : ℕ → Bool
 are_glyphs zero = true
@@ -174,65 +194,97 @@ glyph_at (suc n) d h lt =
     ]
 
 -- a digit's value, and that it is no colon
-glyph : (d : ℕ) → d < 16 → (digit_value (slice_index lower_digits d) ≡ d) × (differs 58 (slice_index lower_digits d) ≡ true)
+glyph : (d : ℕ) → d < 16 → (digit_value (slice_index lower_digits d) ≡ d)
+    × (differs 58 (slice_index lower_digits d) ≡ true)
 glyph d lt =
-    let h = both (eqb (digit_value (slice_index lower_digits d)) d) (differs 58 (slice_index lower_digits d)) (glyph_at 16 d refl lt) in
+    let h = both (eqb (digit_value (slice_index lower_digits d)) d)
+    (differs 58 (slice_index lower_digits d)) (glyph_at 16 d refl lt) in
     (eqb-true (digit_value (slice_index lower_digits d)) d h.0, h.1)
 
 -- the number of four digits
-four_digits : (a b c d : ℕ) → a < 16 → b < 16 → c < 16 → d < 16 → AllDigits 16 (slice_index lower_digits a ∷ slice_index lower_digits b ∷ slice_index lower_digits c ∷ slice_index lower_digits d ∷ []) × (digits_value 16 (slice_index lower_digits a ∷ slice_index lower_digits b ∷ slice_index lower_digits c ∷ slice_index lower_digits d ∷ []) ≡ ((a * 16 + b) * 16 + c) * 16 + d)
+four_digits : (a b c d : ℕ) → a < 16 → b < 16 → c < 16 → d < 16
+    → AllDigits 16 (slice_index lower_digits a ∷ slice_index lower_digits b ∷ slice_index
+    lower_digits c ∷ slice_index lower_digits d ∷ [])
+    × (digits_value 16 (slice_index lower_digits a ∷ slice_index lower_digits b ∷ slice_index
+    lower_digits c ∷ slice_index lower_digits d ∷ []) ≡ ((a * 16 + b) * 16 + c) * 16 + d)
 four_digits a b c d ha hb hc hd =
     let ga = (glyph a ha).0 in
     let gb = (glyph b hb).0 in
     let gc = (glyph c hc).0 in
-    let gd = (glyph d hd).0 in
-    ((omega arith, (omega arith, (omega arith, (omega arith, tt)))), rw (ga, gb, gc, gd) (omega arith))
+    let gd = (glyph d hd).0 in (
+      (omega arith, (omega arith, (omega arith, (omega arith, tt)))),
+      rw (ga, gb, gc, gd) (omega arith),
+    )
 
 two_bytes : (high low : ℕ) → high < 256 → low < 256 → IsBytes (high ∷ low ∷ [])
 two_bytes high low hh hl zero = hh
 two_bytes high low hh hl (suc zero) = hl
 two_bytes high low hh hl (suc (suc i)) = lit< tt
 
-group_read : (high low : ℕ) → high < 256 → low < 256 → part_bytes Group (hex_of high ++ hex_of low) ≡ Some (high ∷ low ∷ [])
+group_read : (high low : ℕ) → high < 256 → low < 256 → part_bytes Group (hex_of high ++ hex_of low)
+    ≡ Some (high ∷ low ∷ [])
 unfolding number_up_to
 group_read high low hh hl =
-    let h = four_digits (high / 16) (high % 16) (low / 16) (low % 16) (omega arith) (omega arith) (omega arith) (omega arith) in
-    let value : ((high / 16 * 16 + high % 16) * 16 + low / 16) * 16 + low % 16 ≡ high * 256 + low = omega arith in
+    let h = four_digits (high / 16) (high % 16) (low / 16) (low % 16) (omega arith) (omega arith)
+    (omega arith) (omega arith) in
+    let value : ((high / 16 * 16 + high % 16) * 16 + low / 16) * 16 + low % 16 ≡ high * 256 + low =
+    omega arith in
     let small : leb (high * 256 + low) 65535 ≡ true = grind (arith, nat_tests) in
     let text = hex_of high ++ hex_of low in
-    rw (all_digits 16 text h.0, h.1 ∙ value, small) (ap Some (be_bytes_2 (high ∷ low ∷ []) (high * 256 + low) refl (two_bytes high low hh hl) (omega arith)))
+    rw (all_digits 16 text h.0, h.1 ∙ value, small)
+    (ap Some (be_bytes_2 (high ∷ low ∷ []) (high * 256 + low) refl (two_bytes high low hh hl)
+    (omega arith)))
 
-groups_read : (key : List ℕ) (k : ℕ) → IsBytes key → length key ≡ 2 * k → all_bytes Group (groups key) ≡ Some key
+groups_read : (key : List ℕ) (k : ℕ) → IsBytes key → length key ≡ 2 * k
+    → all_bytes Group (groups key) ≡ Some key
 groups_read [] k bytes even = refl
 groups_read (high ∷ []) k bytes even = absurd (omega arith)
 groups_read (high ∷ low ∷ key) k bytes even =
-    rw (group_read high low (bytes 0) (bytes 1), groups_read key (k - 1) (λ i. bytes (suc (suc i))) (omega arith)) refl
+    rw (
+      group_read high low (bytes 0) (bytes 1),
+      groups_read key (k - 1) (λ i. bytes (suc (suc i)))
+          (omega arith),
+    ) refl
 
 digits_free : (byte : ℕ) → byte < 256 → list_all (differs 58) (hex_of byte) ≡ true
-digits_free byte fits = rw ((glyph (byte / 16) (omega arith)).1, (glyph (byte % 16) (omega arith)).1) refl
+digits_free byte fits = rw (
+  (glyph (byte / 16) (omega arith)).1,
+  (glyph (byte % 16) (omega arith)).1,
+) refl
 
-all_append : (p : ℕ → Bool) (a b : List ℕ) → list_all p a ≡ true → list_all p b ≡ true → list_all p (a ++ b) ≡ true
+all_append : (p : ℕ → Bool) (a b : List ℕ) → list_all p a ≡ true → list_all p b ≡ true
+    → list_all p (a ++ b) ≡ true
 all_append p a b ha hb = grind (arith, common_steps)
 
 groups_free : (key : List ℕ) → IsBytes key → list_all (list_all (differs 58)) (groups key) ≡ true
 groups_free [] bytes = refl
 groups_free (last ∷ []) bytes = rw (digits_free last (bytes 0)) refl
 groups_free (high ∷ low ∷ key) bytes =
-    rw (all_append (differs 58) (hex_of high) (hex_of low) (digits_free high (bytes 0)) (digits_free low (bytes 1)), groups_free key (λ i. bytes (suc (suc i)))) refl
+    rw (
+      all_append (differs 58) (hex_of high) (hex_of low) (digits_free high (bytes 0))
+          (digits_free low (bytes 1)),
+      groups_free key (λ i. bytes (suc (suc i))),
+    ) refl
 
 -- groups joined by colons are read back
-pub groups_back : (key : List ℕ) → IsBytes key → length key ≡ 16 → all_bytes Group (parts 58 (join_with_byte 58 (groups key))) ≡ Some key
+pub groups_back : (key : List ℕ) → IsBytes key → length key ≡ 16
+    → all_bytes Group (parts 58 (join_with_byte 58 (groups key))) ≡ Some key
 groups_back [] bytes sixteen = absurd (omega arith)
 groups_back (high ∷ []) bytes sixteen = absurd (omega arith)
 groups_back (high ∷ low ∷ key) bytes sixteen =
-    rw (parts-join 58 (hex_of high ++ hex_of low) (groups key) (groups_free (high ∷ low ∷ key) bytes)) (groups_read (high ∷ low ∷ key) 8 bytes sixteen)
+    rw (parts-join 58 (hex_of high ++ hex_of low) (groups key)
+    (groups_free (high ∷ low ∷ key) bytes)) (groups_read (high ∷ low ∷ key) 8 bytes sixteen)
 
 -- ---- strings
 
-hex_byte-of : (byte : ℕ) → byte < 256 → hex_byte (slice_index lower_digits (byte / 16)) (slice_index lower_digits (byte % 16)) ≡ Some byte
+hex_byte-of : (byte : ℕ) → byte < 256 → hex_byte (slice_index lower_digits (byte / 16))
+    (slice_index lower_digits (byte % 16)) ≡ Some byte
 hex_byte-of byte fits =
     let whole : byte / 16 * 16 + byte % 16 ≡ byte = omega arith in
-    rw (IsDigits-lower_digits (byte / 16) (omega arith), IsDigits-lower_digits (byte % 16) (omega arith)) (ap Some whole)
+    rw (
+      IsDigits-lower_digits (byte / 16) (omega arith),
+      IsDigits-lower_digits (byte % 16) (omega arith),
+    ) (ap Some whole)
 
 not_percent : (byte : ℕ) → is_plain byte ≡ true → eqb byte 37 ≡ false
 not_percent byte plain =
@@ -241,7 +293,8 @@ not_percent byte plain =
       | inr other ↦ other
     ]
 
-plain_read : (byte : ℕ) (rest : List ℕ) → is_plain byte ≡ true → string_of (byte ∷ rest) ≡ before (Some byte) (string_of rest)
+plain_read : (byte : ℕ) (rest : List ℕ) → is_plain byte ≡ true
+    → string_of (byte ∷ rest) ≡ before (Some byte) (string_of rest)
 plain_read byte [] plain = rw plain refl
 plain_read byte (b ∷ []) plain = rw plain refl
 plain_read byte (b ∷ c ∷ rest) plain =
@@ -266,5 +319,6 @@ hex_of-encode [] = refl
 hex_of-encode (b ∷ key) = ap (λ rest. hex_of b ++ rest) (hex_of-encode key)
 
 -- hexadecimal digits are read back
-pub binary_back : (key : List ℕ) → IsBytes key → result_ok (decode_of (flat_map hex_of key)) ≡ Some key
+pub binary_back : (key : List ℕ) → IsBytes key
+    → result_ok (decode_of (flat_map hex_of key)) ≡ Some key
 binary_back key bytes = rw (hex_of-encode key, decode_of-encode_lower key bytes) refl

@@ -2,7 +2,8 @@
 
 ghost use Rattle.std.specs.Prelude.{◌≡◌, ◌≤◌, Some, None, if◌then◌else◌, IfSome, IfOk};
 ghost use Rattle.line_words.specs.Words.{parts};
-ghost use Rattle.key_text.specs.Read.{all_bytes, between, group, number_up_to, octet, part_bytes, put_behind};
+ghost use Rattle.key_text.specs.Read.{all_bytes, between, group, number_up_to, octet, part_bytes};
+ghost use Rattle.key_text.specs.Read.{put_behind};
 
 use agg_types::NoMemory;
 use line_words::next_part;

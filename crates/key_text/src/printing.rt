@@ -4,7 +4,8 @@ ghost use Rattle.std.specs.Prelude.{◌≡◌, ◌++◌, ◌<◌, length, take, 
 ghost use Rattle.std.specs.Fmt.{decimal};
 ghost use Rattle.std.specs.List.{flat_map, join_with_byte};
 ghost use Rattle.hex.specs.Hex.{lower_digits};
-ghost use Rattle.key_text.specs.Printed.{escaped, groups, hex_of, integer_text, is_plain, key_text, signed_text};
+ghost use Rattle.key_text.specs.Printed.{escaped, groups, hex_of, integer_text, is_plain, key_text};
+ghost use Rattle.key_text.specs.Printed.{signed_text};
 
 use agg_types::{KeyKind, NoMemory};
 use itoa::Buffer;

@@ -1,11 +1,13 @@
 //! Keys from their texts.
 
-ghost use Rattle.std.specs.Prelude.{◌≡◌, ◌≢◌, ◌<◌, [], length, Some, None, IfOk, IfSome, MatchOption};
+ghost use Rattle.std.specs.Prelude.{◌≡◌, ◌≢◌, ◌<◌, [], length, Some, None, IfOk, IfSome};
+ghost use Rattle.std.specs.Prelude.{MatchOption};
 ghost use Rattle.agg_types.specs.declared.config.KeyKind.TheVariants.{Integer};
 ghost use Rattle.line_words.specs.Words.{parts};
 ghost use Rattle.std.specs.Result.{result_ok};
 ghost use Rattle.hex.specs.Hex.{decode_of, hex_digit_value};
-ghost use Rattle.key_text.specs.Read.{all_bytes, before, between, bytes_of, hex_byte, integer_of, key_of, string_of};
+ghost use Rattle.key_text.specs.Read.{all_bytes, before, between, bytes_of, hex_byte, integer_of};
+ghost use Rattle.key_text.specs.Read.{key_of, string_of};
 
 use crate::parts::{Part, number_up_to, push_parts};
 use crate::printing::is_plain;

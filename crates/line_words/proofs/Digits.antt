@@ -1,5 +1,6 @@
 -- Words of decimal digits, and the bound on their value.
-use Rattle.std.proofs.Common.{◌≡◌, ℕ, ◌+◌, ◌*◌, ◌-◌, ◌^◌, ◌<◌, ◌≤◌, true, List, [], ◌∷◌, length, get_or, take, length-take, refl, arith}
+use Rattle.std.proofs.Common.{◌≡◌, ℕ, ◌+◌, ◌*◌, ◌-◌, ◌^◌, ◌<◌, ◌≤◌, true, List, [], ◌∷◌, length}
+use Rattle.std.proofs.Common.{get_or, take, length-take, refl, arith}
 use Rattle.std.specs.Char.{digit_value}
 use Rattle.std.specs.List.{list_all}
 use Rattle.std.specs.Str.Parse.{AllDigits, digits_value}
@@ -23,14 +24,21 @@ digits-from_list_all (byte ∷ word) h =
     ((rw (digit_value-decimal byte low high) (omega arith)), digits-from_list_all word p.1)
 
 -- the digits up to one more, and their value
-pub digits_step : (word : List ℕ) (i : ℕ) → list_all is_decimal word ≡ true → i < length word → AllDigits 10 (take i word) → AllDigits 10 (take (i + 1) word) × (digits_value 10 (take (i + 1) word) ≡ digits_value 10 (take i word) * 10 + (get_or word i 0 - 48))
+pub digits_step : (word : List ℕ) (i : ℕ) → list_all is_decimal word ≡ true → i < length word
+    → AllDigits 10 (take i word) → AllDigits 10 (take (i + 1) word)
+    × (digits_value 10 (take (i + 1) word) ≡ digits_value 10 (take i word) * 10 +
+    (get_or word i 0 - 48))
 digits_step word i all h digits =
     let range = digit_at word i (digits-from_list_all word all) h in
-    let value : digit_value (get_or word i 0) ≡ get_or word i 0 - 48 = digit_value-decimal (get_or word i 0) range.0 range.1 in
-    (digits_more 10 word i h digits (rw value (omega (arith, range.0, range.1))), rw (digits_value_more 10 word i h, value) refl)
+    let value : digit_value (get_or word i 0) ≡ get_or word i 0 - 48 =
+    digit_value-decimal (get_or word i 0) range.0 range.1 in (
+      digits_more 10 word i h digits (rw value (omega (arith, range.0, range.1))),
+      rw (digits_value_more 10 word i h, value) refl,
+    )
 
 -- fewer than 20 digits leave room for one more
-pub digits_value-short : (word : List ℕ) (i : ℕ) → i < 20 → AllDigits 10 (take i word) → digits_value 10 (take i word) < 10 ^ 19
+pub digits_value-short : (word : List ℕ) (i : ℕ) → i < 20 → AllDigits 10 (take i word)
+    → digits_value 10 (take i word) < 10 ^ 19
 digits_value-short word i short digits =
     let below = digits_value-lt 10 (take i word) digits in
     let len : length (take i word) ≤ 19 = omega (arith, length-take i word) in

@@ -5,16 +5,19 @@ use Rattle.std.proofs.lemmas.List.Folds.{fold-map}
 use Rattle.peer_rows.specs.declared.row.Held.{Held}
 use Rattle.peer_rows.specs.Counted.{counted, counted_at}
 
-pub counted_at_held : (cells : List Held) (col : ℕ) (held : Held) → slice_get cells col ≡ Some held → counted_at cells col ≡ counted held
+pub counted_at_held : (cells : List Held) (col : ℕ) (held : Held) → slice_get cells col ≡ Some held
+    → counted_at cells col ≡ counted held
 counted_at_held [] col held found = cc
 counted_at_held (c ∷ cells) zero held found = let same : c ≡ held = cc in ap counted same
 counted_at_held (c ∷ cells) (suc col) held found = counted_at_held cells col held found
 
-pub counted_at_none : (cells : List Held) (col : ℕ) → slice_get cells col ≡ None → counted_at cells col ≡ 0
+pub counted_at_none : (cells : List Held) (col : ℕ) → slice_get cells col ≡ None
+    → counted_at cells col ≡ 0
 counted_at_none [] col none = refl
 counted_at_none (c ∷ cells) zero none = cc
 counted_at_none (c ∷ cells) (suc col) none = counted_at_none cells col none
 
 -- a sum over what a list is seen as
-pub sum_by-map : {X Y : Type 0} (f : Y → ℕ) (view : X → Y) (xs : List X) → sum_by f (map view xs) ≡ sum_by (λ x. f (view x)) xs
+pub sum_by-map : {X Y : Type 0} (f : Y → ℕ) (view : X → Y) (xs : List X)
+    → sum_by f (map view xs) ≡ sum_by (λ x. f (view x)) xs
 sum_by-map f view xs = fold-map (λ n y. n + f y) view 0 xs

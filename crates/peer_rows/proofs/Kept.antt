@@ -1,5 +1,7 @@
 -- What a table keeps beside its rows, as they change: each peer's number of rows.
-use Rattle.std.proofs.Common.{◌≡◌, ◌≢◌, ℕ, zero, suc, ◌+◌, ◌-◌, ◌<◌, ◌≤◌, Bool, true, false, cond, ◌&&◌, List, [], ◌∷◌, length, refl, sym, ◌∙◌, ap, subst, arith, get_or, set, get_or-set_same, get_or-set_other, ⊎_elim}
+use Rattle.std.proofs.Common.{◌≡◌, ◌≢◌, ℕ, zero, suc, ◌+◌, ◌-◌, ◌<◌, ◌≤◌, Bool, true, false, cond}
+use Rattle.std.proofs.Common.{◌&&◌, List, [], ◌∷◌, length, refl, sym, ◌∙◌, ap, subst, arith, get_or}
+use Rattle.std.proofs.Common.{set, get_or-set_same, get_or-set_other, ⊎_elim}
 use Rattle.std.specs.Option.{is_some}
 use Rattle.std.specs.Prelude.{Option, Some, None, IfNone, not, filter, map, sum_by, ◌==◌}
 use Rattle.std.specs.declared.cmp.Ordering.{Ordering}
@@ -16,70 +18,126 @@ use Rattle.std.proofs.lemmas.Bool.Decides.{nat_tests}
 use Rattle.std.proofs.lemmas.List.{get_or_past, length-map}
 use Rattle.std.proofs.lemmas.Map.{none_passes_from_lookup}
 use Rattle.peer_rows.specs.declared.row.Row.{Row}
-use Rattle.peer_rows.specs.Table.{Spot, spot, spot_cmp, same_key, rows_in, rows_of_peer, rows_at_peer, EachPeerOnce, IsKept, TableRows}
+use Rattle.peer_rows.specs.Table.{Spot, spot, spot_cmp, same_key, rows_in, rows_of_peer}
+use Rattle.peer_rows.specs.Table.{rows_at_peer, EachPeerOnce, IsKept, TableRows}
 use Rattle.peer_rows.proofs.Counting.{sum_by-map}
 use Rattle.peer_rows.proofs.Sorted.{equal_itself}
 use Rattle.peer_rows.proofs.Selecting.{filter_not-none, filter-none}
-use Rattle.peer_rows.proofs.Spreading.{spread-remove_entry, spread-none, filter_not-spread, map-filter-spread, sorted-spread}
-use Rattle.peer_rows.proofs.Keying.{Keys, one_key, once-remove_entry, peers-lookup, rows_of_peer-split, length-filter-insert_entry_new, length-filter-insert_entry_held, length-filter-remove_entry}
+use Rattle.peer_rows.proofs.Spreading.{spread-remove_entry, spread-none, filter_not-spread}
+use Rattle.peer_rows.proofs.Spreading.{map-filter-spread, sorted-spread}
+use Rattle.peer_rows.proofs.Keying.{Keys, one_key, once-remove_entry, peers-lookup}
+use Rattle.peer_rows.proofs.Keying.{rows_of_peer-split, length-filter-insert_entry_new}
+use Rattle.peer_rows.proofs.Keying.{length-filter-insert_entry_held, length-filter-remove_entry}
 
 -- each key's rows stand by peer
-once_sorted : (es : Keys) → EachPeerOnce es → AllByRecursion (λ (e : List ℕ × List (ℕ × Row)). IsStrictlySortedBy nat_cmp (keys_of e.1)) es
+once_sorted : (es : Keys) → EachPeerOnce es
+    → AllByRecursion (λ (e : List ℕ × List (ℕ × Row)). IsStrictlySortedBy nat_cmp (keys_of e.1)) es
 once_sorted [] once = tt
 once_sorted (e ∷ es) once = (once.0.sorted, once_sorted es once.1)
 
 -- the rows of a table are in order
-pub sorted_rows : (es : Keys) → IsStrictlySortedBy (slice_cmp nat_cmp) (keys_of es) → EachPeerOnce es → IsStrictlySortedBy spot_cmp (keys_of (rows_in es))
-sorted_rows es s once = sorted-spread spot (slice_cmp nat_cmp) nat_cmp spot_cmp (λ k j p q. refl) es (equal_itself nat_list_cmp_total) s (once_sorted es once)
+pub sorted_rows : (es : Keys) → IsStrictlySortedBy (slice_cmp nat_cmp) (keys_of es)
+    → EachPeerOnce es → IsStrictlySortedBy spot_cmp (keys_of (rows_in es))
+sorted_rows es s once = sorted-spread spot (slice_cmp nat_cmp) nat_cmp spot_cmp (λ k j p q. refl) es
+    (equal_itself nat_list_cmp_total) s (once_sorted es once)
 
 pub spot_cmp_total : IsTotalOrder spot_cmp
-spot_cmp_total = then_total (on_total (λ (q : Spot). q.0) nat_list_cmp_total) (on_total (λ (q : Spot). q.1) nat_cmp_total)
+spot_cmp_total = then_total (on_total (λ (q : Spot). q.0) nat_list_cmp_total)
+    (on_total (λ (q : Spot). q.1) nat_cmp_total)
 
 -- a spot that is found has the peer that was looked for
-same_peer : (key : List ℕ) (peer : ℕ) (k : Spot) → is_at (spot_cmp (key, peer)) k ≡ true → peer ≡ k.1
+same_peer : (key : List ℕ) (peer : ℕ) (k : Spot) → is_at (spot_cmp (key, peer)) k
+    ≡ true → peer ≡ k.1
 same_peer key peer k passes = equal (second (slice_cmp nat_cmp key k.0) passes)
   where
-    second : (o : Ordering) → is_eq (ordering_then o (nat_cmp peer k.1)) ≡ true → is_eq (nat_cmp peer k.1) ≡ true
+    second : (o : Ordering) → is_eq (ordering_then o (nat_cmp peer k.1)) ≡ true
+        → is_eq (nat_cmp peer k.1) ≡ true
     second Less e = cc
     second Equal e = e
     second Greater e = cc
 
     equal : is_eq (nat_cmp peer k.1) ≡ true → peer ≡ k.1
-    equal e = let same : (peer == k.1) ≡ true = unsigned_ties peer k.1 ∙ e in grind (arith, nat_tests, same)
+    equal e = let same : (peer == k.1) ≡ true = unsigned_ties peer k.1 ∙ e in
+        grind (arith, nat_tests, same)
 
 -- a count one up at a peer
-counted_up : (counts : List ℕ) (peer : ℕ) (p : ℕ) (n m : ℕ) → peer < length counts → get_or counts p 0 ≡ n → m ≡ n + cond (p == peer) 1 0 → get_or (set counts peer (get_or counts peer 0 + 1)) p 0 ≡ m
+counted_up : (counts : List ℕ) (peer : ℕ) (p : ℕ) (n m : ℕ) → peer < length counts
+    → get_or counts p 0 ≡ n → m ≡ n + cond (p == peer) 1 0
+    → get_or (set counts peer (get_or counts peer 0 + 1)) p 0 ≡ m
 counted_up counts peer p n m in_range is more = ⊎_elim
-    (λ (same : p ≡ peer). grind (arith, nat_tests, same, get_or-set_same counts peer (get_or counts peer 0 + 1) 0 in_range))
-    (λ (other : p ≢ peer). grind (arith, nat_tests, other, get_or-set_other counts peer p (get_or counts peer 0 + 1) 0 other))
+    (λ (same : p ≡ peer). grind (
+      arith,
+      nat_tests,
+      same,
+      get_or-set_same counts peer (get_or counts peer 0 + 1) 0 in_range,
+    ))
+    (λ (other : p ≢ peer). grind (
+      arith,
+      nat_tests,
+      other,
+      get_or-set_other counts peer p (get_or counts peer 0 + 1) 0 other,
+    ))
     (cases_eq p peer)
 
-counted_down : (counts : List ℕ) (peer : ℕ) (p : ℕ) (n m : ℕ) → peer < length counts → get_or counts p 0 ≡ n → m + cond (p == peer) 1 0 ≡ n → get_or (set counts peer (get_or counts peer 0 - 1)) p 0 ≡ m
+counted_down : (counts : List ℕ) (peer : ℕ) (p : ℕ) (n m : ℕ) → peer < length counts
+    → get_or counts p 0 ≡ n → m + cond (p == peer) 1 0 ≡ n
+    → get_or (set counts peer (get_or counts peer 0 - 1)) p 0 ≡ m
 counted_down counts peer p n m in_range is less = ⊎_elim
-    (λ (same : p ≡ peer). grind (arith, nat_tests, same, get_or-set_same counts peer (get_or counts peer 0 - 1) 0 in_range))
-    (λ (other : p ≢ peer). grind (arith, nat_tests, other, get_or-set_other counts peer p (get_or counts peer 0 - 1) 0 other))
+    (λ (same : p ≡ peer). grind (
+      arith,
+      nat_tests,
+      same,
+      get_or-set_same counts peer (get_or counts peer 0 - 1) 0 in_range,
+    ))
+    (λ (other : p ≢ peer). grind (
+      arith,
+      nat_tests,
+      other,
+      get_or-set_other counts peer p (get_or counts peer 0 - 1) 0 other,
+    ))
     (cases_eq p peer)
 
-module _ (es fs : Keys) (counts : List ℕ) (key : List ℕ) (peer : ℕ) (kept : IsKept es counts) (ordered : IsStrictlySortedBy (slice_cmp nat_cmp) (keys_of fs)) (once : EachPeerOnce fs) where
-  pub kept-put_new : (row : Row) → rows_in fs ≡ insert_entry spot_cmp (rows_in es) (key, peer) row → lookup (is_at (spot_cmp (key, peer))) (rows_in es) ≡ None → peer < length counts → IsKept fs (set counts peer (get_or counts peer 0 + 1))
+module _ (es fs : Keys) (counts : List ℕ) (key : List ℕ) (peer : ℕ) (kept : IsKept es counts)
+    (ordered : IsStrictlySortedBy (slice_cmp nat_cmp) (keys_of fs)) (once : EachPeerOnce fs) where
+  pub kept-put_new : (row : Row) → rows_in fs ≡ insert_entry spot_cmp (rows_in es) (key, peer) row
+      → lookup (is_at (spot_cmp (key, peer))) (rows_in es) ≡ None → peer < length counts
+      → IsKept fs (set counts peer (get_or counts peer 0 + 1))
   kept-put_new row is none in_range = record {
     ordered = ordered;
     once = once;
-    counted = λ p. counted_up counts peer p (rows_of_peer p (rows_in es)) (rows_of_peer p (rows_in fs)) in_range (kept.counted p) (ap (λ rows. rows_of_peer p rows) is ∙ length-filter-insert_entry_new spot_cmp (λ q. p == q.1) (rows_in es) (key, peer) row none);
+    counted = λ p. counted_up counts peer p (rows_of_peer p (rows_in es))
+        (rows_of_peer p (rows_in fs)) in_range (kept.counted p) (ap (λ rows. rows_of_peer p rows) is
+        ∙ length-filter-insert_entry_new spot_cmp (λ q. p == q.1) (rows_in es) (
+          key,
+          peer,
+        ) row none);
   }
 
-  pub kept-put_held : (row old : Row) → rows_in fs ≡ insert_entry spot_cmp (rows_in es) (key, peer) row → lookup (is_at (spot_cmp (key, peer))) (rows_in es) ≡ Some old → IsKept fs counts
+  pub kept-put_held : (row old : Row) → rows_in fs ≡ insert_entry spot_cmp (rows_in es) (
+    key,
+    peer,
+  ) row → lookup (is_at (spot_cmp (key, peer))) (rows_in es) ≡ Some old → IsKept fs counts
   kept-put_held row old is found = record {
     ordered = ordered;
     once = once;
-    counted = λ p. kept.counted p ∙ sym (ap (λ rows. rows_of_peer p rows) is ∙ length-filter-insert_entry_held spot_cmp (λ q. p == q.1) spot_cmp_total (rows_in es) (key, peer) row old (sorted_rows es kept.ordered kept.once) found);
+    counted = λ p. kept.counted p ∙ sym (ap (λ rows. rows_of_peer p rows) is
+        ∙ length-filter-insert_entry_held spot_cmp (λ q. p == q.1) spot_cmp_total (rows_in es) (
+          key,
+          peer,
+        ) row old (sorted_rows es kept.ordered kept.once) found);
   }
 
-  pub kept-take : (old : Row) → rows_in fs ≡ remove_entry (is_at (spot_cmp (key, peer))) (rows_in es) → lookup (is_at (spot_cmp (key, peer))) (rows_in es) ≡ Some old → peer < length counts → IsKept fs (set counts peer (get_or counts peer 0 - 1))
+  pub kept-take : (old : Row) → rows_in fs ≡ remove_entry (is_at (spot_cmp (key, peer)))
+      (rows_in es) → lookup (is_at (spot_cmp (key, peer))) (rows_in es) ≡ Some old
+      → peer < length counts → IsKept fs (set counts peer (get_or counts peer 0 - 1))
   kept-take old is found in_range = record {
     ordered = ordered;
     once = once;
-    counted = λ p. counted_down counts peer p (rows_of_peer p (rows_in es)) (rows_of_peer p (rows_in fs)) in_range (kept.counted p) (rw is (length-filter-remove_entry spot_cmp (λ q. p == q.1) (is_at (spot_cmp (key, peer))) (p == peer) (λ k passes. ap (λ n. p == n) (sym (same_peer key peer k passes))) (rows_in es) old found));
+    counted = λ p. counted_down counts peer p (rows_of_peer p (rows_in es))
+        (rows_of_peer p (rows_in fs)) in_range (kept.counted p)
+        (rw is (length-filter-remove_entry spot_cmp (λ q. p == q.1) (is_at (spot_cmp (key, peer)))
+        (p == peer) (λ k passes. ap (λ n. p == n) (sym (same_peer key peer k passes)))
+        (rows_in es) old found));
   }
 
 -- ---- a key whose rows are all taken out
@@ -99,56 +157,102 @@ key_splits key k p = by (same_key key k)
     by false = refl
 
 module _ (es : Keys) (key : List ℕ) where
-  pub clear_not_held : lookup (is_at (slice_cmp nat_cmp key)) es ≡ None → filter (λ e. not (same_key key e.0.0)) (rows_in es) ≡ rows_in es
-  clear_not_held none = filter_not-none (λ (q : Spot). same_key key q.0) (rows_in es) (spread-none spot (same_key key) (λ p. true) (λ q. same_key key q.0) (key_splits key) es (none_passes_from_lookup (is_at (slice_cmp nat_cmp key)) es none))
+  pub clear_not_held : lookup (is_at (slice_cmp nat_cmp key)) es ≡ None
+      → filter (λ e. not (same_key key e.0.0)) (rows_in es) ≡ rows_in es
+  clear_not_held none = filter_not-none (λ (q : Spot). same_key key q.0) (rows_in es)
+      (spread-none spot (same_key key) (λ p. true) (λ q. same_key key q.0) (key_splits key) es
+      (none_passes_from_lookup (is_at (slice_cmp nat_cmp key)) es none))
 
-  pub none_of_key : lookup (is_at (slice_cmp nat_cmp key)) es ≡ None → filter (λ e. same_key key e.0.0) (rows_in es) ≡ []
-  none_of_key none = filter-none (λ (q : Spot). same_key key q.0) (rows_in es) (spread-none spot (same_key key) (λ p. true) (λ q. same_key key q.0) (key_splits key) es (none_passes_from_lookup (is_at (slice_cmp nat_cmp key)) es none))
+  pub none_of_key : lookup (is_at (slice_cmp nat_cmp key)) es ≡ None
+      → filter (λ e. same_key key e.0.0) (rows_in es) ≡ []
+  none_of_key none = filter-none (λ (q : Spot). same_key key q.0) (rows_in es)
+      (spread-none spot (same_key key) (λ p. true) (λ q. same_key key q.0) (key_splits key) es
+      (none_passes_from_lookup (is_at (slice_cmp nat_cmp key)) es none))
 
-  module _ (rows : List (ℕ × Row)) (s : IsStrictlySortedBy (slice_cmp nat_cmp) (keys_of es)) (found : lookup (is_at (slice_cmp nat_cmp key)) es ≡ Some rows) where
-    pub clear_held : rows_in (remove_entry (is_at (slice_cmp nat_cmp key)) es) ≡ filter (λ e. not (same_key key e.0.0)) (rows_in es)
-    clear_held = spread-remove_entry spot (is_at (slice_cmp nat_cmp key)) es ∙ ap (λ rest. rows_in (set_value (is_at (slice_cmp nat_cmp key)) es rest)) (sym (no_test rows)) ∙ filter_not-spread spot (same_key key) (λ p. true) (λ q. same_key key q.0) (key_splits key) es rows (one_key es key 0 s) found
+  module _ (rows : List (ℕ × Row)) (s : IsStrictlySortedBy (slice_cmp nat_cmp) (keys_of es))
+      (found : lookup (is_at (slice_cmp nat_cmp key)) es ≡ Some rows) where
+    pub clear_held : rows_in (remove_entry (is_at (slice_cmp nat_cmp key)) es)
+        ≡ filter (λ e. not (same_key key e.0.0)) (rows_in es)
+    clear_held = spread-remove_entry spot (is_at (slice_cmp nat_cmp key)) es
+        ∙ ap (λ rest. rows_in (set_value (is_at (slice_cmp nat_cmp key)) es rest))
+        (sym (no_test rows)) ∙ filter_not-spread spot (same_key key) (λ p. true)
+        (λ q. same_key key q.0) (key_splits key) es rows (one_key es key 0 s) found
 
     pub rows_of_key : map (λ e. (e.0.1, e.1)) (filter (λ e. same_key key e.0.0) (rows_in es)) ≡ rows
-    rows_of_key = map-filter-spread spot (same_key key) (λ p. true) (λ q. same_key key q.0) (key_splits key) (λ (e : Spot × Row). (e.0.1, e.1)) (λ (r : ℕ × Row). r) (λ k p x passes. refl) es rows (one_key es key 0 s) found ∙ all_pass rows
+    rows_of_key = map-filter-spread spot (same_key key) (λ p. true) (λ q. same_key key q.0)
+        (key_splits key) (λ (e : Spot × Row). (e.0.1, e.1)) (λ (r : ℕ × Row). r)
+        (λ k p x passes. refl) es rows (one_key es key 0 s) found ∙ all_pass rows
 
     pub length-rows_of_key : length (filter (λ e. same_key key e.0.0) (rows_in es)) ≡ length rows
-    length-rows_of_key = sym (length-map (filter (λ (e : Spot × Row). same_key key e.0.0) (rows_in es)) (λ e. (e.0.1, e.1))) ∙ ap length rows_of_key
+    length-rows_of_key = sym (length-map (filter (λ (e : Spot × Row). same_key key e.0.0)
+        (rows_in es)) (λ e. (e.0.1, e.1))) ∙ ap length rows_of_key
 
-    pub sum-rows_of_key : (f : Row → ℕ) → sum_by (λ e. f e.1) (filter (λ e. same_key key e.0.0) (rows_in es)) ≡ sum_by (λ r. f r.1) rows
-    sum-rows_of_key f = sym (sum_by-map (λ (r : ℕ × Row). f r.1) (λ (e : Spot × Row). (e.0.1, e.1)) (filter (λ (e : Spot × Row). same_key key e.0.0) (rows_in es))) ∙ ap (λ rs. sum_by (λ (r : ℕ × Row). f r.1) rs) rows_of_key
+    pub sum-rows_of_key : (f : Row → ℕ)
+        → sum_by (λ e. f e.1) (filter (λ e. same_key key e.0.0) (rows_in es))
+        ≡ sum_by (λ r. f r.1) rows
+    sum-rows_of_key f = sym (sum_by-map (λ (r : ℕ × Row). f r.1) (λ (e : Spot × Row). (e.0.1, e.1))
+        (filter (λ (e : Spot × Row). same_key key e.0.0) (rows_in es)))
+        ∙ ap (λ rs. sum_by (λ (r : ℕ × Row). f r.1) rs) rows_of_key
 
 -- a key of whose rows none is listed isn't there
-pub none_in_keys : (es : Keys) (key : List ℕ) → IsStrictlySortedBy (slice_cmp nat_cmp) (keys_of es) → EachPeerOnce es → filter (λ e. same_key key e.0.0) (rows_in es) ≡ [] → lookup (is_at (slice_cmp nat_cmp key)) es ≡ None
+pub none_in_keys : (es : Keys) (key : List ℕ) → IsStrictlySortedBy (slice_cmp nat_cmp) (keys_of es)
+    → EachPeerOnce es → filter (λ e. same_key key e.0.0) (rows_in es) ≡ []
+    → lookup (is_at (slice_cmp nat_cmp key)) es ≡ None
 none_in_keys es key s once none = by (lookup (is_at (slice_cmp nat_cmp key)) es) refl
   where
-    by : (found : Option (List (ℕ × Row))) → lookup (is_at (slice_cmp nat_cmp key)) es ≡ found → found ≡ None
+    by : (found : Option (List (ℕ × Row))) → lookup (is_at (slice_cmp nat_cmp key)) es ≡ found
+        → found ≡ None
     by None is = refl
     by (Some rows) is =
-        let listed : map {B = ℕ × Row} (λ (e : Spot × Row). (e.0.1, e.1)) [] ≡ rows = ap (λ l. map {B = ℕ × Row} (λ (e : Spot × Row). (e.0.1, e.1)) l) (sym none) ∙ rows_of_key es key rows s is in
+        let listed : map {B = ℕ × Row} (λ (e : Spot × Row). (e.0.1, e.1)) [] ≡ rows =
+        ap (λ l. map {B = ℕ × Row} (λ (e : Spot × Row). (e.0.1, e.1)) l) (sym none)
+        ∙ rows_of_key es key rows s is in
         absurd ((peers-lookup (is_at (slice_cmp nat_cmp key)) es rows once is).some (sym listed))
 
-pub rows_of_peer-remove : (test : List ℕ → Bool) (es : Keys) (rows : List (ℕ × Row)) (p : ℕ) → lookup test es ≡ Some rows → rows_of_peer p (rows_in (remove_entry test es)) + rows_at_peer p rows ≡ rows_of_peer p (rows_in es)
+pub rows_of_peer-remove : (test : List ℕ → Bool) (es : Keys) (rows : List (ℕ × Row)) (p : ℕ)
+    → lookup test es ≡ Some rows → rows_of_peer p (rows_in (remove_entry test es)) + rows_at_peer p
+    rows ≡ rows_of_peer p (rows_in es)
 rows_of_peer-remove test [] rows p found = cc
-rows_of_peer-remove test (e ∷ es) rows p found = by (rows_of_peer-remove test es rows p) (test e.0) found
+rows_of_peer-remove test (e ∷ es) rows p found =
+    by (rows_of_peer-remove test es rows p) (test e.0) found
   where
-    by : (lookup test es ≡ Some rows → rows_of_peer p (rows_in (remove_entry test es)) + rows_at_peer p rows ≡ rows_of_peer p (rows_in es)) → (b : Bool) → cond b (Some e.1) (lookup test es) ≡ Some rows → rows_of_peer p (rows_in (cond b es (e ∷ remove_entry test es))) + rows_at_peer p rows ≡ rows_of_peer p (rows_in (e ∷ es))
-    by more true is = let same : e.1 ≡ rows = cc in let split = rows_of_peer-split p e es in let here : rows_at_peer p e.1 ≡ rows_at_peer p rows = ap (λ rs. rows_at_peer p rs) same in omega (arith, split, here)
-    by more false is = let rest = more is in let split = rows_of_peer-split p e es in let fewer = rows_of_peer-split p e (remove_entry test es) in omega (arith, rest, split, fewer)
+    by : (lookup test es ≡ Some rows → rows_of_peer p (rows_in (remove_entry test es)) +
+        rows_at_peer p rows ≡ rows_of_peer p (rows_in es)) → (b : Bool)
+        → cond b (Some e.1) (lookup test es) ≡ Some rows
+        → rows_of_peer p (rows_in (cond b es (e ∷ remove_entry test es))) + rows_at_peer p rows
+        ≡ rows_of_peer p (rows_in (e ∷ es))
+    by more true is = let same : e.1 ≡ rows = cc in let split = rows_of_peer-split p e es in
+        let here : rows_at_peer p e.1 ≡ rows_at_peer p rows = ap (λ rs. rows_at_peer p rs) same in
+        omega (arith, split, here)
+    by more false is = let rest = more is in let split = rows_of_peer-split p e es in let fewer =
+        rows_of_peer-split p e (remove_entry test es) in omega (arith, rest, split, fewer)
 
 -- the rows of a key taken out and counted down
-pub kept-clear : (es fs : Keys) (counts less : List ℕ) (key : List ℕ) (rows : List (ℕ × Row)) → IsKept es counts → lookup (is_at (slice_cmp nat_cmp key)) es ≡ Some rows → fs ≡ remove_entry (is_at (slice_cmp nat_cmp key)) es → IsStrictlySortedBy (slice_cmp nat_cmp) (keys_of fs) → ((p : ℕ) → get_or less p 0 + rows_at_peer p rows ≡ get_or counts p 0) → IsKept fs less
+pub kept-clear : (es fs : Keys) (counts less : List ℕ) (key : List ℕ) (rows : List (ℕ × Row))
+    → IsKept es counts → lookup (is_at (slice_cmp nat_cmp key)) es ≡ Some rows
+    → fs ≡ remove_entry (is_at (slice_cmp nat_cmp key)) es
+    → IsStrictlySortedBy (slice_cmp nat_cmp) (keys_of fs)
+    → ((p : ℕ) → get_or less p 0 + rows_at_peer p rows ≡ get_or counts p 0) → IsKept fs less
 kept-clear es fs counts less key rows kept found is ordered down = record {
   ordered = ordered;
-  once = subst EachPeerOnce (sym is) (once-remove_entry (is_at (slice_cmp nat_cmp key)) es kept.once);
-  counted = λ p. let was = kept.counted p in let counts_down = down p in let fewer : rows_of_peer p (rows_in fs) + rows_at_peer p rows ≡ rows_of_peer p (rows_in es) = rw is (rows_of_peer-remove (is_at (slice_cmp nat_cmp key)) es rows p found) in omega (arith, was, counts_down, fewer);
+  once = subst EachPeerOnce (sym is) (once-remove_entry (is_at (slice_cmp nat_cmp key))
+      es kept.once);
+  counted = λ p. let was = kept.counted p in let counts_down = down p in
+      let fewer : rows_of_peer p (rows_in fs) + rows_at_peer p rows ≡ rows_of_peer p (rows_in es) =
+      rw is (rows_of_peer-remove (is_at (slice_cmp nat_cmp key)) es rows p found) in
+      omega (arith, was, counts_down, fewer);
 }
 
-pub can_count_down : (es : Keys) (counts : List ℕ) (key : List ℕ) (rows : List (ℕ × Row)) → IsKept es counts → lookup (is_at (slice_cmp nat_cmp key)) es ≡ Some rows → (p : ℕ) → rows_at_peer p rows ≤ get_or counts p 0
-can_count_down es counts key rows kept found p = let was = kept.counted p in let fewer = rows_of_peer-remove (is_at (slice_cmp nat_cmp key)) es rows p found in omega (arith, was, fewer)
+pub can_count_down : (es : Keys) (counts : List ℕ) (key : List ℕ) (rows : List (ℕ × Row))
+    → IsKept es counts → lookup (is_at (slice_cmp nat_cmp key)) es ≡ Some rows → (p : ℕ)
+    → rows_at_peer p rows ≤ get_or counts p 0
+can_count_down es counts key rows kept found p = let was = kept.counted p in let fewer =
+    rows_of_peer-remove (is_at (slice_cmp nat_cmp key)) es rows p found in omega (arith, was, fewer)
 
 -- a peer with a row left to count down is within the counts
-pub counted_in_range : (counts : List ℕ) (peer : ℕ) (row : Row) (rest left : List (ℕ × Row)) → left ≡ (peer, row) ∷ rest → ((p : ℕ) → rows_at_peer p left ≤ get_or counts p 0) → peer < length counts
+pub counted_in_range : (counts : List ℕ) (peer : ℕ) (row : Row) (rest left : List (ℕ × Row))
+    → left ≡ (peer, row) ∷ rest → ((p : ℕ) → rows_at_peer p left ≤ get_or counts p 0)
+    → peer < length counts
 counted_in_range counts peer row rest left is enough = ⊎_elim
     (λ (inside : peer < length counts). inside)
     (λ (past : length counts ≤ peer). absurd (too_many past))
@@ -158,7 +262,9 @@ counted_in_range counts peer row rest left is enough = ⊎_elim
     itself = let same : (peer == peer) ≡ true = grind (arith, nat_tests) in rw same refl
 
     too_many : length counts ≤ peer → ⊥
-    too_many past = let nothing = get_or_past counts peer 0 past in let some = enough peer in let one = ap (λ rows. rows_at_peer peer rows) is in let more = itself in omega (arith, nothing, some, one, more)
+    too_many past = let nothing = get_or_past counts peer 0 past in let some = enough peer in
+        let one = ap (λ rows. rows_at_peer peer rows) is in let more = itself in
+        omega (arith, nothing, some, one, more)
 
 -- an option that a test says is there
 pub is_there : (o : Option Row) → is_some o ≡ true → (row : Row) × (o ≡ Some row)
@@ -170,26 +276,39 @@ is_missing None e = refl
 is_missing (Some row) e = cc
 
 -- an element, whatever stands for what is past the end
-pub get_or_in : (counts : List ℕ) (i n : ℕ) → i < length counts → n ≡ get_or counts i n → n ≡ get_or counts i 0
+pub get_or_in : (counts : List ℕ) (i n : ℕ) → i < length counts → n ≡ get_or counts i n
+    → n ≡ get_or counts i 0
 get_or_in [] i n h e = absurd (omega (arith, h))
 get_or_in (x ∷ xs) zero n h e = e
 get_or_in (x ∷ xs) (suc i) n h e = get_or_in xs i n (omega (arith, h)) e
 
 -- what can be counted down at a peer that holds a row
-pub counted_some : (es : Keys) (counts : List ℕ) (key : List ℕ) (peer : ℕ) (old : Row) → IsKept es counts → lookup (is_at (spot_cmp (key, peer))) (rows_in es) ≡ Some old → 1 ≤ get_or counts peer 0
+pub counted_some : (es : Keys) (counts : List ℕ) (key : List ℕ) (peer : ℕ) (old : Row)
+    → IsKept es counts → lookup (is_at (spot_cmp (key, peer))) (rows_in es) ≡ Some old
+    → 1 ≤ get_or counts peer 0
 counted_some es counts key peer old kept found =
-    let less = length-filter-remove_entry spot_cmp (λ q. peer == q.1) (is_at (spot_cmp (key, peer))) true (λ k passes. let same : peer ≡ k.1 = same_peer key peer k passes in grind (arith, nat_tests, same)) (rows_in es) old found in
+    let less = length-filter-remove_entry spot_cmp (λ q. peer == q.1) (is_at (spot_cmp (key, peer)))
+    true (λ k passes. let same : peer ≡ k.1 = same_peer key peer k passes in
+    grind (arith, nat_tests, same)) (rows_in es) old found in
     let was = kept.counted peer in
     omega (arith, less, was)
 
-pub kept-same : (es fs : Keys) (counts : List ℕ) → IsKept es counts → IsStrictlySortedBy (slice_cmp nat_cmp) (keys_of fs) → EachPeerOnce fs → rows_in fs ≡ rows_in es → IsKept fs counts
-kept-same es fs counts kept ordered once is = record { ordered = ordered; once = once; counted = λ p. kept.counted p ∙ ap (λ rows. rows_of_peer p rows) (sym is) }
+pub kept-same : (es fs : Keys) (counts : List ℕ) → IsKept es counts
+    → IsStrictlySortedBy (slice_cmp nat_cmp) (keys_of fs) → EachPeerOnce fs
+    → rows_in fs ≡ rows_in es → IsKept fs counts
+kept-same es fs counts kept ordered once is = record {
+  ordered = ordered;
+  once = once;
+  counted =
+      λ p. kept.counted p ∙ ap (λ rows. rows_of_peer p rows) (sym is);
+}
 
 -- a table by its number of peers and its rows
 abbrev pub record_of : ℕ → List (Spot × Row) → TableRows
 record_of n rows = record { peers = n; entries = rows }
 
-pub same_rows : (n m : ℕ) (xs ys : List (Spot × Row)) → n ≡ m → xs ≡ ys → record_of n xs ≡ record_of m ys
+pub same_rows : (n m : ℕ) (xs ys : List (Spot × Row)) → n ≡ m → xs ≡ ys
+    → record_of n xs ≡ record_of m ys
 same_rows n m xs ys e f = rw (e, f) refl
 
 -- what holds where there is nothing

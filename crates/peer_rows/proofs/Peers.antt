@@ -1,5 +1,7 @@
 -- Where a peer stands among the rows of a key, and what is looked up, put in or taken out there.
-use Rattle.std.proofs.Common.{◌≡◌, ◌≢◌, ℕ, zero, suc, ◌+◌, ◌<◌, ◌≤◌, List, [], ◌∷◌, ◌++◌, length, take, drop, cond, Ok, Err, OnOk, OnErr, refl, sym, ◌∙◌, ap, subst, arith, get_or, set}
+use Rattle.std.proofs.Common.{◌≡◌, ◌≢◌, ℕ, zero, suc, ◌+◌, ◌<◌, ◌≤◌, List, [], ◌∷◌, ◌++◌, length}
+use Rattle.std.proofs.Common.{take, drop, cond, Ok, Err, OnOk, OnErr, refl, sym, ◌∙◌, ap, subst}
+use Rattle.std.proofs.Common.{arith, get_or, set}
 use Rattle.std.specs.Prelude.{Option, Some, None, Result}
 use Rattle.std.specs.declared.cmp.Ordering.{Ordering}
 use Rattle.std.specs.declared.cmp.Ordering.TheVariants.{Less, Equal, Greater}
@@ -12,7 +14,8 @@ use Rattle.std.proofs.lemmas.List.{drop_more, drop_all}
 use Rattle.agg_types.specs.declared.no_memory.NoMemory.{NoMemory}
 use Rattle.peer_rows.specs.declared.row.Row.{Row}
 use Rattle.peer_rows.specs.Peers.{IsFound, IsGap, ArePeers}
-use Rattle.peer_rows.proofs.Sorted.{sorted_one, sorted_others, lookup_below, sorted-insert_entry, sorted-remove_entry}
+use Rattle.peer_rows.proofs.Sorted.{sorted_one, sorted_others, lookup_below, sorted-insert_entry}
+use Rattle.peer_rows.proofs.Sorted.{sorted-remove_entry}
 
 above : (peer p : ℕ) → p < peer → nat_cmp peer p ≡ Greater
 above peer p less = sym (nat_cmp_is peer p Greater less)
@@ -29,25 +32,32 @@ module _ (peer : ℕ) where
   found_in (r ∷ rows) zero found = omega arith
   found_in (r ∷ rows) (suc i) found = omega (arith, found_in rows i found.1)
 
-  pub found_value : (rows : List (ℕ × Row)) (i : ℕ) (d : ℕ × Row) → IsFound peer rows i → lookup (is_at (nat_cmp peer)) rows ≡ Some (get_or rows i d).1
+  pub found_value : (rows : List (ℕ × Row)) (i : ℕ) (d : ℕ × Row) → IsFound peer rows i
+      → lookup (is_at (nat_cmp peer)) rows ≡ Some (get_or rows i d).1
   found_value [] i d found = absurd found
   found_value (r ∷ rows) zero d found = rw (same peer r.0 found) refl
-  found_value (r ∷ rows) (suc i) d found = rw (above peer r.0 found.0) (found_value rows i d found.1)
+  found_value (r ∷ rows) (suc i) d found =
+      rw (above peer r.0 found.0) (found_value rows i d found.1)
 
-  pub found_key : (rows : List (ℕ × Row)) (i : ℕ) (d : ℕ × Row) → IsFound peer rows i → (get_or rows i d).0 ≡ peer
+  pub found_key : (rows : List (ℕ × Row)) (i : ℕ) (d : ℕ × Row) → IsFound peer rows i
+      → (get_or rows i d).0 ≡ peer
   found_key [] i d found = absurd found
   found_key (r ∷ rows) zero d found = found
   found_key (r ∷ rows) (suc i) d found = found_key rows i d found.1
 
-  pub found_put : (rows : List (ℕ × Row)) (i : ℕ) (row : Row) → IsFound peer rows i → insert_entry nat_cmp rows peer row ≡ set rows i (peer, row)
+  pub found_put : (rows : List (ℕ × Row)) (i : ℕ) (row : Row) → IsFound peer rows i
+      → insert_entry nat_cmp rows peer row ≡ set rows i (peer, row)
   found_put [] i row found = absurd found
   found_put (r ∷ rows) zero row found = rw (same peer r.0 found) (ap (λ p. (p, row) ∷ rows) found)
-  found_put (r ∷ rows) (suc i) row found = rw (above peer r.0 found.0) (ap (λ rs. r ∷ rs) (found_put rows i row found.1))
+  found_put (r ∷ rows) (suc i) row found =
+      rw (above peer r.0 found.0) (ap (λ rs. r ∷ rs) (found_put rows i row found.1))
 
-  pub found_taken : (rows : List (ℕ × Row)) (i : ℕ) → IsFound peer rows i → remove_entry (is_at (nat_cmp peer)) rows ≡ take i rows ++ drop (suc i) rows
+  pub found_taken : (rows : List (ℕ × Row)) (i : ℕ) → IsFound peer rows i
+      → remove_entry (is_at (nat_cmp peer)) rows ≡ take i rows ++ drop (suc i) rows
   found_taken [] i found = absurd found
   found_taken (r ∷ rows) zero found = rw (same peer r.0 found) refl
-  found_taken (r ∷ rows) (suc i) found = rw (above peer r.0 found.0) (ap (λ rs. r ∷ rs) (found_taken rows i found.1))
+  found_taken (r ∷ rows) (suc i) found =
+      rw (above peer r.0 found.0) (ap (λ rs. r ∷ rs) (found_taken rows i found.1))
 
   pub gap_in : (rows : List (ℕ × Row)) (i : ℕ) → IsGap peer rows i → i ≤ length rows
   gap_in [] zero gap = omega arith
@@ -55,19 +65,25 @@ module _ (peer : ℕ) where
   gap_in (r ∷ rows) zero gap = omega arith
   gap_in (r ∷ rows) (suc i) gap = omega (arith, gap_in rows i gap.1)
 
-  pub gap_none : (rows : List (ℕ × Row)) (i : ℕ) → IsStrictlySortedBy nat_cmp (keys_of rows) → IsGap peer rows i → lookup (is_at (nat_cmp peer)) rows ≡ None
+  pub gap_none : (rows : List (ℕ × Row)) (i : ℕ) → IsStrictlySortedBy nat_cmp (keys_of rows)
+      → IsGap peer rows i → lookup (is_at (nat_cmp peer)) rows ≡ None
   gap_none [] i s gap = refl
-  gap_none (r ∷ rows) zero s gap = lookup_below nat_cmp nat_cmp_total peer r rows (below peer r.0 gap) s
-  gap_none (r ∷ rows) (suc i) s gap = rw (above peer r.0 gap.0) (gap_none rows i (sorted_others nat_cmp r.0 rows s) gap.1)
+  gap_none (r ∷ rows) zero s gap =
+      lookup_below nat_cmp nat_cmp_total peer r rows (below peer r.0 gap) s
+  gap_none (r ∷ rows) (suc i) s gap =
+      rw (above peer r.0 gap.0) (gap_none rows i (sorted_others nat_cmp r.0 rows s) gap.1)
 
-  pub gap_put : (rows : List (ℕ × Row)) (i : ℕ) (row : Row) → IsGap peer rows i → insert_entry nat_cmp rows peer row ≡ take i rows ++ (peer, row) ∷ drop i rows
+  pub gap_put : (rows : List (ℕ × Row)) (i : ℕ) (row : Row) → IsGap peer rows i
+      → insert_entry nat_cmp rows peer row ≡ take i rows ++ (peer, row) ∷ drop i rows
   gap_put [] zero row gap = refl
   gap_put [] (suc i) row gap = absurd gap
   gap_put (r ∷ rows) zero row gap = rw (below peer r.0 gap) refl
-  gap_put (r ∷ rows) (suc i) row gap = rw (above peer r.0 gap.0) (ap (λ rs. r ∷ rs) (gap_put rows i row gap.1))
+  gap_put (r ∷ rows) (suc i) row gap =
+      rw (above peer r.0 gap.0) (ap (λ rs. r ∷ rs) (gap_put rows i row gap.1))
 
   -- one more or one less keeps the rows by peer
-  pub are-put : (rows new : List (ℕ × Row)) (row : Row) → ArePeers rows → new ≡ insert_entry nat_cmp rows peer row → ArePeers new
+  pub are-put : (rows new : List (ℕ × Row)) (row : Row) → ArePeers rows
+      → new ≡ insert_entry nat_cmp rows peer row → ArePeers new
   are-put rows new row are is = rw is (record {
     some = some rows;
     sorted = sorted-insert_entry nat_cmp nat_cmp_total rows peer row are.sorted;
@@ -77,26 +93,32 @@ module _ (peer : ℕ) where
       some [] e = cc
       some (r ∷ rs) e = by (nat_cmp peer r.0) e
         where
-          by : (o : Ordering) → match_ordering o ((peer, row) ∷ r ∷ rs) ((r.0, row) ∷ rs) (r ∷ insert_entry nat_cmp rs peer row) ≢ []
+          by : (o : Ordering) → match_ordering o ((peer, row) ∷ r ∷ rs) ((r.0, row) ∷ rs)
+              (r ∷ insert_entry nat_cmp rs peer row) ≢ []
           by Less f = cc
           by Equal f = cc
           by Greater f = cc
 
-  pub are-put_or_not : (rows new : List (ℕ × Row)) (row : Row) (r : Result (Option Row) NoMemory) → ArePeers rows → OnOk r (new ≡ insert_entry nat_cmp rows peer row) → OnErr r (new ≡ rows) → ArePeers new
+  pub are-put_or_not : (rows new : List (ℕ × Row)) (row : Row) (r : Result (Option Row) NoMemory)
+      → ArePeers rows → OnOk r (new ≡ insert_entry nat_cmp rows peer row) → OnErr r (new ≡ rows)
+      → ArePeers new
   are-put_or_not rows new row (Ok old) are is not = are-put rows new row are is
   are-put_or_not rows new row (Err e) are is not = subst ArePeers (sym not) are
 
-  pub are-taken : (rows new : List (ℕ × Row)) → ArePeers rows → keys_of rows ≢ peer ∷ [] → new ≡ remove_entry (is_at (nat_cmp peer)) rows → ArePeers new
+  pub are-taken : (rows new : List (ℕ × Row)) → ArePeers rows → keys_of rows ≢ peer ∷ []
+      → new ≡ remove_entry (is_at (nat_cmp peer)) rows → ArePeers new
   are-taken rows new are several is = rw is (record {
     some = some rows several are.some;
     sorted = sorted-remove_entry nat_cmp (is_at (nat_cmp peer)) rows are.sorted;
   })
     where
-      some : (rs : List (ℕ × Row)) → keys_of rs ≢ peer ∷ [] → rs ≢ [] → remove_entry (is_at (nat_cmp peer)) rs ≢ []
+      some : (rs : List (ℕ × Row)) → keys_of rs ≢ peer ∷ [] → rs ≢ []
+          → remove_entry (is_at (nat_cmp peer)) rs ≢ []
       some [] more any e = any refl
       some (r ∷ rs) more any e = by (nat_cmp peer r.0) refl e
         where
-          by : (q : Ordering) → nat_cmp peer r.0 ≡ q → cond (is_eq q) rs (r ∷ remove_entry (is_at (nat_cmp peer)) rs) ≢ []
+          by : (q : Ordering) → nat_cmp peer r.0 ≡ q
+              → cond (is_eq q) rs (r ∷ remove_entry (is_at (nat_cmp peer)) rs) ≢ []
           by Less is f = cc
           by Equal is f = more (rw f (ap (λ p. p ∷ []) (sym (ranked peer r.0 Equal (sym is)))))
           by Greater is f = cc
@@ -105,22 +127,32 @@ pub are_one : (peer : ℕ) (row : Row) → ArePeers ((peer, row) ∷ [])
 are_one peer row = record { some = λ e. cc; sorted = sorted_one nat_cmp peer }
 
 -- the search for a place, up to a row
-module _ (peer : ℕ) (rows : List (ℕ × Row)) (at : ℕ) (further : (i : ℕ) → (IsFound peer (drop at rows) i → IsFound peer rows (at + i)) × (IsGap peer (drop at rows) i → IsGap peer rows (at + i))) where
+module _ (peer : ℕ) (rows : List (ℕ × Row)) (at : ℕ) (further : (i : ℕ)
+    → (IsFound peer (drop at rows) i → IsFound peer rows (at + i))
+    × (IsGap peer (drop at rows) i → IsGap peer rows (at + i))) where
   module _ (held : ℕ × Row) (in_range : at < length rows) (is : held ≡ get_or rows at held) where
     left : drop at rows ≡ held ∷ drop (at + 1) rows
     left = drop_more rows at held in_range ∙ ap (λ r. r ∷ drop (at + 1) rows) (sym is)
 
     pub found_here : held.0 ≡ peer → IsFound peer rows at
-    found_here e = let first : IsFound peer (drop at rows) 0 = rw left e in subst (λ n. IsFound peer rows n) (omega arith) ((further 0).0 first)
+    found_here e = let first : IsFound peer (drop at rows) 0 = rw left e in
+        subst (λ n. IsFound peer rows n) (omega arith) ((further 0).0 first)
 
     pub gap_here : peer < held.0 → IsGap peer rows at
-    gap_here e = let first : IsGap peer (drop at rows) 0 = rw left e in subst (λ n. IsGap peer rows n) (omega arith) ((further 0).1 first)
+    gap_here e = let first : IsGap peer (drop at rows) 0 = rw left e in
+        subst (λ n. IsGap peer rows n) (omega arith) ((further 0).1 first)
 
-    pub one_further : held.0 < peer → (i : ℕ) → (IsFound peer (drop (at + 1) rows) i → IsFound peer rows (at + 1 + i)) × (IsGap peer (drop (at + 1) rows) i → IsGap peer rows (at + 1 + i))
+    pub one_further : held.0 < peer → (i : ℕ)
+        → (IsFound peer (drop (at + 1) rows) i → IsFound peer rows (at + 1 + i))
+        × (IsGap peer (drop (at + 1) rows) i → IsGap peer rows (at + 1 + i))
     one_further e i = (
-      λ found. let next : IsFound peer (drop at rows) (suc i) = rw left (e, found) in subst (λ n. IsFound peer rows n) (omega arith) ((further (suc i)).0 next),
-      λ gap. let next : IsGap peer (drop at rows) (suc i) = rw left (e, gap) in subst (λ n. IsGap peer rows n) (omega arith) ((further (suc i)).1 next),
+      λ found. let next : IsFound peer (drop at rows) (suc i) = rw left (e, found) in
+          subst (λ n. IsFound peer rows n) (omega arith) ((further (suc i)).0 next),
+      λ gap. let next : IsGap peer (drop at rows) (suc i) = rw left (e, gap) in
+          subst (λ n. IsGap peer rows n) (omega arith) ((further (suc i)).1 next),
     )
 
   pub gap_behind : at ≡ length rows → IsGap peer rows (length rows)
-  gap_behind e = let none : drop at rows ≡ [] = drop_all at rows (omega (arith, e)) in let first : IsGap peer (drop at rows) 0 = rw none tt in subst (λ n. IsGap peer rows n) (omega (arith, e)) ((further 0).1 first)
+  gap_behind e = let none : drop at rows ≡ [] = drop_all at rows (omega (arith, e)) in
+      let first : IsGap peer (drop at rows) 0 = rw none tt in
+      subst (λ n. IsGap peer rows n) (omega (arith, e)) ((further 0).1 first)

@@ -1,4 +1,5 @@
-ghost use Rattle.std.specs.Prelude.{◌≡◌, ◌<◌, [], length, count_by, IsOk, IsSome, IfNone, IfOk, OnOk, OnErr};
+ghost use Rattle.std.specs.Prelude.{◌≡◌, ◌<◌, [], length, count_by, IsOk, IsSome, IfNone, IfOk};
+ghost use Rattle.std.specs.Prelude.{OnOk, OnErr};
 ghost use Rattle.std.specs.Option.{option_copied};
 
 use crate::table::Table;
@@ -35,7 +36,9 @@ impl Model for Rows {
 }
 
 impl Rows {
-    ghost use Rattle.peer_rows.specs.Rows.{count_at, row_at, with_row, without_row, without_key, rows_of, peers_of, used_in, in_table, of_table_key, of_table_peer, AreInOrder};
+    ghost use Rattle.peer_rows.specs.Rows.{count_at, row_at, with_row, without_row, without_key};
+    ghost use Rattle.peer_rows.specs.Rows.{rows_of, peers_of, used_in, in_table, of_table_key};
+    ghost use Rattle.peer_rows.specs.Rows.{of_table_peer, AreInOrder};
 
     /// No rows, for these numbers of peers and of tables.
     pub fn new(alloc: Global, peers: usize, tables: usize) -> Result<Rows, NoMemory>

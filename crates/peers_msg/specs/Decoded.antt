@@ -1,10 +1,12 @@
 -- What the steps of the decoder return, against what is read.
-use Rattle.std.specs.Prelude.{◌≡◌, ℕ, ◌+◌, ◌≤◌, ◌<◌, List, length, take, drop, Option, Some, None, Result, Ok, Err}
+use Rattle.std.specs.Prelude.{◌≡◌, ℕ, ◌+◌, ◌≤◌, ◌<◌, List, length, take, drop, Option, Some, None}
+use Rattle.std.specs.Prelude.{Result, Ok, Err}
 use Rattle.peers_msg.specs.declared.message.Message.{Message}
 use Rattle.peers_msg.specs.declared.framing.Head.{Head}
 use Rattle.peers_msg.specs.declared.framing.Head.TheVariants as heads
 use Rattle.peers_msg.specs.declared.fault.WireCause.{WireCause}
-use Rattle.peers_msg.specs.declared.fault.WireCause.TheVariants.{TooLong, BadInteger, BadField, NoMemory}
+use Rattle.peers_msg.specs.declared.fault.WireCause.TheVariants.{TooLong, BadInteger, BadField}
+use Rattle.peers_msg.specs.declared.fault.WireCause.TheVariants.{NoMemory}
 use Rattle.peers_msg.specs.Message.{Frame, Short, Wrong, Framed, First, Unfinished, Faulty, Whole}
 
 -- what a head says of the frame at the front of bytes

@@ -2,7 +2,8 @@
 use Rattle.std.specs.Prelude.{◌≡◌, ℕ, List, [], ◌++◌, Option, Some, None, Result, Ok, Err}
 use Rattle.peers_msg.specs.declared.message.Message.{Message}
 use Rattle.peers_msg.specs.declared.fault.WireCause.{WireCause}
-use Rattle.peers_msg.specs.declared.fault.WireCause.TheVariants.{TooLong, BadInteger, BadField, NoMemory}
+use Rattle.peers_msg.specs.declared.fault.WireCause.TheVariants.{TooLong, BadInteger, BadField}
+use Rattle.peers_msg.specs.declared.fault.WireCause.TheVariants.{NoMemory}
 use Rattle.peers_msg.specs.declared.fault.WireFault.{WireFault}
 use Rattle.agg_types.specs.declared.no_memory.NoMemory.{NoMemory as Refused}
 use Rattle.peers_msg.specs.Message.{Reading, with_front, reading_of}

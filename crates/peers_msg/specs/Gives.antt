@@ -1,7 +1,8 @@
 -- What readers return, against what is read. Want of memory may come in place of an answer.
 use Rattle.std.specs.Prelude.{◌≡◌, ℕ, List, Option, Some, None, Result, Ok, Err}
 use Rattle.peers_msg.specs.declared.fault.WireCause.{WireCause}
-use Rattle.peers_msg.specs.declared.fault.WireCause.TheVariants.{TooLong, BadInteger, BadField, NoMemory}
+use Rattle.peers_msg.specs.declared.fault.WireCause.TheVariants.{TooLong, BadInteger, BadField}
+use Rattle.peers_msg.specs.declared.fault.WireCause.TheVariants.{NoMemory}
 
 abbrev pub FailsAs : {A : Type 0} → WireCause → Option A → Type 0
 FailsAs TooLong read = ⊥

@@ -1,7 +1,8 @@
 -- What a feed keeps between pieces.
 use Rattle.std.specs.Prelude.{◌≡◌, ℕ, ◌+◌, ◌<◌, List, [], length, Option, Some, None}
 use Rattle.peers_msg.specs.declared.fault.WireCause.{WireCause}
-use Rattle.peers_msg.specs.declared.fault.WireCause.TheVariants.{TooLong, BadInteger, BadField, NoMemory}
+use Rattle.peers_msg.specs.declared.fault.WireCause.TheVariants.{TooLong, BadInteger, BadField}
+use Rattle.peers_msg.specs.declared.fault.WireCause.TheVariants.{NoMemory}
 use Rattle.peers_msg.specs.Kinds.{longest_head, max_payload}
 
 -- the bytes that are no whole message yet, or the fault that ended the stream

@@ -1,5 +1,6 @@
 -- Messages, one after the other, and what a stream of bytes says.
-use Rattle.std.specs.Prelude.{ℕ, zero, suc, true, false, nat_lt, ◌==◌, List, [], ◌∷◌, ◌++◌, length, take, drop, Option, Some, None, Result, Ok, Err, if◌then◌else◌}
+use Rattle.std.specs.Prelude.{ℕ, zero, suc, true, false, nat_lt, ◌==◌, List, [], ◌∷◌, ◌++◌, length}
+use Rattle.std.specs.Prelude.{take, drop, Option, Some, None, Result, Ok, Err, if◌then◌else◌}
 use Rattle.peers_msg.specs.declared.integer.IntTooLarge.{IntTooLarge}
 use Rattle.peers_msg.specs.declared.message.Message.{Message}
 use Rattle.peers_msg.specs.declared.message.Message.TheVariants as messages
@@ -7,7 +8,11 @@ use Rattle.peers_msg.specs.declared.fault.WireCause.{WireCause}
 use Rattle.peers_msg.specs.declared.fault.WireCause.TheVariants.{TooLong, BadInteger, BadField}
 use Rattle.peers_msg.specs.Numeral.{integer_at}
 use Rattle.peers_msg.specs.Payload.{◌>>=◌, definition_of, switch_of, acked_of, update_of}
-use Rattle.peers_msg.specs.Kinds.{control_class, error_class, table_class, resync_request, resync_finished, resync_partial, resync_confirm, heartbeat, protocol_error, size_error, update, incremental_update, table_definition, table_switch, acknowledgement, timed_update, timed_incremental_update, first_with_payload, max_payload}
+use Rattle.peers_msg.specs.Kinds.{control_class, error_class, table_class, resync_request}
+use Rattle.peers_msg.specs.Kinds.{resync_finished, resync_partial, resync_confirm, heartbeat}
+use Rattle.peers_msg.specs.Kinds.{protocol_error, size_error, update, incremental_update}
+use Rattle.peers_msg.specs.Kinds.{table_definition, table_switch, acknowledgement, timed_update}
+use Rattle.peers_msg.specs.Kinds.{timed_incremental_update, first_with_payload, max_payload}
 
 -- the messages of class 0, which have no payload
 unfoldable pub control_of : ℕ → Message

@@ -1,5 +1,6 @@
 -- What a text says, message by message: relations between whole texts and what they stand for.
-use Rattle.std.specs.Prelude.{◌≡◌, ◌≢◌, ◌⊎◌, ℕ, ◌^◌, ◌<◌, ◌≤◌, List, [], ◌∷◌, ◌++◌, length, slice_index, Option, Some, None}
+use Rattle.std.specs.Prelude.{◌≡◌, ◌≢◌, ◌⊎◌, ℕ, ◌^◌, ◌<◌, ◌≤◌, List, [], ◌∷◌, ◌++◌, length}
+use Rattle.std.specs.Prelude.{slice_index, Option, Some, None}
 use Rattle.std.specs.Int.{w32, from_be_bytes}
 use Rattle.peers_msg.specs.declared.message.Definition.{Definition}
 use Rattle.peers_msg.specs.declared.message.Message.{Message}
@@ -9,7 +10,9 @@ use Rattle.peers_msg.specs.declared.fault.WireCause.TheVariants.{TooLong, BadInt
 use Rattle.peers_msg.specs.Numeral.{value, IsSpelling, IsIntegerAt, IsCut, IsTooLarge}
 use Rattle.peers_msg.specs.Message.{control_of, error_of}
 use Rattle.peers_msg.specs.Spelling.{update_kind}
-use Rattle.peers_msg.specs.Kinds.{control_class, error_class, table_class, update, timed_incremental_update, table_definition, table_switch, acknowledgement, first_with_payload, max_payload, last_type}
+use Rattle.peers_msg.specs.Kinds.{control_class, error_class, table_class, update}
+use Rattle.peers_msg.specs.Kinds.{timed_incremental_update, table_definition, table_switch}
+use Rattle.peers_msg.specs.Kinds.{acknowledgement, first_with_payload, max_payload, last_type}
 
 abbrev pub AreBytes : List ℕ → Type 0
 AreBytes bytes = (i : ℕ) → slice_index bytes i < 256

@@ -1,11 +1,16 @@
 -- How integers and messages are spelled.
-use Rattle.std.specs.Prelude.{ℕ, zero, suc, ◌+◌, ◌-◌, ◌/◌, ◌%◌, ◌^◌, ◌<◌, ◌≤◌, nat_lt, List, [], ◌∷◌, ◌++◌, length, Option, Some, None, if◌then◌else◌}
+use Rattle.std.specs.Prelude.{ℕ, zero, suc, ◌+◌, ◌-◌, ◌/◌, ◌%◌, ◌^◌, ◌<◌, ◌≤◌, nat_lt, List, []}
+use Rattle.std.specs.Prelude.{◌∷◌, ◌++◌, length, Option, Some, None, if◌then◌else◌}
 use Rattle.std.specs.List.{flat_map, AllByRecursion}
 use Rattle.std.specs.Int.{w32, to_be_bytes}
 use Rattle.peers_msg.specs.declared.message.Definition.{Definition}
 use Rattle.peers_msg.specs.declared.message.Message.{Message}
 use Rattle.peers_msg.specs.declared.message.Message.TheVariants as messages
-use Rattle.peers_msg.specs.Kinds.{control_class, error_class, table_class, resync_request, resync_finished, resync_partial, resync_confirm, heartbeat, protocol_error, size_error, update, incremental_update, table_definition, table_switch, acknowledgement, timed_update, timed_incremental_update, max_payload, last_type}
+use Rattle.peers_msg.specs.Kinds.{control_class, error_class, table_class, resync_request}
+use Rattle.peers_msg.specs.Kinds.{resync_finished, resync_partial, resync_confirm, heartbeat}
+use Rattle.peers_msg.specs.Kinds.{protocol_error, size_error, update, incremental_update}
+use Rattle.peers_msg.specs.Kinds.{table_definition, table_switch, acknowledgement, timed_update}
+use Rattle.peers_msg.specs.Kinds.{timed_incremental_update, max_payload, last_type}
 
 -- the bytes after the first of a spelling, of which one more in the next byte counts 1; at most as
 -- many as said

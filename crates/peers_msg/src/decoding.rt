@@ -2,7 +2,8 @@
 
 ghost use Rattle.std.specs.Prelude.{◌≡◌, ◌<◌, length, IfOk, IfSome};
 ghost use Rattle.peers_msg.specs.Gives.{Gives};
-ghost use Rattle.peers_msg.specs.Message.{control_of, error_of, table_of, message_of, first_of, reading_of};
+ghost use Rattle.peers_msg.specs.Message.{control_of, error_of, table_of, message_of, first_of};
+ghost use Rattle.peers_msg.specs.Message.{reading_of};
 ghost use Rattle.peers_msg.specs.Decoded.{IsFirst};
 
 use crate::framing::{Head, head_of};

@@ -1,6 +1,7 @@
 //! A stream of messages that comes in pieces.
 
-ghost use Rattle.std.specs.Prelude.{◌≡◌, ◌≢◌, ◌+◌, ◌++◌, ◌<◌, ℕ, List, [], length, take, Some, Err, IsSome, IfOk, IfErr, IsOkAnd, OnOk, OnErr};
+ghost use Rattle.std.specs.Prelude.{◌≡◌, ◌≢◌, ◌+◌, ◌++◌, ◌<◌, ℕ, List, [], length, take, Some, Err};
+ghost use Rattle.std.specs.Prelude.{IsSome, IfOk, IfErr, IsOkAnd, OnOk, OnErr};
 
 use crate::decoding::decode;
 use crate::framing::{Head, head_of};
@@ -43,7 +44,8 @@ impl Model for Feed {
 impl Feed {
     ghost use Rattle.peers_msg.specs.Kinds.{longest_head, max_payload};
     ghost use Rattle.peers_msg.specs.Message.{reading_of};
-    ghost use Rattle.peers_msg.specs.Feed.{feed_of, fed, kept_of, kept_after, Answers, GoesOn, HasRead};
+    ghost use Rattle.peers_msg.specs.Feed.{feed_of, fed, kept_of, kept_after, Answers, GoesOn};
+    ghost use Rattle.peers_msg.specs.Feed.{HasRead};
 
     /// A feed that has taken no byte. Takes no memory.
     pub fn new(alloc: Global) -> Feed
@@ -90,7 +92,8 @@ impl Feed {
         handed_out
     }
 
-    /// Reads the next piece, for a caller that can still fail before it has dealt with what it says.
+    /// Reads the next piece, for a caller that can still fail before it has dealt with what it
+    /// says.
     ///
     /// `Some` is what the piece gives, with the feed as it was: `commit` takes the piece, and the
     /// piece may be read again where nothing was committed. `None` where there is no message and no

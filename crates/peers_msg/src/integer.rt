@@ -1,6 +1,7 @@
 //! The protocol's encoded integers.
 
-ghost use Rattle.std.specs.Prelude.{◌≡◌, ◌≤◌, ◌∷◌, ◌++◌, ◌+◌, ◌<◌, ℕ, ◌↔◌, length, take, IfOk, IfSome, IsErr, OnOk, OnErr};
+ghost use Rattle.std.specs.Prelude.{◌≡◌, ◌≤◌, ◌∷◌, ◌++◌, ◌+◌, ◌<◌, ℕ, ◌↔◌, length, take, IfOk};
+ghost use Rattle.std.specs.Prelude.{IfSome, IsErr, OnOk, OnErr};
 ghost use Rattle.peers_msg.specs.Numeral.{integer_at, IsIntegerAt, IsCut, IsTooLarge};
 ghost use Rattle.peers_msg.specs.Spelling.{integer_spelling, tail_spelling};
 

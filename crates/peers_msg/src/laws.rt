@@ -3,7 +3,8 @@
 
 ghost use Rattle.std.specs.Prelude.{◌≡◌, ◌++◌, ℕ, List, Option, Some};
 ghost use Rattle.peers_msg.specs.Numeral.{IsSpelling, value};
-ghost use Rattle.peers_msg.specs.Spelling.{integer_spelling, message_spelling, IsSendable, IsInRange};
+ghost use Rattle.peers_msg.specs.Spelling.{integer_spelling, message_spelling, IsSendable};
+ghost use Rattle.peers_msg.specs.Spelling.{IsInRange};
 ghost use Rattle.peers_msg.specs.Message.{after_message, reading_of, first_of, reading_by};
 ghost use Rattle.peers_msg.specs.Feed.{goes_on};
 ghost use Rattle.peers_msg.specs.Reads.{AreBytes, Reads};

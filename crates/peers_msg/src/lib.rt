@@ -1,11 +1,11 @@
-//! The messages of HAProxy's peers protocol (`doc/peers-v2.0.txt`, and the timed messages of version
-//! 2.1), read from a stream of bytes in any pieces, and written.
+//! The messages of HAProxy's peers protocol (`doc/peers-v2.0.txt`, and the timed messages of
+//! version 2.1), read from a stream of bytes in any pieces, and written.
 //!
 //! `session_core` stands on it, and so does who writes a peer's stream, as a benchmark.
 //!
 //! `Feed::feed` hands out exactly the messages of all bytes so far, however they were cut, and a
-//! fault exactly where they hold one, then for good; `laws` says that all bytes have one reading, as
-//! a relation on whole texts, and what more bytes do to it. `get_int` and `put_int` are the one
+//! fault exactly where they hold one, then for good; `laws` says that all bytes have one reading,
+//! as a relation on whole texts, and what more bytes do to it. `get_int` and `put_int` are the one
 //! spelling of an integer, `write_message` that of a message, which is read again whatever follows.
 //! After `NoMemory` all is as it was. No clause says that memory is there, nor how fast it goes.
 #![tactic(auto)]

@@ -2,7 +2,8 @@
 
 ghost use Rattle.std.specs.Prelude.{◌≡◌, ◌<◌, length, IfOk, IfSome, option_map};
 ghost use Rattle.peers_msg.specs.Gives.{Gives, GivesBefore};
-ghost use Rattle.peers_msg.specs.Payload.{number_at, word_at, word_if, string_at, pair_at, pairs_at, definition_of, switch_of, acked_of, update_of};
+ghost use Rattle.peers_msg.specs.Payload.{number_at, word_at, word_if, string_at, pair_at};
+ghost use Rattle.peers_msg.specs.Payload.{pairs_at, definition_of, switch_of, acked_of, update_of};
 
 use crate::integer::read_int;
 use crate::kinds::LAST_TYPE;

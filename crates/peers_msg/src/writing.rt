@@ -4,7 +4,9 @@ ghost use Rattle.std.specs.Prelude.{◌≡◌, ◌++◌, ◌∷◌, [], length, 
 ghost use Rattle.std.specs.List.{flat_map};
 ghost use Rattle.std.specs.Int.{w32, to_be_bytes};
 ghost use Rattle.peers_msg.specs.Kinds.{table_definition, table_switch, acknowledgement};
-ghost use Rattle.peers_msg.specs.Spelling.{IsSendable, integer_spelling, pair_spelling, word_spelling, fields_spelling, definition_spelling, table_spelling, update_kind, message_spelling};
+ghost use Rattle.peers_msg.specs.Spelling.{IsSendable, integer_spelling, pair_spelling};
+ghost use Rattle.peers_msg.specs.Spelling.{word_spelling, fields_spelling, definition_spelling};
+ghost use Rattle.peers_msg.specs.Spelling.{table_spelling, update_kind, message_spelling};
 
 use crate::integer::append_int;
 use crate::kinds::*;

@@ -12,9 +12,14 @@ share_le a k p h = div-le_of_le-mul p (omega (arith, mul-le a k a p (omega arith
 -- less time left is a smaller share
 pub share_falls : (a k l p : ℕ) → 0 < p → k ≤ l → a * k / p ≤ a * l / p
 share_falls a k l p pos h =
-    le-div (a * k / p) (a * l) p pos (omega (arith, div-mul-le_self (a * k) p, mul-le a k a l (omega arith) h))
+    le-div (a * k / p) (a * l) p pos (omega (
+      arith,
+      div-mul-le_self (a * k) p,
+      mul-le a k a l (omega arith) h,
+    ))
 
-pub while_running_falls : (p a c e f : ℕ) → 0 < p → e ≤ f → while_running p a c f ≤ while_running p a c e
+pub while_running_falls : (p a c e f : ℕ) → 0 < p → e ≤ f
+    → while_running p a c f ≤ while_running p a c e
 unfolding while_running
 while_running_falls p a c e f pos h =
     let s : a * (p - f) / p ≤ a * (p - e) / p = share_falls a (p - f) (p - e) p pos (omega arith) in
@@ -27,7 +32,8 @@ while_running_has_current p a c e = grind (arith, nat_tests)
 pub once_ended_falls : (p c e f : ℕ) → 0 < p → e ≤ f → once_ended p c f ≤ once_ended p c e
 unfolding once_ended
 once_ended_falls p c e f pos h =
-    let s : c * (2 * p - f) / p ≤ c * (2 * p - e) / p = share_falls c (2 * p - f) (2 * p - e) p pos (omega arith) in
+    let s : c * (2 * p - f) / p ≤ c * (2 * p - e) / p =
+    share_falls c (2 * p - f) (2 * p - e) p pos (omega arith) in
     grind (arith, nat_tests)
 
 pub once_ended_le : (p c e : ℕ) → p < e → once_ended p c e ≤ c

@@ -8,16 +8,19 @@ use Rattle.period_rate.proofs.Falling.{rate_falls, rate_ends}
 
 pub value_at_falls : (r : Rate) (t later : ℕ) → t ≤ later → value_at r later ≤ value_at r t
 unfolding value_at
-value_at_falls r t later h = rate_falls r.period r.prev r.cur (elapsed_at r t) (elapsed_at r later) (omega arith)
+value_at_falls r t later h = rate_falls r.period r.prev r.cur (elapsed_at r t)
+    (elapsed_at r later) (omega arith)
 
 pub value_at_ends : (r : Rate) (t : ℕ) → zero_moment r ≤ t → value_at r t ≡ 0
 unfolding value_at
 value_at_ends r t h = rate_ends r.period r.prev r.cur (elapsed_at r t) (omega arith)
 
 -- an arrival's value is the rate at the elapsed time that arrived and what has passed since
-pub value_at-arrived : (p e c a now t : ℕ) → value_at (arrived p e c a now) t ≡ rate p a c (e + t - now)
+pub value_at-arrived : (p e c a now t : ℕ) → value_at (arrived p e c a now) t
+    ≡ rate p a c (e + t - now)
 unfolding value_at
 value_at-arrived p e c a now t = elim (cases_lt t (now + 2 * p + 1 - e)) [
   | inl before ↦ ap (rate p a c) (omega arith)
-  | inr ended ↦ rate_ends p a c (elapsed_at (arrived p e c a now) t) (omega arith) ∙ sym (rate_ends p a c (e + t - now) (omega arith))
+  | inr ended ↦ rate_ends p a c (elapsed_at (arrived p e c a now) t) (omega arith)
+      ∙ sym (rate_ends p a c (e + t - now) (omega arith))
 ]

@@ -1,12 +1,14 @@
 //! The machine of one event: what a book holds, and what an event makes of it.
 
-ghost use Rattle.std.specs.Prelude.{◌≡◌, ◌++◌, ◌&&◌, ◌==◌, [], ◌∷◌, nat_lt, length, not, if◌then◌else◌, false, filter, IsTrue, IfOk, IsOk, OnOk, OnErr};
+ghost use Rattle.std.specs.Prelude.{◌≡◌, ◌++◌, ◌&&◌, ◌==◌, [], ◌∷◌, nat_lt, length, not};
+ghost use Rattle.std.specs.Prelude.{if◌then◌else◌, false, filter, IsTrue, IfOk, IsOk, OnOk, OnErr};
 ghost use Rattle.std.specs.List.{list_any};
 ghost use Rattle.std.specs.Str.{bytes_eq};
 ghost use Rattle.agg_types.specs.declared.event.What.TheVariants.{Leave};
 ghost use Rattle.fleet_model.specs.Filters.{is_new};
 ghost use Rattle.fleet_model.specs.Kept.{kept_cell, kept_cells};
-ghost use Rattle.fleet_model.specs.Machine.{after, counts_now, event_of, number_of, opened, with_row};
+ghost use Rattle.fleet_model.specs.Machine.{after, counts_now, event_of, number_of, opened};
+ghost use Rattle.fleet_model.specs.Machine.{with_row};
 ghost use Rattle.fleet_model.specs.Rows.{arrival_of, has_room};
 ghost use Rattle.fleet_model.specs.Seats.{is_number};
 ghost use Rattle.fleet_model.specs.Values.{cols_of, selects};

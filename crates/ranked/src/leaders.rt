@@ -1,6 +1,7 @@
 ghost use Rattle.std.specs.Prelude.{◌≡◌, ◌<◌, ◌≤◌, ℕ, [], length, IfOk, OnOk, OnErr};
 ghost use Rattle.std.specs.Map.{keys_of};
-ghost use Rattle.ranked.specs.Bounds.{AreAllBounded, IsBounded, IsByKey, IsListOf, bound_at, first_ranked};
+ghost use Rattle.ranked.specs.Bounds.{AreAllBounded, IsBounded, IsByKey, IsListOf, bound_at};
+ghost use Rattle.ranked.specs.Bounds.{first_ranked};
 ghost use Rattle.ranked.specs.Leaders.{IsOneKeyOf, bounds_of};
 
 use crate::{Bounds, Ranked};

@@ -1,6 +1,7 @@
 //! One walk from the greatest bound on.
 
-ghost use Rattle.std.specs.Prelude.{◌≡◌, ◌<◌, ◌≤◌, ◌⊎◌, [], false, true, length, map, slice_get, take, vec_len, vec_capacity};
+ghost use Rattle.std.specs.Prelude.{◌≡◌, ◌<◌, ◌≤◌, ◌⊎◌, [], false, true, length, map, slice_get};
+ghost use Rattle.std.specs.Prelude.{take, vec_len, vec_capacity};
 ghost use Rattle.expiry_wheel.specs.Items.{first_item, without_first};
 ghost use Rattle.fleet_model.specs.Ranking.{put_in_order, rank_cmp};
 ghost use Rattle.std.specs.Option.{option_map};

@@ -26,7 +26,8 @@ impl Starts {
 }
 
 impl Values for Starts {
-    ghost use Rattle.ranked_rows.specs.Board.{faded, faded_falls, faded_stays, flat_of, rows_of, start_at};
+    ghost use Rattle.ranked_rows.specs.Board.{faded, faded_falls, faded_stays, flat_of, rows_of};
+    ghost use Rattle.ranked_rows.specs.Board.{start_at};
     ghost use Rattle.std.proofs.Common.{le_refl, refl};
 
     ghost summed = { λ v table key col t. faded (start_at v.by_key.entries key) t };

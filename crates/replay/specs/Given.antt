@@ -1,5 +1,6 @@
 -- What a line behind `start` does to a fleet that stands for the steps before it, newest first.
-use Rattle.std.specs.Prelude.{◌≡◌, ℕ, not, if◌then◌else◌, List, [], ◌∷◌, ◌++◌, codes, Option, None, Some, Result, Ok, Err}
+use Rattle.std.specs.Prelude.{◌≡◌, ℕ, not, if◌then◌else◌, List, [], ◌∷◌, ◌++◌, codes, Option, None}
+use Rattle.std.specs.Prelude.{Some, Result, Ok, Err}
 use Rattle.agg_types.specs.declared.config.Config.{Config}
 use Rattle.session_core.specs.declared.cause.SessionCause.{SessionCause}
 use Rattle.fleet_core.specs.Possible.{can_be, end_by, is_spent, sent_by}
@@ -9,7 +10,8 @@ use Rattle.fleet_core.specs.declared.step.FleetFault.{FleetFault}
 use Rattle.fleet_core.specs.declared.step.FleetFault.TheVariants as fault
 use Rattle.fleet_core.specs.declared.step.Replies.{Replies}
 use Rattle.fleet_core.specs.declared.step.Step.{Step}
-use Rattle.fleet_core.specs.declared.step.Step.TheVariants.{Connect, Bytes, Lost, Clear, AddFilter, Moment}
+use Rattle.fleet_core.specs.declared.step.Step.TheVariants.{Connect, Bytes, Lost, Clear, AddFilter}
+use Rattle.fleet_core.specs.declared.step.Step.TheVariants.{Moment}
 use Rattle.replay.specs.Texts.{conn_text, end_text, sent_text}
 use Rattle.replay.specs.declared.ending.Ending.{Ending}
 use Rattle.replay.specs.declared.ending.Ending.TheVariants.{Failed}

@@ -1,5 +1,6 @@
 -- What the words of a line behind `start` say.
-use Rattle.std.specs.Prelude.{◌≡◌, ⊤, true, ℕ, ◌^◌, nat_lt, if◌then◌else◌, List, [], ◌∷◌, codes, Option, None, Some, Result, Ok, Err}
+use Rattle.std.specs.Prelude.{◌≡◌, ⊤, true, ℕ, ◌^◌, nat_lt, if◌then◌else◌, List, [], ◌∷◌, codes}
+use Rattle.std.specs.Prelude.{Option, None, Some, Result, Ok, Err}
 use Rattle.std.specs.Str.{bytes_eq}
 use Rattle.agg_types.specs.declared.config.Config.{Config}
 use Rattle.fleet_core.specs.Possible.{does_fit}

@@ -1,5 +1,6 @@
 -- What the lines behind `start` print.
-use Rattle.std.specs.Prelude.{◌≡◌, ⊤, ◌⊎◌, ℕ, ◌+◌, List, [], ◌∷◌, ◌++◌, codes, Option, None, Some, Result, Ok, Err}
+use Rattle.std.specs.Prelude.{◌≡◌, ⊤, ◌⊎◌, ℕ, ◌+◌, List, [], ◌∷◌, ◌++◌, codes, Option, None, Some}
+use Rattle.std.specs.Prelude.{Result, Ok, Err}
 use Rattle.std.specs.Fmt.{decimal}
 use Rattle.agg_types.specs.declared.config.Config.{Config}
 use Rattle.fleet_model.specs.State.{State, state_of}
@@ -12,7 +13,9 @@ use Rattle.show_clear.specs.Answer.{IsAnswer}
 use Rattle.show_clear.specs.Parse.{Read, command_of}
 use Rattle.show_clear.specs.Refusal.{refusal_text}
 use Rattle.show_clear.specs.declared.command.Command.{Command}
-use Rattle.show_clear.specs.declared.command.Command.TheVariants.{ShowTables, ShowTable, ClearTable, ShowFilter, ShowRank, ShowNext, AddFilter}
+use Rattle.show_clear.specs.declared.command.Command.TheVariants.{ShowTables, ShowTable, ClearTable}
+use Rattle.show_clear.specs.declared.command.Command.TheVariants.{ShowFilter, ShowRank, ShowNext}
+use Rattle.show_clear.specs.declared.command.Command.TheVariants.{AddFilter}
 use Rattle.show_clear.specs.declared.fault.CommandFault.TheVariants as refused
 use Rattle.replay.specs.Given.{Did, Given, step_given}
 use Rattle.replay.specs.Meaning.{meaning_of}

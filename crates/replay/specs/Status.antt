@@ -1,7 +1,8 @@
 -- The exit status by which a replay tells how it ended.
 use Rattle.std.specs.Prelude.{ℕ}
 use Rattle.replay.specs.declared.ending.Ending.{Ending}
-use Rattle.replay.specs.declared.ending.Ending.TheVariants.{Done, BadConfiguration, BadScript, Failed}
+use Rattle.replay.specs.declared.ending.Ending.TheVariants.{Done, BadConfiguration, BadScript}
+use Rattle.replay.specs.declared.ending.Ending.TheVariants.{Failed}
 
 abbrev pub status_of : Ending → ℕ
 status_of Done = 0

@@ -4,17 +4,21 @@ use Rattle.std.specs.Fmt.{decimal}
 use Rattle.agg_config.specs.declared.causes.LineCause.{LineCause}
 use Rattle.agg_config.specs.declared.causes.LineCause.TheVariants as line
 use Rattle.agg_types.specs.declared.check.ConfigFault.{ConfigFault}
-use Rattle.agg_types.specs.declared.check.ConfigFault.TheVariants.{Duplicate, TooMany, UnknownTable, UnknownColumn, BadPeriod, BadSize, BadName}
+use Rattle.agg_types.specs.declared.check.ConfigFault.TheVariants.{Duplicate, TooMany, UnknownTable}
+use Rattle.agg_types.specs.declared.check.ConfigFault.TheVariants.{UnknownColumn, BadPeriod}
+use Rattle.agg_types.specs.declared.check.ConfigFault.TheVariants.{BadSize, BadName}
 use Rattle.hex.specs.Hex.{encode_lower}
 use Rattle.peers_msg.specs.declared.fault.WireCause.{WireCause}
 use Rattle.peers_msg.specs.declared.fault.WireCause.TheVariants as wire
 use Rattle.session_core.specs.declared.cause.SessionCause.{SessionCause}
 use Rattle.session_core.specs.declared.cause.SessionCause.TheVariants as cause
 use Rattle.session_core.specs.declared.cause.Status.{Status}
-use Rattle.session_core.specs.declared.cause.Status.TheVariants.{Accepted, TryLater, Protocol, Version, LocalName, RemoteName}
+use Rattle.session_core.specs.declared.cause.Status.TheVariants.{Accepted, TryLater, Protocol}
+use Rattle.session_core.specs.declared.cause.Status.TheVariants.{Version, LocalName, RemoteName}
 use Rattle.fleet_core.specs.declared.step.Replies.{Replies}
 use Rattle.fleet_core.specs.declared.step.Step.{Step}
-use Rattle.fleet_core.specs.declared.step.Step.TheVariants.{Connect, Bytes, Lost, Clear, AddFilter, Moment}
+use Rattle.fleet_core.specs.declared.step.Step.TheVariants.{Connect, Bytes, Lost, Clear, AddFilter}
+use Rattle.fleet_core.specs.declared.step.Step.TheVariants.{Moment}
 
 -- a connection came
 abbrev pub conn_text : ℕ → List ℕ

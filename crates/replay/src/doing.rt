@@ -5,7 +5,8 @@ ghost use Rattle.agg_types.specs.declared.config.Config.{Config};
 ghost use Rattle.fleet_core.specs.Possible.{does_fit};
 ghost use Rattle.fleet_core.specs.declared.step.FleetFault.TheVariants.{NoMemory as Refused};
 ghost use Rattle.fleet_core.specs.declared.step.Step.{Step};
-ghost use Rattle.replay.specs.Given.{Did, IsSettled, answer_ending, answer_text, came_text, done_text, step_given};
+ghost use Rattle.replay.specs.Given.{Did, IsSettled, answer_ending, answer_text, came_text};
+ghost use Rattle.replay.specs.Given.{done_text, step_given};
 
 use crate::ending::Ending;
 use crate::texts::{append_conn, append_end, append_sent};

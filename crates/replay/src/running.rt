@@ -1,6 +1,7 @@
 //! The lines behind `start`, one after the other.
 
-ghost use Rattle.std.specs.Prelude.{◌≡◌, ◌++◌, ◌≤◌, ◌<◌, ◌^◌, ◌+◌, [], ℕ, List, codes, IfOk, OnOk, OnErr, length};
+ghost use Rattle.std.specs.Prelude.{◌≡◌, ◌++◌, ◌≤◌, ◌<◌, ◌^◌, ◌+◌, [], ℕ, List, codes, IfOk, OnOk};
+ghost use Rattle.std.specs.Prelude.{OnErr, length};
 ghost use Rattle.std.specs.Fmt.{decimal};
 ghost use Rattle.agg_types.specs.Check.{config_faults};
 ghost use Rattle.agg_types.specs.declared.config.Config.{Config};

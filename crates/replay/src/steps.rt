@@ -4,7 +4,8 @@ ghost use Rattle.std.specs.Prelude.{◌≡◌, [], ◌∷◌, IfOk};
 ghost use Rattle.std.specs.Option.{option_copied};
 ghost use Rattle.std.specs.Str.{bytes_eq};
 ghost use Rattle.line_words.specs.Words.{words};
-ghost use Rattle.replay.specs.Meaning.{AlwaysFits, bytes_of, connect_of, hex_of, lost_of, meaning_by, meaning_of, moment_of, only};
+ghost use Rattle.replay.specs.Meaning.{AlwaysFits, bytes_of, connect_of, hex_of, lost_of};
+ghost use Rattle.replay.specs.Meaning.{meaning_by, meaning_of, moment_of, only};
 
 use agg_types::{Items, LAST_MOMENT, NoMemory};
 use fleet_core::Step;

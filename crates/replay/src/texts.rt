@@ -1,7 +1,8 @@
 //! What a step prints.
 
 ghost use Rattle.std.specs.Prelude.{◌≡◌, ◌++◌, OnOk};
-ghost use Rattle.replay.specs.Texts.{cause_text, config_fault_text, conn_text, end_text, fault_text, sent_text, status_text, wire_text};
+ghost use Rattle.replay.specs.Texts.{cause_text, config_fault_text, conn_text, end_text};
+ghost use Rattle.replay.specs.Texts.{fault_text, sent_text, status_text, wire_text};
 
 use agg_config::LineCause;
 use agg_types::{ConfigFault, NoMemory};

@@ -1,5 +1,5 @@
-//! Replays each script that is named on standard input, a name a line, and prints how it ended and what it
-//! printed. The scripts lie in `data/`.
+//! Replays each script that is named on standard input, a name a line, and prints how it ended and
+//! what it printed. The scripts lie in `data/`.
 #![tactic(auto)]
 
 use std::io::Write;

@@ -1,5 +1,7 @@
 -- An admin at work: how it goes on, and how it stops.
-use Rattle.std.proofs.Common.{◌≡◌, Bool, true, false, ℕ, ◌==◌, inl, inr, List, [], ◌∷◌, ◌++◌, Option, None, Some, Result, Ok, Err, IfSome, refl, sym, ap, ◌∙◌, subst, append-nil, append_assoc}
+use Rattle.std.proofs.Common.{◌≡◌, Bool, true, false, ℕ, ◌==◌, inl, inr, List, [], ◌∷◌, ◌++◌}
+use Rattle.std.proofs.Common.{Option, None, Some, Result, Ok, Err, IfSome, refl, sym, ap, ◌∙◌}
+use Rattle.std.proofs.Common.{subst, append-nil, append_assoc}
 use Rattle.std.specs.Io.KnownBytes.{Appends}
 use Rattle.std.specs.Bool.{if◌then◌else◌}
 use Rattle.std.specs.Option.{option_to_list}
@@ -13,7 +15,9 @@ use Rattle.agg_types.specs.declared.event.What.TheVariants.{Sit}
 use Rattle.fleet_model.specs.State.{Stands, State}
 use Rattle.show_clear.specs.Change.{ChangeFits, change_of}
 use Rattle.show_clear.specs.declared.command.Command.{Command}
-use Rattle.show_clear.specs.declared.command.Command.TheVariants.{ShowTables, ShowTable, ClearTable, ShowFilter, ShowRank, ShowNext, AddFilter}
+use Rattle.show_clear.specs.declared.command.Command.TheVariants.{ShowTables, ShowTable, ClearTable}
+use Rattle.show_clear.specs.declared.command.Command.TheVariants.{ShowFilter, ShowRank, ShowNext}
+use Rattle.show_clear.specs.declared.command.Command.TheVariants.{AddFilter}
 use Rattle.hub.proofs.Fronts.{prefix_self, prefix_trans}
 use Rattle.hub.proofs.Rolling.{fits_at}
 use Rattle.hub.specs.History.{Beginning, made, own}
@@ -23,8 +27,11 @@ use Rattle.hub.specs.Views.{IsBookOf, Seeing}
 use Rattle.hub.specs.declared.faults.PostFault.{PostFault}
 use Rattle.serve.proofs.Pieces.{kept_says, none_in_both}
 use Rattle.serve.proofs.Works.{wrote_more, wrote_none}
-use Rattle.serve.specs.Commands.{AllAnswered, EndsCommands, HasNoEnd, IsCommandedUntil, IsCommandedWhole, IsReply, LastCutShort, LaterRefused, Replies, Reply, ShowsTold, changes_in, lines_in, texts_in}
-use Rattle.serve.specs.Commanding.{ChangesTo, HasLearned, HasObeyed, KeepsTo, LooksTo, ObeysTo, Stops, Works, WorksOn, kept_of, reply_of}
+use Rattle.serve.specs.Commands.{AllAnswered, EndsCommands, HasNoEnd, IsCommandedUntil}
+use Rattle.serve.specs.Commands.{IsCommandedWhole, IsReply, LastCutShort, LaterRefused, Replies}
+use Rattle.serve.specs.Commands.{Reply, ShowsTold, changes_in, lines_in, texts_in}
+use Rattle.serve.specs.Commanding.{ChangesTo, HasLearned, HasObeyed, KeepsTo, LooksTo, ObeysTo}
+use Rattle.serve.specs.Commanding.{Stops, Works, WorksOn, kept_of, reply_of}
 use Rattle.serve.specs.Told.{HasTold, IsServed, TellsLast, stored_of}
 use Rattle.serve.specs.Turns.{Sends, WroteFront}
 use Rattle.serve.specs.declared.admin.Answered.{Answered}
@@ -37,7 +44,8 @@ use Rattle.serve.specs.declared.served.Served.{Served}
 
 -- ---- what may be posted
 
-pub asked_may_post : (book : State) (command : Command) → ChangeFits book command → IfSome (change_of command) (MayPost book.config)
+pub asked_may_post : (book : State) (command : Command) → ChangeFits book command
+    → IfSome (change_of command) (MayPost book.config)
 asked_may_post book ShowTables fit = tt
 asked_may_post book (ShowTable table sel) fit = tt
 asked_may_post book (ClearTable table sel) fit = record { fits = fit; sits = refl; leaves = refl }
@@ -46,22 +54,26 @@ asked_may_post book (ShowRank rank) fit = tt
 asked_may_post book (ShowNext filter) fit = tt
 asked_may_post book (AddFilter filter) fit = record { fits = fit; sits = refl; leaves = refl }
 
-may_post_at : (hub seen : Beginning) (book : State) (what : What) → Follows hub seen → IsBookOf book seen → MayPost book.config what → MayPost hub.config what
+may_post_at : (hub seen : Beginning) (book : State) (what : What) → Follows hub seen
+    → IsBookOf book seen → MayPost book.config what → MayPost hub.config what
 unfolding Stands
 may_post_at hub seen book what follows stands may =
     let config : seen.config ≡ hub.config = ap (λ (b : Beginning). b.config) follows.same in
     let same : fits book.config what ≡ fits hub.config what =
-    ap (λ (s : State). fits s.config what) stands ∙ (fits_at seen what ∙ ap (λ (c : Config). fits c what) config) in record {
+    ap (λ (s : State). fits s.config what) stands
+    ∙ (fits_at seen what ∙ ap (λ (c : Config). fits c what) config) in record {
       fits = sym same ∙ may.fits;
       sits = may.sits;
       leaves = may.leaves;
     }
 
 -- what fits a book that the hub showed may be posted to the hub
-pub change_may_post : (hub seen : Beginning) (book : State) (change : Option What) → Follows hub seen → IsBookOf book seen
+pub change_may_post : (hub seen : Beginning) (book : State) (change : Option What)
+    → Follows hub seen → IsBookOf book seen
     → IfSome change (MayPost book.config) → IfSome change (MayPost hub.config)
 change_may_post hub seen book None follows stands may = tt
-change_may_post hub seen book (Some what) follows stands may = may_post_at hub seen book what follows stands may
+change_may_post hub seen book (Some what) follows stands may =
+    may_post_at hub seen book what follows stands may
 
 -- ---- later lists
 
@@ -75,34 +87,53 @@ follows_on a b c p q = record {
 }
 
 -- a lens that was just made
-pub lens_follows : (hub : Beginning) (lens : Seeing) → lens ≡ record { seen = hub; inside = false } → Follows hub lens.seen
-lens_follows hub lens is = subst (λ (b : Beginning). Follows hub b) (sym (ap (λ (s : Seeing). s.seen) is)) (follows_self hub)
+pub lens_follows : (hub : Beginning) (lens : Seeing) → lens ≡ record { seen = hub; inside = false }
+    → Follows hub lens.seen
+lens_follows hub lens is = subst (λ (b : Beginning). Follows hub b)
+    (sym (ap (λ (s : Seeing). s.seen) is)) (follows_self hub)
 
-own_on : (seat : ℕ) (a b : Beginning) → Follows a b → IsPrefix (own seat a.events) (own seat b.events)
-own_on seat a b follows =
-    (own seat follows.events.0, sym (filter-append (λ (e : Event). e.seat == seat) a.events follows.events.0) ∙ ap (own seat) follows.events.1)
+own_on : (seat : ℕ) (a b : Beginning) → Follows a b
+    → IsPrefix (own seat a.events) (own seat b.events)
+own_on seat a b follows = (
+  own seat follows.events.0,
+  sym (filter-append (λ (e : Event). e.seat == seat) a.events
+      follows.events.0) ∙ ap (own seat) follows.events.1,
+)
 
-shows_on : (seat : ℕ) (whats : List What) (a b : Beginning) → ShowsTold seat whats a → Follows a b → ShowsTold seat whats b
+shows_on : (seat : ℕ) (whats : List What) (a b : Beginning) → ShowsTold seat whats a → Follows a b
+    → ShowsTold seat whats b
 shows_on seat whats a b shows follows =
-    λ some. prefix_trans (made seat 0 (Sit ∷ whats)) (own seat a.events) (own seat b.events) (shows some) (own_on seat a b follows)
+    λ some. prefix_trans (made seat 0 (Sit ∷ whats)) (own seat a.events) (own seat b.events)
+    (shows some) (own_on seat a b follows)
 
 -- what the last receipt shows is seen once it was learned
-pub shows_last : (seat : ℕ) (whats : List What) (last : Option Beginning) (seen : Beginning) → TellsLast seat whats last
+pub shows_last : (seat : ℕ) (whats : List What) (last : Option Beginning) (seen : Beginning)
+    → TellsLast seat whats last
     → IfSome last (λ list. Follows list seen) → ShowsTold seat whats seen
 shows_last seat whats None seen none follows = λ some. absurd (some none)
 shows_last seat whats (Some list) seen tells follows =
-    λ some. subst (λ (es : List Event). IsPrefix es (own seat seen.events)) tells (own_on seat list seen follows)
+    λ some. subst (λ (es : List Event). IsPrefix es (own seat seen.events)) tells
+    (own_on seat list seen follows)
 
 -- ---- an admin's desk and lens
 
 -- nothing was told
-pub learned_none : (hub : Beginning) (seat : ℕ) (worker : Worker) → worker.desk.pass.seat ≡ seat → Follows hub worker.lens.seen
+pub learned_none : (hub : Beginning) (seat : ℕ) (worker : Worker) → worker.desk.pass.seat ≡ seat
+    → Follows hub worker.lens.seen
     → HasTold hub worker.desk [] 0 → HasLearned hub seat worker []
-learned_none hub seat worker at sees told = record { at = at; sees = sees; told = told; shows = λ some. absurd (some refl) }
+learned_none hub seat worker at sees told = record {
+  at = at;
+  sees = sees;
+  told = told;
+  shows =
+      λ some. absurd (some refl);
+}
 
 -- its lens has seen more
-pub learned_later : (hub : Beginning) (seat : ℕ) (old new : Worker) (whats : List What) → new.desk ≡ old.desk
-    → Follows old.lens.seen new.lens.seen → HasLearned hub seat old whats → HasLearned hub seat new whats
+pub learned_later : (hub : Beginning) (seat : ℕ) (old new : Worker) (whats : List What)
+    → new.desk ≡ old.desk
+    → Follows old.lens.seen new.lens.seen → HasLearned hub seat old whats
+    → HasLearned hub seat new whats
 learned_later hub seat old new whats desk later learned = record {
   at = ap (λ (d : Desk). d.pass.seat) desk ∙ learned.at;
   sees = follows_on hub old.lens.seen new.lens.seen learned.sees later;
@@ -110,13 +141,16 @@ learned_later hub seat old new whats desk later learned = record {
   shows = shows_on seat whats old.lens.seen new.lens.seen learned.shows later;
 }
 
-pub learned_same : (hub : Beginning) (seat : ℕ) (old new : Worker) (whats : List What) → new.desk ≡ old.desk
+pub learned_same : (hub : Beginning) (seat : ℕ) (old new : Worker) (whats : List What)
+    → new.desk ≡ old.desk
     → new.lens.seen ≡ old.lens.seen → HasLearned hub seat old whats → HasLearned hub seat new whats
 learned_same hub seat old new whats desk lens learned =
-    learned_later hub seat old new whats desk (subst (λ (b : Beginning). Follows old.lens.seen b) (sym lens) (follows_self old.lens.seen)) learned
+    learned_later hub seat old new whats desk (subst (λ (b : Beginning). Follows old.lens.seen b)
+    (sym lens) (follows_self old.lens.seen)) learned
 
 -- what was told is learned
-pub learned_more : (hub : Beginning) (seat : ℕ) (old new : Worker) (whats : List What) → new.desk.pass.seat ≡ seat
+pub learned_more : (hub : Beginning) (seat : ℕ) (old new : Worker) (whats : List What)
+    → new.desk.pass.seat ≡ seat
     → Follows hub old.lens.seen → Follows old.lens.seen new.lens.seen → HasTold hub new.desk whats 0
     → IfSome new.desk.last (λ list. Follows list new.lens.seen) → HasLearned hub seat new whats
 learned_more hub seat old new whats at sees kept told learned = record {
@@ -128,27 +162,45 @@ learned_more hub seat old new whats at sees kept told learned = record {
 }
 
 -- a batch of one event
-pub pushed_one : (batch old : List What) (what : What) (ok : Bool) → batch ≡ (if ok then old ++ what ∷ [] else old) → old ≡ [] → ok ≡ true
+pub pushed_one : (batch old : List What) (what : What) (ok : Bool)
+    → batch ≡ (if ok then old ++ what ∷ [] else old) → old ≡ [] → ok ≡ true
     → batch ≡ what ∷ []
 pushed_one batch old what ok pushed none is =
-    pushed ∙ (ap (λ (b : Bool). if b then old ++ what ∷ [] else old) is ∙ ap (λ (os : List What). os ++ what ∷ []) none)
+    pushed ∙ (ap (λ (b : Bool). if b then old ++ what ∷ [] else old) is
+    ∙ ap (λ (os : List What). os ++ what ∷ []) none)
 
-replied_kept : (book : State) (line : List ℕ) (change : Option What) (text : List ℕ) → Replies book (kept_of line) change text
+replied_kept : (book : State) (line : List ℕ) (change : Option What) (text : List ℕ)
+    → Replies book (kept_of line) change text
     → Replies book line change text
 replied_kept book line change text says =
     elim says [
-      | inl is ↦ inl (record { command = is.command; says = sym (kept_says book line) ∙ is.says; asks = is.asks; answers = is.answers })
-      | inr refusal ↦ inr (record { fault = refusal.fault; says = λ other. sym (kept_says book line) ∙ refusal.says other; none = refusal.none; tells = refusal.tells })
+      | inl is ↦ inl (record {
+        command = is.command;
+        says = sym (kept_says book line)
+            ∙ is.says;
+        asks = is.asks;
+        answers = is.answers;
+      })
+      | inr refusal ↦ inr (record {
+        fault = refusal.fault;
+        says = λ other. sym (kept_says book line)
+            ∙ refusal.says other;
+        none = refusal.none;
+        tells = refusal.tells;
+      })
     ]
 
 -- a line that was answered over a look
-pub looked : (hub : Beginning) (seat : ℕ) (old new : Worker) (whats : List What) (line : List ℕ) (book : State) (answered : Answered) (seen : Beginning)
+pub looked : (hub : Beginning) (seat : ℕ) (old new : Worker) (whats : List What) (line : List ℕ)
+    (book : State) (answered : Answered) (seen : Beginning)
     → new.desk ≡ old.desk → new.lens.seen ≡ seen → Follows old.lens.seen seen → IsBookOf book seen
-    → Replies book (kept_of line) answered.change answered.text.items → HasNoEnd line → HasLearned hub seat old whats
+    → Replies book (kept_of line) answered.change answered.text.items → HasNoEnd line
+    → HasLearned hub seat old whats
     → LooksTo hub seat new whats line (Ok answered)
 looked hub seat old new whats line book answered seen desk same later stands says whole learned =
     let now : HasLearned hub seat new whats =
-    learned_later hub seat old new whats desk (subst (λ (b : Beginning). Follows old.lens.seen b) (sym same) later) learned in (
+    learned_later hub seat old new whats desk (subst (λ (b : Beginning). Follows old.lens.seen b)
+    (sym same) later) learned in (
       now,
       record {
         whole = whole;
@@ -164,7 +216,8 @@ looked hub seat old new whats line book answered seen desk same later stands say
 -- ---- bytes and lines
 
 -- a line that ends is no longer at the end of what was read
-line_ends : (earlier : List Reply) (reply : Reply) (line bytes rest : List ℕ) → reply.line ≡ line ++ bytes
+line_ends : (earlier : List Reply) (reply : Reply) (line bytes rest : List ℕ)
+    → reply.line ≡ line ++ bytes
     → lines_in earlier ++ (line ++ (bytes ++ 10 ∷ rest)) ≡ lines_in (reply ∷ earlier) ++ rest
 line_ends earlier reply line bytes rest is =
     ap (λ xs. lines_in earlier ++ xs) (sym (append_assoc line bytes (10 ∷ rest))
@@ -172,40 +225,66 @@ line_ends earlier reply line bytes rest is =
     ∙ sym (append_assoc (lines_in earlier) (reply.line ++ 10 ∷ []) rest)
 
 -- nothing of what was read is left
-none_left : (earlier : List Reply) (line : List ℕ) → lines_in earlier ++ (line ++ []) ≡ lines_in earlier ++ line
+none_left : (earlier : List Reply) (line : List ℕ) → lines_in earlier ++ (line ++ [])
+    ≡ lines_in earlier ++ line
 none_left earlier line = ap (λ xs. lines_in earlier ++ xs) (append-nil line)
 
-line_goes_on : (earlier : List Reply) (line rest : List ℕ) → lines_in earlier ++ (line ++ rest) ≡ lines_in earlier ++ ((line ++ rest) ++ [])
+line_goes_on : (earlier : List Reply) (line rest : List ℕ) → lines_in earlier ++ (line ++ rest)
+    ≡ lines_in earlier ++ ((line ++ rest) ++ [])
 line_goes_on earlier line rest = ap (λ xs. lines_in earlier ++ xs) (sym (append-nil (line ++ rest)))
 
 -- ---- an admin at work
 
 -- nothing of the later lines was told nor answered
-pub stops_refused : (hub : Beginning) (seat : ℕ) (old new : Worker) (rest : List ℕ) (given0 given wrote0 before after : Option (List ℕ)) (fault : PostFault)
-    → (w : Works hub seat old rest given0 given wrote0 before) → HasTold hub new.desk (changes_in w.replies) (stored_of fault 1)
+pub stops_refused : (hub : Beginning) (seat : ℕ) (old new : Worker) (rest : List ℕ)
+    (given0 given wrote0 before after : Option (List ℕ)) (fault : PostFault)
+    → (w : Works hub seat old rest given0 given wrote0 before)
+    → HasTold hub new.desk (changes_in w.replies) (stored_of fault 1)
     → Appends before after [] → Stops hub seat new given0 given wrote0 after (Post fault)
 stops_refused hub seat old new rest given0 given wrote0 before after fault w told none = record {
   bytes = lines_in w.replies ++ (w.line ++ rest);
   written = texts_in w.replies;
   gave = w.gave;
-  took = subst (λ bytes. Appends wrote0 after bytes) (append-nil (texts_in w.replies)) (wrote_more wrote0 before after (texts_in w.replies) [] w.took none);
-  ends = record { replies = w.replies; later = w.line ++ rest; are = w.are; read = refl; told = told; answered = refl };
+  took = subst (λ bytes. Appends wrote0 after bytes) (append-nil (texts_in w.replies))
+      (wrote_more wrote0 before after (texts_in w.replies) [] w.took none);
+  ends = record {
+    replies = w.replies;
+    later = w.line ++ rest;
+    are = w.are;
+    read = refl;
+    told =
+        told;
+    answered = refl;
+  };
 }
 
-pub stops_unseen : (hub : Beginning) (seat : ℕ) (old new : Worker) (rest : List ℕ) (given0 given wrote0 before after : Option (List ℕ))
-    → (w : Works hub seat old rest given0 given wrote0 before) → HasTold hub new.desk (changes_in w.replies) 0
+pub stops_unseen : (hub : Beginning) (seat : ℕ) (old new : Worker) (rest : List ℕ)
+    (given0 given wrote0 before after : Option (List ℕ))
+    → (w : Works hub seat old rest given0 given wrote0 before)
+    → HasTold hub new.desk (changes_in w.replies) 0
     → Appends before after [] → Stops hub seat new given0 given wrote0 after Look
 stops_unseen hub seat old new rest given0 given wrote0 before after w told none = record {
   bytes = lines_in w.replies ++ (w.line ++ rest);
   written = texts_in w.replies;
   gave = w.gave;
-  took = subst (λ bytes. Appends wrote0 after bytes) (append-nil (texts_in w.replies)) (wrote_more wrote0 before after (texts_in w.replies) [] w.took none);
-  ends = record { replies = w.replies; later = w.line ++ rest; are = w.are; read = refl; told = told; answered = refl };
+  took = subst (λ bytes. Appends wrote0 after bytes) (append-nil (texts_in w.replies))
+      (wrote_more wrote0 before after (texts_in w.replies) [] w.took none);
+  ends = record {
+    replies = w.replies;
+    later = w.line ++ rest;
+    are = w.are;
+    read = refl;
+    told =
+        told;
+    answered = refl;
+  };
 }
 
 -- a read failed
-pub stops_failed : (hub : Beginning) (seat : ℕ) (worker : Worker) (given0 given wrote0 wrote : Option (List ℕ))
-    → Works hub seat worker [] given0 given wrote0 wrote → Stops hub seat worker given0 given wrote0 wrote Read
+pub stops_failed : (hub : Beginning) (seat : ℕ) (worker : Worker)
+    (given0 given wrote0 wrote : Option (List ℕ))
+    → Works hub seat worker [] given0 given wrote0 wrote
+    → Stops hub seat worker given0 given wrote0 wrote Read
 stops_failed hub seat worker given0 given wrote0 wrote w = record {
   bytes = lines_in w.replies ++ w.line;
   written = texts_in w.replies;
@@ -223,8 +302,10 @@ stops_failed hub seat worker given0 given wrote0 wrote w = record {
 }
 
 -- a piece was read
-pub works_piece : (hub : Beginning) (seat : ℕ) (worker : Worker) (piece : List ℕ) (given0 given after wrote0 wrote : Option (List ℕ)) → Appends given after piece
-    → Works hub seat worker [] given0 given wrote0 wrote → Works hub seat worker piece given0 after wrote0 wrote
+pub works_piece : (hub : Beginning) (seat : ℕ) (worker : Worker) (piece : List ℕ)
+    (given0 given after wrote0 wrote : Option (List ℕ)) → Appends given after piece
+    → Works hub seat worker [] given0 given wrote0 wrote
+    → Works hub seat worker piece given0 after wrote0 wrote
 works_piece hub seat worker piece given0 given after wrote0 wrote gives w = record {
   replies = w.replies;
   line = w.line;
@@ -233,15 +314,18 @@ works_piece hub seat worker piece given0 given after wrote0 wrote gives w = reco
   keeps = w.keeps;
   unended = w.unended;
   gave = subst (λ bytes. Appends given0 after bytes)
-      (ap (λ xs. xs ++ piece) (none_left w.replies w.line) ∙ append_assoc (lines_in w.replies) w.line piece)
+      (ap (λ xs. xs ++ piece) (none_left w.replies w.line)
+      ∙ append_assoc (lines_in w.replies) w.line piece)
       (wrote_more given0 given after (lines_in w.replies ++ (w.line ++ [])) piece w.gave gives);
   took = w.took;
 }
 
 -- the same desk, lens and line
-pub works_alike : (hub : Beginning) (seat : ℕ) (old new : Worker) (rest : List ℕ) (given0 given wrote0 wrote : Option (List ℕ)) → new.desk ≡ old.desk
+pub works_alike : (hub : Beginning) (seat : ℕ) (old new : Worker) (rest : List ℕ)
+    (given0 given wrote0 wrote : Option (List ℕ)) → new.desk ≡ old.desk
     → new.lens.seen ≡ old.lens.seen → new.line.bytes.items ≡ old.line.bytes.items
-    → Works hub seat old rest given0 given wrote0 wrote → Works hub seat new rest given0 given wrote0 wrote
+    → Works hub seat old rest given0 given wrote0 wrote
+    → Works hub seat new rest given0 given wrote0 wrote
 works_alike hub seat old new rest given0 given wrote0 wrote desk lens line w = record {
   replies = w.replies;
   line = w.line;
@@ -254,7 +338,8 @@ works_alike hub seat old new rest given0 given wrote0 wrote desk lens line w = r
 }
 
 -- an admin that has read nothing
-pub works_none : (hub : Beginning) (seat : ℕ) (worker : Worker) (given wrote : Option (List ℕ)) → worker.line.bytes.items ≡ []
+pub works_none : (hub : Beginning) (seat : ℕ) (worker : Worker) (given wrote : Option (List ℕ))
+    → worker.line.bytes.items ≡ []
     → HasLearned hub seat worker [] → Works hub seat worker [] given given wrote wrote
 works_none hub seat worker given wrote line learned = record {
   replies = [];
@@ -268,139 +353,183 @@ works_none hub seat worker given wrote line learned = record {
 }
 
 -- bytes couldn't be kept
-pub stops_unkept : (hub : Beginning) (seat : ℕ) (old new : Worker) (rest : List ℕ) (given0 given wrote0 wrote : Option (List ℕ)) (fault : PostFault)
-    → new.desk ≡ old.desk → stored_of fault 1 ≡ 0 → Works hub seat old rest given0 given wrote0 wrote
+pub stops_unkept : (hub : Beginning) (seat : ℕ) (old new : Worker) (rest : List ℕ)
+    (given0 given wrote0 wrote : Option (List ℕ)) (fault : PostFault)
+    → new.desk ≡ old.desk → stored_of fault 1 ≡ 0
+    → Works hub seat old rest given0 given wrote0 wrote
     → Stops hub seat new given0 given wrote0 wrote (Post fault)
 stops_unkept hub seat old new rest given0 given wrote0 wrote fault desk none w =
-    let told : HasTold hub new.desk (changes_in w.replies) 0 = subst (λ (d : Desk). HasTold hub d (changes_in w.replies) 0) (sym desk) w.learned.told in
+    let told : HasTold hub new.desk (changes_in w.replies) 0 =
+    subst (λ (d : Desk). HasTold hub d (changes_in w.replies) 0) (sym desk) w.learned.told in
     stops_refused hub seat old new rest given0 given wrote0 wrote wrote fault w
-    (subst (λ (n : ℕ). HasTold hub new.desk (changes_in w.replies) n) (sym none) told) (wrote_none wrote)
+    (subst (λ (n : ℕ). HasTold hub new.desk (changes_in w.replies) n) (sym none) told)
+    (wrote_none wrote)
 
 -- bytes couldn't be kept, for want of memory
-pub stops_keeping : (hub : Beginning) (seat : ℕ) (old new : Worker) (rest line : List ℕ) (given0 given wrote0 wrote : Option (List ℕ)) (cause : Cause)
-    → new.desk ≡ old.desk → KeepsTo new line (Err cause) → Works hub seat old rest given0 given wrote0 wrote
+pub stops_keeping : (hub : Beginning) (seat : ℕ) (old new : Worker) (rest line : List ℕ)
+    (given0 given wrote0 wrote : Option (List ℕ)) (cause : Cause)
+    → new.desk ≡ old.desk → KeepsTo new line (Err cause)
+    → Works hub seat old rest given0 given wrote0 wrote
     → Stops hub seat new given0 given wrote0 wrote cause
 stops_keeping hub seat old new rest line given0 given wrote0 wrote Read desk keeps w = absurd keeps
 stops_keeping hub seat old new rest line given0 given wrote0 wrote Write desk keeps w = absurd keeps
-stops_keeping hub seat old new rest line given0 given wrote0 wrote (Session cause) desk keeps w = absurd keeps
+stops_keeping hub seat old new rest line given0 given wrote0 wrote (Session cause) desk keeps w =
+    absurd keeps
 stops_keeping hub seat old new rest line given0 given wrote0 wrote (Post fault) desk keeps w =
     stops_unkept hub seat old new rest given0 given wrote0 wrote fault desk keeps w
 stops_keeping hub seat old new rest line given0 given wrote0 wrote Look desk keeps w = absurd keeps
 
 -- bytes of a line that hasn't ended were kept
-pub works_kept : (hub : Beginning) (seat : ℕ) (old new : Worker) (rest : List ℕ) (given0 given wrote0 wrote : Option (List ℕ))
-    (result : Result (Unit {0}) Cause) → new.desk ≡ old.desk → new.lens.seen ≡ old.lens.seen → HasNoEnd rest
+pub works_kept : (hub : Beginning) (seat : ℕ) (old new : Worker) (rest : List ℕ)
+    (given0 given wrote0 wrote : Option (List ℕ))
+    (result : Result (Unit {0}) Cause) → new.desk ≡ old.desk → new.lens.seen ≡ old.lens.seen
+    → HasNoEnd rest
     → ((line : List ℕ) → old.line.bytes.items ≡ kept_of line → KeepsTo new (line ++ rest) result)
-    → Works hub seat old rest given0 given wrote0 wrote → WorksOn hub seat new [] given0 given wrote0 wrote result
-works_kept hub seat old new rest given0 given wrote0 wrote (Ok done) desk lens whole keeps w = record {
-  replies = w.replies;
-  line = w.line ++ rest;
-  are = w.are;
-  learned = learned_same hub seat old new (changes_in w.replies) desk lens w.learned;
-  keeps = keeps w.line w.keeps;
-  unended = none_in_both w.line rest w.unended whole;
-  gave = subst (λ bytes. Appends given0 given bytes) (line_goes_on w.replies w.line rest) w.gave;
-  took = w.took;
-}
+    → Works hub seat old rest given0 given wrote0 wrote
+    → WorksOn hub seat new [] given0 given wrote0 wrote result
+works_kept hub seat old new rest given0 given wrote0 wrote (Ok done) desk lens whole keeps w =
+    record {
+      replies = w.replies;
+      line = w.line ++ rest;
+      are = w.are;
+      learned = learned_same hub seat old new (changes_in w.replies) desk lens w.learned;
+      keeps = keeps w.line w.keeps;
+      unended = none_in_both w.line rest w.unended whole;
+      gave = subst (λ bytes. Appends given0 given bytes) (line_goes_on w.replies w.line rest)
+          w.gave;
+      took = w.took;
+    }
 works_kept hub seat old new rest given0 given wrote0 wrote (Err cause) desk lens whole keeps w =
-    stops_keeping hub seat old new rest (w.line ++ rest) given0 given wrote0 wrote cause desk (keeps w.line w.keeps) w
+    stops_keeping hub seat old new rest (w.line ++ rest) given0 given wrote0 wrote cause desk
+    (keeps w.line w.keeps) w
 
 -- a line that ended was obeyed, and the next one begins
-pub works_obeyed : (hub : Beginning) (seat : ℕ) (old mid new : Worker) (bytes rest : List ℕ) (given0 given wrote0 before after : Option (List ℕ))
-    (reply : Reply) → new.desk ≡ mid.desk → new.lens.seen ≡ mid.lens.seen → new.line.bytes.items ≡ []
+pub works_obeyed : (hub : Beginning) (seat : ℕ) (old mid new : Worker) (bytes rest : List ℕ)
+    (given0 given wrote0 before after : Option (List ℕ))
+    (reply : Reply) → new.desk ≡ mid.desk → new.lens.seen ≡ mid.lens.seen
+    → new.line.bytes.items ≡ []
     → (w : Works hub seat old (bytes ++ 10 ∷ rest) given0 given wrote0 before)
-    → HasObeyed hub seat mid (changes_in w.replies) (w.line ++ bytes) reply → Appends before after reply.text
+    → HasObeyed hub seat mid (changes_in w.replies) (w.line ++ bytes) reply
+    → Appends before after reply.text
     → Works hub seat new rest given0 given wrote0 after
-works_obeyed hub seat old mid new bytes rest given0 given wrote0 before after reply desk lens cleared w obeyed wrote = record {
-  replies = reply ∷ w.replies;
-  line = [];
-  are = (obeyed.is, w.are);
-  learned = learned_same hub seat mid new (changes_in (reply ∷ w.replies)) desk lens obeyed.learned;
-  keeps = cleared;
-  unended = refl;
-  gave = subst (λ xs. Appends given0 given xs) (line_ends w.replies reply w.line bytes rest obeyed.answers) w.gave;
-  took = wrote_more wrote0 before after (texts_in w.replies) reply.text w.took wrote;
-}
+works_obeyed hub seat old mid new bytes rest given0 given wrote0 before after reply desk lens
+    cleared w obeyed wrote = record {
+      replies = reply ∷ w.replies;
+      line = [];
+      are = (obeyed.is, w.are);
+      learned = learned_same hub seat mid new (changes_in (reply ∷ w.replies)) desk lens
+          obeyed.learned;
+      keeps = cleared;
+      unended = refl;
+      gave = subst (λ xs. Appends given0 given xs) (line_ends w.replies reply w.line bytes rest
+          obeyed.answers) w.gave;
+      took = wrote_more wrote0 before after (texts_in w.replies) reply.text w.took wrote;
+    }
 
 -- of the answer only a beginning was written
-pub stops_cut : (hub : Beginning) (seat : ℕ) (old new : Worker) (bytes rest : List ℕ) (given0 given wrote0 before after : Option (List ℕ))
+pub stops_cut : (hub : Beginning) (seat : ℕ) (old new : Worker) (bytes rest : List ℕ)
+    (given0 given wrote0 before after : Option (List ℕ))
     (reply : Reply) → (w : Works hub seat old (bytes ++ 10 ∷ rest) given0 given wrote0 before)
-    → HasObeyed hub seat new (changes_in w.replies) (w.line ++ bytes) reply → WroteFront before after reply.text
+    → HasObeyed hub seat new (changes_in w.replies) (w.line ++ bytes) reply
+    → WroteFront before after reply.text
     → Stops hub seat new given0 given wrote0 after Write
-stops_cut hub seat old new bytes rest given0 given wrote0 before after reply w obeyed wrote = record {
-  bytes = lines_in w.replies ++ (w.line ++ (bytes ++ 10 ∷ rest));
-  written = texts_in w.replies ++ wrote.front;
-  gave = w.gave;
-  took = wrote_more wrote0 before after (texts_in w.replies) wrote.front w.took wrote.wrote;
-  ends = record {
-    replies = w.replies;
-    last = reply;
-    later = rest;
-    front = wrote.front;
-    rest = wrote.rest;
-    are = (obeyed.is, w.are);
-    read = line_ends w.replies reply w.line bytes rest obeyed.answers;
-    told = obeyed.learned.told;
-    text = wrote.split;
-    answered = refl;
-  };
-}
+stops_cut hub seat old new bytes rest given0 given wrote0 before after reply w obeyed wrote =
+    record {
+      bytes = lines_in w.replies ++ (w.line ++ (bytes ++ 10 ∷ rest));
+      written = texts_in w.replies ++ wrote.front;
+      gave = w.gave;
+      took = wrote_more wrote0 before after (texts_in w.replies) wrote.front w.took wrote.wrote;
+      ends = record {
+        replies = w.replies;
+        last = reply;
+        later = rest;
+        front = wrote.front;
+        rest = wrote.rest;
+        are = (obeyed.is, w.are);
+        read = line_ends w.replies reply w.line bytes rest obeyed.answers;
+        told = obeyed.learned.told;
+        text = wrote.split;
+        answered = refl;
+      };
+    }
 
 -- a line that ended, at a fault
-pub stops_obeying : (hub : Beginning) (seat : ℕ) (old new : Worker) (bytes rest : List ℕ) (given0 given wrote0 before after : Option (List ℕ))
+pub stops_obeying : (hub : Beginning) (seat : ℕ) (old new : Worker) (bytes rest : List ℕ)
+    (given0 given wrote0 before after : Option (List ℕ))
     (cause : Cause) → (w : Works hub seat old (bytes ++ 10 ∷ rest) given0 given wrote0 before)
-    → ObeysTo hub seat new (changes_in w.replies) (w.line ++ bytes) before after (Err cause) → Stops hub seat new given0 given wrote0 after cause
-stops_obeying hub seat old new bytes rest given0 given wrote0 before after Read w obeys = absurd obeys
+    → ObeysTo hub seat new (changes_in w.replies) (w.line ++ bytes) before after (Err cause)
+    → Stops hub seat new given0 given wrote0 after cause
+stops_obeying hub seat old new bytes rest given0 given wrote0 before after Read w obeys =
+    absurd obeys
 stops_obeying hub seat old new bytes rest given0 given wrote0 before after Write w obeys =
     stops_cut hub seat old new bytes rest given0 given wrote0 before after obeys.0 w obeys.1 obeys.2
-stops_obeying hub seat old new bytes rest given0 given wrote0 before after (Session cause) w obeys = absurd obeys
+stops_obeying hub seat old new bytes rest given0 given wrote0 before after (Session cause) w obeys =
+    absurd obeys
 stops_obeying hub seat old new bytes rest given0 given wrote0 before after (Post fault) w obeys =
-    stops_refused hub seat old new (bytes ++ 10 ∷ rest) given0 given wrote0 before after fault w obeys.0 obeys.1
+    stops_refused hub seat old new (bytes ++ 10 ∷ rest) given0 given wrote0 before after fault w
+    obeys.0 obeys.1
 stops_obeying hub seat old new bytes rest given0 given wrote0 before after Look w obeys =
-    stops_unseen hub seat old new (bytes ++ 10 ∷ rest) given0 given wrote0 before after w obeys.0 obeys.1
+    stops_unseen hub seat old new (bytes ++ 10 ∷ rest) given0 given wrote0 before after w
+    obeys.0 obeys.1
 
 -- ---- a line
 
 -- a look or a change that ended with a fault ends the line, of which nothing was written
-pub obeys_unlooked : (hub : Beginning) (seat : ℕ) (worker : Worker) (whats : List What) (line : List ℕ) (wrote : Option (List ℕ)) (cause : Cause)
-    → LooksTo hub seat worker whats line (Err cause) → ObeysTo hub seat worker whats line wrote wrote (Err cause)
+pub obeys_unlooked : (hub : Beginning) (seat : ℕ) (worker : Worker) (whats : List What)
+    (line : List ℕ) (wrote : Option (List ℕ)) (cause : Cause)
+    → LooksTo hub seat worker whats line (Err cause)
+    → ObeysTo hub seat worker whats line wrote wrote (Err cause)
 obeys_unlooked hub seat worker whats line wrote Read looks = absurd looks
 obeys_unlooked hub seat worker whats line wrote Write looks = absurd looks
 obeys_unlooked hub seat worker whats line wrote (Session cause) looks = absurd looks
-obeys_unlooked hub seat worker whats line wrote (Post fault) looks =
-    (subst (λ (n : ℕ). HasTold hub worker.desk whats n) (sym looks.none) looks.told, wrote_none wrote)
+obeys_unlooked hub seat worker whats line wrote (Post fault) looks = (
+  subst (λ (n : ℕ). HasTold hub worker.desk whats n) (sym looks.none) looks.told,
+  wrote_none wrote,
+)
 obeys_unlooked hub seat worker whats line wrote Look looks = (looks, wrote_none wrote)
 
-pub obeys_unchanged : (hub : Beginning) (seat : ℕ) (worker : Worker) (whats batch : List What) (line : List ℕ) (wrote : Option (List ℕ)) (cause : Cause)
-    → ChangesTo hub seat worker whats batch (Err cause) → ObeysTo hub seat worker whats line wrote wrote (Err cause)
+pub obeys_unchanged : (hub : Beginning) (seat : ℕ) (worker : Worker) (whats batch : List What)
+    (line : List ℕ) (wrote : Option (List ℕ)) (cause : Cause)
+    → ChangesTo hub seat worker whats batch (Err cause)
+    → ObeysTo hub seat worker whats line wrote wrote (Err cause)
 obeys_unchanged hub seat worker whats batch line wrote Read changes = absurd changes
 obeys_unchanged hub seat worker whats batch line wrote Write changes = absurd changes
 obeys_unchanged hub seat worker whats batch line wrote (Session cause) changes = absurd changes
-obeys_unchanged hub seat worker whats batch line wrote (Post fault) changes = (changes, wrote_none wrote)
+obeys_unchanged hub seat worker whats batch line wrote (Post fault) changes =
+    (changes, wrote_none wrote)
 obeys_unchanged hub seat worker whats batch line wrote Look changes = absurd changes
 
 -- a line whose change was told and whose answer is sent
-pub obeys_sent : (hub : Beginning) (seat : ℕ) (worker : Worker) (whats : List What) (line : List ℕ) (before after : Option (List ℕ)) (change : Option What)
-    (text : List ℕ) (result : Result (Unit {0}) Cause) → IsReply hub seat whats (reply_of line change text)
+pub obeys_sent : (hub : Beginning) (seat : ℕ) (worker : Worker) (whats : List What) (line : List ℕ)
+    (before after : Option (List ℕ)) (change : Option What)
+    (text : List ℕ) (result : Result (Unit {0}) Cause)
+    → IsReply hub seat whats (reply_of line change text)
     → HasLearned hub seat worker (whats ++ option_to_list change) → Sends before after text result
     → ObeysTo hub seat worker whats line before after result
 obeys_sent hub seat worker whats line before after change text (Ok done) is learned sends =
     (reply_of line change text, record { answers = refl; is = is; learned = learned }, sends)
-obeys_sent hub seat worker whats line before after change text (Err Read) is learned sends = absurd sends
+obeys_sent hub seat worker whats line before after change text (Err Read) is learned sends =
+    absurd sends
 obeys_sent hub seat worker whats line before after change text (Err Write) is learned sends =
     (reply_of line change text, record { answers = refl; is = is; learned = learned }, sends)
-obeys_sent hub seat worker whats line before after change text (Err (Session cause)) is learned sends = absurd sends
-obeys_sent hub seat worker whats line before after change text (Err (Post fault)) is learned sends = absurd sends
-obeys_sent hub seat worker whats line before after change text (Err Look) is learned sends = absurd sends
+obeys_sent hub seat worker whats line before after change text (Err (Session cause)) is learned
+    sends = absurd sends
+obeys_sent hub seat worker whats line before after change text (Err (Post fault)) is learned sends =
+    absurd sends
+obeys_sent hub seat worker whats line before after change text (Err Look) is learned sends =
+    absurd sends
 
 -- nothing is asked for
-pub changes_none : (hub : Beginning) (seat : ℕ) (worker : Worker) (whats : List What) → HasLearned hub seat worker whats
+pub changes_none : (hub : Beginning) (seat : ℕ) (worker : Worker) (whats : List What)
+    → HasLearned hub seat worker whats
     → HasLearned hub seat worker (whats ++ [])
-changes_none hub seat worker whats learned = subst (λ (ws : List What). HasLearned hub seat worker ws) (sym (append-nil whats)) learned
+changes_none hub seat worker whats learned =
+    subst (λ (ws : List What). HasLearned hub seat worker ws) (sym (append-nil whats)) learned
 
 -- ---- what the receipts show at the end
 
-all_served : (hub : Beginning) (seat : ℕ) (Told Shown : List What → ℕ → Type 0) (bytes written : List ℕ)
+all_served : (hub : Beginning) (seat : ℕ) (Told Shown : List What → ℕ → Type 0)
+    (bytes written : List ℕ)
     → ((whats : List What) (waiting : ℕ) → Told whats waiting → Shown whats waiting)
     → AllAnswered hub seat Told bytes written → AllAnswered hub seat Shown bytes written
 all_served hub seat Told Shown bytes written f a = record {
@@ -413,7 +542,8 @@ all_served hub seat Told Shown bytes written f a = record {
   answered = a.answered;
 }
 
-cut_served : (hub : Beginning) (seat : ℕ) (Told Shown : List What → ℕ → Type 0) (bytes written : List ℕ)
+cut_served : (hub : Beginning) (seat : ℕ) (Told Shown : List What → ℕ → Type 0)
+    (bytes written : List ℕ)
     → ((whats : List What) (waiting : ℕ) → Told whats waiting → Shown whats waiting)
     → LastCutShort hub seat Told bytes written → LastCutShort hub seat Shown bytes written
 cut_served hub seat Told Shown bytes written f a = record {
@@ -429,9 +559,11 @@ cut_served hub seat Told Shown bytes written f a = record {
   answered = a.answered;
 }
 
-refused_served : (hub : Beginning) (seat : ℕ) (Told Shown : List What → ℕ → Type 0) (bytes written : List ℕ) (stored : ℕ)
+refused_served : (hub : Beginning) (seat : ℕ) (Told Shown : List What → ℕ → Type 0)
+    (bytes written : List ℕ) (stored : ℕ)
     → ((whats : List What) (waiting : ℕ) → Told whats waiting → Shown whats waiting)
-    → LaterRefused hub seat Told bytes written stored → LaterRefused hub seat Shown bytes written stored
+    → LaterRefused hub seat Told bytes written stored
+    → LaterRefused hub seat Shown bytes written stored
 refused_served hub seat Told Shown bytes written stored f a = record {
   replies = a.replies;
   later = a.later;
@@ -441,34 +573,50 @@ refused_served hub seat Told Shown bytes written stored f a = record {
   answered = a.answered;
 }
 
-ends_served : (hub : Beginning) (seat : ℕ) (Told Shown : List What → ℕ → Type 0) (bytes written : List ℕ) (cause : Cause)
+ends_served : (hub : Beginning) (seat : ℕ) (Told Shown : List What → ℕ → Type 0)
+    (bytes written : List ℕ) (cause : Cause)
     → ((whats : List What) (waiting : ℕ) → Told whats waiting → Shown whats waiting)
-    → EndsCommands hub seat Told bytes written cause → EndsCommands hub seat Shown bytes written cause
-ends_served hub seat Told Shown bytes written Read f ends = all_served hub seat Told Shown bytes written f ends
-ends_served hub seat Told Shown bytes written Write f ends = cut_served hub seat Told Shown bytes written f ends
+    → EndsCommands hub seat Told bytes written cause → EndsCommands hub seat Shown
+    bytes written cause
+ends_served hub seat Told Shown bytes written Read f ends =
+    all_served hub seat Told Shown bytes written f ends
+ends_served hub seat Told Shown bytes written Write f ends =
+    cut_served hub seat Told Shown bytes written f ends
 ends_served hub seat Told Shown bytes written (Session cause) f ends = absurd ends
-ends_served hub seat Told Shown bytes written (Post fault) f ends = refused_served hub seat Told Shown bytes written (stored_of fault 1) f ends
-ends_served hub seat Told Shown bytes written Look f ends = refused_served hub seat Told Shown bytes written 0 f ends
+ends_served hub seat Told Shown bytes written (Post fault) f ends =
+    refused_served hub seat Told Shown bytes written (stored_of fault 1) f ends
+ends_served hub seat Told Shown bytes written Look f ends =
+    refused_served hub seat Told Shown bytes written 0 f ends
 
-pub commanded_whole : (hub : Beginning) (seat : ℕ) (worker : Worker) (given0 given wrote0 wrote : Option (List ℕ)) (served : Served)
-    → ((whats : List What) (waiting : ℕ) → HasTold hub worker.desk whats waiting → IsServed seat whats waiting served)
-    → Works hub seat worker [] given0 given wrote0 wrote → IsCommandedWhole hub seat given0 given wrote0 wrote served
+pub commanded_whole : (hub : Beginning) (seat : ℕ) (worker : Worker)
+    (given0 given wrote0 wrote : Option (List ℕ)) (served : Served)
+    → ((whats : List What) (waiting : ℕ) → HasTold hub worker.desk whats waiting
+    → IsServed seat whats waiting served)
+    → Works hub seat worker [] given0 given wrote0 wrote
+    → IsCommandedWhole hub seat given0 given wrote0 wrote served
 commanded_whole hub seat worker given0 given wrote0 wrote served f w =
     let stops = stops_failed hub seat worker given0 given wrote0 wrote w in record {
       bytes = stops.bytes;
       written = stops.written;
       gave = stops.gave;
       took = stops.took;
-      ends = all_served hub seat (HasTold hub worker.desk) (λ whats waiting. IsServed seat whats waiting served) stops.bytes stops.written f stops.ends;
+      ends = all_served hub seat (HasTold hub worker.desk)
+          (λ whats waiting. IsServed seat whats waiting served) stops.bytes
+          stops.written f stops.ends;
     }
 
-pub commanded_until : (hub : Beginning) (seat : ℕ) (worker : Worker) (given0 given wrote0 wrote : Option (List ℕ)) (faulted : Faulted)
-    → ((whats : List What) (waiting : ℕ) → HasTold hub worker.desk whats waiting → IsServed seat whats waiting faulted.served)
-    → Stops hub seat worker given0 given wrote0 wrote faulted.cause → IsCommandedUntil hub seat given0 given wrote0 wrote faulted
+pub commanded_until : (hub : Beginning) (seat : ℕ) (worker : Worker)
+    (given0 given wrote0 wrote : Option (List ℕ)) (faulted : Faulted)
+    → ((whats : List What) (waiting : ℕ) → HasTold hub worker.desk whats waiting
+    → IsServed seat whats waiting faulted.served)
+    → Stops hub seat worker given0 given wrote0 wrote faulted.cause → IsCommandedUntil hub seat
+    given0 given wrote0 wrote faulted
 commanded_until hub seat worker given0 given wrote0 wrote faulted f stops = record {
   bytes = stops.bytes;
   written = stops.written;
   gave = stops.gave;
   took = stops.took;
-  ends = ends_served hub seat (HasTold hub worker.desk) (λ whats waiting. IsServed seat whats waiting faulted.served) stops.bytes stops.written faulted.cause f stops.ends;
+  ends = ends_served hub seat (HasTold hub worker.desk)
+      (λ whats waiting. IsServed seat whats waiting faulted.served) stops.bytes stops.written
+      faulted.cause f stops.ends;
 }

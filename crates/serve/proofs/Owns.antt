@@ -1,5 +1,7 @@
 -- A seat's own events, as its posts add to them.
-use Rattle.std.proofs.Common.{◌≡◌, ℕ, ◌+◌, ◌==◌, Bool, true, List, [], ◌∷◌, ◌++◌, length, Option, None, Some, IfSome, refl, sym, ap, subst, ◌∙◌, cond, arith, append-nil, length-append}
+use Rattle.std.proofs.Common.{◌≡◌, ℕ, ◌+◌, ◌==◌, Bool, true, List, [], ◌∷◌, ◌++◌, length, Option}
+use Rattle.std.proofs.Common.{None, Some, IfSome, refl, sym, ap, subst, ◌∙◌, cond, arith}
+use Rattle.std.proofs.Common.{append-nil, length-append}
 use Rattle.std.proofs.lemmas.Bool.Decides.{nat_tests}
 use Rattle.std.proofs.lemmas.List.Elements.{filter-append}
 use mathlib.Core.List.{IsPrefix}
@@ -8,7 +10,8 @@ use Rattle.agg_types.specs.declared.event.What.{What}
 use Rattle.agg_types.specs.declared.event.What.TheVariants.{Sit, Leave}
 use Rattle.hub.specs.History.{Beginning, longer_by, made, own}
 use Rattle.hub.specs.declared.faults.PostFault.{PostFault}
-use Rattle.hub.specs.declared.faults.PostFault.TheVariants.{Replaced, NotNext, NoMemory, Pending, Spent}
+use Rattle.hub.specs.declared.faults.PostFault.TheVariants.{Replaced, NotNext, NoMemory, Pending}
+use Rattle.hub.specs.declared.faults.PostFault.TheVariants.{Spent}
 use Rattle.hub.specs.Posts.{PostRefused, PostsAfter, Seated, ShowsBatch, advanced}
 use Rattle.serve.specs.declared.desk.Desk.{Desk}
 use Rattle.serve.specs.Told.{HasTold, IsLeft, Tells, stored_of}
@@ -16,8 +19,10 @@ use Rattle.serve.specs.Told.{HasTold, IsLeft, Tells, stored_of}
 same_seat : (seat : ℕ) → (seat == seat) ≡ true
 same_seat seat = grind (arith, nat_tests)
 
-own_cons : (seat : ℕ) (e : Event) (events : List Event) (b : Bool) → (e.seat == seat) ≡ b → b ≡ true → own seat (e ∷ events) ≡ e ∷ own seat events
-own_cons seat e events b is true_is = ap (λ b. cond b (e ∷ own seat events) (own seat events)) (is ∙ true_is)
+own_cons : (seat : ℕ) (e : Event) (events : List Event) (b : Bool) → (e.seat == seat) ≡ b → b ≡ true
+    → own seat (e ∷ events) ≡ e ∷ own seat events
+own_cons seat e events b is true_is = ap (λ b. cond b (e ∷ own seat events) (own seat events))
+    (is ∙ true_is)
 
 -- what is made at a seat is its own
 pub own-made : (seat n : ℕ) (whats : List What) → own seat (made seat n whats) ≡ made seat n whats
@@ -31,7 +36,8 @@ pub length-made : (seat n : ℕ) (whats : List What) → length (made seat n wha
 length-made seat n [] = refl
 length-made seat n (what ∷ whats) = omega (arith, length-made seat (n + 1) whats)
 
-pub made-append : (seat n : ℕ) (some more : List What) → made seat n (some ++ more) ≡ made seat n some ++ made seat (n + length some) more
+pub made-append : (seat n : ℕ) (some more : List What) → made seat n (some ++ more)
+    ≡ made seat n some ++ made seat (n + length some) more
 made-append seat n [] more = ap (λ k. made seat k more) (omega arith)
 made-append seat n (what ∷ some) more =
     let e : Event = record { seat = seat; seq = n; what = what } in
@@ -40,18 +46,29 @@ made-append seat n (what ∷ some) more =
 
 -- what a seat told, and how many events more stand in a list that shows a batch, before the batch
 pub before_batch : (seat : ℕ) (whats : List What) (seen before : Beginning) (waiting : ℕ)
-    → Tells seat whats seen → IsPrefix seen.events before.events → length (own seat before.events) ≡ 1 + length whats + waiting
-    → (more : List Event) × (length more ≡ waiting) × (own seat before.events ≡ made seat 0 (Sit ∷ whats) ++ more)
+    → Tells seat whats seen → IsPrefix seen.events before.events → length (own seat before.events)
+    ≡ 1 + length whats + waiting
+    → (more : List Event) × (length more ≡ waiting)
+    × (own seat before.events ≡ made seat 0 (Sit ∷ whats) ++ more)
 before_batch seat whats seen before waiting tells prefix count =
     let more : List Event = own seat prefix.0 in
     let split : own seat before.events ≡ made seat 0 (Sit ∷ whats) ++ more =
-    ap (own seat) (sym prefix.1) ∙ (filter-append (λ (e : Event). e.seat == seat) seen.events prefix.0
+    ap (own seat) (sym prefix.1) ∙ (filter-append (λ (e : Event). e.seat == seat)
+    seen.events prefix.0
     ∙ ap (λ es. es ++ more) tells) in
-    let lengths = ap length split in
-    (more, omega (arith, length-append (made seat 0 (Sit ∷ whats)) more, length-made seat 0 (Sit ∷ whats)), split)
+    let lengths = ap length split in (
+      more,
+      omega (
+        arith,
+        length-append (made seat 0 (Sit ∷ whats)) more,
+        length-made seat 0 (Sit ∷ whats),
+      ),
+      split,
+    )
 
 -- the events of a list that shows a batch
-pub own-batch : (seat n : ℕ) (before shown : Beginning) (batch : List What) → shown ≡ longer_by before (made seat n batch)
+pub own-batch : (seat n : ℕ) (before shown : Beginning) (batch : List What)
+    → shown ≡ longer_by before (made seat n batch)
     → own seat shown.events ≡ own seat before.events ++ made seat n batch
 own-batch seat n before shown batch is =
     ap (λ (b : Beginning). own seat b.events) is
@@ -63,23 +80,28 @@ nothing [] is = refl
 nothing (e ∷ more) is = absurd (omega arith)
 
 -- a list that shows a batch of a pass with nothing waiting tells the batch more
-pub tells_batch : (p : Seated) (whats batch : List What) (shown : Beginning) → Tells p.seat whats p.seen → p.number ≡ 1 + length whats
+pub tells_batch : (p : Seated) (whats batch : List What) (shown : Beginning)
+    → Tells p.seat whats p.seen → p.number ≡ 1 + length whats
     → ShowsBatch p batch shown → Tells p.seat (whats ++ batch) shown
 tells_batch p whats batch shown tells number shows =
-    let b = before_batch p.seat whats p.seen shows.before 0 tells shows.seen.events (shows.owns ∙ omega arith) in
+    let b = before_batch p.seat whats p.seen shows.before 0 tells shows.seen.events (shows.owns
+    ∙ omega arith) in
     let none : b.0 ≡ [] = nothing b.0 b.1 in
     let before : own p.seat shows.before.events ≡ made p.seat 0 (Sit ∷ whats) =
-    b.2 ∙ (ap (λ es. made p.seat 0 (Sit ∷ whats) ++ es) none ∙ append-nil (made p.seat 0 (Sit ∷ whats))) in
+    b.2 ∙ (ap (λ es. made p.seat 0 (Sit ∷ whats) ++ es) none
+    ∙ append-nil (made p.seat 0 (Sit ∷ whats))) in
     own-batch p.seat p.number shows.before shown batch shows.posted
     ∙ (ap (λ es. es ++ made p.seat p.number batch) before
     ∙ (ap (λ k. made p.seat 0 (Sit ∷ whats) ++ made p.seat k batch) (number ∙ omega arith)
     ∙ sym (made-append p.seat 0 (Sit ∷ whats) batch)))
 
 -- a list that shows the leave of a pass
-pub left_with : (p : Seated) (whats : List What) (waiting : ℕ) (shown : Beginning) → Tells p.seat whats p.seen → p.number ≡ 1 + length whats + waiting
+pub left_with : (p : Seated) (whats : List What) (waiting : ℕ) (shown : Beginning)
+    → Tells p.seat whats p.seen → p.number ≡ 1 + length whats + waiting
     → ShowsBatch p (Leave ∷ []) shown → IsLeft p.seat whats waiting shown
 left_with p whats waiting shown tells number shows =
-    let b = before_batch p.seat whats p.seen shows.before waiting tells shows.seen.events (shows.owns ∙ number) in
+    let b = before_batch p.seat whats p.seen shows.before waiting tells shows.seen.events
+    (shows.owns ∙ number) in
     record {
       more = b.0;
       count = b.1;
@@ -89,44 +111,64 @@ left_with p whats waiting shown tells number shows =
     }
 
 -- what a leave shows, if it shows something
-pub left_shown : (p : Seated) (whats : List What) (waiting : ℕ) (shown : Option Beginning) → Tells p.seat whats p.seen → p.number ≡ 1 + length whats + waiting
+pub left_shown : (p : Seated) (whats : List What) (waiting : ℕ) (shown : Option Beginning)
+    → Tells p.seat whats p.seen → p.number ≡ 1 + length whats + waiting
     → IfSome shown (ShowsBatch p (Leave ∷ [])) → IfSome shown (IsLeft p.seat whats waiting)
 left_shown p whats waiting None tells number shows = tt
-left_shown p whats waiting (Some shown) tells number shows = left_with p whats waiting shown tells number shows
+left_shown p whats waiting (Some shown) tells number shows =
+    left_with p whats waiting shown tells number shows
 
 abbrev pub desk_of : Seated → Option Beginning → Desk
 desk_of pass last = record { pass = pass; last = last }
 
-pub same_log : (p : Seated) (shown : Beginning) (batch : List What) → ShowsBatch p batch shown → shown.of ≡ p.seen.of
-same_log p shown batch shows = ap (λ (b : Beginning). b.of) shows.posted ∙ ap (λ (b : Beginning). b.of) shows.seen.same
+pub same_log : (p : Seated) (shown : Beginning) (batch : List What) → ShowsBatch p batch shown
+    → shown.of ≡ p.seen.of
+same_log p shown batch shows = ap (λ (b : Beginning). b.of) shows.posted
+    ∙ ap (λ (b : Beginning). b.of) shows.seen.same
 
 -- a desk after a post
-pub posted : (hub : Beginning) (p q : Seated) (last : Option Beginning) (whats batch : List What) (shown : Beginning) → HasTold hub (desk_of p last) whats 0
+pub posted : (hub : Beginning) (p q : Seated) (last : Option Beginning) (whats batch : List What)
+    (shown : Beginning) → HasTold hub (desk_of p last) whats 0
     → PostsAfter p q batch shown → HasTold hub (desk_of q (Some shown)) (whats ++ batch) 0
 posted hub p q last whats batch shown told after =
-    let tells : Tells p.seat (whats ++ batch) shown = tells_batch p whats batch shown told.tells (told.number ∙ omega arith) after.0 in
-    let made_of : Desk = desk_of (record { seat = p.seat; number = p.number + length batch; seen = shown }) (Some shown) in
-    let number : p.number + length batch ≡ 1 + length (whats ++ batch) + 0 = let n = told.number in omega (arith, length-append whats batch) in
+    let tells : Tells p.seat (whats ++ batch) shown =
+    tells_batch p whats batch shown told.tells (told.number ∙ omega arith) after.0 in
+    let made_of : Desk = desk_of (record {
+      seat = p.seat;
+      number = p.number + length batch;
+      seen =
+          shown;
+    }) (Some shown) in
+    let number : p.number + length batch ≡ 1 + length (whats ++ batch) + 0 = let n = told.number in
+    omega (arith, length-append whats batch) in
     let done : HasTold hub made_of (whats ++ batch) 0 = record {
       of = same_log p shown batch after.0 ∙ told.of;
       number = number;
       tells = tells;
       last = tells;
     } in
-    subst (λ (r : Seated). HasTold hub (desk_of r (Some shown)) (whats ++ batch) 0) (sym after.1) done
+    subst (λ (r : Seated). HasTold hub (desk_of r (Some shown)) (whats ++ batch) 0)
+    (sym after.1) done
 
-same_told : (hub : Beginning) (p q : Seated) (last : Option Beginning) (whats : List What) → HasTold hub (desk_of p last) whats 0 → q ≡ p
+same_told : (hub : Beginning) (p q : Seated) (last : Option Beginning) (whats : List What)
+    → HasTold hub (desk_of p last) whats 0 → q ≡ p
     → HasTold hub (desk_of q last) whats 0
-same_told hub p q last whats told same = subst (λ (r : Seated). HasTold hub (desk_of r last) whats 0) (sym same) told
+same_told hub p q last whats told same =
+    subst (λ (r : Seated). HasTold hub (desk_of r last) whats 0) (sym same) told
 
 -- a desk after a refused post
-pub refused : (hub : Beginning) (p q : Seated) (last : Option Beginning) (whats batch : List What) (fault : PostFault) → HasTold hub (desk_of p last) whats 0
-    → PostRefused p q batch fault → HasTold hub (desk_of q last) whats (stored_of fault (length batch))
-refused hub p q last whats batch (Replaced by shown) told why = same_told hub p q last whats told why.0
-refused hub p q last whats batch (NotNext found shown) told why = same_told hub p q last whats told why.0
+pub refused : (hub : Beginning) (p q : Seated) (last : Option Beginning) (whats batch : List What)
+    (fault : PostFault) → HasTold hub (desk_of p last) whats 0
+    → PostRefused p q batch fault → HasTold hub (desk_of q last) whats
+    (stored_of fault (length batch))
+refused hub p q last whats batch (Replaced by shown) told why =
+    same_told hub p q last whats told why.0
+refused hub p q last whats batch (NotNext found shown) told why =
+    same_told hub p q last whats told why.0
 refused hub p q last whats batch (NoMemory back) told why = same_told hub p q last whats told why.0
 refused hub p q last whats batch Pending told why =
-    let done : HasTold hub (desk_of (advanced p (length batch)) last) whats (length batch) = record {
+    let done : HasTold hub (desk_of (advanced p (length batch)) last) whats (length batch) =
+    record {
       of = told.of;
       number = let n = told.number in omega arith;
       tells = told.tells;

@@ -1,5 +1,7 @@
 -- Lines within pieces, and what is kept of them.
-use Rattle.std.proofs.Common.{◌≡◌, ℕ, ◌+◌, ◌-◌, ◌<◌, ◌≤◌, true, ◌||◌, eqb, ltb, List, [], ◌∷◌, ◌++◌, length, get_or, take, drop, Some, None, zero, suc, refl, ap, sym, ◌∙◌, inl, inr, add-one, arith, length-take-le}
+use Rattle.std.proofs.Common.{◌≡◌, ℕ, ◌+◌, ◌-◌, ◌<◌, ◌≤◌, true, ◌||◌, eqb, ltb, List, [], ◌∷◌, ◌++◌}
+use Rattle.std.proofs.Common.{length, get_or, take, drop, Some, None, zero, suc, refl, ap, sym, ◌∙◌}
+use Rattle.std.proofs.Common.{inl, inr, add-one, arith, length-take-le}
 use Rattle.std.proofs.Math.Seq.{drop-cons}
 use Rattle.std.specs.List.{list_any, position}
 use Rattle.std.specs.Str.Lines.{strip_carriage_return}
@@ -18,26 +20,32 @@ use Rattle.serve.specs.Commanding.{kept_of}
 -- bytes among which LF stands nowhere
 pub none_at_all : (xs : List ℕ) → position (λ byte. eqb byte 10) xs ≡ None → HasNoEnd xs
 none_at_all xs none =
-    list_any_none (λ byte. eqb byte 10) xs (λ k d below. fails_before_first (λ byte. eqb byte 10) xs k d (omega (arith, position-none (λ byte. eqb byte 10) xs none)))
+    list_any_none (λ byte. eqb byte 10) xs (λ k d below. fails_before_first (λ byte. eqb byte 10) xs
+    k d (omega (arith, position-none (λ byte. eqb byte 10) xs none)))
 
 -- bytes before the first LF
-pub none_before : (xs : List ℕ) (i : ℕ) → position (λ byte. eqb byte 10) xs ≡ Some i → HasNoEnd (take i xs)
+pub none_before : (xs : List ℕ) (i : ℕ) → position (λ byte. eqb byte 10) xs ≡ Some i
+    → HasNoEnd (take i xs)
 none_before xs i at =
     let is = position-is (λ byte. eqb byte 10) xs i at in
     list_any_none (λ byte. eqb byte 10) (take i xs) (λ k d below.
     let short : k < i = omega (arith, below, length-take-le i xs (omega (arith, is.0, is.1))) in
-    ap (λ byte. eqb byte 10) (get_or-take i xs k d short) ∙ fails_before_first (λ byte. eqb byte 10) xs k d (omega (arith, is.1)))
+    ap (λ byte. eqb byte 10) (get_or-take i xs k d short)
+    ∙ fails_before_first (λ byte. eqb byte 10) xs k d (omega (arith, is.1)))
 
 -- bytes with LF among them, parted at the first one
-pub parted : (xs : List ℕ) (i : ℕ) → position (λ byte. eqb byte 10) xs ≡ Some i → xs ≡ take i xs ++ 10 ∷ drop (i + 1) xs
+pub parted : (xs : List ℕ) (i : ℕ) → position (λ byte. eqb byte 10) xs ≡ Some i
+    → xs ≡ take i xs ++ 10 ∷ drop (i + 1) xs
 parted xs i at =
     let found = position-Some (λ byte. eqb byte 10) xs i 0 at in
     let byte : get_or xs i 0 ≡ 10 = eqb-true (get_or xs i 0) 10 found.1 in
-    sym (take-append-drop i xs) ∙ ap (λ ys. take i xs ++ ys) (drop-cons xs i 0 found.0 ∙ (ap (λ b. b ∷ drop (suc i) xs) byte ∙ ap (λ k. 10 ∷ drop k xs) (sym (add-one i))))
+    sym (take-append-drop i xs) ∙ ap (λ ys. take i xs ++ ys) (drop-cons xs i 0 found.0
+    ∙ (ap (λ b. b ∷ drop (suc i) xs) byte ∙ ap (λ k. 10 ∷ drop k xs) (sym (add-one i))))
 
 -- a line goes on
 pub none_in_both : (xs ys : List ℕ) → HasNoEnd xs → HasNoEnd ys → HasNoEnd (xs ++ ys)
-none_in_both xs ys none_x none_y = list_any-append (λ byte. eqb byte 10) xs ys ∙ (ap (λ b. b || list_any (λ byte. eqb byte 10) ys) none_x ∙ none_y)
+none_in_both xs ys none_x none_y = list_any-append (λ byte. eqb byte 10) xs ys
+    ∙ (ap (λ b. b || list_any (λ byte. eqb byte 10) ys) none_x ∙ none_y)
 
 take_short : {A : Type 0} (n : ℕ) (xs : List A) → length xs ≤ n → take n xs ≡ xs
 take_short zero [] le = refl
@@ -45,7 +53,8 @@ take_short (suc n) [] le = refl
 take_short zero (x ∷ xs) le = absurd (omega arith)
 take_short (suc n) (x ∷ xs) le = ap (λ ys. x ∷ ys) (take_short n xs (omega arith))
 
-take_on : {A : Type 0} (n : ℕ) (xs ys : List A) → take n (xs ++ ys) ≡ take n xs ++ take (n - length (take n xs)) ys
+take_on : {A : Type 0} (n : ℕ) (xs ys : List A) → take n (xs ++ ys) ≡ take n xs
+    ++ take (n - length (take n xs)) ys
 take_on zero [] ys = refl
 take_on (suc n) [] ys = let e : suc n ≡ suc n - 0 = omega arith in ap (λ k. take k ys) e
 take_on zero (x ∷ xs) ys = refl
@@ -63,24 +72,29 @@ parted_count xs i at =
     parted xs i at ∙ ap (λ ys. take i xs ++ 10 ∷ ys) (sym whole)
 
 -- what is kept of a line that goes on
-pub kept_on : (line more kept after : List ℕ) → kept ≡ kept_of line → after ≡ kept ++ take (4098 - length kept) more → after ≡ kept_of (line ++ more)
+pub kept_on : (line more kept after : List ℕ) → kept ≡ kept_of line
+    → after ≡ kept ++ take (4098 - length kept) more → after ≡ kept_of (line ++ more)
 kept_on line more kept after is then =
     then ∙ (ap (λ ks. ks ++ take (4098 - length ks) more) is ∙ sym (take_on 4098 line more))
 
 strip_long : (xs : List ℕ) → length xs ≤ length (strip_carriage_return xs) + 1
 strip_long xs = grind (arith, nat_tests, length-take-le)
 
-is_long : (line : List ℕ) (n : ℕ) → suc (suc n) ≤ length line → ltb n (length (strip_carriage_return line)) ≡ true
+is_long : (line : List ℕ) (n : ℕ) → suc (suc n) ≤ length line
+    → ltb n (length (strip_carriage_return line)) ≡ true
 is_long line n long = grind (arith, nat_tests, strip_long line)
 
 -- what a line says stands in what is kept of it
-pub kept_says : (book : State) (line : List ℕ) → command_of book (kept_of line) ≡ command_of book line
+pub kept_says : (book : State) (line : List ℕ) → command_of book (kept_of line)
+    ≡ command_of book line
 kept_says book line =
     elim (cases_lt 4098 (length line)) [
       | inl long ↦
           let kept : ltb 4096 (length (strip_carriage_return (take 4098 line))) ≡ true =
-          is_long (take 4098 line) 4096 (let l = length-take-le 4098 line (omega arith) in omega arith) in
-          let whole : ltb 4096 (length (strip_carriage_return line)) ≡ true = is_long line 4096 (omega arith) in
+          is_long (take 4098 line) 4096 (let l = length-take-le 4098 line (omega arith) in
+          omega arith) in
+          let whole : ltb 4096 (length (strip_carriage_return line)) ≡ true =
+          is_long line 4096 (omega arith) in
           rw (kept, whole) refl
       | inr short ↦ ap (λ l. command_of book l) (take_short 4098 line (omega arith))
     ]

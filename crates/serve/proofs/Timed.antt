@@ -14,22 +14,33 @@ use Rattle.serve.specs.Told.{HasTold, IsServed}
 none_at_all : {X : Type 0} (P : X → Type 0) → All P []
 none_at_all P = λ k d below. absurd (omega arith)
 
-pub timed_none : (hub : Beginning) (gives : ℕ → Type 0) (desk : Desk) → HasTold hub desk [] 0 → HasTimed hub gives desk 0
-timed_none hub gives desk told = record { moments = []; are = none_at_all (IsMomentOf gives); told = told }
+pub timed_none : (hub : Beginning) (gives : ℕ → Type 0) (desk : Desk) → HasTold hub desk [] 0
+    → HasTimed hub gives desk 0
+timed_none hub gives desk told =
+    record { moments = []; are = none_at_all (IsMomentOf gives); told = told }
 
 -- one moment more was told
-pub timed_more : (hub : Beginning) (gives : ℕ → Type 0) (old new : Desk) (moment : ℕ) → gives moment → (timed : HasTimed hub gives old 0)
-    → ((whats : List What) → HasTold hub old whats 0 → HasTold hub new (whats ++ Moment moment ∷ []) 0) → HasTimed hub gives new 0
+pub timed_more : (hub : Beginning) (gives : ℕ → Type 0) (old new : Desk) (moment : ℕ) → gives moment
+    → (timed : HasTimed hub gives old 0)
+    → ((whats : List What) → HasTold hub old whats 0
+    → HasTold hub new (whats ++ Moment moment ∷ []) 0) → HasTimed hub gives new 0
 timed_more hub gives old new moment given timed f = record {
   moments = timed.moments ++ Moment moment ∷ [];
   are = All-append (IsMomentOf gives) timed.moments (Moment moment ∷ []) timed.are
-      (all_cons (IsMomentOf gives) (Moment moment) [] (record { moment = moment; is = refl; given = given }) (none_at_all (IsMomentOf gives)));
+      (all_cons (IsMomentOf gives) (Moment moment) [] (record {
+        moment = moment;
+        is = refl;
+        given =
+            given;
+      }) (none_at_all (IsMomentOf gives)));
   told = f timed.moments timed.told;
 }
 
 -- a post was refused
-pub timed_refused : (hub : Beginning) (gives : ℕ → Type 0) (old new : Desk) (waiting : ℕ) → (timed : HasTimed hub gives old 0)
-    → ((whats : List What) → HasTold hub old whats 0 → HasTold hub new whats waiting) → HasTimed hub gives new waiting
+pub timed_refused : (hub : Beginning) (gives : ℕ → Type 0) (old new : Desk) (waiting : ℕ)
+    → (timed : HasTimed hub gives old 0)
+    → ((whats : List What) → HasTold hub old whats 0 → HasTold hub new whats waiting)
+    → HasTimed hub gives new waiting
 timed_refused hub gives old new waiting timed f = record {
   moments = timed.moments;
   are = timed.are;
@@ -37,8 +48,10 @@ timed_refused hub gives old new waiting timed f = record {
 }
 
 -- what a timer's receipts show once its pass was given back
-pub timed_served : (hub : Beginning) (gives : ℕ → Type 0) (desk : Desk) (seat waiting : ℕ) (served : Served) → HasTimed hub gives desk waiting
-    → ((whats : List What) → HasTold hub desk whats waiting → IsServed seat whats waiting served) → IsTimed gives seat waiting served
+pub timed_served : (hub : Beginning) (gives : ℕ → Type 0) (desk : Desk) (seat waiting : ℕ)
+    (served : Served) → HasTimed hub gives desk waiting
+    → ((whats : List What) → HasTold hub desk whats waiting → IsServed seat whats waiting served)
+    → IsTimed gives seat waiting served
 timed_served hub gives desk seat waiting served timed f = record {
   moments = timed.moments;
   are = timed.are;

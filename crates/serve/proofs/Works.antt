@@ -1,5 +1,7 @@
 -- How a session at work goes on, and how it stops.
-use Rattle.std.proofs.Common.{is_some, ◌≡◌, ℕ, ◌-◌, ◌≤◌, Bool, List, [], ◌∷◌, ◌++◌, length, drop, Option, None, Some, Result, Ok, Err, refl, sym, ap, ◌∙◌, subst, arith, append-nil, append_assoc, length-append}
+use Rattle.std.proofs.Common.{is_some, ◌≡◌, ℕ, ◌-◌, ◌≤◌, Bool, List, [], ◌∷◌, ◌++◌, length, drop}
+use Rattle.std.proofs.Common.{Option, None, Some, Result, Ok, Err, refl, sym, ap, ◌∙◌, subst, arith}
+use Rattle.std.proofs.Common.{append-nil, append_assoc, length-append}
 use Rattle.std.proofs.Math.Seq.{drop-append_seam}
 use Rattle.agg_types.specs.declared.event.What.{What}
 use Rattle.session_core.specs.declared.batch.SessionFault.{SessionFault}
@@ -22,11 +24,15 @@ use Rattle.serve.specs.declared.served.Served.{Served}
 use Rattle.serve.specs.declared.worker.Worker.{Worker}
 use Rattle.std.specs.Io.KnownBytes.{Appends, Keeps}
 use Rattle.serve.specs.Told.{stored_of}
-use Rattle.serve.specs.Turns.{DeskTells, EndsBy, EndsBySession, IsDeskOf, IsAnswered, IsRefused, SeatIsServed, Sends, answer_at, answers_in, facts_in, heartbeat, said_beyond, taken_in}
-use Rattle.serve.specs.Working.{EndsFor, EndsTo, IsAtWork, IsServedUntil, IsServedWhole, SettlesThen, SettlesTo, Stops, Works, WorksOn}
+use Rattle.serve.specs.Turns.{DeskTells, EndsBy, EndsBySession, IsDeskOf, IsAnswered, IsRefused}
+use Rattle.serve.specs.Turns.{SeatIsServed, Sends, answer_at, answers_in, facts_in, heartbeat}
+use Rattle.serve.specs.Turns.{said_beyond, taken_in}
+use Rattle.serve.specs.Working.{EndsFor, EndsTo, IsAtWork, IsServedUntil, IsServedWhole}
+use Rattle.serve.specs.Working.{SettlesThen, SettlesTo, Stops, Works, WorksOn}
 
 -- what was written goes on
-pub wrote_more : (a b c : Option (List ℕ)) (xs ys : List ℕ) → Appends a b xs → Appends b c ys → Appends a c (xs ++ ys)
+pub wrote_more : (a b c : Option (List ℕ)) (xs ys : List ℕ) → Appends a b xs → Appends b c ys
+    → Appends a c (xs ++ ys)
 wrote_more None b c xs ys p q = tt
 wrote_more (Some w) None c xs ys p q = absurd p
 wrote_more (Some w) (Some v) None xs ys p q = absurd q
@@ -36,20 +42,25 @@ pub wrote_none : (a : Option (List ℕ)) → Appends a a []
 wrote_none None = tt
 wrote_none (Some w) = sym (append-nil w)
 
-pub wrote_kept : (a b c : Option (List ℕ)) (xs : List ℕ) → Appends a b xs → Keeps b c → Appends a c xs
+pub wrote_kept : (a b c : Option (List ℕ)) (xs : List ℕ) → Appends a b xs → Keeps b c
+    → Appends a c xs
 wrote_kept None b c xs p q = tt
 wrote_kept (Some w) None c xs p q = absurd p
 wrote_kept (Some w) (Some v) None xs p q = absurd q
 wrote_kept (Some w) (Some v) (Some u) xs p q = q ∙ p
 
 -- what a piece's batch says is what its talk says beyond the talk before it
-pub says_beyond : (setup : Setup) (old new : Talk) (batch : Batched) → Grows setup old new batch → said_beyond setup old new ≡ batch.replies ++ batch.acks
+pub says_beyond : (setup : Setup) (old new : Talk) (batch : Batched) → Grows setup old new batch
+    → said_beyond setup old new ≡ batch.replies ++ batch.acks
 says_beyond setup old new batch grows =
-    ap (λ rs. drop (length old.replies) rs ++ acks_among setup.tables (new.count - old.count) new.past) grows.replies
-    ∙ (ap (λ rs. rs ++ acks_among setup.tables (new.count - old.count) new.past) (drop-append_seam old.replies batch.replies)
+    ap (λ rs. drop (length old.replies) rs ++ acks_among setup.tables (new.count - old.count)
+    new.past) grows.replies
+    ∙ (ap (λ rs. rs ++ acks_among setup.tables (new.count - old.count) new.past)
+    (drop-append_seam old.replies batch.replies)
     ∙ ap (λ acks. batch.replies ++ acks) (sym grows.acks))
 
-less_old : (some more : List What) (all : List What) → all ≡ some ++ more → length all - length some ≡ length more
+less_old : (some more : List What) (all : List What) → all ≡ some ++ more
+    → length all - length some ≡ length more
 less_old some more all is = let l = ap length is in omega (arith, length-append some more)
 
 -- a cause of a session that took its last piece
@@ -60,8 +71,10 @@ TookIt causes.PeerError = Unit {0}
 TookIt causes.TimedOut = Unit {0}
 TookIt causes.NoMemory = ⊥
 
-by_session : (setup : Setup) (seated : Bool) (Told : List What → ℕ → Type 0) (bytes written : List ℕ) (cause : SessionCause) → TookIt cause
-    → IsAnswered setup seated Told bytes written → EndsBySession setup seated Told bytes written cause
+by_session : (setup : Setup) (seated : Bool) (Told : List What → ℕ → Type 0)
+    (bytes written : List ℕ) (cause : SessionCause) → TookIt cause
+    → IsAnswered setup seated Told bytes written
+    → EndsBySession setup seated Told bytes written cause
 by_session setup seated Told bytes written (causes.Refused status) took is = is
 by_session setup seated Told bytes written (causes.Wire wire) took is = is
 by_session setup seated Told bytes written causes.PeerError took is = is
@@ -76,8 +89,10 @@ took_it causes.TimedOut other = tt
 took_it causes.NoMemory other = other refl
 
 -- a fault that took its piece
-pub fault_stands : (cause : SessionCause) (batch : Batched) (setup : Setup) (seated : Bool) (taken piece : List ℕ) (stage : Stage) → TookIt cause
-    → FaultAnswersTalk cause batch setup seated taken piece stage → Stands setup seated taken piece batch (Some cause) stage
+pub fault_stands : (cause : SessionCause) (batch : Batched) (setup : Setup) (seated : Bool)
+    (taken piece : List ℕ) (stage : Stage) → TookIt cause
+    → FaultAnswersTalk cause batch setup seated taken piece stage
+    → Stands setup seated taken piece batch (Some cause) stage
 fault_stands (causes.Refused status) batch setup seated taken piece stage took is = is
 fault_stands (causes.Wire wire) batch setup seated taken piece stage took is = is
 fault_stands causes.PeerError batch setup seated taken piece stage took is = is
@@ -85,56 +100,78 @@ fault_stands causes.TimedOut batch setup seated taken piece stage took is = is
 fault_stands causes.NoMemory batch setup seated taken piece stage took is = absurd took
 
 -- what a session at work is answered, where the answer is told of what the session keeps
-pub stage_at : (config0 config : Config) (seat0 seated : Bool) (taken : List ℕ) (before : Stage) → config0 ≡ config → seat0 ≡ seated
-    → before ≡ stage_of (setup_of config) seated taken → before ≡ stage_of (setup_of config0) seat0 taken
+pub stage_at : (config0 config : Config) (seat0 seated : Bool) (taken : List ℕ) (before : Stage)
+    → config0 ≡ config → seat0 ≡ seated
+    → before ≡ stage_of (setup_of config) seated taken
+    → before ≡ stage_of (setup_of config0) seat0 taken
 stage_at config0 config seat0 seated taken before same_config same is =
-    is ∙ (ap (λ c. stage_of (setup_of c) seated taken) (sym same_config) ∙ ap (λ b. stage_of (setup_of config0) b taken) (sym same))
+    is ∙ (ap (λ c. stage_of (setup_of c) seated taken) (sym same_config)
+    ∙ ap (λ b. stage_of (setup_of config0) b taken) (sym same))
 
-pub stands_at : (config0 config : Config) (seat0 seated : Bool) (taken piece : List ℕ) (before after : Stage) (batch : Batched) (end : Option SessionCause)
+pub stands_at : (config0 config : Config) (seat0 seated : Bool) (taken piece : List ℕ)
+    (before after : Stage) (batch : Batched) (end : Option SessionCause)
     → config0 ≡ config → seat0 ≡ seated → before ≡ stage_of (setup_of config) seated taken
-    → ((bytes : List ℕ) → before ≡ stage_of (setup_of config0) seat0 bytes → Stands (setup_of config0) seat0 bytes piece batch end after)
+    → ((bytes : List ℕ) → before ≡ stage_of (setup_of config0) seat0 bytes
+    → Stands (setup_of config0) seat0 bytes piece batch end after)
     → Stands (setup_of config) seated taken piece batch end after
 stands_at config0 config seat0 seated taken piece before after batch end same_config same is f =
     subst (λ c. Stands (setup_of c) seated taken piece batch end after) same_config
-    (subst (λ b. Stands (setup_of config0) b taken piece batch end after) same (f taken (stage_at config0 config seat0 seated taken before same_config same is)))
+    (subst (λ b. Stands (setup_of config0) b taken piece batch end after) same
+    (f taken (stage_at config0 config seat0 seated taken before same_config same is)))
 
-pub fault_at : (config0 config : Config) (seat0 seated : Bool) (taken piece : List ℕ) (before after : Stage) (fault : SessionFault)
+pub fault_at : (config0 config : Config) (seat0 seated : Bool) (taken piece : List ℕ)
+    (before after : Stage) (fault : SessionFault)
     → config0 ≡ config → seat0 ≡ seated → before ≡ stage_of (setup_of config) seated taken
-    → ((bytes : List ℕ) → before ≡ stage_of (setup_of config0) seat0 bytes → FaultAnswersTalk fault.cause fault.batch (setup_of config0) seat0 bytes piece after)
+    → ((bytes : List ℕ) → before ≡ stage_of (setup_of config0) seat0 bytes
+    → FaultAnswersTalk fault.cause fault.batch (setup_of config0) seat0 bytes piece after)
     → FaultAnswersTalk fault.cause fault.batch (setup_of config) seated taken piece after
 fault_at config0 config seat0 seated taken piece before after fault same_config same is f =
-    subst (λ c. FaultAnswersTalk fault.cause fault.batch (setup_of c) seated taken piece after) same_config
-    (subst (λ b. FaultAnswersTalk fault.cause fault.batch (setup_of config0) b taken piece after) same (f taken (stage_at config0 config seat0 seated taken before same_config same is)))
+    subst (λ c. FaultAnswersTalk fault.cause fault.batch (setup_of c) seated taken piece after)
+    same_config
+    (subst (λ b. FaultAnswersTalk fault.cause fault.batch (setup_of config0) b taken piece after)
+    same (f taken (stage_at config0 config seat0 seated taken before same_config same is)))
 
 -- a fault leaves the seat
-pub seat_kept : (cause : SessionCause) (batch : Batched) (old new : SessionState) (piece : List ℕ) (now : ℕ) (setup : Setup) (seated : Bool) (stage : Stage)
-    → FaultAnswers cause batch old new piece now (piece_of setup seated stage piece) → new.seated ≡ old.seated
-seat_kept (causes.Refused status) batch old new piece now setup seated stage is = ap (λ (s : SessionState). s.seated) is.2
-seat_kept (causes.Wire wire) batch old new piece now setup seated stage is = ap (λ (s : SessionState). s.seated) is.2
-seat_kept causes.PeerError batch old new piece now setup seated stage is = ap (λ (s : SessionState). s.seated) is.2
-seat_kept causes.TimedOut batch old new piece now setup seated stage is = ap (λ (s : SessionState). s.seated) is.2
-seat_kept causes.NoMemory batch old new piece now setup seated stage is = ap (λ (s : SessionState). s.seated) is.1
+pub seat_kept : (cause : SessionCause) (batch : Batched) (old new : SessionState) (piece : List ℕ)
+    (now : ℕ) (setup : Setup) (seated : Bool) (stage : Stage)
+    → FaultAnswers cause batch old new piece now (piece_of setup seated stage piece)
+    → new.seated ≡ old.seated
+seat_kept (causes.Refused status) batch old new piece now setup seated stage is =
+    ap (λ (s : SessionState). s.seated) is.2
+seat_kept (causes.Wire wire) batch old new piece now setup seated stage is =
+    ap (λ (s : SessionState). s.seated) is.2
+seat_kept causes.PeerError batch old new piece now setup seated stage is =
+    ap (λ (s : SessionState). s.seated) is.2
+seat_kept causes.TimedOut batch old new piece now setup seated stage is =
+    ap (λ (s : SessionState). s.seated) is.2
+seat_kept causes.NoMemory batch old new piece now setup seated stage is =
+    ap (λ (s : SessionState). s.seated) is.1
 
 -- a session that works stops for a reason of its own
-pub stops_by_session : (hub : Beginning) (seated : Bool) (worker : Worker) (given0 given wrote0 wrote : Option (List ℕ)) (cause : SessionCause) → TookIt cause
-    → Works hub seated worker given0 given wrote0 wrote → Stops hub seated worker given0 given wrote0 wrote (Session cause)
+pub stops_by_session : (hub : Beginning) (seated : Bool) (worker : Worker)
+    (given0 given wrote0 wrote : Option (List ℕ)) (cause : SessionCause) → TookIt cause
+    → Works hub seated worker given0 given wrote0 wrote
+    → Stops hub seated worker given0 given wrote0 wrote (Session cause)
 stops_by_session hub seated worker given0 given wrote0 wrote cause took w =
     let setup : Setup = setup_of hub.config in record {
       bytes = taken_in w.turns;
       written = answers_in setup seated w.turns;
       gave = w.gave;
       took = w.took;
-      ends = by_session setup seated (DeskTells hub worker.desk) (taken_in w.turns) (answers_in setup seated w.turns) cause took (record {
-        turns = w.turns;
-        read = refl;
-        told = w.work.told;
-        answered = refl;
-      });
+      ends = by_session setup seated (DeskTells hub worker.desk) (taken_in w.turns)
+          (answers_in setup seated w.turns) cause took (record {
+            turns = w.turns;
+            read = refl;
+            told = w.work.told;
+            answered = refl;
+          });
     }
 
 -- a session that works stops, since a read failed
-pub stops_by_read : (hub : Beginning) (seated : Bool) (worker : Worker) (given0 given wrote0 wrote : Option (List ℕ))
-    → Works hub seated worker given0 given wrote0 wrote → Stops hub seated worker given0 given wrote0 wrote Read
+pub stops_by_read : (hub : Beginning) (seated : Bool) (worker : Worker)
+    (given0 given wrote0 wrote : Option (List ℕ))
+    → Works hub seated worker given0 given wrote0 wrote
+    → Stops hub seated worker given0 given wrote0 wrote Read
 stops_by_read hub seated worker given0 given wrote0 wrote w =
     let setup : Setup = setup_of hub.config in record {
       bytes = taken_in w.turns;
@@ -145,19 +182,24 @@ stops_by_read hub seated worker given0 given wrote0 wrote w =
     }
 
 -- the same worker, after a read that gave nothing
-pub works_same : (hub : Beginning) (seated : Bool) (worker : Worker) (given0 given after wrote0 wrote : Option (List ℕ)) → Appends given after []
-    → Works hub seated worker given0 given wrote0 wrote → Works hub seated worker given0 after wrote0 wrote
+pub works_same : (hub : Beginning) (seated : Bool) (worker : Worker)
+    (given0 given after wrote0 wrote : Option (List ℕ)) → Appends given after []
+    → Works hub seated worker given0 given wrote0 wrote
+    → Works hub seated worker given0 after wrote0 wrote
 works_same hub seated worker given0 given after wrote0 wrote none w = record {
   turns = w.turns;
   work = w.work;
-  gave = subst (λ bytes. Appends given0 after bytes) (append-nil (taken_in w.turns)) (wrote_more given0 given after (taken_in w.turns) [] w.gave none);
+  gave = subst (λ bytes. Appends given0 after bytes) (append-nil (taken_in w.turns))
+      (wrote_more given0 given after (taken_in w.turns) [] w.gave none);
   took = w.took;
 }
 
 -- for want of memory nothing of a piece is taken
-pub stops_for_memory : (hub : Beginning) (seated : Bool) (old new : Worker) (given0 given after wrote0 wrote : Option (List ℕ)) (piece : List ℕ)
+pub stops_for_memory : (hub : Beginning) (seated : Bool) (old new : Worker)
+    (given0 given after wrote0 wrote : Option (List ℕ)) (piece : List ℕ)
     → Appends given after piece → new.desk ≡ old.desk
-    → Works hub seated old given0 given wrote0 wrote → Stops hub seated new given0 after wrote0 wrote (Session causes.NoMemory)
+    → Works hub seated old given0 given wrote0 wrote
+    → Stops hub seated new given0 after wrote0 wrote (Session causes.NoMemory)
 stops_for_memory hub seated old new given0 given after wrote0 wrote piece gives desk w =
     let setup : Setup = setup_of hub.config in record {
       bytes = taken_in w.turns ++ piece;
@@ -168,20 +210,29 @@ stops_for_memory hub seated old new given0 given after wrote0 wrote piece gives 
         turns = w.turns;
         piece = piece;
         read = refl;
-        told = subst (λ d. DeskTells hub d (facts_in setup seated w.turns) 0) (sym desk) w.work.told;
+        told = subst (λ d. DeskTells hub d (facts_in setup seated w.turns) 0)
+            (sym desk) w.work.told;
         answered = refl;
       };
     }
 
 -- a session whose batch was settled
-pub settled : (hub : Beginning) (seated : Bool) (old new : Worker) (given0 given after wrote0 wrote1 wrote2 : Option (List ℕ)) (piece : List ℕ) (batch : Batched) (end : Option SessionCause)
-    (result : Result (Unit {0}) Cause) → Appends given after piece → (w : Works hub seated old given0 given wrote0 wrote1)
-    → Stands (setup_of hub.config) seated (taken_in w.turns) piece batch end new.session.stage → new.session.seated ≡ seated
-    → SettlesTo hub new.desk (facts_in (setup_of hub.config) seated w.turns) batch wrote1 wrote2 result
+pub settled : (hub : Beginning) (seated : Bool) (old new : Worker)
+    (given0 given after wrote0 wrote1 wrote2 : Option (List ℕ)) (piece : List ℕ) (batch : Batched)
+    (end : Option SessionCause)
+    (result : Result (Unit {0}) Cause) → Appends given after piece
+    → (w : Works hub seated old given0 given wrote0 wrote1)
+    → Stands (setup_of hub.config) seated (taken_in w.turns) piece batch end new.session.stage
+    → new.session.seated ≡ seated
+    → SettlesTo hub new.desk (facts_in (setup_of hub.config) seated w.turns) batch
+    wrote1 wrote2 result
     → WorksOn hub seated new given0 after wrote0 wrote2 result
-settled hub seated old new given0 given after wrote0 wrote1 wrote2 piece batch end (Ok done) gives w stands same settles =
+settled hub seated old new given0 given after wrote0 wrote1 wrote2 piece batch end (Ok done) gives w
+    stands same settles =
     let setup : Setup = setup_of hub.config in
-    let says : answer_at setup seated w.turns (Some piece) ≡ batch.replies ++ batch.acks = says_beyond setup (talk setup seated (taken_in w.turns)) (talk setup seated (taken_in w.turns ++ piece)) batch stands.grows in record {
+    let says : answer_at setup seated w.turns (Some piece) ≡ batch.replies ++ batch.acks =
+    says_beyond setup (talk setup seated (taken_in w.turns))
+    (talk setup seated (taken_in w.turns ++ piece)) batch stands.grows in record {
       turns = Some piece ∷ w.turns;
       work = record {
         has_seat = same;
@@ -189,17 +240,23 @@ settled hub seated old new given0 given after wrote0 wrote1 wrote2 piece batch e
         told = subst (λ facts. DeskTells hub new.desk facts 0) (sym stands.grows.facts) settles.0;
       };
       gave = wrote_more given0 given after (taken_in w.turns) piece w.gave gives;
-      took = wrote_more wrote0 wrote1 wrote2 (answers_in setup seated w.turns) (answer_at setup seated w.turns (Some piece)) w.took
+      took = wrote_more wrote0 wrote1 wrote2 (answers_in setup seated w.turns)
+          (answer_at setup seated w.turns (Some piece)) w.took
           (subst (λ bytes. Appends wrote1 wrote2 bytes) (sym says) settles.1);
     }
-settled hub seated old new given0 given after wrote0 wrote1 wrote2 piece batch end (Err Read) gives w stands same settles = absurd settles
-settled hub seated old new given0 given after wrote0 wrote1 wrote2 piece batch end (Err Write) gives w stands same settles =
+settled hub seated old new given0 given after wrote0 wrote1 wrote2 piece batch end (Err Read) gives
+    w stands same settles = absurd settles
+settled hub seated old new given0 given after wrote0 wrote1 wrote2 piece batch end (Err Write) gives
+    w stands same settles =
     let setup : Setup = setup_of hub.config in
-    let says : answer_at setup seated w.turns (Some piece) ≡ batch.replies ++ batch.acks = says_beyond setup (talk setup seated (taken_in w.turns)) (talk setup seated (taken_in w.turns ++ piece)) batch stands.grows in record {
+    let says : answer_at setup seated w.turns (Some piece) ≡ batch.replies ++ batch.acks =
+    says_beyond setup (talk setup seated (taken_in w.turns))
+    (talk setup seated (taken_in w.turns ++ piece)) batch stands.grows in record {
       bytes = taken_in w.turns ++ piece;
       written = answers_in setup seated w.turns ++ settles.1.front;
       gave = wrote_more given0 given after (taken_in w.turns) piece w.gave gives;
-      took = wrote_more wrote0 wrote1 wrote2 (answers_in setup seated w.turns) settles.1.front w.took settles.1.wrote;
+      took = wrote_more wrote0 wrote1 wrote2 (answers_in setup seated w.turns) settles.1.front
+          w.took settles.1.wrote;
       ends = record {
         turns = w.turns;
         last = Some piece;
@@ -211,24 +268,32 @@ settled hub seated old new given0 given after wrote0 wrote1 wrote2 piece batch e
         answered = refl;
       };
     }
-settled hub seated old new given0 given after wrote0 wrote1 wrote2 piece batch end (Err (Session cause)) gives w stands same settles = absurd settles
-settled hub seated old new given0 given after wrote0 wrote1 wrote2 piece batch end (Err (Post fault)) gives w stands same settles =
+settled hub seated old new given0 given after wrote0 wrote1 wrote2 piece batch end
+    (Err (Session cause)) gives w stands same settles = absurd settles
+settled hub seated old new given0 given after wrote0 wrote1 wrote2 piece batch end
+    (Err (Post fault)) gives w stands same settles =
     let setup : Setup = setup_of hub.config in
-    let count : length (talk setup seated (taken_in w.turns ++ piece)).facts - length (facts_in setup seated w.turns) ≡ length batch.facts =
-    less_old (facts_in setup seated w.turns) batch.facts (talk setup seated (taken_in w.turns ++ piece)).facts stands.grows.facts in record {
+    let count : length (talk setup seated (taken_in w.turns ++ piece)).facts - length
+    (facts_in setup seated w.turns) ≡ length batch.facts =
+    less_old (facts_in setup seated w.turns) batch.facts
+    (talk setup seated (taken_in w.turns ++ piece)).facts stands.grows.facts in record {
       bytes = taken_in w.turns ++ piece;
       written = answers_in setup seated w.turns;
       gave = wrote_more given0 given after (taken_in w.turns) piece w.gave gives;
-      took = subst (λ bytes. Appends wrote0 wrote2 bytes) (append-nil (answers_in setup seated w.turns)) (wrote_more wrote0 wrote1 wrote2 (answers_in setup seated w.turns) [] w.took settles.1);
+      took = subst (λ bytes. Appends wrote0 wrote2 bytes)
+          (append-nil (answers_in setup seated w.turns))
+          (wrote_more wrote0 wrote1 wrote2 (answers_in setup seated w.turns) [] w.took settles.1);
       ends = record {
         turns = w.turns;
         piece = piece;
         read = refl;
-        told = subst (λ n. DeskTells hub new.desk (facts_in setup seated w.turns) (stored_of fault n)) (sym count) settles.0;
+        told = subst (λ n. DeskTells hub new.desk (facts_in setup seated w.turns)
+            (stored_of fault n)) (sym count) settles.0;
         answered = refl;
       };
     }
-settled hub seated old new given0 given after wrote0 wrote1 wrote2 piece batch end (Err Look) gives w stands same settles = absurd settles
+settled hub seated old new given0 given after wrote0 wrote1 wrote2 piece batch end (Err Look) gives
+    w stands same settles = absurd settles
 
 nothing_in : (whats : List What) → length whats ≤ 0 → whats ≡ []
 nothing_in [] le = refl
@@ -238,7 +303,8 @@ nothing_in (what ∷ whats) le = absurd (omega arith)
 pub no_facts : (setup : Setup) (seated : Bool) → [] ≡ (talk setup seated []).facts
 no_facts setup seated = sym (nothing_in (talk setup seated []).facts (facts_few setup seated []))
 
-pub works_at_start : (hub : Beginning) (seated : Bool) (worker : Worker) (given wrote : Option (List ℕ)) → IsAtWork hub seated worker []
+pub works_at_start : (hub : Beginning) (seated : Bool) (worker : Worker)
+    (given wrote : Option (List ℕ)) → IsAtWork hub seated worker []
     → Works hub seated worker given given wrote wrote
 works_at_start hub seated worker given wrote work = record {
   turns = [];
@@ -247,7 +313,8 @@ works_at_start hub seated worker given wrote work = record {
   took = wrote_none wrote;
 }
 
-pub stops_at_start : (hub : Beginning) (seated : Bool) (worker : Worker) (given wrote : Option (List ℕ)) → IsAtWork hub seated worker []
+pub stops_at_start : (hub : Beginning) (seated : Bool) (worker : Worker)
+    (given wrote : Option (List ℕ)) → IsAtWork hub seated worker []
     → Stops hub seated worker given given wrote wrote (Session causes.NoMemory)
 stops_at_start hub seated worker given wrote work = record {
   bytes = [];
@@ -257,7 +324,8 @@ stops_at_start hub seated worker given wrote work = record {
   ends = record { turns = []; piece = []; read = refl; told = work.told; answered = refl };
 }
 
-answered_as : (setup : Setup) (seated : Bool) (P Q : List What → ℕ → Type 0) (bytes written : List ℕ) → ((whats : List What) (n : ℕ) → P whats n → Q whats n)
+answered_as : (setup : Setup) (seated : Bool) (P Q : List What → ℕ → Type 0)
+    (bytes written : List ℕ) → ((whats : List What) (n : ℕ) → P whats n → Q whats n)
     → IsAnswered setup seated P bytes written → IsAnswered setup seated Q bytes written
 answered_as setup seated P Q bytes written f is = record {
   turns = is.turns;
@@ -266,25 +334,37 @@ answered_as setup seated P Q bytes written f is = record {
   answered = is.answered;
 }
 
-refused_as : (setup : Setup) (seated : Bool) (P Q : List What → ℕ → Type 0) (bytes written : List ℕ) (stored : ℕ → ℕ) → ((whats : List What) (n : ℕ) → P whats n → Q whats n)
+refused_as : (setup : Setup) (seated : Bool) (P Q : List What → ℕ → Type 0) (bytes written : List ℕ)
+    (stored : ℕ → ℕ) → ((whats : List What) (n : ℕ) → P whats n → Q whats n)
     → IsRefused setup seated P bytes written stored → IsRefused setup seated Q bytes written stored
 refused_as setup seated P Q bytes written stored f is = record {
   turns = is.turns;
   piece = is.piece;
   read = is.read;
-  told = f (facts_in setup seated is.turns) (stored (length (talk setup seated bytes).facts - length (facts_in setup seated is.turns))) is.told;
+  told = f (facts_in setup seated is.turns)
+      (stored (length (talk setup seated bytes).facts - length (facts_in setup seated is.turns)))
+      is.told;
   answered = is.answered;
 }
 
-by_session_as : (setup : Setup) (seated : Bool) (P Q : List What → ℕ → Type 0) (bytes written : List ℕ) (cause : SessionCause) → ((whats : List What) (n : ℕ) → P whats n → Q whats n)
-    → EndsBySession setup seated P bytes written cause → EndsBySession setup seated Q bytes written cause
-by_session_as setup seated P Q bytes written (causes.Refused status) f is = answered_as setup seated P Q bytes written f is
-by_session_as setup seated P Q bytes written (causes.Wire wire) f is = answered_as setup seated P Q bytes written f is
-by_session_as setup seated P Q bytes written causes.PeerError f is = answered_as setup seated P Q bytes written f is
-by_session_as setup seated P Q bytes written causes.TimedOut f is = answered_as setup seated P Q bytes written f is
-by_session_as setup seated P Q bytes written causes.NoMemory f is = refused_as setup seated P Q bytes written (λ count. 0) f is
+by_session_as : (setup : Setup) (seated : Bool) (P Q : List What → ℕ → Type 0)
+    (bytes written : List ℕ) (cause : SessionCause)
+    → ((whats : List What) (n : ℕ) → P whats n → Q whats n)
+    → EndsBySession setup seated P bytes written cause → EndsBySession setup seated Q
+    bytes written cause
+by_session_as setup seated P Q bytes written (causes.Refused status) f is =
+    answered_as setup seated P Q bytes written f is
+by_session_as setup seated P Q bytes written (causes.Wire wire) f is =
+    answered_as setup seated P Q bytes written f is
+by_session_as setup seated P Q bytes written causes.PeerError f is =
+    answered_as setup seated P Q bytes written f is
+by_session_as setup seated P Q bytes written causes.TimedOut f is =
+    answered_as setup seated P Q bytes written f is
+by_session_as setup seated P Q bytes written causes.NoMemory f is =
+    refused_as setup seated P Q bytes written (λ count. 0) f is
 
-ends_as : (setup : Setup) (seated : Bool) (P Q : List What → ℕ → Type 0) (bytes written : List ℕ) (cause : Cause) → ((whats : List What) (n : ℕ) → P whats n → Q whats n)
+ends_as : (setup : Setup) (seated : Bool) (P Q : List What → ℕ → Type 0) (bytes written : List ℕ)
+    (cause : Cause) → ((whats : List What) (n : ℕ) → P whats n → Q whats n)
     → EndsBy setup seated P bytes written cause → EndsBy setup seated Q bytes written cause
 ends_as setup seated P Q bytes written Read f is = answered_as setup seated P Q bytes written f is
 ends_as setup seated P Q bytes written Write f is = record {
@@ -297,81 +377,105 @@ ends_as setup seated P Q bytes written Write f is = record {
   answer = is.answer;
   answered = is.answered;
 }
-ends_as setup seated P Q bytes written (Session cause) f is = by_session_as setup seated P Q bytes written cause f is
-ends_as setup seated P Q bytes written (Post fault) f is = refused_as setup seated P Q bytes written (stored_of fault) f is
+ends_as setup seated P Q bytes written (Session cause) f is =
+    by_session_as setup seated P Q bytes written cause f is
+ends_as setup seated P Q bytes written (Post fault) f is =
+    refused_as setup seated P Q bytes written (stored_of fault) f is
 ends_as setup seated P Q bytes written Look f is = absurd is
 
 -- what a session's receipts show once its pass was given back
-pub served_whole : (hub : Beginning) (seated : Bool) (worker : Worker) (given0 given wrote0 wrote : Option (List ℕ)) (seat : Option ℕ) (served : Served)
-    → seated ≡ is_some seat → ((whats : List What) (n : ℕ) → DeskTells hub worker.desk whats n → SeatIsServed seat served whats n)
-    → Works hub seated worker given0 given wrote0 wrote → IsServedWhole hub seat given0 given wrote0 wrote served
+pub served_whole : (hub : Beginning) (seated : Bool) (worker : Worker)
+    (given0 given wrote0 wrote : Option (List ℕ)) (seat : Option ℕ) (served : Served)
+    → seated ≡ is_some seat → ((whats : List What) (n : ℕ) → DeskTells hub worker.desk whats n
+    → SeatIsServed seat served whats n)
+    → Works hub seated worker given0 given wrote0 wrote
+    → IsServedWhole hub seat given0 given wrote0 wrote served
 served_whole hub seated worker given0 given wrote0 wrote seat served same f w =
     let setup : Setup = setup_of hub.config in record {
       bytes = taken_in w.turns;
       written = answers_in setup seated w.turns;
       gave = w.gave;
       took = w.took;
-      ends = subst (λ b. IsAnswered setup b (SeatIsServed seat served) (taken_in w.turns) (answers_in setup seated w.turns)) same (record {
-        turns = w.turns;
-        read = refl;
-        told = f (facts_in setup seated w.turns) 0 w.work.told;
-        answered = refl;
-      });
+      ends = subst (λ b. IsAnswered setup b (SeatIsServed seat served) (taken_in w.turns)
+          (answers_in setup seated w.turns)) same (record {
+            turns = w.turns;
+            read = refl;
+            told = f (facts_in setup seated w.turns) 0 w.work.told;
+            answered = refl;
+          });
     }
 
-pub served_until : (hub : Beginning) (seated : Bool) (worker : Worker) (given0 given wrote0 wrote : Option (List ℕ)) (seat : Option ℕ) (faulted : Faulted)
-    → seated ≡ is_some seat → ((whats : List What) (n : ℕ) → DeskTells hub worker.desk whats n → SeatIsServed seat faulted.served whats n)
-    → Stops hub seated worker given0 given wrote0 wrote faulted.cause → IsServedUntil hub seat given0 given wrote0 wrote faulted
+pub served_until : (hub : Beginning) (seated : Bool) (worker : Worker)
+    (given0 given wrote0 wrote : Option (List ℕ)) (seat : Option ℕ) (faulted : Faulted)
+    → seated ≡ is_some seat → ((whats : List What) (n : ℕ) → DeskTells hub worker.desk whats n
+    → SeatIsServed seat faulted.served whats n)
+    → Stops hub seated worker given0 given wrote0 wrote faulted.cause → IsServedUntil hub seat
+    given0 given wrote0 wrote faulted
 served_until hub seated worker given0 given wrote0 wrote seat faulted same f s =
     let setup : Setup = setup_of hub.config in record {
       bytes = s.bytes;
       written = s.written;
       gave = s.gave;
       took = s.took;
-      ends = subst (λ b. EndsBy setup b (SeatIsServed seat faulted.served) s.bytes s.written faulted.cause) same
-          (ends_as setup seated (DeskTells hub worker.desk) (SeatIsServed seat faulted.served) s.bytes s.written faulted.cause f s.ends);
+      ends = subst (λ b. EndsBy setup b (SeatIsServed seat faulted.served) s.bytes s.written
+          faulted.cause) same
+          (ends_as setup seated (DeskTells hub worker.desk) (SeatIsServed seat faulted.served)
+          s.bytes s.written faulted.cause f s.ends);
     }
 
 -- a heartbeat is sent
-pub beaten : (hub : Beginning) (seated : Bool) (old new : Worker) (given0 given wrote0 wrote1 wrote2 : Option (List ℕ)) (result : Result (Unit {0}) Cause)
-    → new.session.seated ≡ old.session.seated → new.session.stage ≡ old.session.stage → new.desk ≡ old.desk
-    → Works hub seated old given0 given wrote0 wrote1 → Sends wrote1 wrote2 heartbeat result → WorksOn hub seated new given0 given wrote0 wrote2 result
+pub beaten : (hub : Beginning) (seated : Bool) (old new : Worker)
+    (given0 given wrote0 wrote1 wrote2 : Option (List ℕ)) (result : Result (Unit {0}) Cause)
+    → new.session.seated ≡ old.session.seated → new.session.stage ≡ old.session.stage
+    → new.desk ≡ old.desk
+    → Works hub seated old given0 given wrote0 wrote1 → Sends wrote1 wrote2 heartbeat result
+    → WorksOn hub seated new given0 given wrote0 wrote2 result
 beaten hub seated old new given0 given wrote0 wrote1 wrote2 (Ok done) same stage desk w sends =
     let setup : Setup = setup_of hub.config in record {
       turns = None ∷ w.turns;
       work = record {
         has_seat = same ∙ w.work.has_seat;
         stands = stage ∙ w.work.stands;
-        told = subst (λ d. DeskTells hub d (facts_in setup seated w.turns) 0) (sym desk) w.work.told;
+        told = subst (λ d. DeskTells hub d (facts_in setup seated w.turns) 0)
+            (sym desk) w.work.told;
       };
       gave = w.gave;
-      took = wrote_more wrote0 wrote1 wrote2 (answers_in setup seated w.turns) heartbeat w.took sends;
+      took = wrote_more wrote0 wrote1 wrote2 (answers_in setup seated w.turns)
+          heartbeat w.took sends;
     }
-beaten hub seated old new given0 given wrote0 wrote1 wrote2 (Err Read) same stage desk w sends = absurd sends
+beaten hub seated old new given0 given wrote0 wrote1 wrote2 (Err Read) same stage desk w sends =
+    absurd sends
 beaten hub seated old new given0 given wrote0 wrote1 wrote2 (Err Write) same stage desk w sends =
     let setup : Setup = setup_of hub.config in record {
       bytes = taken_in w.turns;
       written = answers_in setup seated w.turns ++ sends.front;
       gave = w.gave;
-      took = wrote_more wrote0 wrote1 wrote2 (answers_in setup seated w.turns) sends.front w.took sends.wrote;
+      took = wrote_more wrote0 wrote1 wrote2 (answers_in setup seated w.turns) sends.front
+          w.took sends.wrote;
       ends = record {
         turns = w.turns;
         last = None;
         front = sends.front;
         rest = sends.rest;
         read = refl;
-        told = subst (λ d. DeskTells hub d (facts_in setup seated w.turns) 0) (sym desk) w.work.told;
+        told = subst (λ d. DeskTells hub d (facts_in setup seated w.turns) 0)
+            (sym desk) w.work.told;
         answer = sends.split;
         answered = refl;
       };
     }
-beaten hub seated old new given0 given wrote0 wrote1 wrote2 (Err (Session cause)) same stage desk w sends = absurd sends
-beaten hub seated old new given0 given wrote0 wrote1 wrote2 (Err (Post fault)) same stage desk w sends = absurd sends
-beaten hub seated old new given0 given wrote0 wrote1 wrote2 (Err Look) same stage desk w sends = absurd sends
+beaten hub seated old new given0 given wrote0 wrote1 wrote2 (Err (Session cause)) same stage desk w
+    sends = absurd sends
+beaten hub seated old new given0 given wrote0 wrote1 wrote2 (Err (Post fault)) same stage desk w
+    sends = absurd sends
+beaten hub seated old new given0 given wrote0 wrote1 wrote2 (Err Look) same stage desk w sends =
+    absurd sends
 
 -- silence ends a session, whatever it keeps then
-pub silenced : (hub : Beginning) (seated : Bool) (old new : Worker) (given0 given wrote0 wrote : Option (List ℕ)) → new.desk ≡ old.desk
-    → Works hub seated old given0 given wrote0 wrote → Stops hub seated new given0 given wrote0 wrote (Session causes.TimedOut)
+pub silenced : (hub : Beginning) (seated : Bool) (old new : Worker)
+    (given0 given wrote0 wrote : Option (List ℕ)) → new.desk ≡ old.desk
+    → Works hub seated old given0 given wrote0 wrote
+    → Stops hub seated new given0 given wrote0 wrote (Session causes.TimedOut)
 silenced hub seated old new given0 given wrote0 wrote desk w =
     let setup : Setup = setup_of hub.config in record {
       bytes = taken_in w.turns;
@@ -381,14 +485,17 @@ silenced hub seated old new given0 given wrote0 wrote desk w =
       ends = record {
         turns = w.turns;
         read = refl;
-        told = subst (λ d. DeskTells hub d (facts_in setup seated w.turns) 0) (sym desk) w.work.told;
+        told = subst (λ d. DeskTells hub d (facts_in setup seated w.turns) 0)
+            (sym desk) w.work.told;
         answered = refl;
       };
     }
 
 -- the same, where nothing was said to a worker that is otherwise as it was
-pub works_still : (hub : Beginning) (seated : Bool) (old new : Worker) (given0 given wrote0 wrote : Option (List ℕ)) → new.session.seated ≡ old.session.seated
-    → new.session.stage ≡ old.session.stage → new.desk ≡ old.desk → Works hub seated old given0 given wrote0 wrote
+pub works_still : (hub : Beginning) (seated : Bool) (old new : Worker)
+    (given0 given wrote0 wrote : Option (List ℕ)) → new.session.seated ≡ old.session.seated
+    → new.session.stage ≡ old.session.stage → new.desk ≡ old.desk
+    → Works hub seated old given0 given wrote0 wrote
     → Works hub seated new given0 given wrote0 wrote
 works_still hub seated old new given0 given wrote0 wrote same stage desk w =
     let setup : Setup = setup_of hub.config in record {
@@ -396,79 +503,124 @@ works_still hub seated old new given0 given wrote0 wrote same stage desk w =
       work = record {
         has_seat = same ∙ w.work.has_seat;
         stands = stage ∙ w.work.stands;
-        told = subst (λ d. DeskTells hub d (facts_in setup seated w.turns) 0) (sym desk) w.work.told;
+        told = subst (λ d. DeskTells hub d (facts_in setup seated w.turns) 0)
+            (sym desk) w.work.told;
       };
       gave = w.gave;
       took = w.took;
     }
 
 -- a session whose last batch was settled, for a cause other than want of memory
-ends_then : (hub : Beginning) (seated : Bool) (old new : Worker) (given0 given after wrote0 wrote1 wrote2 : Option (List ℕ)) (piece : List ℕ) (fault : SessionFault)
-    (result : Result (Unit {0}) Cause) → TookIt fault.cause → Appends given after piece → (w : Works hub seated old given0 given wrote0 wrote1)
-    → Stands (setup_of hub.config) seated (taken_in w.turns) piece fault.batch (Some fault.cause) new.session.stage → new.session.seated ≡ seated
-    → SettlesThen hub new.desk (facts_in (setup_of hub.config) seated w.turns) fault wrote1 wrote2 result
+ends_then : (hub : Beginning) (seated : Bool) (old new : Worker)
+    (given0 given after wrote0 wrote1 wrote2 : Option (List ℕ)) (piece : List ℕ)
+    (fault : SessionFault)
+    (result : Result (Unit {0}) Cause) → TookIt fault.cause → Appends given after piece
+    → (w : Works hub seated old given0 given wrote0 wrote1)
+    → Stands (setup_of hub.config) seated (taken_in w.turns) piece fault.batch (Some fault.cause)
+    new.session.stage → new.session.seated ≡ seated
+    → SettlesThen hub new.desk (facts_in (setup_of hub.config) seated w.turns) fault
+    wrote1 wrote2 result
     → WorksOn hub seated new given0 after wrote0 wrote2 result
-ends_then hub seated old new given0 given after wrote0 wrote1 wrote2 piece fault (Ok done) took gives w stands same ends = absurd ends
-ends_then hub seated old new given0 given after wrote0 wrote1 wrote2 piece fault (Err Read) took gives w stands same ends = absurd ends
-ends_then hub seated old new given0 given after wrote0 wrote1 wrote2 piece fault (Err Write) took gives w stands same ends =
-    settled hub seated old new given0 given after wrote0 wrote1 wrote2 piece fault.batch (Some fault.cause) (Err Write) gives w stands same ends
-ends_then hub seated old new given0 given after wrote0 wrote1 wrote2 piece fault (Err (Session cause)) took gives w stands same ends =
+ends_then hub seated old new given0 given after wrote0 wrote1 wrote2 piece fault (Ok done) took
+    gives w stands same ends = absurd ends
+ends_then hub seated old new given0 given after wrote0 wrote1 wrote2 piece fault (Err Read) took
+    gives w stands same ends = absurd ends
+ends_then hub seated old new given0 given after wrote0 wrote1 wrote2 piece fault (Err Write) took
+    gives w stands same ends =
+    settled hub seated old new given0 given after wrote0 wrote1 wrote2 piece fault.batch
+    (Some fault.cause) (Err Write) gives w stands same ends
+ends_then hub seated old new given0 given after wrote0 wrote1 wrote2 piece fault
+    (Err (Session cause)) took gives w stands same ends =
     subst (λ cause. Stops hub seated new given0 after wrote0 wrote2 (Session cause)) (sym ends.0)
     (stops_by_session hub seated new given0 after wrote0 wrote2 fault.cause took
-    (settled hub seated old new given0 given after wrote0 wrote1 wrote2 piece fault.batch (Some fault.cause) (Ok tt) gives w stands same ends.1))
-ends_then hub seated old new given0 given after wrote0 wrote1 wrote2 piece fault (Err (Post post)) took gives w stands same ends =
-    settled hub seated old new given0 given after wrote0 wrote1 wrote2 piece fault.batch (Some fault.cause) (Err (Post post)) gives w stands same ends
-ends_then hub seated old new given0 given after wrote0 wrote1 wrote2 piece fault (Err Look) took gives w stands same ends = absurd ends
+    (settled hub seated old new given0 given after wrote0 wrote1 wrote2 piece fault.batch
+    (Some fault.cause) (Ok tt) gives w stands same ends.1))
+ends_then hub seated old new given0 given after wrote0 wrote1 wrote2 piece fault (Err (Post post))
+    took gives w stands same ends =
+    settled hub seated old new given0 given after wrote0 wrote1 wrote2 piece fault.batch
+    (Some fault.cause) (Err (Post post)) gives w stands same ends
+ends_then hub seated old new given0 given after wrote0 wrote1 wrote2 piece fault (Err Look) took
+    gives w stands same ends = absurd ends
 
 -- a session that ends with a fault
-pub ended_by : (hub : Beginning) (seated : Bool) (old new : Worker) (given0 given after wrote0 wrote1 wrote2 : Option (List ℕ)) (piece : List ℕ) (fault : SessionFault)
-    (result : Result (Unit {0}) Cause) → Appends given after piece → (w : Works hub seated old given0 given wrote0 wrote1) → new.session.seated ≡ seated
-    → FaultAnswersTalk fault.cause fault.batch (setup_of hub.config) seated (taken_in w.turns) piece new.session.stage
-    → EndsTo hub old.desk new.desk (facts_in (setup_of hub.config) seated w.turns) fault wrote1 wrote2 result
+pub ended_by : (hub : Beginning) (seated : Bool) (old new : Worker)
+    (given0 given after wrote0 wrote1 wrote2 : Option (List ℕ)) (piece : List ℕ)
+    (fault : SessionFault)
+    (result : Result (Unit {0}) Cause) → Appends given after piece
+    → (w : Works hub seated old given0 given wrote0 wrote1) → new.session.seated ≡ seated
+    → FaultAnswersTalk fault.cause fault.batch (setup_of hub.config) seated (taken_in w.turns) piece
+    new.session.stage
+    → EndsTo hub old.desk new.desk (facts_in (setup_of hub.config) seated w.turns) fault
+    wrote1 wrote2 result
     → WorksOn hub seated new given0 after wrote0 wrote2 result
-ended_by hub seated old new given0 given after wrote0 wrote1 wrote2 piece fault result gives w same answers ends = by_cause fault.cause refl answers ends
+ended_by hub seated old new given0 given after wrote0 wrote1 wrote2 piece fault result gives w same
+    answers ends = by_cause fault.cause refl answers ends
   where
-    then : TookIt fault.cause → SettlesThen hub new.desk (facts_in (setup_of hub.config) seated w.turns) fault wrote1 wrote2 result → WorksOn hub seated new given0 after wrote0 wrote2 result
+    then : TookIt fault.cause → SettlesThen hub new.desk
+        (facts_in (setup_of hub.config) seated w.turns) fault wrote1 wrote2 result
+        → WorksOn hub seated new given0 after wrote0 wrote2 result
     then took settles =
-        ends_then hub seated old new given0 given after wrote0 wrote1 wrote2 piece fault result took gives w
-        (fault_stands fault.cause fault.batch (setup_of hub.config) seated (taken_in w.turns) piece new.session.stage took answers) same settles
+        ends_then hub seated old new given0 given after wrote0 wrote1 wrote2 piece fault
+        result took gives w
+        (fault_stands fault.cause fault.batch (setup_of hub.config) seated (taken_in w.turns) piece
+        new.session.stage took answers) same settles
 
-    by_cause : (cause : SessionCause) → fault.cause ≡ cause → FaultAnswersTalk cause fault.batch (setup_of hub.config) seated (taken_in w.turns) piece new.session.stage
-        → EndsFor cause hub old.desk new.desk (facts_in (setup_of hub.config) seated w.turns) fault wrote1 wrote2 result → WorksOn hub seated new given0 after wrote0 wrote2 result
+    by_cause : (cause : SessionCause) → fault.cause ≡ cause → FaultAnswersTalk cause fault.batch
+        (setup_of hub.config) seated (taken_in w.turns) piece new.session.stage
+        → EndsFor cause hub old.desk new.desk (facts_in (setup_of hub.config) seated w.turns) fault
+        wrote1 wrote2 result → WorksOn hub seated new given0 after wrote0 wrote2 result
     by_cause (causes.Refused status) is a e = then (subst TookIt (sym is) tt) e
     by_cause (causes.Wire wire) is a e = then (subst TookIt (sym is) tt) e
     by_cause causes.PeerError is a e = then (subst TookIt (sym is) tt) e
     by_cause causes.TimedOut is a e = then (subst TookIt (sym is) tt) e
     by_cause causes.NoMemory is a e =
         subst (λ r. WorksOn hub seated new given0 after wrote0 wrote2 r) (sym e.is)
-        (subst (λ wrote. Stops hub seated new given0 after wrote0 wrote (Session causes.NoMemory)) (sym e.kept)
+        (subst (λ wrote. Stops hub seated new given0 after wrote0 wrote (Session causes.NoMemory))
+        (sym e.kept)
         (stops_for_memory hub seated old new given0 given after wrote0 wrote1 piece gives e.desk w))
 
 -- a desk that tells is of the hub
-desk_is_of : (hub : Beginning) (desk : Option Desk) (whats : List What) (n : ℕ) → DeskTells hub desk whats n → IsDeskOf hub desk
+desk_is_of : (hub : Beginning) (desk : Option Desk) (whats : List What) (n : ℕ)
+    → DeskTells hub desk whats n → IsDeskOf hub desk
 desk_is_of hub None whats n told = tt
 desk_is_of hub (Some desk) whats n told = told.of
 
-desk_of_session : (hub : Beginning) (seated : Bool) (desk : Option Desk) (bytes written : List ℕ) (cause : SessionCause)
-    → EndsBySession (setup_of hub.config) seated (DeskTells hub desk) bytes written cause → IsDeskOf hub desk
-desk_of_session hub seated desk bytes written (causes.Refused status) ends = desk_is_of hub desk (facts_in (setup_of hub.config) seated ends.turns) 0 ends.told
-desk_of_session hub seated desk bytes written (causes.Wire wire) ends = desk_is_of hub desk (facts_in (setup_of hub.config) seated ends.turns) 0 ends.told
-desk_of_session hub seated desk bytes written causes.PeerError ends = desk_is_of hub desk (facts_in (setup_of hub.config) seated ends.turns) 0 ends.told
-desk_of_session hub seated desk bytes written causes.TimedOut ends = desk_is_of hub desk (facts_in (setup_of hub.config) seated ends.turns) 0 ends.told
-desk_of_session hub seated desk bytes written causes.NoMemory ends = desk_is_of hub desk (facts_in (setup_of hub.config) seated ends.turns) 0 ends.told
+desk_of_session : (hub : Beginning) (seated : Bool) (desk : Option Desk) (bytes written : List ℕ)
+    (cause : SessionCause)
+    → EndsBySession (setup_of hub.config) seated (DeskTells hub desk) bytes written cause →
+    IsDeskOf hub desk
+desk_of_session hub seated desk bytes written (causes.Refused status) ends =
+    desk_is_of hub desk (facts_in (setup_of hub.config) seated ends.turns) 0 ends.told
+desk_of_session hub seated desk bytes written (causes.Wire wire) ends =
+    desk_is_of hub desk (facts_in (setup_of hub.config) seated ends.turns) 0 ends.told
+desk_of_session hub seated desk bytes written causes.PeerError ends =
+    desk_is_of hub desk (facts_in (setup_of hub.config) seated ends.turns) 0 ends.told
+desk_of_session hub seated desk bytes written causes.TimedOut ends =
+    desk_is_of hub desk (facts_in (setup_of hub.config) seated ends.turns) 0 ends.told
+desk_of_session hub seated desk bytes written causes.NoMemory ends =
+    desk_is_of hub desk (facts_in (setup_of hub.config) seated ends.turns) 0 ends.told
 
-desk_of_stops : (hub : Beginning) (seated : Bool) (desk : Option Desk) (bytes written : List ℕ) (cause : Cause)
-    → EndsBy (setup_of hub.config) seated (DeskTells hub desk) bytes written cause → IsDeskOf hub desk
-desk_of_stops hub seated desk bytes written Read ends = desk_is_of hub desk (facts_in (setup_of hub.config) seated ends.turns) 0 ends.told
-desk_of_stops hub seated desk bytes written Write ends = desk_is_of hub desk (facts_in (setup_of hub.config) seated (ends.last ∷ ends.turns)) 0 ends.told
-desk_of_stops hub seated desk bytes written (Session cause) ends = desk_of_session hub seated desk bytes written cause ends
+desk_of_stops : (hub : Beginning) (seated : Bool) (desk : Option Desk) (bytes written : List ℕ)
+    (cause : Cause)
+    → EndsBy (setup_of hub.config) seated (DeskTells hub desk) bytes written cause →
+    IsDeskOf hub desk
+desk_of_stops hub seated desk bytes written Read ends =
+    desk_is_of hub desk (facts_in (setup_of hub.config) seated ends.turns) 0 ends.told
+desk_of_stops hub seated desk bytes written Write ends =
+    desk_is_of hub desk (facts_in (setup_of hub.config) seated (ends.last ∷ ends.turns)) 0 ends.told
+desk_of_stops hub seated desk bytes written (Session cause) ends =
+    desk_of_session hub seated desk bytes written cause ends
 desk_of_stops hub seated desk bytes written (Post fault) ends =
     desk_is_of hub desk (facts_in (setup_of hub.config) seated ends.turns)
-    (stored_of fault (length (talk (setup_of hub.config) seated bytes).facts - length (facts_in (setup_of hub.config) seated ends.turns))) ends.told
+    (stored_of fault (length (talk (setup_of hub.config) seated bytes).facts - length
+    (facts_in (setup_of hub.config) seated ends.turns))) ends.told
 desk_of_stops hub seated desk bytes written Look ends = absurd ends
 
 -- a session that works on or has stopped has a desk of the hub, if it has one
-pub desk_of_works : (hub : Beginning) (seated : Bool) (worker : Worker) (given0 given wrote0 wrote : Option (List ℕ)) (result : Result (Unit {0}) Cause)
+pub desk_of_works : (hub : Beginning) (seated : Bool) (worker : Worker)
+    (given0 given wrote0 wrote : Option (List ℕ)) (result : Result (Unit {0}) Cause)
     → WorksOn hub seated worker given0 given wrote0 wrote result → IsDeskOf hub worker.desk
-desk_of_works hub seated worker given0 given wrote0 wrote (Ok done) w = desk_is_of hub worker.desk (facts_in (setup_of hub.config) seated w.turns) 0 w.work.told
-desk_of_works hub seated worker given0 given wrote0 wrote (Err cause) s = desk_of_stops hub seated worker.desk s.bytes s.written cause s.ends
+desk_of_works hub seated worker given0 given wrote0 wrote (Ok done) w =
+    desk_is_of hub worker.desk (facts_in (setup_of hub.config) seated w.turns) 0 w.work.told
+desk_of_works hub seated worker given0 given wrote0 wrote (Err cause) s =
+    desk_of_stops hub seated worker.desk s.bytes s.written cause s.ends

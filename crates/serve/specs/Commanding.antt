@@ -10,7 +10,8 @@ use Rattle.serve.specs.declared.admin.Answered.{Answered}
 use Rattle.serve.specs.declared.admin.Worker.{Worker}
 use Rattle.serve.specs.declared.served.Cause.{Cause}
 use Rattle.serve.specs.declared.served.Cause.TheVariants.{Read, Write, Session, Post, Look}
-use Rattle.serve.specs.Commands.{AreReplies, EndsCommands, HasNoEnd, IsReply, Reply, ShowsTold, changes_in, lines_in, texts_in}
+use Rattle.serve.specs.Commands.{AreReplies, EndsCommands, HasNoEnd, IsReply, Reply, ShowsTold}
+use Rattle.serve.specs.Commands.{changes_in, lines_in, texts_in}
 use Rattle.serve.specs.Told.{HasTold, stored_of}
 use Rattle.serve.specs.Turns.{WroteFront}
 

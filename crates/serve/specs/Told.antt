@@ -1,10 +1,12 @@
 -- What was told at a seat.
-use Rattle.std.specs.Prelude.{◌≡◌, ℕ, ◌+◌, List, [], ◌∷◌, ◌++◌, length, Option, MatchOption, IfSome, Result, Ok, Err}
+use Rattle.std.specs.Prelude.{◌≡◌, ℕ, ◌+◌, List, [], ◌∷◌, ◌++◌, length, Option, MatchOption, IfSome}
+use Rattle.std.specs.Prelude.{Result, Ok, Err}
 use Rattle.agg_types.specs.declared.event.Event.{Event}
 use Rattle.agg_types.specs.declared.event.What.{What}
 use Rattle.agg_types.specs.declared.event.What.TheVariants.{Sit, Leave}
 use Rattle.hub.specs.declared.faults.PostFault.{PostFault}
-use Rattle.hub.specs.declared.faults.PostFault.TheVariants.{Replaced, NotNext, NoMemory, Pending, Spent}
+use Rattle.hub.specs.declared.faults.PostFault.TheVariants.{Replaced, NotNext, NoMemory, Pending}
+use Rattle.hub.specs.declared.faults.PostFault.TheVariants.{Spent}
 use Rattle.hub.specs.History.{Beginning, made, own}
 use Rattle.serve.specs.declared.desk.Desk.{Desk}
 use Rattle.serve.specs.declared.served.Served.{Served}

@@ -1,5 +1,6 @@
 -- A session at work.
-use Rattle.std.specs.Prelude.{◌≡◌, ℕ, Bool, List, [], ◌++◌, length, Option, is_some, Result, Ok, Err}
+use Rattle.std.specs.Prelude.{◌≡◌, ℕ, Bool, List, [], ◌++◌, length, Option, is_some, Result, Ok}
+use Rattle.std.specs.Prelude.{Err}
 use Rattle.agg_types.specs.declared.event.What.{What}
 use Rattle.session_core.specs.declared.batch.SessionFault.{SessionFault}
 use Rattle.session_core.specs.declared.cause.SessionCause.{SessionCause}
@@ -16,7 +17,8 @@ use Rattle.serve.specs.declared.served.Served.{Served}
 use Rattle.serve.specs.declared.worker.Worker.{Worker}
 use Rattle.std.specs.Io.KnownBytes.{Appends}
 use Rattle.serve.specs.Told.{stored_of}
-use Rattle.serve.specs.Turns.{DeskTells, EndsBy, IsAnswered, SeatIsServed, Turn, WroteFront, answers_in, facts_in, taken_in}
+use Rattle.serve.specs.Turns.{DeskTells, EndsBy, IsAnswered, SeatIsServed, Turn, WroteFront}
+use Rattle.serve.specs.Turns.{answers_in, facts_in, taken_in}
 
 -- it stands for the bytes taken in these turns, and their facts were told
 pub record IsAtWork (hub : Beginning) (seated : Bool) (worker : Worker) (turns : List Turn)

@@ -1,13 +1,15 @@
 //! One admin connection: commands of a line each, and their answers.
 
-ghost use Rattle.std.specs.Prelude.{◌≡◌, ◌≢◌, ◌<◌, ◌≤◌, ◌+◌, ◌^◌, ◌⊎◌, ◌++◌, ℕ, List, [], ◌∷◌, codes, Option, None, IfOk, IfSome, IfErr, Ok, Err, MatchResult};
+ghost use Rattle.std.specs.Prelude.{◌≡◌, ◌≢◌, ◌<◌, ◌≤◌, ◌+◌, ◌^◌, ◌⊎◌, ◌++◌, ℕ, List, [], ◌∷◌};
+ghost use Rattle.std.specs.Prelude.{codes, Option, None, IfOk, IfSome, IfErr, Ok, Err, MatchResult};
 ghost use Rattle.std.specs.Option.{option_to_list};
 ghost use Rattle.agg_types.specs.declared.config.Config.{Config};
 ghost use Rattle.agg_types.specs.declared.event.What.{What};
 ghost use Rattle.hub.specs.History.{Beginning};
 ghost use Rattle.hub.specs.Posts.{Follows, SitsDown};
 ghost use Rattle.hub.specs.Roll.{MayPost};
-ghost use Rattle.serve.specs.Commands.{AnswersWith, HasNoEnd, IsCommandedUntil, IsCommandedWhole, Replies};
+ghost use Rattle.serve.specs.Commands.{AnswersWith, HasNoEnd, IsCommandedUntil, IsCommandedWhole};
+ghost use Rattle.serve.specs.Commands.{Replies};
 ghost use Rattle.serve.specs.Told.{stored_of};
 ghost use Rattle.show_clear.specs.Answer.{NamesStand};
 ghost use Rattle.show_clear.specs.Change.{change_of};
@@ -92,7 +94,8 @@ struct Worker {
 }
 
 impl Worker {
-    ghost use Rattle.serve.specs.Commanding.{ChangesTo, HasLearned, KeepsTo, LooksTo, ObeysTo, Works, WorksOn, kept_of};
+    ghost use Rattle.serve.specs.Commanding.{ChangesTo, HasLearned, KeepsTo, LooksTo, ObeysTo};
+    ghost use Rattle.serve.specs.Commanding.{Works, WorksOn, kept_of};
 
     // An admin that has read nothing.
     fn new(alloc: Global, lens: Lens, pass: Pass) -> Worker

@@ -1,6 +1,7 @@
 //! The line that hasn't ended.
 
-ghost use Rattle.std.specs.Prelude.{◌≡◌, ◌<◌, ◌++◌, ◌-◌, [], ◌∷◌, length, take, IfSome, IfNone, OnOk, OnErr};
+ghost use Rattle.std.specs.Prelude.{◌≡◌, ◌<◌, ◌++◌, ◌-◌, [], ◌∷◌, length, take, IfSome, IfNone};
+ghost use Rattle.std.specs.Prelude.{OnOk, OnErr};
 ghost use Rattle.serve.specs.Commands.{HasNoEnd};
 
 use agg_types::NoMemory;

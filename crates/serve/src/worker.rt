@@ -1,6 +1,7 @@
 //! A session at work.
 
-ghost use Rattle.std.specs.Prelude.{Bool, is_some, ◌≡◌, ◌≢◌, ◌<◌, ◌≤◌, ◌+◌, ◌^◌, ◌⊎◌, ℕ, List, [], Option, IfSome, Err};
+ghost use Rattle.std.specs.Prelude.{Bool, is_some, ◌≡◌, ◌≢◌, ◌<◌, ◌≤◌, ◌+◌, ◌^◌, ◌⊎◌, ℕ, List, []};
+ghost use Rattle.std.specs.Prelude.{Option, IfSome, Err};
 ghost use Rattle.std.specs.List.{All};
 ghost use Rattle.std.specs.Option.{option_map};
 ghost use Rattle.agg_types.specs.declared.event.What.{What};

@@ -1,5 +1,7 @@
 -- What is kept of the sender's tables is what the messages so far say of them.
-use Rattle.std.proofs.Common.{inl, inr, ◌⊎◌, ◌≡◌, ℕ, suc, ◌+◌, ◌<◌, ◌≤◌, Bool, true, false, ltb, eqb, ◌==◌, ◌||◌, nat_lt, if◌then◌else◌, List, [], ◌∷◌, map, insert, slice_set, slice_get, Some, None, refl, sym, ap, ◌∙◌, arith}
+use Rattle.std.proofs.Common.{inl, inr, ◌⊎◌, ◌≡◌, ℕ, suc, ◌+◌, ◌<◌, ◌≤◌, Bool, true, false, ltb}
+use Rattle.std.proofs.Common.{eqb, ◌==◌, ◌||◌, nat_lt, if◌then◌else◌, List, [], ◌∷◌, map, insert}
+use Rattle.std.proofs.Common.{slice_set, slice_get, Some, None, refl, sym, ap, ◌∙◌, arith}
 use Rattle.std.specs.List.{list_any}
 use Rattle.std.proofs.lemmas.Bool.{ltb-true, ltb-false, ne_eqb, false≢true}
 use Rattle.std.proofs.lemmas.Bool.Decides.{eqb_tells}
@@ -22,7 +24,12 @@ abbrev pub is_in : ℕ → List ℕ → Bool
 is_in id ids = list_any (λ other. other == id) ids
 
 pub lt_tells : (a b : ℕ) → ((ltb a b ≡ true) × (a < b)) ⊎ ((ltb a b ≡ false) × (b ≤ a))
-lt_tells a b = elim (ltb a b) as (λ v. ltb a b ≡ v → ((ltb a b ≡ true) × (a < b)) ⊎ ((ltb a b ≡ false) × (b ≤ a))) [ true ↦ λ e. inl (e, ltb-true a b e) | false ↦ λ e. inr (e, ltb-false a b e) ] refl
+lt_tells a b = elim (ltb a b) as (λ v. ltb a b ≡ v → ((ltb a b ≡ true) × (a < b))
+    ⊎ ((ltb a b ≡ false) × (b ≤ a))) [
+      | true ↦ λ e. inl (e, ltb-true a b e)
+      | false ↦
+          λ e. inr (e, ltb-false a b e)
+    ] refl
 
 pub or_false : (a b : Bool) → (a || b) ≡ false → (a ≡ false) × (b ≡ false)
 or_false false b e = (refl, e)
@@ -38,7 +45,8 @@ not_in_above id low (x ∷ ids) le h =
     let apart : eqb x id ≡ false = ne_eqb x id (λ e. omega (arith, e, h.0)) in
     rw apart (not_in_above id low ids le h.1)
 
-with_id_above : (id low : ℕ) (ids : List ℕ) → low < id → AllAbove low ids → AllAbove low (with_id id ids)
+with_id_above : (id low : ℕ) (ids : List ℕ) → low < id → AllAbove low ids
+    → AllAbove low (with_id id ids)
 with_id_above id low [] lt h = (lt, tt)
 with_id_above id low (x ∷ ids) lt h =
     elim (lt_tells x id) [
@@ -68,7 +76,8 @@ with_id_in id (x ∷ ids) h e =
           rw p.0 (ap (λ xs. x ∷ xs) (with_id_in id ids h.1 (rw apart at e)))
       | inr p ↦ rw p.0 (elim (eqb_tells x id) [
         | inl q ↦ rw q.0 refl
-        | inr q ↦ absurd (false≢true (sym (not_in_above id x ids (omega (arith, p.1)) h.0) ∙ (rw q.0 at e)))
+        | inr q ↦ absurd (false≢true (sym (not_in_above id x ids (omega (arith, p.1)) h.0)
+            ∙ (rw q.0 at e)))
       ])
     ]
 
@@ -83,13 +92,16 @@ place_in id (x ∷ ids) = if nat_lt x id then suc (place_in id ids) else 0
 abbrev pub HasIds : (ℕ → Entry) → Type 0
 HasIds f = (id : ℕ) → (f id).id ≡ id
 
-pub place_map : (f : ℕ → Entry) (id : ℕ) (ids : List ℕ) → HasIds f → place id (map f ids) ≡ place_in id ids
+pub place_map : (f : ℕ → Entry) (id : ℕ) (ids : List ℕ) → HasIds f
+    → place id (map f ids) ≡ place_in id ids
 place_map f id [] h = refl
 place_map f id (x ∷ ids) h =
-    let s : 1 + place id (map f ids) ≡ suc (place_in id ids) = omega (arith, place_map f id ids h) in
+    let s : 1 + place id (map f ids) ≡ suc (place_in id ids) =
+    omega (arith, place_map f id ids h) in
     rw (h x) (ap (λ n. if nat_lt x id then n else 0) s)
 
-pub map_apart : (f g : ℕ → Entry) (id : ℕ) (ids : List ℕ) → ((x : ℕ) → eqb x id ≡ false → g x ≡ f x) → is_in id ids ≡ false → map f ids ≡ map g ids
+pub map_apart : (f g : ℕ → Entry) (id : ℕ) (ids : List ℕ) → ((x : ℕ) → eqb x id ≡ false → g x ≡ f x)
+    → is_in id ids ≡ false → map f ids ≡ map g ids
 map_apart f g id [] same e = refl
 map_apart f g id (x ∷ ids) same e =
     let both = or_false (eqb x id) (is_in id ids) e in
@@ -99,7 +111,8 @@ pub map_same : (f g : ℕ → Entry) (ids : List ℕ) → ((x : ℕ) → g x ≡
 map_same f g [] same = refl
 map_same f g (x ∷ ids) same = rw (same x) (ap (λ es. f x ∷ es) (map_same f g ids same))
 
-pub found_in : (f : ℕ → Entry) (id : ℕ) (ids : List ℕ) → Ascends ids → is_in id ids ≡ true → slice_get (map f ids) (place_in id ids) ≡ Some (f id)
+pub found_in : (f : ℕ → Entry) (id : ℕ) (ids : List ℕ) → Ascends ids → is_in id ids ≡ true
+    → slice_get (map f ids) (place_in id ids) ≡ Some (f id)
 found_in f id [] h e = absurd (false≢true e)
 found_in f id (x ∷ ids) h e =
     elim (lt_tells x id) [
@@ -108,11 +121,13 @@ found_in f id (x ∷ ids) h e =
           rw p.0 (found_in f id ids h.1 (rw apart at e))
       | inr p ↦ rw p.0 (elim (eqb_tells x id) [
         | inl q ↦ ap (λ n. Some (f n)) q.1
-        | inr q ↦ absurd (false≢true (sym (not_in_above id x ids (omega (arith, p.1)) h.0) ∙ (rw q.0 at e)))
+        | inr q ↦ absurd (false≢true (sym (not_in_above id x ids (omega (arith, p.1)) h.0)
+            ∙ (rw q.0 at e)))
       ])
     ]
 
-pub not_found : (f : ℕ → Entry) (id : ℕ) (ids : List ℕ) → HasIds f → is_in id ids ≡ false → if_own id (slice_get (map f ids) (place_in id ids)) ≡ None
+pub not_found : (f : ℕ → Entry) (id : ℕ) (ids : List ℕ) → HasIds f → is_in id ids ≡ false
+    → if_own id (slice_get (map f ids) (place_in id ids)) ≡ None
 not_found f id [] h e = refl
 not_found f id (x ∷ ids) h e =
     let both = or_false (eqb x id) (is_in id ids) e in
@@ -121,7 +136,9 @@ not_found f id (x ∷ ids) h e =
       | inr p ↦ rw (p.0) (rw (h x, both.0) refl)
     ]
 
-pub set_in : (f g : ℕ → Entry) (id : ℕ) (ids : List ℕ) → Ascends ids → is_in id ids ≡ true → ((x : ℕ) → eqb x id ≡ false → g x ≡ f x) → slice_set (map f ids) (place_in id ids) (g id) ≡ map g ids
+pub set_in : (f g : ℕ → Entry) (id : ℕ) (ids : List ℕ) → Ascends ids → is_in id ids ≡ true
+    → ((x : ℕ) → eqb x id ≡ false → g x ≡ f x)
+    → slice_set (map f ids) (place_in id ids) (g id) ≡ map g ids
 set_in f g id [] h e same = absurd (false≢true e)
 set_in f g id (x ∷ ids) h e same =
     elim (lt_tells x id) [
@@ -132,11 +149,14 @@ set_in f g id (x ∷ ids) h e same =
         | inl q ↦
             let rest = map_apart f g id ids same (not_in_above id x ids p.1 h.0) in
             rw (q.1, rest) refl
-        | inr q ↦ absurd (false≢true (sym (not_in_above id x ids (omega (arith, p.1)) h.0) ∙ (rw q.0 at e)))
+        | inr q ↦ absurd (false≢true (sym (not_in_above id x ids (omega (arith, p.1)) h.0)
+            ∙ (rw q.0 at e)))
       ])
     ]
 
-pub insert_in : (f g : ℕ → Entry) (id : ℕ) (ids : List ℕ) → is_in id ids ≡ false → ((x : ℕ) → eqb x id ≡ false → g x ≡ f x) → insert (map f ids) (place_in id ids) (g id) ≡ map g (with_id id ids)
+pub insert_in : (f g : ℕ → Entry) (id : ℕ) (ids : List ℕ) → is_in id ids ≡ false
+    → ((x : ℕ) → eqb x id ≡ false → g x ≡ f x) → insert (map f ids) (place_in id ids) (g id)
+    ≡ map g (with_id id ids)
 insert_in f g id [] e same = refl
 insert_in f g id (x ∷ ids) e same =
     let both = or_false (eqb x id) (is_in id ids) e in

@@ -1,9 +1,12 @@
 -- The hello that opens a session: three lines, each judged as soon as it is whole.
-use Rattle.std.specs.Prelude.{ℕ, ◌+◌, ◌-◌, Bool, true, false, nat_lt, ◌==◌, ◌||◌, if◌then◌else◌, List, length, take, drop, codes, position, slice_get, Option, Some, None, Result, Ok, Err}
+use Rattle.std.specs.Prelude.{ℕ, ◌+◌, ◌-◌, Bool, true, false, nat_lt, ◌==◌, ◌||◌, if◌then◌else◌}
+use Rattle.std.specs.Prelude.{List, length, take, drop, codes, position, slice_get, Option, Some}
+use Rattle.std.specs.Prelude.{None, Result, Ok, Err}
 use Rattle.std.specs.Option.{option_map_or}
 use Rattle.std.specs.Str.{bytes_eq}
 use Rattle.session_core.specs.declared.cause.Status.{Status}
-use Rattle.session_core.specs.declared.cause.Status.TheVariants.{TryLater, Protocol, Version, LocalName, RemoteName}
+use Rattle.session_core.specs.declared.cause.Status.TheVariants.{TryLater, Protocol, Version}
+use Rattle.session_core.specs.declared.cause.Status.TheVariants.{LocalName, RemoteName}
 
 infixl 10 ◌>>=◌
 -- goes on with what is there; waits where it isn't there yet, and stops at a refusal

@@ -1,9 +1,11 @@
 -- A hello as whole lines: a line and its LF, three times, of which the first faulty one decides.
-use Rattle.std.specs.Prelude.{◌≡◌, ◌≢◌, ◌⊎◌, ℕ, ◌<◌, ◌≤◌, Bool, List, ◌∷◌, ◌++◌, length, MatchOption, Option, Some, None, Result, Ok, Err, if◌then◌else◌}
+use Rattle.std.specs.Prelude.{◌≡◌, ◌≢◌, ◌⊎◌, ℕ, ◌<◌, ◌≤◌, Bool, List, ◌∷◌, ◌++◌, length}
+use Rattle.std.specs.Prelude.{MatchOption, Option, Some, None, Result, Ok, Err, if◌then◌else◌}
 use Rattle.std.specs.List.{AllByRecursion}
 use Rattle.std.specs.Str.{bytes_eq}
 use Rattle.session_core.specs.declared.cause.Status.{Status}
-use Rattle.session_core.specs.declared.cause.Status.TheVariants.{TryLater, Protocol, LocalName, RemoteName}
+use Rattle.session_core.specs.declared.cause.Status.TheVariants.{TryLater, Protocol, LocalName}
+use Rattle.session_core.specs.declared.cause.Status.TheVariants.{RemoteName}
 use Rattle.session_core.specs.Hello.{peer_of, sender_of, version_fault, without_cr}
 
 -- the peer and the bytes after the hello; None where the hello isn't whole; or why it is refused

@@ -1,7 +1,9 @@
 -- What a piece of the stream gives, from what is kept before it.
-use Rattle.std.specs.Prelude.{◌≡◌, ℕ, Bool, List, [], ◌∷◌, ◌++◌, codes, Option, Some, None, Result, Ok, Err}
+use Rattle.std.specs.Prelude.{◌≡◌, ℕ, Bool, List, [], ◌∷◌, ◌++◌, codes, Option, Some, None, Result}
+use Rattle.std.specs.Prelude.{Ok, Err}
 use Rattle.std.specs.Option.{option_map}
-use Rattle.peers_msg.specs.declared.fault.WireCause.TheVariants.{TooLong, BadInteger, BadField, NoMemory}
+use Rattle.peers_msg.specs.declared.fault.WireCause.TheVariants.{TooLong, BadInteger, BadField}
+use Rattle.peers_msg.specs.declared.fault.WireCause.TheVariants.{NoMemory}
 use Rattle.peers_msg.specs.Kept.{Kept}
 use Rattle.peers_msg.specs.Spelling.{message_spelling}
 use Rattle.peers_msg.specs.declared.message.Message.TheVariants as messages

@@ -1,6 +1,8 @@
 -- How the values of an update are read along a plan: its integers one after the other, and from
 -- them the cells.
-use Rattle.std.specs.Prelude.{◌≡◌, ℕ, zero, suc, ◌+◌, ◌%◌, ◌^◌, Bool, true, false, ◌==◌, ◌&&◌, if◌then◌else◌, List, [], ◌∷◌, drop, map, slice_get, unwrap_or, vec_len, Option, Some, None}
+use Rattle.std.specs.Prelude.{◌≡◌, ℕ, zero, suc, ◌+◌, ◌%◌, ◌^◌, Bool, true, false, ◌==◌, ◌&&◌}
+use Rattle.std.specs.Prelude.{if◌then◌else◌, List, [], ◌∷◌, drop, map, slice_get, unwrap_or}
+use Rattle.std.specs.Prelude.{vec_len, Option, Some, None}
 use Rattle.peers_msg.specs.Payload.{◌>>=◌, number_at}
 use Rattle.agg_types.specs.Col.{col_id, is_rate, is_wide}
 use Rattle.agg_types.specs.declared.column.Col.{Col}

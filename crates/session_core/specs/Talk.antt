@@ -1,5 +1,7 @@
 -- What a session says and tells, of the whole byte string so far.
-use Rattle.std.specs.Prelude.{◌≡◌, ℕ, suc, ◌-◌, Bool, nat_le, ◌==◌, ◌&&◌, not, is_some, if◌then◌else◌, List, [], ◌∷◌, ◌++◌, length, map, Option, Some, None, Result, Ok, Err}
+use Rattle.std.specs.Prelude.{◌≡◌, ℕ, suc, ◌-◌, Bool, nat_le, ◌==◌, ◌&&◌, not, is_some}
+use Rattle.std.specs.Prelude.{if◌then◌else◌, List, [], ◌∷◌, ◌++◌, length, map, Option, Some, None}
+use Rattle.std.specs.Prelude.{Result, Ok, Err}
 use Rattle.std.specs.List.{list_any, flat_map}
 use Rattle.std.specs.Option.{option_map}
 use Rattle.peers_msg.specs.declared.fault.WireCause.TheVariants.{BadField}
@@ -21,7 +23,8 @@ use Rattle.session_core.specs.declared.track.Followed.{Followed}
 use Rattle.session_core.specs.Meaning.{Meaning, Nothing, Confirm, Partial, Fact, End}
 use Rattle.session_core.specs.Batched.{Batched}
 use Rattle.session_core.specs.Hello.{hello_of}
-use Rattle.session_core.specs.InForce.{followed_ids, followed_under, id_in_force, is_updated, last_id, table_in_force}
+use Rattle.session_core.specs.InForce.{followed_ids, followed_under, id_in_force, is_updated}
+use Rattle.session_core.specs.InForce.{last_id, table_in_force}
 use Rattle.session_core.specs.Piece.{Setup, end_text, first_end, status_text, welcome}
 use Rattle.session_core.specs.Run.{resync_confirm, resync_partial}
 use Rattle.session_core.specs.Tracked.{Tracked, followed_of, place, place_if, put_of}

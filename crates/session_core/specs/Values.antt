@@ -1,5 +1,8 @@
 -- The key and the values of an update, as they stand behind its id and its life.
-use Rattle.std.specs.Prelude.{ℕ, zero, suc, ◌-◌, ◌/◌, ◌%◌, ◌^◌, Bool, true, false, nat_lt, nat_le, ◌==◌, ◌&&◌, ◌||◌, if◌then◌else◌, List, [], ◌∷◌, length, take, drop, map, min, slice_get, slice_set, unwrap_or, replicate, Option, Some, None}
+use Rattle.std.specs.Prelude.{ℕ, zero, suc, ◌-◌, ◌/◌, ◌%◌, ◌^◌, Bool, true, false, nat_lt, nat_le}
+use Rattle.std.specs.Prelude.{◌==◌, ◌&&◌, ◌||◌, if◌then◌else◌, List, [], ◌∷◌, length, take, drop}
+use Rattle.std.specs.Prelude.{map, min, slice_get, slice_set, unwrap_or, replicate, Option, Some}
+use Rattle.std.specs.Prelude.{None}
 use Rattle.peers_msg.specs.Kinds.{last_type}
 use Rattle.peers_msg.specs.Payload.{◌>>=◌, number_at, string_at}
 use Rattle.agg_types.specs.Col.{col_id, is_rate, is_wide}

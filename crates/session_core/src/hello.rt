@@ -1,7 +1,8 @@
 //! The hello: three lines that open a session.
 
 ghost use Rattle.std.specs.Prelude.{◌≡◌, ◌==◌, position, IfOk, IfSome, length, ◌<◌};
-ghost use Rattle.session_core.specs.Hello.{seen, line_at, without_cr, version_fault, sender_of, hello_of, receiver_line, sender_line, peer_of};
+ghost use Rattle.session_core.specs.Hello.{seen, line_at, without_cr, version_fault, sender_of};
+ghost use Rattle.session_core.specs.Hello.{hello_of, receiver_line, sender_line, peer_of};
 
 use crate::Status;
 use agg_types::{Config, Name};

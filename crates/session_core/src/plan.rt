@@ -4,7 +4,8 @@
 ghost use Rattle.std.specs.Prelude.{◌≡◌, ◌<◌, ◌≤◌, ◌*◌, [], length, drop, map, vec_len, IfOk, OnOk};
 ghost use Rattle.std.specs.Option.{option_map};
 ghost use Rattle.session_core.specs.Values.{types};
-ghost use Rattle.session_core.specs.Plan.{width_of, widths, numbers_at, source_of, count_in, rate_in, cell_from, AreCells, IsPlan};
+ghost use Rattle.session_core.specs.Plan.{width_of, widths, numbers_at, source_of, count_in};
+ghost use Rattle.session_core.specs.Plan.{rate_in, cell_from, AreCells, IsPlan};
 
 use crate::values::{TYPES, elapsed_of, has_type, is_rate_type, low_word, number_at};
 use agg_types::{Cell, Cells, Col, NoMemory};

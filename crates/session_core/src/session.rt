@@ -1,6 +1,8 @@
 //! A session: one connection of a peer.
 
-ghost use Rattle.std.specs.Prelude.{◌≡◌, ◌≢◌, Err, IfErr, ◌≤◌, ◌-◌, ◌++◌, ◌==◌, ◌&&◌, ◌||◌, nat_le, ℕ, List, [], length, if◌then◌else◌, IfOk, MatchResult, Some, None, true, false, Bool};
+ghost use Rattle.std.specs.Prelude.{◌≡◌, ◌≢◌, Err, IfErr, ◌≤◌, ◌-◌, ◌++◌, ◌==◌, ◌&&◌, ◌||◌, nat_le};
+ghost use Rattle.std.specs.Prelude.{ℕ, List, [], length, if◌then◌else◌, IfOk, MatchResult, Some};
+ghost use Rattle.std.specs.Prelude.{None, true, false, Bool};
 ghost use Rattle.session_core.specs.Silence.{end_by_silence, over_with, peer_of};
 
 use crate::SessionCause;

@@ -8,7 +8,10 @@ ghost use Rattle.session_core.specs.Run.{run};
 ghost use Rattle.session_core.specs.Undo.{LeadBack, IsSaid};
 ghost use Rattle.session_core.specs.Silence.{over_with, IsOverAs};
 ghost use Rattle.session_core.specs.declared.cause.SessionCause.{SessionCause};
-ghost use Rattle.session_core.specs.Piece.{with_stage, stage_at_end, end_reply, AreSettled, IsSettled, setup_of, status_text, end_text, first_end, piece_of, messages_outcome, with_front, hello_outcome, accepted_outcome, refused_outcome};
+ghost use Rattle.session_core.specs.Piece.{with_stage, stage_at_end, end_reply, AreSettled};
+ghost use Rattle.session_core.specs.Piece.{IsSettled, setup_of, status_text, end_text, first_end};
+ghost use Rattle.session_core.specs.Piece.{piece_of, messages_outcome, with_front, hello_outcome};
+ghost use Rattle.session_core.specs.Piece.{accepted_outcome, refused_outcome};
 
 use crate::Status;
 use crate::batch::Batch;

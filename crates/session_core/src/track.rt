@@ -9,7 +9,9 @@ ghost use Rattle.session_core.specs.Plan.{AreCells, IsPlan, IsPlanOf, IsPlanNow,
 ghost use Rattle.session_core.specs.Run.{settled};
 ghost use Rattle.session_core.specs.Values.{cells_of, sents_at};
 ghost use Rattle.session_core.specs.Undo.{undone, LeadBack};
-ghost use Rattle.session_core.specs.Tracked.{is_key_of, followed_at, followed_of, put_of, id_after, place, entry_of, IsStep, defined, switched, updated_under, step_of};
+ghost use Rattle.session_core.specs.Tracked.{is_key_of, followed_at, followed_of, put_of, id_after};
+ghost use Rattle.session_core.specs.Tracked.{place, entry_of, IsStep, defined, switched};
+ghost use Rattle.session_core.specs.Tracked.{updated_under, step_of};
 
 use crate::cause::End;
 use crate::kept::{Kept, take_plan};

@@ -1,6 +1,7 @@
 //! How a piece that can't be taken whole is taken back, change by change.
 
-ghost use Rattle.std.specs.Prelude.{◌≡◌, ◌<◌, List, length, slice_get, slice_set, Some, OnOk, OnErr, IsTrue};
+ghost use Rattle.std.specs.Prelude.{◌≡◌, ◌<◌, List, length, slice_get, slice_set, Some, OnOk};
+ghost use Rattle.std.specs.Prelude.{OnErr, IsTrue};
 ghost use Rattle.session_core.specs.declared.track.Entry.{Entry};
 ghost use Rattle.session_core.specs.Undo.{undone, before};
 

@@ -3,7 +3,8 @@
 ghost use Rattle.std.specs.Prelude.{◌≡◌, ◌<◌, ◌^◌, ◌%◌, IfOk, map, if◌then◌else◌};
 ghost use Rattle.std.specs.Option.{option_map};
 ghost use Rattle.peers_msg.specs.Payload.{number_at, string_at};
-ghost use Rattle.session_core.specs.Values.{bytes_at, text_at, key_at, has_type, is_rate_type, periods_of, elapsed_of, life_of};
+ghost use Rattle.session_core.specs.Values.{bytes_at, text_at, key_at, has_type, is_rate_type};
+ghost use Rattle.session_core.specs.Values.{periods_of, elapsed_of, life_of};
 
 use agg_types::KeyKind;
 use peers_msg::{LAST_TYPE, get_int};

@@ -2,7 +2,8 @@
 //! rows of the formats and of the session's rules, with what HAProxy's documents say they give.
 //!
 //! `read HEX` and `write NUMBER`: an encoded integer. `messages SIZE HEX`: what a feed makes of the
-//! bytes in pieces of this size. `again HEX`: its messages, written. `define`: a definition, written.
+//! bytes in pieces of this size. `again HEX`: its messages, written. `define`: a definition,
+//! written.
 //! `accept seated` or `accept unseated`: a new session at 0. `feed NOW HEX` and `idle NOW`: what it
 //! gives then, in ms.
 #![tactic(auto)]
@@ -28,8 +29,8 @@ fn table(alloc: Global, name: &[u8], kind: KeyKind, cols: &[(Col, u32)]) -> Resu
     })
 }
 
-/// The collector `agg` of the peer `lb1`, with the tables `t` of a count by address, `r` of a rate by
-/// integer, and `s` of a narrow and a wide count by text.
+/// The collector `agg` of the peer `lb1`, with the tables `t` of a count by address, `r` of a rate
+/// by integer, and `s` of a narrow and a wide count by text.
 fn config(alloc: Global) -> Result<Config> {
     let mut peers = Vec::new(alloc);
     peers.push(Name::copy(alloc, b"lb1")?)?;

@@ -1,5 +1,6 @@
 -- The texts of answers.
-use Rattle.std.specs.Prelude.{◌≡◌, ℕ, ◌+◌, ◌<◌, ⊤, Bool, false, List, [], ◌∷◌, ◌++◌, codes, length, filter, slice_index_or, Option, None, Some, if◌then◌else◌}
+use Rattle.std.specs.Prelude.{◌≡◌, ℕ, ◌+◌, ◌<◌, ⊤, Bool, false, List, [], ◌∷◌, ◌++◌, codes, length}
+use Rattle.std.specs.Prelude.{filter, slice_index_or, Option, None, Some, if◌then◌else◌}
 use Rattle.std.specs.Fmt.{decimal}
 use Rattle.std.specs.List.{flat_map, list_all}
 use Rattle.agg_types.specs.Col.{same_col}
@@ -18,9 +19,12 @@ use Rattle.fleet_model.specs.Ranking.{rank_of, ranked}
 use Rattle.fleet_model.specs.State.{State}
 use Rattle.fleet_model.specs.declared.summed.Summed.{Summed}
 use Rattle.key_text.specs.Printed.{key_text}
-use Rattle.show_clear.specs.Tables.{cell_text, column_text, heading, ms_or_never, row_text, value_in}
+use Rattle.show_clear.specs.Tables.{cell_text, column_text, heading, ms_or_never, row_text}
+use Rattle.show_clear.specs.Tables.{value_in}
 use Rattle.show_clear.specs.declared.command.Command.{Command}
-use Rattle.show_clear.specs.declared.command.Command.TheVariants.{ShowTables, ShowTable, ClearTable, ShowFilter, ShowRank, ShowNext, AddFilter}
+use Rattle.show_clear.specs.declared.command.Command.TheVariants.{ShowTables, ShowTable, ClearTable}
+use Rattle.show_clear.specs.declared.command.Command.TheVariants.{ShowFilter, ShowRank, ShowNext}
+use Rattle.show_clear.specs.declared.command.Command.TheVariants.{AddFilter}
 
 abbrev pub no_shape : Shape
 no_shape = record { name = []; kind = Integer; size = 0; cols = [] }

@@ -5,7 +5,9 @@ use Rattle.fleet_model.specs.State.{State}
 use Rattle.agg_types.specs.declared.event.What.{What}
 use Rattle.agg_types.specs.declared.event.What.TheVariants.{Clear, AddFilter as Add}
 use Rattle.show_clear.specs.declared.command.Command.{Command}
-use Rattle.show_clear.specs.declared.command.Command.TheVariants.{ShowTables, ShowTable, ClearTable, ShowFilter, ShowRank, ShowNext, AddFilter}
+use Rattle.show_clear.specs.declared.command.Command.TheVariants.{ShowTables, ShowTable, ClearTable}
+use Rattle.show_clear.specs.declared.command.Command.TheVariants.{ShowFilter, ShowRank, ShowNext}
+use Rattle.show_clear.specs.declared.command.Command.TheVariants.{AddFilter}
 
 -- the clear or the added filter that a command asks for
 abbrev pub change_of : Command → Option What

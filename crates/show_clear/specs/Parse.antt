@@ -1,5 +1,7 @@
 -- What a line asks for, word by word from the left.
-use Rattle.std.specs.Prelude.{◌≡◌, ◌≢◌, ℕ, zero, suc, Bool, not, if◌then◌else◌, nat_eq, nat_le, nat_lt, List, [], ◌∷◌, codes, length, drop, position, slice_index_or, find, Option, None, Some, Result, Ok, Err}
+use Rattle.std.specs.Prelude.{◌≡◌, ◌≢◌, ℕ, zero, suc, Bool, not, if◌then◌else◌, nat_eq, nat_le}
+use Rattle.std.specs.Prelude.{nat_lt, List, [], ◌∷◌, codes, length, drop, position, slice_index_or}
+use Rattle.std.specs.Prelude.{find, Option, None, Some, Result, Ok, Err}
 use Rattle.std.specs.List.{list_any, starts_with}
 use Rattle.std.specs.Str.{bytes_eq}
 use Rattle.std.specs.Str.Lines.{strip_carriage_return}
@@ -21,9 +23,15 @@ use Rattle.line_words.specs.Operators.{operator_of}
 use Rattle.line_words.specs.Words.{words}
 use Rattle.show_clear.specs.Answer.{shape_of}
 use Rattle.show_clear.specs.declared.command.Command.{Command}
-use Rattle.show_clear.specs.declared.command.Command.TheVariants.{ShowTables, ShowTable, ClearTable, ShowFilter, ShowRank, ShowNext, AddFilter}
+use Rattle.show_clear.specs.declared.command.Command.TheVariants.{ShowTables, ShowTable, ClearTable}
+use Rattle.show_clear.specs.declared.command.Command.TheVariants.{ShowFilter, ShowRank, ShowNext}
+use Rattle.show_clear.specs.declared.command.Command.TheVariants.{AddFilter}
 use Rattle.show_clear.specs.declared.fault.CommandFault.{CommandFault}
-use Rattle.show_clear.specs.declared.fault.CommandFault.TheVariants.{Empty, Unknown, NoTable, BadColumn, BadOperator, BadValue, BadKey, TooMany, NoMemory, BadName, Exists, Full}
+use Rattle.show_clear.specs.declared.fault.CommandFault.TheVariants.{Empty, Unknown, NoTable}
+use Rattle.show_clear.specs.declared.fault.CommandFault.TheVariants.{BadColumn, BadOperator}
+use Rattle.show_clear.specs.declared.fault.CommandFault.TheVariants.{BadValue, BadKey, TooMany}
+use Rattle.show_clear.specs.declared.fault.CommandFault.TheVariants.{NoMemory, BadName, Exists}
+use Rattle.show_clear.specs.declared.fault.CommandFault.TheVariants.{Full}
 
 -- what was read, or the first fault
 abbrev pub Read : Type 0 → Type 0

@@ -2,7 +2,11 @@
 use Rattle.std.specs.Prelude.{ℕ, List, ◌++◌, codes}
 use Rattle.std.specs.Fmt.{decimal}
 use Rattle.show_clear.specs.declared.fault.CommandFault.{CommandFault}
-use Rattle.show_clear.specs.declared.fault.CommandFault.TheVariants.{Empty, Unknown, NoTable, BadColumn, BadOperator, BadValue, BadKey, TooMany, NoMemory, BadName, Exists, Full}
+use Rattle.show_clear.specs.declared.fault.CommandFault.TheVariants.{Empty, Unknown, NoTable}
+use Rattle.show_clear.specs.declared.fault.CommandFault.TheVariants.{BadColumn, BadOperator}
+use Rattle.show_clear.specs.declared.fault.CommandFault.TheVariants.{BadValue, BadKey, TooMany}
+use Rattle.show_clear.specs.declared.fault.CommandFault.TheVariants.{NoMemory, BadName, Exists}
+use Rattle.show_clear.specs.declared.fault.CommandFault.TheVariants.{Full}
 
 abbrev pub fault_number : CommandFault → ℕ
 fault_number Empty = 1

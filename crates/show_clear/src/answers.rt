@@ -4,7 +4,9 @@ ghost use Rattle.std.specs.Prelude.{◌≡◌, ◌++◌, ◌<◌, length, take, 
 ghost use Rattle.agg_types.specs.declared.event.Select.TheVariants.{One, Conds};
 ghost use Rattle.fleet_model.specs.Answers.{filter_of};
 ghost use Rattle.fleet_model.specs.Ranking.{rank_of};
-ghost use Rattle.show_clear.specs.Answer.{Answers, AppendsNext, NamesStand, all_hold, filter_text, headings, rank_text, row_lines, rows_text, shape_of, table_text};
+ghost use Rattle.show_clear.specs.Answer.{Answers, AppendsNext, NamesStand, all_hold, filter_text};
+ghost use Rattle.show_clear.specs.Answer.{headings, rank_text, row_lines, rows_text, shape_of};
+ghost use Rattle.show_clear.specs.Answer.{table_text};
 
 use crate::Command;
 use crate::fleet::{Book, BookRows, Summed};

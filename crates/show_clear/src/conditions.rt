@@ -2,7 +2,8 @@
 
 ghost use Rattle.std.specs.Prelude.{◌≡◌, ◌≤◌, [], ◌∷◌, Ok, Err, length, IfOk, MatchResult};
 ghost use Rattle.line_words.specs.Words.{words};
-ghost use Rattle.show_clear.specs.Parse.{Tells, cond_col, cond_of, conds_of, some_conds, stored_col, with_bound, with_op};
+ghost use Rattle.show_clear.specs.Parse.{Tells, cond_col, cond_of, conds_of, some_conds};
+ghost use Rattle.show_clear.specs.Parse.{stored_col, with_bound, with_op};
 
 use crate::CommandFault;
 use agg_types::{Col, Cond, Items, MOST_CONDS, Op, Shape};

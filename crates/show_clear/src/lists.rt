@@ -1,7 +1,8 @@
 //! The texts of standing filters and ranked lists.
 
 ghost use Rattle.std.specs.Prelude.{◌≡◌, ◌++◌, ◌≤◌, ◌<◌, ◌^◌, length, map, take, OnOk};
-ghost use Rattle.show_clear.specs.Answer.{change_text, held_text, key_line, period_of, place_text, places_text, ranking_text, title_text};
+ghost use Rattle.show_clear.specs.Answer.{change_text, held_text, key_line, period_of, place_text};
+ghost use Rattle.show_clear.specs.Answer.{places_text, ranking_text, title_text};
 ghost use Rattle.std.specs.List.{flat_map};
 
 use crate::fleet::Ranked;

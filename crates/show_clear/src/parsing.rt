@@ -5,7 +5,11 @@ ghost use Rattle.std.specs.List.{list_any};
 ghost use Rattle.std.specs.Str.{bytes_eq};
 ghost use Rattle.std.specs.Str.Lines.{strip_carriage_return};
 ghost use Rattle.line_words.specs.Words.{words};
-ghost use Rattle.show_clear.specs.Parse.{Tells, added, asked, at_end, cleared, command_of, filter_added, filter_named, filter_on, filter_shown, new_name, next_shown, one_key, rank_named, rank_shown, sel_of, shown, table_and_sel, table_cleared, table_named, table_shown};
+ghost use Rattle.show_clear.specs.Parse.{Tells, added, asked, at_end, cleared, command_of};
+ghost use Rattle.show_clear.specs.Parse.{filter_added, filter_named, filter_on, filter_shown};
+ghost use Rattle.show_clear.specs.Parse.{new_name, next_shown, one_key, rank_named, rank_shown};
+ghost use Rattle.show_clear.specs.Parse.{sel_of, shown, table_and_sel, table_cleared, table_named};
+ghost use Rattle.show_clear.specs.Parse.{table_shown};
 ghost use Rattle.show_clear.specs.Answer.{NamesStand};
 ghost use Rattle.show_clear.specs.Change.{ChangeFits};
 

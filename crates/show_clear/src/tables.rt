@@ -2,7 +2,8 @@
 
 ghost use Rattle.std.specs.Prelude.{◌≡◌, ◌++◌, length, take, OnOk};
 ghost use Rattle.std.specs.List.{flat_map};
-ghost use Rattle.show_clear.specs.Tables.{cell_text, cells_text, column_text, counts_text, heading, kind_name, ms_or_never, row_text, sums_text, value_in};
+ghost use Rattle.show_clear.specs.Tables.{cell_text, cells_text, column_text, counts_text, heading};
+ghost use Rattle.show_clear.specs.Tables.{kind_name, ms_or_never, row_text, sums_text, value_in};
 
 use crate::fleet::Summed;
 use crate::pieces::{append_counted, append_labelled};

@@ -1,5 +1,6 @@
 -- The keys that a filter holds, and when the first verdict changes.
-use Rattle.std.proofs.Common.{◌≡◌, ℕ, ◌≤◌, Bool, true, false, cond, ◌||◌, List, [], ◌∷◌, Option, Some, None, is_some, refl, sym, ap, ◌∙◌, subst, arith, ⊎_elim}
+use Rattle.std.proofs.Common.{◌≡◌, ℕ, ◌≤◌, Bool, true, false, cond, ◌||◌, List, [], ◌∷◌, Option}
+use Rattle.std.proofs.Common.{Some, None, is_some, refl, sym, ap, ◌∙◌, subst, arith, ⊎_elim}
 use Rattle.std.specs.Prelude.{filter, map, unwrap_or}
 use Rattle.std.proofs.lemmas.Bool.{cases_lt, eq-eqb, false≢true, or_cases}
 use Rattle.std.proofs.lemmas.Cmp.{eq_by_cmp_equiv, nat_list_cmp_total, tied_itself}
@@ -26,15 +27,21 @@ use Rattle.standing_filters.proofs.Planning.{is_that}
 abbrev Kept : Type 0
 Kept = List (List ℕ × Verdict)
 
-all_held : (P : List ℕ → Type 0) (kept : Kept) → AllByRecursion P (keys_of kept) → AllByRecursion P (keys_held kept)
+all_held : (P : List ℕ → Type 0) (kept : Kept) → AllByRecursion P (keys_of kept)
+    → AllByRecursion P (keys_held kept)
 all_held P [] h = tt
 all_held P (e ∷ kept) h = by e.1.holds h.0 (all_held P kept h.1)
   where
-    by : (b : Bool) → P e.0 → AllByRecursion P (keys_held kept) → AllByRecursion P (map (λ e. e.0) (cond b (e ∷ filter (λ e. e.1.holds) kept) (filter (λ e. e.1.holds) kept)))
+    by : (b : Bool) → P e.0 → AllByRecursion P (keys_held kept)
+        → AllByRecursion P (map (λ e. e.0) (cond b (e ∷ filter (λ e. e.1.holds) kept)
+        (filter (λ e. e.1.holds) kept)))
     by true here rest = (here, rest)
     by false here rest = rest
 
-sorted_cons : (key : List ℕ) (keys : List (List ℕ)) → AllByRecursion (λ y. slice_cmp nat_cmp key y ≡ Less) keys → IsStrictlySortedBy (slice_cmp nat_cmp) keys → IsStrictlySortedBy (slice_cmp nat_cmp) (key ∷ keys)
+sorted_cons : (key : List ℕ) (keys : List (List ℕ))
+    → AllByRecursion (λ y. slice_cmp nat_cmp key y ≡ Less) keys
+    → IsStrictlySortedBy (slice_cmp nat_cmp) keys
+    → IsStrictlySortedBy (slice_cmp nat_cmp) (key ∷ keys)
 unfolding IsStrictlySortedBy
 sorted_cons key keys above sorted = (above, sorted)
 
@@ -42,11 +49,17 @@ sorted_none : IsStrictlySortedBy (slice_cmp nat_cmp) []
 unfolding IsStrictlySortedBy
 sorted_none = tt
 
-pub held_ordered : (kept : Kept) → IsStrictlySortedBy (slice_cmp nat_cmp) (keys_of kept) → IsStrictlySortedBy (slice_cmp nat_cmp) (keys_held kept)
+pub held_ordered : (kept : Kept) → IsStrictlySortedBy (slice_cmp nat_cmp) (keys_of kept)
+    → IsStrictlySortedBy (slice_cmp nat_cmp) (keys_held kept)
 held_ordered [] h = sorted_none
-held_ordered (e ∷ kept) h = by e.1.holds (all_held (λ y. slice_cmp nat_cmp e.0 y ≡ Less) kept (sorted_head (slice_cmp nat_cmp) e.0 (keys_of kept) h)) (held_ordered kept (sorted_tail (slice_cmp nat_cmp) e.0 (keys_of kept) h))
+held_ordered (e ∷ kept) h = by e.1.holds (all_held (λ y. slice_cmp nat_cmp e.0 y ≡ Less) kept
+    (sorted_head (slice_cmp nat_cmp) e.0 (keys_of kept) h))
+    (held_ordered kept (sorted_tail (slice_cmp nat_cmp) e.0 (keys_of kept) h))
   where
-    by : (b : Bool) → AllByRecursion (λ y. slice_cmp nat_cmp e.0 y ≡ Less) (keys_held kept) → IsStrictlySortedBy (slice_cmp nat_cmp) (keys_held kept) → IsStrictlySortedBy (slice_cmp nat_cmp) (map (λ e. e.0) (cond b (e ∷ filter (λ e. e.1.holds) kept) (filter (λ e. e.1.holds) kept)))
+    by : (b : Bool) → AllByRecursion (λ y. slice_cmp nat_cmp e.0 y ≡ Less) (keys_held kept)
+        → IsStrictlySortedBy (slice_cmp nat_cmp) (keys_held kept)
+        → IsStrictlySortedBy (slice_cmp nat_cmp)
+        (map (λ e. e.0) (cond b (e ∷ filter (λ e. e.1.holds) kept) (filter (λ e. e.1.holds) kept)))
     by true above sorted = sorted_cons e.0 (keys_held kept) above sorted
     by false above sorted = sorted
 
@@ -54,14 +67,18 @@ holds_kept : (v : Verdict) (b : Bool) → v.holds ≡ b → is_some (cond b (Som
 holds_kept v true is = refl
 holds_kept v false is = refl
 
-held_found : (found : Option Verdict) → is_some (option_filter (λ v. v.holds) found) ≡ (unwrap_or found out).holds
+held_found : (found : Option Verdict) → is_some (option_filter (λ v. v.holds) found)
+    ≡ (unwrap_or found out).holds
 held_found None = refl
 held_found (Some v) = holds_kept v v.holds refl
 
-pub held_exact : (kept : Kept) → IsStrictlySortedBy (slice_cmp nat_cmp) (keys_of kept) → (key : List ℕ) → list_any (is_at (slice_cmp nat_cmp key)) (keys_held kept) ≡ (verdict_at kept key).holds
+pub held_exact : (kept : Kept) → IsStrictlySortedBy (slice_cmp nat_cmp) (keys_of kept)
+    → (key : List ℕ) → list_any (is_at (slice_cmp nat_cmp key)) (keys_held kept)
+    ≡ (verdict_at kept key).holds
 held_exact kept sorted key =
     sym (is_some-lookup (is_at (slice_cmp nat_cmp key)) (filter (λ e. e.1.holds) kept))
-    ∙ ap is_some (lookup-filter-values (eq_by_cmp_equiv nat_list_cmp_total) (λ v. v.holds) key kept (IsDistinct-from_sorted (slice_cmp nat_cmp) (keys_of kept) sorted))
+    ∙ ap is_some (lookup-filter-values (eq_by_cmp_equiv nat_list_cmp_total) (λ v. v.holds) key kept
+    (IsDistinct-from_sorted (slice_cmp nat_cmp) (keys_of kept) sorted))
     ∙ held_found (lookup (is_at (slice_cmp nat_cmp key)) kept)
 
 -- ---- the first change
@@ -71,27 +88,48 @@ never None h = refl
 never (Some u) h = absurd (h u refl)
 
 not_earlier : (e f : ℕ × List ℕ) → entry_cmp (slice_cmp nat_cmp) e f ≡ Less → e.0 ≤ f.0
-not_earlier e f h = ⊎_elim (λ less. absurd (false≢true (rw (nat_cmp-greater e.0 f.0 less) at (ap is_lt h)))) (λ most. most) (cases_lt f.0 e.0)
+not_earlier e f h = ⊎_elim (λ less. absurd
+    (false≢true (rw (nat_cmp-greater e.0 f.0 less) at (ap is_lt h)))) (λ most. most)
+    (cases_lt f.0 e.0)
 
-found_all : (P : ℕ × List ℕ → Type 0) (f : ℕ × List ℕ) (entries : List (ℕ × List ℕ)) → AllByRecursion P entries → list_any (is_at (entry_cmp (slice_cmp nat_cmp) f)) entries ≡ true → P f
+found_all : (P : ℕ × List ℕ → Type 0) (f : ℕ × List ℕ) (entries : List (ℕ × List ℕ))
+    → AllByRecursion P entries → list_any (is_at (entry_cmp (slice_cmp nat_cmp) f)) entries ≡ true
+    → P f
 found_all P f [] h there = absurd (false≢true there)
-found_all P f (e ∷ entries) h there = ⊎_elim (λ here. subst P (sym (exact_entry f e (equal_from _ here))) h.0) (λ later. found_all P f entries h.1 later) (or_cases (is_eq (entry_cmp (slice_cmp nat_cmp) f e)) (list_any (is_at (entry_cmp (slice_cmp nat_cmp) f)) entries) there)
+found_all P f (e ∷ entries) h there =
+    ⊎_elim (λ here. subst P (sym (exact_entry f e (equal_from _ here))) h.0)
+    (λ later. found_all P f entries h.1 later) (or_cases (is_eq (entry_cmp (slice_cmp nat_cmp) f e))
+    (list_any (is_at (entry_cmp (slice_cmp nat_cmp) f)) entries) there)
 
-pub least : (e f : ℕ × List ℕ) (entries : List (ℕ × List ℕ)) → IsInOrder (slice_cmp nat_cmp) (e ∷ entries) → has_plan (e ∷ entries) f ≡ true → e.0 ≤ f.0
+pub least : (e f : ℕ × List ℕ) (entries : List (ℕ × List ℕ))
+    → IsInOrder (slice_cmp nat_cmp) (e ∷ entries) → has_plan (e ∷ entries) f ≡ true → e.0 ≤ f.0
 least e f entries ordered there =
     let same : e.0 ≤ e.0 = omega arith in
-    found_all (λ x. e.0 ≤ x.0) f (e ∷ entries) (same, lower entries (sorted_head (entry_cmp (slice_cmp nat_cmp)) e entries ordered)) there
+    found_all (λ x. e.0 ≤ x.0) f (e ∷ entries) (
+      same,
+      lower entries (sorted_head (entry_cmp (slice_cmp nat_cmp)) e entries ordered),
+    ) there
   where
-    lower : (xs : List (ℕ × List ℕ)) → AllByRecursion (λ y. entry_cmp (slice_cmp nat_cmp) e y ≡ Less) xs → AllByRecursion (λ x. e.0 ≤ x.0) xs
+    lower : (xs : List (ℕ × List ℕ))
+        → AllByRecursion (λ y. entry_cmp (slice_cmp nat_cmp) e y ≡ Less) xs
+        → AllByRecursion (λ x. e.0 ≤ x.0) xs
     lower [] h = tt
     lower (x ∷ xs) h = (not_earlier e x h.0, lower xs h.1)
 
-pub stands : (kept : Kept) (due : List (ℕ × List ℕ)) → IsPlanOf kept due → (key : List ℕ) (u : ℕ) → (verdict_at kept key).next ≡ Some u → has_plan due (u, key) ≡ true
+pub stands : (kept : Kept) (due : List (ℕ × List ℕ)) → IsPlanOf kept due → (key : List ℕ) (u : ℕ)
+    → (verdict_at kept key).next ≡ Some u → has_plan due (u, key) ≡ true
 stands kept due exact key u is = exact (u, key) ∙ ap (λ m. is_moment m u) is ∙ eq-eqb u u refl
 
-pub first_change : (kept : Kept) (due : List (ℕ × List ℕ)) → IsPlanOf kept due → IsInOrder (slice_cmp nat_cmp) due → IsFirstChange kept (first_moment due)
-first_change kept [] exact ordered = λ key. never (verdict_at kept key).next (λ u is. false≢true (stands kept [] exact key u is))
+pub first_change : (kept : Kept) (due : List (ℕ × List ℕ)) → IsPlanOf kept due
+    → IsInOrder (slice_cmp nat_cmp) due → IsFirstChange kept (first_moment due)
+first_change kept [] exact ordered =
+    λ key. never (verdict_at kept key).next (λ u is. false≢true (stands kept [] exact key u is))
 first_change kept (e ∷ entries) exact ordered = (
-  (e.1, is_that (verdict_at kept e.1).next e.0 (sym (exact e) ∙ ap (λ r. is_eq r || list_any (is_at (entry_cmp (slice_cmp nat_cmp) e)) entries) (tied_itself (entries_total (slice_cmp nat_cmp) nat_list_cmp_total) e))),
+  (
+    e.1,
+    is_that (verdict_at kept e.1).next e.0 (sym (exact e)
+        ∙ ap (λ r. is_eq r || list_any (is_at (entry_cmp (slice_cmp nat_cmp) e)) entries)
+        (tied_itself (entries_total (slice_cmp nat_cmp) nat_list_cmp_total) e)),
+  ),
   λ key u is. least e (u, key) entries ordered (stands kept (e ∷ entries) exact key u is),
 )

@@ -1,12 +1,14 @@
 -- A key judged by its conditions.
-use Rattle.std.proofs.Common.{◌≡◌, ◌≢◌, ℕ, ◌+◌, ◌≤◌, nat_lt, Bool, true, false, ◌&&◌, List, [], ◌∷◌, length, get_or, Option, None, Some, refl, sym, ap, ◌∙◌, arith}
+use Rattle.std.proofs.Common.{◌≡◌, ◌≢◌, ℕ, ◌+◌, ◌≤◌, nat_lt, Bool, true, false, ◌&&◌, List, [], ◌∷◌}
+use Rattle.std.proofs.Common.{length, get_or, Option, None, Some, refl, sym, ap, ◌∙◌, arith}
 use Rattle.std.specs.List.{list_all}
 use Rattle.agg_types.specs.declared.config.Cond.{Cond}
 use Rattle.crossing.specs.First.{IsFirstFrom}
 use Rattle.standing_filters.specs.Verdicts.{IsTold, out}
 use Rattle.standing_filters.specs.declared.judging.Verdict.{Verdict}
 
-first_same : (from : ℕ) (p q : ℕ → Type 0) → ((t : ℕ) → p t → q t) → ((t : ℕ) → q t → p t) → (o : Option ℕ) → IsFirstFrom from p o → IsFirstFrom from q o
+first_same : (from : ℕ) (p q : ℕ → Type 0) → ((t : ℕ) → p t → q t) → ((t : ℕ) → q t → p t)
+    → (o : Option ℕ) → IsFirstFrom from p o → IsFirstFrom from q o
 first_same from p q there back None first = λ s since holds. first s since (back s holds)
 first_same from p q there back (Some t) first = record {
   since = first.since;
@@ -15,26 +17,32 @@ first_same from p q there back (Some t) first = record {
 }
 
 -- what is told of a truth is told of any that is the same
-pub told_same : (truth other : ℕ → Bool) (now : ℕ) (verdict : Verdict) → ((t : ℕ) → other t ≡ truth t) → IsTold truth now verdict → IsTold other now verdict
+pub told_same : (truth other : ℕ → Bool) (now : ℕ) (verdict : Verdict)
+    → ((t : ℕ) → other t ≡ truth t) → IsTold truth now verdict → IsTold other now verdict
 told_same truth other now verdict same told = record {
   holds = told.holds ∙ sym (same now);
-  next = first_same (now + 1) (λ t. truth t ≢ truth now) (λ t. other t ≢ other now) (λ t differs is. differs (sym (same t) ∙ is ∙ same now)) (λ t differs is. differs (same t ∙ is ∙ sym (same now))) verdict.next told.next;
+  next = first_same (now + 1) (λ t. truth t ≢ truth now) (λ t. other t ≢ other now)
+      (λ t differs is. differs (sym (same t) ∙ is ∙ same now)) (λ t differs is. differs (same t ∙ is
+      ∙ sym (same now))) verdict.next told.next;
 }
 
 -- a truth that is false now and later
-pub told_out : (truth : ℕ → Bool) (now : ℕ) (verdict : Verdict) → ((t : ℕ) → now ≤ t → truth t ≡ false) → IsTold truth now verdict → verdict ≡ out
+pub told_out : (truth : ℕ → Bool) (now : ℕ) (verdict : Verdict)
+    → ((t : ℕ) → now ≤ t → truth t ≡ false) → IsTold truth now verdict → verdict ≡ out
 told_out truth now verdict never told = by verdict.next refl told.next
   where
     holds : verdict.holds ≡ false
     holds = told.holds ∙ never now (omega arith)
 
-    by : (o : Option ℕ) → verdict.next ≡ o → IsFirstFrom (now + 1) (λ t. truth t ≢ truth now) o → verdict ≡ out
+    by : (o : Option ℕ) → verdict.next ≡ o → IsFirstFrom (now + 1) (λ t. truth t ≢ truth now) o
+        → verdict ≡ out
     by None is first = λ i. record { holds = holds i; next = is i }
     by (Some t) is first =
         let since : now + 1 ≤ t = first.since in
         absurd (first.holds (never t (omega arith) ∙ sym (never now (omega arith))))
 
-pub dead_never : (living : ℕ → ℕ) (met : ℕ → Bool) (now t : ℕ) → living now ≡ 0 → living t ≤ living now → (nat_lt 0 (living t) && met t) ≡ false
+pub dead_never : (living : ℕ → ℕ) (met : ℕ → Bool) (now t : ℕ) → living now ≡ 0
+    → living t ≤ living now → (nat_lt 0 (living t) && met t) ≡ false
 dead_never living met now t dead falls =
     let none : living t ≡ 0 = omega arith in
     rw none refl
@@ -44,33 +52,40 @@ one_list [] d0 is = absurd (omega arith)
 one_list (x0 ∷ []) d0 is = refl
 one_list (x0 ∷ x1 ∷ xs) d0 is = absurd (omega arith)
 
-pub one_hold : (f : Cond → Bool) (xs : List Cond) (d0 : Cond) (l pl p0 : Bool) → length xs ≡ 1 → pl ≡ l → p0 ≡ f (get_or xs 0 d0) → (l && list_all f xs) ≡ (pl && (p0 && true))
+pub one_hold : (f : Cond → Bool) (xs : List Cond) (d0 : Cond) (l pl p0 : Bool) → length xs ≡ 1
+    → pl ≡ l → p0 ≡ f (get_or xs 0 d0) → (l && list_all f xs) ≡ (pl && (p0 && true))
 one_hold f xs d0 l pl p0 is el e0 =
     ap (λ b. b && list_all f xs) (sym el)
     ∙ ap (λ ys. pl && list_all f ys) (one_list xs d0 is)
     ∙ ap (λ b. pl && (b && true)) (sym e0)
 
-two_list : (xs : List Cond) (d0 d1 : Cond) → length xs ≡ 2 → xs ≡ get_or xs 0 d0 ∷ get_or xs 1 d1 ∷ []
+two_list : (xs : List Cond) (d0 d1 : Cond) → length xs ≡ 2
+    → xs ≡ get_or xs 0 d0 ∷ get_or xs 1 d1 ∷ []
 two_list [] d0 d1 is = absurd (omega arith)
 two_list (x0 ∷ []) d0 d1 is = absurd (omega arith)
 two_list (x0 ∷ x1 ∷ []) d0 d1 is = refl
 two_list (x0 ∷ x1 ∷ x2 ∷ xs) d0 d1 is = absurd (omega arith)
 
-pub two_hold : (f : Cond → Bool) (xs : List Cond) (d0 d1 : Cond) (l pl p0 p1 : Bool) → length xs ≡ 2 → pl ≡ l → p0 ≡ f (get_or xs 0 d0) → p1 ≡ f (get_or xs 1 d1) → (l && list_all f xs) ≡ (pl && (p0 && (p1 && true)))
+pub two_hold : (f : Cond → Bool) (xs : List Cond) (d0 d1 : Cond) (l pl p0 p1 : Bool) → length xs ≡ 2
+    → pl ≡ l → p0 ≡ f (get_or xs 0 d0) → p1 ≡ f (get_or xs 1 d1)
+    → (l && list_all f xs) ≡ (pl && (p0 && (p1 && true)))
 two_hold f xs d0 d1 l pl p0 p1 is el e0 e1 =
     ap (λ b. b && list_all f xs) (sym el)
     ∙ ap (λ ys. pl && list_all f ys) (two_list xs d0 d1 is)
     ∙ ap (λ b. pl && (b && (f (get_or xs 1 d1) && true))) (sym e0)
     ∙ ap (λ b. pl && (p0 && (b && true))) (sym e1)
 
-three_list : (xs : List Cond) (d0 d1 d2 : Cond) → length xs ≡ 3 → xs ≡ get_or xs 0 d0 ∷ get_or xs 1 d1 ∷ get_or xs 2 d2 ∷ []
+three_list : (xs : List Cond) (d0 d1 d2 : Cond) → length xs ≡ 3
+    → xs ≡ get_or xs 0 d0 ∷ get_or xs 1 d1 ∷ get_or xs 2 d2 ∷ []
 three_list [] d0 d1 d2 is = absurd (omega arith)
 three_list (x0 ∷ []) d0 d1 d2 is = absurd (omega arith)
 three_list (x0 ∷ x1 ∷ []) d0 d1 d2 is = absurd (omega arith)
 three_list (x0 ∷ x1 ∷ x2 ∷ []) d0 d1 d2 is = refl
 three_list (x0 ∷ x1 ∷ x2 ∷ x3 ∷ xs) d0 d1 d2 is = absurd (omega arith)
 
-pub three_hold : (f : Cond → Bool) (xs : List Cond) (d0 d1 d2 : Cond) (l pl p0 p1 p2 : Bool) → length xs ≡ 3 → pl ≡ l → p0 ≡ f (get_or xs 0 d0) → p1 ≡ f (get_or xs 1 d1) → p2 ≡ f (get_or xs 2 d2) → (l && list_all f xs) ≡ (pl && (p0 && (p1 && (p2 && true))))
+pub three_hold : (f : Cond → Bool) (xs : List Cond) (d0 d1 d2 : Cond) (l pl p0 p1 p2 : Bool)
+    → length xs ≡ 3 → pl ≡ l → p0 ≡ f (get_or xs 0 d0) → p1 ≡ f (get_or xs 1 d1)
+    → p2 ≡ f (get_or xs 2 d2) → (l && list_all f xs) ≡ (pl && (p0 && (p1 && (p2 && true))))
 three_hold f xs d0 d1 d2 l pl p0 p1 p2 is el e0 e1 e2 =
     ap (λ b. b && list_all f xs) (sym el)
     ∙ ap (λ ys. pl && list_all f ys) (three_list xs d0 d1 d2 is)
@@ -78,7 +93,8 @@ three_hold f xs d0 d1 d2 l pl p0 p1 p2 is el e0 e1 e2 =
     ∙ ap (λ b. pl && (p0 && (b && (f (get_or xs 2 d2) && true)))) (sym e1)
     ∙ ap (λ b. pl && (p0 && (p1 && (b && true)))) (sym e2)
 
-four_list : (xs : List Cond) (d0 d1 d2 d3 : Cond) → length xs ≡ 4 → xs ≡ get_or xs 0 d0 ∷ get_or xs 1 d1 ∷ get_or xs 2 d2 ∷ get_or xs 3 d3 ∷ []
+four_list : (xs : List Cond) (d0 d1 d2 d3 : Cond) → length xs ≡ 4
+    → xs ≡ get_or xs 0 d0 ∷ get_or xs 1 d1 ∷ get_or xs 2 d2 ∷ get_or xs 3 d3 ∷ []
 four_list [] d0 d1 d2 d3 is = absurd (omega arith)
 four_list (x0 ∷ []) d0 d1 d2 d3 is = absurd (omega arith)
 four_list (x0 ∷ x1 ∷ []) d0 d1 d2 d3 is = absurd (omega arith)
@@ -86,11 +102,15 @@ four_list (x0 ∷ x1 ∷ x2 ∷ []) d0 d1 d2 d3 is = absurd (omega arith)
 four_list (x0 ∷ x1 ∷ x2 ∷ x3 ∷ []) d0 d1 d2 d3 is = refl
 four_list (x0 ∷ x1 ∷ x2 ∷ x3 ∷ x4 ∷ xs) d0 d1 d2 d3 is = absurd (omega arith)
 
-pub four_hold : (f : Cond → Bool) (xs : List Cond) (d0 d1 d2 d3 : Cond) (l pl p0 p1 p2 p3 : Bool) → length xs ≡ 4 → pl ≡ l → p0 ≡ f (get_or xs 0 d0) → p1 ≡ f (get_or xs 1 d1) → p2 ≡ f (get_or xs 2 d2) → p3 ≡ f (get_or xs 3 d3) → (l && list_all f xs) ≡ (pl && (p0 && (p1 && (p2 && (p3 && true)))))
+pub four_hold : (f : Cond → Bool) (xs : List Cond) (d0 d1 d2 d3 : Cond) (l pl p0 p1 p2 p3 : Bool)
+    → length xs ≡ 4 → pl ≡ l → p0 ≡ f (get_or xs 0 d0) → p1 ≡ f (get_or xs 1 d1)
+    → p2 ≡ f (get_or xs 2 d2) → p3 ≡ f (get_or xs 3 d3)
+    → (l && list_all f xs) ≡ (pl && (p0 && (p1 && (p2 && (p3 && true)))))
 four_hold f xs d0 d1 d2 d3 l pl p0 p1 p2 p3 is el e0 e1 e2 e3 =
     ap (λ b. b && list_all f xs) (sym el)
     ∙ ap (λ ys. pl && list_all f ys) (four_list xs d0 d1 d2 d3 is)
-    ∙ ap (λ b. pl && (b && (f (get_or xs 1 d1) && (f (get_or xs 2 d2) && (f (get_or xs 3 d3) && true))))) (sym e0)
+    ∙ ap (λ b. pl && (b && (f (get_or xs 1 d1)
+    && (f (get_or xs 2 d2) && (f (get_or xs 3 d3) && true))))) (sym e0)
     ∙ ap (λ b. pl && (p0 && (b && (f (get_or xs 2 d2) && (f (get_or xs 3 d3) && true))))) (sym e1)
     ∙ ap (λ b. pl && (p0 && (p1 && (b && (f (get_or xs 3 d3) && true))))) (sym e2)
     ∙ ap (λ b. pl && (p0 && (p1 && (p2 && (b && true))))) (sym e3)

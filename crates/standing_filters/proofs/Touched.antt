@@ -1,12 +1,15 @@
 -- What a touch of one filter makes of it.
-use Rattle.std.proofs.Common.{◌≡◌, ◌≢◌, ℕ, Bool, true, false, cond, List, Option, None, length, is_some, refl, sym, ap, ◌∙◌, subst, ◌≤◌}
+use Rattle.std.proofs.Common.{◌≡◌, ◌≢◌, ℕ, Bool, true, false, cond, List, Option, None, length}
+use Rattle.std.proofs.Common.{is_some, refl, sym, ap, ◌∙◌, subst, ◌≤◌}
 use Rattle.std.specs.BTreeMap.{is_at}
 use Rattle.std.specs.Cmp.Lexicographic.{slice_cmp}
 use Rattle.std.specs.Ordering.{is_eq, nat_cmp}
 use Rattle.std.proofs.lemmas.Cmp.{nat_list_cmp_total, tied_itself}
 use Rattle.std.proofs.lemmas.Map.Lookups.{exact_bytes}
 use Rattle.agg_types.specs.declared.column.Col.{Col}
-use Rattle.standing_filters.specs.Plans.{AreWatches, Becomes, IsPlanned, IsUnplanned, IsWatch, Watching, change_of, kept_at, shown, with_room, without_key}
+use Rattle.standing_filters.specs.Plans.{AreWatches, Becomes, IsPlanned, IsUnplanned, IsWatch}
+use Rattle.standing_filters.specs.Plans.{Watching, change_of, kept_at, shown, with_room}
+use Rattle.standing_filters.specs.Plans.{without_key}
 use Rattle.standing_filters.specs.Verdicts.{IsVerdict, out}
 use Rattle.standing_filters.specs.Watched.{IsTouched, verdict_at}
 use Rattle.standing_filters.specs.declared.judging.Verdict.{Verdict}
@@ -16,27 +19,36 @@ use Rattle.standing_filters.proofs.Planning.{backed_out, committed, forgotten, r
 abbrev Kept : Type 0
 Kept = List (List ℕ × Verdict)
 
-becomes_here : (key : List ℕ) (verdict : Verdict) (old new : Kept) → Becomes key verdict old new → verdict_at new key ≡ verdict
-becomes_here key verdict old new becomes = becomes key ∙ ap (λ r. cond (is_eq r) verdict (verdict_at old key)) (tied_itself nat_list_cmp_total key)
+becomes_here : (key : List ℕ) (verdict : Verdict) (old new : Kept) → Becomes key verdict old new
+    → verdict_at new key ≡ verdict
+becomes_here key verdict old new becomes = becomes key
+    ∙ ap (λ r. cond (is_eq r) verdict (verdict_at old key)) (tied_itself nat_list_cmp_total key)
 
-stays_there : (key : List ℕ) (verdict : Verdict) (old new : Kept) → Becomes key verdict old new → (q : List ℕ) → q ≢ key → verdict_at new q ≡ verdict_at old q
-stays_there key verdict old new becomes q other = becomes q ∙ by (is_at (slice_cmp nat_cmp key) q) refl
+stays_there : (key : List ℕ) (verdict : Verdict) (old new : Kept) → Becomes key verdict old new
+    → (q : List ℕ) → q ≢ key → verdict_at new q ≡ verdict_at old q
+stays_there key verdict old new becomes q other = becomes q
+    ∙ by (is_at (slice_cmp nat_cmp key) q) refl
   where
-    by : (b : Bool) → is_at (slice_cmp nat_cmp key) q ≡ b → cond b verdict (verdict_at old q) ≡ verdict_at old q
+    by : (b : Bool) → is_at (slice_cmp nat_cmp key) q ≡ b → cond b verdict (verdict_at old q)
+        ≡ verdict_at old q
     by true same = absurd (other (sym (exact_bytes key q (equal_from _ same))))
     by false apart = refl
 
-pub touched : (summed : ℕ → List ℕ → Col → ℕ → ℕ) (living : ℕ → List ℕ → ℕ → ℕ) (table : ℕ) (key : List ℕ) (now : ℕ) (old new : Watching) (verdict : Verdict)
-    → old.filter.table ≡ table → new.filter ≡ old.filter → IsVerdict summed living old.filter now key verdict → Becomes key verdict old.kept new.kept
+pub touched : (summed : ℕ → List ℕ → Col → ℕ → ℕ) (living : ℕ → List ℕ → ℕ → ℕ) (table : ℕ)
+    (key : List ℕ) (now : ℕ) (old new : Watching) (verdict : Verdict)
+    → old.filter.table ≡ table → new.filter ≡ old.filter
+    → IsVerdict summed living old.filter now key verdict → Becomes key verdict old.kept new.kept
     → IsTouched summed living table key now (shown old) (shown new)
 touched summed living table key now old new verdict of same judged becomes = record {
   filter = same;
-  judged = λ _. subst (λ v. IsVerdict summed living old.filter now key v) (sym (becomes_here key verdict old.kept new.kept becomes)) judged;
+  judged = λ _. subst (λ v. IsVerdict summed living old.filter now key v)
+      (sym (becomes_here key verdict old.kept new.kept becomes)) judged;
   others = stays_there key verdict old.kept new.kept becomes;
   elsewhere = λ apart. absurd (apart of);
 }
 
-pub untouched : (summed : ℕ → List ℕ → Col → ℕ → ℕ) (living : ℕ → List ℕ → ℕ → ℕ) (table : ℕ) (key : List ℕ) (now : ℕ) (w : Watching)
+pub untouched : (summed : ℕ → List ℕ → Col → ℕ → ℕ) (living : ℕ → List ℕ → ℕ → ℕ) (table : ℕ)
+    (key : List ℕ) (now : ℕ) (w : Watching)
     → w.filter.table ≢ table → IsTouched summed living table key now (shown w) (shown w)
 untouched summed living table key now w apart = record {
   filter = refl;
@@ -46,31 +58,53 @@ untouched summed living table key now w apart = record {
 }
 
 -- where the verdicts were made room for before
-pub becomes_after : (key : List ℕ) (verdict : Verdict) (old roomed new : Kept) → ((q : List ℕ) → verdict_at roomed q ≡ verdict_at old q) → Becomes key verdict roomed new → Becomes key verdict old new
-becomes_after key verdict old roomed new same becomes q = becomes q ∙ ap (λ v. cond (is_at (slice_cmp nat_cmp key) q) verdict v) (same q)
+pub becomes_after : (key : List ℕ) (verdict : Verdict) (old roomed new : Kept)
+    → ((q : List ℕ) → verdict_at roomed q ≡ verdict_at old q) → Becomes key verdict roomed new
+    → Becomes key verdict old new
+becomes_after key verdict old roomed new same becomes q = becomes q
+    ∙ ap (λ v. cond (is_at (slice_cmp nat_cmp key) q) verdict v) (same q)
 
-pub watch_forgotten : (key : List ℕ) (old new : Watching) → IsWatch old → new.filter ≡ old.filter → Becomes key out old.kept new.kept → IsUnplanned key (change_of (kept_at old.kept key)) None old.due new.due → IsWatch new
+pub watch_forgotten : (key : List ℕ) (old new : Watching) → IsWatch old → new.filter ≡ old.filter
+    → Becomes key out old.kept new.kept → IsUnplanned key (change_of (kept_at old.kept key)) None
+    old.due new.due → IsWatch new
 watch_forgotten key old new watch same becomes unplan = record {
   few = subst (λ f. length f.conds ≤ 4) (sym same) watch.few;
   planned = forgotten old.due new.due old.kept new.kept key watch.planned unplan becomes;
 }
 
-pub watch_committed : (key : List ℕ) (verdict : Verdict) (found : Option Verdict) (old prepared new : Watching) → IsWatch old → new.filter ≡ old.filter → found ≡ kept_at old.kept key
-    → IsPlanned key (change_of found) verdict.next old.due prepared.due → IsUnplanned key (change_of found) verdict.next prepared.due new.due → Becomes key verdict old.kept new.kept → IsWatch new
+pub watch_committed : (key : List ℕ) (verdict : Verdict) (found : Option Verdict)
+    (old prepared new : Watching) → IsWatch old → new.filter ≡ old.filter
+    → found ≡ kept_at old.kept key
+    → IsPlanned key (change_of found) verdict.next old.due prepared.due
+    → IsUnplanned key (change_of found) verdict.next prepared.due new.due
+    → Becomes key verdict old.kept new.kept → IsWatch new
 watch_committed key verdict found old prepared new watch same is plan unplan becomes = record {
   few = subst (λ f. length f.conds ≤ 4) (sym same) watch.few;
-  planned = committed old.due prepared.due new.due old.kept new.kept key verdict (change_of found) watch.planned (ap change_of is) plan unplan becomes;
+  planned = committed old.due prepared.due new.due old.kept new.kept key verdict (change_of found)
+      watch.planned (ap change_of is) plan unplan becomes;
 }
 
-pub kept_restored : (key : List ℕ) (found : Option Verdict) (old prepared new : Watching) → found ≡ kept_at old.kept key → prepared.kept ≡ with_room key old.kept → new.kept ≡ cond (is_some found) prepared.kept (without_key key prepared.kept) → new.kept ≡ old.kept
-kept_restored key found old prepared new is room back = back ∙ ap (λ kept. cond (is_some found) kept (without_key key kept)) room ∙ room_restored old.kept key found is
+pub kept_restored : (key : List ℕ) (found : Option Verdict) (old prepared new : Watching)
+    → found ≡ kept_at old.kept key → prepared.kept ≡ with_room key old.kept
+    → new.kept ≡ cond (is_some found) prepared.kept (without_key key prepared.kept)
+    → new.kept ≡ old.kept
+kept_restored key found old prepared new is room back = back
+    ∙ ap (λ kept. cond (is_some found) kept (without_key key kept)) room
+    ∙ room_restored old.kept key found is
 
-pub watch_backed_out : (key : List ℕ) (verdict : Verdict) (found : Option Verdict) (old prepared new : Watching) → IsWatch old → new.filter ≡ old.filter → new.kept ≡ old.kept → found ≡ kept_at old.kept key
-    → IsPlanned key (change_of found) verdict.next old.due prepared.due → IsUnplanned key verdict.next (change_of found) prepared.due new.due → IsWatch new
+pub watch_backed_out : (key : List ℕ) (verdict : Verdict) (found : Option Verdict)
+    (old prepared new : Watching) → IsWatch old → new.filter ≡ old.filter → new.kept ≡ old.kept
+    → found ≡ kept_at old.kept key
+    → IsPlanned key (change_of found) verdict.next old.due prepared.due
+    → IsUnplanned key verdict.next (change_of found) prepared.due new.due → IsWatch new
 watch_backed_out key verdict found old prepared new watch same kept is plan unplan = record {
   few = subst (λ f. length f.conds ≤ 4) (sym same) watch.few;
-  planned = λ e. backed_out old.due prepared.due new.due old.kept key verdict (change_of found) watch.planned (ap change_of is) plan unplan e ∙ ap (λ k. Rattle.standing_filters.specs.Plans.is_moment (verdict_at k e.1).next e.0) (sym kept);
+  planned = λ e. backed_out old.due prepared.due new.due old.kept key verdict (change_of found)
+      watch.planned (ap change_of is) plan unplan e
+      ∙ ap (λ k. Rattle.standing_filters.specs.Plans.is_moment (verdict_at k e.1).next e.0)
+      (sym kept);
 }
 
-pub shown_again : (old new : Watching) → new.filter ≡ old.filter → new.kept ≡ old.kept → shown new ≡ shown old
+pub shown_again : (old new : Watching) → new.filter ≡ old.filter → new.kept ≡ old.kept
+    → shown new ≡ shown old
 shown_again old new same kept = λ i. record { filter = same i; kept = kept i }

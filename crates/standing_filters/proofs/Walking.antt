@@ -1,7 +1,10 @@
 -- The planned changes up to a moment, and the keys that were judged as they came.
-use Rattle.std.proofs.Common.{◌≡◌, ℕ, ◌+◌, ◌<◌, ◌≤◌, Bool, true, false, cond, ltb, List, [], ◌∷◌, ◌++◌, Option, None, Some, length, refl, sym, ap, ◌∙◌, subst, arith, ⊎_elim}
+use Rattle.std.proofs.Common.{◌≡◌, ℕ, ◌+◌, ◌<◌, ◌≤◌, Bool, true, false, cond, ltb, List, [], ◌∷◌}
+use Rattle.std.proofs.Common.{◌++◌, Option, None, Some, length, refl, sym, ap, ◌∙◌, subst, arith}
+use Rattle.std.proofs.Common.{⊎_elim}
 use Rattle.std.specs.Prelude.{filter, map, unwrap_or}
-use Rattle.std.proofs.lemmas.Bool.{cases_lt, false≢true, false_from_ne_true, le-leb, le-ltb, leb-false, leb-true, lt-ltb, or_cases, or_left, or_right}
+use Rattle.std.proofs.lemmas.Bool.{cases_lt, false≢true, false_from_ne_true, le-leb, le-ltb}
+use Rattle.std.proofs.lemmas.Bool.{leb-false, leb-true, lt-ltb, or_cases, or_left, or_right}
 use Rattle.std.proofs.lemmas.Cmp.{eq_by_cmp_equiv, nat_list_cmp_total, tied_itself}
 use Rattle.std.proofs.lemmas.List.{length-map}
 use Rattle.std.proofs.lemmas.List.Sums.{length-filter}
@@ -21,7 +24,8 @@ use Rattle.expiry_wheel.proofs.Lists.{all-imply, all-right}
 use Rattle.expiry_wheel.specs.Entries.{IsInOrder, entry_cmp}
 use Rattle.expiry_wheel.specs.Merge.{entries_until}
 use Rattle.standing_filters.specs.Plans.{IsPlanOf, has_plan, kept_at}
-use Rattle.standing_filters.specs.Turns.{AreJudged, ArePlans, IsQuiet, count_due, has_come, is_due, keys_judged, planned_at, same_key}
+use Rattle.standing_filters.specs.Turns.{AreJudged, ArePlans, IsQuiet, count_due, has_come, is_due}
+use Rattle.standing_filters.specs.Turns.{keys_judged, planned_at, same_key}
 use Rattle.standing_filters.specs.Verdicts.{IsVerdict, out}
 use Rattle.standing_filters.specs.Watched.{Watched, verdict_at}
 use Rattle.standing_filters.specs.declared.coming.Judged.{Judged}
@@ -41,16 +45,19 @@ order = entry_cmp (slice_cmp nat_cmp)
 
 -- ---- entries up to a moment
 
-pub front_step : (until : ℕ) (e : ℕ × List ℕ) (rest : Index) → e.0 ≤ until → entries_until (until + 1) (e ∷ rest) ≡ e ∷ entries_until (until + 1) rest
+pub front_step : (until : ℕ) (e : ℕ × List ℕ) (rest : Index) → e.0 ≤ until
+    → entries_until (until + 1) (e ∷ rest) ≡ e ∷ entries_until (until + 1) rest
 front_step until e rest come =
     let below : e.0 < until + 1 = omega arith in
     ap (λ b. cond b (e ∷ entries_until (until + 1) rest) []) (lt-ltb e.0 (until + 1) below)
 
-all_until : (P : ℕ × List ℕ → Type 0) (t : ℕ) (due : Index) → AllByRecursion P due → AllByRecursion P (entries_until t due)
+all_until : (P : ℕ × List ℕ → Type 0) (t : ℕ) (due : Index) → AllByRecursion P due
+    → AllByRecursion P (entries_until t due)
 all_until P t [] h = tt
 all_until P t (e ∷ due) h = by (ltb e.0 t) (all_until P t due h.1)
   where
-    by : (b : Bool) → AllByRecursion P (entries_until t due) → AllByRecursion P (cond b (e ∷ entries_until t due) [])
+    by : (b : Bool) → AllByRecursion P (entries_until t due)
+        → AllByRecursion P (cond b (e ∷ entries_until t due) [])
     by true rest = (h.0, rest)
     by false rest = tt
 
@@ -58,18 +65,23 @@ before_until : (t : ℕ) (due : Index) → AllByRecursion (λ e. e.0 < t) (entri
 before_until t [] = tt
 before_until t (e ∷ due) = ⊎_elim (here (before_until t due)) there (cases_lt e.0 t)
   where
-    here : AllByRecursion (λ e. e.0 < t) (entries_until t due) → e.0 < t → AllByRecursion (λ e. e.0 < t) (cond (ltb e.0 t) (e ∷ entries_until t due) [])
-    here rest below = subst (λ b. AllByRecursion (λ e. e.0 < t) (cond b (e ∷ entries_until t due) [])) (sym (lt-ltb e.0 t below)) (below, rest)
+    here : AllByRecursion (λ e. e.0 < t) (entries_until t due) → e.0 < t
+        → AllByRecursion (λ e. e.0 < t) (cond (ltb e.0 t) (e ∷ entries_until t due) [])
+    here rest below = subst (λ b. AllByRecursion (λ e. e.0 < t)
+        (cond b (e ∷ entries_until t due) [])) (sym (lt-ltb e.0 t below)) (below, rest)
 
     there : t ≤ e.0 → AllByRecursion (λ e. e.0 < t) (cond (ltb e.0 t) (e ∷ entries_until t due) [])
-    there above = subst (λ b. AllByRecursion (λ e. e.0 < t) (cond b (e ∷ entries_until t due) [])) (sym (le-ltb e.0 t above)) tt
+    there above = subst (λ b. AllByRecursion (λ e. e.0 < t) (cond b (e ∷ entries_until t due) []))
+        (sym (le-ltb e.0 t above)) tt
 
-sorted_until : (t : ℕ) (due : Index) → IsInOrder (slice_cmp nat_cmp) due → IsInOrder (slice_cmp nat_cmp) (entries_until t due)
+sorted_until : (t : ℕ) (due : Index) → IsInOrder (slice_cmp nat_cmp) due
+    → IsInOrder (slice_cmp nat_cmp) (entries_until t due)
 unfolding IsStrictlySortedBy
 sorted_until t [] h = tt
 sorted_until t (e ∷ due) h = by (ltb e.0 t) (sorted_until t due h.1)
   where
-    by : (b : Bool) → IsStrictlySortedBy order (entries_until t due) → IsStrictlySortedBy order (cond b (e ∷ entries_until t due) [])
+    by : (b : Bool) → IsStrictlySortedBy order (entries_until t due)
+        → IsStrictlySortedBy order (cond b (e ∷ entries_until t due) [])
     by true rest = (all_until (λ y. order e y ≡ Less) t due h.0, rest)
     by false rest = tt
 
@@ -80,15 +92,21 @@ all_there : (due : Index) → AllByRecursion (λ e. has_plan due e ≡ true) due
 all_there [] = tt
 all_there (e ∷ due) = (
   or_left (is_eq (order e e)) (has_plan due e) (itself e),
-  all-imply (λ f. has_plan due f ≡ true) (λ f. has_plan (e ∷ due) f ≡ true) (λ f there. or_right (is_eq (order f e)) (has_plan due f) there) due (all_there due),
+  all-imply (λ f. has_plan due f ≡ true) (λ f. has_plan (e ∷ due) f ≡ true)
+      (λ f there. or_right (is_eq (order f e)) (has_plan due f) there) due (all_there due),
 )
 
-kept_until : (t : ℕ) (due : Index) (f : ℕ × List ℕ) → IsInOrder (slice_cmp nat_cmp) due → f.0 < t → has_plan due f ≡ true → has_plan (entries_until t due) f ≡ true
+kept_until : (t : ℕ) (due : Index) (f : ℕ × List ℕ) → IsInOrder (slice_cmp nat_cmp) due → f.0 < t
+    → has_plan due f ≡ true → has_plan (entries_until t due) f ≡ true
 kept_until t [] f ordered below there = there
-kept_until t (e ∷ due) f ordered below there = ⊎_elim (here (λ later. kept_until t due f (sorted_tail order e due ordered) below later)) past (cases_lt e.0 t)
+kept_until t (e ∷ due) f ordered below there =
+    ⊎_elim (here (λ later. kept_until t due f (sorted_tail order e due ordered) below later)) past
+    (cases_lt e.0 t)
   where
-    here : (has_plan due f ≡ true → has_plan (entries_until t due) f ≡ true) → e.0 < t → has_plan (cond (ltb e.0 t) (e ∷ entries_until t due) []) f ≡ true
-    here rest first = subst (λ b. has_plan (cond b (e ∷ entries_until t due) []) f ≡ true) (sym (lt-ltb e.0 t first))
+    here : (has_plan due f ≡ true → has_plan (entries_until t due) f ≡ true) → e.0 < t
+        → has_plan (cond (ltb e.0 t) (e ∷ entries_until t due) []) f ≡ true
+    here rest first = subst (λ b. has_plan (cond b (e ∷ entries_until t due) []) f ≡ true)
+        (sym (lt-ltb e.0 t first))
         (⊎_elim (λ same. or_left (is_eq (order f e)) (has_plan (entries_until t due) f) same)
         (λ later. or_right (is_eq (order f e)) (has_plan (entries_until t due) f) (rest later))
         (or_cases (is_eq (order f e)) (has_plan due f) there))
@@ -113,39 +131,58 @@ some_inj : (a b : ℕ) → Some a ≡ Some b → a ≡ b
 some_inj a b same = ap (λ o. unwrap_or o 0) same
 
 -- another judged key of the same bytes would stand at the same moment
-apart_entries : (kept : Kept) (a b : Judged) → (verdict_at kept a.key).next ≡ Some a.at → (verdict_at kept b.key).next ≡ Some b.at → order (planned_at a) (planned_at b) ≡ Less → same_key a.key b.key ≡ false
+apart_entries : (kept : Kept) (a b : Judged) → (verdict_at kept a.key).next ≡ Some a.at
+    → (verdict_at kept b.key).next ≡ Some b.at → order (planned_at a) (planned_at b) ≡ Less
+    → same_key a.key b.key ≡ false
 apart_entries kept a b here there less = false_from_ne_true _ (λ same.
     let key = one_key a.key b.key same in
-    let moment : a.at ≡ b.at = some_inj a.at b.at (sym here ∙ ap (λ k. (verdict_at kept k).next) key ∙ there) in
+    let moment : a.at ≡ b.at = some_inj a.at b.at (sym here ∙ ap (λ k. (verdict_at kept k).next) key
+    ∙ there) in
     let entry : planned_at a ≡ planned_at b = λ i. (moment i, key i) in
-    false≢true (sym (ap is_eq less) ∙ ap (λ e. is_eq (order (planned_at a) e)) (sym entry) ∙ itself (planned_at a)))
+    false≢true (sym (ap is_eq less) ∙ ap (λ e. is_eq (order (planned_at a) e)) (sym entry)
+    ∙ itself (planned_at a)))
 
-apart_from : (kept : Kept) (a : Judged) (judged : List Judged) → (verdict_at kept a.key).next ≡ Some a.at → AllByRecursion (λ e. order (planned_at a) e ≡ Less) (map planned_at judged) → ArePlans kept judged → AllByRecursion (λ key. same_key a.key key ≡ false) (keys_judged judged)
+apart_from : (kept : Kept) (a : Judged) (judged : List Judged) → (verdict_at kept a.key).next
+    ≡ Some a.at → AllByRecursion (λ e. order (planned_at a) e ≡ Less) (map planned_at judged)
+    → ArePlans kept judged → AllByRecursion (λ key. same_key a.key key ≡ false) (keys_judged judged)
 apart_from kept a [] here above plans = tt
-apart_from kept a (b ∷ judged) here above plans = (apart_entries kept a b here plans.0 above.0, apart_from kept a judged here above.1 plans.1)
+apart_from kept a (b ∷ judged) here above plans = (
+  apart_entries kept a b here plans.0 above.0,
+  apart_from kept a judged here above.1 plans.1,
+)
 
-all_apart : (kept : Kept) (judged : List Judged) → ArePlans kept judged → IsInOrder (slice_cmp nat_cmp) (map planned_at judged) → IsDistinct same_key (keys_judged judged)
+all_apart : (kept : Kept) (judged : List Judged) → ArePlans kept judged
+    → IsInOrder (slice_cmp nat_cmp) (map planned_at judged)
+    → IsDistinct same_key (keys_judged judged)
 unfolding IsDistinct
 all_apart kept [] plans ordered = tt
 all_apart kept (a ∷ judged) plans ordered = (
-  apart_from kept a judged plans.0 (sorted_head order (planned_at a) (map planned_at judged) ordered) plans.1,
+  apart_from kept a judged plans.0 (sorted_head order (planned_at a) (map planned_at judged)
+      ordered) plans.1,
   all_apart kept judged plans.1 (sorted_tail order (planned_at a) (map planned_at judged) ordered),
 )
 
-entry_key : (judged : List Judged) (e : ℕ × List ℕ) → has_plan (map planned_at judged) e ≡ true → list_any (same_key e.1) (keys_judged judged) ≡ true
+entry_key : (judged : List Judged) (e : ℕ × List ℕ) → has_plan (map planned_at judged) e ≡ true
+    → list_any (same_key e.1) (keys_judged judged) ≡ true
 entry_key [] e there = there
 entry_key (j ∷ judged) e there = ⊎_elim
-    (λ same. or_left (same_key e.1 j.key) (list_any (same_key e.1) (keys_judged judged)) (ap (λ f. same_key e.1 f.1) (sym (same_entry e (planned_at j) same)) ∙ key_itself e.1))
-    (λ later. or_right (same_key e.1 j.key) (list_any (same_key e.1) (keys_judged judged)) (entry_key judged e later))
+    (λ same. or_left (same_key e.1 j.key) (list_any (same_key e.1) (keys_judged judged))
+    (ap (λ f. same_key e.1 f.1) (sym (same_entry e (planned_at j) same)) ∙ key_itself e.1))
+    (λ later. or_right (same_key e.1 j.key) (list_any (same_key e.1) (keys_judged judged))
+    (entry_key judged e later))
     (or_cases (is_eq (order e (planned_at j))) (has_plan (map planned_at judged) e) there)
 
-plans_of : (kept : Kept) (judged : List Judged) → AllByRecursion (λ e. (verdict_at kept e.1).next ≡ Some e.0) (map planned_at judged) → ArePlans kept judged
+plans_of : (kept : Kept) (judged : List Judged)
+    → AllByRecursion (λ e. (verdict_at kept e.1).next ≡ Some e.0) (map planned_at judged)
+    → ArePlans kept judged
 plans_of kept [] h = tt
 plans_of kept (j ∷ judged) h = (h.0, plans_of kept judged h.1)
 
-come_of : (t : ℕ) (judged : List Judged) → AllByRecursion (λ e. e.0 < t + 1) (map planned_at judged) → AllByRecursion (λ j. j.at ≤ t) judged
+come_of : (t : ℕ) (judged : List Judged) → AllByRecursion (λ e. e.0 < t + 1) (map planned_at judged)
+    → AllByRecursion (λ j. j.at ≤ t) judged
 come_of t [] h = tt
-come_of t (j ∷ judged) h = let below : j.at < t + 1 = h.0 in let come : j.at ≤ t = omega arith in (come, come_of t judged h.1)
+come_of t (j ∷ judged) h = let below : j.at < t + 1 = h.0 in let come : j.at ≤ t = omega arith in
+    (come, come_of t judged h.1)
 
 pub due_moment : (t : ℕ) (o : Option ℕ) → has_come t o ≡ true → (u : ℕ) × (o ≡ Some u) × (u ≤ t)
 due_moment t None come = absurd (false≢true come)
@@ -160,55 +197,86 @@ moment_come t o u is come = leb-true u t (ap (has_come t) (sym is) ∙ come)
 pub not_come : (t u : ℕ) → has_come t (Some u) ≡ false → t < u
 not_come t u stays = leb-false u t stays
 
-pub all_judged : (summed : ℕ → List ℕ → Col → ℕ → ℕ) (living : ℕ → List ℕ → ℕ → ℕ) (t : ℕ) (w : Watched) (due : Index) (judged : List Judged)
-    → IsPlanOf w.kept due → IsInOrder (slice_cmp nat_cmp) due → map planned_at judged ≡ entries_until (t + 1) due
-    → AllByRecursion (λ j. IsVerdict summed living w.filter t j.key j.verdict) judged → AreJudged summed living t w judged
+pub all_judged : (summed : ℕ → List ℕ → Col → ℕ → ℕ) (living : ℕ → List ℕ → ℕ → ℕ) (t : ℕ)
+    (w : Watched) (due : Index) (judged : List Judged)
+    → IsPlanOf w.kept due → IsInOrder (slice_cmp nat_cmp) due
+    → map planned_at judged ≡ entries_until (t + 1) due
+    → AllByRecursion (λ j. IsVerdict summed living w.filter t j.key j.verdict) judged
+    → AreJudged summed living t w judged
 all_judged summed living t w due judged exact ordered are verdicts =
-    let until : AllByRecursion (λ e. (verdict_at w.kept e.1).next ≡ Some e.0) (entries_until (t + 1) due) =
+    let until : AllByRecursion (λ e. (verdict_at w.kept e.1).next ≡ Some e.0)
+    (entries_until (t + 1) due) =
     all_until (λ e. (verdict_at w.kept e.1).next ≡ Some e.0) (t + 1) due
-    (all-imply (λ e. has_plan due e ≡ true) (λ e. (verdict_at w.kept e.1).next ≡ Some e.0) (λ e there. is_that (verdict_at w.kept e.1).next e.0 (sym (exact e) ∙ there)) due (all_there due)) in
-    let plans = plans_of w.kept judged (subst (λ l. AllByRecursion (λ e. (verdict_at w.kept e.1).next ≡ Some e.0) l) (sym are) until) in
+    (all-imply (λ e. has_plan due e ≡ true) (λ e. (verdict_at w.kept e.1).next ≡ Some e.0)
+    (λ e there. is_that (verdict_at w.kept e.1).next e.0 (sym (exact e) ∙ there)) due
+    (all_there due)) in
+    let plans = plans_of w.kept judged
+    (subst (λ l. AllByRecursion (λ e. (verdict_at w.kept e.1).next ≡ Some e.0) l)
+    (sym are) until) in
     record {
       verdicts = verdicts;
-      come = come_of t judged (subst (λ l. AllByRecursion (λ e. e.0 < t + 1) l) (sym are) (before_until (t + 1) due));
+      come = come_of t judged (subst (λ l. AllByRecursion (λ e. e.0 < t + 1) l) (sym are)
+          (before_until (t + 1) due));
       plans = plans;
-      apart = all_apart w.kept judged plans (subst (λ l. IsInOrder (slice_cmp nat_cmp) l) (sym are) (sorted_until (t + 1) due ordered));
+      apart = all_apart w.kept judged plans (subst (λ l. IsInOrder (slice_cmp nat_cmp) l) (sym are)
+          (sorted_until (t + 1) due ordered));
       complete = λ key comes.
           let moment = due_moment t (verdict_at w.kept key).next comes in
           let upto : moment.0 ≤ t = moment.2 in
           let below : moment.0 < t + 1 = omega arith in
-          entry_key judged (moment.0, key) (subst (λ l. has_plan l (moment.0, key) ≡ true) (sym are) (kept_until (t + 1) due (moment.0, key) ordered below (stands w.kept due exact key moment.0 moment.1)));
+          entry_key judged (moment.0, key) (subst (λ l. has_plan l (moment.0, key) ≡ true) (sym are)
+          (kept_until (t + 1) due (moment.0, key) ordered below
+          (stands w.kept due exact key moment.0 moment.1)));
     }
 
 -- ---- how many there are
 
-some_due : (t : ℕ) (found : Option Verdict) → is_due t (unwrap_or found out) ≡ true → (v : Verdict) × (found ≡ Some v) × (is_due t v ≡ true)
+some_due : (t : ℕ) (found : Option Verdict) → is_due t (unwrap_or found out) ≡ true → (v : Verdict)
+    × (found ≡ Some v) × (is_due t v ≡ true)
 some_due t None come = absurd (false≢true come)
 some_due t (Some v) come = (v, refl, come)
 
-due_member : (t : ℕ) (key : List ℕ) (v : Verdict) (kept : Kept) → kept_at kept key ≡ Some v → is_due t v ≡ true → list_any (same_key key) (keys_of (filter (λ e. is_due t e.1) kept)) ≡ true
+due_member : (t : ℕ) (key : List ℕ) (v : Verdict) (kept : Kept) → kept_at kept key ≡ Some v
+    → is_due t v ≡ true → list_any (same_key key) (keys_of (filter (λ e. is_due t e.1) kept)) ≡ true
 due_member t key v [] found come = cc
-due_member t key v (e ∷ kept) found come = by (same_key key e.0) refl (is_due t e.1) refl found (λ rest. due_member t key v kept rest come)
+due_member t key v (e ∷ kept) found come = by (same_key key e.0) refl (is_due t e.1) refl found
+    (λ rest. due_member t key v kept rest come)
   where
-    by : (s : Bool) → same_key key e.0 ≡ s → (d : Bool) → is_due t e.1 ≡ d → cond s (Some e.1) (kept_at kept key) ≡ Some v → (kept_at kept key ≡ Some v → list_any (same_key key) (keys_of (filter (λ e. is_due t e.1) kept)) ≡ true)
-        → list_any (same_key key) (keys_of (cond d (e ∷ filter (λ e. is_due t e.1) kept) (filter (λ e. is_due t e.1) kept))) ≡ true
-    by true same true due found rest = or_left (same_key key e.0) (list_any (same_key key) (keys_of (filter (λ e. is_due t e.1) kept))) same
-    by true same false due found rest = let is : e.1 ≡ v = cc in absurd (false≢true (sym due ∙ ap (is_due t) is ∙ come))
-    by false same true due found rest = or_right (same_key key e.0) (list_any (same_key key) (keys_of (filter (λ e. is_due t e.1) kept))) (rest found)
+    by : (s : Bool) → same_key key e.0 ≡ s → (d : Bool) → is_due t e.1 ≡ d
+        → cond s (Some e.1) (kept_at kept key) ≡ Some v
+        → (kept_at kept key ≡ Some v → list_any (same_key key)
+        (keys_of (filter (λ e. is_due t e.1) kept)) ≡ true)
+        → list_any (same_key key) (keys_of (cond d (e ∷ filter (λ e. is_due t e.1) kept)
+        (filter (λ e. is_due t e.1) kept))) ≡ true
+    by true same true due found rest =
+        or_left (same_key key e.0) (list_any (same_key key)
+        (keys_of (filter (λ e. is_due t e.1) kept))) same
+    by true same false due found rest = let is : e.1 ≡ v = cc in
+        absurd (false≢true (sym due ∙ ap (is_due t) is ∙ come))
+    by false same true due found rest =
+        or_right (same_key key e.0) (list_any (same_key key)
+        (keys_of (filter (λ e. is_due t e.1) kept))) (rest found)
     by false same false due found rest = rest found
 
-pub member_due : (t : ℕ) (kept : Kept) (judged : List Judged) → ArePlans kept judged → AllByRecursion (λ j. j.at ≤ t) judged → (key : List ℕ) → list_any (same_key key) (keys_judged judged) ≡ true → is_due t (verdict_at kept key) ≡ true
+pub member_due : (t : ℕ) (kept : Kept) (judged : List Judged) → ArePlans kept judged
+    → AllByRecursion (λ j. j.at ≤ t) judged → (key : List ℕ)
+    → list_any (same_key key) (keys_judged judged) ≡ true → is_due t (verdict_at kept key) ≡ true
 member_due t kept [] plans come key there = absurd (false≢true there)
 member_due t kept (j ∷ judged) plans come key there = ⊎_elim
-    (λ same. come_since t j.at (verdict_at kept key).next (ap (λ k. (verdict_at kept k).next) (one_key key j.key same) ∙ plans.0) come.0)
+    (λ same. come_since t j.at (verdict_at kept key).next
+    (ap (λ k. (verdict_at kept k).next) (one_key key j.key same) ∙ plans.0) come.0)
     (λ later. member_due t kept judged plans.1 come.1 key later)
     (or_cases (same_key key j.key) (list_any (same_key key) (keys_judged judged)) there)
 
-pub no_more_than_due : (summed : ℕ → List ℕ → Col → ℕ → ℕ) (living : ℕ → List ℕ → ℕ → ℕ) (t : ℕ) (w : Watched) (judged : List Judged) → AreJudged summed living t w judged → length judged ≤ count_due t w.kept
+pub no_more_than_due : (summed : ℕ → List ℕ → Col → ℕ → ℕ) (living : ℕ → List ℕ → ℕ → ℕ) (t : ℕ)
+    (w : Watched) (judged : List Judged) → AreJudged summed living t w judged
+    → length judged ≤ count_due t w.kept
 no_more_than_due summed living t w judged are =
-    let few = length-le_from_is_member (eq_by_cmp_equiv nat_list_cmp_total) (keys_judged judged) (keys_of (filter (λ e. is_due t e.1) w.kept)) are.apart
+    let few = length-le_from_is_member (eq_by_cmp_equiv nat_list_cmp_total) (keys_judged judged)
+    (keys_of (filter (λ e. is_due t e.1) w.kept)) are.apart
     (λ key there.
-    let found = some_due t (kept_at w.kept key) (member_due t w.kept judged are.plans are.come key there) in
+    let found = some_due t (kept_at w.kept key)
+    (member_due t w.kept judged are.plans are.come key there) in
     due_member t key found.0 w.kept found.1 found.2) in
     let one = length-map judged (λ j. j.key) in
     let other = length-map (filter (λ e. is_due t e.1) w.kept) (λ e. e.0) in
@@ -217,15 +285,22 @@ no_more_than_due summed living t w judged are =
 
 -- ---- on the way
 
-pub nothing_comes : (t : ℕ) (w : Watched) (due : Index) (judged : List Judged) (e : ℕ × List ℕ) (rest : Index) → IsPlanOf w.kept due → IsQuiet t w → map planned_at judged ++ (e ∷ rest) ≡ entries_until (t + 1) due → ⊥
+pub nothing_comes : (t : ℕ) (w : Watched) (due : Index) (judged : List Judged) (e : ℕ × List ℕ)
+    (rest : Index) → IsPlanOf w.kept due → IsQuiet t w → map planned_at judged ++ (e ∷ rest)
+    ≡ entries_until (t + 1) due → ⊥
 nothing_comes t w due judged e rest exact quiet is =
-    let there = all-right (λ e. has_plan due e ≡ true) (map planned_at judged) (e ∷ rest) (subst (λ l. AllByRecursion (λ e. has_plan due e ≡ true) l) (sym is) (all_until (λ e. has_plan due e ≡ true) (t + 1) due (all_there due))) in
-    let before = all-right (λ e. e.0 < t + 1) (map planned_at judged) (e ∷ rest) (subst (λ l. AllByRecursion (λ e. e.0 < t + 1) l) (sym is) (before_until (t + 1) due)) in
+    let there = all-right (λ e. has_plan due e ≡ true) (map planned_at judged) (e ∷ rest)
+    (subst (λ l. AllByRecursion (λ e. has_plan due e ≡ true) l) (sym is)
+    (all_until (λ e. has_plan due e ≡ true) (t + 1) due (all_there due))) in
+    let before = all-right (λ e. e.0 < t + 1) (map planned_at judged) (e ∷ rest)
+    (subst (λ l. AllByRecursion (λ e. e.0 < t + 1) l) (sym is) (before_until (t + 1) due)) in
     let below : e.0 < t + 1 = before.0 in
     let come : e.0 ≤ t = omega arith in
-    false≢true (sym (quiet e.1) ∙ come_since t e.0 (verdict_at w.kept e.1).next (is_that (verdict_at w.kept e.1).next e.0 (sym (exact e) ∙ there.0)) come)
+    false≢true (sym (quiet e.1) ∙ come_since t e.0 (verdict_at w.kept e.1).next
+    (is_that (verdict_at w.kept e.1).next e.0 (sym (exact e) ∙ there.0)) come)
 
-pub moved : (judged : List Judged) (j : Judged) (rest : Index) → map planned_at (judged ++ j ∷ []) ++ rest ≡ map planned_at judged ++ (planned_at j ∷ rest)
+pub moved : (judged : List Judged) (j : Judged) (rest : Index) → map planned_at (judged ++ j ∷ [])
+    ++ rest ≡ map planned_at judged ++ (planned_at j ∷ rest)
 moved [] j rest = refl
 moved (k ∷ judged) j rest = ap (λ l. planned_at k ∷ l) (moved judged j rest)
 

@@ -6,7 +6,8 @@ use Rattle.agg_types.specs.declared.config.Filter.{Filter}
 use Rattle.crossing.specs.First.{IsFirstFrom}
 use Rattle.standing_filters.specs.Turns.{IsTurned}
 use Rattle.standing_filters.specs.Verdicts.{IsVerdict, holds_at}
-use Rattle.standing_filters.specs.Watched.{IsAdded, IsFirstChange, IsTouched, Watched, is_among, verdict_at}
+use Rattle.standing_filters.specs.Watched.{IsAdded, IsFirstChange, IsTouched, Watched, is_among}
+use Rattle.standing_filters.specs.Watched.{verdict_at}
 
 -- every key has its verdict of a moment
 abbrev pub AreVerdicts : (ℕ → List ℕ → Col → ℕ → ℕ) → (ℕ → List ℕ → ℕ → ℕ) → ℕ → Watched → Type 0

@@ -1,6 +1,7 @@
 //! One filter and one key.
 
-ghost use Rattle.std.specs.Prelude.{◌≡◌, ◌↔◌, ℕ, ◌+◌, ◌≤◌, IsTrue, false, length, nat_lt, MatchOption};
+ghost use Rattle.std.specs.Prelude.{◌≡◌, ◌↔◌, ℕ, ◌+◌, ◌≤◌, IsTrue, false, length, nat_lt};
+ghost use Rattle.std.specs.Prelude.{MatchOption};
 ghost use Rattle.crossing.specs.First.{IsFlatSoon};
 ghost use Rattle.crossing.specs.Parts.{AreFlatSoon, all_hold};
 ghost use Rattle.crossing.specs.Shown.{measured};

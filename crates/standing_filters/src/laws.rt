@@ -1,6 +1,7 @@
 //! What kept verdicts say of a filter's set.
 
-ghost use Rattle.standing_filters.specs.Laws.{AddGivesVerdicts, FirstChangeIsTheSets, MomentKeepsVerdicts, TouchKeepsVerdicts};
+ghost use Rattle.standing_filters.specs.Laws.{AddGivesVerdicts, FirstChangeIsTheSets};
+ghost use Rattle.standing_filters.specs.Laws.{MomentKeepsVerdicts, TouchKeepsVerdicts};
 
 /// Where every key has its verdict of now, the first change of a verdict is the first moment at
 /// which the filter holds a key that it doesn't now, or the other way round.

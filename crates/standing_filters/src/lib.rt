@@ -9,13 +9,13 @@
 //! goes on, only keys whose change has come are judged.
 //!
 //! Promised: a verdict is exact; none is named as its change exactly where it never changes; at
-//! most 505 values are read for it where they stay from 2^33 ms on. A touch gives the key's verdicts
-//! at its moment and leaves all others, `moment` gives each key whose change has come its verdict
-//! then, however many changes were passed, and `add` and `drop_last` add and take away the last
-//! filter; each changes nothing where memory was refused. `keys` lends the keys whose verdict is
-//! that they are held, and `next_change` is the least moment at which a verdict changes. That a key
-//! which can't come into a set again is told by one value of each condition is meant for speed, and
-//! no clause says so.
+//! most 505 values are read for it where they stay from 2^33 ms on. A touch gives the key's
+//! verdicts at its moment and leaves all others, `moment` gives each key whose change has come its
+//! verdict then, however many changes were passed, and `add` and `drop_last` add and take away the
+//! last filter; each changes nothing where memory was refused. `keys` lends the keys whose verdict
+//! is that they are held, and `next_change` is the least moment at which a verdict changes. That a
+//! key which can't come into a set again is told by one value of each condition is meant for speed,
+//! and no clause says so.
 #![tactic(auto)]
 
 mod adding;

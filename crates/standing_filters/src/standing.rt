@@ -1,6 +1,7 @@
 //! The standing filters of a collector.
 
-ghost use Rattle.std.specs.Prelude.{◌≡◌, ◌≤◌, ◌<◌, ◌+◌, ◌-◌, ◌*◌, ◌==◌, ◌++◌, ◌∷◌, [], ℕ, List, length, map, take, IfOk, IsOk, OnOk, OnErr};
+ghost use Rattle.std.specs.Prelude.{◌≡◌, ◌≤◌, ◌<◌, ◌+◌, ◌-◌, ◌*◌, ◌==◌, ◌++◌, ◌∷◌, [], ℕ, List};
+ghost use Rattle.std.specs.Prelude.{length, map, take, IfOk, IsOk, OnOk, OnErr};
 ghost use Rattle.std.specs.List.{All, AllByRecursion, list_any};
 ghost use Rattle.std.specs.List.Sorted.{IsStrictlySortedBy};
 ghost use Rattle.std.specs.BTreeMap.{is_at};
@@ -8,7 +9,8 @@ ghost use Rattle.std.specs.Cmp.Lexicographic.{slice_cmp};
 ghost use Rattle.std.specs.Ordering.{nat_cmp};
 ghost use Rattle.crossing.specs.First.{IsFlatSoon};
 ghost use Rattle.standing_filters.specs.Turns.{AreTurned, IsQuiet, pairs_due};
-ghost use Rattle.standing_filters.specs.Watched.{AreTouched, IsAdded, IsFirstChange, Watched, kept_of, keys_held, unheld, verdict_at};
+ghost use Rattle.standing_filters.specs.Watched.{AreTouched, IsAdded, IsFirstChange, Watched};
+ghost use Rattle.standing_filters.specs.Watched.{kept_of, keys_held, unheld, verdict_at};
 
 use crate::adding::watch_keys;
 use crate::keys::Keys;
@@ -63,8 +65,8 @@ impl Standing {
     }
 
     /// Judges a key by each filter of its table, by its values at a moment, in ms. After `NoMemory`
-    /// nothing has changed. A key that has no live row takes no memory. Reads at most 505 values for
-    /// each filter where they stay from 2^33 ms on.
+    /// nothing has changed. A key that has no live row takes no memory. Reads at most 505 values
+    /// for each filter where they stay from 2^33 ms on.
     pub fn touch<V: Values>(
         &mut self,
         table: usize,

@@ -1,6 +1,8 @@
 //! One standing filter: the verdicts on its keys, and an index of when they change.
 
-ghost use Rattle.std.specs.Prelude.{ℕ, List, ◌≡◌, ◌≤◌, ◌+◌, ◌*◌, ◌==◌, ◌&&◌, nat_lt, [], length, is_some, if◌then◌else◌, IsSome, IsOk, IsOkAnd, IfOk, OnOk, OnErr};
+ghost use Rattle.std.specs.Prelude.{ℕ, List, ◌≡◌, ◌≤◌, ◌+◌, ◌*◌, ◌==◌, ◌&&◌, nat_lt, [], length};
+ghost use Rattle.std.specs.Prelude.{is_some, if◌then◌else◌, IsSome, IsOk, IsOkAnd, IfOk, OnOk};
+ghost use Rattle.std.specs.Prelude.{OnErr};
 ghost use Rattle.std.specs.List.{IsDistinct, list_any};
 ghost use Rattle.std.specs.List.Sorted.{IsStrictlySortedBy};
 ghost use Rattle.std.specs.BTreeMap.{is_at};
@@ -9,8 +11,11 @@ ghost use Rattle.std.specs.Ordering.{nat_cmp};
 ghost use Rattle.crossing.specs.First.{IsFlatSoon};
 ghost use Rattle.standing_filters.specs.Verdicts.{IsVerdict, out};
 ghost use Rattle.standing_filters.specs.Watched.{IsFirstChange, keys_held, verdict_at};
-ghost use Rattle.standing_filters.specs.Plans.{Becomes, IsPlanOf, IsPlanned, IsUnplanned, Watching, change_of, has_plan, kept_at, shown, with_room, without_key};
-ghost use Rattle.standing_filters.specs.Turns.{AreJudged, ArePlans, IsAhead, IsQuiet, count_due, keys_judged, same_key, verdict_after};
+ghost use Rattle.standing_filters.specs.Plans.{Becomes, IsPlanOf, IsPlanned, IsUnplanned, Watching};
+ghost use Rattle.standing_filters.specs.Plans.{change_of, has_plan, kept_at, shown, with_room};
+ghost use Rattle.standing_filters.specs.Plans.{without_key};
+ghost use Rattle.standing_filters.specs.Turns.{AreJudged, ArePlans, IsAhead, IsQuiet, count_due};
+ghost use Rattle.standing_filters.specs.Turns.{keys_judged, same_key, verdict_after};
 
 use crate::coming::{Coming, Judged};
 use crate::judging::{OUT, Verdict, judge};

@@ -1,7 +1,8 @@
 //! One key of a table: what is said of it by its rows alone, and how keys and rows are counted as
 //! rows come and go.
 
-ghost use Rattle.std.specs.Prelude.{◌≡◌, ℕ, ◌+◌, ◌&&◌, ◌==◌, Bool, false, is_some, not, List, length};
+ghost use Rattle.std.specs.Prelude.{◌≡◌, ℕ, ◌+◌, ◌&&◌, ◌==◌, Bool, false, is_some, not, List};
+ghost use Rattle.std.specs.Prelude.{length};
 ghost use Rattle.std.specs.BTreeMap.{is_at};
 ghost use Rattle.std.specs.Map.{remove_entry};
 ghost use Rattle.agg_types.specs.Place.{place_cmp};
@@ -10,7 +11,9 @@ ghost use Rattle.agg_types.specs.declared.config.Cond.{Cond};
 ghost use Rattle.agg_types.specs.declared.config.Filter.{Filter};
 ghost use Rattle.agg_types.specs.declared.place.Place.{Place};
 ghost use Rattle.fleet_model.specs.Answers.{set_at, summed};
-ghost use Rattle.fleet_model.specs.Keys.{AreInOrder, AreKeysOf, AreLiveAt, Rows, has_live, held_rows, holds, key_rows, meet_at, one_if, row_at, sum_of, worth_of};
+ghost use Rattle.fleet_model.specs.Keys.{AreInOrder, AreKeysOf, AreLiveAt, Rows, has_live};
+ghost use Rattle.fleet_model.specs.Keys.{held_rows, holds, key_rows, meet_at, one_if, row_at};
+ghost use Rattle.fleet_model.specs.Keys.{sum_of, worth_of};
 ghost use Rattle.fleet_model.specs.Laws.{AreLive, IsOrdered, has_live_row};
 ghost use Rattle.fleet_model.specs.Machine.{with_row};
 ghost use Rattle.fleet_model.specs.Moments.{is_live};

@@ -1,7 +1,8 @@
 //! Rows as they come and go, key by key: laws of every list of rows in the order of their places,
 //! and so of the rows of every sound state.
 
-ghost use Rattle.std.specs.Prelude.{◌≡◌, ℕ, ◌&&◌, ◌==◌, Bool, true, false, not, if◌then◌else◌, [], List, Some, filter};
+ghost use Rattle.std.specs.Prelude.{◌≡◌, ℕ, ◌&&◌, ◌==◌, Bool, true, false, not, if◌then◌else◌, []};
+ghost use Rattle.std.specs.Prelude.{List, Some, filter};
 ghost use Rattle.std.specs.BTreeMap.{is_at};
 ghost use Rattle.std.specs.List.{AllByRecursion};
 ghost use Rattle.std.specs.Map.{remove_entry};

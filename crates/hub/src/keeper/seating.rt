@@ -1,6 +1,7 @@
 //! Who sits down, and who leaves.
 
-ghost use Rattle.std.specs.Prelude.{◌≡◌, ◌<◌, ◌≤◌, ◌^◌, [], length, nat_lt, Some, true, if◌then◌else◌, ◌∷◌, IfSome, MatchResult};
+ghost use Rattle.std.specs.Prelude.{◌≡◌, ◌<◌, ◌≤◌, ◌^◌, [], length, nat_lt, Some, true};
+ghost use Rattle.std.specs.Prelude.{if◌then◌else◌, ◌∷◌, IfSome, MatchResult};
 ghost use Rattle.std.specs.BTreeMap.{is_at};
 ghost use Rattle.std.specs.Map.{lookup};
 ghost use Rattle.std.specs.Ordering.{nat_cmp};

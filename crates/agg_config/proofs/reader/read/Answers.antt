@@ -18,21 +18,31 @@ lines-init c = record {
 
 pub returns-in-Err-clause-fault : goal.returns-in-Err-clause-fault
 returns-in-Err-clause-fault c =
-    let s = stands (lines_of c.args.text.now) c.lines.before c.in-Some.line.now (lines_of c.in-Some.rest.now) (c.lines.invariant.left ∙ c.in-Some.ensures.line) in
-    let fails = rw (c.lines.invariant.config, c.lines.invariant.named) at c.in-Err.ensures.err in
-    (c.lines.before, refl, faulty (lines_of c.args.text.now) c.lines.before c.in-Some.line.now c.in-Err.cause s.inside s.at c.lines.invariant.sound fails)
+    let s = stands (lines_of c.args.text.now) c.lines.before c.in-Some.line.now
+    (lines_of c.in-Some.rest.now) (c.lines.invariant.left ∙ c.in-Some.ensures.line) in
+    let fails = rw (c.lines.invariant.config, c.lines.invariant.named) at c.in-Err.ensures.err in (
+      c.lines.before,
+      refl,
+      faulty (lines_of c.args.text.now) c.lines.before c.in-Some.line.now
+          c.in-Err.cause s.inside s.at c.lines.invariant.sound fails,
+    )
 
 pub lines-preserved : goal.lines-preserved
 lines-preserved c =
     let lines = lines_of c.args.text.now in
-    let s = stands lines c.lines.before c.in-Some.line.now (lines_of c.in-Some.rest.now) (c.lines.invariant.left ∙ c.in-Some.ensures.line) in
-    let passes = rw (c.lines.invariant.config, c.lines.invariant.named) at c.in-Ok-read_line.ensures.ok in
+    let s = stands lines c.lines.before c.in-Some.line.now (lines_of c.in-Some.rest.now)
+    (c.lines.invariant.left ∙ c.in-Some.ensures.line) in
+    let passes = rw (c.lines.invariant.config, c.lines.invariant.named)
+    at c.in-Ok-read_line.ensures.ok in
     record {
       left = s.behind;
       within = omega (arith, s.inside);
       room = omega (arith, c.in-Some.ensures.shorter);
-      sound = sound_more lines c.lines.before c.in-Some.line.now s.at c.lines.invariant.sound passes.faultless;
-      config = passes.whole ∙ sym (ap written s.front ∙ written-push (take c.lines.before lines) c.in-Some.line.now);
-      named = passes.told ∙ sym (ap is_named s.front ∙ is_named-push (take c.lines.before lines) c.in-Some.line.now);
+      sound = sound_more lines c.lines.before c.in-Some.line.now s.at c.lines.invariant.sound
+          passes.faultless;
+      config = passes.whole ∙ sym (ap written s.front
+          ∙ written-push (take c.lines.before lines) c.in-Some.line.now);
+      named = passes.told ∙ sym (ap is_named s.front
+          ∙ is_named-push (take c.lines.before lines) c.in-Some.line.now);
       checked = c.in-Ok-read_line.ensures.sound;
     }

@@ -3,4 +3,5 @@ use Rattle.agg_types.specs.Check.{each, filter_faults}
 use Rattle.agg_types.proofs.check.check_filters.Given as goal
 
 abbrev pub invariant-loop-i : goal.invariant-loop-i
-invariant-loop-i l = each (filter_faults l.tables) [] l.filters ≡ each (filter_faults l.tables) (take l.i l.filters) (drop l.i l.filters)
+invariant-loop-i l = each (filter_faults l.tables) [] l.filters ≡ each (filter_faults l.tables)
+    (take l.i l.filters) (drop l.i l.filters)

@@ -6,4 +6,6 @@ use Rattle.agg_types.proofs.check.check_tables.Goals as goal
 pub returns-in_err-check_table : goal.returns-in_err-check_table
 returns-in_err-check_table c =
     let p = err_from_is_err_and c.from_residual.result c.from_residual.ensures.1 in
-    rw (p.1, p.2, c.loop-i.invariant) (each-fault_at table_faults c.args.tables.now c.loop-i.i c.index-tables-i.result _ c.loop-i-test.true c.index-tables-i.is c.in_err-check_table.ensures)
+    rw (p.1, p.2, c.loop-i.invariant) (each-fault_at table_faults c.args.tables.now c.loop-i.i
+    c.index-tables-i.result _ c.loop-i-test.true c.index-tables-i.is
+    c.in_err-check_table.ensures)

@@ -6,7 +6,8 @@ use Rattle.book.proofs.clears.clear_keys.Given as goal
 
 abbrev pub invariant-loop-key : goal.invariant-loop-key
 invariant-loop-key l = record {
-  rows : rest_left l.table (into_iter_items l.key-iterator) l.store ≡ rest_left l.table l.fn.keys.items l.fn.store;
+  rows : rest_left l.table (into_iter_items l.key-iterator) l.store
+      ≡ rest_left l.table l.fn.keys.items l.fn.store;
   count : length l.leaders ≡ length l.fn.leaders;
   led : StaysLed l.ranks l.fn.store.rows l.t l.fn.leaders l.store.rows l.t l.leaders;
 }

@@ -9,4 +9,5 @@ pub returns-clause-ok : goal.returns-clause-ok
 returns-clause-ok c =
     c.clear_keys.ensures.rows
     ∙ ap (λ (rows : List (Place × Arrival)). record c.args.store.now { rows = rows })
-    (filter-chosen_keys c.args.table (λ key. true) c.args.store.now.rows c.in_ok-keys.keys.items (c.in_ok-keys.ensures ∙ table_chosen c.args.table c.args.store.now.rows))
+    (filter-chosen_keys c.args.table (λ key. true) c.args.store.now.rows c.in_ok-keys.keys.items
+    (c.in_ok-keys.ensures ∙ table_chosen c.args.table c.args.store.now.rows))

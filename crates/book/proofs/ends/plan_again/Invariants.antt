@@ -7,5 +7,6 @@ abbrev pub invariant-loop-place : goal.invariant-loop-place
 invariant-loop-place l = record {
   planned : ArePlanned (l.late ++ l.due) l.rows.entries;
   past : AreAfter l.t l.due;
-  later : AllByRecursion (λ entry. lives_at l.t entry ≡ true → is_planned (drop l.place-index l.late ++ l.due) entry ≡ true) l.rows.entries;
+  later : AllByRecursion (λ entry. lives_at l.t entry ≡ true
+      → is_planned (drop l.place-index l.late ++ l.due) entry ≡ true) l.rows.entries;
 }

@@ -5,4 +5,6 @@ use Rattle.book.proofs.foreseen.rows_flat.Given as goal
 
 abbrev pub invariant-loop-row : goal.invariant-loop-row
 invariant-loop-row l =
-    (table : ℕ) (key : List ℕ) → max l.flat (min (flat_moment l.longest (map (of_peer table key) l.row-iterator)) (2 ^ 64 - 1)) ≡ min (flat_moment l.longest (map (of_peer table key) l.fn.rows)) (2 ^ 64 - 1)
+    (table : ℕ) (key : List ℕ) → max l.flat
+    (min (flat_moment l.longest (map (of_peer table key) l.row-iterator)) (2 ^ 64 - 1))
+    ≡ min (flat_moment l.longest (map (of_peer table key) l.fn.rows)) (2 ^ 64 - 1)

@@ -12,9 +12,15 @@ pub loop-list-preserved : goal.loop-list-preserved
 loop-list-preserved c =
     elim c.if-rank-table.branch [
       | then-rank-table w ↦
-          subst (λ (lists : Lists). IsKeyDropped c.args.ranks.now c.args.table c.args.key.now c.args.leaders.now lists) (sym w.leaders-is)
-          (dropped_more c.args.ranks.now c.args.table c.args.key.now c.loop-list.list c.args.leaders.now c.loop-list.leaders w.drop_key.new.self c.loop-list.invariant w.drop_key.ensures.others
-          (ap (λ (rank : Rank). rank.table) (rank_is c.args.ranks.now c.loop-list.list c.index-ranks-list.result c.index-ranks-list.is c.loop-list-test.true) ∙ w.if-rank-table.true))
+          subst (λ (lists : Lists). IsKeyDropped c.args.ranks.now c.args.table c.args.key.now
+          c.args.leaders.now lists) (sym w.leaders-is)
+          (dropped_more c.args.ranks.now c.args.table c.args.key.now c.loop-list.list
+          c.args.leaders.now c.loop-list.leaders w.drop_key.new.self c.loop-list.invariant
+          w.drop_key.ensures.others
+          (ap (λ (rank : Rank). rank.table) (rank_is c.args.ranks.now c.loop-list.list
+          c.index-ranks-list.result c.index-ranks-list.is c.loop-list-test.true)
+          ∙ w.if-rank-table.true))
       | else-rank-table w ↦
-          subst (λ (lists : Lists). IsKeyDropped c.args.ranks.now c.args.table c.args.key.now c.args.leaders.now lists) (sym w.leaders-is) c.loop-list.invariant
+          subst (λ (lists : Lists). IsKeyDropped c.args.ranks.now c.args.table c.args.key.now
+          c.args.leaders.now lists) (sym w.leaders-is) c.loop-list.invariant
     ]

@@ -4,7 +4,8 @@ use Rattle.fleet_model.specs.Rows.{arrival_of}
 use Rattle.book.specs.Leading.{rank_at}
 use Rattle.book.specs.Planned.{place_at}
 use Rattle.book.specs.Store.{put_arrival}
-use Rattle.book.proofs.Leading.{apart_rows, elsewhere_rows, passed_more, rank_is, rank_worth, touched_more, touched_stands}
+use Rattle.book.proofs.Leading.{apart_rows, elsewhere_rows, passed_more, rank_is, rank_worth}
+use Rattle.book.proofs.Leading.{touched_more, touched_stands}
 use Rattle.book.proofs.leaders.lead.Goals as goal
 use Rattle.book.proofs.leaders.lead.Goals.{then-rank-at+in_ok-touch, else-rank-at}
 
@@ -15,20 +16,41 @@ loop-list-preserved c =
     let rows = c.args.rows.now.rows in
     let place = place_at c.args.at in
     let list = c.loop-list.list in
-    let rank = rank_is ranks list c.index-ranks-list.result c.index-ranks-list.is c.loop-list-test.true in
+    let rank = rank_is ranks list c.index-ranks-list.result c.index-ranks-list.is
+    c.loop-list-test.true in
     elim c.if-rank-at.branch [
       | then-rank-at+in_ok-touch w ↦ rw w.leaders-is (record {
-        led = touched_stands tables ranks rows c.args.t list c.args.at.key.now w.worth_with-bound.result c.loop-list.leaders w.touch.new.self c.loop-list.invariant.led w.touch.ensures.others w.in_ok-touch.ensures.holds
-            (rank_worth tables (λ cols. rows) c.args.t (rank_at ranks list) c.index-ranks-list.result c.cols_of-cols.result.now c.args.at.table c.args.at.key.now w.worth_with-bound.result rank w.if-rank-at.true c.cols_of-cols.ensures w.worth_with-bound.ensures.before);
-        put = λ life. touched_more tables ranks rows (with_row c.args.t rows place (arrival_of tables c.args.at.table c.args.t life c.args.cells.now)) c.args.t list c.args.at.key.now w.worth_with-bound.result c.loop-list.leaders w.touch.new.self c.loop-list-test.true c.loop-list.invariant.led w.touch.ensures.others w.in_ok-touch.ensures.holds
-            (rank_worth tables (λ cols. with_row c.args.t rows place (put_arrival c.args.t life cols c.args.cells.now)) c.args.t (rank_at ranks list) c.index-ranks-list.result c.cols_of-cols.result.now c.args.at.table c.args.at.key.now w.worth_with-bound.result rank w.if-rank-at.true c.cols_of-cols.ensures (w.worth_with-bound.ensures.after life))
-            (λ other apart. apart_rows rows c.args.t place (arrival_of tables c.args.at.table c.args.t life c.args.cells.now) (rank_at ranks list).table other c.requires.ordered apart)
+        led = touched_stands tables ranks rows c.args.t list c.args.at.key.now
+            w.worth_with-bound.result c.loop-list.leaders w.touch.new.self c.loop-list.invariant.led
+            w.touch.ensures.others w.in_ok-touch.ensures.holds
+            (rank_worth tables (λ cols. rows) c.args.t (rank_at ranks list)
+            c.index-ranks-list.result c.cols_of-cols.result.now c.args.at.table
+            c.args.at.key.now w.worth_with-bound.result rank w.if-rank-at.true
+            c.cols_of-cols.ensures w.worth_with-bound.ensures.before);
+        put = λ life. touched_more tables ranks rows
+            (with_row c.args.t rows place (arrival_of tables c.args.at.table c.args.t life
+            c.args.cells.now)) c.args.t list c.args.at.key.now w.worth_with-bound.result
+            c.loop-list.leaders w.touch.new.self c.loop-list-test.true c.loop-list.invariant.led
+            w.touch.ensures.others w.in_ok-touch.ensures.holds
+            (rank_worth tables (λ cols. with_row c.args.t rows place
+            (put_arrival c.args.t life cols c.args.cells.now)) c.args.t (rank_at ranks list)
+            c.index-ranks-list.result c.cols_of-cols.result.now c.args.at.table
+            c.args.at.key.now w.worth_with-bound.result rank w.if-rank-at.true
+            c.cols_of-cols.ensures (w.worth_with-bound.ensures.after life))
+            (λ other apart. apart_rows rows c.args.t place
+            (arrival_of tables c.args.at.table c.args.t life c.args.cells.now)
+            (rank_at ranks list).table other c.requires.ordered apart)
             (c.loop-list.invariant.put life);
       })
       | else-rank-at w ↦ rw w.leaders-is (record {
         led = c.loop-list.invariant.led;
-        put = λ life. passed_more tables ranks rows (with_row c.args.t rows place (arrival_of tables c.args.at.table c.args.t life c.args.cells.now)) c.args.t list c.loop-list.leaders c.loop-list-test.true c.loop-list.invariant.led
-            (λ other. elsewhere_rows rows c.args.t place (arrival_of tables c.args.at.table c.args.t life c.args.cells.now) (rank_at ranks list) c.index-ranks-list.result other c.requires.ordered rank w.if-rank-at.false)
+        put = λ life. passed_more tables ranks rows
+            (with_row c.args.t rows place (arrival_of tables c.args.at.table c.args.t life
+            c.args.cells.now)) c.args.t list c.loop-list.leaders c.loop-list-test.true
+            c.loop-list.invariant.led
+            (λ other. elsewhere_rows rows c.args.t place (arrival_of tables c.args.at.table c.args.t
+            life c.args.cells.now) (rank_at ranks list) c.index-ranks-list.result other
+            c.requires.ordered rank w.if-rank-at.false)
             (c.loop-list.invariant.put life);
       })
     ]

@@ -9,5 +9,8 @@ use Rattle.book.proofs.leaders.lead.Given as goal
 abbrev pub invariant-loop-list : goal.invariant-loop-list
 invariant-loop-list l = record {
   led : AreLed l.tables l.ranks l.rows.rows l.t l.leaders;
-  put : (life : Option ℕ) (other : ℕ) → other < l.list → IsLed l.tables (with_row l.t l.rows.rows (place_at l.at) (arrival_of l.tables l.at.table l.t life l.cells)) l.t (rank_at l.ranks other) (bounds_of l.leaders other);
+  put : (life : Option ℕ) (other : ℕ) → other < l.list
+      → IsLed l.tables (with_row l.t l.rows.rows (place_at l.at)
+      (arrival_of l.tables l.at.table l.t life l.cells)) l.t (rank_at l.ranks other)
+      (bounds_of l.leaders other);
 }

@@ -11,9 +11,12 @@ use Rattle.book.proofs.puts.drop_row.Goals as goal
 pub returns-clause-ok : goal.returns-clause-ok
 returns-clause-ok c =
     ap (λ (rows : RowMap). arrivals rows.entries) c.take_at.ensures.after
-    ∙ map-remove_entry place_cmp as_arrival (is_at (place_cmp (place_at c.args.at))) c.args.rows.now.entries
+    ∙ map-remove_entry place_cmp as_arrival (is_at (place_cmp (place_at c.args.at)))
+    c.args.rows.now.entries
 
 pub returns-clause-kept : goal.returns-clause-kept
 returns-clause-kept c = λ items kept.
-    kept_dropped c.args.size.peers c.args.size.tables c.args.rows.now c.take_at.new.self (items ++ c.args.due.now) (items ++ c.forget.new.due) (place_at c.args.at) c.take_at.ensures.after
+    kept_dropped c.args.size.peers c.args.size.tables c.args.rows.now c.take_at.new.self
+    (items ++ c.args.due.now) (items ++ c.forget.new.due) (place_at c.args.at)
+    c.take_at.ensures.after
     (λ e apart was. c.forget.ensures.others items e (rw c.in_ok-place.ensures apart) was) kept

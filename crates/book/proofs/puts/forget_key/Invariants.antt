@@ -7,7 +7,9 @@ use Rattle.book.proofs.puts.forget_key.Given as goal
 
 abbrev pub invariant-loop-peer : goal.invariant-loop-peer
 invariant-loop-peer l = record {
-  others : (items : List (ℕ × Place)) (entry : Place × Row) → of_table_key l.fn.place.table l.fn.place.key entry.0 ≡ false → is_planned (items ++ l.fn.due) entry ≡ true → is_planned (items ++ l.due) entry ≡ true;
+  others : (items : List (ℕ × Place)) (entry : Place × Row)
+      → of_table_key l.fn.place.table l.fn.place.key entry.0 ≡ false
+      → is_planned (items ++ l.fn.due) entry ≡ true → is_planned (items ++ l.due) entry ≡ true;
   table : l.place.table ≡ l.fn.place.table;
   key : l.place.key ≡ l.fn.place.key;
 }

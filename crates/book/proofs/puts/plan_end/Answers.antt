@@ -7,9 +7,11 @@ use Rattle.book.proofs.puts.plan_end.Goals as goal
 
 pub returns-clause-more : goal.returns-clause-more
 returns-clause-more c = λ items entry planned.
-    planned_more items c.args.due.now c.plan.new.self (c.in-Some.end, c.in_ok-copy_place.field-0) entry c.in_ok-plan.ensures.ok planned
+    planned_more items c.args.due.now c.plan.new.self (c.in-Some.end, c.in_ok-copy_place.field-0)
+    entry c.in_ok-plan.ensures.ok planned
 
 pub returns-clause-own : goal.returns-clause-own
 returns-clause-own c =
     rw c.in-Some.is (own_planned c.in-Some.end c.args.place.now c.args.due.now c.plan.new.self
-    (c.in_ok-plan.ensures.ok ∙ ap (λ p. with_entry place_cmp c.args.due.now (c.in-Some.end, p)) c.in_ok-copy_place.ensures))
+    (c.in_ok-plan.ensures.ok ∙ ap (λ p. with_entry place_cmp c.args.due.now (c.in-Some.end, p))
+    c.in_ok-copy_place.ensures))

@@ -11,5 +11,7 @@ insert-requires-clause-none c = where_none c.args.at.spot c.if-is_none.ensures c
 
 pub returns-then-is_none-clause-held : goal.returns-then-is_none-clause-held
 returns-then-is_none-clause-held c =
-    let none : lookup (is_at (place_cmp (place_at c.args.at))) c.args.rows.now.entries ≡ None = none_there (place_at c.args.at) c.args.rows.now.entries (where_none c.args.at.spot c.if-is_none.ensures c.requires.found) in
+    let none : lookup (is_at (place_cmp (place_at c.args.at))) c.args.rows.now.entries ≡ None =
+    none_there (place_at c.args.at) c.args.rows.now.entries
+    (where_none c.args.at.spot c.if-is_none.ensures c.requires.found) in
     λ held. let nothing = rw none at held in cc

@@ -20,12 +20,15 @@ returns-in_ok-put_row-in-Some-clause-ok c =
 pub returns-in_ok-put_row-in-Some-clause-kept : goal.returns-in_ok-put_row-in-Some-clause-kept
 returns-in_ok-put_row-in-Some-clause-kept c = λ items kept.
     let row : Row = record c.args.row { planned = c.in-Some.planned } in
-    kept_stays c.args.size.peers c.args.size.tables c.args.rows.now c.put_row.new.rows (items ++ c.args.due.now) (place_at c.args.at) row
+    kept_stays c.args.size.peers c.args.size.tables c.args.rows.now c.put_row.new.rows
+    (items ++ c.args.due.now) (place_at c.args.at) row
     (option_map (λ (plan : Plan). plan.end) c.plan_at-before.result) c.end_of.result
     c.requires.rows c.requires.inside c.in_ok-put_row-in-Some.ensures.ok c.put_row.ensures.ordered
-    (ends_of c.args.rows.now.entries (place_at c.args.at) c.plan_at-before.result c.plan_at-before.ensures)
+    (ends_of c.args.rows.now.entries (place_at c.args.at) c.plan_at-before.result
+    c.plan_at-before.ensures)
     (c.in-Some.ensures refl) c.end_of.ensures kept
 
 pub returns-in_err-put_row-in-Some-clause-kept : goal.returns-in_err-put_row-in-Some-clause-kept
 returns-in_err-put_row-in-Some-clause-kept c = λ items kept.
-    subst (λ (rows : RowMap). AreKept c.args.size.peers c.args.size.tables rows (items ++ c.args.due.now)) (sym c.in_err-put_row-in-Some.ensures.err) kept
+    subst (λ (rows : RowMap). AreKept c.args.size.peers c.args.size.tables rows
+    (items ++ c.args.due.now)) (sym c.in_err-put_row-in-Some.ensures.err) kept

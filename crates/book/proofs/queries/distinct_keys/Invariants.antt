@@ -9,5 +9,7 @@ use Rattle.book.proofs.queries.distinct_keys.Given as goal
 
 abbrev pub invariant-loop-key : goal.invariant-loop-key
 invariant-loop-key l =
-    map (λ key. key.now) l.keys.items ++ to_come l.last (map (λ s. s.0.0) (filter (λ s. is_live l.t (as_arrival s.1)) l.key-iterator))
+    map (λ key. key.now) l.keys.items
+    ++ to_come l.last (map (λ s. s.0.0) (filter (λ s. is_live l.t (as_arrival s.1))
+    l.key-iterator))
     ≡ dedup same_key (map (λ s. s.0.0) (filter (λ s. is_live l.t (as_arrival s.1)) l.fn.rows))

@@ -7,6 +7,7 @@ use Rattle.book.proofs.queries.tally.Given as goal
 
 abbrev pub invariant-loop-row : goal.invariant-loop-row
 invariant-loop-row l = record {
-  so_far : tally_more l.t l.so_far (map (of_peer 0 []) l.row-iterator) ≡ tally l.t (map (of_peer 0 []) l.fn.rows);
+  so_far : tally_more l.t l.so_far (map (of_peer 0 []) l.row-iterator)
+      ≡ tally l.t (map (of_peer 0 []) l.fn.rows);
   small : peers_of l.so_far + length l.row-iterator ≤ length l.fn.rows;
 }

@@ -7,7 +7,9 @@ use Rattle.book.proofs.sets.keys_held.Goals as goal
 
 pub returns : goal.returns
 returns c =
-    let holds = λ (key : List ℕ). meets c.args.cols.now c.args.store.now.rows c.args.standing.now.table key c.args.t c.args.standing.now.conds in
-    ap (map (λ key. key.now)) (filter_same _ (λ key. holds key.now) _ (λ x b f' k. search rules) _ _ c.retain.ensures.filtered)
+    let holds = λ (key : List ℕ). meets c.args.cols.now c.args.store.now.rows
+    c.args.standing.now.table key c.args.t c.args.standing.now.conds in
+    ap (map (λ key. key.now)) (filter_same _ (λ key. holds key.now) _ (λ x b f' k. search rules) _ _
+    c.retain.ensures.filtered)
     ∙ map-filter (λ key. key.now) holds c.in_ok-keys.keys.items
     ∙ ap (filter holds) c.in_ok-keys.ensures

@@ -9,19 +9,24 @@ use Rattle.command_line.proofs.reading.read.Goals as goal
 pub unreachable-requires : goal.unreachable-requires
 unreachable-requires g c =
     let words = map g.S.AsStr.text c.args.words.now in
-    let told = words_taken (app_of c.in_ok-program.field-0) words c.in_ok-matches.matches c.in_ok-program.ensures.ok c.in_ok-matches.ensures.kinds c.in_ok-matches.ensures.matches in
-    none_entered _ c.in_default.ensures.rows (subst EntersCommand (sym told.1) (command_entered words told.0))
+    let told = words_taken (app_of c.in_ok-program.field-0) words c.in_ok-matches.matches
+    c.in_ok-program.ensures.ok c.in_ok-matches.ensures.kinds c.in_ok-matches.ensures.matches in
+    none_entered _ c.in_default.ensures.rows
+    (subst EntersCommand (sym told.1) (command_entered words told.0))
 
 pub job-requires : goal.job-requires
 job-requires g c =
     let words = map g.S.AsStr.text c.args.words.now in
-    let told = words_taken (app_of c.in_ok-program.field-0) words c.in_ok-matches.matches c.in_ok-program.ensures.ok c.in_ok-matches.ensures.kinds c.in_ok-matches.ensures.matches in
-    subst EntersCommand (sym told.1 ∙ both_told _ _ _ c.in-Some.ensures.name c.in-Some.ensures.rows) (command_entered words told.0)
+    let told = words_taken (app_of c.in_ok-program.field-0) words c.in_ok-matches.matches
+    c.in_ok-program.ensures.ok c.in_ok-matches.ensures.kinds c.in_ok-matches.ensures.matches in
+    subst EntersCommand (sym told.1 ∙ both_told _ _ _ c.in-Some.ensures.name c.in-Some.ensures.rows)
+    (command_entered words told.0)
 
 pub returns-clause-job : goal.returns-clause-job
 returns-clause-job g c =
     let words = map g.S.AsStr.text c.args.words.now in
-    let told = words_taken (app_of c.in_ok-program.field-0) words c.in_ok-matches.matches c.in_ok-program.ensures.ok c.in_ok-matches.ensures.kinds c.in_ok-matches.ensures.matches in
+    let told = words_taken (app_of c.in_ok-program.field-0) words c.in_ok-matches.matches
+    c.in_ok-program.ensures.ok c.in_ok-matches.ensures.kinds c.in_ok-matches.ensures.matches in
     let found = sym (both_told _ _ _ c.in-Some.ensures.name c.in-Some.ensures.rows) ∙ told.1 in
     IfOk-weaker c.job.result _ _ (λ job asked. record {
       taken = told.0;
@@ -31,6 +36,8 @@ returns-clause-job g c =
 pub returns-clause-usage : goal.returns-clause-usage
 returns-clause-usage g c =
     let words = map g.S.AsStr.text c.args.words.now in
-    let told = words_taken (app_of c.in_ok-program.field-0) words c.in_ok-matches.matches c.in_ok-program.ensures.ok c.in_ok-matches.ensures.kinds c.in_ok-matches.ensures.matches in
+    let told = words_taken (app_of c.in_ok-program.field-0) words c.in_ok-matches.matches
+    c.in_ok-program.ensures.ok c.in_ok-matches.ensures.kinds c.in_ok-matches.ensures.matches in
     let found = sym (both_told _ _ _ c.in-Some.ensures.name c.in-Some.ensures.rows) ∙ told.1 in
-    IfErr-weaker c.job.result _ _ (λ usage none. is_refused words _ usage told.0 found none) c.job.ensures.none
+    IfErr-weaker c.job.result _ _ (λ usage none. is_refused words _ usage told.0 found none)
+    c.job.ensures.none

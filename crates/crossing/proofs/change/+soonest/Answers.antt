@@ -5,10 +5,14 @@ use Rattle.crossing.proofs.change.+soonest.Goals as goal
 pub returns-in-len1-up-clause-covers : goal.returns-in-len1-up-clause-covers
 returns-in-len1-up-clause-covers g t c d since any differs =
     let value = g.F.Falls.value in
-    elim (first_or_others value d c.args.rest.now c.part-item.result c.part-item.is (omega arith) any) [
+    elim (first_or_others value d c.args.rest.now c.part-item.result c.part-item.is
+    (omega arith) any) [
       | inl turns ↦ elim (c.turns-first.ensures.turns d since turns) [
-        | inl first ↦ c.soonest.ensures.kept (suc d) (c.sooner-found-in-len1-up.ensures.kept (suc d) (of_found _ _ (suc d) first c.sooner-found.ensures.turn (omega arith) differs))
-        | inr second ↦ c.soonest.ensures.kept (suc d) (of_found _ _ (suc d) second c.sooner-found-in-len1-up.ensures.turn (omega arith) differs)
+        | inl first ↦ c.soonest.ensures.kept (suc d) (c.sooner-found-in-len1-up.ensures.kept (suc d)
+            (of_found _ _ (suc d) first c.sooner-found.ensures.turn (omega arith) differs))
+        | inr second ↦ c.soonest.ensures.kept (suc d)
+            (of_found _ _ (suc d) second c.sooner-found-in-len1-up.ensures.turn
+            (omega arith) differs)
       ]
       | inr others ↦ c.soonest.ensures.covers d since others differs
     ]

@@ -21,7 +21,8 @@ loop-high-preserved-then-read-bound g c = record {
     not_yet = c.loop-high.invariant.span.not_yet;
     below = omega arith;
   };
-  within = λ soon. one_read _ _ _ _ _ (omega arith) c.loop-high-test.true (omega arith) (c.loop-high.invariant.within soon);
+  within = λ soon. one_read _ _ _ _ _ (omega arith) c.loop-high-test.true (omega arith)
+      (c.loop-high.invariant.within soon);
 }
 
 pub loop-high-preserved : goal.loop-high-preserved
@@ -32,5 +33,6 @@ loop-high-preserved g c = record {
     not_yet = omega arith;
     below = c.loop-high.invariant.span.below;
   };
-  within = λ soon. one_read _ _ _ _ _ (omega arith) c.loop-high-test.true (omega arith) (c.loop-high.invariant.within soon);
+  within = λ soon. one_read _ _ _ _ _ (omega arith) c.loop-high-test.true (omega arith)
+      (c.loop-high.invariant.within soon);
 }

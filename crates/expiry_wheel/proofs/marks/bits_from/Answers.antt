@@ -1,6 +1,7 @@
 use Rattle.std.proofs.Common.{bit_and, ap, ◌∙◌, arith}
 use Rattle.std.specs.Int.{bit_at}
-use Rattle.std.proofs.lemmas.Nat.Bits.{ones_shl, bit_at_and, bit_at_mask_inside, bit_at_mask_below, bit_at-lt}
+use Rattle.std.proofs.lemmas.Nat.Bits.{ones_shl, bit_at_and, bit_at_mask_inside, bit_at_mask_below}
+use Rattle.std.proofs.lemmas.Nat.Bits.{bit_at-lt}
 use Rattle.expiry_wheel.proofs.marks.bits_from.Goals as goal
 
 pub returns-clause-below : goal.returns-clause-below

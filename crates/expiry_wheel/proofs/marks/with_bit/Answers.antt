@@ -3,4 +3,8 @@ use Rattle.std.proofs.lemmas.Nat.Bits.{bit_at_set_same, bit_at_set_other}
 use Rattle.expiry_wheel.proofs.marks.with_bit.Goals as goal
 
 pub returns : goal.returns
-returns c = record { here = bit_at_set_same w64 _ _ c.requires; others = bit_at_set_other w64 _ _ c.requires }
+returns c = record {
+  here = bit_at_set_same w64 _ _ c.requires;
+  others =
+      bit_at_set_other w64 _ _ c.requires;
+}

@@ -5,7 +5,8 @@ use Rattle.hub.proofs.hand.hand_over.Given as goal
 abbrev pub invariant-loop-op : goal.invariant-loop-op
 invariant-loop-op l = record {
   desk : l.writer.desk ≡ l.initial.writer.desk;
-  kept : drop l.writer.behind l.writer.log.items ++ l.queue.items ≡ drop l.initial.writer.behind l.initial.writer.log.items ++ l.initial.queue.items;
+  kept : drop l.writer.behind l.writer.log.items ++ l.queue.items ≡ drop l.initial.writer.behind
+      l.initial.writer.log.items ++ l.initial.queue.items;
 }
 
 abbrev pub decreases-loop-op : goal.decreases-loop-op

@@ -4,4 +4,5 @@ use Rattle.hub.proofs.Publishes.{shows}
 use Rattle.hub.proofs.hand.show.Goals as goal
 
 pub publish_as-requires : goal.publish_as-requires
-publish_as-requires g c next is = shows c.args.writer.desk.place.id (view c.args.writer.desk.place) c.args.writer.desk.shown.value next c.args.front.now (is ∙ c.requires.brings) c.requires.named
+publish_as-requires g c next is = shows c.args.writer.desk.place.id (view c.args.writer.desk.place)
+    c.args.writer.desk.shown.value next c.args.front.now (is ∙ c.requires.brings) c.requires.named

@@ -8,5 +8,6 @@ abbrev pub invariant-loop-what : goal.invariant-loop-what
 invariant-loop-what g l =
     (goal.iterator-loop-what g).can_next l.what-iterator
     × (goal.iterator-loop-what g).is_finite l.what-iterator
-    × Filling l.initial.sitting l.fn.whats.items l.initial.queue.items l.initial.front (into_iter_items l.what-iterator) l.queue.items l.front l.roll l.sitting
+    × Filling l.initial.sitting l.fn.whats.items l.initial.queue.items l.initial.front
+    (into_iter_items l.what-iterator) l.queue.items l.front l.roll l.sitting
     × (deque_len l.queue + length (into_iter_items l.what-iterator) ≤ deque_capacity l.queue)

@@ -7,6 +7,7 @@ use Rattle.key_text.proofs.parts.number_up_to.Given as goal
 abbrev pub invariant-loop-byte : goal.invariant-loop-byte
 invariant-loop-byte l =
     record {
-      rest : number_from l.radix l.most l.number (drop l.byte-index l.text) ≡ number_up_to l.radix l.most l.text;
+      rest : number_from l.radix l.most l.number (drop l.byte-index l.text) ≡ number_up_to l.radix
+          l.most l.text;
       within : l.number ≤ l.most;
     }

@@ -7,6 +7,7 @@ use Rattle.key_text.proofs.printing.append_hex.Given as goal
 abbrev pub invariant-loop-byte : goal.invariant-loop-byte
 invariant-loop-byte l =
     record {
-      so_far : l.out.items ++ flat_map hex_of (drop l.byte-index l.key) ≡ l.fn.out.items ++ flat_map hex_of l.key;
+      so_far : l.out.items ++ flat_map hex_of (drop l.byte-index l.key) ≡ l.fn.out.items
+          ++ flat_map hex_of l.key;
       begins : take (length l.fn.out.items) l.out.items ≡ l.fn.out.items;
     }

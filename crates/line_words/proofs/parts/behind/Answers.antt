@@ -4,4 +4,5 @@ use Rattle.line_words.proofs.parts.behind.Goals as goal
 
 pub returns : goal.returns
 returns c =
-    take_all (length c.args.text.now - (c.args.at + 1)) _ (omega (arith, length-drop (c.args.at + 1) c.args.text.now))
+    take_all (length c.args.text.now - (c.args.at + 1)) _
+    (omega (arith, length-drop (c.args.at + 1) c.args.text.now))

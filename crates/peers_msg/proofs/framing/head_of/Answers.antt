@@ -9,4 +9,6 @@ returns-else-rest-taken-clause-exact c =
     let bytes = c.args.bytes.now in
     let t : take (length bytes - 2) (drop 2 bytes) ≡ drop 2 bytes = take_rest bytes 2 in
     let n : length (take (length bytes - 2) (drop 2 bytes)) ≡ length (drop 2 bytes) = ap length t in
-    whole_head bytes c.in-Ok-Some.len c.in-Ok-Some.taken (omega arith) (omega arith) (ap integer_at (sym t) ∙ sym c.in-Ok-Some.ensures.exact ∙ ap (λ x. Ok x) c.in-Ok-Some.field-0-is) (omega arith) (omega arith)
+    whole_head bytes c.in-Ok-Some.len c.in-Ok-Some.taken (omega arith) (omega arith)
+    (ap integer_at (sym t) ∙ sym c.in-Ok-Some.ensures.exact
+    ∙ ap (λ x. Ok x) c.in-Ok-Some.field-0-is) (omega arith) (omega arith)

@@ -6,5 +6,6 @@ use Rattle.plain_book.proofs.clears.clear_keys.Goals as goal
 
 pub returns : goal.returns
 returns c =
-    filter_same_pairs _ (λ row. not ((row.0.table == c.args.table) && list_any (λ key. same_key key row.0.key) c.args.keys.now)) _
+    filter_same_pairs _ (λ row. not ((row.0.table == c.args.table)
+    && list_any (λ key. same_key key row.0.key) c.args.keys.now)) _
     (λ k v b w f' t. search rules) _ _ c.retain.ensures.filtered

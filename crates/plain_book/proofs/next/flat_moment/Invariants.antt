@@ -4,4 +4,5 @@ use Rattle.plain_book.proofs.next.flat_moment.Given as goal
 
 abbrev pub invariant-loop-place : goal.invariant-loop-place
 invariant-loop-place l =
-    max l.flat (min (flat_moment l.longest l._place-iterator) (2 ^ 64 - 1)) ≡ min (flat_moment l.longest l.rows.entries) (2 ^ 64 - 1)
+    max l.flat (min (flat_moment l.longest l._place-iterator) (2 ^ 64 - 1))
+    ≡ min (flat_moment l.longest l.rows.entries) (2 ^ 64 - 1)

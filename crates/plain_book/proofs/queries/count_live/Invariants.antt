@@ -8,7 +8,9 @@ use Rattle.plain_book.proofs.queries.count_live.Given as goal
 abbrev pub invariant-loop-place : goal.invariant-loop-place
 invariant-loop-place l = record {
   so_far :
-      l.keys + length (to_come l.last (map (λ row. row.0.key) (filter (λ row. (row.0.table == l.table) && is_live l.t row.1) l.place-iterator)))
+      l.keys + length (to_come l.last
+      (map (λ row. row.0.key) (filter (λ row. (row.0.table == l.table) && is_live l.t row.1)
+      l.place-iterator)))
       ≡ length (live_keys l.rows.entries l.table l.t) + as_one l.last;
   small : l.keys + length l.place-iterator ≤ length l.rows.entries;
 }

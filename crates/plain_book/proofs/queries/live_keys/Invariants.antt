@@ -7,5 +7,7 @@ use Rattle.plain_book.proofs.queries.live_keys.Given as goal
 
 abbrev pub invariant-loop-place : goal.invariant-loop-place
 invariant-loop-place l =
-    map (λ key. key.now) l.keys.items ++ to_come l.last (map (λ row. row.0.key) (filter (λ row. (row.0.table == l.table) && is_live l.t row.1) l.place-iterator))
+    map (λ key. key.now) l.keys.items
+    ++ to_come l.last (map (λ row. row.0.key)
+    (filter (λ row. (row.0.table == l.table) && is_live l.t row.1) l.place-iterator))
     ≡ live_keys l.rows.entries l.table l.t

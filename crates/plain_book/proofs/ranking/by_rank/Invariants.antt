@@ -7,8 +7,10 @@ use Rattle.plain_book.proofs.ranking.by_rank.Given as goal
 
 abbrev pub invariant-loop-key : goal.invariant-loop-key
 invariant-loop-key l =
-    put_all (map (value_of l.cols l.rows.entries l.table l.col l.t) (map (λ key. key.now) l.keys.items)) (map key_and_value l.entries.items)
-    ≡ in_order rank_cmp (map (value_of l.cols l.rows.entries l.table l.col l.t) (map (λ key. key.now) l.fn.keys.items))
+    put_all (map (value_of l.cols l.rows.entries l.table l.col l.t)
+    (map (λ key. key.now) l.keys.items)) (map key_and_value l.entries.items)
+    ≡ in_order rank_cmp (map (value_of l.cols l.rows.entries l.table l.col l.t)
+    (map (λ key. key.now) l.fn.keys.items))
 
 abbrev pub decreases-loop-key : goal.decreases-loop-key
 decreases-loop-key l = vec_len l.keys

@@ -7,4 +7,5 @@ use Rattle.plain_book.proofs.ranking.place_of.Given as goal
 abbrev pub invariant-loop-place : goal.invariant-loop-place
 invariant-loop-place l =
     put_in_order rank_cmp (key_and_value l.entry) (map key_and_value l.entries)
-    ≡ map key_and_value (take l.place l.entries) ++ put_in_order rank_cmp (key_and_value l.entry) (map key_and_value (drop l.place l.entries))
+    ≡ map key_and_value (take l.place l.entries) ++ put_in_order rank_cmp (key_and_value l.entry)
+    (map key_and_value (drop l.place l.entries))

@@ -7,4 +7,5 @@ use Rattle.ranked.proofs.candidates.place_of.Given as goal
 abbrev pub invariant-loop-place : goal.invariant-loop-place
 invariant-loop-place l =
     put_in_order rank_cmp (shown l.key) (map shown l.candidates)
-    ≡ map shown (take l.place l.candidates) ++ put_in_order rank_cmp (shown l.key) (map shown (drop l.place l.candidates))
+    ≡ map shown (take l.place l.candidates) ++ put_in_order rank_cmp (shown l.key)
+    (map shown (drop l.place l.candidates))

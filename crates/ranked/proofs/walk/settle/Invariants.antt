@@ -11,8 +11,10 @@ invariant-entries g l =
       kept : vec_len l.candidates ≤ l.room;
       space : l.room < vec_capacity l.candidates;
       bounds : AreBounds living value l.ahead;
-      walked : WalksOn (map shown l.fn.candidates.items) l.fn.ahead l.walked (map shown l.candidates.items) l.ahead;
-      same : found living value l.room (map shown l.candidates.items) l.ahead ≡ found living value l.room (map shown l.fn.candidates.items) l.fn.ahead;
+      walked : WalksOn (map shown l.fn.candidates.items) l.fn.ahead l.walked
+          (map shown l.candidates.items) l.ahead;
+      same : found living value l.room (map shown l.candidates.items) l.ahead
+          ≡ found living value l.room (map shown l.fn.candidates.items) l.fn.ahead;
     }
 
 abbrev pub decreases-entries : goal.decreases-entries

@@ -5,7 +5,8 @@ use Rattle.replay.proofs.doing.do_step.Goals as goal
 pub returns : goal.returns
 returns c = λ config opening past settled.
     let h = settled.stands in
-    stepped c.step-answer.result c.args.fleet.now c.step-answer.new.self config opening past c.args.step.now c.args.out.now.items c.append_answer.new.out.items c.in_ok-ending.ending
+    stepped c.step-answer.result c.args.fleet.now c.step-answer.new.self config opening past
+    c.args.step.now c.args.out.now.items c.append_answer.new.out.items c.in_ok-ending.ending
     (record {
       stands = c.step-answer.ensures.stands config opening past h;
       no_conn = c.step-answer.ensures.no_conn config opening past h;
@@ -17,5 +18,6 @@ returns c = λ config opening past settled.
       handed = c.step-answer.ensures.handed config opening past h;
     })
     c.in_ok-ending.ensures.kept settled
-    (nothing_waits c.step-answer.new.self.waiting c.waiting.result c.waiting.ensures c.if-waiting-gt0.false)
+    (nothing_waits c.step-answer.new.self.waiting c.waiting.result c.waiting.ensures
+    c.if-waiting-gt0.false)
     c.in_ok-ending.ensures.text c.in_ok-ending.ensures.ended

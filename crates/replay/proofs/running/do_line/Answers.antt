@@ -7,14 +7,20 @@ use Rattle.replay.proofs.running.do_line.Goals as goal
 
 pub returns-in-Nothing : goal.returns-in-Nothing
 returns-in-Nothing c = λ config opening past settled.
-    printed (LineGives config opening past c.args.number c.args.line.now) c.args.fleet.now config opening past [] c.args.out.now.items c.args.out.now.items
-    (subst (λ (m : Meaning). MeaningGives m config opening past c.args.number c.args.line.now (printing past [])) (sym c.in-Nothing.is ∙ c.in_ok-meaning_of.ensures.exact) refl)
+    printed (LineGives config opening past c.args.number c.args.line.now) c.args.fleet.now config
+    opening past [] c.args.out.now.items c.args.out.now.items
+    (subst (λ (m : Meaning). MeaningGives m config opening past c.args.number c.args.line.now
+    (printing past [])) (sym c.in-Nothing.is ∙ c.in_ok-meaning_of.ensures.exact) refl)
     settled (sym (append-nil c.args.out.now.items))
 
 pub returns-in-Does : goal.returns-in-Does
 returns-in-Does c = λ config opening past settled.
-    just_given c.do_step.result (LineGives config opening past c.args.number c.args.line.now) (step_given config opening past c.in-Does.step) c.do_step.new.fleet config opening c.args.out.now.items c.do_step.new.out.items
-    (subst (λ (m : Meaning). MeaningGives m config opening past c.args.number c.args.line.now (step_given config opening past c.in-Does.step)) (sym c.in-Does.is ∙ c.in_ok-meaning_of.ensures.exact) refl)
+    just_given c.do_step.result (LineGives config opening past c.args.number c.args.line.now)
+    (step_given config opening past c.in-Does.step) c.do_step.new.fleet config opening
+    c.args.out.now.items c.do_step.new.out.items
+    (subst (λ (m : Meaning). MeaningGives m config opening past c.args.number c.args.line.now
+    (step_given config opening past c.in-Does.step)) (sym c.in-Does.is
+    ∙ c.in_ok-meaning_of.ensures.exact) refl)
     (c.do_step.ensures config opening past settled)
 
 pub returns-in-BadStep : goal.returns-in-BadStep
@@ -31,6 +37,8 @@ returns-in-BadHex c = λ config opening past settled.
 
 pub returns-in-Asks : goal.returns-in-Asks
 returns-in-Asks c = λ config opening past settled.
-    given_too c.ask.result _ (LineGives config opening past c.args.number c.args.line.now) c.ask.new.fleet config opening c.args.out.now.items c.ask.new.out.items
-    (λ given gives. subst (λ (m : Meaning). MeaningGives m config opening past c.args.number c.args.line.now given) (sym c.in-Asks.is ∙ c.in_ok-meaning_of.ensures.exact) gives)
+    given_too c.ask.result _ (LineGives config opening past c.args.number c.args.line.now)
+    c.ask.new.fleet config opening c.args.out.now.items c.ask.new.out.items
+    (λ given gives. subst (λ (m : Meaning). MeaningGives m config opening past c.args.number
+    c.args.line.now given) (sym c.in-Asks.is ∙ c.in_ok-meaning_of.ensures.exact) gives)
     (c.ask.ensures config opening past settled)

@@ -5,5 +5,6 @@ use Rattle.replay.proofs.script.append_start_fault.Goals as goal
 pub returns : goal.returns
 returns c =
     on_ok c.append_text-2.result _ _
-    (λ e. e ∙ rw (c.in_ok-append_number.ensures.ok, c.in_ok-append_text.ensures.ok) (simp append_assoc))
+    (λ e. e ∙ rw (c.in_ok-append_number.ensures.ok, c.in_ok-append_text.ensures.ok)
+    (simp append_assoc))
     c.append_text-2.ensures.ok

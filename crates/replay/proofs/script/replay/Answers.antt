@@ -8,29 +8,39 @@ use Rattle.replay.proofs.script.replay.Goals as goal
 pub returns-in_default-clause-whole : goal.returns-in_default-clause-whole
 returns-in_default-clause-whole g c =
     wrote_too c.bad_start.result _ (ScriptPrints c.args.script.now) _ _
-    (bad_start_said (lines_of c.args.script.now) _ _ c.start_of-start.result.number _ _ c.start_of-start.ensures.cut c.in_default.is) c.bad_start.ensures.whole
+    (bad_start_said (lines_of c.args.script.now) _ _ c.start_of-start.result.number _ _
+    c.start_of-start.ensures.cut c.in_default.is) c.bad_start.ensures.whole
 
 pub returns-in_default-clause-cut : goal.returns-in_default-clause-cut
 returns-in_default-clause-cut g c =
     front_too c.bad_start.result _ (ScriptPrints c.args.script.now) _ _
-    (bad_start_said (lines_of c.args.script.now) _ _ c.start_of-start.result.number _ _ c.start_of-start.ensures.cut c.in_default.is) c.bad_start.ensures.cut
+    (bad_start_said (lines_of c.args.script.now) _ _ c.start_of-start.result.number _ _
+    c.start_of-start.ensures.cut c.in_default.is) c.bad_start.ensures.cut
 
 pub returns-in-Ok-clause-whole : goal.returns-in-Ok-clause-whole
 returns-in-Ok-clause-whole g c =
     wrote_too c.run.result _ (ScriptPrints c.args.script.now) _ _
-    (run_said (lines_of c.args.script.now) _ _ c.start_of-start.result.number _ _ c.in-Some.opening c.in-Ok.config c.start_of-start.ensures.cut c.in-Some.is c.in-Ok.ensures.written) c.run.ensures.whole
+    (run_said (lines_of c.args.script.now) _ _ c.start_of-start.result.number _ _ c.in-Some.opening
+    c.in-Ok.config c.start_of-start.ensures.cut c.in-Some.is c.in-Ok.ensures.written)
+    c.run.ensures.whole
 
 pub returns-in-Ok-clause-cut : goal.returns-in-Ok-clause-cut
 returns-in-Ok-clause-cut g c =
     front_too c.run.result _ (ScriptPrints c.args.script.now) _ _
-    (run_said (lines_of c.args.script.now) _ _ c.start_of-start.result.number _ _ c.in-Some.opening c.in-Ok.config c.start_of-start.ensures.cut c.in-Some.is c.in-Ok.ensures.written) c.run.ensures.cut
+    (run_said (lines_of c.args.script.now) _ _ c.start_of-start.result.number _ _ c.in-Some.opening
+    c.in-Ok.config c.start_of-start.ensures.cut c.in-Some.is c.in-Ok.ensures.written)
+    c.run.ensures.cut
 
 pub returns-in-Err-clause-whole : goal.returns-in-Err-clause-whole
 returns-in-Err-clause-whole g c =
     wrote_too c.bad_configuration.result _ (ScriptPrints c.args.script.now) _ _
-    (bad_line_said (lines_of c.args.script.now) _ _ c.start_of-start.result.number _ _ c.in-Some.opening c.in-Err.fault c.start_of-start.ensures.cut c.in-Some.is c.in-Err.ensures.fault) c.bad_configuration.ensures.whole
+    (bad_line_said (lines_of c.args.script.now) _ _ c.start_of-start.result.number _ _
+    c.in-Some.opening c.in-Err.fault c.start_of-start.ensures.cut c.in-Some.is
+    c.in-Err.ensures.fault) c.bad_configuration.ensures.whole
 
 pub returns-in-Err-clause-cut : goal.returns-in-Err-clause-cut
 returns-in-Err-clause-cut g c =
     front_too c.bad_configuration.result _ (ScriptPrints c.args.script.now) _ _
-    (bad_line_said (lines_of c.args.script.now) _ _ c.start_of-start.result.number _ _ c.in-Some.opening c.in-Err.fault c.start_of-start.ensures.cut c.in-Some.is c.in-Err.ensures.fault) c.bad_configuration.ensures.cut
+    (bad_line_said (lines_of c.args.script.now) _ _ c.start_of-start.result.number _ _
+    c.in-Some.opening c.in-Err.fault c.start_of-start.ensures.cut c.in-Some.is
+    c.in-Err.ensures.fault) c.bad_configuration.ensures.cut

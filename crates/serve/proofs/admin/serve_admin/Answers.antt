@@ -10,36 +10,56 @@ use Rattle.serve.proofs.admin.serve_admin.Goals as goal
 
 pub serve-ended-requires-clause-learned : goal.serve-ended-requires-clause-learned
 serve-ended-requires-clause-learned g c =
-    subst (λ (s : ℕ). HasLearned c.args.hub.now s c.new-worker.result []) (sym (ap (λ (p : Seated). p.seat) c.new-worker.ensures.pass))
-    (c.new-worker.ensures.learned c.args.hub.now c.requires.pass.0 (ap (λ (b : Beginning). b.of) c.requires.pass.1.same) c.requires.lens)
+    subst (λ (s : ℕ). HasLearned c.args.hub.now s c.new-worker.result [])
+    (sym (ap (λ (p : Seated). p.seat) c.new-worker.ensures.pass))
+    (c.new-worker.ensures.learned c.args.hub.now c.requires.pass.0
+    (ap (λ (b : Beginning). b.of) c.requires.pass.1.same) c.requires.lens)
 
 pub returns-in-Ok-clause-served : goal.returns-in-Ok-clause-served
 returns-in-Ok-clause-served g c =
     let hub = c.args.hub.now in
-    let seat0 : c.new-worker.result.desk.pass.seat ≡ c.args.pass.seat = ap (λ (p : Seated). p.seat) c.new-worker.ensures.pass in
-    let left : c.into_desk.result.pass.seat ≡ c.args.pass.seat = ap (λ (d : Desk). d.pass.seat) c.into_desk.ensures ∙ (c.serve-ended.ensures.seat ∙ seat0) in
-    let works = subst (λ (r : Result (Unit {0}) Cause). WorksOn hub c.new-worker.result.desk.pass.seat c.serve-ended.new.self [] (g.S.Source.given c.args.source.now)
-    (g.S.Source.given c.serve-ended.new.source) (g.W.Write.contents c.args.writer.now) (g.W.Write.contents c.serve-ended.new.writer) r) c.in-Ok.is c.serve-ended.ensures.works in
-    commanded_whole hub c.args.pass.seat c.serve-ended.new.self (g.S.Source.given c.args.source.now) (g.S.Source.given c.serve-ended.new.source)
-    (g.W.Write.contents c.args.writer.now) (g.W.Write.contents c.serve-ended.new.writer) c.leave-served.result
+    let seat0 : c.new-worker.result.desk.pass.seat ≡ c.args.pass.seat =
+    ap (λ (p : Seated). p.seat) c.new-worker.ensures.pass in
+    let left : c.into_desk.result.pass.seat ≡ c.args.pass.seat =
+    ap (λ (d : Desk). d.pass.seat) c.into_desk.ensures ∙ (c.serve-ended.ensures.seat ∙ seat0) in
+    let works = subst (λ (r : Result (Unit {0}) Cause). WorksOn hub
+    c.new-worker.result.desk.pass.seat c.serve-ended.new.self []
+    (g.S.Source.given c.args.source.now)
+    (g.S.Source.given c.serve-ended.new.source) (g.W.Write.contents c.args.writer.now)
+    (g.W.Write.contents c.serve-ended.new.writer) r) c.in-Ok.is c.serve-ended.ensures.works in
+    commanded_whole hub c.args.pass.seat c.serve-ended.new.self (g.S.Source.given c.args.source.now)
+    (g.S.Source.given c.serve-ended.new.source)
+    (g.W.Write.contents c.args.writer.now) (g.W.Write.contents c.serve-ended.new.writer)
+    c.leave-served.result
     (λ whats n told.
     subst (λ (s : ℕ). IsServed s whats n c.leave-served.result) left
-    (c.leave-served.ensures whats n (subst (λ (desk : Desk). HasTold hub desk whats n) (sym c.into_desk.ensures) told)))
+    (c.leave-served.ensures whats n (subst (λ (desk : Desk). HasTold hub desk whats n)
+    (sym c.into_desk.ensures) told)))
     (subst (λ (s : ℕ). WorksOn hub s c.serve-ended.new.self [] (g.S.Source.given c.args.source.now)
-    (g.S.Source.given c.serve-ended.new.source) (g.W.Write.contents c.args.writer.now) (g.W.Write.contents c.serve-ended.new.writer) (Ok (tt {0}))) seat0 works)
+    (g.S.Source.given c.serve-ended.new.source) (g.W.Write.contents c.args.writer.now)
+    (g.W.Write.contents c.serve-ended.new.writer) (Ok (tt {0}))) seat0 works)
 
 pub returns-in-Err-clause-served : goal.returns-in-Err-clause-served
 returns-in-Err-clause-served g c =
     let hub = c.args.hub.now in
     let ended : Result (Unit {0}) Cause = Err c.in-Err.cause in
-    let seat0 : c.new-worker.result.desk.pass.seat ≡ c.args.pass.seat = ap (λ (p : Seated). p.seat) c.new-worker.ensures.pass in
-    let left : c.into_desk.result.pass.seat ≡ c.args.pass.seat = ap (λ (d : Desk). d.pass.seat) c.into_desk.ensures ∙ (c.serve-ended.ensures.seat ∙ seat0) in
-    let works = subst (λ (r : Result (Unit {0}) Cause). WorksOn hub c.new-worker.result.desk.pass.seat c.serve-ended.new.self [] (g.S.Source.given c.args.source.now)
-    (g.S.Source.given c.serve-ended.new.source) (g.W.Write.contents c.args.writer.now) (g.W.Write.contents c.serve-ended.new.writer) r) c.in-Err.is c.serve-ended.ensures.works in
-    commanded_until hub c.args.pass.seat c.serve-ended.new.self (g.S.Source.given c.args.source.now) (g.S.Source.given c.serve-ended.new.source)
-    (g.W.Write.contents c.args.writer.now) (g.W.Write.contents c.serve-ended.new.writer) (record { cause = c.in-Err.cause; served = c.leave-served.result })
+    let seat0 : c.new-worker.result.desk.pass.seat ≡ c.args.pass.seat =
+    ap (λ (p : Seated). p.seat) c.new-worker.ensures.pass in
+    let left : c.into_desk.result.pass.seat ≡ c.args.pass.seat =
+    ap (λ (d : Desk). d.pass.seat) c.into_desk.ensures ∙ (c.serve-ended.ensures.seat ∙ seat0) in
+    let works = subst (λ (r : Result (Unit {0}) Cause). WorksOn hub
+    c.new-worker.result.desk.pass.seat c.serve-ended.new.self []
+    (g.S.Source.given c.args.source.now)
+    (g.S.Source.given c.serve-ended.new.source) (g.W.Write.contents c.args.writer.now)
+    (g.W.Write.contents c.serve-ended.new.writer) r) c.in-Err.is c.serve-ended.ensures.works in
+    commanded_until hub c.args.pass.seat c.serve-ended.new.self (g.S.Source.given c.args.source.now)
+    (g.S.Source.given c.serve-ended.new.source)
+    (g.W.Write.contents c.args.writer.now) (g.W.Write.contents c.serve-ended.new.writer)
+    (record { cause = c.in-Err.cause; served = c.leave-served.result })
     (λ whats n told.
     subst (λ (s : ℕ). IsServed s whats n c.leave-served.result) left
-    (c.leave-served.ensures whats n (subst (λ (desk : Desk). HasTold hub desk whats n) (sym c.into_desk.ensures) told)))
+    (c.leave-served.ensures whats n (subst (λ (desk : Desk). HasTold hub desk whats n)
+    (sym c.into_desk.ensures) told)))
     (subst (λ (s : ℕ). WorksOn hub s c.serve-ended.new.self [] (g.S.Source.given c.args.source.now)
-    (g.S.Source.given c.serve-ended.new.source) (g.W.Write.contents c.args.writer.now) (g.W.Write.contents c.serve-ended.new.writer) ended) seat0 works)
+    (g.S.Source.given c.serve-ended.new.source) (g.W.Write.contents c.args.writer.now)
+    (g.W.Write.contents c.serve-ended.new.writer) ended) seat0 works)

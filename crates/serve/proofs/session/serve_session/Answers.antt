@@ -12,32 +12,47 @@ pub leave-served-requires : goal.leave-served-requires
 leave-served-requires g c =
     let hub = c.args.hub.now in record {
       of = subst (λ (desk : Option Desk). IsDeskOf hub desk) (sym c.into_desk.ensures)
-          (desk_of_works hub c.new-worker.result.session.seated c.serve-ended.new.self (g.S.Source.given c.args.source.now) (g.S.Source.given c.serve-ended.new.source)
-          (g.W.Write.contents c.args.writer.now) (g.W.Write.contents c.serve-ended.new.writer) c.serve-ended.result c.serve-ended.ensures.works);
+          (desk_of_works hub c.new-worker.result.session.seated c.serve-ended.new.self
+          (g.S.Source.given c.args.source.now) (g.S.Source.given c.serve-ended.new.source)
+          (g.W.Write.contents c.args.writer.now) (g.W.Write.contents c.serve-ended.new.writer)
+          c.serve-ended.result c.serve-ended.ensures.works);
     }
 
 pub returns-in-Ok-clause-served : goal.returns-in-Ok-clause-served
 returns-in-Ok-clause-served g c =
     let hub = c.args.hub.now in
     let seat : Option ℕ = option_map (λ (p : Seated). p.seat) c.args.pass in
-    let left : seat_at c.into_desk.result ≡ seat = ap seat_at c.into_desk.ensures ∙ (c.serve-ended.ensures.seat ∙ c.new-worker.ensures.seat) in
-    served_whole hub c.new-worker.result.session.seated c.serve-ended.new.self (g.S.Source.given c.args.source.now) (g.S.Source.given c.serve-ended.new.source)
-    (g.W.Write.contents c.args.writer.now) (g.W.Write.contents c.serve-ended.new.writer) seat c.leave-served.result c.new-worker.ensures.seated
+    let left : seat_at c.into_desk.result ≡ seat = ap seat_at c.into_desk.ensures
+    ∙ (c.serve-ended.ensures.seat ∙ c.new-worker.ensures.seat) in
+    served_whole hub c.new-worker.result.session.seated c.serve-ended.new.self
+    (g.S.Source.given c.args.source.now) (g.S.Source.given c.serve-ended.new.source)
+    (g.W.Write.contents c.args.writer.now) (g.W.Write.contents c.serve-ended.new.writer) seat
+    c.leave-served.result c.new-worker.ensures.seated
     (λ whats n told.
     subst (λ (s : Option ℕ). SeatIsServed s c.leave-served.result whats n) left
-    (c.leave-served.ensures whats n (subst (λ (desk : Option Desk). DeskTells hub desk whats n) (sym c.into_desk.ensures) told)))
-    (subst (λ (r : Result (Unit {0}) Cause). WorksOn hub c.new-worker.result.session.seated c.serve-ended.new.self (g.S.Source.given c.args.source.now)
-    (g.S.Source.given c.serve-ended.new.source) (g.W.Write.contents c.args.writer.now) (g.W.Write.contents c.serve-ended.new.writer) r) c.in-Ok.is c.serve-ended.ensures.works)
+    (c.leave-served.ensures whats n (subst (λ (desk : Option Desk). DeskTells hub desk whats n)
+    (sym c.into_desk.ensures) told)))
+    (subst (λ (r : Result (Unit {0}) Cause). WorksOn hub c.new-worker.result.session.seated
+    c.serve-ended.new.self (g.S.Source.given c.args.source.now)
+    (g.S.Source.given c.serve-ended.new.source) (g.W.Write.contents c.args.writer.now)
+    (g.W.Write.contents c.serve-ended.new.writer) r) c.in-Ok.is c.serve-ended.ensures.works)
 
 pub returns-in-Err-clause-served : goal.returns-in-Err-clause-served
 returns-in-Err-clause-served g c =
     let hub = c.args.hub.now in
     let seat : Option ℕ = option_map (λ (p : Seated). p.seat) c.args.pass in
-    let left : seat_at c.into_desk.result ≡ seat = ap seat_at c.into_desk.ensures ∙ (c.serve-ended.ensures.seat ∙ c.new-worker.ensures.seat) in
-    served_until hub c.new-worker.result.session.seated c.serve-ended.new.self (g.S.Source.given c.args.source.now) (g.S.Source.given c.serve-ended.new.source)
-    (g.W.Write.contents c.args.writer.now) (g.W.Write.contents c.serve-ended.new.writer) seat (record { cause = c.in-Err.cause; served = c.leave-served.result }) c.new-worker.ensures.seated
+    let left : seat_at c.into_desk.result ≡ seat = ap seat_at c.into_desk.ensures
+    ∙ (c.serve-ended.ensures.seat ∙ c.new-worker.ensures.seat) in
+    served_until hub c.new-worker.result.session.seated c.serve-ended.new.self
+    (g.S.Source.given c.args.source.now) (g.S.Source.given c.serve-ended.new.source)
+    (g.W.Write.contents c.args.writer.now) (g.W.Write.contents c.serve-ended.new.writer) seat
+    (record { cause = c.in-Err.cause; served = c.leave-served.result })
+    c.new-worker.ensures.seated
     (λ whats n told.
     subst (λ (s : Option ℕ). SeatIsServed s c.leave-served.result whats n) left
-    (c.leave-served.ensures whats n (subst (λ (desk : Option Desk). DeskTells hub desk whats n) (sym c.into_desk.ensures) told)))
-    (subst (λ (r : Result (Unit {0}) Cause). WorksOn hub c.new-worker.result.session.seated c.serve-ended.new.self (g.S.Source.given c.args.source.now)
-    (g.S.Source.given c.serve-ended.new.source) (g.W.Write.contents c.args.writer.now) (g.W.Write.contents c.serve-ended.new.writer) r) c.in-Err.is c.serve-ended.ensures.works)
+    (c.leave-served.ensures whats n (subst (λ (desk : Option Desk). DeskTells hub desk whats n)
+    (sym c.into_desk.ensures) told)))
+    (subst (λ (r : Result (Unit {0}) Cause). WorksOn hub c.new-worker.result.session.seated
+    c.serve-ended.new.self (g.S.Source.given c.args.source.now)
+    (g.S.Source.given c.serve-ended.new.source) (g.W.Write.contents c.args.writer.now)
+    (g.W.Write.contents c.serve-ended.new.writer) r) c.in-Err.is c.serve-ended.ensures.works)

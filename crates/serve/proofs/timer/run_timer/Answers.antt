@@ -7,19 +7,26 @@ use Rattle.serve.proofs.timer.run_timer.Goals as goal
 pub run-ended-requires : goal.run-ended-requires
 run-ended-requires g c = record {
   timed = timed_none c.args.hub.now (g.C.Clock.gives c.args.clock.now) c.new-desk.result
-      (c.new-desk.ensures.told c.args.hub.now c.requires.pass.0 (ap (λ (b : Beginning). b.of) c.requires.pass.1.same));
+      (c.new-desk.ensures.told c.args.hub.now c.requires.pass.0
+      (ap (λ (b : Beginning). b.of) c.requires.pass.1.same));
 }
 
 pub returns-in-Ok-clause-ok : goal.returns-in-Ok-clause-ok
 returns-in-Ok-clause-ok g c =
-    let same : c.run-ended.new.desk.pass.seat ≡ c.args.pass.seat = c.in-Ok.ensures.seat ∙ ap (λ p. p.seat) c.new-desk.ensures.pass in
+    let same : c.run-ended.new.desk.pass.seat ≡ c.args.pass.seat = c.in-Ok.ensures.seat
+    ∙ ap (λ p. p.seat) c.new-desk.ensures.pass in
     subst (λ seat. IsTimed (g.C.Clock.gives c.args.clock.now) seat 0 c.leave-served.result) same
-    (timed_served c.args.hub.now (g.C.Clock.gives c.args.clock.now) c.run-ended.new.desk c.run-ended.new.desk.pass.seat 0 c.leave-served.result c.in-Ok.ensures.timed
+    (timed_served c.args.hub.now (g.C.Clock.gives c.args.clock.now) c.run-ended.new.desk
+    c.run-ended.new.desk.pass.seat 0 c.leave-served.result c.in-Ok.ensures.timed
     (λ whats told. c.leave-served.ensures whats 0 told))
 
 pub returns-in-Err-clause-err : goal.returns-in-Err-clause-err
 returns-in-Err-clause-err g c =
-    let same : c.run-ended.new.desk.pass.seat ≡ c.args.pass.seat = c.in-Err.ensures.seat ∙ ap (λ p. p.seat) c.new-desk.ensures.pass in
-    subst (λ seat. IsTimed (g.C.Clock.gives c.args.clock.now) seat (stored_by c.in-Err.cause) c.leave-served.result) same
-    (timed_served c.args.hub.now (g.C.Clock.gives c.args.clock.now) c.run-ended.new.desk c.run-ended.new.desk.pass.seat (stored_by c.in-Err.cause) c.leave-served.result c.in-Err.ensures.timed
+    let same : c.run-ended.new.desk.pass.seat ≡ c.args.pass.seat = c.in-Err.ensures.seat
+    ∙ ap (λ p. p.seat) c.new-desk.ensures.pass in
+    subst (λ seat. IsTimed (g.C.Clock.gives c.args.clock.now) seat (stored_by c.in-Err.cause)
+    c.leave-served.result) same
+    (timed_served c.args.hub.now (g.C.Clock.gives c.args.clock.now) c.run-ended.new.desk
+    c.run-ended.new.desk.pass.seat (stored_by c.in-Err.cause) c.leave-served.result
+    c.in-Err.ensures.timed
     (λ whats told. c.leave-served.ensures whats (stored_by c.in-Err.cause) told))

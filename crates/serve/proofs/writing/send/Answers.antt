@@ -10,6 +10,9 @@ loop-preserved g c =
     let middle = g.W.Write.contents c.loop.writer in
     let after = g.W.Write.contents c.write_once.new.writer in (
       sent ++ take c.in-Ok.count c.loop.rest.now,
-      sent_more c.args.bytes.now sent c.loop.rest.now c.in-Ok.count c.loop.invariant.1 ∙ ap (λ rest. (sent ++ take c.in-Ok.count c.loop.rest.now) ++ rest) (sym c.behind-rest.ensures),
-      wrote_more before middle after sent (take c.in-Ok.count c.loop.rest.now) c.loop.invariant.2 c.in-Ok.ensures.ok,
+      sent_more c.args.bytes.now sent c.loop.rest.now c.in-Ok.count c.loop.invariant.1
+          ∙ ap (λ rest. (sent ++ take c.in-Ok.count c.loop.rest.now) ++ rest)
+          (sym c.behind-rest.ensures),
+      wrote_more before middle after sent (take c.in-Ok.count c.loop.rest.now) c.loop.invariant.2
+          c.in-Ok.ensures.ok,
     )

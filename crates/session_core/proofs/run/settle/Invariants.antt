@@ -4,4 +4,5 @@ use Rattle.session_core.proofs.run.settle.Given as goal
 
 abbrev pub invariant-loop-entry : goal.invariant-loop-entry
 invariant-loop-entry l =
-    (map settled_entry l.entries ≡ map settled_entry l.initial.entries) × (take l.entry-index l.entries ≡ map settled_entry (take l.entry-index l.entries))
+    (map settled_entry l.entries ≡ map settled_entry l.initial.entries)
+    × (take l.entry-index l.entries ≡ map settled_entry (take l.entry-index l.entries))

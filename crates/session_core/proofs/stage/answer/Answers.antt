@@ -8,10 +8,16 @@ returns-in-Ok-clause-settled c = rw c.settle.ensures (settled_twice _)
 
 pub returns-in-Err-clause-err : goal.returns-in-Err-clause-err
 returns-in-Err-clause-err c =
-    let back = restored c.args.dialogue.now.track c.say.new.track c.take_back.new.self c.new-changes.result.items c.say.new.changes.items c.current-current.result c.new-changes.ensures.items c.say.ensures.undo c.current-current.ensures c.take_back.ensures in
+    let back = restored c.args.dialogue.now.track c.say.new.track c.take_back.new.self
+    c.new-changes.result.items c.say.new.changes.items c.current-current.result
+    c.new-changes.ensures.items c.say.ensures.undo c.current-current.ensures
+    c.take_back.ensures in
     rw back refl
 
 pub returns-in-Err-clause-settled : goal.returns-in-Err-clause-settled
 returns-in-Err-clause-settled c =
-    let back = restored c.args.dialogue.now.track c.say.new.track c.take_back.new.self c.new-changes.result.items c.say.new.changes.items c.current-current.result c.new-changes.ensures.items c.say.ensures.undo c.current-current.ensures c.take_back.ensures in
+    let back = restored c.args.dialogue.now.track c.say.new.track c.take_back.new.self
+    c.new-changes.result.items c.say.new.changes.items c.current-current.result
+    c.new-changes.ensures.items c.say.ensures.undo c.current-current.ensures
+    c.take_back.ensures in
     rw back c.requires

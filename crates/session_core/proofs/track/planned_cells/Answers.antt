@@ -4,8 +4,10 @@ use Rattle.session_core.proofs.track.planned_cells.Goals as goal
 pub returns-in-Some-clause-cells : goal.returns-in-Some-clause-cells
 returns-in-Some-clause-cells c =
     let plan = rw c.in-Some.is at c.requires.plan in
-    rw (← planned_cells c.args.followed.now.bits c.args.followed.now.periods c.args.cols.now c.args.values.now c.in-Some.plan plan) c.read.ensures.cells
+    rw (← planned_cells c.args.followed.now.bits c.args.followed.now.periods c.args.cols.now
+    c.args.values.now c.in-Some.plan plan) c.read.ensures.cells
 
 pub returns-clause-cells : goal.returns-clause-cells
 returns-clause-cells c =
-    rw (← planned_cells c.args.followed.now.bits c.args.followed.now.periods c.args.cols.now c.args.values.now c.in_ok-made.made c.in_ok-made.ensures) c.in_ok-whole.ensures.cells
+    rw (← planned_cells c.args.followed.now.bits c.args.followed.now.periods c.args.cols.now
+    c.args.values.now c.in_ok-made.made c.in_ok-made.ensures) c.in_ok-whole.ensures.cells

@@ -6,6 +6,7 @@ use Rattle.show_clear.proofs.answers.append_headings.Given as goal
 abbrev pub invariant-loop-table : goal.invariant-loop-table
 invariant-loop-table l =
     record {
-      so_far : l.out.items ++ headings l.book l.table (drop l.table l.tables) ≡ l.fn.out.items ++ headings l.book 0 l.tables;
+      so_far : l.out.items ++ headings l.book l.table (drop l.table l.tables) ≡ l.fn.out.items
+          ++ headings l.book 0 l.tables;
       begins : take (length l.fn.out.items) l.out.items ≡ l.fn.out.items;
     }

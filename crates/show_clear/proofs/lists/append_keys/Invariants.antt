@@ -7,6 +7,8 @@ use Rattle.show_clear.proofs.lists.append_keys.Given as goal
 abbrev pub invariant-loop-key : goal.invariant-loop-key
 invariant-loop-key l =
     record {
-      so_far : l.out.items ++ flat_map (key_line l.shape) (map (λ key. key.now) (drop l.key-index l.keys)) ≡ l.fn.out.items ++ flat_map (key_line l.shape) (map (λ key. key.now) l.keys);
+      so_far : l.out.items ++ flat_map (key_line l.shape)
+          (map (λ key. key.now) (drop l.key-index l.keys)) ≡ l.fn.out.items
+          ++ flat_map (key_line l.shape) (map (λ key. key.now) l.keys);
       begins : take (length l.fn.out.items) l.out.items ≡ l.fn.out.items;
     }

@@ -6,7 +6,8 @@ use Rattle.show_clear.proofs.lists.append_places.Given as goal
 abbrev pub invariant-loop-key : goal.invariant-loop-key
 invariant-loop-key l =
     record {
-      so_far : l.out.items ++ places_text l.shape (l.col, l.period) l.place l.key-iterator ≡ l.fn.out.items ++ places_text l.shape (l.col, l.period) 1 l.fn.entries;
+      so_far : l.out.items ++ places_text l.shape (l.col, l.period) l.place l.key-iterator
+          ≡ l.fn.out.items ++ places_text l.shape (l.col, l.period) 1 l.fn.entries;
       begins : take (length l.fn.out.items) l.out.items ≡ l.fn.out.items;
       counted : l.place + length l.key-iterator ≤ 2 ^ 64;
     }

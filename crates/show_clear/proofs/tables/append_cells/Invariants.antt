@@ -6,6 +6,7 @@ use Rattle.show_clear.proofs.tables.append_cells.Given as goal
 abbrev pub invariant-loop-col : goal.invariant-loop-col
 invariant-loop-col l =
     record {
-      so_far : l.out.items ++ cells_text l.sums (drop l.col-index l.cols) ≡ l.fn.out.items ++ cells_text l.sums l.cols;
+      so_far : l.out.items ++ cells_text l.sums (drop l.col-index l.cols) ≡ l.fn.out.items
+          ++ cells_text l.sums l.cols;
       begins : take (length l.fn.out.items) l.out.items ≡ l.fn.out.items;
     }

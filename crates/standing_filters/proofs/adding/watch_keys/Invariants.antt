@@ -7,6 +7,8 @@ use Rattle.standing_filters.proofs.adding.watch_keys.Given as goal
 abbrev pub invariant-loop-key : goal.invariant-loop-key
 invariant-loop-key g l = record {
   watch : IsWatch l.watch;
-  added : IsAdded (g.V.Values.summed l.values) (g.V.Values.living l.values) l.now l.filter (take l.key-index l.keys) (shown l.watch);
-  counted : ((key : List ℕ) → IsFlatSoon l.now (g.V.Values.flat l.values l.filter.table key)) → l.meter.evals ≤ l.fn.meter.evals + 505 * l.key-index;
+  added : IsAdded (g.V.Values.summed l.values) (g.V.Values.living l.values) l.now l.filter
+      (take l.key-index l.keys) (shown l.watch);
+  counted : ((key : List ℕ) → IsFlatSoon l.now (g.V.Values.flat l.values l.filter.table key))
+      → l.meter.evals ≤ l.fn.meter.evals + 505 * l.key-index;
 }

@@ -8,5 +8,8 @@ returns-clause-dead g c = λ dead.
     let table = c.args.filter.now.table in
     let key = c.args.key.now in
     told_out _ c.args.now c.judge_by.result
-    (λ t later. dead_never (g.V.Values.living c.args.values.now table key) (λ t. list_all (λ cond. op_holds cond.op (g.V.Values.summed c.args.values.now table key cond.col t) cond.bound) c.as_slice.result.now) c.args.now t dead (g.met.V.Values.rows_end c.args.values.now table key c.args.now t later))
+    (λ t later. dead_never (g.V.Values.living c.args.values.now table key)
+    (λ t. list_all (λ cond. op_holds cond.op (g.V.Values.summed c.args.values.now table key
+    cond.col t) cond.bound) c.as_slice.result.now) c.args.now t dead
+    (g.met.V.Values.rows_end c.args.values.now table key c.args.now t later))
     c.judge_by.ensures.told

@@ -5,10 +5,12 @@ use Rattle.standing_filters.specs.Watched.{verdict_at}
 use Rattle.standing_filters.proofs.Ahead.{turned, watch_settled}
 use Rattle.standing_filters.proofs.turning.+turn_each.Goals as goal
 
-each_watch : (watches : List Watching) (first : Watching) (rest : List Watching) → watches ≡ first ∷ rest → AreWatches watches → AreWatches (first ∷ rest)
+each_watch : (watches : List Watching) (first : Watching) (rest : List Watching)
+    → watches ≡ first ∷ rest → AreWatches watches → AreWatches (first ∷ rest)
 each_watch watches first rest is all = subst (λ l. AreWatches l) is all
 
-watch_same : (old new : Watching) → IsWatch old → new.filter ≡ old.filter → new.kept ≡ old.kept → IsPlanOf old.kept new.due → IsWatch new
+watch_same : (old new : Watching) → IsWatch old → new.filter ≡ old.filter → new.kept ≡ old.kept
+    → IsPlanOf old.kept new.due → IsWatch new
 watch_same old new watch same kept planned = record {
   few = subst (λ f. length f.conds ≤ 4) (sym same) watch.few;
   planned = subst (λ k. IsPlanOf k new.due) (sym kept) planned;
@@ -17,18 +19,30 @@ watch_same old new watch same kept planned = record {
 pub returns-in_err-prepare_all-clause-stay : goal.returns-in_err-prepare_all-clause-stay
 returns-in_err-prepare_all-clause-stay g t c =
     let first = c.in-Some.first.now in
-    let all = each_watch c.args.watches.now first c.in-Some.rest.now c.in-Some.ensures.cases.0 c.requires in
-    (watch_same first c.prepare_all.new.self all.0 c.in_err-prepare_all.ensures.filter c.in_err-prepare_all.ensures.kept c.in_err-prepare_all.ensures.err, all.1)
+    let all = each_watch c.args.watches.now first c.in-Some.rest.now
+    c.in-Some.ensures.cases.0 c.requires in (
+      watch_same first c.prepare_all.new.self all.0 c.in_err-prepare_all.ensures.filter
+          c.in_err-prepare_all.ensures.kept c.in_err-prepare_all.ensures.err,
+      all.1,
+    )
 
 pub returns-clause-stay : goal.returns-clause-stay
 returns-clause-stay g t c =
     let first = c.in-Some.first.now in
-    let all = each_watch c.args.watches.now first c.in-Some.rest.now c.in-Some.ensures.cases.0 c.requires in
+    let all = each_watch c.args.watches.now first c.in-Some.rest.now
+    c.in-Some.ensures.cases.0 c.requires in
     let judged = c.in_ok-judged.judged.items in
     let prepared = c.prepare_all.new.self in
-    let ahead : IsAhead first.kept judged prepared.due = subst (λ l. IsAhead first.kept l prepared.due) c.as_slice.ensures.value c.in_ok-prepare_all.ensures.ahead in
-    let kept = λ (key : List ℕ). c.settle.ensures.kept key ∙ ap (λ l. verdict_after l prepared.kept key) c.as_slice-2.ensures.value ∙ ap (λ k. verdict_after judged k key) c.in_ok-prepare_all.ensures.kept in (
-      watch_settled (g.V.Values.summed c.args.values.now) (g.V.Values.living c.args.values.now) c.args.t (shown first) judged c.in_ok-judged.ensures.judged first prepared c.settle.new.self refl all.0 (c.settle.ensures.filter ∙ c.in_ok-prepare_all.ensures.filter) ahead c.settle.ensures.due kept,
+    let ahead : IsAhead first.kept judged prepared.due =
+    subst (λ l. IsAhead first.kept l prepared.due) c.as_slice.ensures.value
+    c.in_ok-prepare_all.ensures.ahead in
+    let kept = λ (key : List ℕ). c.settle.ensures.kept key
+    ∙ ap (λ l. verdict_after l prepared.kept key) c.as_slice-2.ensures.value
+    ∙ ap (λ k. verdict_after judged k key) c.in_ok-prepare_all.ensures.kept in (
+      watch_settled (g.V.Values.summed c.args.values.now) (g.V.Values.living c.args.values.now)
+          c.args.t (shown first) judged c.in_ok-judged.ensures.judged first prepared
+          c.settle.new.self refl all.0 (c.settle.ensures.filter
+          ∙ c.in_ok-prepare_all.ensures.filter) ahead c.settle.ensures.due kept,
       c.in_default-turn_each.ensures.stay,
     )
 
@@ -39,6 +53,14 @@ returns-clause-ok g t c =
     let first = c.in-Some.first.now in
     let judged = c.in_ok-judged.judged.items in
     let prepared = c.prepare_all.new.self in
-    let kept = λ (key : List ℕ). c.settle.ensures.kept key ∙ ap (λ l. verdict_after l prepared.kept key) c.as_slice-2.ensures.value ∙ ap (λ k. verdict_after judged k key) c.in_ok-prepare_all.ensures.kept in
-    subst (λ (l : List Watching). AreTurned summed living c.args.t (map shown l) (shown c.settle.new.self ∷ map shown c.turn_each.new.watches)) (sym c.in-Some.ensures.cases.0)
-    (turned summed living c.args.t (shown first) judged c.in_ok-judged.ensures.judged (shown c.settle.new.self) (c.settle.ensures.filter ∙ c.in_ok-prepare_all.ensures.filter) kept, c.in_default-turn_each.ensures.ok)
+    let kept = λ (key : List ℕ). c.settle.ensures.kept key
+    ∙ ap (λ l. verdict_after l prepared.kept key) c.as_slice-2.ensures.value
+    ∙ ap (λ k. verdict_after judged k key) c.in_ok-prepare_all.ensures.kept in
+    subst (λ (l : List Watching). AreTurned summed living c.args.t (map shown l)
+    (shown c.settle.new.self ∷ map shown c.turn_each.new.watches))
+    (sym c.in-Some.ensures.cases.0) (
+      turned summed living c.args.t (shown first) judged c.in_ok-judged.ensures.judged
+          (shown c.settle.new.self) (c.settle.ensures.filter ∙ c.in_ok-prepare_all.ensures.filter)
+          kept,
+      c.in_default-turn_each.ensures.ok,
+    )

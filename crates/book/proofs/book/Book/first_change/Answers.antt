@@ -8,13 +8,19 @@ use Rattle.book.proofs.book.Book.first_change.Goals as goal
 
 pub first_change-requires-clause-few : goal.first_change-requires-clause-few
 first_change-requires-clause-few c =
-    let inside = subst (λ (s : State). c.args.filter < length s.config.filters) (sym c.self.view_is) c.requires in
-    subst (λ (f : Filter). length f.conds ≤ 4) (sym c.filter_at-standing.ensures) (conds_few c.self.inside.machine.config c.args.filter no_filter inside c.self.invariant.checked)
+    let inside = subst (λ (s : State). c.args.filter < length s.config.filters)
+    (sym c.self.view_is) c.requires in
+    subst (λ (f : Filter). length f.conds ≤ 4) (sym c.filter_at-standing.ensures)
+    (conds_few c.self.inside.machine.config c.args.filter no_filter inside
+    c.self.invariant.checked)
 
 pub first_change-requires-clause-flat : goal.first_change-requires-clause-flat
-first_change-requires-clause-flat c = c.sets_are_flat_in_time.ensures.sound c.self.inside.machine c.filter_at-standing.result.now.table c.self.invariant
+first_change-requires-clause-flat c = c.sets_are_flat_in_time.ensures.sound c.self.inside.machine
+    c.filter_at-standing.result.now.table c.self.invariant
 
 pub returns : goal.returns
 returns c =
-    subst (λ (s : State). IsFirstOf s (filter_of s c.args.filter) c.args.keys.now c.first_change.result) c.self.view_is
-    (subst (λ (f : Filter). IsFirstOf c.self.inside.machine f c.args.keys.now c.first_change.result) c.filter_at-standing.ensures c.first_change.ensures)
+    subst (λ (s : State). IsFirstOf s (filter_of s c.args.filter) c.args.keys.now
+    c.first_change.result) c.self.view_is
+    (subst (λ (f : Filter). IsFirstOf c.self.inside.machine f c.args.keys.now c.first_change.result)
+    c.filter_at-standing.ensures c.first_change.ensures)

@@ -10,8 +10,11 @@ returns c =
     let state = c.args.self.now in
     let filter = filter_of state c.args.filter in
     let sound = c.table_of-table.ensures.sound in
-    let shown : map (λ (k : Bor (List ℕ)). k.now) c.as_slice.result.now ≡ keys_of state filter.table =
-    ap (λ ks. map (λ (k : Bor (List ℕ)). k.now) ks) c.as_slice.ensures.value ∙ c.in_ok-keys.ensures ∙ ap (λ (t : ℕ). keys_of state t) c.table_of-table.ensures.table in
+    let shown : map (λ (k : Bor (List ℕ)). k.now) c.as_slice.result.now
+    ≡ keys_of state filter.table =
+    ap (λ ks. map (λ (k : Bor (List ℕ)). k.now) ks) c.as_slice.ensures.value ∙ c.in_ok-keys.ensures
+    ∙ ap (λ (t : ℕ). keys_of state t) c.table_of-table.ensures.table in
     first_is_next state filter c.as_slice.result.now c.first_change.result sound.ordered sound.live
-    (subst (λ (ks : List (List ℕ)). IsKeyList state filter.table ks) (sym shown) (c.keys_are_exact.ensures state filter.table sound.ordered))
+    (subst (λ (ks : List (List ℕ)). IsKeyList state filter.table ks) (sym shown)
+    (c.keys_are_exact.ensures state filter.table sound.ordered))
     c.first_change.ensures

@@ -11,6 +11,8 @@ unfolding listed
 returns c =
     let sum_of = λ (key : List ℕ). summed c.args.self.now c.args.table key in
     ap (map shown_row) (c.new.ensures ∙ c.in_ok-sum_up.ensures)
-    ∙ ap (λ (keys : List (List ℕ)). map shown_row (filter_map (λ key. with_sums key (sum_of key)) keys))
+    ∙ ap (λ (keys : List (List ℕ)). map shown_row
+    (filter_map (λ key. with_sums key (sum_of key)) keys))
     (ap (map (λ (key : Bor (List ℕ)). key.now)) c.as_slice.ensures.value ∙ c.in_ok-keys.ensures)
-    ∙ all_listed sum_of (keys_of c.args.self.now c.args.table) (c.listed_keys_have_sums.ensures c.args.self.now c.args.table)
+    ∙ all_listed sum_of (keys_of c.args.self.now c.args.table)
+    (c.listed_keys_have_sums.ensures c.args.self.now c.args.table)

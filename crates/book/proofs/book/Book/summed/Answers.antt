@@ -6,5 +6,6 @@ use Rattle.book.proofs.book.Book.summed.Goals as goal
 pub returns : goal.returns
 returns c =
     c.summed.ensures
-    ∙ sym (c.a_key_answers_by_its_rows.ensures.sums c.self.inside.machine c.args.table c.args.key.now c.self.invariant.live)
+    ∙ sym (c.a_key_answers_by_its_rows.ensures.sums c.self.inside.machine c.args.table
+    c.args.key.now c.self.invariant.live)
     ∙ ap (λ (s : State). summed s c.args.table c.args.key.now) c.self.view_is

@@ -8,5 +8,6 @@ pub returns : goal.returns
 unfolding keys_of
 returns c =
     c.used.ensures
-    ∙ ap length (sym (used_live c.args.table c.self.inside.machine.moment c.self.inside.machine.rows c.self.invariant.live))
+    ∙ ap length (sym (used_live c.args.table c.self.inside.machine.moment c.self.inside.machine.rows
+    c.self.invariant.live))
     ∙ ap (λ (s : State). length (keys_of s c.args.table)) c.self.view_is

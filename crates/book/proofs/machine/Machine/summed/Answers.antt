@@ -9,5 +9,8 @@ use Rattle.book.proofs.machine.Machine.summed.Goals as goal
 pub returns : goal.returns
 returns c =
     c.summed.ensures
-    ∙ ap (λ (cols : List (Col × ℕ)). sum_of cols (key_rows c.self.inside.rows.rows c.args.table c.args.key.now) c.self.inside.moment) (c.cols_of-cols.ensures ∙ ap (λ (tables : List Shape). cols_of tables c.args.table) c.as_slice.ensures)
-    ∙ ap (λ (s : State). sum_of (cols_of s.config.tables c.args.table) (key_rows s.rows c.args.table c.args.key.now) s.moment) c.self.view_is
+    ∙ ap (λ (cols : List (Col × ℕ)). sum_of cols (key_rows c.self.inside.rows.rows c.args.table
+    c.args.key.now) c.self.inside.moment) (c.cols_of-cols.ensures
+    ∙ ap (λ (tables : List Shape). cols_of tables c.args.table) c.as_slice.ensures)
+    ∙ ap (λ (s : State). sum_of (cols_of s.config.tables c.args.table)
+    (key_rows s.rows c.args.table c.args.key.now) s.moment) c.self.view_is

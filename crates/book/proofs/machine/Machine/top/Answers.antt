@@ -11,18 +11,27 @@ use Rattle.book.proofs.machine.Machine.top.Goals as goal
 pub top-requires-clause-short : goal.top-requires-clause-short
 top-requires-clause-short c =
     let rank : c.rank_at-rank.result.now ≡ rank_at c.args.self.now.config.ranks c.args.list =
-    c.rank_at-rank.ensures ∙ ap (λ (ranks : List Rank). rank_at ranks c.args.list) c.as_slice.ensures ∙ ap (λ (s : State). rank_at s.config.ranks c.args.list) c.self.view_is in
-    subst (λ (r : Rank). r.n ≤ 1000) (sym rank) (lists_short c.args.self.now.config c.args.list c.requires.there c.requires.sound.checked)
+    c.rank_at-rank.ensures ∙ ap (λ (ranks : List Rank). rank_at ranks c.args.list)
+    c.as_slice.ensures ∙ ap (λ (s : State). rank_at s.config.ranks c.args.list)
+    c.self.view_is in
+    subst (λ (r : Rank). r.n ≤ 1000) (sym rank) (lists_short c.args.self.now.config c.args.list
+    c.requires.there c.requires.sound.checked)
 
 pub returns : goal.returns
 returns c =
     let state : State = c.args.self.now in
     let lists = c.self.inside.leaders in
     let rank : c.rank_at-rank.result.now ≡ rank_at state.config.ranks c.args.list =
-    c.rank_at-rank.ensures ∙ ap (λ (ranks : List Rank). rank_at ranks c.args.list) c.as_slice.ensures ∙ ap (λ (s : State). rank_at s.config.ranks c.args.list) c.self.view_is in
+    c.rank_at-rank.ensures ∙ ap (λ (ranks : List Rank). rank_at ranks c.args.list)
+    c.as_slice.ensures ∙ ap (λ (s : State). rank_at s.config.ranks c.args.list)
+    c.self.view_is in
     let now : c.self.inside.moment ≡ state.moment = ap (λ (s : State). s.moment) c.self.view_is in
-    let led : AreLed state.config.tables state.config.ranks state.rows state.moment lists = subst (λ (s : State). AreLed s.config.tables s.config.ranks s.rows s.moment lists) c.self.view_is c.self.invariant.led in
+    let led : AreLed state.config.tables state.config.ranks state.rows state.moment lists =
+    subst (λ (s : State). AreLed s.config.tables s.config.ranks s.rows s.moment lists)
+    c.self.view_is c.self.invariant.led in
     IfOk-weaker c.top.result _ _ (λ found is. is
-    ∙ first_is state c.rank_at-rank.result.now (bounds_of lists c.args.list) c.self.inside.moment c.requires.sound.ordered c.top.ensures.ordered c.requires.sound.in_range now
-    (list_bounded state lists c.args.list c.self.inside.moment c.rank_at-rank.result.now led c.requires.there c.requires.sound.in_range now rank)
+    ∙ first_is state c.rank_at-rank.result.now (bounds_of lists c.args.list) c.self.inside.moment
+    c.requires.sound.ordered c.top.ensures.ordered c.requires.sound.in_range now
+    (list_bounded state lists c.args.list c.self.inside.moment c.rank_at-rank.result.now led
+    c.requires.there c.requires.sound.in_range now rank)
     ∙ ap (λ (r : Rank). ranked state r) rank) c.top.ensures.list

@@ -9,5 +9,8 @@ use Rattle.book.proofs.machine.Machine.worth.Goals as goal
 pub returns : goal.returns
 returns c =
     c.worth_at.ensures
-    ∙ ap (λ (cols : List (Col × ℕ)). worth_of cols (key_rows c.self.inside.rows.rows c.args.table c.args.key.now) c.args.col c.args.t) (c.cols_of-cols.ensures ∙ ap (λ (tables : List Shape). cols_of tables c.args.table) c.as_slice.ensures)
-    ∙ ap (λ (s : State). worth_of (cols_of s.config.tables c.args.table) (key_rows s.rows c.args.table c.args.key.now) c.args.col c.args.t) c.self.view_is
+    ∙ ap (λ (cols : List (Col × ℕ)). worth_of cols (key_rows c.self.inside.rows.rows c.args.table
+    c.args.key.now) c.args.col c.args.t) (c.cols_of-cols.ensures
+    ∙ ap (λ (tables : List Shape). cols_of tables c.args.table) c.as_slice.ensures)
+    ∙ ap (λ (s : State). worth_of (cols_of s.config.tables c.args.table)
+    (key_rows s.rows c.args.table c.args.key.now) c.args.col c.args.t) c.self.view_is

@@ -14,13 +14,42 @@ invariant_of-self c = c.drop_key.ensures.kept c.self.inside.late.items c.self.in
 
 pub returns-then-table-self : goal.returns-then-table-self
 returns-then-table-self c =
-    let made : RowMap → InForce = λ rows. record { peers = c.self.inside.size.peers; tables = c.self.inside.size.tables; rows = arrivals rows.entries } in
-    let kept : List (Place × Arrival) → InForce = λ rows. record { peers = c.self.inside.size.peers; tables = c.self.inside.size.tables; rows = rows } in
-    let left : InForce → InForce = λ s. record s { rows = filter (λ (row : Place × Arrival). not ((row.0.table == c.args.table) && same_key c.args.key row.0.key)) s.rows } in
-    ap made c.drop_key.ensures.after ∙ ap kept (cleared_shown c.args.table c.args.key c.self.inside.rows.entries) ∙ ap left c.self.view_is
+    let made : RowMap → InForce = λ rows. record {
+      peers = c.self.inside.size.peers;
+      tables =
+          c.self.inside.size.tables;
+      rows = arrivals rows.entries;
+    } in
+    let kept : List (Place × Arrival) → InForce =
+    λ rows. record {
+      peers = c.self.inside.size.peers;
+      tables =
+          c.self.inside.size.tables;
+      rows = rows;
+    } in
+    let left : InForce → InForce =
+    λ s. record s {
+      rows = filter (λ (row : Place × Arrival). not ((row.0.table == c.args.table)
+          && same_key c.args.key row.0.key)) s.rows;
+    } in
+    ap made c.drop_key.ensures.after
+    ∙ ap kept (cleared_shown c.args.table c.args.key c.self.inside.rows.entries)
+    ∙ ap left c.self.view_is
 
 pub returns-else-table-self : goal.returns-else-table-self
 returns-else-table-self c =
-    let kept : List (Place × Arrival) → InForce = λ rows. record { peers = c.self.inside.size.peers; tables = c.self.inside.size.tables; rows = rows } in
-    let left : InForce → InForce = λ s. record s { rows = filter (λ (row : Place × Arrival). not ((row.0.table == c.args.table) && same_key c.args.key row.0.key)) s.rows } in
-    sym c.self.view_is ∙ ap kept (untouched c.self.inside.size.peers c.self.inside.size.tables c.args.table c.args.key c.self.inside.rows.entries (omega arith) c.self.invariant.are.inside) ∙ ap left c.self.view_is
+    let kept : List (Place × Arrival) → InForce =
+    λ rows. record {
+      peers = c.self.inside.size.peers;
+      tables =
+          c.self.inside.size.tables;
+      rows = rows;
+    } in
+    let left : InForce → InForce =
+    λ s. record s {
+      rows = filter (λ (row : Place × Arrival). not ((row.0.table == c.args.table)
+          && same_key c.args.key row.0.key)) s.rows;
+    } in
+    sym c.self.view_is ∙ ap kept (untouched c.self.inside.size.peers c.self.inside.size.tables
+    c.args.table c.args.key c.self.inside.rows.entries (omega arith)
+    c.self.invariant.are.inside) ∙ ap left c.self.view_is

@@ -13,19 +13,39 @@ use Rattle.book.proofs.store.Store.end_rows.Goals as goal
 
 pub end_late-requires-clause-late : goal.end_late-requires-clause-late
 end_late-requires-clause-late c =
-    are_late c.args.t c.as_slice-2.result.now c.plan_again.new.due c.self.inside.rows.entries c.plan_again.ensures.past
-    (subst (λ (late : List (ℕ × Place)). ArePlanned (late ++ c.plan_again.new.due) c.self.inside.rows.entries) (c.as_slice.ensures.value ∙ sym c.as_slice-2.ensures.value) c.plan_again.ensures.planned)
+    are_late c.args.t c.as_slice-2.result.now c.plan_again.new.due c.self.inside.rows.entries
+    c.plan_again.ensures.past
+    (subst (λ (late : List (ℕ × Place)). ArePlanned (late ++ c.plan_again.new.due)
+    c.self.inside.rows.entries) (c.as_slice.ensures.value ∙ sym c.as_slice-2.ensures.value)
+    c.plan_again.ensures.planned)
 
 pub invariant_of-self-2 : goal.invariant_of-self-2
 invariant_of-self-2 c =
     let none : c.replace.new.dest.items ≡ [] = rw c.replace.ensures.after c.new.ensures.items in
-    kept_living c.self.inside.size.peers c.self.inside.size.tables c.args.t c.self.inside.rows c.end_late.new.rows c.replace.new.dest.items c.plan_again.new.due c.self.invariant.are c.end_late.ensures c.in_ok-plan_again.ensures.ok none
+    kept_living c.self.inside.size.peers c.self.inside.size.tables c.args.t c.self.inside.rows
+    c.end_late.new.rows c.replace.new.dest.items c.plan_again.new.due c.self.invariant.are
+    c.end_late.ensures c.in_ok-plan_again.ensures.ok none
 
 pub returns-clause-ok : goal.returns-clause-ok
 returns-clause-ok c =
-    let made : RowMap → InForce = λ rows. record { peers = c.self.inside.size.peers; tables = c.self.inside.size.tables; rows = arrivals rows.entries } in
-    let kept : List (Place × Arrival) → InForce = λ rows. record { peers = c.self.inside.size.peers; tables = c.self.inside.size.tables; rows = rows } in
-    let living : InForce → InForce = λ s. record s { rows = filter (λ (row : Place × Arrival). is_live c.args.t row.1) s.rows } in
+    let made : RowMap → InForce = λ rows. record {
+      peers = c.self.inside.size.peers;
+      tables =
+          c.self.inside.size.tables;
+      rows = arrivals rows.entries;
+    } in
+    let kept : List (Place × Arrival) → InForce =
+    λ rows. record {
+      peers = c.self.inside.size.peers;
+      tables =
+          c.self.inside.size.tables;
+      rows = rows;
+    } in
+    let living : InForce → InForce =
+    λ s. record s {
+      rows = filter (λ (row : Place × Arrival). is_live c.args.t row.1) s.rows;
+    } in
     ap made c.end_late.ensures
-    ∙ ap kept (map-filter shown (λ (row : Place × Arrival). is_live c.args.t row.1) c.self.inside.rows.entries)
+    ∙ ap kept (map-filter shown (λ (row : Place × Arrival). is_live c.args.t row.1)
+    c.self.inside.rows.entries)
     ∙ ap living c.self.view_is

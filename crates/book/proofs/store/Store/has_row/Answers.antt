@@ -10,4 +10,5 @@ pub returns : goal.returns
 returns c =
     c.is_some.ensures ∙ is_some-copied c.get_at.result ∙ ap is_some c.get_at.ensures.value
     ∙ found_shown (place_at c.args.at) c.self.inside.rows.entries
-    ∙ ap (λ (s : InForce). list_any (λ row. same_place (place_at c.args.at) row.0) s.rows) c.self.view_is
+    ∙ ap (λ (s : InForce). list_any (λ row. same_place (place_at c.args.at) row.0) s.rows)
+    c.self.view_is

@@ -15,10 +15,13 @@ returns-then-table-self-clause-value c =
 pub returns-then-table-self-clause-few : goal.returns-then-table-self-clause-few
 returns-then-table-self-clause-few c =
     let few : length c.of_key.result ≤ c.self.inside.size.peers =
-    subst (λ (rows : _). length rows ≤ c.self.inside.size.peers) (sym c.of_key.ensures.value) (few_peers c.self.inside.size.peers c.self.inside.size.tables c.self.inside.rows c.args.table c.args.key.now c.self.invariant.are) in
+    subst (λ (rows : _). length rows ≤ c.self.inside.size.peers) (sym c.of_key.ensures.value)
+    (few_peers c.self.inside.size.peers c.self.inside.size.tables c.self.inside.rows
+    c.args.table c.args.key.now c.self.invariant.are) in
     subst (λ (s : InForce). length c.of_key.result ≤ s.peers) c.self.view_is few
 
 pub returns-else-table-self-clause-value : goal.returns-else-table-self-clause-value
 returns-else-table-self-clause-value c =
     sym (ap (λ (s : InForce). key_rows s.rows c.args.table c.args.key.now) c.self.view_is)
-    ∙ no_rows c.self.inside.size.peers c.self.inside.size.tables c.args.table c.args.key.now c.self.inside.rows.entries (omega arith) c.self.invariant.are.inside
+    ∙ no_rows c.self.inside.size.peers c.self.inside.size.tables c.args.table c.args.key.now
+    c.self.inside.rows.entries (omega arith) c.self.invariant.are.inside

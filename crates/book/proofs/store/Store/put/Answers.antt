@@ -27,26 +27,47 @@ invariant_of-self-2 c = c.set_row.ensures.kept c.self.inside.late.items c.self.i
 pub returns-then-is_over-clause-ok : goal.returns-then-is_over-clause-ok
 returns-then-is_over-clause-ok c =
     let row = put_arrival c.args.t c.args.life c.args.cols.now c.args.cells.now in
-    let over : is_live c.args.t row ≡ false = c.is_over.ensures c.args.t c.args.cols.now c.args.cells.now ∙ ap not c.if-is_over.true in
-    let kept : List (Place × Arrival) → InForce = λ rows. record { peers = c.self.inside.size.peers; tables = c.self.inside.size.tables; rows = rows } in
-    ap kept (c.in_ok-drop_row.ensures.ok ∙ sym (with_ended c.args.t (arrivals c.self.inside.rows.entries) (place_at c.args.at) row over))
-    ∙ ap (λ (s : InForce). record s { rows = with_row c.args.t s.rows (place_at c.args.at) row }) c.self.view_is
+    let over : is_live c.args.t row ≡ false =
+    c.is_over.ensures c.args.t c.args.cols.now c.args.cells.now ∙ ap not c.if-is_over.true in
+    let kept : List (Place × Arrival) → InForce =
+    λ rows. record {
+      peers = c.self.inside.size.peers;
+      tables =
+          c.self.inside.size.tables;
+      rows = rows;
+    } in
+    ap kept (c.in_ok-drop_row.ensures.ok
+    ∙ sym (with_ended c.args.t (arrivals c.self.inside.rows.entries)
+    (place_at c.args.at) row over))
+    ∙ ap (λ (s : InForce). record s { rows = with_row c.args.t s.rows (place_at c.args.at) row })
+    c.self.view_is
 
 pub returns-clause-ok : goal.returns-clause-ok
 returns-clause-ok c =
     let row = put_arrival c.args.t c.args.life c.args.cols.now c.args.cells.now in
-    let live : is_live c.args.t row ≡ true = c.is_over.ensures c.args.t c.args.cols.now c.args.cells.now ∙ ap not c.if-is_over.false in
-    let kept : List (Place × Arrival) → InForce = λ rows. record { peers = c.self.inside.size.peers; tables = c.self.inside.size.tables; rows = rows } in
+    let live : is_live c.args.t row ≡ true =
+    c.is_over.ensures c.args.t c.args.cols.now c.args.cells.now ∙ ap not c.if-is_over.false in
+    let kept : List (Place × Arrival) → InForce =
+    λ rows. record {
+      peers = c.self.inside.size.peers;
+      tables =
+          c.self.inside.size.tables;
+      rows = rows;
+    } in
     let old = arrivals c.self.inside.rows.entries in
     ap kept (c.in_ok-set_row.ensures.ok
     ∙ ap (insert_entry place_cmp old (place_at c.args.at)) c.in_ok-row.ensures
     ∙ sym (with_living c.args.t old (place_at c.args.at) row live))
-    ∙ ap (λ (s : InForce). record s { rows = with_row c.args.t s.rows (place_at c.args.at) row }) c.self.view_is
+    ∙ ap (λ (s : InForce). record s { rows = with_row c.args.t s.rows (place_at c.args.at) row })
+    c.self.view_is
 
 pub invariant_of-self-in_err-set_row : goal.invariant_of-self-in_err-set_row
-invariant_of-self-in_err-set_row c = c.set_row.ensures.kept c.self.inside.late.items c.self.invariant
+invariant_of-self-in_err-set_row c =
+    c.set_row.ensures.kept c.self.inside.late.items c.self.invariant
 
 pub set_row-requires-clause-found : goal.set_row-requires-clause-found
 set_row-requires-clause-found c =
-    none_then c.args.at.spot (λ none. none-mapped (of_peer c.args.at.table c.args.at.key.now) (peers_of c.self.inside.rows c.args.at.table c.args.at.key.now) (peers_shown c.args.at.table c.args.at.key.now c.self.inside.rows.entries ∙ none))
+    none_then c.args.at.spot (λ none. none-mapped (of_peer c.args.at.table c.args.at.key.now)
+    (peers_of c.self.inside.rows c.args.at.table c.args.at.key.now)
+    (peers_shown c.args.at.table c.args.at.key.now c.self.inside.rows.entries ∙ none))
     (rw (← c.self.view_is) at c.requires.found)

@@ -16,5 +16,8 @@ returns-then-table-self c =
 
 pub returns-else-table-self : goal.returns-else-table-self
 returns-else-table-self c =
-    sym (ap (λ (rows : List (Place × Arrival)). length (dedup same_key (map (λ row. row.0.key) rows))) (no_spots c.self.inside.size.peers c.self.inside.size.tables c.args.table c.self.inside.rows.entries (omega arith) c.self.invariant.are.inside))
+    sym (ap (λ (rows : List (Place × Arrival)). length
+    (dedup same_key (map (λ row. row.0.key) rows)))
+    (no_spots c.self.inside.size.peers c.self.inside.size.tables c.args.table
+    c.self.inside.rows.entries (omega arith) c.self.invariant.are.inside))
     ∙ ap (λ (s : InForce). length (row_keys s.rows c.args.table)) c.self.view_is

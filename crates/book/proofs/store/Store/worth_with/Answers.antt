@@ -10,16 +10,26 @@ use Rattle.book.proofs.store.Store.worth_with.Goals as goal
 
 pub returns-clause-before : goal.returns-clause-before
 returns-clause-before c =
-    let standing : c.value-standing.result ≡ worth_of c.args.cols.now (key_rows c.args.self.now.rows c.args.at.table c.args.at.key.now) c.args.col c.args.t =
-    c.value-standing.ensures.exact ∙ value-rows c.args.cols.now c.args.self.now.rows c.args.at.table c.args.at.key.now c.args.col c.args.t in
+    let standing : c.value-standing.result ≡ worth_of c.args.cols.now
+    (key_rows c.args.self.now.rows c.args.at.table c.args.at.key.now) c.args.col c.args.t =
+    c.value-standing.ensures.exact ∙ value-rows c.args.cols.now c.args.self.now.rows c.args.at.table
+    c.args.at.key.now c.args.col c.args.t in
     omega arith
 
 pub returns-clause-after : goal.returns-clause-after
 returns-clause-after c = λ life.
-    let standing : c.value-standing.result ≡ worth_of c.args.cols.now (key_rows c.args.self.now.rows c.args.at.table c.args.at.key.now) c.args.col c.args.t =
-    c.value-standing.ensures.exact ∙ value-rows c.args.cols.now c.args.self.now.rows c.args.at.table c.args.at.key.now c.args.col c.args.t in
-    let own : c.from.result ≡ column_worth c.args.col 0 c.args.cols.now c.args.cells.now = c.from.ensures ∙ c.arriving_worth.ensures in
-    let more : worth_of c.args.cols.now (key_rows (with_row c.args.t c.args.self.now.rows (place_at c.args.at) (put_arrival c.args.t life c.args.cols.now c.args.cells.now)) c.args.at.table c.args.at.key.now) c.args.col c.args.t
-    ≤ worth_of c.args.cols.now (key_rows c.args.self.now.rows c.args.at.table c.args.at.key.now) c.args.col c.args.t + column_worth c.args.col 0 c.args.cols.now c.args.cells.now =
-    arriving_more c.args.cols.now c.args.self.now.rows c.args.t (place_at c.args.at) life c.args.cells.now c.args.col c.requires in
+    let standing : c.value-standing.result ≡ worth_of c.args.cols.now
+    (key_rows c.args.self.now.rows c.args.at.table c.args.at.key.now) c.args.col c.args.t =
+    c.value-standing.ensures.exact ∙ value-rows c.args.cols.now c.args.self.now.rows c.args.at.table
+    c.args.at.key.now c.args.col c.args.t in
+    let own : c.from.result ≡ column_worth c.args.col 0 c.args.cols.now c.args.cells.now =
+    c.from.ensures ∙ c.arriving_worth.ensures in
+    let more : worth_of c.args.cols.now
+    (key_rows (with_row c.args.t c.args.self.now.rows (place_at c.args.at)
+    (put_arrival c.args.t life c.args.cols.now c.args.cells.now)) c.args.at.table
+    c.args.at.key.now) c.args.col c.args.t
+    ≤ worth_of c.args.cols.now (key_rows c.args.self.now.rows c.args.at.table c.args.at.key.now)
+    c.args.col c.args.t + column_worth c.args.col 0 c.args.cols.now c.args.cells.now =
+    arriving_more c.args.cols.now c.args.self.now.rows c.args.t (place_at c.args.at) life
+    c.args.cells.now c.args.col c.requires in
     omega arith

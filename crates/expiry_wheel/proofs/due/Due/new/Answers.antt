@@ -10,6 +10,8 @@ returns g c =
     let firsts = g.A.DueIndex.planned c.args.firsts.now in
     let seconds = g.B.DueIndex.planned c.args.seconds.now in
     ap (λ l. merged l (left_from g.U.Ord.cmp (option_map lent_entry c.after-2.result) seconds))
-    (left_at_start g.T.Ord.cmp g.met.T.Ord.total firsts c.after.ensures.ordered (option_map lent_entry c.after.result) c.after.ensures.next)
+    (left_at_start g.T.Ord.cmp g.met.T.Ord.total firsts c.after.ensures.ordered
+    (option_map lent_entry c.after.result) c.after.ensures.next)
     ∙ ap (λ l. merged firsts l)
-    (left_at_start g.U.Ord.cmp g.met.U.Ord.total seconds c.after-2.ensures.ordered (option_map lent_entry c.after-2.result) c.after-2.ensures.next)
+    (left_at_start g.U.Ord.cmp g.met.U.Ord.total seconds c.after-2.ensures.ordered
+    (option_map lent_entry c.after-2.result) c.after-2.ensures.next)

@@ -3,7 +3,9 @@ use Rattle.expiry_wheel.proofs.Marked.{mark_written, other_marks}
 use Rattle.expiry_wheel.proofs.marks.Marks.set.Goals as goal
 
 pub returns-clause-here : goal.returns-clause-here
-returns-clause-here c = mark_written c.args.self.now.words c.args.slot c.with_bit.result (omega arith) ∙ c.with_bit.ensures.here
+returns-clause-here c = mark_written c.args.self.now.words c.args.slot c.with_bit.result
+    (omega arith) ∙ c.with_bit.ensures.here
 
 pub returns-clause-others : goal.returns-clause-others
-returns-clause-others c = other_marks c.args.self.now.words c.args.slot c.with_bit.result (omega arith) (λ bit h apart. c.with_bit.ensures.others bit apart)
+returns-clause-others c = other_marks c.args.self.now.words c.args.slot c.with_bit.result
+    (omega arith) (λ bit h apart. c.with_bit.ensures.others bit apart)

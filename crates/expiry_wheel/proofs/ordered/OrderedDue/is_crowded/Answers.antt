@@ -6,5 +6,7 @@ use Rattle.expiry_wheel.proofs.ordered.OrderedDue.is_crowded.Goals as goal
 
 pub returns : goal.returns
 returns g c =
-    let more : length c.self.inside.moments.entries ≤ length (entries_of c.self.inside.moments.entries) = as_many_entries g.T.Ord.cmp c.self.inside.moments.entries c.self.invariant in
+    let more : length c.self.inside.moments.entries ≤ length
+    (entries_of c.self.inside.moments.entries) =
+    as_many_entries g.T.Ord.cmp c.self.inside.moments.entries c.self.invariant in
     λ e. grind (arith, nat_tests, more, ap length c.self.view_is)

@@ -8,7 +8,8 @@ pub returns : goal.returns
 returns g c =
     let slots = c.self.inside.each.items in
     let k = c.in_ok-slot.slot in
-    let f : IsFirstOccupied slots c.args.from k = subst (λ s. IsFirstOccupied s c.args.from k) (sym c.self.view_is) c.in_ok-slot.ensures in
+    let f : IsFirstOccupied slots c.args.from k =
+    subst (λ s. IsFirstOccupied s c.args.from k) (sym c.self.view_is) c.in_ok-slot.ensures in
     let o : Opened slots k = opened slots k f.within in
     c.after.ensures.next
     ∙ ap first_item (c.index.ensures ∙ o.read c.index.result.now)

@@ -11,9 +11,11 @@ returns g c =
     let cmp = g.T.Ord.cmp in
     let item = c.args.item.now in
     let i = c.self.inside in
-    let not_above : is_lt (cmp item c.in_ok-first.first.now) ≡ false = ap is_lt (sym c.cmp.ensures) ∙ not_less c.cmp.result (sym c.if-eq.ensures) in
+    let not_above : is_lt (cmp item c.in_ok-first.first.now) ≡ false = ap is_lt (sym c.cmp.ensures)
+    ∙ not_less c.cmp.result (sym c.if-eq.ensures) in
     step-first c.next.result c.range.result c.next.new.self c.next.ensures.steps
     ∙ ap first_item (c.range.ensures.between tt)
     ∙ first-filter _ (λ x. is_lt (cmp item x)) (λ x. and_true (is_lt (cmp item x))) i.others.keys
-    ∙ above_first cmp item i.first c.in_ok-first.first.now i.others.keys (sym c.as_ref.ensures.value ∙ ap option_copied c.in_ok-first.was) not_above
+    ∙ above_first cmp item i.first c.in_ok-first.first.now i.others.keys (sym c.as_ref.ensures.value
+    ∙ ap option_copied c.in_ok-first.was) not_above
     ∙ ap (first_item_above cmp item) c.self.view_is

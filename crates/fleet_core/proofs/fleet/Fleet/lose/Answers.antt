@@ -9,16 +9,22 @@ pub returns-in_default : goal.returns-in_default
 returns-in_default c = λ config opening past h.
     at_no_conn c.args.self.now config opening past _ h
     (lost_closed c.args.self.now config opening past c.args.conn h
-    (ap (λ (f : Collected). next_seq_at f.links c.args.conn) (sym c.self.view_is) ∙ sym c.in_default.ensures))
+    (ap (λ (f : Collected). next_seq_at f.links c.args.conn) (sym c.self.view_is)
+    ∙ sym c.in_default.ensures))
 
 pub returns-in-Ok : goal.returns-in-Ok
 returns-in-Ok c = λ config opening past h.
-    lost_answers c.args.self.now c.close_open.new.self config opening past c.args.conn c.silent.result
-    (lost_finds c.args.self.now config opening past c.args.conn c.in-Some.next_seq h (ap (λ (f : Collected). next_seq_at f.links c.args.conn) (sym c.self.view_is) ∙ sym c.in-Some.ensures))
+    lost_answers c.args.self.now c.close_open.new.self config opening past c.args.conn
+    c.silent.result
+    (lost_finds c.args.self.now config opening past c.args.conn c.in-Some.next_seq h
+    (ap (λ (f : Collected). next_seq_at f.links c.args.conn) (sym c.self.view_is)
+    ∙ sym c.in-Some.ensures))
     c.silent.ensures (c.in-Ok.ensures config opening past h)
 
 pub returns-in-Err : goal.returns-in-Err
 returns-in-Err c = λ config opening past h.
     at_no_memory c.args.self.now c.close_open.new.self config opening past _
-    (lost_finds c.args.self.now config opening past c.args.conn c.in-Some.next_seq h (ap (λ (f : Collected). next_seq_at f.links c.args.conn) (sym c.self.view_is) ∙ sym c.in-Some.ensures))
+    (lost_finds c.args.self.now config opening past c.args.conn c.in-Some.next_seq h
+    (ap (λ (f : Collected). next_seq_at f.links c.args.conn) (sym c.self.view_is)
+    ∙ sym c.in-Some.ensures))
     (c.in-Err.ensures config opening past h)

@@ -8,17 +8,21 @@ use Rattle.fleet_core.proofs.fleet.Fleet.queue_own.Goals as goal
 pub returns-in_err-settle : goal.returns-in_err-settle
 returns-in_err-settle c = λ config opening past h.
     left_early _ _ _ c.from_residual.result c.from_residual.ensures.1
-    (kept c.args.self.now c.settle.new.self config opening past c.settle.ensures.handed c.settle.ensures.links c.settle.ensures.connected c.settle.ensures.next_seq h)
+    (kept c.args.self.now c.settle.new.self config opening past c.settle.ensures.handed
+    c.settle.ensures.links c.settle.ensures.connected c.settle.ensures.next_seq h)
 
 pub returns-in_err-facts : goal.returns-in_err-facts
 returns-in_err-facts c = λ config opening past h.
     left_early _ _ _ c.from_residual-in_err-facts.result c.from_residual-in_err-facts.ensures.1
-    (kept c.args.self.now c.settle.new.self config opening past c.settle.ensures.handed c.settle.ensures.links c.settle.ensures.connected c.settle.ensures.next_seq h)
+    (kept c.args.self.now c.settle.new.self config opening past c.settle.ensures.handed
+    c.settle.ensures.links c.settle.ensures.connected c.settle.ensures.next_seq h)
 
 pub returns : goal.returns
 returns c = λ config opening past h.
-    front_taken c.settle.new.self c.queue.new.self config opening past c.args.step.now (what_at c.args.step.now) c.new.result refl c.requires.own
-    (settled c.args.self.now c.settle.new.self config opening past c.settle.ensures.handed c.settle.ensures.links c.settle.ensures.connected c.settle.ensures.next_seq h)
+    front_taken c.settle.new.self c.queue.new.self config opening past c.args.step.now
+    (what_at c.args.step.now) c.new.result refl c.requires.own
+    (settled c.args.self.now c.settle.new.self config opening past c.settle.ensures.handed
+    c.settle.ensures.links c.settle.ensures.connected c.settle.ensures.next_seq h)
     c.in_ok-settle.ensures.ok
     (ap (λ n. is_full n 1) c.settle.ensures.next_seq ∙ c.requires.unspent)
     (sym (fits_now c.args.self.now config opening past c.args.step.now h) ∙ c.requires.fits)

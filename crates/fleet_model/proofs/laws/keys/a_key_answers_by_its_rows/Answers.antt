@@ -3,4 +3,11 @@ use Rattle.fleet_model.proofs.KeyRows.{live-rows, meets-rows, summed-rows, value
 use Rattle.fleet_model.proofs.laws.keys.a_key_answers_by_its_rows.Goals as goal
 
 pub returns : goal.returns
-returns c = record { values = value-rows; conditions = meets-rows; lives = live-rows; sums = summed-rows; any = live-if-any }
+returns c = record {
+  values = value-rows;
+  conditions = meets-rows;
+  lives = live-rows;
+  sums =
+      summed-rows;
+  any = live-if-any;
+}

@@ -6,7 +6,8 @@ pub replace_counts-requires-clause-room : goal.replace_counts-requires-clause-ro
 replace_counts-requires-clause-room c =
     let few = c.self.invariant.few in
     let some = rw (← c.self.view_is) at c.requires.can.some in
-    rw c.deref_mut.ensures.value (λ col. let left = rw (← c.self.view_is) at (c.requires.can.left col) in omega (arith, few, some, left))
+    rw c.deref_mut.ensures.value (λ col. let left =
+    rw (← c.self.view_is) at (c.requires.can.left col) in omega (arith, few, some, left))
 
 pub invariant_of-self : goal.invariant_of-self
 invariant_of-self c =

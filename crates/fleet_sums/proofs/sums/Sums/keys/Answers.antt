@@ -5,5 +5,8 @@ use Rattle.fleet_sums.proofs.sums.Sums.keys.Goals as goal
 
 pub returns : goal.returns
 returns c =
-    let found : slice_get c.self.inside.tables.items c.args.table ≡ Some c.index.result.now = found_at c.self.inside.tables.items c.args.table c.index.result.now (rw (← c.self.view_is, length-widths) at c.requires) c.index.ensures in
-    rw (← c.self.view_is) (c.keys.ensures ∙ sym (keys-placed c.self.inside.tables.items c.args.table c.index.result.now found []))
+    let found : slice_get c.self.inside.tables.items c.args.table ≡ Some c.index.result.now =
+    found_at c.self.inside.tables.items c.args.table c.index.result.now
+    (rw (← c.self.view_is, length-widths) at c.requires) c.index.ensures in
+    rw (← c.self.view_is) (c.keys.ensures
+    ∙ sym (keys-placed c.self.inside.tables.items c.args.table c.index.result.now found []))

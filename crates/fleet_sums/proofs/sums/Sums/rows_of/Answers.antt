@@ -6,5 +6,10 @@ use Rattle.fleet_sums.proofs.sums.Sums.rows_of.Goals as goal
 
 pub returns : goal.returns
 returns c =
-    let found : slice_get c.self.inside.tables.items c.args.table ≡ Some c.index.result.now = found_at c.self.inside.tables.items c.args.table c.index.result.now (rw (← c.self.view_is, length-widths) at c.requires) c.index.ensures in
-    rw (← c.self.view_is) (c.rows_of.ensures ∙ ap (λ (k : KeyTotals). k.rows) (sym (sums-placed c.self.inside.tables.items c.args.table c.index.result.now found c.args.key.now)))
+    let found : slice_get c.self.inside.tables.items c.args.table ≡ Some c.index.result.now =
+    found_at c.self.inside.tables.items c.args.table c.index.result.now
+    (rw (← c.self.view_is, length-widths) at c.requires) c.index.ensures in
+    rw (← c.self.view_is) (c.rows_of.ensures
+    ∙ ap (λ (k : KeyTotals). k.rows)
+    (sym (sums-placed c.self.inside.tables.items c.args.table c.index.result.now found
+    c.args.key.now)))

@@ -12,23 +12,35 @@ use Rattle.fleet_sums.proofs.table_sums.Table.add.Goals as goal
 
 pub add-requires-clause-width : goal.add-requires-clause-width
 add-requires-clause-width c =
-    let width = width-held c.self.inside.width c.self.inside.keys.entries c.args.key.now c.self.invariant c.in-Some.sums.now c.in-Some.sums.now (sym c.in-Some.ensures.value) in
+    let width = width-held c.self.inside.width c.self.inside.keys.entries c.args.key.now
+    c.self.invariant c.in-Some.sums.now c.in-Some.sums.now (sym c.in-Some.ensures.value) in
     rw (← c.self.view_is) at c.requires.width ∙ sym width
 
 pub invariant_of-self : goal.invariant_of-self
 invariant_of-self c =
-    table-set c.self.inside.width c.self.inside.keys.entries c.args.key.now c.self.invariant c.in-Some.sums.now c.add.new.self (sym c.in-Some.ensures.value) (c.get_mut.follows.lender c.add.new.self).entries (c.get_mut.follows.holds c.add.new.self).0
-    (ap (λ (k : KeyTotals). length k.totals) c.add.ensures ∙ length-totals_by (λ t n. t + n) c.in-Some.sums.now.totals c.args.cells.now)
+    table-set c.self.inside.width c.self.inside.keys.entries c.args.key.now c.self.invariant
+    c.in-Some.sums.now c.add.new.self (sym c.in-Some.ensures.value)
+    (c.get_mut.follows.lender c.add.new.self).entries (c.get_mut.follows.holds c.add.new.self).0
+    (ap (λ (k : KeyTotals). length k.totals) c.add.ensures
+    ∙ length-totals_by (λ t n. t + n) c.in-Some.sums.now.totals c.args.cells.now)
 
 pub returns-in-Some-clause-ok : goal.returns-in-Some-clause-ok
 returns-in-Some-clause-ok c =
-    let found : lookup (is_at (slice_cmp nat_cmp c.args.key.now)) c.self.inside.keys.entries ≡ Some c.in-Some.sums.now = sym c.in-Some.ensures.value in
-    let set = (c.get_mut.follows.holds c.add.new.self).0 ∙ set-held c.self.inside.width c.self.inside.keys.entries c.args.key.now c.self.invariant c.in-Some.sums.now c.add.new.self found in
-    rw (← c.self.view_is, found) (same_table c.self.inside.width _ _ (set ∙ ap (λ k. insert_entry (slice_cmp nat_cmp) c.self.inside.keys.entries c.args.key.now k) c.add.ensures))
+    let found : lookup (is_at (slice_cmp nat_cmp c.args.key.now)) c.self.inside.keys.entries
+    ≡ Some c.in-Some.sums.now = sym c.in-Some.ensures.value in
+    let set = (c.get_mut.follows.holds c.add.new.self).0
+    ∙ set-held c.self.inside.width c.self.inside.keys.entries c.args.key.now c.self.invariant
+    c.in-Some.sums.now c.add.new.self found in
+    rw (← c.self.view_is, found) (same_table c.self.inside.width _ _ (set
+    ∙ ap (λ k. insert_entry (slice_cmp nat_cmp) c.self.inside.keys.entries c.args.key.now k)
+    c.add.ensures))
 
 pub invariant_of-self-2 : goal.invariant_of-self-2
 invariant_of-self-2 c =
-    table-insert c.self.inside.width c.self.inside.keys.entries c.args.key.now c.self.invariant c.insert.new.self.entries c.add-2.new.self
-    (rw (c.get_mut.follows.holds-at-none, c.in_ok-duplicate.ensures) at c.in_ok-insert.ensures.entries)
-    (rw (c.add-2.ensures, length-totals_by, c.in_ok-sums.ensures) (length-replicate c.self.inside.width 0))
+    table-insert c.self.inside.width c.self.inside.keys.entries c.args.key.now c.self.invariant
+    c.insert.new.self.entries c.add-2.new.self
+    (rw (c.get_mut.follows.holds-at-none, c.in_ok-duplicate.ensures)
+    at c.in_ok-insert.ensures.entries)
+    (rw (c.add-2.ensures, length-totals_by, c.in_ok-sums.ensures)
+    (length-replicate c.self.inside.width 0))
     c.in_ok-insert.ensures.ordered

@@ -7,6 +7,10 @@ use Rattle.hub.proofs.keeper.Keeper.add.Goals as goal
 pub invariant_of-keeper-2 : goal.invariant_of-keeper-2
 invariant_of-keeper-2 g c =
     let writer = c.self.inside.hand.writer in
-    held_longer g.J.Naming.book writer.desk.shown.value (view writer.desk.place) (drop writer.behind writer.log.items) c.self.inside.queue.items c.self.inside.front c.self.inside.roll c.self.invariant
-    c.reserve.new.self.items c.store.new.queue.items (made c.args.pass.now.seat c.args.pass.now.number c.args.whats.items) c.store.new.front c.store.new.roll
+    held_longer g.J.Naming.book writer.desk.shown.value (view writer.desk.place)
+    (drop writer.behind writer.log.items) c.self.inside.queue.items c.self.inside.front
+    c.self.inside.roll c.self.invariant
+    c.reserve.new.self.items c.store.new.queue.items
+    (made c.args.pass.now.seat c.args.pass.now.number c.args.whats.items) c.store.new.front
+    c.store.new.roll
     c.reserve.ensures.items c.store.ensures.front c.store.ensures.stored c.store.ensures.counted

@@ -9,5 +9,8 @@ pub returns-clause-owns : goal.returns-clause-owns
 returns-clause-owns g c =
     let front = c.self.inside.front in
     let roll = c.self.inside.roll in
-    let at : found c.args.pass.now.seat roll.seats ≡ Some c.in-Some.found = ap (λ s. found s roll.seats) (sym c.seat.ensures) ∙ sym c.in-Some.ensures in
-    subst (λ (k : Kept). length (own c.args.pass.now.seat k.all.events) ≡ c.in-Some.found) c.self.view_is (owns_as_counted front roll c.args.pass.now.seat c.in-Some.found c.self.invariant.counted c.len-all.ensures.legal at)
+    let at : found c.args.pass.now.seat roll.seats ≡ Some c.in-Some.found =
+    ap (λ s. found s roll.seats) (sym c.seat.ensures) ∙ sym c.in-Some.ensures in
+    subst (λ (k : Kept). length (own c.args.pass.now.seat k.all.events) ≡ c.in-Some.found)
+    c.self.view_is (owns_as_counted front roll c.args.pass.now.seat c.in-Some.found
+    c.self.invariant.counted c.len-all.ensures.legal at)

@@ -5,5 +5,7 @@ use Rattle.hub.proofs.keeper.Keeper.replaced.Goals as goal
 
 pub returns : goal.returns
 returns g c =
-    let P : Kept → Type 0 = λ k. MatchOption c.replaced.result (NoneReplaced c.args.pass.now k.all.events c.args.whats.now) (FindsReplaced c.args.pass.now k.all.events c.args.whats.now) in
+    let P : Kept → Type 0 = λ k. MatchOption c.replaced.result
+    (NoneReplaced c.args.pass.now k.all.events c.args.whats.now)
+    (FindsReplaced c.args.pass.now k.all.events c.args.whats.now) in
     subst P c.self.view_is c.replaced.ensures

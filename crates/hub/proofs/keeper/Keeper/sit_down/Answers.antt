@@ -1,4 +1,5 @@
-use Rattle.std.proofs.Common.{◌≡◌, ◌≤◌, ◌^◌, ◌+◌, nat_lt, true, refl, sym, ap, ◌∙◌, subst, [], ◌∷◌, drop, length}
+use Rattle.std.proofs.Common.{◌≡◌, ◌≤◌, ◌^◌, ◌+◌, nat_lt, true, refl, sym, ap, ◌∙◌, subst, [], ◌∷◌}
+use Rattle.std.proofs.Common.{drop, length}
 use Rattle.left_right.specs.Sides.{view}
 use Rattle.std.specs.BTreeMap.{insert_entry}
 use Rattle.std.specs.Ordering.{nat_cmp}
@@ -19,29 +20,46 @@ pub store-requires-clause-counts : goal.store-requires-clause-counts
 store-requires-clause-counts g c =
     let front = c.self.inside.front in
     let roll = c.self.inside.roll in
-    let free : nat_lt (length roll.seats) most_seats ≡ true = ap (λ (k : Kept). nat_lt (length k.roll.seats) most_seats) c.self.view_is ∙ c.requires.free in
-    let small : roll.next_seat ≤ 2 ^ 62 = subst (λ (k : Kept). k.roll.next_seat ≤ 2 ^ 62) (sym c.self.view_is) c.requires.small in
-    subst (λ s. counts_now (state_at front) (event_at s 0 Sit) ≡ true) (sym c.next_seat-seat.ensures) (sit_counts front roll c.self.invariant.counted free small)
+    let free : nat_lt (length roll.seats) most_seats ≡ true =
+    ap (λ (k : Kept). nat_lt (length k.roll.seats) most_seats) c.self.view_is
+    ∙ c.requires.free in
+    let small : roll.next_seat ≤ 2 ^ 62 =
+    subst (λ (k : Kept). k.roll.next_seat ≤ 2 ^ 62) (sym c.self.view_is) c.requires.small in
+    subst (λ s. counts_now (state_at front) (event_at s 0 Sit) ≡ true)
+    (sym c.next_seat-seat.ensures) (sit_counts front roll c.self.invariant.counted free small)
 
 pub new-pass-requires : goal.new-pass-requires
 new-pass-requires g c =
     let front = c.self.inside.front in
     let roll = c.self.inside.roll in
-    let sits : c.args.sitting ≡ sits_new roll = c.requires.sitting ∙ ap (λ (k : Kept). sits_new k.roll) (sym c.self.view_is) in
-    let later : c.again.result ≡ longer front (event_at roll.next_seat 0 Sit) = c.again.ensures ∙ (c.store.ensures.front ∙ ap (λ s. longer front (event_at s 0 Sit)) c.next_seat-seat.ensures) in
-    subst (Recalls c.args.sitting) (sym later) (subst (λ (r : Recalled). Recalls r (longer front (event_at roll.next_seat 0 Sit))) (sym sits) (recalls_new front roll c.self.invariant.counted c.len-count.ensures.legal))
+    let sits : c.args.sitting ≡ sits_new roll = c.requires.sitting
+    ∙ ap (λ (k : Kept). sits_new k.roll) (sym c.self.view_is) in
+    let later : c.again.result ≡ longer front (event_at roll.next_seat 0 Sit) = c.again.ensures
+    ∙ (c.store.ensures.front ∙ ap (λ s. longer front (event_at s 0 Sit))
+    c.next_seat-seat.ensures) in
+    subst (Recalls c.args.sitting) (sym later)
+    (subst (λ (r : Recalled). Recalls r (longer front (event_at roll.next_seat 0 Sit)))
+    (sym sits) (recalls_new front roll c.self.invariant.counted c.len-count.ensures.legal))
 
 pub returns-clause-pass : goal.returns-clause-pass
 returns-clause-pass g c =
     let front = c.self.inside.front in
     let roll = c.self.inside.roll in
-    let free : nat_lt (length roll.seats) most_seats ≡ true = ap (λ (k : Kept). nat_lt (length k.roll.seats) most_seats) c.self.view_is ∙ c.requires.free in
-    let small : roll.next_seat ≤ 2 ^ 62 = subst (λ (k : Kept). k.roll.next_seat ≤ 2 ^ 62) (sym c.self.view_is) c.requires.small in
-    let sits : c.args.sitting ≡ sits_new roll = c.requires.sitting ∙ ap (λ (k : Kept). sits_new k.roll) (sym c.self.view_is) in
+    let free : nat_lt (length roll.seats) most_seats ≡ true =
+    ap (λ (k : Kept). nat_lt (length k.roll.seats) most_seats) c.self.view_is
+    ∙ c.requires.free in
+    let small : roll.next_seat ≤ 2 ^ 62 =
+    subst (λ (k : Kept). k.roll.next_seat ≤ 2 ^ 62) (sym c.self.view_is) c.requires.small in
+    let sits : c.args.sitting ≡ sits_new roll = c.requires.sitting
+    ∙ ap (λ (k : Kept). sits_new k.roll) (sym c.self.view_is) in
     let new : c.new-pass.result ≡ seated c.next_seat-seat.result 1 c.store.new.front =
     c.new-pass.ensures ∙ (ap (seated c.args.sitting.seat c.args.sitting.number) c.again.ensures
-    ∙ (ap (λ (r : Recalled). seated r.seat r.number c.store.new.front) sits ∙ ap (λ s. seated s 1 c.store.new.front) (sym c.next_seat-seat.ensures))) in
-    sat_down c.args.self _ g.J.Naming.book front c.store.new.front roll c.new-pass.result c.next_seat-seat.result (ap (λ (k : Kept). k.all) (sym c.self.view_is)) refl c.self.invariant.named c.self.invariant.counted c.len-count.ensures.legal c.next_seat-seat.ensures
+    ∙ (ap (λ (r : Recalled). seated r.seat r.number c.store.new.front) sits
+    ∙ ap (λ s. seated s 1 c.store.new.front) (sym c.next_seat-seat.ensures))) in
+    sat_down c.args.self _ g.J.Naming.book front c.store.new.front roll c.new-pass.result
+    c.next_seat-seat.result (ap (λ (k : Kept). k.all) (sym c.self.view_is)) refl
+    c.self.invariant.named c.self.invariant.counted c.len-count.ensures.legal
+    c.next_seat-seat.ensures
     free small c.store.ensures.front new
 
 pub invariant_of-keeper-2 : goal.invariant_of-keeper-2
@@ -51,13 +69,29 @@ invariant_of-keeper-2 g c =
     let writer = c.self.inside.hand.writer in
     let seat = c.next_seat-seat.result in
     let e = event_at seat 0 Sit in
-    let free : nat_lt (length roll.seats) most_seats ≡ true = ap (λ (k : Kept). nat_lt (length k.roll.seats) most_seats) c.self.view_is ∙ c.requires.free in
-    let small : roll.next_seat ≤ 2 ^ 62 = subst (λ (k : Kept). k.roll.next_seat ≤ 2 ^ 62) (sym c.self.view_is) c.requires.small in
-    let count = sit_more front roll c.self.invariant.counted (sit_counts front roll c.self.invariant.counted free small) in
-    let sat : c.sit.new.self ≡ record { seats = insert_entry nat_cmp roll.seats roll.next_seat 1; next_seat = roll.next_seat + 1; last = roll.last } = c.in-Ok-sit.ensures.ok in
-    let count' : IsCountOf c.sit.new.self (longer front (event_at roll.next_seat 0 Sit)) = subst (λ (r : Counted). IsCountOf r (longer front (event_at roll.next_seat 0 Sit))) (sym sat) count in
-    let count'' : IsCountOf c.sit.new.self (longer front e) = subst (λ s. IsCountOf c.sit.new.self (longer front (event_at s 0 Sit))) (sym c.next_seat-seat.ensures) count' in
-    held_longer g.J.Naming.book writer.desk.shown.value (view writer.desk.place) (drop writer.behind writer.log.items) c.self.inside.queue.items front roll c.self.invariant
-    c.reserve.new.self.items c.store.new.queue.items (made seat 0 (Sit ∷ [])) c.store.new.front c.sit.new.self
-    c.reserve.ensures.items c.store.ensures.front (stored_one c.reserve.new.self.items c.store.new.queue.items front c.store.new.front e c.store.ensures.front c.store.ensures.queue)
+    let free : nat_lt (length roll.seats) most_seats ≡ true =
+    ap (λ (k : Kept). nat_lt (length k.roll.seats) most_seats) c.self.view_is
+    ∙ c.requires.free in
+    let small : roll.next_seat ≤ 2 ^ 62 =
+    subst (λ (k : Kept). k.roll.next_seat ≤ 2 ^ 62) (sym c.self.view_is) c.requires.small in
+    let count = sit_more front roll c.self.invariant.counted
+    (sit_counts front roll c.self.invariant.counted free small) in
+    let sat : c.sit.new.self ≡ record {
+      seats = insert_entry nat_cmp roll.seats roll.next_seat 1;
+      next_seat = roll.next_seat + 1;
+      last = roll.last;
+    } = c.in-Ok-sit.ensures.ok in
+    let count' : IsCountOf c.sit.new.self (longer front (event_at roll.next_seat 0 Sit)) =
+    subst (λ (r : Counted). IsCountOf r (longer front (event_at roll.next_seat 0 Sit)))
+    (sym sat) count in
+    let count'' : IsCountOf c.sit.new.self (longer front e) =
+    subst (λ s. IsCountOf c.sit.new.self (longer front (event_at s 0 Sit)))
+    (sym c.next_seat-seat.ensures) count' in
+    held_longer g.J.Naming.book writer.desk.shown.value (view writer.desk.place)
+    (drop writer.behind writer.log.items) c.self.inside.queue.items front roll c.self.invariant
+    c.reserve.new.self.items c.store.new.queue.items (made seat 0 (Sit ∷ [])) c.store.new.front
+    c.sit.new.self
+    c.reserve.ensures.items c.store.ensures.front
+    (stored_one c.reserve.new.self.items c.store.new.queue.items front c.store.new.front e
+    c.store.ensures.front c.store.ensures.queue)
     (subst (IsCountOf c.sit.new.self) (sym c.store.ensures.front) count'')

@@ -6,4 +6,5 @@ use Rattle.hub.proofs.log.Front.len.Goals as goal
 pub returns-clause-legal : goal.returns-clause-legal
 returns-clause-legal c =
     let P : Beginning → Type 0 = λ b. AllCount b.config b.opening b.events in
-    subst P c.self.view_is (legal-begun c.self.inside.seen.book c.self.inside.seen.log c.self.invariant.1)
+    subst P c.self.view_is (legal-begun c.self.inside.seen.book c.self.inside.seen.log
+    c.self.invariant.1)

@@ -3,7 +3,8 @@ use Rattle.peer_rows.proofs.Counting.{counted_at_held, counted_at_none}
 use Rattle.peer_rows.proofs.row.Cells.count.Goals as goal
 
 pub returns-in-Some : goal.returns-in-Some
-returns-in-Some c = c.counted.ensures ∙ sym (counted_at_held c.args.self.now c.args.col c.in-Some.held (sym c.in-Some.ensures))
+returns-in-Some c = c.counted.ensures
+    ∙ sym (counted_at_held c.args.self.now c.args.col c.in-Some.held (sym c.in-Some.ensures))
 
 pub returns-in-None : goal.returns-in-None
 returns-in-None c = sym (counted_at_none c.args.self.now c.args.col (sym c.in-None.ensures))

@@ -1,25 +1,46 @@
 use Rattle.std.proofs.Common.{◌≡◌, ◌∙◌, sym, ap}
 use Rattle.std.specs.Prelude.{slice_get, Some}
 use Rattle.peer_rows.specs.Table.{TableRows}
-use Rattle.peer_rows.proofs.Placing.{found_at, count-key-placed, placed-clear, tables-clear, same_map, length-set}
+use Rattle.peer_rows.proofs.Placing.{found_at, count-key-placed, placed-clear, tables-clear}
+use Rattle.peer_rows.proofs.Placing.{same_map, length-set}
 use Rattle.peer_rows.proofs.rows.Rows.clear_key_at.Goals as goal
 
 pub invariant_of-self : goal.invariant_of-self
 invariant_of-self c =
-    let found : slice_get c.self.inside.tables.items c.args.table ≡ Some c.index_mut.result.now = found_at c.self.inside.tables.items c.args.table c.index_mut.result.now (rw (← c.self.view_is) at c.requires) c.index_mut.ensures.value in
-    tables-clear c.self.inside.peers c.self.inside.tables.items c.args.table c.clear_key.new.self c.index_mut.result.now c.self.invariant found (ap (λ (t : TableRows). t.peers) c.clear_key.ensures.after) c.args.key.now (ap (λ (t : TableRows). t.entries) c.clear_key.ensures.after)
+    let found : slice_get c.self.inside.tables.items c.args.table ≡ Some c.index_mut.result.now =
+    found_at c.self.inside.tables.items c.args.table c.index_mut.result.now
+    (rw (← c.self.view_is) at c.requires) c.index_mut.ensures.value in
+    tables-clear c.self.inside.peers c.self.inside.tables.items c.args.table c.clear_key.new.self
+    c.index_mut.result.now c.self.invariant found
+    (ap (λ (t : TableRows). t.peers) c.clear_key.ensures.after) c.args.key.now
+    (ap (λ (t : TableRows). t.entries) c.clear_key.ensures.after)
 
 pub returns-clause-value : goal.returns-clause-value
 returns-clause-value c =
-    let found : slice_get c.self.inside.tables.items c.args.table ≡ Some c.index_mut.result.now = found_at c.self.inside.tables.items c.args.table c.index_mut.result.now (rw (← c.self.view_is) at c.requires) c.index_mut.ensures.value in
-    rw (← c.self.view_is) (c.clear_key.ensures.value ∙ sym (count-key-placed c.self.inside.tables.items c.args.table c.index_mut.result.now found c.args.key.now))
+    let found : slice_get c.self.inside.tables.items c.args.table ≡ Some c.index_mut.result.now =
+    found_at c.self.inside.tables.items c.args.table c.index_mut.result.now
+    (rw (← c.self.view_is) at c.requires) c.index_mut.ensures.value in
+    rw (← c.self.view_is) (c.clear_key.ensures.value
+    ∙ sym (count-key-placed c.self.inside.tables.items c.args.table c.index_mut.result.now found
+    c.args.key.now))
 
 pub returns-clause-after : goal.returns-clause-after
 returns-clause-after c =
-    let found : slice_get c.self.inside.tables.items c.args.table ≡ Some c.index_mut.result.now = found_at c.self.inside.tables.items c.args.table c.index_mut.result.now (rw (← c.self.view_is) at c.requires) c.index_mut.ensures.value in
-    rw (← c.self.view_is) (same_map c.self.inside.peers _ _ _ _ (length-set c.self.inside.tables.items c.args.table c.clear_key.new.self) (placed-clear c.self.inside.tables.items c.args.table c.index_mut.result.now found c.args.key.now c.clear_key.new.self (ap (λ (t : TableRows). t.entries) c.clear_key.ensures.after)))
+    let found : slice_get c.self.inside.tables.items c.args.table ≡ Some c.index_mut.result.now =
+    found_at c.self.inside.tables.items c.args.table c.index_mut.result.now
+    (rw (← c.self.view_is) at c.requires) c.index_mut.ensures.value in
+    rw (← c.self.view_is) (same_map c.self.inside.peers _ _ _ _
+    (length-set c.self.inside.tables.items c.args.table c.clear_key.new.self)
+    (placed-clear c.self.inside.tables.items c.args.table c.index_mut.result.now found
+    c.args.key.now c.clear_key.new.self
+    (ap (λ (t : TableRows). t.entries) c.clear_key.ensures.after)))
 
 pub returns-clause-ordered : goal.returns-clause-ordered
 returns-clause-ordered c =
-    let found : slice_get c.self.inside.tables.items c.args.table ≡ Some c.index_mut.result.now = found_at c.self.inside.tables.items c.args.table c.index_mut.result.now (rw (← c.self.view_is) at c.requires) c.index_mut.ensures.value in
-    (tables-clear c.self.inside.peers c.self.inside.tables.items c.args.table c.clear_key.new.self c.index_mut.result.now c.self.invariant found (ap (λ (t : TableRows). t.peers) c.clear_key.ensures.after) c.args.key.now (ap (λ (t : TableRows). t.entries) c.clear_key.ensures.after)).ordered
+    let found : slice_get c.self.inside.tables.items c.args.table ≡ Some c.index_mut.result.now =
+    found_at c.self.inside.tables.items c.args.table c.index_mut.result.now
+    (rw (← c.self.view_is) at c.requires) c.index_mut.ensures.value in
+    (tables-clear c.self.inside.peers c.self.inside.tables.items c.args.table c.clear_key.new.self
+    c.index_mut.result.now c.self.invariant found
+    (ap (λ (t : TableRows). t.peers) c.clear_key.ensures.after) c.args.key.now
+    (ap (λ (t : TableRows). t.entries) c.clear_key.ensures.after)).ordered

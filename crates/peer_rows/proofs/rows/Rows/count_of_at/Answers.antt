@@ -6,5 +6,9 @@ use Rattle.peer_rows.proofs.rows.Rows.count_of_at.Goals as goal
 
 pub returns-clause-value : goal.returns-clause-value
 returns-clause-value c =
-    let found : slice_get c.self.inside.tables.items c.args.table ≡ Some c.index.result.now = found_at c.self.inside.tables.items c.args.table c.index.result.now (rw (← c.self.view_is) at c.requires) c.index.ensures in
-    rw (← c.self.view_is) (c.count_of.ensures ∙ sym (sum-key-placed c.self.inside.tables.items c.args.table c.index.result.now found c.args.key.now (λ row. counted_at row.cells c.args.col)))
+    let found : slice_get c.self.inside.tables.items c.args.table ≡ Some c.index.result.now =
+    found_at c.self.inside.tables.items c.args.table c.index.result.now (rw (← c.self.view_is)
+    at c.requires) c.index.ensures in
+    rw (← c.self.view_is) (c.count_of.ensures
+    ∙ sym (sum-key-placed c.self.inside.tables.items c.args.table c.index.result.now found
+    c.args.key.now (λ row. counted_at row.cells c.args.col)))

@@ -8,12 +8,19 @@ use Rattle.peer_rows.proofs.table.Table.put.Goals as goal
 
 pub invariant_of-self-then-is_none : goal.invariant_of-self-then-is_none
 invariant_of-self-then-is_none c =
-    let in_range : c.args.peer < length c.self.inside.counts.items = rw (← c.self.view_is) at c.requires in
-    let none : lookup (is_at (spot_cmp (c.args.key.now, c.args.peer))) (rows_in c.self.inside.keys) ≡ None = sym c.in_ok-old.ensures.old ∙ is_missing c.in_ok-old.old c.if-is_none.ensures in
-    rw (get_or_in c.self.inside.counts.items c.args.peer c.index_mut.result.now in_range c.index_mut.ensures.value)
-    (kept-put_new c.self.inside.keys c.put.new.self c.self.inside.counts.items c.args.key.now c.args.peer c.self.invariant c.in_ok-old.ensures.ordered c.in_ok-old.ensures.once c.args.row c.in_ok-old.ensures.ok none in_range)
+    let in_range : c.args.peer < length c.self.inside.counts.items =
+    rw (← c.self.view_is) at c.requires in
+    let none : lookup (is_at (spot_cmp (c.args.key.now, c.args.peer))) (rows_in c.self.inside.keys)
+    ≡ None = sym c.in_ok-old.ensures.old ∙ is_missing c.in_ok-old.old c.if-is_none.ensures in
+    rw (get_or_in c.self.inside.counts.items c.args.peer c.index_mut.result.now in_range
+    c.index_mut.ensures.value)
+    (kept-put_new c.self.inside.keys c.put.new.self c.self.inside.counts.items c.args.key.now
+    c.args.peer c.self.invariant c.in_ok-old.ensures.ordered c.in_ok-old.ensures.once c.args.row
+    c.in_ok-old.ensures.ok none in_range)
 
 pub invariant_of-self-else-is_none : goal.invariant_of-self-else-is_none
 invariant_of-self-else-is_none c =
     let there = is_there c.in_ok-old.old c.if-is_none.ensures in
-    kept-put_held c.self.inside.keys c.put.new.self c.self.inside.counts.items c.args.key.now c.args.peer c.self.invariant c.in_ok-old.ensures.ordered c.in_ok-old.ensures.once c.args.row there.0 c.in_ok-old.ensures.ok (sym c.in_ok-old.ensures.old ∙ there.1)
+    kept-put_held c.self.inside.keys c.put.new.self c.self.inside.counts.items c.args.key.now
+    c.args.peer c.self.invariant c.in_ok-old.ensures.ordered c.in_ok-old.ensures.once c.args.row
+    there.0 c.in_ok-old.ensures.ok (sym c.in_ok-old.ensures.old ∙ there.1)

@@ -7,13 +7,26 @@ use Rattle.peers_msg.proofs.feed.Feed.read.Goals as goal
 
 pub invariant_of-self-in-Short : goal.invariant_of-self-in-Short
 invariant_of-self-in-Short c =
-    let short : frame_at c.join.new.growing.items ≡ Short = ap frame_at (sym c.as_slice.ensures) ∙ c.in-Short.ensures.exact in
-    short_kept c.self.inside.fault c.join.new.frozen c.join.new.growing.items c.in_default.is c.in_ok-len.ensures.ok.0 short
+    let short : frame_at c.join.new.growing.items ≡ Short = ap frame_at (sym c.as_slice.ensures)
+    ∙ c.in-Short.ensures.exact in
+    short_kept c.self.inside.fault c.join.new.frozen c.join.new.growing.items c.in_default.is
+    c.in_ok-len.ensures.ok.0 short
 
 pub returns-in-Short-clause-reading : goal.returns-in-Short-clause-reading
 returns-in-Short-clause-reading c =
-    let short : frame_at c.join.new.growing.items ≡ Short = ap frame_at (sym c.as_slice.ensures) ∙ c.in-Short.ensures.exact in
-    let old : Kept = record { rest = c.self.inside.frozen ++ c.self.inside.growing.items; fault = c.self.inside.fault } in
+    let short : frame_at c.join.new.growing.items ≡ Short = ap frame_at (sym c.as_slice.ensures)
+    ∙ c.in-Short.ensures.exact in
+    let old : Kept = record {
+      rest = c.self.inside.frozen ++ c.self.inside.growing.items;
+      fault =
+          c.self.inside.fault;
+    } in
     let same : c.args.self.now ≡ old = sym c.self.view_is in
-    let read = ap (λ (kept : Kept). fed kept c.args.piece.now) same ∙ short_read old c.args.piece.now c.join.new.frozen c.join.new.growing.items c.in_default.is c.in_ok-len.ensures.ok.0 c.in_ok-len.ensures.ok.1 short in
-    (read, ap (λ fault. let kept : Kept = record { rest = c.join.new.frozen ++ c.join.new.growing.items; fault = fault } in kept) c.in_default.is ∙ ap (λ (reading : Reading). kept_of reading) (sym read))
+    let read = ap (λ (kept : Kept). fed kept c.args.piece.now) same
+    ∙ short_read old c.args.piece.now c.join.new.frozen c.join.new.growing.items c.in_default.is
+    c.in_ok-len.ensures.ok.0 c.in_ok-len.ensures.ok.1 short in (
+      read,
+      ap (λ fault. let kept : Kept =
+          record { rest = c.join.new.frozen ++ c.join.new.growing.items; fault = fault } in
+          kept) c.in_default.is ∙ ap (λ (reading : Reading). kept_of reading) (sym read),
+    )

@@ -7,4 +7,5 @@ use Rattle.plain_book.proofs.book.Book.sum_up.Given as goal
 abbrev pub invariant-loop-key : goal.invariant-loop-key
 invariant-loop-key l =
     map key_and_sums l.rows.items
-    ≡ filter_map (λ key. with_sums key (summed l.self l.table key)) (map (λ key. key.now) (take l.key-index l.keys))
+    ≡ filter_map (λ key. with_sums key (summed l.self l.table key))
+    (map (λ key. key.now) (take l.key-index l.keys))

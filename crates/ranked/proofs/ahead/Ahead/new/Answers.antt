@@ -8,4 +8,5 @@ use Rattle.ranked.proofs.ahead.Ahead.new.Goals as goal
 
 pub returns-clause-all : goal.returns-clause-all
 returns-clause-all c =
-    left_at_start (slice_cmp nat_cmp) nat_list_cmp_total c.args.index.now c.after.ensures.ordered (option_map lent_entry c.after.result) c.after.ensures.next
+    left_at_start (slice_cmp nat_cmp) nat_list_cmp_total c.args.index.now c.after.ensures.ordered
+    (option_map lent_entry c.after.result) c.after.ensures.next

@@ -7,4 +7,5 @@ use Rattle.ranked.proofs.ahead.Ahead.peek.Goals as goal
 
 pub returns-clause-first : goal.returns-clause-first
 returns-clause-first c =
-    subst (λ l. AreFromFirst l) c.self.view_is (from_first (option_map lent_entry c.self.inside.next) c.self.inside.index.now)
+    subst (λ l. AreFromFirst l) c.self.view_is
+    (from_first (option_map lent_entry c.self.inside.next) c.self.inside.index.now)

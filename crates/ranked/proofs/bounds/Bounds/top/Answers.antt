@@ -8,22 +8,32 @@ use Rattle.ranked.proofs.bounds.Bounds.top.Goals as goal
 
 pub new-requires-clause-bounds : goal.new-requires-clause-bounds
 new-requires-clause-bounds g c =
-    let living : List ℕ → ℕ = λ key. g.V.Values.living c.args.values.now c.args.rank.now.table key c.args.now in
-    let value : List ℕ → ℕ = λ key. g.V.Values.summed c.args.values.now c.args.rank.now.table key c.args.rank.now.col c.args.now in
-    bounds_hold c.self.inside.index c.self.inside.zeros.entries living value c.self.invariant.indexed (subst (λ kept. AreAllBounded kept living value) (sym c.self.view_is) c.requires.bounds)
+    let living : List ℕ → ℕ = λ key. g.V.Values.living c.args.values.now c.args.rank.now.table
+    key c.args.now in
+    let value : List ℕ → ℕ = λ key. g.V.Values.summed c.args.values.now c.args.rank.now.table key
+    c.args.rank.now.col c.args.now in
+    bounds_hold c.self.inside.index c.self.inside.zeros.entries living value
+    c.self.invariant.indexed (subst (λ kept. AreAllBounded kept living value)
+    (sym c.self.view_is) c.requires.bounds)
 
 pub returns : goal.returns
 returns g c =
-    let living : List ℕ → ℕ = λ key. g.V.Values.living c.args.values.now c.args.rank.now.table key c.args.now in
-    let value : List ℕ → ℕ = λ key. g.V.Values.summed c.args.values.now c.args.rank.now.table key c.args.rank.now.col c.args.now in
+    let living : List ℕ → ℕ = λ key. g.V.Values.living c.args.values.now c.args.rank.now.table
+    key c.args.now in
+    let value : List ℕ → ℕ = λ key. g.V.Values.summed c.args.values.now c.args.rank.now.table key
+    c.args.rank.now.col c.args.now in
     record {
       list = IfOk-weaker c.new.result _ _ (λ list is. is
-          ∙ found_is c.args.rank.now.n living value c.self.inside.index c.self.inside.zeros.entries c.self.invariant c.new.ensures.ordered
-          ∙ ap (λ kept. first_ranked c.args.rank.now.n living value (keys_of kept)) c.self.view_is) c.new.ensures.list;
-      index = IfOk-weaker c.new.result _ _ (λ list is. subst (λ index. IsListOf index c.args.self.now) (sym is) (record {
-        exact = subst (λ kept. IsIndexOf c.self.inside.index kept) c.self.view_is c.self.invariant.indexed;
-        in_order = c.new.ensures.ordered;
-      })) c.new.ensures.index;
+          ∙ found_is c.args.rank.now.n living value c.self.inside.index c.self.inside.zeros.entries
+          c.self.invariant c.new.ensures.ordered
+          ∙ ap (λ kept. first_ranked c.args.rank.now.n living value (keys_of kept)) c.self.view_is)
+          c.new.ensures.list;
+      index = IfOk-weaker c.new.result _ _
+          (λ list is. subst (λ index. IsListOf index c.args.self.now) (sym is) (record {
+            exact = subst (λ kept. IsIndexOf c.self.inside.index kept) c.self.view_is
+                c.self.invariant.indexed;
+            in_order = c.new.ensures.ordered;
+          })) c.new.ensures.index;
       start = c.new.ensures.start;
       ordered = subst IsByKey c.self.view_is c.self.invariant.ordered;
     }

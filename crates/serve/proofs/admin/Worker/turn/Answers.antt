@@ -12,7 +12,9 @@ returns-in-Err-clause-works g c =
     let before = g.S.Source.given c.args.source.now in
     let after = g.S.Source.given c.read.new.self in
     let wrote = g.W.Write.contents c.args.writer.now in
-    stops_failed hub seat c.args.self.now given0 after wrote0 wrote (works_piece hub seat c.args.self.now [] given0 before after wrote0 wrote c.in-Err.ensures.gives w)
+    stops_failed hub seat c.args.self.now given0 after wrote0 wrote
+    (works_piece hub seat c.args.self.now [] given0 before after wrote0 wrote
+    c.in-Err.ensures.gives w)
 
 pub returns-in-Ok-End-clause-works : goal.returns-in-Ok-End-clause-works
 returns-in-Ok-End-clause-works g c =
@@ -20,7 +22,8 @@ returns-in-Ok-End-clause-works g c =
     let before = g.S.Source.given c.args.source.now in
     let after = g.S.Source.given c.read.new.self in
     let gives = rw c.in-Ok-End.field-0-is at c.in-Ok-End.ensures.gives in
-    works_piece c.args.hub.now seat c.args.self.now [] given0 before after wrote0 (g.W.Write.contents c.args.writer.now) gives w
+    works_piece c.args.hub.now seat c.args.self.now [] given0 before after wrote0
+    (g.W.Write.contents c.args.writer.now) gives w
 
 pub returns-in-Ok-Nothing-clause-works : goal.returns-in-Ok-Nothing-clause-works
 returns-in-Ok-Nothing-clause-works g c =
@@ -30,8 +33,10 @@ returns-in-Ok-Nothing-clause-works g c =
     let after = g.S.Source.given c.read.new.self in
     let wrote = g.W.Write.contents c.args.writer.now in
     let gives = rw c.in-Ok-Nothing.field-0-is at c.in-Ok-Nothing.ensures.gives in
-    works_alike hub seat c.args.self.now c.wait.new.self [] given0 after wrote0 wrote c.wait.ensures.desk
-    (ap (λ (s : Seeing). s.seen) c.wait.ensures.lens) (ap (λ (l : Line). l.bytes.items) c.wait.ensures.line)
+    works_alike hub seat c.args.self.now c.wait.new.self [] given0 after wrote0 wrote
+    c.wait.ensures.desk
+    (ap (λ (s : Seeing). s.seen) c.wait.ensures.lens)
+    (ap (λ (l : Line). l.bytes.items) c.wait.ensures.line)
     (works_piece hub seat c.args.self.now [] given0 before after wrote0 wrote gives w)
 
 pub returns-in-Ok-Bytes-clause-works : goal.returns-in-Ok-Bytes-clause-works
@@ -40,6 +45,8 @@ returns-in-Ok-Bytes-clause-works g c =
     let before = g.S.Source.given c.args.source.now in
     let after = g.S.Source.given c.read.new.self in
     let gives = rw c.in-Ok-Bytes.field-0-is at c.in-Ok-Bytes.ensures.gives in
-    let piece : Appends before after c.front.result.now = subst (λ (bytes : List ℕ). Appends before after bytes) (sym c.front.ensures) gives in
+    let piece : Appends before after c.front.result.now =
+    subst (λ (bytes : List ℕ). Appends before after bytes) (sym c.front.ensures) gives in
     c.treat.ensures.works seat given0 after wrote0
-    (works_piece c.args.hub.now seat c.args.self.now c.front.result.now given0 before after wrote0 (g.W.Write.contents c.args.writer.now) piece w)
+    (works_piece c.args.hub.now seat c.args.self.now c.front.result.now given0 before after wrote0
+    (g.W.Write.contents c.args.writer.now) piece w)

@@ -8,10 +8,12 @@ use Rattle.serve.proofs.desk.Desk.leave.Goals as goal
 pub returns : goal.returns
 returns g c =
     λ whats waiting told.
-    let P : Option Beginning → Type 0 = λ o. IfSome o (IsLeft c.args.self.pass.seat whats waiting) in record {
+    let P : Option Beginning → Type 0 =
+    λ o. IfSome o (IsLeft c.args.self.pass.seat whats waiting) in record {
       last = told.last;
       left = elim c.match-leave.branch [
-        | in-Ok w ↦ subst P (sym w.left-is) (left_shown c.args.self.pass whats waiting w.in-Ok.left told.tells told.number w.in-Ok.ensures)
+        | in-Ok w ↦ subst P (sym w.left-is) (left_shown c.args.self.pass whats waiting w.in-Ok.left
+            told.tells told.number w.in-Ok.ensures)
         | in-Err w ↦ subst P (sym w.left-is) tt
       ];
     }

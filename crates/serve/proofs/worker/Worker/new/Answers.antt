@@ -14,16 +14,21 @@ pub returns-clause-work : goal.returns-clause-work
 returns-clause-work c =
     λ hub sits.
     let setup : Setup = setup_of hub.config in
-    let seated : c.accept.result.seated ≡ c.is_some.result = ap (λ s. s.seated) c.accept.ensures.new in
-    let P : Option Desk → Type 0 = λ d. DeskTells hub d (facts_in setup c.accept.result.seated []) 0 in record {
+    let seated : c.accept.result.seated ≡ c.is_some.result =
+    ap (λ s. s.seated) c.accept.ensures.new in
+    let P : Option Desk → Type 0 = λ d. DeskTells hub d (facts_in setup c.accept.result.seated []) 0
+    in record {
       has_seat = refl;
       stands = c.accept.ensures.stands setup ∙ ap (λ b. stage_of setup b []) (sym seated);
       told = elim c.match-pass.branch [
         | in-None w ↦ subst P (sym w.desk-is) tt
         | in-Some w ↦
             let Q : Option Seated → Type 0 = λ o. IfSome o (λ p. SitsDown p × Follows hub p.seen) in
-            let h : SitsDown w.in-Some.pass × Follows hub w.in-Some.pass.seen = subst Q w.in-Some.is sits in
-            let told : HasTold hub w.new.result [] 0 = w.new.ensures.told hub h.0 (ap (λ (b : Beginning). b.of) h.1.same) in
-            subst P (sym w.desk-is) (subst (λ facts. HasTold hub w.new.result facts 0) (no_facts setup c.accept.result.seated) told)
+            let h : SitsDown w.in-Some.pass × Follows hub w.in-Some.pass.seen =
+            subst Q w.in-Some.is sits in
+            let told : HasTold hub w.new.result [] 0 =
+            w.new.ensures.told hub h.0 (ap (λ (b : Beginning). b.of) h.1.same) in
+            subst P (sym w.desk-is) (subst (λ facts. HasTold hub w.new.result facts 0)
+            (no_facts setup c.accept.result.seated) told)
       ];
     }

@@ -15,6 +15,9 @@ returns-in-Beat-clause-rests g c =
       peer = c.args.self.now.peer;
       told = c.args.self.now.told;
     } in
-    let after = c.in-Beat.ensures.after ∙ ap (λ idle. after_idle c.args.self.now.session c.args.now idle) (sym c.in-Beat.ensures.answer) in
-    beaten hub seated old new given0 given wrote0 (g.W.Write.contents c.args.writer.now) (g.W.Write.contents c.send.new.writer) c.send.result
+    let after = c.in-Beat.ensures.after
+    ∙ ap (λ idle. after_idle c.args.self.now.session c.args.now idle)
+    (sym c.in-Beat.ensures.answer) in
+    beaten hub seated old new given0 given wrote0 (g.W.Write.contents c.args.writer.now)
+    (g.W.Write.contents c.send.new.writer) c.send.result
     (ap (λ s. s.seated) after) (ap (λ s. s.stage) after) refl w c.send.ensures

@@ -10,15 +10,20 @@ use Rattle.serve.proofs.worker.Worker.take.Goals as goal
 pub settle-requires-clause-fits : goal.settle-requires-clause-fits
 settle-requires-clause-fits g c =
     let w = c.requires.work.2 in
-    fact_may_post c.config.result.now c.args.hub.now.config c.args.self.now.session.seated c.requires.work.0 (taken_in c.requires.work.1) c.args.piece.now
-    c.args.self.now.session.stage c.feed.new.self.stage c.in-Ok.batch None c.config.ensures w.has_seat w.stands c.in-Ok.ensures.talk c.in-Ok.ensures.fits
+    fact_may_post c.config.result.now c.args.hub.now.config c.args.self.now.session.seated
+    c.requires.work.0 (taken_in c.requires.work.1) c.args.piece.now
+    c.args.self.now.session.stage c.feed.new.self.stage c.in-Ok.batch None c.config.ensures
+    w.has_seat w.stands c.in-Ok.ensures.talk c.in-Ok.ensures.fits
 
 pub end-requires-clause-fits : goal.end-requires-clause-fits
 end-requires-clause-fits g c =
     let w = c.requires.work.2 in
-    fault_may_post c.config.result.now c.args.hub.now.config c.args.self.now.session.seated c.requires.work.0 (taken_in c.requires.work.1) c.args.piece.now
-    c.args.self.now.session.stage c.feed.new.self.stage c.args.self.now.session c.feed.new.self c.args.now
-    (setup_of c.config.result.now) c.args.self.now.session.seated c.args.self.now.session.stage c.in-Err.fault c.config.ensures w.has_seat w.stands
+    fault_may_post c.config.result.now c.args.hub.now.config c.args.self.now.session.seated
+    c.requires.work.0 (taken_in c.requires.work.1) c.args.piece.now
+    c.args.self.now.session.stage c.feed.new.self.stage c.args.self.now.session
+    c.feed.new.self c.args.now
+    (setup_of c.config.result.now) c.args.self.now.session.seated c.args.self.now.session.stage
+    c.in-Err.fault c.config.ensures w.has_seat w.stands
     c.in-Err.ensures.talk c.in-Err.ensures.fits c.in-Err.ensures.exact
 
 pub returns-in-Ok-clause-takes : goal.returns-in-Ok-clause-takes
@@ -26,14 +31,22 @@ returns-in-Ok-clause-takes g c =
     λ seated given0 given after wrote0 gives w.
     let hub = c.args.hub.now in
     let new = c.settle.new.self in
-    let stands : Stands (setup_of hub.config) seated (taken_in w.turns) c.args.piece.now c.in-Ok.batch None c.feed.new.self.stage =
-    stands_at c.config.result.now hub.config c.args.self.now.session.seated seated (taken_in w.turns) c.args.piece.now c.args.self.now.session.stage c.feed.new.self.stage c.in-Ok.batch None
+    let stands : Stands (setup_of hub.config) seated (taken_in w.turns) c.args.piece.now
+    c.in-Ok.batch None c.feed.new.self.stage =
+    stands_at c.config.result.now hub.config c.args.self.now.session.seated seated
+    (taken_in w.turns) c.args.piece.now c.args.self.now.session.stage c.feed.new.self.stage
+    c.in-Ok.batch None
     c.config.ensures w.work.has_seat w.work.stands c.in-Ok.ensures.talk in
     let same : new.session.seated ≡ seated =
-    ap (λ (s : SessionState). s.seated) c.settle.ensures.session ∙ (ap (λ (s : SessionState). s.seated) c.in-Ok.ensures.exact.2 ∙ w.work.has_seat) in
-    settled hub seated c.args.self.now new given0 given after wrote0 (g.W.Write.contents c.args.writer.now) (g.W.Write.contents c.settle.new.writer) c.args.piece.now c.in-Ok.batch None
+    ap (λ (s : SessionState). s.seated) c.settle.ensures.session
+    ∙ (ap (λ (s : SessionState). s.seated) c.in-Ok.ensures.exact.2 ∙ w.work.has_seat) in
+    settled hub seated c.args.self.now new given0 given after wrote0
+    (g.W.Write.contents c.args.writer.now) (g.W.Write.contents c.settle.new.writer)
+    c.args.piece.now c.in-Ok.batch None
     c.settle.result gives w
-    (subst (λ stage. Stands (setup_of hub.config) seated (taken_in w.turns) c.args.piece.now c.in-Ok.batch None stage) (sym (ap (λ (s : SessionState). s.stage) c.settle.ensures.session)) stands)
+    (subst (λ stage. Stands (setup_of hub.config) seated (taken_in w.turns) c.args.piece.now
+    c.in-Ok.batch None stage) (sym
+    (ap (λ (s : SessionState). s.stage) c.settle.ensures.session)) stands)
     same (c.settle.ensures.told (facts_in (setup_of hub.config) seated w.turns) w.work.told)
 
 pub returns-in-Err-clause-takes : goal.returns-in-Err-clause-takes
@@ -42,14 +55,23 @@ returns-in-Err-clause-takes g c =
     let hub = c.args.hub.now in
     let new = c.end.new.self in
     let fault = c.in-Err.fault in
-    let answers : FaultAnswersTalk fault.cause fault.batch (setup_of hub.config) seated (taken_in w.turns) c.args.piece.now c.feed.new.self.stage =
-    fault_at c.config.result.now hub.config c.args.self.now.session.seated seated (taken_in w.turns) c.args.piece.now c.args.self.now.session.stage c.feed.new.self.stage fault
+    let answers : FaultAnswersTalk fault.cause fault.batch (setup_of hub.config) seated
+    (taken_in w.turns) c.args.piece.now c.feed.new.self.stage =
+    fault_at c.config.result.now hub.config c.args.self.now.session.seated seated (taken_in w.turns)
+    c.args.piece.now c.args.self.now.session.stage c.feed.new.self.stage fault
     c.config.ensures w.work.has_seat w.work.stands c.in-Err.ensures.talk in
     let kept : c.feed.new.self.seated ≡ c.args.self.now.session.seated =
-    seat_kept fault.cause fault.batch c.args.self.now.session c.feed.new.self c.args.piece.now c.args.now
-    (setup_of c.config.result.now) c.args.self.now.session.seated c.args.self.now.session.stage c.in-Err.ensures.exact in
-    let same : new.session.seated ≡ seated = ap (λ (s : SessionState). s.seated) c.end.ensures.session ∙ (kept ∙ w.work.has_seat) in
-    ended_by hub seated c.args.self.now new given0 given after wrote0 (g.W.Write.contents c.args.writer.now) (g.W.Write.contents c.end.new.writer) c.args.piece.now fault
+    seat_kept fault.cause fault.batch c.args.self.now.session c.feed.new.self
+    c.args.piece.now c.args.now
+    (setup_of c.config.result.now) c.args.self.now.session.seated c.args.self.now.session.stage
+    c.in-Err.ensures.exact in
+    let same : new.session.seated ≡ seated =
+    ap (λ (s : SessionState). s.seated) c.end.ensures.session ∙ (kept ∙ w.work.has_seat) in
+    ended_by hub seated c.args.self.now new given0 given after wrote0
+    (g.W.Write.contents c.args.writer.now) (g.W.Write.contents c.end.new.writer)
+    c.args.piece.now fault
     c.end.result gives w same
-    (subst (λ stage. FaultAnswersTalk fault.cause fault.batch (setup_of hub.config) seated (taken_in w.turns) c.args.piece.now stage) (sym (ap (λ (s : SessionState). s.stage) c.end.ensures.session)) answers)
+    (subst (λ stage. FaultAnswersTalk fault.cause fault.batch (setup_of hub.config) seated
+    (taken_in w.turns) c.args.piece.now stage)
+    (sym (ap (λ (s : SessionState). s.stage) c.end.ensures.session)) answers)
     (c.end.ensures.ends (facts_in (setup_of hub.config) seated w.turns) w.work.told)

@@ -10,4 +10,6 @@ use Rattle.standing_filters.proofs.coming.Coming.new.Goals as goal
 
 pub returns-clause-all : goal.returns-clause-all
 returns-clause-all c =
-    ap (λ l. entries_until (c.args.until + 1) l) (left_at_start (slice_cmp nat_cmp) nat_list_cmp_total c.args.due.now c.after.ensures.ordered (option_map lent_entry c.after.result) c.after.ensures.next)
+    ap (λ l. entries_until (c.args.until + 1) l)
+    (left_at_start (slice_cmp nat_cmp) nat_list_cmp_total c.args.due.now c.after.ensures.ordered
+    (option_map lent_entry c.after.result) c.after.ensures.next)

@@ -18,9 +18,18 @@ returns-clause-steps c =
     let e : ℕ × List ℕ = (c.in_ok-at.at, c.in_ok-at.key.now) in
     let come : c.in_ok-at.at ≤ until = grind (arith, nat_tests) in
     sym c.self.view_is
-    ∙ ap (λ s. entries_until (until + 1) (left_from (slice_cmp nat_cmp) (option_map lent_entry s) due)) c.in_ok-at.was
+    ∙ ap (λ s. entries_until (until + 1) (left_from (slice_cmp nat_cmp) (option_map lent_entry s)
+    due)) c.in_ok-at.was
     ∙ front_step until e _ come
-    ∙ ap (λ l. e ∷ entries_until (until + 1) l) (sym (left_beyond (slice_cmp nat_cmp) nat_list_cmp_total due c.after-self-inside.ensures.ordered e (option_map lent_entry c.after-self-inside.result) c.after-self-inside.ensures.next))
+    ∙ ap (λ l. e ∷ entries_until (until + 1) l)
+    (sym (left_beyond (slice_cmp nat_cmp) nat_list_cmp_total due
+    c.after-self-inside.ensures.ordered e (option_map lent_entry c.after-self-inside.result)
+    c.after-self-inside.ensures.next))
 
 pub returns-clause-goes : goal.returns-clause-goes
-returns-clause-goes c = record { on = λ _. (tt, tt, shorter _ _ _ (returns-clause-steps c)); keeps = tt; rests = λ _. tt }
+returns-clause-goes c = record {
+  on = λ _. (tt, tt, shorter _ _ _ (returns-clause-steps c));
+  keeps =
+      tt;
+  rests = λ _. tt;
+}

@@ -6,5 +6,7 @@ use Rattle.standing_filters.proofs.standing.Standing.next_change.Goals as goal
 
 pub returns : goal.returns
 returns c =
-    let same : kept_of c.args.self.now c.args.filter ≡ c.index.result.now.kept = first_of (search rules, grind (arith, common_steps)) in
-    subst (λ (kept : List (List ℕ × Verdict)). IsFirstChange kept c.next_change.result) (sym same) c.next_change.ensures
+    let same : kept_of c.args.self.now c.args.filter ≡ c.index.result.now.kept =
+    first_of (search rules, grind (arith, common_steps)) in
+    subst (λ (kept : List (List ℕ × Verdict)). IsFirstChange kept c.next_change.result) (sym same)
+    c.next_change.ensures

@@ -11,8 +11,11 @@ use Rattle.standing_filters.proofs.watch.Watch.keys.Goals as goal
 
 pub returns-clause-ordered : goal.returns-clause-ordered
 returns-clause-ordered c =
-    subst (λ (w : Watching). IsStrictlySortedBy (slice_cmp nat_cmp) (keys_held w.kept)) c.self.view_is (held_ordered c.self.inside.kept.entries c.iter.ensures.ordered)
+    subst (λ (w : Watching). IsStrictlySortedBy (slice_cmp nat_cmp) (keys_held w.kept))
+    c.self.view_is (held_ordered c.self.inside.kept.entries c.iter.ensures.ordered)
 
 pub returns-clause-exact : goal.returns-clause-exact
 returns-clause-exact c = λ key.
-    subst (λ (w : Watching). list_any (is_at (slice_cmp nat_cmp key)) (keys_held w.kept) ≡ (verdict_at w.kept key).holds) c.self.view_is (held_exact c.self.inside.kept.entries c.iter.ensures.ordered key)
+    subst (λ (w : Watching). list_any (is_at (slice_cmp nat_cmp key)) (keys_held w.kept)
+    ≡ (verdict_at w.kept key).holds) c.self.view_is
+    (held_exact c.self.inside.kept.entries c.iter.ensures.ordered key)

@@ -12,9 +12,14 @@ returns-in_ok-plan-clause-planned c =
     let at = c.in-Some.at in
     let key = c.args.key.now in
     let due = c.self.inside.due in
-    let apart : c.args.before ≢ Some at = told_apart c.args.before at (c.if-eq.ensures ∙ ap (λ o. option_eq eqb c.args.before o) c.in-Some.is) in
-    let is : c.plan.new.self ≡ with_entry (slice_cmp nat_cmp) due (at, key) = c.in_ok-plan.ensures.ok ∙ ap (λ k. with_entry (slice_cmp nat_cmp) due (at, k)) c.in_ok-duplicate.ensures in
+    let apart : c.args.before ≢ Some at = told_apart c.args.before at (c.if-eq.ensures
+    ∙ ap (λ o. option_eq eqb c.args.before o) c.in-Some.is) in
+    let is : c.plan.new.self ≡ with_entry (slice_cmp nat_cmp) due (at, key) =
+    c.in_ok-plan.ensures.ok ∙ ap (λ k. with_entry (slice_cmp nat_cmp) due (at, k))
+    c.in_ok-duplicate.ensures in
     let planned = planned_is due key c.args.before at apart in
-    let after = subst (λ (a : Option ℕ). IsPlanned key c.args.before a due (with_entry (slice_cmp nat_cmp) due (at, key))) (sym c.in-Some.is) planned in
-    let index = subst (λ (d : List (ℕ × List ℕ)). IsPlanned key c.args.before c.args.after due d) (sym is) after in
+    let after = subst (λ (a : Option ℕ). IsPlanned key c.args.before a due
+    (with_entry (slice_cmp nat_cmp) due (at, key))) (sym c.in-Some.is) planned in
+    let index = subst (λ (d : List (ℕ × List ℕ)). IsPlanned key c.args.before c.args.after due d)
+    (sym is) after in
     subst (λ w. IsPlanned key c.args.before c.args.after w.due c.plan.new.self) c.self.view_is index

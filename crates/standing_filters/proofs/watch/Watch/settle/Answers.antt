@@ -15,7 +15,8 @@ loop-key-preserved c =
     let at = c.loop-key.key-index in
     let j = c.key-item.result in
     let rest = drop (at + 1) judged in
-    let split : drop at judged ≡ j ∷ rest = drop_more judged at j c.loop-key-test.true ∙ ap (λ item. item ∷ rest) (sym c.key-item.is) in
+    let split : drop at judged ≡ j ∷ rest = drop_more judged at j c.loop-key-test.true
+    ∙ ap (λ item. item ∷ rest) (sym c.key-item.is) in
     let plans = subst (λ l. ArePlans before l) split c.loop-key.invariant.plans in
     let apart = subst (λ l. IsDistinct same_key (keys_judged l)) split c.loop-key.invariant.apart in
     let others = IsDistinct-head same_key j.key (keys_judged rest) apart in
@@ -23,7 +24,8 @@ loop-key-preserved c =
     record {
       filter = c.keep.ensures.filter ∙ c.loop-key.invariant.filter;
       due = λ e. ap (λ d. has_plan d e) c.keep.ensures.due ∙ c.loop-key.invariant.due e;
-      kept = λ key. after_less rest j before after others becomes key ∙ ap (λ l. verdict_after l before key) (sym split) ∙ c.loop-key.invariant.kept key;
+      kept = λ key. after_less rest j before after others becomes key
+          ∙ ap (λ l. verdict_after l before key) (sym split) ∙ c.loop-key.invariant.kept key;
       plans = plans_stay j.key j.verdict before after rest becomes others plans.1;
       apart = IsDistinct-tail same_key j.key (keys_judged rest) apart;
     }

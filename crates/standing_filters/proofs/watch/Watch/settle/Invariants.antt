@@ -8,7 +8,8 @@ abbrev pub invariant-loop-key : goal.invariant-loop-key
 invariant-loop-key l = record {
   filter : l.self.filter ≡ l.fn.self.filter;
   due : (e : ℕ × List ℕ) → has_plan l.self.due e ≡ (has_plan l.fn.self.due e && ltb l.t e.0);
-  kept : (key : List ℕ) → verdict_after (drop l.key-index l.judged) l.self.kept key ≡ verdict_after l.judged l.fn.self.kept key;
+  kept : (key : List ℕ) → verdict_after (drop l.key-index l.judged) l.self.kept key
+      ≡ verdict_after l.judged l.fn.self.kept key;
   plans : ArePlans l.self.kept (drop l.key-index l.judged);
   apart : IsDistinct same_key (keys_judged (drop l.key-index l.judged));
 }

@@ -12,8 +12,12 @@ returns-in-Some-clause-due c =
     let at = c.in-Some.at in
     let key = c.args.key.now in
     let due = c.self.inside.due in
-    let apart : c.args.stays ≢ Some at = told_apart_by c.args.stays at (c.if-eq.ensures ∙ ap (λ o. option_eq eqb o c.args.stays) c.in-Some.is) in
+    let apart : c.args.stays ≢ Some at = told_apart_by c.args.stays at (c.if-eq.ensures
+    ∙ ap (λ o. option_eq eqb o c.args.stays) c.in-Some.is) in
     let cut = unplanned_is due key at c.args.stays c.cancel.ensures.ordered apart in
-    let gone = subst (λ (a : Option ℕ). IsUnplanned key a c.args.stays due (without_entry (slice_cmp nat_cmp) due (at, key))) (sym c.in-Some.is) cut in
-    let index = subst (λ (d : List (ℕ × List ℕ)). IsUnplanned key c.args.gone c.args.stays due d) (sym c.cancel.ensures.removed) gone in
-    subst (λ w. IsUnplanned key c.args.gone c.args.stays w.due c.cancel.new.self) c.self.view_is index
+    let gone = subst (λ (a : Option ℕ). IsUnplanned key a c.args.stays due
+    (without_entry (slice_cmp nat_cmp) due (at, key))) (sym c.in-Some.is) cut in
+    let index = subst (λ (d : List (ℕ × List ℕ)). IsUnplanned key c.args.gone c.args.stays due d)
+    (sym c.cancel.ensures.removed) gone in
+    subst (λ w. IsUnplanned key c.args.gone c.args.stays w.due c.cancel.new.self)
+    c.self.view_is index
