@@ -212,6 +212,12 @@ impl<R: Clock> Sockets<R> {
 }
 
 impl<R: Clock> Doors<Incoming, Outgoing> for Sockets<R> {
+    ghost use Rattle.std.specs.Prelude.{None};
+
+    ghost unread = { None };
+
+    ghost blank = { None };
+
     fn peer(&self) -> Option<Caller<Incoming, Outgoing>> {
         self.accept(&self.peers)
     }

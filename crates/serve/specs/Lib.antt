@@ -5,3 +5,4 @@ pub mod Working
 pub mod Moments
 pub mod Commands
 pub mod Commanding
+pub mod Parting

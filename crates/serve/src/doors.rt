@@ -1,13 +1,16 @@
 //! All workers of a collector, each in a thread.
 
-ghost use Rattle.std.specs.Prelude.{◌≡◌};
+ghost use Rattle.std.specs.Prelude.{◌≡◌, ℕ, List, Option, IfSome};
+ghost use Rattle.serve.specs.Parting.{WasCommanded, WasServed};
 
 use crate::admin::serve_admin;
 use crate::clock::Clock;
 use crate::gate::{Gate, News, Place};
+use crate::served::{Faulted, Served};
 use crate::session::serve_session;
 use crate::source::Source;
 use crate::timer::run_timer;
+use agg_types::Config;
 use hub::{Hub, Naming};
 use std::alloc::Global;
 use std::io::Write;
@@ -36,13 +39,46 @@ pub struct Caller<S: Source, W> {
     pub ghost fresh: { S.reads source ≡ 0 },
 }
 
-/// Where connections come in.
-pub trait Doors<S: Source, W> {
+/// Where connections come in, and go when they are over.
+pub trait Doors<S: Source + Drop, W: Write + Drop> {
+    // what its sources tell that they gave, before they are read
+    ghost unread: { Option (List ℕ) };
+
+    // what its writers tell that they took, before they are written to
+    ghost blank: { Option (List ℕ) };
+
     /// The next connection of a peer. None closes this door.
-    fn peer(&self) -> Option<Caller<S, W>>;
+    fn peer(&self) -> Option<Caller<S, W>>
+        ensures unread { IfSome result (λ caller. S.given caller.source ≡ unread) }
+        ensures blank { IfSome result (λ caller. W.contents caller.writer ≡ blank) };
 
     /// The next admin connection. None closes this door.
-    fn admin(&self) -> Option<Caller<S, W>>;
+    fn admin(&self) -> Option<Caller<S, W>>
+        ensures unread { IfSome result (λ caller. S.given caller.source ≡ unread) }
+        ensures blank { IfSome result (λ caller. W.contents caller.writer ≡ blank) };
+
+    /// Takes back the connection of a peer that is over. What was read, told and written is what
+    /// `serve_session` promises.
+    fn part_peer(&self, _config: &Config, _source: S, _writer: W, _ended: Result<Served, Faulted>)
+        requires { WasServed _config.now unread (S.given _source) blank (W.contents _writer)
+            _ended }
+    {}
+
+    /// Takes back an admin connection that is over. What was read, changed and answered is what
+    /// `serve_admin` promises.
+    fn part_admin(&self, _config: &Config, _source: S, _writer: W, _ended: Result<Served, Faulted>)
+        requires { WasCommanded _config.now unread (S.given _source) blank (W.contents _writer)
+            _ended }
+    {}
+}
+
+/// A connection that came through these doors.
+#[derive(Drop)]
+struct Guest<'a, S: Source + Drop, W: Write + Drop, D: Doors<S, W>> {
+    caller: Caller<S, W>,
+    doors: &'a D,
+    ghost unread: { S.given caller.source ≡ D.unread },
+    ghost blank: { W.contents caller.writer ≡ D.blank },
 }
 
 /// How many connections ended.
@@ -222,17 +258,25 @@ impl<
     S: Source + Drop,
     W: Write + Drop,
     D: Doors<S, W>,
-> Workers<Caller<S, W>> for House<'a, J, H, C, G, D> {
-    fn next_peer(&self) -> Option<Caller<S, W>> {
-        self.doors.peer()
+> Workers<Guest<'a, S, W, D>> for House<'a, J, H, C, G, D> {
+    fn next_peer(&self) -> Option<Guest<'a, S, W, D>> {
+        let caller = self.doors.peer()?;
+        Some(Guest {
+            caller,
+            doors: self.doors,
+        })
     }
 
-    fn next_admin(&self) -> Option<Caller<S, W>> {
-        self.doors.admin()
+    fn next_admin(&self) -> Option<Guest<'a, S, W, D>> {
+        let caller = self.doors.admin()?;
+        Some(Guest {
+            caller,
+            doors: self.doors,
+        })
     }
 
-    fn sender(&self, caller: &Caller<S, W>) -> Option<SocketAddr> {
-        caller.source.sender()
+    fn sender(&self, guest: &Guest<'a, S, W, D>) -> Option<SocketAddr> {
+        guest.caller.source.sender()
     }
 
     fn turn_away(&self, sender: Option<SocketAddr>) {
@@ -242,7 +286,8 @@ impl<
     }
 
     // Without a seat it is served all the same, and refused.
-    fn peer<R: Wait>(&self, rt: &R, caller: Caller<S, W>) {
+    fn peer<R: Wait>(&self, rt: &R, guest: Guest<'a, S, W, D>) {
+        let Guest { caller, doors } = guest;
         let Caller {
             mut source,
             mut writer,
@@ -259,11 +304,13 @@ impl<
             self.gate,
         );
         self.counts.count(ended.is_ok());
+        doors.part_peer(self.hub.config(), source, writer, ended);
     }
 
     // Without a seat or a lens it is closed.
     #[tactic(auto, using(crate::proofs::Commanded::lens_follows))]
-    fn admin<R: Wait>(&self, rt: &R, caller: Caller<S, W>) {
+    fn admin<R: Wait>(&self, rt: &R, guest: Guest<'a, S, W, D>) {
+        let Guest { caller, doors } = guest;
         let Caller {
             mut source,
             mut writer,
@@ -287,6 +334,7 @@ impl<
             self.gate,
         );
         self.counts.count(ended.is_ok());
+        doors.part_admin(self.hub.config(), source, writer, ended);
     }
 
     // Its seat is taken first; then connections are served.
