@@ -6,16 +6,13 @@ ghost use Rattle.agg_types.specs.Check.{config_faults};
 use crate::notes::Notes;
 use crate::sockets::{Sockets, Ticks};
 use agg_config::{LineCause, LineFault};
-use agg_types::{Config, KeyKind};
+use agg_types::Config;
 use hub::{Hub, Naming, Opening};
-use key_text::read_key;
-use line_words::number;
 use serve::serve_all;
-use std::alloc::Global;
 use std::io;
 use std::io::{BufReader, Read};
 use std::marker::Brand;
-use std::net::{Ipv4Addr, Net, SocketAddr, SocketAddrV4, TcpListener, TcpStream};
+use std::net::{Net, SocketAddr, TcpListener, TcpStream};
 use std::process::ExitCode;
 use std::sync::Wait;
 use std::thread::Threads;
@@ -29,24 +26,6 @@ const FAULT: u8 = 5;
 
 /// How many admin connections may look at once: there is one, and one that is about to end.
 const PLACES: usize = 4;
-
-/// The address that a word of the command line says: an IPv4, a colon and a port of 1 to 5 digits.
-pub fn address(alloc: Global, word: &[u8]) -> Option<SocketAddr> {
-    let colon = word.iter().position(|byte| *byte == b':')?;
-    let port = &word[colon + 1..];
-    if port.len() > 5 {
-        return None;
-    }
-    let port = u16::try_from(number(port).ok()?).ok()?;
-    let key = read_key(alloc, KeyKind::Ip, &word[..colon]).ok()??;
-    match key.as_slice() {
-        [a, b, c, d] => Some(SocketAddr::V4(SocketAddrV4::new(
-            Ipv4Addr::new(*a, *b, *c, *d),
-            port,
-        ))),
-        _ => None,
-    }
-}
 
 // Reads the configuration on standard input, to its end.
 fn configuration(rt: &(impl Input + AllocGlobal)) -> Result<Config, LineFault>

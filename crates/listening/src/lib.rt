@@ -9,5 +9,5 @@ mod collect;
 mod notes;
 mod sockets;
 
-pub use collect::{address, listen};
+pub use collect::listen;
 pub use sockets::{Incoming, Outgoing, Sockets};
