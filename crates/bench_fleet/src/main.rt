@@ -1,15 +1,24 @@
-//! Measures how fast a fleet takes the updates of one proxy, and what a key costs in memory.
+//! Measures how fast a fleet takes the updates of its proxies, and what a key costs in memory.
 //!
-//! `bench_fleet <keys> <updates> [lives]` lets one proxy send one update of each key, then so many
-//! more over the keys in turn, and then so many over keys drawn from a fixed generator, each of an
-//! address, two counts and a rate, in pieces of 16 KB. The keys come in a scattered order. With
-//! `lives` rows live for ten minutes, and the clock goes on by 100 ms after each 100,000 updates.
+//! `bench_fleet <keys> <updates> [lives] [four] [texts] [rare] [every] [rank]` lets one proxy send
+//! one update of each key, then so many more over the keys in turn, and then so many over keys drawn
+//! from a fixed generator, each of an address, two counts and a rate, in pieces of 16 KB. The keys
+//! come in a scattered order. With `lives` rows live for ten minutes, and the clock goes on by
+//! 100 ms after each 100,000 updates. With `four` four proxies send the same, in turn by 100,000;
+//! with `texts` keys are texts of 20 bytes. With `rare` a filter stands that holds one key in a
+//! thousand, with `every` one that holds them all, and with `rank` a list of the ten keys with the
+//! greatest rates. At last the rows, some keys, the filters and the list are asked for.
 //!
 //! What was done goes to standard output; how fast, with the resident memory that a key costs where
 //! the system tells it, to standard error.
 #![tactic(auto)]
 
-use agg_types::{Col, Config, Items, KeyKind, LAST_MOMENT, Name, Shape};
+mod asking;
+mod load;
+
+use crate::asking::{Standing, ask};
+use crate::load::{Load, Order};
+use agg_types::{Items, LAST_MOMENT};
 use anyhow::{Result, anyhow};
 use fleet_core::{Fleet, Step};
 use std::alloc::Global;
@@ -23,140 +32,61 @@ const PIECE_BYTES: usize = 16_384;
 /// How many bytes a page of resident memory has.
 const PAGE_BYTES: u64 = 4096;
 
-/// What the proxy says first: its hello.
-const HELLO: &[u8] = b"HAProxyS 2.1\nagg\nlb1 100 1\n";
-
-/// The definition of a table of addresses with gpc0, conn_cnt and http_req_rate over 10 s, without
-/// an expiry.
-const LASTING: &[u8] = b"\x0a\x82\x0c\x01\x01t\x04\x04\xf4\x32\x00\x0a\xf0\xe2\x03";
-
-/// The same with an expiry of ten minutes.
-const LIVING: &[u8] = b"\x0a\x82\x0f\x01\x01t\x04\x04\xf4\x32\xf0\xed\xa3\x01\x0a\xf0\xe2\x03";
-
 /// How many updates come between two moments, and how many ms lie between these.
 const UPDATES_A_TURN: u32 = 100_000;
 
 const TURN_MS: u64 = 100;
 
-/// What is run: how many keys, how many more updates, and whether rows have lives.
-#[derive(Clone, Copy)]
-struct Load {
-    keys: u32,
-    updates: u32,
-    lives: bool,
-}
-
-/// In which order updates take the keys.
-#[derive(Clone, Copy)]
-enum Order {
-    /// Each in turn, scattered over the addresses.
-    Scattered,
-    /// Drawn from a fixed generator.
-    Drawn,
-}
-
-/// The collector `agg` of the proxy `lb1`, with the table that it sends.
-fn config(alloc: Global) -> Result<Config> {
-    let cols = [
-        (Col::Gpc0, 0),
-        (Col::ConnCnt, 0),
-        (Col::HttpReqRate, 10_000),
-    ];
-    let table = Shape {
-        name: Name::copy(alloc, b"t")?,
-        kind: KeyKind::Ip,
-        size: 1_000_000,
-        cols: Items::copy(alloc, &cols)?,
-    };
-    let mut config = Config {
-        me: Name::copy(alloc, b"agg")?,
-        peers: Items::from_vec(Vec::new(alloc)),
-        tables: Items::from_vec(Vec::new(alloc)),
-        filters: Items::from_vec(Vec::new(alloc)),
-        ranks: Items::from_vec(Vec::new(alloc)),
-    };
-    config.peers.push(Name::copy(alloc, b"lb1")?)?;
-    config.tables.push(table)?;
-    Ok(config)
-}
-
-/// A fleet of such a collector.
-fn fleet(alloc: Global) -> Result<Fleet> {
-    let config = config(alloc)?;
-    config.check()?;
-    Ok(Fleet::new(alloc, config, 0)?)
-}
-
-/// The key of an update.
-fn key_of(order: Order, id: u32, keys: u32) -> u32 {
-    let number = match order {
-        Order::Scattered => u64::from(id).wrapping_mul(2_147_483_647),
-        Order::Drawn => drawn(u64::from(id)),
-    };
-    u32::try_from(number % u64::from(keys.max(1))).unwrap_or(0)
-}
-
-/// A number drawn for another (the output of the generator SplitMix64 at this place).
-fn drawn(place: u64) -> u64 {
-    let mut number = place.wrapping_mul(0x9e37_79b9_7f4a_7c15);
-    number = (number ^ (number >> 30)).wrapping_mul(0xbf58_476d_1ce4_e5b9);
-    number = (number ^ (number >> 27)).wrapping_mul(0x94d0_49bb_1331_11eb);
-    number ^ (number >> 31)
-}
-
-/// The updates of these ids.
-fn updates(alloc: Global, order: Order, keys: u32, from: u32, to: u32) -> Result<Vec<u8>> {
-    let mut bytes = Vec::new(alloc);
-    for id in from..to {
-        let key = key_of(order, id, keys);
-        bytes.extend_from_slice(&[0x0a, 0x80, 15])?;
-        bytes.extend_from_slice(&id.to_be_bytes())?;
-        bytes.extend_from_slice(&key.to_be_bytes())?;
-        bytes.extend_from_slice(&[0x02, 0x05, 0xf4, 0x8d, 0x00, 0x1e, 0x64])?;
-    }
-    Ok(bytes)
-}
-
-/// A proxy on the one connection of a fleet. Contracts see nothing of it.
+/// Proxies on the connections of a fleet. Contracts see nothing of them.
 #[derive(Drop)]
-struct Proxy {
+struct Proxies {
     fleet: Fleet,
-    conn: u64,
+    conns: Vec<u64>,
     moment: u64,
     answered: u64,
 }
 
-impl Model for Proxy {
+impl Model for Proxies {
     ghost Value = { Unit {0} };
 
     ghost view = { λ _. tt };
 }
 
-impl Proxy {
-    /// Connects to a new fleet.
-    fn connect(alloc: Global) -> Result<Proxy> {
-        let mut fleet = fleet(alloc)?;
-        let conn = fleet.step(&Step::Connect)?.conn;
-        Ok(Proxy {
-            fleet,
-            conn,
+impl Proxies {
+    /// Connects the proxies of a load to a new fleet, each of which says what it says first.
+    fn connect(alloc: Global, load: Load) -> Result<Proxies> {
+        let config = load.config(alloc)?;
+        config.check()?;
+        let mut proxies = Proxies {
+            fleet: Fleet::new(alloc, config, 0)?,
+            conns: Vec::new(alloc),
             moment: 0,
             answered: 0,
-        })
+        };
+        for peer in 0..load.peers {
+            let conn = proxies.fleet.step(&Step::Connect)?.conn;
+            proxies.conns.push(conn)?;
+            let opening = load.opening(alloc, peer)?;
+            proxies.send_piece(alloc, conn, opening.as_slice())?;
+        }
+        Ok(proxies)
     }
 
     /// Sends one piece of bytes, and counts the bytes that it is answered.
-    fn send_piece(&mut self, alloc: Global, piece: &[u8]) -> Result<()> {
+    fn send_piece(&mut self, alloc: Global, conn: u64, piece: &[u8]) -> Result<()> {
         let piece = Items::copy(alloc, piece)?;
-        let replies = self.fleet.step(&Step::Bytes(self.conn, piece))?;
+        let replies = self.fleet.step(&Step::Bytes(conn, piece))?;
         self.answered = self.answered.saturating_add(replies.out.len() as u64);
         Ok(())
     }
 
-    /// Sends bytes in pieces.
+    /// Sends bytes in pieces, from each proxy in turn.
     fn send(&mut self, alloc: Global, bytes: &[u8]) -> Result<()> {
-        for piece in bytes.chunks(PIECE_BYTES) {
-            self.send_piece(alloc, piece)?;
+        for place in 0..self.conns.len() {
+            let conn = self.conns.get(place).copied().unwrap_or(0);
+            for piece in bytes.chunks(PIECE_BYTES) {
+                self.send_piece(alloc, conn, piece)?;
+            }
         }
         Ok(())
     }
@@ -181,37 +111,34 @@ impl Proxy {
         Ok(start.elapsed(&rt)?.as_micros())
     }
 
-    /// Sends so many updates, and gives how long that took, in µs.
-    fn run(&mut self, rt: HostRuntime, load: Load, order: Order, count: u32) -> Result<u128> {
+    /// Sends so many updates from each proxy, and tells how fast they were taken.
+    fn run(
+        &mut self,
+        rt: HostRuntime,
+        load: Load,
+        order: Order,
+        what: &str,
+        count: u32,
+    ) -> Result<()> {
         let mut micros = 0u128;
         for turn in 0..(count / UPDATES_A_TURN).saturating_add(1) {
             let from = turn.saturating_mul(UPDATES_A_TURN);
             let to = from.saturating_add(UPDATES_A_TURN).min(count);
-            let bytes = updates(rt.alloc(), order, load.keys, from, to)?;
+            let bytes = load.updates(rt.alloc(), order, from, to)?;
             micros = micros.saturating_add(self.turn(rt, bytes.as_slice(), load.lives)?);
         }
-        Ok(micros)
-    }
-
-    /// Says what a proxy says before its updates.
-    fn open(&mut self, alloc: Global, lives: bool) -> Result<()> {
-        self.send(alloc, HELLO)?;
-        self.send(alloc, if lives { LIVING } else { LASTING })
+        let taken = u128::from(count) * u128::from(load.peers);
+        tell_speed(rt, load.keys, what, taken, micros)
     }
 
     /// Runs a load and tells of it.
     fn measure(&mut self, rt: HostRuntime, load: Load) -> Result<()> {
-        let keys = load.keys;
-        self.open(rt.alloc(), load.lives)?;
         let before = resident(rt);
-        let new = self.run(rt, load, Order::Scattered, keys)?;
-        let after = resident(rt);
-        tell_speed(rt, keys, "new", keys, new)?;
-        tell_memory(rt, keys, before, after)?;
-        let held = self.run(rt, load, Order::Scattered, load.updates)?;
-        tell_speed(rt, keys, "held", load.updates, held)?;
-        let drawn = self.run(rt, load, Order::Drawn, load.updates)?;
-        tell_speed(rt, keys, "drawn", load.updates, drawn)?;
+        self.run(rt, load, Order::Scattered, "new", load.keys)?;
+        tell_memory(rt, load.keys, before, resident(rt))?;
+        self.run(rt, load, Order::Scattered, "held", load.updates)?;
+        self.run(rt, load, Order::Drawn, "drawn", load.updates)?;
+        ask(rt, self.fleet.book(), load)?;
         println!(rt;
             "{} keys, then twice {} updates: {} bytes answered at {} ms",
             self.fleet.book().used(0),
@@ -224,8 +151,8 @@ impl Proxy {
 }
 
 /// Tells how fast so many updates were taken.
-fn tell_speed(rt: HostRuntime, keys: u32, what: &str, count: u32, micros: u128) -> Result<()> {
-    let per_second = u128::from(count) * 1_000_000 / micros.max(1);
+fn tell_speed(rt: HostRuntime, keys: u32, what: &str, count: u128, micros: u128) -> Result<()> {
+    let per_second = count.saturating_mul(1_000_000) / micros.max(1);
     eprintln!(rt; "{keys} keys: {per_second} {what} updates/s")?;
     Ok(())
 }
@@ -255,18 +182,34 @@ fn asked(rt: HostRuntime) -> Result<Option<Load>> {
     let (Ok(keys), Ok(updates)) = (keys.as_str().parse(), updates.as_str().parse()) else {
         return Ok(None);
     };
-    let lives = words.next().is_some_and(|word| word.as_str() == "lives");
-    Ok(Some(Load {
+    let mut load = Load {
         keys,
         updates,
-        lives,
-    }))
+        peers: 1,
+        texts: false,
+        lives: false,
+        standing: Standing::default(),
+    };
+    for word in words {
+        match word.as_str() {
+            "four" => load.peers = 4,
+            "texts" => load.texts = true,
+            "lives" => load.lives = true,
+            "rare" => load.standing.rare = true,
+            "every" => load.standing.every = true,
+            "rank" => load.standing.rank = true,
+            _ => return Ok(None),
+        }
+    }
+    Ok(Some(load))
 }
 
 fn main(rt: HostRuntime) -> Result<()> {
     let Some(load) = asked(rt)? else {
-        return Err(anyhow!("bench_fleet <keys> <updates> [lives]"));
+        return Err(anyhow!(
+            "bench_fleet <keys> <updates> [lives] [four] [texts] [rare] [every] [rank]"
+        ));
     };
-    let mut proxy = Proxy::connect(rt.alloc())?;
-    proxy.measure(rt, load)
+    let mut proxies = Proxies::connect(rt.alloc(), load)?;
+    proxies.measure(rt, load)
 }

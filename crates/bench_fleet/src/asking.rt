@@ -1,0 +1,134 @@
+//! The filters and the ranked list that stand while updates come, and how long answers take.
+
+use crate::load::{Load, Order};
+use agg_types::{Col, Cond, Config, Filter, Items, Name, Op, Rank};
+use anyhow::Result;
+use book::Book;
+use std::alloc::Global;
+use std::time::Instant;
+
+/// How many keys are asked for one by one.
+const KEYS_ASKED: u32 = 1000;
+
+/// What stands: a filter that holds one key in a thousand, one that holds every key, and a list of
+/// the ten keys with the greatest rates.
+#[derive(Clone, Copy, Default)]
+pub struct Standing {
+    pub rare: bool,
+    pub every: bool,
+    pub rank: bool,
+}
+
+impl Standing {
+    /// Declares it in a configuration.
+    pub fn stand(self, alloc: Global, config: &mut Config) -> Result<()> {
+        if self.rare {
+            declare(alloc, config, b"rare", Col::HttpReqRate, Op::Gt, 100)?;
+        }
+        if self.every {
+            declare(alloc, config, b"every", Col::Gpc0, Op::Ge, 1)?;
+        }
+        if self.rank {
+            config.ranks.push(Rank {
+                name: Name::copy(alloc, b"first")?,
+                table: 0,
+                col: Col::HttpReqRate,
+                n: 10,
+            })?;
+        }
+        Ok(())
+    }
+}
+
+/// Declares a filter of one condition on the first table.
+fn declare(
+    alloc: Global,
+    config: &mut Config,
+    name: &[u8],
+    col: Col,
+    op: Op,
+    bound: u64,
+) -> Result<()> {
+    config.filters.push(Filter {
+        name: Name::copy(alloc, name)?,
+        table: 0,
+        conds: Items::copy(alloc, &[Cond { col, op, bound }])?,
+    })?;
+    Ok(())
+}
+
+/// Asks a book for its rows, for some of its keys, and for each filter and each list, and tells how
+/// long that took.
+pub fn ask(rt: HostRuntime, book: &Book, load: Load) -> Result<()> {
+    ask_rows(rt, book)?;
+    ask_keys(rt, book, load)?;
+    for filter in 0..book.config().filters.len() {
+        ask_filter(rt, book, filter)?;
+    }
+    for rank in 0..book.config().ranks.len() {
+        ask_rank(rt, book, rank)?;
+    }
+    Ok(())
+}
+
+/// Asks for all rows.
+fn ask_rows(rt: HostRuntime, book: &Book) -> Result<()> {
+    let start = Instant::now(&rt)?;
+    let mut peers = 0usize;
+    for (_, sums) in book.rows(rt.alloc(), 0)? {
+        peers = peers.saturating_add(sums.peers);
+    }
+    let micros = start.elapsed(&rt)?.as_micros();
+    eprintln!(rt; "{} keys: {peers} rows in {micros} us", book.used(0))?;
+    Ok(())
+}
+
+/// Asks for the sums of keys, one by one.
+fn ask_keys(rt: HostRuntime, book: &Book, load: Load) -> Result<()> {
+    let mut keys = Vec::new(rt.alloc());
+    for id in 0..KEYS_ASKED {
+        keys.push(load.key(rt.alloc(), Order::Drawn.key_of(id, load.keys))?)?;
+    }
+    let start = Instant::now(&rt)?;
+    let mut found = 0usize;
+    for key in keys.as_slice() {
+        if book.summed(0, key).is_some() {
+            found = found.saturating_add(1);
+        }
+    }
+    let micros = start.elapsed(&rt)?.as_micros();
+    eprintln!(rt; "{found} of {KEYS_ASKED} keys one by one in {micros} us")?;
+    Ok(())
+}
+
+/// Asks which keys a filter holds, and when it changes.
+fn ask_filter(rt: HostRuntime, book: &Book, filter: usize) -> Result<()> {
+    if filter >= book.config().filters.len() {
+        return Ok(());
+    }
+    let start = Instant::now(&rt)?;
+    let held = book.filter_keys(rt.alloc(), filter)?.len();
+    let keys = start.elapsed(&rt)?.as_micros();
+    let next = book.next_change(rt.alloc(), filter)?;
+    let both = start.elapsed(&rt)?.as_micros();
+    let change = both.saturating_sub(keys);
+    eprintln!(rt; "filter {filter}: {held} keys in {keys} us, next {next:?} in {change} us")?;
+    Ok(())
+}
+
+/// Asks for a ranked list.
+fn ask_rank(rt: HostRuntime, book: &Book, rank: usize) -> Result<()> {
+    if rank >= book.config().ranks.len() {
+        return Ok(());
+    }
+    let start = Instant::now(&rt)?;
+    let mut list = book.top(rt.alloc(), rank)?;
+    let mut listed = 0usize;
+    while list.next().is_some() {
+        listed = listed.saturating_add(1);
+    }
+    let micros = start.elapsed(&rt)?.as_micros();
+    let walked = list.walked();
+    eprintln!(rt; "list {rank}: {listed} keys, {walked} looked at, in {micros} us")?;
+    Ok(())
+}
