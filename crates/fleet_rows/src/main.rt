@@ -7,6 +7,9 @@
 
 mod deeds;
 
+ghost use Rattle.std.specs.Prelude.{◌≡◌, IfOk};
+ghost use Rattle.fleet_core.specs.Possible.{does_fit};
+
 use crate::deeds::{Deed, config, step};
 use agg_types::NoMemory;
 use anyhow::{Result, anyhow, ensure};
@@ -65,17 +68,21 @@ fn step_again(
     fleet: &mut Fleet,
     step: &Step,
 ) -> Result<Result<Replies, FleetFault>> {
-    ensure!(fits(alloc, fleet.book(), step)?, "it does not fit");
-    match fleet.step(step) {
-        Err(FleetFault::NoMemory) => {}
-        done => return Ok(done),
+    match step_once(alloc, fleet, step)? {
+        Err(FleetFault::NoMemory) => step_once(alloc, fleet, step),
+        done => Ok(done),
     }
+}
+
+fn step_once(alloc: Global, fleet: &mut Fleet, step: &Step) -> Result<Result<Replies, FleetFault>> {
     ensure!(fits(alloc, fleet.book(), step)?, "it does not fit");
     Ok(fleet.step(step))
 }
 
 /// Whether a step may come, asked once more where a growth was refused.
-fn fits(alloc: Global, book: &Book, step: &Step) -> Result<bool, NoMemory> {
+fn fits(alloc: Global, book: &Book, step: &Step) -> Result<bool, NoMemory>
+    ensures { IfOk result (λ fits. fits ≡ does_fit book.now.config step.now) }
+{
     match step.fits(alloc, book.config()) {
         Err(NoMemory) => step.fits(alloc, book.config()),
         told => told,
