@@ -142,18 +142,34 @@ fn opened(alloc: Global) -> Result<Fleet> {
     Ok(Fleet::new(alloc, config, 0)?)
 }
 
+/// The step of a deed, made once more where a growth was refused.
+fn made(alloc: Global, deed: Deed) -> Result<Step, NoMemory> {
+    match step(alloc, deed) {
+        Err(NoMemory) => step(alloc, deed),
+        made => made,
+    }
+}
+
+/// Lets a deed happen, and prints what it sent and what the fleet then holds.
+fn play(
+    rt: &impl Print,
+    alloc: Global,
+    fleet: &mut Fleet,
+    number: usize,
+    deed: Deed,
+) -> Result<()> {
+    let step = made(alloc, deed)?;
+    let done = step_again(alloc, fleet, &step)?;
+    ensure!(fleet.waiting() == 0, "events wait");
+    print_done(rt, alloc, number, &done)?;
+    print_held(rt, alloc, fleet.book())
+}
+
 fn main(rt: HostRuntime) -> Result<()> {
     let alloc = rt.alloc();
     let mut fleet = opened(alloc)?;
-    for (number, deed) in DEEDS.into_iter().enumerate() {
-        let step = match step(alloc, deed) {
-            Err(NoMemory) => step(alloc, deed)?,
-            made => made?,
-        };
-        let done = step_again(alloc, &mut fleet, &step)?;
-        ensure!(fleet.waiting() == 0, "events wait");
-        print_done(&rt, alloc, number + 1, &done)?;
-        print_held(&rt, alloc, fleet.book())?;
+    for (place, deed) in DEEDS.into_iter().enumerate() {
+        play(&rt, alloc, &mut fleet, place.saturating_add(1), deed)?;
     }
     Ok(())
 }
