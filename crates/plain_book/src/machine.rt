@@ -1,6 +1,6 @@
 //! The machine of one event: what a book holds, and what an event makes of it.
 
-ghost use Rattle.std.specs.Prelude.{◌≡◌, ◌++◌, ◌&&◌, ◌==◌, [], ◌∷◌, nat_lt, length, not};
+ghost use Rattle.std.specs.Prelude.{◌≡◌, ◌++◌, ◌&&◌, ◌==◌, [], not};
 ghost use Rattle.std.specs.Prelude.{if◌then◌else◌, false, filter, IsTrue, IfOk, IsOk, OnOk, OnErr};
 ghost use Rattle.agg_types.specs.declared.event.What.TheVariants.{Leave};
 ghost use Rattle.fleet_model.specs.Kept.{kept_cell, kept_cells};

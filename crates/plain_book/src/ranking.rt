@@ -1,11 +1,11 @@
 //! The keys of a table by their values of a column.
 
 ghost use Rattle.std.specs.Prelude.{◌≡◌, ◌++◌, ◌<◌, ◌≤◌, ◌∷◌, length, map, take, drop};
-ghost use Rattle.std.specs.Prelude.{slice_index_or, IfOk, OnOk};
+ghost use Rattle.std.specs.Prelude.{IfOk, OnOk};
 ghost use Rattle.std.specs.Iterator.{at_most};
 ghost use Rattle.std.specs.Map.Iter.{TakesFirst};
 ghost use Rattle.std.specs.Ordering.{is_lt};
-ghost use Rattle.fleet_model.specs.Ranking.{in_order, no_rank, put_in_order, rank_cmp};
+ghost use Rattle.fleet_model.specs.Ranking.{in_order, put_in_order, rank_cmp};
 ghost use Rattle.fleet_model.specs.Values.{value};
 ghost use Rattle.book_frame.specs.Lent.{key_and_value};
 ghost use Rattle.plain_book.specs.Shown.{value_of};
