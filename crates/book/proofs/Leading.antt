@@ -36,7 +36,7 @@ use Rattle.ranked.specs.Bounds.{AreOthersKept, IsBounded, bound_at}
 use Rattle.ranked.specs.Leaders.{IsOneKeyOf, bounds_of}
 use Rattle.book.specs.Foreseen.{living_of}
 use Rattle.book.specs.Leading.{AreLed, IsKeyDropped, IsLed, Lists, StaysLed, rank_at}
-use Rattle.book.proofs.Chosen.{same_key-decides}
+use Rattle.book_frame.proofs.Chosen.{same_key-decides}
 
 abbrev Bounds : Type 0
 Bounds = List (List ℕ × ℕ)

@@ -2,9 +2,7 @@ pub mod Shown
 pub mod Planned
 pub mod Store
 pub mod Due
-pub mod Distinct
-pub mod Tally
-pub mod Lent
 pub mod Foreseen
 pub mod Flatness
 pub mod Leading
+pub use Rattle.book_frame.specs.Lent

@@ -8,12 +8,13 @@ ghost use Rattle.fleet_model.specs.Values.{cols_of};
 ghost use Rattle.book.specs.Foreseen.{IsFirstOf, earlier, flat_within, living_of};
 ghost use Rattle.book.specs.Shown.{as_arrival, of_peer};
 
-use crate::machine::{Machine, cols_of};
-use crate::next::{flat_from, longest_period};
+use crate::machine::Machine;
+use crate::next::flat_from;
 use crate::row::is_live;
 use crate::store::Store;
 use crate::values::value;
 use agg_types::{Col, Filter, Key};
+use book_frame::standing::{cols_of, longest_period};
 use crossing::{Meter, Values};
 use peer_rows::OfKey;
 use standing_filters::judge;

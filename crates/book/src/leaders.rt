@@ -17,9 +17,9 @@ ghost use Rattle.book.specs.Store.{IsFound};
 
 use crate::at::At;
 use crate::foreseen::live_rows;
-use crate::machine::cols_of;
 use crate::store::Store;
 use agg_types::{Cell, Config, Key, NoMemory, Place, Rank, Shape};
+use book_frame::standing::cols_of;
 use ranked::Leaders;
 
 /// Sees to it that bounds hold of a key as a row of it arrives, before and after.

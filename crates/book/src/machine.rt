@@ -1,20 +1,18 @@
 //! The machine of one event: what a book holds, and what an event makes of it.
 
-ghost use Rattle.std.specs.Prelude.{◌≡◌, ◌<◌, ◌≤◌, ◌^◌, ◌++◌, ◌&&◌, ◌==◌, [], ◌∷◌, nat_lt, length};
+ghost use Rattle.std.specs.Prelude.{◌≡◌, ◌<◌, ◌≤◌, ◌^◌, ◌&&◌, ◌==◌, length};
 ghost use Rattle.std.specs.Prelude.{not, if◌then◌else◌, false, filter, IsTrue, IfOk, IsOk, OnOk};
 ghost use Rattle.std.specs.Prelude.{OnErr};
-ghost use Rattle.std.specs.List.{list_any};
-ghost use Rattle.std.specs.Str.{bytes_eq};
 ghost use Rattle.agg_types.specs.declared.event.What.TheVariants.{Leave};
 ghost use Rattle.fleet_model.specs.Answers.{filter_of};
-ghost use Rattle.fleet_model.specs.Filters.{is_new};
 ghost use Rattle.fleet_model.specs.Keys.{key_rows, sum_of};
 ghost use Rattle.fleet_model.specs.Machine.{after, counts_now, event_of, number_of, opened};
 ghost use Rattle.fleet_model.specs.Machine.{with_row};
 ghost use Rattle.fleet_model.specs.Rows.{arrival_of, has_room};
 ghost use Rattle.fleet_model.specs.Seats.{is_number};
 ghost use Rattle.fleet_model.specs.Values.{cols_of, selects};
-ghost use Rattle.book.specs.Due.{FitsPlace, IsDue};
+ghost use Rattle.book_frame.specs.Due.{IsDue};
+ghost use Rattle.book.specs.Due.{FitsPlace};
 ghost use Rattle.book.specs.Leading.{AreLed};
 ghost use Rattle.book.specs.Planned.{IsInside, IsShort, place_at};
 ghost use Rattle.book.specs.Store.{IsFound, row_keys};
@@ -23,16 +21,14 @@ use crate::at::At;
 use crate::clears::{clear_key, clear_table, clear_where};
 use crate::ends::Size;
 use crate::leaders::{go_on, put_led};
-use crate::seats::{
-    Seats, Sessions, count_up, end_sessions, has_free_seat, is_next, is_number, open_session,
-    sit_down, stand_up,
-};
-use crate::sets::filter_at;
+use crate::queries;
 use crate::store::Store;
-use crate::{queries, seats};
-use agg_types::{
-    Cells, Col, Config, Filter, Items, Key, MOST_FILTERS, NoMemory, Select, Shape, What,
+use agg_types::{Cells, Config, Filter, Key, NoMemory, Select, What};
+use book_frame::seats;
+use book_frame::seats::{
+    Seats, Sessions, count_up, end_sessions, is_number, open_session, sit_down, stand_up,
 };
+use book_frame::standing::{add_filter, cols_of, filter_at};
 use fleet_model::Summed;
 use peer_rows::Spot;
 use ranked::Leaders;
@@ -126,12 +122,9 @@ impl Machine {
     #[tactic(auto, unfolding(fleet_model::specs::Machine::counts_now))]
     fn counts(&self, seat: u64, seq: u64, what: &What) -> bool
         ensures exact { result ≡ counts_now self.now (event_of seat seq what.now) }
+        ensures sits { IsTrue result → IsDue what.now seat seq (number_of self.now seat) }
     {
-        let due = seats::number_of(&self.seats, seat);
-        let free = has_free_seat(&self.seats);
-        let fits = self.config.fits(what);
-        let next = is_next(what, seat, seq, free, self.next_seat, due);
-        fits && next
+        seats::is_due(&self.config, &self.seats, self.next_seat, seat, seq, what)
     }
 
     // Whether an event counts, and then what its number and its seat are.
@@ -239,16 +232,6 @@ impl Machine {
     }
 }
 
-/// The columns of a table; none where there is no such table.
-pub fn cols_of(tables: &[Shape], table: usize) -> &[(Col, u32)]
-    ensures { result.now ≡ cols_of tables.now table }
-{
-    match tables.get(table) {
-        None => &[],
-        Some(shape) => shape.cols.as_slice(),
-    }
-}
-
 /// Takes away the rows that a clear selects, judged by the values that stand before it, and the
 /// bounds of their keys.
 fn clear(
@@ -322,31 +305,4 @@ fn put(
     } else {
         Ok(())
     }
-}
-
-/// Adds a filter behind the others, if it is new.
-fn add_filter(alloc: Global, filters: &mut Items<Filter>, filter: &Filter) -> Result<(), NoMemory>
-    ensures ok { OnOk result (filters.new
-        ≡ (if is_new filters.old filter.now then filters.old ++ filter.now ∷ [] else filters.old)) }
-    ensures err { OnErr result (filters.new ≡ filters.old) }
-{
-    if is_new(filters.as_slice(), filter) {
-        filters.push(filter.duplicate(alloc)?)
-    } else {
-        Ok(())
-    }
-}
-
-/// Whether a filter may be added: fewer stand than may, and none has its name.
-fn is_new(filters: &[Filter], filter: &Filter) -> bool
-    ensures { result ≡ is_new filters.now filter.now }
-{
-    let named = is_named(filters, filter.name.as_slice());
-    filters.len() < MOST_FILTERS && !named
-}
-
-fn is_named(filters: &[Filter], name: &[u8]) -> bool
-    ensures { result ≡ list_any (λ other. bytes_eq other.name name.now) filters.now }
-{
-    filters.iter().any(|other| other.name.is(name))
 }

@@ -3,17 +3,17 @@
 ghost use Rattle.std.specs.Prelude.{◌≡◌, ◌<◌, ◌^◌, ◌&&◌, ◌==◌, not, [], length, map, filter, IfOk};
 ghost use Rattle.std.specs.List.{dedup};
 ghost use Rattle.agg_types.specs.Col.{all_cols};
-ghost use Rattle.fleet_model.specs.Answers.{longer, left_of, tally};
+ghost use Rattle.fleet_model.specs.Answers.{left_of, tally};
 ghost use Rattle.fleet_model.specs.Keys.{key_rows, sum_of};
 ghost use Rattle.fleet_model.specs.Moments.{is_live};
 ghost use Rattle.fleet_model.specs.Values.{live_keys, same_key};
-ghost use Rattle.book.specs.Distinct.{is_other};
 ghost use Rattle.book.specs.Shown.{as_arrival, of_peer, rows_worth};
 
 use crate::row::{end_of, is_live};
 use crate::store::Store;
 use crate::values::worth;
 use agg_types::{Col, Key, NoMemory};
+use book_frame::keys::{is_other, longer};
 use fleet_model::Summed;
 use peer_rows::{ByKey, OfKey, Row};
 use std::alloc::Global;
@@ -52,16 +52,6 @@ fn distinct_keys<'a>(alloc: Global, rows: ByKey<'a>, t: u64) -> Result<Vec<&'a K
     Ok(keys)
 }
 
-/// Whether a key isn't the last one.
-fn is_other(last: Option<&Key>, key: &Key) -> bool
-    ensures { result ≡ is_other last.entry key.now }
-{
-    match last {
-        None => true,
-        Some(last) => *key != *last,
-    }
-}
-
 /// What the rows of a key sum up to at a moment, or none where the key has none: one search.
 pub fn summed(store: &Store, cols: &[(Col, u32)], table: usize, key: &Key, t: u64) -> Option<Summed>
     ensures { result ≡ sum_of cols.now (key_rows store.now.rows table key.now) t }
@@ -96,18 +86,6 @@ fn left_of(t: u64, row: &Row) -> Option<u64>
     let ends = row.ends?;
     let life = ends.saturating_sub(row.arrived);
     Some(life.saturating_sub(t.saturating_sub(row.arrived)))
-}
-
-fn longer(left: Option<u64>, other: Option<u64>) -> Option<u64>
-    ensures { result ≡ longer left other }
-{
-    match left {
-        None => None,
-        Some(left) => match other {
-            None => None,
-            Some(other) => Some(left.max(other)),
-        },
-    }
 }
 
 // What rows of one key sum up to, by column.

@@ -1,14 +1,15 @@
 //! The keys of a table by their values of a column.
 
-ghost use Rattle.std.specs.Prelude.{◌≡◌, ◌<◌, length, slice_index_or, IfOk};
+ghost use Rattle.std.specs.Prelude.{◌≡◌, ◌<◌, length, IfOk};
 ghost use Rattle.std.specs.Iterator.{at_most};
 ghost use Rattle.std.specs.Map.Iter.{TakesFirst};
-ghost use Rattle.fleet_model.specs.Ranking.{no_rank, rank_of, ranked};
+ghost use Rattle.fleet_model.specs.Ranking.{rank_of, ranked};
 ghost use Rattle.fleet_model.specs.Sound.{IsSound};
-ghost use Rattle.book.specs.Lent.{key_and_value};
+ghost use Rattle.book_frame.specs.Lent.{key_and_value};
 
 use crate::machine::Machine;
-use agg_types::{Key, NoMemory, Rank};
+use agg_types::{Key, NoMemory};
+use book_frame::standing::rank_at;
 use std::alloc::Global;
 use std::marker::Model;
 
@@ -70,11 +71,4 @@ impl Machine {
         let rank = rank_at(self.config.ranks.as_slice(), list);
         self.leaders.top(alloc, list, rank, self.moment, self)
     }
-}
-
-fn rank_at(ranks: &[Rank], position: usize) -> &Rank
-    requires { position < length ranks.now }
-    ensures { result.now ≡ slice_index_or ranks.now position no_rank }
-{
-    &ranks[position]
 }

@@ -1,3 +1,1 @@
-pub mod Chosen
-pub mod Counting
-pub mod Listings
+pub mod PutAll

@@ -1,5 +1,3 @@
-pub mod Distinct
-pub mod Due
-pub mod Tally
 pub mod Shown
 pub mod PutAll
+pub use Rattle.book_frame.specs.Lent

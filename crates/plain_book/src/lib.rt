@@ -10,17 +10,15 @@
 
 mod book;
 mod clears;
-mod listing;
 mod machine;
 mod next;
 mod queries;
 mod ranking;
 mod rows;
-mod seats;
 mod sets;
 mod values;
 
 pub use book::Book;
+pub use book_frame::listing::BookRows;
 pub use fleet_model::Summed;
-pub use listing::BookRows;
 pub use ranking::Ranked;

@@ -1,31 +1,11 @@
 //! When a filter's set changes by the clock alone, by walking the moments one by one. For small
 //! inputs.
 
-ghost use Rattle.std.specs.Prelude.{◌≡◌, ◌^◌, ◌-◌, map, min};
-ghost use Rattle.std.specs.Bool.{Decides};
-ghost use Rattle.fleet_model.specs.Next.{flat_from, flat_moment, longest_period};
+ghost use Rattle.std.specs.Prelude.{◌≡◌, ◌^◌, ◌-◌, min};
+ghost use Rattle.fleet_model.specs.Next.{flat_from, flat_moment};
 
 use crate::rows::Rows;
-use agg_types::{Col, Key};
 use fleet_model::Arrival;
-
-/// Whether two lists of keys are the same.
-pub fn are_same(keys: &[&Key], others: &[&Key]) -> bool
-    ensures { Decides result (map (λ key. key.now) keys.now ≡ map (λ key. key.now) others.now) }
-{
-    keys == others
-}
-
-/// The longest period of a table's columns, in ms.
-pub fn longest_period(cols: &[(Col, u32)]) -> u32
-    ensures { result ≡ longest_period cols.now }
-{
-    let mut longest = 0;
-    for (_col, period) in cols {
-        longest = longest.max(*period);
-    }
-    longest
-}
 
 /// The moment from which no row changes by the clock, as each has ended or its rates are 0; the
 /// last one of all where it is behind that.

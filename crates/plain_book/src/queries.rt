@@ -1,14 +1,14 @@
 //! What is answered of the rows, by scanning them.
 
 ghost use Rattle.std.specs.Prelude.{◌≡◌, ◌&&◌, ◌==◌, not, length, map, filter, IfOk};
-ghost use Rattle.fleet_model.specs.Answers.{longer, left_of, sum_up, tally};
+ghost use Rattle.fleet_model.specs.Answers.{left_of, sum_up, tally};
 ghost use Rattle.fleet_model.specs.Values.{is_of, live_keys, value};
 ghost use Rattle.agg_types.specs.Col.{all_cols};
-ghost use Rattle.plain_book.specs.Distinct.{is_other};
 
 use crate::rows::Rows;
 use crate::values::{is_live, is_of, value};
 use agg_types::{Col, Key, NoMemory};
+use book_frame::keys::{is_other, longer};
 use fleet_model::{Arrival, Summed};
 use std::alloc::Global;
 
@@ -52,16 +52,6 @@ pub fn count_live(rows: &Rows, table: usize, t: u64) -> u64
     keys
 }
 
-/// Whether a key isn't the last one.
-fn is_other(last: Option<&Key>, key: &Key) -> bool
-    ensures { result ≡ is_other last.entry key.now }
-{
-    match last {
-        None => true,
-        Some(last) => *key != *last,
-    }
-}
-
 /// What the rows of a key sum up to at a moment, or none where the key has none.
 pub fn summed(rows: &Rows, cols: &[(Col, u32)], table: usize, key: &Key, t: u64) -> Option<Summed>
     ensures { result ≡ sum_up
@@ -98,18 +88,6 @@ fn left_of(t: u64, row: &Arrival) -> Option<u64>
     match row.life {
         None => None,
         Some(life) => Some(life.saturating_sub(t.saturating_sub(row.arrived))),
-    }
-}
-
-fn longer(left: Option<u64>, other: Option<u64>) -> Option<u64>
-    ensures { result ≡ longer left other }
-{
-    match left {
-        None => None,
-        Some(left) => match other {
-            None => None,
-            Some(other) => Some(left.max(other)),
-        },
     }
 }
 

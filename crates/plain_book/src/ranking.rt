@@ -1,13 +1,14 @@
 //! The keys of a table by their values of a column.
 
 ghost use Rattle.std.specs.Prelude.{◌≡◌, ◌++◌, ◌<◌, ◌≤◌, ◌∷◌, length, map, take, drop};
-ghost use Rattle.std.specs.Prelude.{slice_index_or, IfOk, OnOk};
+ghost use Rattle.std.specs.Prelude.{IfOk, OnOk};
 ghost use Rattle.std.specs.Iterator.{at_most};
 ghost use Rattle.std.specs.Map.Iter.{TakesFirst};
 ghost use Rattle.std.specs.Ordering.{is_lt};
-ghost use Rattle.fleet_model.specs.Ranking.{in_order, no_rank, put_in_order, rank_cmp};
+ghost use Rattle.fleet_model.specs.Ranking.{in_order, put_in_order, rank_cmp};
 ghost use Rattle.fleet_model.specs.Values.{value};
-ghost use Rattle.plain_book.specs.Shown.{key_and_value, value_of};
+ghost use Rattle.book_frame.specs.Lent.{key_and_value};
+ghost use Rattle.plain_book.specs.Shown.{value_of};
 
 use crate::rows::Rows;
 use crate::values::value;
@@ -28,7 +29,7 @@ pub struct Ranked<'a> {
 impl<'a> Model for Ranked<'a> {
     ghost use Rattle.std.specs.Prelude.{List, ℕ, map};
     ghost use Rattle.std.specs.Vec.Iter.{into_iter_items};
-    ghost use Rattle.plain_book.specs.Shown.{key_and_value};
+    ghost use Rattle.book_frame.specs.Lent.{key_and_value};
 
     ghost Value = { List (List ℕ × ℕ) };
 
@@ -56,14 +57,6 @@ impl<'a> Iterator for Ranked<'a> {
     fn next(&mut self) -> Option<(&'a Key, u128)> {
         self.entries.next()
     }
-}
-
-/// The ranked list at a position.
-pub fn rank_at(ranks: &[Rank], position: usize) -> &Rank
-    requires { position < length ranks.now }
-    ensures { result.now ≡ slice_index_or ranks.now position no_rank }
-{
-    &ranks[position]
 }
 
 /// The first keys of a ranked list, each with its value, from all keys of its table.

@@ -1,7 +1,6 @@
 //! The keys that a standing filter holds, judged by their values at a moment.
 
-ghost use Rattle.std.specs.Prelude.{◌≡◌, ◌<◌, length, map, filter, slice_index_or, IfOk};
-ghost use Rattle.fleet_model.specs.Answers.{no_filter};
+ghost use Rattle.std.specs.Prelude.{◌≡◌, map, filter, IfOk};
 ghost use Rattle.fleet_model.specs.Values.{live_keys, meets};
 
 use crate::queries::live_keys;
@@ -9,14 +8,6 @@ use crate::rows::Rows;
 use crate::values::meets;
 use agg_types::{Col, Filter, Key, NoMemory};
 use std::alloc::Global;
-
-/// The filter at a position.
-pub fn filter_at(filters: &[Filter], position: usize) -> &Filter
-    requires { position < length filters.now }
-    ensures { result.now ≡ slice_index_or filters.now position no_filter }
-{
-    &filters[position]
-}
 
 /// The keys that a filter holds at a moment, in order.
 pub fn keys_held<'a>(

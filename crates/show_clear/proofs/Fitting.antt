@@ -1,12 +1,13 @@
 -- What is read fits the configuration over which it is read.
-use Rattle.std.proofs.Common.{◌≡◌, ℕ, zero, suc, ◌+◌, ◌-◌, ◌<◌, ◌≤◌, Bool, true, false, cond, leb}
-use Rattle.std.proofs.Common.{ltb, eqb, not, ◌&&◌, List, [], ◌∷◌, length, get_or, Option, Some}
+use Rattle.std.proofs.Common.{◌≡◌, ℕ, zero, suc, ◌<◌, ◌≤◌, Bool, true, false, cond, leb}
+use Rattle.std.proofs.Common.{ltb, List, [], ◌∷◌, length, get_or, Option, Some}
 use Rattle.std.proofs.Common.{None, Ok, Err, refl, sym, ap, subst, ◌∙◌, arith, inl, inr}
 use Rattle.std.proofs.lemmas.Bool.{cases_Bool, cases_lt}
 use Rattle.std.proofs.lemmas.Bool.Decides.{nat_tests}
-use Rattle.std.specs.List.{list_all, list_any, position, position_or_len, slice_get}
-use Rattle.std.specs.Prelude.{codes, drop, find}
+use Rattle.std.specs.List.{list_all, position, position_or_len}
+use Rattle.std.specs.Prelude.{codes, drop, find, IfOk}
 use Rattle.std.specs.Str.{bytes_eq}
+use Rattle.std.specs.Str.Lines.{strip_carriage_return}
 use Rattle.agg_types.specs.Col.{all_cols, col_name}
 use Rattle.agg_types.specs.Fits.{at_table, conds_fit, filter_fits, key_fits, select_fits, stores}
 use Rattle.agg_types.specs.Name.{is_name}
@@ -22,15 +23,24 @@ use Rattle.fleet_model.specs.State.{State}
 use Rattle.key_text.specs.Read.{bytes_of, if_fits, key_of}
 use Rattle.line_words.specs.Numbers.{number_of}
 use Rattle.line_words.specs.Operators.{operator_of}
-use Rattle.show_clear.specs.Answer.{no_shape, shape_of}
-use Rattle.show_clear.specs.Parse.{Read, at_end, cond_col, cond_of, conds_of, filter_on, is_data}
-use Rattle.show_clear.specs.Parse.{new_name, one_key, or_fault, sel_of, some_conds, stored_col}
-use Rattle.show_clear.specs.Parse.{table_and_sel, table_named, with_bound, with_fault, with_op}
-use Rattle.show_clear.specs.Parse.{◌>>=◌}
+use Rattle.line_words.specs.Words.{words}
+use Rattle.show_clear.specs.Answer.{NamesStand, no_shape, shape_of}
+use Rattle.show_clear.specs.Change.{ChangeFits}
+use Rattle.show_clear.specs.Parse.{Read, Tells, added, asked, at_end, cleared, command_of, cond_col}
+use Rattle.show_clear.specs.Parse.{cond_of, conds_of, filter_added, filter_named, filter_on}
+use Rattle.show_clear.specs.Parse.{filter_shown, is_data, new_name, next_shown, one_key, or_fault}
+use Rattle.show_clear.specs.Parse.{rank_named, rank_shown, sel_of, shown, some_conds, stored_col}
+use Rattle.show_clear.specs.Parse.{table_and_sel, table_cleared, table_named, table_shown}
+use Rattle.show_clear.specs.Parse.{with_bound, with_fault, with_op, ◌>>=◌}
+use Rattle.show_clear.specs.declared.command.Command.{Command}
+use Rattle.show_clear.specs.declared.command.Command.TheVariants.{ShowTables, ShowTable, ClearTable}
+use Rattle.show_clear.specs.declared.command.Command.TheVariants.{ShowFilter, ShowRank, ShowNext}
+use Rattle.show_clear.specs.declared.command.Command.TheVariants.{AddFilter}
 use Rattle.show_clear.specs.declared.fault.CommandFault.{CommandFault}
-use Rattle.show_clear.specs.declared.fault.CommandFault.TheVariants.{Unknown, NoTable, BadColumn}
+use Rattle.show_clear.specs.declared.fault.CommandFault.TheVariants.{Empty, Unknown, NoTable}
+use Rattle.show_clear.specs.declared.fault.CommandFault.TheVariants.{BadColumn}
 use Rattle.show_clear.specs.declared.fault.CommandFault.TheVariants.{BadOperator, BadValue, BadKey}
-use Rattle.show_clear.specs.declared.fault.CommandFault.TheVariants.{TooMany, BadName, Exists, Full}
+use Rattle.show_clear.specs.declared.fault.CommandFault.TheVariants.{TooMany, BadName}
 
 -- what was read in two steps was read in each
 bind_ok : {A B : Type 0} (r : Read A) (f : A → Read B) (b : B) → (r >>= f) ≡ Ok b → (a : A)
@@ -207,20 +217,18 @@ at_place [] table test h = absurd (omega arith)
 at_place (shape ∷ tables) zero test h = refl
 at_place (shape ∷ tables) (suc table) test h = at_place tables table test (omega arith)
 
-place_within : (p : Shape → Bool) (tables : List Shape) (table : ℕ) → position p tables ≡ Some table
-    → table < length tables
-place_within p tables table h =
-    elim (cases_lt (position_or_len p tables) (length tables)) [
+place_within : {A : Type 0} (p : A → Bool) (xs : List A) (place : ℕ) → position p xs ≡ Some place
+    → place < length xs
+place_within p xs place h =
+    elim (cases_lt (position_or_len p xs) (length xs)) [
       | inl below ↦
-          let it : ltb (position_or_len p tables) (length tables) ≡ true =
-          grind (arith, nat_tests) in
-          let same : Some (position_or_len p tables) ≡ Some table = rw it at h in
-          let place : position_or_len p tables ≡ table = cc in
+          let it : ltb (position_or_len p xs) (length xs) ≡ true = grind (arith, nat_tests) in
+          let same : Some (position_or_len p xs) ≡ Some place = rw it at h in
+          let found : position_or_len p xs ≡ place = cc in
           omega arith
       | inr past ↦
-          let it : ltb (position_or_len p tables) (length tables) ≡ false =
-          grind (arith, nat_tests) in
-          absurd (let bad : (let o : Option ℕ = None in o) ≡ Some table = rw it at h in cc)
+          let it : ltb (position_or_len p xs) (length xs) ≡ false = grind (arith, nat_tests) in
+          absurd (let bad : (let o : Option ℕ = None in o) ≡ Some place = rw it at h in cc)
     ]
 
 table_within : (state : State) (name : List ℕ) (table : ℕ) → table_named state name ≡ Ok table
@@ -229,8 +237,29 @@ table_within state name table h =
     place_within (λ shape. bytes_eq shape.name name) state.config.tables table
     (some_of (position (λ shape. bytes_eq shape.name name) state.config.tables) NoTable table h)
 
+filter_within : (state : State) (name : List ℕ) (f : ℕ) → filter_named state name ≡ Ok f
+    → f < length state.config.filters
+filter_within state name f h =
+    place_within (λ f. bytes_eq f.name name) state.config.filters f
+    (some_of (position (λ f. bytes_eq f.name name) state.config.filters) NoTable f h)
+
+rank_within : (state : State) (name : List ℕ) (rank : ℕ) → rank_named state name ≡ Ok rank
+    → rank < length state.config.ranks
+rank_within state name rank h =
+    place_within (λ rank. bytes_eq rank.name name) state.config.ranks rank
+    (some_of (position (λ rank. bytes_eq rank.name name) state.config.ranks) NoTable rank h)
+
+table_and_sel_within : (state : State) (name : List ℕ) (ws : List (List ℕ)) (found : ℕ × Select)
+    → table_and_sel state name ws ≡ Ok found → found.0 < length state.config.tables
+table_and_sel_within state name ws found h =
+    let read = bind_ok (table_named state name) (λ table. sel_of (shape_of state table) ws >>=
+    λ sel. Ok (table, sel)) found h in
+    let more = bind_ok (sel_of (shape_of state read.0) ws) (λ sel. Ok (read.0, sel)) found read.2 in
+    subst (λ (f : ℕ × Select). f.0 < length state.config.tables)
+    (ok_same (read.0, more.0) found more.2) (table_within state name read.0 read.1)
+
 -- a selector fits its table
-pub table_and_sel_fits : (state : State) (name : List ℕ) (ws : List (List ℕ)) (found : ℕ × Select)
+table_and_sel_fits : (state : State) (name : List ℕ) (ws : List (List ℕ)) (found : ℕ × Select)
     → table_and_sel state name ws ≡ Ok found
     → at_table state.config.tables found.0 (λ shape. select_fits shape found.1) ≡ true
 table_and_sel_fits state name ws found h =
@@ -257,7 +286,7 @@ name_is state name h =
     ]
 
 -- a filter that may be added fits its table
-pub filter_on_fits : (state : State) (name : List ℕ) (ws : List (List ℕ)) (filter : Filter)
+filter_on_fits : (state : State) (name : List ℕ) (ws : List (List ℕ)) (filter : Filter)
     → new_name state name ≡ Ok tt → filter_on state name ws ≡ Ok filter
     → filter_fits state.config.tables filter ≡ true
 filter_on_fits state name [] filter named h = absurd cc
@@ -273,3 +302,136 @@ filter_on_fits state name (word ∷ ws) filter named h =
     more.0 more.1 in
     subst (λ (f : Filter). filter_fits state.config.tables f ≡ true)
     (ok_same (made read.0 more.0) filter more.2) (rw (name_is state name named) there)
+
+-- ---- commands
+
+-- a command names what stands, and what it changes fits
+pub record IsGood (state : State) (command : Command) : Type 0 where
+  pub stands : NamesStand state command
+  pub fits : ChangeFits state command
+
+none_read : {C : Type 0} (fault : CommandFault) (command : Command)
+    → (let r : Read Command = Err fault in r) ≡ Ok command → C
+none_read fault command h = absurd cc
+
+either : {C : Type 0} (b : Bool) (x y : Read Command) (command : Command) → cond b x y ≡ Ok command
+    → (x ≡ Ok command → C) → (y ≡ Ok command → C) → C
+either true x y command h first second = first h
+either false x y command h first second = second h
+
+table_shown_good : (state : State) (ws : List (List ℕ)) (command : Command)
+    → table_shown state ws ≡ Ok command → IsGood state command
+table_shown_good state [] command h =
+    subst (IsGood state) (ok_same ShowTables command h) (record { stands = tt; fits = tt })
+table_shown_good state (name ∷ ws) command h =
+    let read = bind_ok (table_and_sel state name ws) (λ found. Ok (ShowTable found.0 found.1))
+    command h in
+    subst (IsGood state) (ok_same (ShowTable read.0.0 read.0.1) command read.2) (record {
+      stands = table_and_sel_within state name ws read.0 read.1;
+      fits = tt;
+    })
+
+table_cleared_good : (state : State) (ws : List (List ℕ)) (command : Command)
+    → table_cleared state ws ≡ Ok command → IsGood state command
+table_cleared_good state [] command h = none_read Unknown command h
+table_cleared_good state (name ∷ ws) command h =
+    let read = bind_ok (table_and_sel state name ws) (λ found. Ok (ClearTable found.0 found.1))
+    command h in
+    subst (IsGood state) (ok_same (ClearTable read.0.0 read.0.1) command read.2) (record {
+      stands = table_and_sel_within state name ws read.0 read.1;
+      fits = table_and_sel_fits state name ws read.0 read.1;
+    })
+
+-- what is read of a name that ends its line
+named_good : (state : State) (named : Read ℕ) (ws : List (List ℕ)) (make : ℕ → Command)
+    (command : Command) → ((place : ℕ) → named ≡ Ok place → IsGood state (make place))
+    → (named >>= λ place. at_end ws >>= λ _. Ok (make place)) ≡ Ok command → IsGood state command
+named_good state named ws make command good h =
+    let read = bind_ok named (λ place. at_end ws >>= λ _. Ok (make place)) command h in
+    let more = bind_ok (at_end ws) (λ _. Ok (make read.0)) command read.2 in
+    subst (IsGood state) (ok_same (make read.0) command more.2) (good read.0 read.1)
+
+filter_shown_good : (state : State) (ws : List (List ℕ)) (command : Command)
+    → filter_shown state ws ≡ Ok command → IsGood state command
+filter_shown_good state [] command h = none_read Unknown command h
+filter_shown_good state (name ∷ ws) command h =
+    named_good state (filter_named state name) ws ShowFilter command
+    (λ f found. record { stands = filter_within state name f found; fits = tt }) h
+
+next_shown_good : (state : State) (ws : List (List ℕ)) (command : Command)
+    → next_shown state ws ≡ Ok command → IsGood state command
+next_shown_good state [] command h = none_read Unknown command h
+next_shown_good state (name ∷ ws) command h =
+    named_good state (filter_named state name) ws ShowNext command
+    (λ f found. record { stands = filter_within state name f found; fits = tt }) h
+
+rank_shown_good : (state : State) (ws : List (List ℕ)) (command : Command)
+    → rank_shown state ws ≡ Ok command → IsGood state command
+rank_shown_good state [] command h = none_read Unknown command h
+rank_shown_good state (name ∷ ws) command h =
+    named_good state (rank_named state name) ws ShowRank command
+    (λ rank found. record { stands = rank_within state name rank found; fits = tt }) h
+
+filter_added_good : (state : State) (ws : List (List ℕ)) (command : Command)
+    → filter_added state ws ≡ Ok command → IsGood state command
+filter_added_good state [] command h = none_read Unknown command h
+filter_added_good state (word ∷ ws) command h =
+    let named = bind_ok (new_name state word) (λ _. filter_on state word ws >>=
+    λ filter. Ok (AddFilter filter)) command h in
+    let read = bind_ok (filter_on state word ws) (λ filter. Ok (AddFilter filter))
+    command named.2 in
+    subst (IsGood state) (ok_same (AddFilter read.0) command read.2) (record {
+      stands = tt;
+      fits = filter_on_fits state word ws read.0 named.1 read.1;
+    })
+
+shown_good : (state : State) (ws : List (List ℕ)) (command : Command)
+    → shown state ws ≡ Ok command → IsGood state command
+shown_good state [] command h = none_read Unknown command h
+shown_good state (word ∷ ws) command h =
+    either (bytes_eq word (codes "table")) (table_shown state ws) _ command h
+    (table_shown_good state ws command) (λ h.
+    either (bytes_eq word (codes "filter")) (filter_shown state ws) _ command h
+    (filter_shown_good state ws command) (λ h.
+    either (bytes_eq word (codes "rank")) (rank_shown state ws) _ command h
+    (rank_shown_good state ws command) (λ h.
+    either (bytes_eq word (codes "next")) (next_shown state ws) (Err Unknown) command h
+    (next_shown_good state ws command) (none_read Unknown command))))
+
+cleared_good : (state : State) (ws : List (List ℕ)) (command : Command)
+    → cleared state ws ≡ Ok command → IsGood state command
+cleared_good state [] command h = none_read Unknown command h
+cleared_good state (word ∷ ws) command h =
+    either (bytes_eq word (codes "table")) (table_cleared state ws) (Err Unknown) command h
+    (table_cleared_good state ws command) (none_read Unknown command)
+
+added_good : (state : State) (ws : List (List ℕ)) (command : Command)
+    → added state ws ≡ Ok command → IsGood state command
+added_good state [] command h = none_read Unknown command h
+added_good state (word ∷ ws) command h =
+    either (bytes_eq word (codes "filter")) (filter_added state ws) (Err Unknown) command h
+    (filter_added_good state ws command) (none_read Unknown command)
+
+asked_good : (state : State) (ws : List (List ℕ)) (command : Command)
+    → asked state ws ≡ Ok command → IsGood state command
+asked_good state [] command h = none_read Empty command h
+asked_good state (word ∷ ws) command h =
+    either (bytes_eq word (codes "show")) (shown state ws) _ command h
+    (shown_good state ws command) (λ h.
+    either (bytes_eq word (codes "clear")) (cleared state ws) _ command h
+    (cleared_good state ws command) (λ h.
+    either (bytes_eq word (codes "add")) (added state ws) (Err Unknown) command h
+    (added_good state ws command) (none_read Unknown command)))
+
+-- what a line says names what stands, and what it changes fits
+command_good : (state : State) (line : List ℕ) (command : Command)
+    → command_of state line ≡ Ok command → IsGood state command
+command_good state line command h =
+    either (ltb 4096 (length (strip_carriage_return line))) (Err Unknown)
+    (asked state (words (strip_carriage_return line))) command h (none_read Unknown command)
+    (asked_good state (words (strip_carriage_return line)) command)
+
+pub told_good : (state : State) (line : List ℕ) (told : Read Command)
+    → Tells (command_of state line) told → IfOk told (IsGood state)
+told_good state line (Ok command) tells = command_good state line command tells
+told_good state line (Err fault) tells = tt

@@ -6,6 +6,7 @@ ghost use Rattle.show_clear.specs.Parse.{Tells, cond_col, cond_of, conds_of, som
 ghost use Rattle.show_clear.specs.Parse.{stored_col, with_bound, with_op};
 
 use crate::CommandFault;
+use crate::word::some_word;
 use agg_types::{Col, Cond, Items, MOST_CONDS, Op, Shape};
 use line_words::{next_word, number, operator};
 use std::alloc::Global;
@@ -42,9 +43,7 @@ fn with_bound(col: Col, op: Op, line: &[u8]) -> Result<(Cond, &[u8]), CommandFau
         (λ fault. with_bound col op (words line.now) ≡ Err fault) }
     ensures shorter { IfOk result (λ read. length read.1.now ≤ length line.now) }
 {
-    let Some((value, rest)) = next_word(line) else {
-        return Err(CommandFault::Unknown);
-    };
+    let (value, rest) = some_word(line)?;
     match number(value) {
         Ok(bound) => Ok((Cond { col, op, bound }, rest)),
         Err(_) => Err(CommandFault::BadValue),
@@ -58,9 +57,7 @@ fn with_op(col: Col, line: &[u8]) -> Result<(Cond, &[u8]), CommandFault>
         (λ fault. with_op col (words line.now) ≡ Err fault) }
     ensures shorter { IfOk result (λ read. length read.1.now ≤ length line.now) }
 {
-    let Some((word, rest)) = next_word(line) else {
-        return Err(CommandFault::Unknown);
-    };
+    let (word, rest) = some_word(line)?;
     match operator(word) {
         None => Err(CommandFault::BadOperator),
         Some(op) => with_bound(col, op, rest),
@@ -125,8 +122,6 @@ pub(crate) fn read_some_conds(
 ) -> Result<Items<Cond>, CommandFault>
     ensures { Tells (some_conds shape.now.cols (words line.now)) result }
 {
-    if next_word(line).is_none() {
-        return Err(CommandFault::Unknown);
-    }
+    some_word(line)?;
     read_conds(alloc, shape, line)
 }

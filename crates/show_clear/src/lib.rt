@@ -18,6 +18,7 @@ mod lists;
 mod parsing;
 mod pieces;
 mod tables;
+mod word;
 
 pub use answers::answer;
 pub use command::Command;

@@ -16,6 +16,7 @@ ghost use Rattle.show_clear.specs.Change.{ChangeFits};
 use crate::answers::shape_of;
 use crate::conditions::{read_conds, read_some_conds};
 use crate::fleet::Book;
+use crate::word::some_word;
 use crate::{Command, CommandFault};
 use agg_types::{Filter, KeyKind, MOST_FILTERS, Name, Rank, Select, Shape, is_name};
 use key_text::read_key;
@@ -32,6 +33,12 @@ pub fn parse(alloc: Global, book: &Book, line: &[u8]) -> Result<Command, Command
     ensures read { Tells (command_of book.now line.now) result }
     ensures stands { IfOk result (NamesStand book.now) }
     ensures fits { IfOk result (ChangeFits book.now) }
+{
+    parse_line(alloc, book, line)
+}
+
+fn parse_line(alloc: Global, book: &Book, line: &[u8]) -> Result<Command, CommandFault>
+    ensures { Tells (command_of book.now line.now) result }
 {
     let line = without_return(line);
     if line.len() > LONGEST_LINE {
@@ -50,9 +57,7 @@ fn without_return(line: &[u8]) -> &[u8]
 }
 
 fn parse_words(alloc: Global, book: &Book, line: &[u8]) -> Result<Command, CommandFault>
-    ensures read { Tells (asked book.now (words line.now)) result }
-    ensures stands { IfOk result (NamesStand book.now) }
-    ensures fits { IfOk result (ChangeFits book.now) }
+    ensures { Tells (asked book.now (words line.now)) result }
 {
     let Some((word, rest)) = next_word(line) else {
         return Err(CommandFault::Empty);
@@ -67,13 +72,9 @@ fn parse_words(alloc: Global, book: &Book, line: &[u8]) -> Result<Command, Comma
 
 // Behind `show`.
 fn parse_show(alloc: Global, book: &Book, line: &[u8]) -> Result<Command, CommandFault>
-    ensures read { Tells (shown book.now (words line.now)) result }
-    ensures stands { IfOk result (NamesStand book.now) }
-    ensures fits { IfOk result (ChangeFits book.now) }
+    ensures { Tells (shown book.now (words line.now)) result }
 {
-    let Some((word, rest)) = next_word(line) else {
-        return Err(CommandFault::Unknown);
-    };
+    let (word, rest) = some_word(line)?;
     match word {
         b"table" => parse_show_table(alloc, book, rest),
         b"filter" => parse_show_filter(book, rest),
@@ -85,13 +86,9 @@ fn parse_show(alloc: Global, book: &Book, line: &[u8]) -> Result<Command, Comman
 
 // Behind `clear`.
 fn parse_clear(alloc: Global, book: &Book, line: &[u8]) -> Result<Command, CommandFault>
-    ensures read { Tells (cleared book.now (words line.now)) result }
-    ensures stands { IfOk result (NamesStand book.now) }
-    ensures fits { IfOk result (ChangeFits book.now) }
+    ensures { Tells (cleared book.now (words line.now)) result }
 {
-    let Some((word, rest)) = next_word(line) else {
-        return Err(CommandFault::Unknown);
-    };
+    let (word, rest) = some_word(line)?;
     match word {
         b"table" => parse_clear_table(alloc, book, rest),
         _ => Err(CommandFault::Unknown),
@@ -100,13 +97,9 @@ fn parse_clear(alloc: Global, book: &Book, line: &[u8]) -> Result<Command, Comma
 
 // Behind `add`.
 fn parse_add(alloc: Global, book: &Book, line: &[u8]) -> Result<Command, CommandFault>
-    ensures read { Tells (added book.now (words line.now)) result }
-    ensures stands { IfOk result (NamesStand book.now) }
-    ensures fits { IfOk result (ChangeFits book.now) }
+    ensures { Tells (added book.now (words line.now)) result }
 {
-    let Some((word, rest)) = next_word(line) else {
-        return Err(CommandFault::Unknown);
-    };
+    let (word, rest) = some_word(line)?;
     match word {
         b"filter" => parse_add_filter(alloc, book, rest),
         _ => Err(CommandFault::Unknown),
@@ -123,16 +116,14 @@ fn table_named(book: &Book, name: &[u8]) -> Result<usize, CommandFault>
 
 // The position of a standing filter.
 fn filter_named(book: &Book, name: &[u8]) -> Result<usize, CommandFault>
-    ensures read { result ≡ filter_named book.now name.now }
-    ensures within { IfOk result (λ filter. filter < length book.now.config.filters) }
+    ensures { result ≡ filter_named book.now name.now }
 {
     filter_place(book.config().filters.as_slice(), name).ok_or(CommandFault::NoTable)
 }
 
 // The position of a ranked list.
 fn rank_named(book: &Book, name: &[u8]) -> Result<usize, CommandFault>
-    ensures read { result ≡ rank_named book.now name.now }
-    ensures within { IfOk result (λ rank. rank < length book.now.config.ranks) }
+    ensures { result ≡ rank_named book.now name.now }
 {
     rank_place(book.config().ranks.as_slice(), name).ok_or(CommandFault::NoTable)
 }
@@ -145,15 +136,13 @@ fn table_place(tables: &[Shape], name: &[u8]) -> Option<usize>
 }
 
 fn filter_place(filters: &[Filter], name: &[u8]) -> Option<usize>
-    ensures place { result ≡ position (λ filter. bytes_eq filter.name name.now) filters.now }
-    ensures within { IfSome result (λ place. place < length filters.now) }
+    ensures { result ≡ position (λ filter. bytes_eq filter.name name.now) filters.now }
 {
     filters.iter().position(|filter| filter.name.is(name))
 }
 
 fn rank_place(ranks: &[Rank], name: &[u8]) -> Option<usize>
-    ensures place { result ≡ position (λ rank. bytes_eq rank.name name.now) ranks.now }
-    ensures within { IfSome result (λ place. place < length ranks.now) }
+    ensures { result ≡ position (λ rank. bytes_eq rank.name name.now) ranks.now }
 {
     ranks.iter().position(|rank| rank.name.is(name))
 }
@@ -175,8 +164,7 @@ fn table_and_sel(
     name: &[u8],
     line: &[u8],
 ) -> Result<(usize, Select), CommandFault>
-    ensures read { Tells (table_and_sel book.now name.now (words line.now)) result }
-    ensures within { IfOk result (λ found. found.0 < length book.now.config.tables) }
+    ensures { Tells (table_and_sel book.now name.now (words line.now)) result }
 {
     let table = table_named(book, name)?;
     let sel = selector(alloc, shape_of(book, table), line)?;
@@ -199,9 +187,7 @@ fn selector(alloc: Global, shape: &Shape, line: &[u8]) -> Result<Select, Command
 fn one_key(alloc: Global, kind: KeyKind, line: &[u8]) -> Result<Select, CommandFault>
     ensures { Tells (one_key kind (words line.now)) result }
 {
-    let Some((text, rest)) = next_word(line) else {
-        return Err(CommandFault::Unknown);
-    };
+    let (text, rest) = some_word(line)?;
     let Some(key) = read_key(alloc, kind, text)? else {
         return Err(CommandFault::BadKey);
     };
@@ -211,9 +197,7 @@ fn one_key(alloc: Global, kind: KeyKind, line: &[u8]) -> Result<Select, CommandF
 
 // Behind `show table`.
 fn parse_show_table(alloc: Global, book: &Book, line: &[u8]) -> Result<Command, CommandFault>
-    ensures read { Tells (table_shown book.now (words line.now)) result }
-    ensures stands { IfOk result (NamesStand book.now) }
-    ensures fits { IfOk result (ChangeFits book.now) }
+    ensures { Tells (table_shown book.now (words line.now)) result }
 {
     let Some((name, rest)) = next_word(line) else {
         return Ok(Command::ShowTables);
@@ -224,26 +208,18 @@ fn parse_show_table(alloc: Global, book: &Book, line: &[u8]) -> Result<Command, 
 
 // Behind `clear table`.
 fn parse_clear_table(alloc: Global, book: &Book, line: &[u8]) -> Result<Command, CommandFault>
-    ensures read { Tells (table_cleared book.now (words line.now)) result }
-    ensures stands { IfOk result (NamesStand book.now) }
-    ensures fits { IfOk result (ChangeFits book.now) }
+    ensures { Tells (table_cleared book.now (words line.now)) result }
 {
-    let Some((name, rest)) = next_word(line) else {
-        return Err(CommandFault::Unknown);
-    };
+    let (name, rest) = some_word(line)?;
     let (table, sel) = table_and_sel(alloc, book, name, rest)?;
     Ok(Command::ClearTable { table, sel })
 }
 
 // Behind `show filter`.
 fn parse_show_filter(book: &Book, line: &[u8]) -> Result<Command, CommandFault>
-    ensures read { Tells (filter_shown book.now (words line.now)) result }
-    ensures stands { IfOk result (NamesStand book.now) }
-    ensures fits { IfOk result (ChangeFits book.now) }
+    ensures { Tells (filter_shown book.now (words line.now)) result }
 {
-    let Some((name, rest)) = next_word(line) else {
-        return Err(CommandFault::Unknown);
-    };
+    let (name, rest) = some_word(line)?;
     let filter = filter_named(book, name)?;
     at_end(rest)?;
     Ok(Command::ShowFilter(filter))
@@ -251,13 +227,9 @@ fn parse_show_filter(book: &Book, line: &[u8]) -> Result<Command, CommandFault>
 
 // Behind `show next`.
 fn parse_show_next(book: &Book, line: &[u8]) -> Result<Command, CommandFault>
-    ensures read { Tells (next_shown book.now (words line.now)) result }
-    ensures stands { IfOk result (NamesStand book.now) }
-    ensures fits { IfOk result (ChangeFits book.now) }
+    ensures { Tells (next_shown book.now (words line.now)) result }
 {
-    let Some((name, rest)) = next_word(line) else {
-        return Err(CommandFault::Unknown);
-    };
+    let (name, rest) = some_word(line)?;
     let filter = filter_named(book, name)?;
     at_end(rest)?;
     Ok(Command::ShowNext(filter))
@@ -265,28 +237,19 @@ fn parse_show_next(book: &Book, line: &[u8]) -> Result<Command, CommandFault>
 
 // Behind `show rank`.
 fn parse_show_rank(book: &Book, line: &[u8]) -> Result<Command, CommandFault>
-    ensures read { Tells (rank_shown book.now (words line.now)) result }
-    ensures stands { IfOk result (NamesStand book.now) }
-    ensures fits { IfOk result (ChangeFits book.now) }
+    ensures { Tells (rank_shown book.now (words line.now)) result }
 {
-    let Some((name, rest)) = next_word(line) else {
-        return Err(CommandFault::Unknown);
-    };
+    let (name, rest) = some_word(line)?;
     let rank = rank_named(book, name)?;
     at_end(rest)?;
     Ok(Command::ShowRank(rank))
 }
 
 // Behind `add filter`.
-#[tactic(auto, using(crate::proofs::Fitting::filter_on_fits))]
 fn parse_add_filter(alloc: Global, book: &Book, line: &[u8]) -> Result<Command, CommandFault>
-    ensures read { Tells (filter_added book.now (words line.now)) result }
-    ensures stands { IfOk result (NamesStand book.now) }
-    ensures fits { IfOk result (ChangeFits book.now) }
+    ensures { Tells (filter_added book.now (words line.now)) result }
 {
-    let Some((name, rest)) = next_word(line) else {
-        return Err(CommandFault::Unknown);
-    };
+    let (name, rest) = some_word(line)?;
     check_new_name(book, name)?;
     Ok(Command::AddFilter(filter_on(alloc, book, name, rest)?))
 }
@@ -319,9 +282,7 @@ fn is_named(filters: &[Filter], name: &[u8]) -> bool
 fn filter_on(alloc: Global, book: &Book, name: &[u8], line: &[u8]) -> Result<Filter, CommandFault>
     ensures { Tells (filter_on book.now name.now (words line.now)) result }
 {
-    let Some((word, rest)) = next_word(line) else {
-        return Err(CommandFault::Unknown);
-    };
+    let (word, rest) = some_word(line)?;
     let table = table_named(book, word)?;
     let conds = read_some_conds(alloc, shape_of(book, table), rest)?;
     Ok(Filter {

@@ -1,7 +1,7 @@
 use Rattle.std.proofs.Common.{◌∙◌, true, List, ap}
 use Rattle.agg_types.specs.declared.place.Place.{Place}
 use Rattle.fleet_model.specs.declared.arrival.Arrival.{Arrival}
-use Rattle.book.proofs.Chosen.{filter-chosen_keys}
+use Rattle.book_frame.proofs.Chosen.{filter-chosen_keys}
 use Rattle.book.proofs.Reading.{table_chosen}
 use Rattle.book.proofs.clears.clear_table.Goals as goal
 

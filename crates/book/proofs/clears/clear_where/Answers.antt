@@ -2,7 +2,7 @@ use Rattle.std.proofs.Common.{◌∙◌, ℕ, List, ap}
 use Rattle.agg_types.specs.declared.place.Place.{Place}
 use Rattle.fleet_model.specs.Values.{meets}
 use Rattle.fleet_model.specs.declared.arrival.Arrival.{Arrival}
-use Rattle.book.proofs.Chosen.{filter-chosen_keys}
+use Rattle.book_frame.proofs.Chosen.{filter-chosen_keys}
 use Rattle.book.proofs.Reading.{where_chosen}
 use Rattle.book.proofs.clears.clear_where.Goals as goal
 

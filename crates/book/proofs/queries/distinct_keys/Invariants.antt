@@ -3,7 +3,7 @@ use Rattle.std.specs.Prelude.{filter, map}
 use Rattle.std.specs.List.{dedup}
 use Rattle.fleet_model.specs.Moments.{is_live}
 use Rattle.fleet_model.specs.Values.{same_key}
-use Rattle.book.specs.Distinct.{to_come}
+use Rattle.book_frame.specs.Distinct.{to_come}
 use Rattle.book.specs.Shown.{as_arrival}
 use Rattle.book.proofs.queries.distinct_keys.Given as goal
 

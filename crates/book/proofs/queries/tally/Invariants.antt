@@ -2,7 +2,7 @@ use Rattle.std.proofs.Common.{◌≡◌, ◌+◌, ◌≤◌, [], length}
 use Rattle.std.specs.Prelude.{map}
 use Rattle.fleet_model.specs.Answers.{tally}
 use Rattle.book.specs.Shown.{of_peer}
-use Rattle.book.specs.Tally.{peers_of, tally_more}
+use Rattle.book_frame.specs.Tally.{peers_of, tally_more}
 use Rattle.book.proofs.queries.tally.Given as goal
 
 abbrev pub invariant-loop-row : goal.invariant-loop-row

@@ -1,6 +1,6 @@
 use Rattle.std.proofs.Common.{◌∙◌}
 use Rattle.fleet_model.specs.Values.{meets}
-use Rattle.plain_book.proofs.Chosen.{filter-chosen_keys}
+use Rattle.book_frame.proofs.Chosen.{filter-chosen_keys}
 use Rattle.plain_book.proofs.clears.clear_where.Goals as goal
 
 pub returns-clause-ok : goal.returns-clause-ok

@@ -2,7 +2,7 @@ use Rattle.std.proofs.Common.{◌≡◌, ◌+◌, ◌≤◌, ◌&&◌, ◌==◌,
 use Rattle.std.specs.Prelude.{filter, map}
 use Rattle.fleet_model.specs.Moments.{is_live}
 use Rattle.fleet_model.specs.Values.{live_keys}
-use Rattle.plain_book.specs.Distinct.{as_one, to_come}
+use Rattle.book_frame.specs.Distinct.{as_one, to_come}
 use Rattle.plain_book.proofs.queries.count_live.Given as goal
 
 abbrev pub invariant-loop-place : goal.invariant-loop-place

@@ -2,7 +2,7 @@ use Rattle.std.proofs.Common.{◌≡◌, ◌+◌, ◌≤◌, length}
 use Rattle.std.specs.Prelude.{filter}
 use Rattle.fleet_model.specs.Answers.{tally}
 use Rattle.fleet_model.specs.Values.{is_of}
-use Rattle.plain_book.specs.Tally.{peers_of, tally_more}
+use Rattle.book_frame.specs.Tally.{peers_of, tally_more}
 use Rattle.plain_book.proofs.queries.tally.Given as goal
 
 abbrev pub invariant-loop-place : goal.invariant-loop-place

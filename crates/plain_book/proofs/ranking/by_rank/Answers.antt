@@ -1,8 +1,9 @@
 use Rattle.std.proofs.Common.{◌∙◌, map}
 use Rattle.fleet_model.specs.Ranking.{put_in_order, rank_cmp}
 use Rattle.plain_book.specs.PutAll.{put_all}
-use Rattle.plain_book.specs.Shown.{key_and_value, value_of}
-use Rattle.plain_book.proofs.Listings.{popped, put_all-none}
+use Rattle.book_frame.specs.Lent.{key_and_value}
+use Rattle.plain_book.specs.Shown.{value_of}
+use Rattle.plain_book.proofs.PutAll.{popped, put_all-none}
 use Rattle.plain_book.proofs.ranking.by_rank.Goals as goal
 
 pub loop-key-init : goal.loop-key-init

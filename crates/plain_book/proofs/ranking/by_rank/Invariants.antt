@@ -2,7 +2,8 @@ use Rattle.std.proofs.Common.{◌≡◌, vec_len}
 use Rattle.std.specs.Prelude.{map}
 use Rattle.fleet_model.specs.Ranking.{in_order, rank_cmp}
 use Rattle.plain_book.specs.PutAll.{put_all}
-use Rattle.plain_book.specs.Shown.{key_and_value, value_of}
+use Rattle.book_frame.specs.Lent.{key_and_value}
+use Rattle.plain_book.specs.Shown.{value_of}
 use Rattle.plain_book.proofs.ranking.by_rank.Given as goal
 
 abbrev pub invariant-loop-key : goal.invariant-loop-key

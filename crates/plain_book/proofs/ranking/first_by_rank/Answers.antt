@@ -1,6 +1,6 @@
 use Rattle.std.proofs.Common.{◌∙◌, ap, map, take, sym}
 use Rattle.std.proofs.lemmas.List.{take-map}
-use Rattle.plain_book.specs.Shown.{key_and_value}
+use Rattle.book_frame.specs.Lent.{key_and_value}
 use Rattle.plain_book.proofs.ranking.first_by_rank.Goals as goal
 
 pub returns : goal.returns

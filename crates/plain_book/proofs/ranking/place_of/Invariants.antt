@@ -1,7 +1,7 @@
 use Rattle.std.proofs.Common.{◌≡◌, ◌++◌, take, drop}
 use Rattle.std.specs.Prelude.{map}
 use Rattle.fleet_model.specs.Ranking.{put_in_order, rank_cmp}
-use Rattle.plain_book.specs.Shown.{key_and_value}
+use Rattle.book_frame.specs.Lent.{key_and_value}
 use Rattle.plain_book.proofs.ranking.place_of.Given as goal
 
 abbrev pub invariant-loop-place : goal.invariant-loop-place

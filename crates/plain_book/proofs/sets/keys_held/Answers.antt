@@ -2,7 +2,7 @@ use Rattle.std.proofs.Common.{rules, ap, List, ℕ, ◌∙◌}
 use Rattle.std.specs.Prelude.{filter, map}
 use Rattle.std.proofs.lemmas.Fn.{filter_same}
 use Rattle.fleet_model.specs.Values.{meets}
-use Rattle.plain_book.proofs.Listings.{map-filter}
+use Rattle.book_frame.proofs.Listings.{map-filter}
 use Rattle.plain_book.proofs.sets.keys_held.Goals as goal
 
 pub returns : goal.returns

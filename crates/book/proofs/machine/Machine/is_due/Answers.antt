@@ -1,11 +1,6 @@
 use Rattle.std.proofs.Common.{◌∙◌, sym}
-use Rattle.book.proofs.Counting.{due-counts, due-fits}
+use Rattle.book.proofs.Counting.{due-fits}
 use Rattle.book.proofs.machine.Machine.is_due.Goals as goal
-
-pub returns-clause-sits : goal.returns-clause-sits
-returns-clause-sits c = λ counted. due-counts c.args.self.now
-    (record { seat = c.args.seat; seq = c.args.seq; what = c.args.what.now })
-    (sym c.counts.ensures.exact ∙ counted)
 
 pub returns-clause-fits : goal.returns-clause-fits
 returns-clause-fits c = λ counted. due-fits c.args.self.now

@@ -1,13 +1,15 @@
 //! Work on the seats that sit and on the sessions in force.
 
-ghost use Rattle.std.specs.Prelude.{◌≡◌, ◌+◌, ◌^◌, ◌<◌, ◌==◌, not, filter, length, nat_lt, IsTrue};
-ghost use Rattle.std.specs.Prelude.{OnOk, OnErr};
+ghost use Rattle.std.specs.Prelude.{◌≡◌, ◌+◌, ◌^◌, ◌<◌, ◌==◌, ◌&&◌, not, filter, length, nat_lt};
+ghost use Rattle.std.specs.Prelude.{IsTrue, OnOk, OnErr};
 ghost use Rattle.std.specs.BTreeMap.{insert_entry, is_at};
 ghost use Rattle.std.specs.Map.{lookup, remove_entry};
 ghost use Rattle.std.specs.Ordering.{nat_cmp};
+ghost use Rattle.agg_types.specs.Fits.{fits};
 ghost use Rattle.fleet_model.specs.Seats.{is_next, is_number, most_seats};
+ghost use Rattle.book_frame.specs.Due.{IsDue};
 
-use agg_types::{NoMemory, What};
+use agg_types::{Config, NoMemory, What};
 use std::collections::BTreeMap;
 
 /// The number of its next event, by seat that sits.
@@ -16,11 +18,11 @@ pub type Seats = BTreeMap<u64, u64>;
 /// The seat that is the session in force, by peer.
 pub type Sessions = BTreeMap<usize, u64>;
 
-/// How many seats may sit at once.
-pub const MOST_SEATS: usize = 512;
+// How many seats may sit at once.
+const MOST_SEATS: usize = 512;
 
-/// The greatest number of a seat, and the first that no event may have.
-pub const LAST_NUMBER: u64 = 1 << 62;
+// The greatest number of a seat, and the first that no event but a `Leave` may have.
+const LAST_NUMBER: u64 = 1 << 62;
 
 /// Whether fewer seats sit than may.
 pub fn has_free_seat(seats: &Seats) -> bool
@@ -53,14 +55,38 @@ pub fn is_number(due: Option<u64>, number: u64) -> bool
     }
 }
 
-/// Whether an event comes next at its seat.
-pub fn is_next(what: &What, seat: u64, seq: u64, free: bool, above: u64, due: Option<u64>) -> bool
+// Whether an event comes next at its seat.
+fn is_next(what: &What, seat: u64, seq: u64, free: bool, above: u64, due: Option<u64>) -> bool
     ensures { result ≡ is_next what.now seat seq free above due }
 {
     match what {
         What::Sit => seq == 0 && seat <= LAST_NUMBER && above <= seat && free,
         _ => is_number(due, seq) && seq < LAST_NUMBER,
     }
+}
+
+/// Whether an event counts where only seats from a number on may sit down, and then what its own
+/// number and its seat are.
+pub fn is_due(config: &Config, seats: &Seats, above: u64, seat: u64, seq: u64, what: &What) -> bool
+    ensures exact { result ≡ (fits config.now what.now
+        && is_next what.now seat seq (nat_lt (length seats.now.entries) most_seats) above
+        (lookup (is_at (nat_cmp seat)) seats.now.entries)) }
+    ensures sits { IsTrue result
+        → IsDue what.now seat seq (lookup (is_at (nat_cmp seat)) seats.now.entries) }
+{
+    counts(config, seats, above, seat, seq, what)
+}
+
+fn counts(config: &Config, seats: &Seats, above: u64, seat: u64, seq: u64, what: &What) -> bool
+    ensures { result ≡ (fits config.now what.now
+        && is_next what.now seat seq (nat_lt (length seats.now.entries) most_seats) above
+        (lookup (is_at (nat_cmp seat)) seats.now.entries)) }
+{
+    let due = number_of(seats, seat);
+    let free = has_free_seat(seats);
+    let fits = config.fits(what);
+    let next = is_next(what, seat, seq, free, above, due);
+    fits && next
 }
 
 /// One more event of a seat that sits.

@@ -1,17 +1,13 @@
--- What an event that counts has.
-use Rattle.std.proofs.Common.{◌≡◌, ℕ, ◌==◌, nat_le, ◌^◌, Bool, true, ◌&&◌, nat_lt, length, Option}
+-- What an event that comes next has.
+use Rattle.std.proofs.Common.{◌≡◌, ℕ, ◌==◌, nat_le, ◌^◌, Bool, true, ◌&&◌, nat_lt, Option}
 use Rattle.std.proofs.Common.{arith}
 use Rattle.std.proofs.lemmas.Bool.Decides.{nat_tests}
-use Rattle.agg_types.specs.Fits.{fits}
-use Rattle.agg_types.specs.declared.event.Event.{Event}
 use Rattle.agg_types.specs.declared.event.What.{What}
 use Rattle.agg_types.specs.declared.event.What.TheVariants.{Sit, Open, Put, Clear, AddFilter}
 use Rattle.agg_types.specs.declared.event.What.TheVariants.{Moment, Leave}
-use Rattle.fleet_model.specs.Machine.{counts_now, number_of}
-use Rattle.fleet_model.specs.Seats.{is_next, is_number, most_seats}
-use Rattle.fleet_model.specs.State.{State}
-use Rattle.plain_book.specs.Due.{HasDueNumber, IsDue, IsFirst}
-use Rattle.plain_book.proofs.Chosen.{and-left, and-right}
+use Rattle.fleet_model.specs.Seats.{is_next, is_number}
+use Rattle.book_frame.specs.Due.{HasDueNumber, IsDue, IsFirst}
+use Rattle.book_frame.proofs.Chosen.{and-left, and-right}
 
 due-next : (seq : ℕ) (due : Option ℕ) → is_number due seq && nat_lt seq (2 ^ 62) ≡ true
     → HasDueNumber seq due
@@ -32,7 +28,8 @@ first-next seat seq above free all =
     let other : nat_le seat (2 ^ 62) ≡ true = and-right (seq == 0) (nat_le seat (2 ^ 62)) two in
     record { first = grind (arith, nat_tests); small = grind (arith, nat_tests) }
 
-due-is_next : (what : What) (seat seq : ℕ) (free : Bool) (above : ℕ) (due : Option ℕ)
+-- an event that comes next has the number that is due
+pub due-is_next : (what : What) (seat seq : ℕ) (free : Bool) (above : ℕ) (due : Option ℕ)
     → is_next what seat seq free above due ≡ true → IsDue what seat seq due
 due-is_next Sit seat seq free above due next = first-next seat seq above free next
 due-is_next (Open peer) seat seq free above due next = due-next seq due next
@@ -41,14 +38,3 @@ due-is_next (Clear table sel) seat seq free above due next = due-next seq due ne
 due-is_next (AddFilter filter) seat seq free above due next = due-next seq due next
 due-is_next (Moment moment) seat seq free above due next = due-next seq due next
 due-is_next Leave seat seq free above due next = due-next seq due next
-
--- an event that counts has the number that is due
-pub due-counts : (state : State) (e : Event) → counts_now state e ≡ true
-    → IsDue e.what e.seat e.seq (number_of state e.seat)
-unfolding counts_now
-due-counts state e counts =
-    due-is_next e.what e.seat e.seq (nat_lt (length state.seats) most_seats) state.next_seat
-    (number_of state e.seat)
-    (and-right (fits state.config e.what)
-    (is_next e.what e.seat e.seq (nat_lt (length state.seats) most_seats) state.next_seat
-    (number_of state e.seat)) counts)

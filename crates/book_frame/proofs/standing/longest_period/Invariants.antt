@@ -1,6 +1,6 @@
 use Rattle.std.proofs.Common.{◌≡◌, max, drop}
 use Rattle.fleet_model.specs.Next.{longest_period}
-use Rattle.plain_book.proofs.next.longest_period.Given as goal
+use Rattle.book_frame.proofs.standing.longest_period.Given as goal
 
 abbrev pub invariant-loop-col : goal.invariant-loop-col
 invariant-loop-col l = max l.longest (longest_period (drop l._col-index l.cols))

@@ -4,7 +4,7 @@ ghost use Rattle.std.specs.Prelude.{◌≡◌, [], ◌++◌, length, map, OnOk};
 ghost use Rattle.std.specs.Iterator.{at_most};
 ghost use Rattle.std.specs.List.{cons_option};
 ghost use Rattle.std.specs.Map.Iter.{TakesFirst};
-ghost use Rattle.plain_book.specs.Shown.{key_and_sums, with_sums};
+ghost use Rattle.book_frame.specs.Lent.{key_and_sums, with_sums};
 
 use agg_types::{Key, NoMemory};
 use fleet_model::Summed;
@@ -24,7 +24,7 @@ impl<'a> Model for BookRows<'a> {
     ghost use Rattle.std.specs.Prelude.{List, ℕ, map};
     ghost use Rattle.std.specs.Vec.Iter.{into_iter_items};
     ghost use Rattle.fleet_model.specs.declared.summed.Summed.{Summed};
-    ghost use Rattle.plain_book.specs.Shown.{key_and_sums};
+    ghost use Rattle.book_frame.specs.Lent.{key_and_sums};
 
     ghost Value = { List (List ℕ × Summed) };
 
@@ -32,8 +32,8 @@ impl<'a> Model for BookRows<'a> {
 }
 
 impl<'a> BookRows<'a> {
-    // These rows, one after the other.
-    pub(crate) fn new(rows: Vec<(&'a Key, Summed)>) -> BookRows<'a>
+    /// These rows, one after the other. Takes no memory.
+    pub fn new(rows: Vec<(&'a Key, Summed)>) -> BookRows<'a>
         ensures { result ≡ map key_and_sums rows.entry.items }
     {
         BookRows {
@@ -60,8 +60,7 @@ pub fn push_found<'a>(
     key: &'a Key,
     sums: Option<Summed>,
 ) -> Result<(), NoMemory>
-    ensures { OnOk result
-        (map key_and_sums rows.new.items
+    ensures { OnOk result (map key_and_sums rows.new.items
         ≡ map key_and_sums rows.old.items ++ cons_option (with_sums key.now sums) []) }
 {
     if let Some(sums) = sums {

@@ -9,12 +9,10 @@ use Rattle.std.proofs.lemmas.List.{map-append, take_more}
 use Rattle.std.proofs.lemmas.List.Elements.{filter_map-append}
 use Rattle.std.proofs.lemmas.Slice.Eq.{slice_eq-Decides}
 use Rattle.std.specs.Cmp.Lexicographic.{pointwise}
-use Rattle.fleet_model.specs.Ranking.{in_order, put_in_order, rank_cmp}
 use Rattle.fleet_model.specs.Values.{same_key}
 use Rattle.fleet_model.specs.declared.summed.Summed.{Summed}
-use Rattle.plain_book.proofs.Chosen.{same_key-decides}
-use Rattle.plain_book.specs.PutAll.{put_all}
-use Rattle.plain_book.specs.Shown.{shown_row, with_sums}
+use Rattle.book_frame.proofs.Chosen.{same_key-decides}
+use Rattle.book_frame.specs.Lent.{shown_row, with_sums}
 
 filter-cond : {X Y : Type 0} (f : X → Y) (b : Bool) (x : X) (xs : List X)
     → map f (cond b (x ∷ xs) xs) ≡ cond b (f x ∷ map f xs) (map f xs)
@@ -46,16 +44,6 @@ all_listed sum_of (key ∷ keys) each =
     one_found key (sum_of key) (filter_map (λ key. with_sums key (sum_of key)) keys) each.0
     ∙ ap (λ rest. (key, sum_of key) ∷ rest) (all_listed sum_of keys each.1)
 
--- entries put one after the other, the last one first
-pub put_all-last : (xs : List (List ℕ × ℕ)) (x : List ℕ × ℕ) (entries : List (List ℕ × ℕ))
-    → put_all (xs ++ x ∷ []) entries ≡ put_all xs (put_in_order rank_cmp x entries)
-put_all-last [] x entries = refl
-put_all-last (y ∷ ys) x entries = ap (put_in_order rank_cmp y) (put_all-last ys x entries)
-
-pub put_all-none : (xs : List (List ℕ × ℕ)) → put_all xs [] ≡ in_order rank_cmp xs
-put_all-none [] = refl
-put_all-none (x ∷ xs) = ap (put_in_order rank_cmp x) (put_all-none xs)
-
 shown_pairs : (keys others : List (Bor (List ℕ)))
     → pointwise (λ (a b : Bor (List ℕ)). same_key a.now b.now) keys others
     ≡ pointwise same_key (map (λ key. key.now) keys) (map (λ key. key.now) others)
@@ -82,18 +70,3 @@ found_more found keys i key is within =
     (take_more keys i key within ∙ ap (λ (k : Bor (List ℕ)). take i keys ++ k ∷ []) (sym is))
     ∙ ap (filter_map found) (map-append (λ (key : Bor (List ℕ)). key.now) (take i keys) (key ∷ []))
     ∙ filter_map-append found (map (λ key. key.now) (take i keys)) (key.now ∷ [])
-
--- the last key, put among the entries
-pub popped : (valued : List ℕ → List ℕ × ℕ) (before after : List (Bor (List ℕ)))
-    (key : Bor (List ℕ)) (old new whole : List (List ℕ × ℕ)) → before ≡ after ++ key ∷ []
-    → new ≡ put_in_order rank_cmp (valued key.now) old
-    → put_all (map valued (map (λ key. key.now) before)) old ≡ whole
-    → put_all (map valued (map (λ key. key.now) after)) new ≡ whole
-popped valued before after key old new whole split put all =
-    ap (put_all (map valued (map (λ key. key.now) after))) put
-    ∙ sym (put_all-last (map valued (map (λ key. key.now) after)) (valued key.now) old)
-    ∙ ap (λ (xs : List (List ℕ × ℕ)). put_all xs old)
-    (sym (ap (λ (ks : List (Bor (List ℕ))). map valued (map (λ key. key.now) ks)) split
-    ∙ ap (map valued) (map-append (λ (key : Bor (List ℕ)). key.now) after (key ∷ []))
-    ∙ map-append valued (map (λ key. key.now) after) (key.now ∷ [])))
-    ∙ all

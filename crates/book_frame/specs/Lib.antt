@@ -1,0 +1,4 @@
+pub mod Due
+pub mod Distinct
+pub mod Tally
+pub mod Lent
