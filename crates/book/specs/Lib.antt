@@ -8,3 +8,4 @@ pub mod Lent
 pub mod Foreseen
 pub mod Flatness
 pub mod Leading
+pub mod Held

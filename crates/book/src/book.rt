@@ -17,6 +17,7 @@ ghost use Rattle.book.specs.Foreseen.{IsFirstOf};
 ghost use Rattle.book.specs.Lent.{key_and_sums, shown_row, with_sums};
 
 use crate::foreseen::first_change;
+use crate::held::{Held, held_keys};
 use crate::listing::{BookRows, push_found};
 use crate::machine::{Machine, cols_of};
 use crate::next::are_same;
@@ -38,17 +39,18 @@ use std::marker::Model;
 #[derive(Drop)]
 pub struct Book {
     machine: Machine,
+    held: Held,
 }
 
 impl Model for Book {
-    ghost use Rattle.fleet_model.specs.Sound.{IsSound};
     ghost use Rattle.fleet_model.specs.State.{State};
+    ghost use Rattle.book.specs.Held.{IsBook};
 
     ghost Value = { State };
 
     ghost view = { λ b. b.machine };
 
-    ghost invariant = { λ b. IsSound b.machine };
+    ghost invariant = { λ b. IsBook b.machine b.held.standing };
 }
 
 impl Book {
@@ -65,7 +67,8 @@ impl Book {
         fleet_model::laws::nothing_happened();
         fleet_model::laws::states_are_sound();
         let machine = Machine::new(alloc, config, moment)?;
-        Ok(Book { machine })
+        let held = Held::new(&machine);
+        Ok(Book { machine, held })
     }
 
     /// Takes one event. Afterwards the book is what recomputing from the whole list of events
@@ -129,7 +132,9 @@ impl Book {
         ensures sound { IsSound self.new }
     {
         fleet_model::laws::states_are_sound();
-        self.machine.apply(seat, seq, what, hint)
+        let spot = self.machine.apply(seat, seq, what, hint)?;
+        self.held.follow(&self.machine, what);
+        Ok(spot)
     }
 
     /// Whether fewer seats sit than may. Takes no memory.
@@ -228,7 +233,12 @@ impl Book {
             (λ keys. map (λ key. key.now) keys.items
             ≡ set_at self.now (filter_of self.now filter) self.now.moment) }
     {
-        self.filter_keys_at(alloc, filter, self.machine.moment)
+        fleet_model::laws::keys::a_set_is_the_keys_that_hold();
+        fleet_model::laws::sets_are_flat_in_time();
+        match &self.held.standing {
+            None => self.filter_keys_at(alloc, filter, self.machine.moment),
+            Some(standing) => held_keys(alloc, standing, filter),
+        }
     }
 
     /// The keys that a standing filter holds at a moment, in ms, if only the clock goes on until
@@ -287,6 +297,20 @@ impl Book {
     /// only the clock goes on; none where it always holds the same. Judges each key of its table
     /// once.
     pub fn next_change(&self, alloc: Global, filter: usize) -> Result<Option<u64>, NoMemory>
+        requires { filter < length self.now.config.filters }
+        ensures { IfOk result (IsNextChange self.now (filter_of self.now filter)) }
+    {
+        standing_filters::laws::first_change_is_the_sets();
+        fleet_model::laws::changes::a_filter_changes_with_its_first_key();
+        fleet_model::laws::sets_are_flat_in_time();
+        match &self.held.standing {
+            None => self.walk_to_change(alloc, filter),
+            Some(standing) => Ok(standing.next_change(filter)),
+        }
+    }
+
+    // The next change of a filter: judges each key of its table once.
+    fn walk_to_change(&self, alloc: Global, filter: usize) -> Result<Option<u64>, NoMemory>
         requires { filter < length self.now.config.filters }
         ensures { IfOk result (IsNextChange self.now (filter_of self.now filter)) }
     {

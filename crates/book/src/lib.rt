@@ -16,6 +16,7 @@ mod book;
 mod clears;
 mod ends;
 mod foreseen;
+mod held;
 mod leaders;
 mod listing;
 mod machine;
