@@ -1,7 +1,8 @@
 -- What each event leaves of what kept verdicts rest on.
-use Rattle.std.proofs.Common.{◌≡◌, ◌≢◌, ⊎_elim, ℕ, ◌+◌, ◌≤◌, Bool, true, false, cond, not, ◌&&◌}
-use Rattle.std.proofs.Common.{◌==◌, List, [], ◌∷◌, ◌++◌, length, take, max, refl, sym, ap, ◌∙◌, subst}
-use Rattle.std.proofs.Common.{arith}
+use Rattle.std.proofs.Common.{◌≡◌, ◌≢◌, ⊎_elim, inl, inr, ℕ, ◌+◌, ◌≤◌, Bool, true, false, cond}
+use Rattle.std.proofs.Common.{not, ◌&&◌, ◌==◌, List, [], ◌∷◌, ◌++◌, length, take, max, refl, sym}
+use Rattle.std.proofs.Common.{ap, ◌∙◌, subst, arith}
+use Rattle.std.specs.List.{filter}
 use Rattle.std.specs.Prelude.{◌⊎◌}
 use Rattle.std.proofs.lemmas.Bool.{eqb-true}
 use Rattle.std.proofs.lemmas.List.{take-append-le, take_all}
@@ -118,6 +119,12 @@ cleared state e table (One key) = record {
 }
 cleared state e table (Conds conds) = tt
 
+counted_is : (state : State) (e : Event) (what : What) → e.what ≡ what → counts_now state e ≡ true
+    → after state e ≡ happened state e what
+unfolding after
+counted_is state e what is counts =
+    ap (λ b. cond b (happened state e e.what) state) counts ∙ ap (happened state e) is
+
 done : (state : State) (e : Event) (what : What) → IsSound state → e.what ≡ what
     → counts_now state e ≡ true → Follows what state (happened state e what)
 unfolding happened with_put
@@ -150,13 +157,9 @@ done state e (Moment told) sound is counts = record {
     foreseen : (filtering : Filter) (key : List ℕ) (t : ℕ) → max state.moment told ≤ t
         → holds (happened state e (Moment told)) filtering key t ≡ holds state filtering key t
     foreseen filtering key t since =
-        subst (λ (s : State). holds s filtering key t ≡ holds state filtering key t) same
+        subst (λ (s : State). holds s filtering key t ≡ holds state filtering key t)
+        (counted_is state e (Moment told) is counts)
         (holds-stays state e told is filtering key t (omega arith) (omega arith))
-      where
-        same : after state e ≡ happened state e (Moment told)
-        unfolding after
-        same = ap (λ b. cond b (happened state e e.what) state) counts
-            ∙ ap (happened state e) is
 done state e Leave sound is counts = record { config = refl; moment = refl; rows = refl }
 
 pub follows : (state : State) (e : Event) → IsSound state → Follows e.what state (after state e)

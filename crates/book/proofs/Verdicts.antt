@@ -118,10 +118,10 @@ touched_held law state later table key old new changes touched held = record {
       law (sums_in state) (sums_in later) (living_in state) (living_in later) table key later.moment
           a b
           (λ t other apart. (
-        (λ i. λ col u. worth_within (cols_of (changes.config i).tables t)
-            (changes.others t other apart i) col u),
-        (λ i. λ u. living_within (changes.others t other apart i) u),
-      ))
+            (λ i. λ col u. worth_within (cols_of (changes.config i).tables t)
+                (changes.others t other apart i) col u),
+            (λ i. λ u. living_within (changes.others t other apart i) u),
+          ))
           (subst (λ (t : ℕ). AreVerdicts (sums_in state) (living_in state) t a)
           (sym changes.moment) judged.0)
           touched.0,

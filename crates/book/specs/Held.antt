@@ -1,6 +1,6 @@
 -- Kept verdicts of a book's standing filters, and what an event leaves of what they rest on.
-use Rattle.std.specs.Prelude.{◌≡◌, ◌≢◌, ◌⊎◌, ℕ, ◌≤◌, ◌++◌, ◌∷◌, List, [], Option, IfSome, length, map}
-use Rattle.std.specs.Prelude.{take}
+use Rattle.std.specs.Prelude.{◌≡◌, ◌≢◌, ◌⊎◌, ℕ, ◌≤◌, ◌++◌, ◌∷◌, List, [], Option, IfSome, length}
+use Rattle.std.specs.Prelude.{map, take}
 use Rattle.std.specs.List.{AllByRecursion}
 use Rattle.agg_types.specs.declared.column.Col.{Col}
 use Rattle.agg_types.specs.declared.config.Filter.{Filter}

@@ -226,17 +226,16 @@ impl Book {
         Ok(rows)
     }
 
-    /// The keys that a standing filter holds, in order.
+    /// The keys that a standing filter holds, in order, by the verdicts that are kept; where these
+    /// were given up for want of memory, each key of its table is judged.
     pub fn filter_keys(&self, alloc: Global, filter: usize) -> Result<Vec<&Key>, NoMemory>
         requires { filter < length self.now.config.filters }
         ensures { IfOk result
             (λ keys. map (λ key. key.now) keys.items
             ≡ set_at self.now (filter_of self.now filter) self.now.moment) }
     {
-        fleet_model::laws::keys::a_set_is_the_keys_that_hold();
-        fleet_model::laws::sets_are_flat_in_time();
         match &self.held.standing {
-            None => self.filter_keys_at(alloc, filter, self.machine.moment),
+            None => self.filter_keys_at(alloc, filter, self.moment()),
             Some(standing) => held_keys(alloc, standing, filter),
         }
     }
@@ -294,22 +293,21 @@ impl Book {
     }
 
     /// The first moment above the book's, in ms, at which a filter holds other keys than now, if
-    /// only the clock goes on; none where it always holds the same. Judges each key of its table
-    /// once.
+    /// only the clock goes on; none where it always holds the same. It is that of the first verdict
+    /// that changes; where verdicts were given up for want of memory, each key of its table is
+    /// judged once.
     pub fn next_change(&self, alloc: Global, filter: usize) -> Result<Option<u64>, NoMemory>
         requires { filter < length self.now.config.filters }
         ensures { IfOk result (IsNextChange self.now (filter_of self.now filter)) }
     {
         standing_filters::laws::first_change_is_the_sets();
-        fleet_model::laws::changes::a_filter_changes_with_its_first_key();
-        fleet_model::laws::sets_are_flat_in_time();
         match &self.held.standing {
             None => self.walk_to_change(alloc, filter),
             Some(standing) => Ok(standing.next_change(filter)),
         }
     }
 
-    // The next change of a filter: judges each key of its table once.
+    // The next change of a filter, for which each key of its table is judged once.
     fn walk_to_change(&self, alloc: Global, filter: usize) -> Result<Option<u64>, NoMemory>
         requires { filter < length self.now.config.filters }
         ensures { IfOk result (IsNextChange self.now (filter_of self.now filter)) }

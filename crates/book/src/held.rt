@@ -2,7 +2,8 @@
 //!
 //! A key is judged by the filters of its table when its rows may have changed, and else when a
 //! change that was planned for it has come. Memory for verdicts may be refused: then they are given
-//! up, and queries read the rows until a moment makes the verdicts anew. So no event fails for them.
+//! up, and queries read the rows until a moment makes the verdicts anew. So no event fails for
+//! them.
 
 ghost use Rattle.std.specs.Prelude.{◌≡◌, ◌<◌, ◌≤◌, [], length, map, IfOk, OnOk};
 ghost use Rattle.fleet_model.specs.Keys.{AreKeysOf};
@@ -64,10 +65,7 @@ impl Held {
         let Some(standing) = &mut self.standing else {
             return;
         };
-        if standing
-            .touch(table, key, machine, machine.moment)
-            .is_err()
-        {
+        if standing.touch(table, key, machine, machine.moment).is_err() {
             self.standing = None;
         }
     }
