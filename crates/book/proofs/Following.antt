@@ -1,5 +1,5 @@
 -- What each event leaves of what kept verdicts rest on.
-use Rattle.std.proofs.Common.{◌≡◌, ◌≢◌, ⊎_elim, inl, inr, ℕ, ◌+◌, ◌≤◌, Bool, true, false, cond}
+use Rattle.std.proofs.Common.{◌≡◌, ◌≢◌, ⊎_elim, inl, inr, ℕ, ◌≤◌, Bool, true, false, cond}
 use Rattle.std.proofs.Common.{not, ◌&&◌, ◌==◌, List, [], ◌∷◌, ◌++◌, length, take, max, refl, sym}
 use Rattle.std.proofs.Common.{ap, ◌∙◌, subst, arith}
 use Rattle.std.specs.List.{filter}
@@ -15,7 +15,7 @@ use Rattle.agg_types.specs.declared.event.What.TheVariants.{Sit, Open, Put, Clea
 use Rattle.agg_types.specs.declared.event.What.TheVariants.{Moment, Leave}
 use Rattle.agg_types.specs.declared.place.Place.{Place}
 use Rattle.fleet_model.specs.Filters.{is_new}
-use Rattle.fleet_model.specs.Keys.{AreInOrder, Rows, holds, is_at_key, key_rows}
+use Rattle.fleet_model.specs.Keys.{AreInOrder, Rows, holds, key_rows}
 use Rattle.fleet_model.specs.Machine.{after, counts_now, happened, session_of, with_put, with_row}
 use Rattle.fleet_model.specs.Rows.{arrival_of, clears_at, has_room}
 use Rattle.fleet_model.specs.Seats.{is_number}
@@ -25,7 +25,7 @@ use Rattle.fleet_model.specs.Values.{same_key}
 use Rattle.fleet_model.specs.declared.arrival.Arrival.{Arrival}
 use Rattle.fleet_model.proofs.KeyChanges.{holds-stays}
 use Rattle.fleet_model.proofs.KeyRows.{clear-each, put-others}
-use Rattle.book.specs.Held.{ChangesKey, Follows, FollowsClear, GoesOn}
+use Rattle.book.specs.Held.{ChangesKey, Follows, FollowsClear}
 use Rattle.book.proofs.Chosen.{same_key-decides}
 
 -- ---- nothing happened

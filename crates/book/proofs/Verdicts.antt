@@ -1,23 +1,22 @@
 -- Kept verdicts: they stay right as events are followed, and say what the filters' sets are.
-use Rattle.std.proofs.Common.{◌≡◌, ◌≢◌, ℕ, ◌+◌, ◌-◌, ◌^◌, ◌≤◌, ◌<◌, Bool, true, false, nat_lt, List}
-use Rattle.std.proofs.Common.{[], ◌∷◌, ◌++◌, length, get_or, take, map, min, Option, None, Some}
+use Rattle.std.proofs.Common.{◌≡◌, ℕ, ◌+◌, ◌^◌, ◌≤◌, ◌<◌, false, nat_lt, List}
+use Rattle.std.proofs.Common.{[], ◌∷◌, ◌++◌, length, get_or, take, map, Option, None, Some}
 use Rattle.std.proofs.Common.{refl, sym, ap, ◌∙◌, subst, arith, Ok, Err}
 use Rattle.std.specs.Prelude.{Result, OnOk}
 use Rattle.std.specs.Result.{is_err}
 use Rattle.std.proofs.lemmas.Bool.Decides.{nat_tests}
-use Rattle.std.proofs.lemmas.List.{get_or-map, get_or_default, length-map, map-append, take_all}
+use Rattle.std.proofs.lemmas.List.{get_or-map, length-map, map-append, take_all}
 use Rattle.std.proofs.lemmas.List.{take_more}
 use Rattle.std.proofs.lemmas.List.Elements.{All-from_recursion}
 use Rattle.std.specs.Borrow.{Bor}
-use Rattle.std.specs.List.{AllByRecursion, AllZip, list_any}
-use Rattle.agg_types.specs.declared.column.Col.{Col}
+use Rattle.std.specs.List.{AllByRecursion}
 use Rattle.agg_types.specs.declared.config.Config.{Config}
 use Rattle.agg_types.specs.declared.config.Filter.{Filter}
 use Rattle.agg_types.specs.declared.config.Shape.{Shape}
 use Rattle.expiry_wheel.proofs.Lists.{all-append}
 use Rattle.fleet_model.specs.Answers.{filter_of, no_filter, set_at}
 use Rattle.fleet_model.specs.Keys.{AreKeysOf, Rows, has_live, holds, key_rows}
-use Rattle.fleet_model.specs.Laws.{has_live_row, is_key_among}
+use Rattle.fleet_model.specs.Laws.{is_key_among}
 use Rattle.fleet_model.specs.Next.{IsNextChange}
 use Rattle.fleet_model.specs.Sound.{IsSound}
 use Rattle.fleet_model.specs.State.{State}

@@ -1,4 +1,4 @@
-use Rattle.std.proofs.Common.{◌≡◌, ◌<◌, ◌≤◌, length, sym, ap, ◌∙◌, subst, arith}
+use Rattle.std.proofs.Common.{◌≡◌, ◌<◌, ◌≤◌, length, sym, ap, subst, arith}
 use Rattle.agg_types.specs.declared.config.Filter.{Filter}
 use Rattle.fleet_model.specs.Answers.{no_filter}
 use Rattle.fleet_model.specs.State.{State}
