@@ -21,21 +21,24 @@ use Rattle.fleet_model.specs.Rows.{arrival_of, clears_at, has_room}
 use Rattle.fleet_model.specs.Seats.{is_number}
 use Rattle.fleet_model.specs.Sound.{IsSound}
 use Rattle.fleet_model.specs.State.{State}
-use Rattle.fleet_model.specs.Values.{same_key}
+use Rattle.fleet_model.specs.Values.{cols_of, meets, same_key}
 use Rattle.fleet_model.specs.declared.arrival.Arrival.{Arrival}
 use Rattle.fleet_model.proofs.KeyChanges.{holds-stays}
 use Rattle.fleet_model.proofs.KeyRows.{clear-each, put-others}
-use Rattle.book.specs.Held.{ChangesKey, Follows, FollowsClear}
+use Rattle.book.specs.Held.{ChangesKey, ChangesTable, Follows, FollowsClear}
 use Rattle.book.proofs.Chosen.{same_key-decides}
 
 -- ---- nothing happened
 no_key : (table : ℕ) (key : List ℕ) (state : State) → ChangesKey table key state state
 no_key table key state = record { config = refl; moment = refl; others = λ t other apart. refl }
 
+no_table : (table : ℕ) (state : State) → ChangesTable table state state
+no_table table state = record { config = refl; moment = refl; others = λ t other apart. refl }
+
 no_clear : (table : ℕ) (sel : Select) (state : State) → FollowsClear table sel state state
-no_clear table All state = tt
+no_clear table All state = no_table table state
 no_clear table (One key) state = no_key table key state
-no_clear table (Conds conds) state = tt
+no_clear table (Conds conds) state = no_table table state
 
 nothing : (what : What) (state : State) → Follows what state state
 nothing Sit state = record { config = refl; moment = refl; rows = refl }
@@ -60,18 +63,18 @@ and_none : (b : Bool) → b && false ≡ false
 and_none true = refl
 and_none false = refl
 
+other_table : (t table : ℕ) (b : Bool) → t ≢ table → (t == table) && b ≡ false
+other_table t table b differs = by (t == table) refl
+  where
+    by : (c : Bool) → (t == table) ≡ c → (t == table) && b ≡ false
+    by true e = absurd (differs (eqb-true t table e))
+    by false e = ap (λ c. c && b) e
+
 -- another key than one of a table
 is_apart : (t table : ℕ) (a b : List ℕ) → (t ≢ table) ⊎ (a ≢ b)
     → (t == table) && same_key a b ≡ false
-is_apart t table a b apart = ⊎_elim elsewhere another apart
+is_apart t table a b apart = ⊎_elim (other_table t table (same_key a b)) another apart
   where
-    elsewhere : t ≢ table → (t == table) && same_key a b ≡ false
-    elsewhere differs = by (t == table) refl
-      where
-        by : (c : Bool) → (t == table) ≡ c → (t == table) && same_key a b ≡ false
-        by true e = absurd (differs (eqb-true t table e))
-        by false e = ap (λ c. c && same_key a b) e
-
     another : a ≢ b → (t == table) && same_key a b ≡ false
     another differs = by (same_key a b) refl
       where
@@ -101,6 +104,13 @@ clear_apart rows table key t other apart =
     (is_apart t table key other
     (⊎_elim (λ h. inl h) (λ h. inr (λ e. h (sym e))) apart))
 
+cleared_apart : (gone : List ℕ → Bool) (rows : Rows) (table t : ℕ) (other : List ℕ) → t ≢ table
+    → key_rows (filter (λ row. not ((row.0.table == table) && gone row.0.key)) rows) t other
+    ≡ key_rows rows t other
+cleared_apart gone rows table t other apart =
+    clear-each gone rows table t other
+    ∙ ap (λ b. cond b [] (key_rows rows t other)) (other_table t table (gone other) apart)
+
 first_stay : (new : Bool) (filters : List Filter) (added : Filter)
     → take (length filters) (cond new (filters ++ added ∷ []) filters) ≡ filters
 first_stay true filters added =
@@ -111,13 +121,23 @@ first_stay false filters added = take_all (length filters) filters (omega arith)
 cleared : (state : State) (e : Event) (table : ℕ) (sel : Select)
     → FollowsClear table sel state (happened state e (Clear table sel))
 unfolding happened clears_at
-cleared state e table All = tt
+cleared state e table All = record {
+  config = refl;
+  moment = refl;
+  others = λ t other apart. cleared_apart (λ key. true) state.rows table t other apart;
+}
 cleared state e table (One key) = record {
   config = refl;
   moment = refl;
   others = λ t other apart. clear_apart state.rows table key t other apart;
 }
-cleared state e table (Conds conds) = tt
+cleared state e table (Conds conds) = record {
+  config = refl;
+  moment = refl;
+  others = λ t other apart. cleared_apart
+      (λ key. meets (cols_of state.config.tables table) state.rows table key state.moment conds)
+      state.rows table t other apart;
+}
 
 counted_is : (state : State) (e : Event) (what : What) → e.what ≡ what → counts_now state e ≡ true
     → after state e ≡ happened state e what

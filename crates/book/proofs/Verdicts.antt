@@ -9,7 +9,14 @@ use Rattle.std.proofs.lemmas.List.{get_or-map, length-map, map-append, take_all}
 use Rattle.std.proofs.lemmas.List.{take_more}
 use Rattle.std.proofs.lemmas.List.Elements.{All-from_recursion}
 use Rattle.std.specs.Borrow.{Bor}
-use Rattle.std.specs.List.{AllByRecursion}
+use Rattle.std.proofs.lemmas.Bool.{false≢true}
+use Rattle.std.proofs.Common.{◌≢◌, Bool, true, ◌&&◌, ◌||◌, ◌==◌, eq-eqb}
+use Rattle.std.specs.List.{AllByRecursion, list_all, list_any}
+use Rattle.agg_types.specs.Op.{op_holds}
+use Rattle.agg_types.specs.declared.column.Col.{Col}
+use Rattle.agg_types.specs.declared.config.Cond.{Cond}
+use Rattle.standing_filters.specs.Verdicts.{IsTold}
+use Rattle.standing_filters.specs.declared.judging.Verdict.{Verdict}
 use Rattle.agg_types.specs.declared.config.Config.{Config}
 use Rattle.agg_types.specs.declared.config.Filter.{Filter}
 use Rattle.agg_types.specs.declared.config.Shape.{Shape}
@@ -36,8 +43,8 @@ use Rattle.standing_filters.specs.Watched.{no_filter as nothing}
 use Rattle.crossing.specs.First.{IsFirstFrom}
 use Rattle.book.specs.Flatness.{living_falls}
 use Rattle.book.specs.Foreseen.{living_of, living_within, within, worth_within}
-use Rattle.book.specs.Held.{AreAll, AreFirst, AreHeld, AreJudged, ChangesKey, GoesOn, HasMore}
-use Rattle.book.specs.Held.{IsJudged, IsOneMore, Stays, living_in, sums_in}
+use Rattle.book.specs.Held.{AreAll, AreFirst, AreHeld, AreJudged, ChangesKey, ChangesTable}
+use Rattle.book.specs.Held.{GoesOn, HasMore, IsJudged, IsOneMore, Stays, living_in, sums_in}
 use Rattle.book.proofs.Foresight.{bool_same, holds_within, live_any}
 
 -- what is read of a key is what a filter says of it
@@ -82,12 +89,75 @@ stays_kept state later None stays held = tt
 stays_kept state later (Some watched) stays held =
     stays_held state later watched.filters stays held
 
+-- ---- the rows of another table have
+told_by : List (Col × ℕ) → Rows → List Cond → ℕ → Verdict → Type 0
+told_by cols rows conds now verdict = IsTold (λ t. nat_lt 0 (living_within rows t)
+    && list_all (λ cond. op_holds cond.op (worth_within cols rows cond.col t) cond.bound) conds)
+    now verdict
+
+elsewhere_judged : (state later : State) (table : ℕ) → ChangesTable table state later
+    → (w : Watched) → (w.filter.table == table) ≡ false → IsJudged state w → IsJudged later w
+unfolding told_by
+elsewhere_judged state later table changes w apart judged = λ key.
+    let filtering : Filter = w.filter in
+    let verdict : Verdict = verdict_at w.kept key in
+    subst (λ (c : Config). told_by (cols_of c.tables filtering.table)
+    (key_rows later.rows filtering.table key) filtering.conds later.moment verdict)
+    (sym changes.config)
+    (subst (λ (rows : Rows). told_by (cols_of state.config.tables filtering.table) rows
+    filtering.conds later.moment verdict)
+    (sym (changes.others filtering.table key
+    (λ same. false≢true (sym apart ∙ eq-eqb filtering.table table same))))
+    (subst (λ (now : ℕ). told_by (cols_of state.config.tables filtering.table)
+    (key_rows state.rows filtering.table key) filtering.conds now verdict)
+    (sym changes.moment) (judged key)))
+
+all_elsewhere : (state later : State) (table : ℕ) → ChangesTable table state later
+    → (ws : List Watched) → list_any (λ (w : Watched). w.filter.table == table) ws ≡ false
+    → AreJudged state ws → AreJudged later ws
+all_elsewhere state later table changes [] none judged = tt
+all_elsewhere state later table changes (w ∷ ws) none judged =
+    by (w.filter.table == table) refl none
+    (λ more. all_elsewhere state later table changes ws more judged.1)
+  where
+    by : (b : Bool) → (w.filter.table == table) ≡ b
+        → (b || list_any (λ (w : Watched). w.filter.table == table) ws) ≡ false
+        → (list_any (λ (w : Watched). w.filter.table == table) ws ≡ false → AreJudged later ws)
+        → AreJudged later (w ∷ ws)
+    by true here none rest = cc
+    by false apart none rest = (
+      elsewhere_judged state later table changes w apart judged.0,
+      rest none,
+    )
+
+elsewhere_held : (state later : State) (table : ℕ) (ws : List Watched)
+    → ChangesTable table state later
+    → list_any (λ (f : Filter). f.table == table) later.config.filters ≡ false
+    → AreAll state ws → AreAll later ws
+elsewhere_held state later table ws changes none held =
+    let filters : map (λ (w : Watched). w.filter) ws ≡ later.config.filters =
+    held.filters ∙ ap (λ (c : Config). c.filters) (sym changes.config) in
+    record {
+      filters = filters;
+      judged = all_elsewhere state later table changes ws
+          (sym (any-map (λ (f : Filter). f.table == table) (λ (w : Watched). w.filter) ws)
+          ∙ ap (list_any (λ (f : Filter). f.table == table)) filters ∙ none) held.judged;
+    }
+
+pub elsewhere_kept : (state later : State) (table : ℕ) (standing : Option AllWatched)
+    → ChangesTable table state later
+    → list_any (λ (f : Filter). f.table == table) later.config.filters ≡ false
+    → AreHeld state standing → AreHeld later standing
+elsewhere_kept state later table None changes none held = tt
+elsewhere_kept state later table (Some watched) changes none held =
+    elsewhere_held state later table watched.filters changes none held
+
+-- ---- the rows of one key have
 -- what a call promises where it wasn't refused
 pub from_ok : {T E P : Type 0} (result : Result T E) → is_err result ≡ false → OnOk result P → P
 from_ok (Ok u) not ok = ok
 from_ok (Err e) not ok = cc
 
--- ---- the rows of one key have
 pub touched_held : TouchKeepsVerdicts → (state later : State) (table : ℕ) (key : List ℕ)
     (old new : List Watched) → ChangesKey table key state later
     → AreTouched (sums_in later) (living_in later) table key later.moment old new

@@ -72,6 +72,13 @@ pub record ChangesKey (table : ℕ) (key : List ℕ) (state later : State) : Typ
   pub others : (t : ℕ) (other : List ℕ) → (t ≢ table) ⊎ (other ≢ key)
       → key_rows later.rows t other ≡ key_rows state.rows t other
 
+-- nothing but the rows of a table
+pub record ChangesTable (table : ℕ) (state later : State) : Type 0 where
+  pub config : later.config ≡ state.config
+  pub moment : later.moment ≡ state.moment
+  pub others : (t : ℕ) (other : List ℕ) → t ≢ table
+      → key_rows later.rows t other ≡ key_rows state.rows t other
+
 -- nothing but the moment, and what was foreseen from it on
 pub record GoesOn (state later : State) : Type 0 where
   pub config : later.config ≡ state.config
@@ -88,9 +95,9 @@ pub record HasMore (state later : State) : Type 0 where
 
 -- what a clear leaves
 abbrev pub FollowsClear : ℕ → Select → State → State → Type 0
-FollowsClear table All state later = Unit {0}
+FollowsClear table All state later = ChangesTable table state later
 FollowsClear table (One key) state later = ChangesKey table key state later
-FollowsClear table (Conds conds) state later = Unit {0}
+FollowsClear table (Conds conds) state later = ChangesTable table state later
 
 -- what an event leaves
 abbrev pub Follows : What → State → State → Type 0

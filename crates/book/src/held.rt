@@ -5,13 +5,14 @@
 //! up, and queries read the rows until a moment makes the verdicts anew. So no event fails for
 //! them.
 
-ghost use Rattle.std.specs.Prelude.{◌≡◌, ◌<◌, ◌≤◌, [], length, map, IfOk, OnOk};
+ghost use Rattle.std.specs.Prelude.{◌≡◌, ◌<◌, ◌≤◌, ◌==◌, [], length, map, IfOk, OnOk};
+ghost use Rattle.std.specs.List.{list_any};
 ghost use Rattle.fleet_model.specs.Keys.{AreKeysOf};
 ghost use Rattle.fleet_model.specs.Sound.{IsSound};
 ghost use Rattle.fleet_model.specs.State.{State};
 ghost use Rattle.standing_filters.specs.Watched.{kept_of, verdict_at};
-ghost use Rattle.book.specs.Held.{AreAll, AreFirst, AreHeld, ChangesKey, Follows, GoesOn, HasMore};
-ghost use Rattle.book.specs.Held.{IsOneMore};
+ghost use Rattle.book.specs.Held.{AreAll, AreFirst, AreHeld, ChangesKey, ChangesTable, Follows};
+ghost use Rattle.book.specs.Held.{GoesOn, HasMore, IsOneMore};
 
 use crate::machine::Machine;
 use crate::queries::live_keys;
@@ -46,7 +47,7 @@ impl Held {
             What::Put { table, key, .. } => self.touch(machine, *table, key),
             What::Clear { table, sel } => match sel {
                 Select::One(key) => self.touch(machine, *table, key),
-                Select::All | Select::Conds(_) => self.renew(machine),
+                Select::All | Select::Conds(_) => self.clear(machine, *table),
             },
             What::AddFilter(_) => self.add(machine),
             What::Moment(_) => self.go_on(machine),
@@ -67,6 +68,17 @@ impl Held {
         };
         if standing.touch(table, key, machine, machine.moment).is_err() {
             self.standing = None;
+        }
+    }
+
+    // The rows of several keys of a table may be gone.
+    fn clear(&mut self, machine: &Machine, table: usize)
+        requires sound { IsSound machine.now }
+        ensures { (state : State) → ChangesTable table state machine.now
+            → AreHeld state self.old.standing → AreHeld machine.now self.new.standing }
+    {
+        if has_filter(machine.config.filters.as_slice(), table) {
+            self.renew(machine);
         }
     }
 
@@ -100,6 +112,14 @@ impl Held {
         }
     }
 
+    /// How many values were read for the verdicts that are kept.
+    pub(crate) fn evals(&self) -> u64 {
+        match &self.standing {
+            None => 0,
+            Some(standing) => standing.evals(),
+        }
+    }
+
     // All keys are judged anew.
     fn renew(&mut self, machine: &Machine)
         requires sound { IsSound machine.now }
@@ -107,6 +127,13 @@ impl Held {
     {
         self.standing = judge_all(machine).ok();
     }
+}
+
+// Whether some filter is of a table.
+fn has_filter(filters: &[Filter], table: usize) -> bool
+    ensures { result ≡ list_any (λ filter. filter.table == table) filters.now }
+{
+    filters.iter().any(|filter| filter.table == table)
 }
 
 // The verdicts on all keys, by each filter.
