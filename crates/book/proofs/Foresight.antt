@@ -31,7 +31,7 @@ use Rattle.book.specs.Foreseen.{IsFirstOf, IsQuiet, SomeChanges, earlier, living
 use Rattle.book.specs.Foreseen.{within, worth_within}
 
 -- ---- a verdict tells when a key changes
-bool_same : (a b : Bool) → ((a ≡ b → ⊥) → ⊥) → a ≡ b
+pub bool_same : (a b : Bool) → ((a ≡ b → ⊥) → ⊥) → a ≡ b
 bool_same true true h = refl
 bool_same false false h = refl
 bool_same true false h = absurd (h (λ e. cc))

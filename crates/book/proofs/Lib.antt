@@ -6,3 +6,5 @@ pub mod Forgets
 pub mod Foresight
 pub mod Leading
 pub mod FirstKeys
+pub mod Verdicts
+pub mod Following

@@ -5,4 +5,5 @@ pub mod Due
 pub mod Foreseen
 pub mod Flatness
 pub mod Leading
+pub mod Held
 pub use Rattle.book_frame.specs.Lent

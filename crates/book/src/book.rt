@@ -17,6 +17,7 @@ ghost use Rattle.book.specs.Foreseen.{IsFirstOf};
 ghost use Rattle.book_frame.specs.Lent.{key_and_sums, shown_row, with_sums};
 
 use crate::foreseen::first_change;
+use crate::held::{Held, held_keys};
 use crate::machine::Machine;
 use crate::queries;
 use crate::ranking::Ranked;
@@ -40,17 +41,18 @@ use std::marker::Model;
 #[derive(Drop)]
 pub struct Book {
     machine: Machine,
+    held: Held,
 }
 
 impl Model for Book {
-    ghost use Rattle.fleet_model.specs.Sound.{IsSound};
     ghost use Rattle.fleet_model.specs.State.{State};
+    ghost use Rattle.book.specs.Held.{IsBook};
 
     ghost Value = { State };
 
     ghost view = { λ b. b.machine };
 
-    ghost invariant = { λ b. IsSound b.machine };
+    ghost invariant = { λ b. IsBook b.machine b.held.standing };
 }
 
 impl Book {
@@ -67,7 +69,8 @@ impl Book {
         fleet_model::laws::nothing_happened();
         fleet_model::laws::states_are_sound();
         let machine = Machine::new(alloc, config, moment)?;
-        Ok(Book { machine })
+        let held = Held::new(&machine);
+        Ok(Book { machine, held })
     }
 
     /// Takes one event. Afterwards the book is what recomputing from the whole list of events
@@ -131,7 +134,9 @@ impl Book {
         ensures sound { IsSound self.new }
     {
         fleet_model::laws::states_are_sound();
-        self.machine.apply(seat, seq, what, hint)
+        let spot = self.machine.apply(seat, seq, what, hint)?;
+        self.held.follow(&self.machine, what);
+        Ok(spot)
     }
 
     /// Whether fewer seats sit than may. Takes no memory.
@@ -223,14 +228,18 @@ impl Book {
         Ok(rows)
     }
 
-    /// The keys that a standing filter holds, in order.
+    /// The keys that a standing filter holds, in order, by the verdicts that are kept; where these
+    /// were given up for want of memory, each key of its table is judged.
     pub fn filter_keys(&self, alloc: Global, filter: usize) -> Result<Vec<&Key>, NoMemory>
         requires { filter < length self.now.config.filters }
         ensures { IfOk result
             (λ keys. map (λ key. key.now) keys.items
             ≡ set_at self.now (filter_of self.now filter) self.now.moment) }
     {
-        self.filter_keys_at(alloc, filter, self.machine.moment)
+        match &self.held.standing {
+            None => self.filter_keys_at(alloc, filter, self.moment()),
+            Some(standing) => held_keys(alloc, standing, filter),
+        }
     }
 
     /// The keys that a standing filter holds at a moment, in ms, if only the clock goes on until
@@ -286,9 +295,28 @@ impl Book {
     }
 
     /// The first moment above the book's, in ms, at which a filter holds other keys than now, if
-    /// only the clock goes on; none where it always holds the same. Judges each key of its table
-    /// once.
+    /// only the clock goes on; none where it always holds the same. It is that of the first verdict
+    /// that changes; where verdicts were given up for want of memory, each key of its table is
+    /// judged once.
     pub fn next_change(&self, alloc: Global, filter: usize) -> Result<Option<u64>, NoMemory>
+        requires { filter < length self.now.config.filters }
+        ensures { IfOk result (IsNextChange self.now (filter_of self.now filter)) }
+    {
+        standing_filters::laws::first_change_is_the_sets();
+        match &self.held.standing {
+            None => self.walk_to_change(alloc, filter),
+            Some(standing) => Ok(standing.next_change(filter)),
+        }
+    }
+
+    /// How many values were read for the verdicts that are kept: a count of work, and no answer. It
+    /// begins anew where the verdicts are made anew, and is 0 where they were given up.
+    pub fn evals(&self) -> u64 {
+        self.held.evals()
+    }
+
+    // The next change of a filter, for which each key of its table is judged once.
+    fn walk_to_change(&self, alloc: Global, filter: usize) -> Result<Option<u64>, NoMemory>
         requires { filter < length self.now.config.filters }
         ensures { IfOk result (IsNextChange self.now (filter_of self.now filter)) }
     {

@@ -3,12 +3,20 @@
 //!
 //! Contracts see a book as `fleet_model`'s state, with the clauses of `plain_book`, which it is
 //! compared with. Inside, rows lie by table, key and peer in `peer_rows`, the ends of rows are
-//! planned in a wheel, and for each ranked list bounds are kept on the values of its table's keys.
-//! An update is a search and a row replaced, a moment looks at what is due and no more, and a list
-//! at the keys of which a bound isn't below what it gives. Users are the fleet, the hub and the
-//! commands. Speed is measured, not promised: an end stays planned where it was while its row's
-//! end only moves later, and is planned anew when it comes due, so some rows are looked at before
-//! they end; and a bound stays while it holds and isn't far above what it bounds.
+//! planned in a wheel, for each ranked list bounds are kept on the values of its table's keys, and
+//! for each standing filter verdicts on its table's keys (`standing_filters`). An update is a
+//! search and a row replaced, and its key is judged by the filters of its table. A moment looks at
+//! what is due and no more: rows that end, and verdicts that change. A filter's keys and its next
+//! change are read off its verdicts, and a list looks at the keys of which a bound isn't below what
+//! it gives. Users are the fleet, the hub and the commands.
+//!
+//! No event fails for want of a verdict's memory. Verdicts are given up where memory for them is
+//! refused, all at once; from then on a filter's keys and its next change are found by judging each
+//! key of its table, until a moment, or a clear of more than one key, makes the verdicts anew.
+//!
+//! Speed is measured, not promised: an end stays planned where it was while its row's end only
+//! moves later, and is planned anew when it comes due, so some rows are looked at before they end;
+//! and a bound stays while it holds and isn't far above what it bounds.
 #![tactic(auto)]
 
 mod at;
@@ -16,6 +24,7 @@ mod book;
 mod clears;
 mod ends;
 mod foreseen;
+mod held;
 mod leaders;
 mod machine;
 mod next;

@@ -12,11 +12,11 @@ first_change-requires-clause-few c =
     (sym c.self.view_is) c.requires in
     subst (λ (f : Filter). length f.conds ≤ 4) (sym c.filter_at-standing.ensures)
     (conds_few c.self.inside.machine.config c.args.filter no_filter inside
-    c.self.invariant.checked)
+    c.self.invariant.sound.checked)
 
 pub first_change-requires-clause-flat : goal.first_change-requires-clause-flat
 first_change-requires-clause-flat c = c.sets_are_flat_in_time.ensures.sound c.self.inside.machine
-    c.filter_at-standing.result.now.table c.self.invariant
+    c.filter_at-standing.result.now.table c.self.invariant.sound
 
 pub returns : goal.returns
 returns c =

@@ -9,5 +9,5 @@ unfolding keys_of
 returns c =
     c.used.ensures
     ∙ ap length (sym (used_live c.args.table c.self.inside.machine.moment c.self.inside.machine.rows
-    c.self.invariant.live))
+    c.self.invariant.sound.live))
     ∙ ap (λ (s : State). length (keys_of s c.args.table)) c.self.view_is

@@ -1,0 +1,382 @@
+-- Kept verdicts: they stay right as events are followed, and say what the filters' sets are.
+use Rattle.std.proofs.Common.{◌≡◌, ℕ, ◌+◌, ◌^◌, ◌≤◌, ◌<◌, false, nat_lt, List}
+use Rattle.std.proofs.Common.{[], ◌∷◌, ◌++◌, length, get_or, take, map, Option, None, Some}
+use Rattle.std.proofs.Common.{refl, sym, ap, ◌∙◌, subst, arith, Ok, Err}
+use Rattle.std.specs.Prelude.{Result, OnOk}
+use Rattle.std.specs.Result.{is_err}
+use Rattle.std.proofs.lemmas.Bool.Decides.{nat_tests}
+use Rattle.std.proofs.lemmas.List.{get_or-map, length-map, map-append, take_all}
+use Rattle.std.proofs.lemmas.List.{take_more}
+use Rattle.std.proofs.lemmas.List.Elements.{All-from_recursion}
+use Rattle.std.specs.Borrow.{Bor}
+use Rattle.std.proofs.lemmas.Bool.{false≢true}
+use Rattle.std.proofs.Common.{◌≢◌, Bool, true, ◌&&◌, ◌||◌, ◌==◌, eq-eqb}
+use Rattle.std.specs.List.{AllByRecursion, list_all, list_any}
+use Rattle.agg_types.specs.Op.{op_holds}
+use Rattle.agg_types.specs.declared.column.Col.{Col}
+use Rattle.agg_types.specs.declared.config.Cond.{Cond}
+use Rattle.standing_filters.specs.Verdicts.{IsTold}
+use Rattle.standing_filters.specs.declared.judging.Verdict.{Verdict}
+use Rattle.agg_types.specs.declared.config.Config.{Config}
+use Rattle.agg_types.specs.declared.config.Filter.{Filter}
+use Rattle.agg_types.specs.declared.config.Shape.{Shape}
+use Rattle.expiry_wheel.proofs.Lists.{all-append}
+use Rattle.fleet_model.specs.Answers.{filter_of, no_filter, set_at}
+use Rattle.fleet_model.specs.Keys.{AreKeysOf, Rows, has_live, holds, key_rows}
+use Rattle.fleet_model.specs.Laws.{is_key_among}
+use Rattle.fleet_model.specs.Next.{IsNextChange}
+use Rattle.fleet_model.specs.Sound.{IsSound}
+use Rattle.fleet_model.specs.State.{State}
+use Rattle.fleet_model.specs.Values.{cols_of, live_keys, same_key}
+use Rattle.fleet_model.proofs.KeyChanges.{first-change, no-change}
+use Rattle.fleet_model.proofs.KeyRows.{held-keys, live-rows, only-keys}
+use Rattle.fleet_model.proofs.Members.{any-map}
+use Rattle.fleet_model.proofs.Sets.{live_keys-exact}
+use Rattle.fleet_model.proofs.Small.{flat_if_sound}
+use Rattle.standing_filters.specs.Laws.{AddGivesVerdicts, AreVerdicts, FirstChangeIsTheSets}
+use Rattle.standing_filters.specs.Laws.{IsChanged, MomentKeepsVerdicts, TouchKeepsVerdicts}
+use Rattle.standing_filters.specs.Turns.{AreTurned}
+use Rattle.standing_filters.specs.Verdicts.{holds_at}
+use Rattle.standing_filters.specs.Watched.{AllWatched, AreTouched, IsAdded, IsFirstChange, Watched}
+use Rattle.standing_filters.specs.Watched.{is_among, kept_of, unheld, verdict_at}
+use Rattle.standing_filters.specs.Watched.{no_filter as nothing}
+use Rattle.crossing.specs.First.{IsFirstFrom}
+use Rattle.book.specs.Flatness.{living_falls}
+use Rattle.book.specs.Foreseen.{living_of, living_within, within, worth_within}
+use Rattle.book.specs.Held.{AreAll, AreFirst, AreHeld, AreJudged, ChangesKey, ChangesTable}
+use Rattle.book.specs.Held.{GoesOn, HasMore, IsJudged, IsOneMore, Stays, living_in, sums_in}
+use Rattle.book.proofs.Foresight.{bool_same, holds_within, live_any}
+
+-- what is read of a key is what a filter says of it
+holds_in : (state : State) (filtering : Filter) (key : List ℕ) (t : ℕ) → IsSound state
+    → holds_at (sums_in state) (living_in state) filtering key t ≡ holds state filtering key t
+holds_in state filtering key t sound =
+    holds_within state filtering key (cols_of state.config.tables filtering.table) refl
+    (flat_if_sound state filtering.table sound) t
+
+-- ---- nothing that they rest on has changed
+judged_by : List Shape → Rows → ℕ → Watched → Type 0
+judged_by tables rows moment w = AreVerdicts
+    (λ table key col t. worth_within (cols_of tables table) (key_rows rows table key) col t)
+    (λ table key t. living_within (key_rows rows table key) t) moment w
+
+still_judged : (state later : State) → later.config.tables ≡ state.config.tables
+    → later.rows ≡ state.rows → later.moment ≡ state.moment → (w : Watched) → IsJudged state w
+    → IsJudged later w
+unfolding judged_by
+still_judged state later tables rows moment w judged =
+    subst (λ (shapes : List Shape). judged_by shapes later.rows later.moment w) (sym tables)
+    (subst (λ (rs : Rows). judged_by state.config.tables rs later.moment w) (sym rows)
+    (subst (λ (t : ℕ). judged_by state.config.tables state.rows t w) (sym moment) judged))
+
+all_judged : (P Q : Watched → Type 0) → ((w : Watched) → P w → Q w) → (ws : List Watched)
+    → AllByRecursion P ws → AllByRecursion Q ws
+all_judged P Q h [] all = tt
+all_judged P Q h (w ∷ ws) all = (h w all.0, all_judged P Q h ws all.1)
+
+stays_held : (state later : State) (ws : List Watched) → Stays state later → AreAll state ws
+    → AreAll later ws
+stays_held state later ws stays held = record {
+  filters = held.filters ∙ ap (λ (c : Config). c.filters) (sym stays.config);
+  judged = all_judged (IsJudged state) (IsJudged later)
+      (still_judged state later (ap (λ (c : Config). c.tables) stays.config) stays.rows
+      stays.moment) ws held.judged;
+}
+
+pub stays_kept : (state later : State) (standing : Option AllWatched) → Stays state later
+    → AreHeld state standing → AreHeld later standing
+stays_kept state later None stays held = tt
+stays_kept state later (Some watched) stays held =
+    stays_held state later watched.filters stays held
+
+-- ---- the rows of another table have
+told_by : List (Col × ℕ) → Rows → List Cond → ℕ → Verdict → Type 0
+told_by cols rows conds now verdict = IsTold (λ t. nat_lt 0 (living_within rows t)
+    && list_all (λ cond. op_holds cond.op (worth_within cols rows cond.col t) cond.bound) conds)
+    now verdict
+
+elsewhere_judged : (state later : State) (table : ℕ) → ChangesTable table state later
+    → (w : Watched) → (w.filter.table == table) ≡ false → IsJudged state w → IsJudged later w
+unfolding told_by
+elsewhere_judged state later table changes w apart judged = λ key.
+    let filtering : Filter = w.filter in
+    let verdict : Verdict = verdict_at w.kept key in
+    subst (λ (c : Config). told_by (cols_of c.tables filtering.table)
+    (key_rows later.rows filtering.table key) filtering.conds later.moment verdict)
+    (sym changes.config)
+    (subst (λ (rows : Rows). told_by (cols_of state.config.tables filtering.table) rows
+    filtering.conds later.moment verdict)
+    (sym (changes.others filtering.table key
+    (λ same. false≢true (sym apart ∙ eq-eqb filtering.table table same))))
+    (subst (λ (now : ℕ). told_by (cols_of state.config.tables filtering.table)
+    (key_rows state.rows filtering.table key) filtering.conds now verdict)
+    (sym changes.moment) (judged key)))
+
+all_elsewhere : (state later : State) (table : ℕ) → ChangesTable table state later
+    → (ws : List Watched) → list_any (λ (w : Watched). w.filter.table == table) ws ≡ false
+    → AreJudged state ws → AreJudged later ws
+all_elsewhere state later table changes [] none judged = tt
+all_elsewhere state later table changes (w ∷ ws) none judged =
+    by (w.filter.table == table) refl none
+    (λ more. all_elsewhere state later table changes ws more judged.1)
+  where
+    by : (b : Bool) → (w.filter.table == table) ≡ b
+        → (b || list_any (λ (w : Watched). w.filter.table == table) ws) ≡ false
+        → (list_any (λ (w : Watched). w.filter.table == table) ws ≡ false → AreJudged later ws)
+        → AreJudged later (w ∷ ws)
+    by true here none rest = cc
+    by false apart none rest = (
+      elsewhere_judged state later table changes w apart judged.0,
+      rest none,
+    )
+
+elsewhere_held : (state later : State) (table : ℕ) (ws : List Watched)
+    → ChangesTable table state later
+    → list_any (λ (f : Filter). f.table == table) later.config.filters ≡ false
+    → AreAll state ws → AreAll later ws
+elsewhere_held state later table ws changes none held =
+    let filters : map (λ (w : Watched). w.filter) ws ≡ later.config.filters =
+    held.filters ∙ ap (λ (c : Config). c.filters) (sym changes.config) in
+    record {
+      filters = filters;
+      judged = all_elsewhere state later table changes ws
+          (sym (any-map (λ (f : Filter). f.table == table) (λ (w : Watched). w.filter) ws)
+          ∙ ap (list_any (λ (f : Filter). f.table == table)) filters ∙ none) held.judged;
+    }
+
+pub elsewhere_kept : (state later : State) (table : ℕ) (standing : Option AllWatched)
+    → ChangesTable table state later
+    → list_any (λ (f : Filter). f.table == table) later.config.filters ≡ false
+    → AreHeld state standing → AreHeld later standing
+elsewhere_kept state later table None changes none held = tt
+elsewhere_kept state later table (Some watched) changes none held =
+    elsewhere_held state later table watched.filters changes none held
+
+-- ---- the rows of one key have
+-- what a call promises where it wasn't refused
+pub from_ok : {T E P : Type 0} (result : Result T E) → is_err result ≡ false → OnOk result P → P
+from_ok (Ok u) not ok = ok
+from_ok (Err e) not ok = cc
+
+pub touched_held : TouchKeepsVerdicts → (state later : State) (table : ℕ) (key : List ℕ)
+    (old new : List Watched) → ChangesKey table key state later
+    → AreTouched (sums_in later) (living_in later) table key later.moment old new
+    → AreAll state old → AreAll later new
+touched_held law state later table key old new changes touched held = record {
+  filters = same_filters old new touched ∙ held.filters
+      ∙ ap (λ (c : Config). c.filters) (sym changes.config);
+  judged = each old new touched held.judged;
+}
+  where
+    same_filters : (old new : List Watched)
+        → AreTouched (sums_in later) (living_in later) table key later.moment old new
+        → map (λ (w : Watched). w.filter) new ≡ map (λ (w : Watched). w.filter) old
+    same_filters [] [] touched = refl
+    same_filters [] (b ∷ new) touched = absurd touched
+    same_filters (a ∷ old) [] touched = absurd touched
+    same_filters (a ∷ old) (b ∷ new) touched =
+        λ i. touched.0.filter i ∷ same_filters old new touched.1 i
+
+    each : (old new : List Watched)
+        → AreTouched (sums_in later) (living_in later) table key later.moment old new
+        → AreJudged state old → AreJudged later new
+    each [] [] touched judged = tt
+    each [] (b ∷ new) touched judged = absurd touched
+    each (a ∷ old) [] touched judged = absurd touched
+    each (a ∷ old) (b ∷ new) touched judged = (
+      law (sums_in state) (sums_in later) (living_in state) (living_in later) table key later.moment
+          a b
+          (λ t other apart. (
+            (λ i. λ col u. worth_within (cols_of (changes.config i).tables t)
+                (changes.others t other apart i) col u),
+            (λ i. λ u. living_within (changes.others t other apart i) u),
+          ))
+          (subst (λ (t : ℕ). AreVerdicts (sums_in state) (living_in state) t a)
+          (sym changes.moment) judged.0)
+          touched.0,
+      each old new touched.1 judged.1,
+    )
+
+-- ---- the clock has gone on
+pub turned_held : MomentKeepsVerdicts → (state later : State) (old new : List Watched)
+    → IsSound state → IsSound later → GoesOn state later
+    → AreTurned (sums_in later) (living_in later) later.moment old new → AreAll state old
+    → AreAll later new
+turned_held law state later old new sound still goes turned held = record {
+  filters = same_filters old new turned ∙ held.filters
+      ∙ ap (λ (c : Config). c.filters) (sym goes.config);
+  judged = each old new turned held.judged;
+}
+  where
+    same_filters : (old new : List Watched)
+        → AreTurned (sums_in later) (living_in later) later.moment old new
+        → map (λ (w : Watched). w.filter) new ≡ map (λ (w : Watched). w.filter) old
+    same_filters [] [] turned = refl
+    same_filters [] (b ∷ new) turned = absurd turned
+    same_filters (a ∷ old) [] turned = absurd turned
+    same_filters (a ∷ old) (b ∷ new) turned =
+        λ i. turned.0.filter i ∷ same_filters old new turned.1 i
+
+    each : (old new : List Watched)
+        → AreTurned (sums_in later) (living_in later) later.moment old new
+        → AreJudged state old → AreJudged later new
+    each [] [] turned judged = tt
+    each [] (b ∷ new) turned judged = absurd turned
+    each (a ∷ old) [] turned judged = absurd turned
+    each (a ∷ old) (b ∷ new) turned judged = (
+      law (sums_in state) (sums_in later) (living_in state) (living_in later) state.moment
+          later.moment a b goes.up
+          (λ key s since. holds_in later a.filter key s still ∙ goes.holds a.filter key s since
+          ∙ sym (holds_in state a.filter key s sound))
+          judged.0 turned.0,
+      each old new turned.1 judged.1,
+    )
+
+-- ---- a filter is added
+none_live : (n : ℕ) → nat_lt 0 n ≡ false → n ≡ 0
+none_live n none = grind (arith, nat_tests)
+
+dead_now : (state : State) (table : ℕ) (key : List ℕ) (keys : List (Bor (List ℕ))) → IsSound state
+    → map (λ (k : Bor (List ℕ)). k.now) keys ≡ live_keys state.rows table state.moment
+    → is_among keys key ≡ false → living_in state table key state.moment ≡ 0
+dead_now state table key keys sound listed none =
+    let small : state.moment ≤ 2 ^ 62 = sound.in_range in
+    let now : within state.moment ≡ state.moment = omega arith in
+    let rows : Rows = key_rows state.rows table key in
+    let dead : has_live rows state.moment ≡ false =
+    sym (live-rows state.rows table key state.moment)
+    ∙ sym (live_keys-exact state.rows table state.moment key)
+    ∙ ap (is_key_among key) (sym listed)
+    ∙ any-map (same_key key) (λ (k : Bor (List ℕ)). k.now) keys ∙ none in
+    ap (living_of rows) now
+    ∙ none_live (living_of rows state.moment) (live_any rows state.moment ∙ dead)
+
+pub added_judged : AddGivesVerdicts → (state : State) (filtering : Filter)
+    (keys : List (Bor (List ℕ))) (w : Watched) → IsSound state
+    → map (λ (k : Bor (List ℕ)). k.now) keys ≡ live_keys state.rows filtering.table state.moment
+    → IsAdded (sums_in state) (living_in state) state.moment filtering keys w → IsJudged state w
+added_judged law state filtering keys w sound listed added =
+    law (sums_in state) (living_in state) state.moment filtering keys w
+    (λ key t up. living_falls (key_rows state.rows filtering.table key) state.moment t up)
+    (λ key none. dead_now state filtering.table key keys sound listed none)
+    added
+
+pub first_more : (state : State) (position : ℕ) (filtering : Filter) (old new : List Watched)
+    → position < length state.config.filters → filtering ≡ filter_of state position
+    → AreFirst state position old → IsOneMore state filtering old new
+    → AreFirst state (position + 1) new
+first_more state position filtering old new inside is first more = record {
+  filters = ap (map (λ (w : Watched). w.filter)) more.behind
+      ∙ map-append (λ (w : Watched). w.filter) old (more.added ∷ [])
+      ∙ (λ i. first.filters i ++ (more.filter ∙ is) i ∷ [])
+      ∙ sym (take_more state.config.filters position no_filter inside);
+  judged = subst (AreJudged state) (sym more.behind)
+      (all-append (IsJudged state) old (more.added ∷ []) first.judged (more.judged, tt));
+}
+
+pub first_all : (state : State) (count : ℕ) (ws : List Watched)
+    → length state.config.filters ≤ count → AreFirst state count ws → AreAll state ws
+first_all state count ws whole first = record {
+  filters = first.filters ∙ take_all count state.config.filters whole;
+  judged = first.judged;
+}
+
+pub more_first : (state later : State) (ws : List Watched) → HasMore state later → AreAll state ws
+    → AreFirst later (length ws) ws
+more_first state later ws more held =
+    let count : length ws ≡ length state.config.filters =
+    sym (length-map ws (λ (w : Watched). w.filter)) ∙ ap length held.filters in
+    record {
+      filters = held.filters ∙ sym more.filters
+          ∙ ap (λ n. take n later.config.filters) (sym count);
+      judged = all_judged (IsJudged state) (IsJudged later)
+          (still_judged state later more.tables more.rows more.moment) ws held.judged;
+    }
+
+-- ---- what the verdicts of one filter say
+pub count_held : (state : State) (watched : AllWatched) (position : ℕ)
+    → AreAll state watched.filters → position < length state.config.filters
+    → position < length watched.filters
+count_held state watched position held inside =
+    let count : length watched.filters ≡ length state.config.filters =
+    sym (length-map watched.filters (λ (w : Watched). w.filter)) ∙ ap length held.filters in
+    omega arith
+
+watch_at : AllWatched → ℕ → Watched
+watch_at watched position = get_or watched.filters position (unheld nothing)
+
+filter_at : (state : State) (watched : AllWatched) (position : ℕ) → AreAll state watched.filters
+    → position < length state.config.filters
+    → (watch_at watched position).filter ≡ filter_of state position
+unfolding watch_at
+filter_at state watched position held inside =
+    sym (get_or-map (λ (w : Watched). w.filter) watched.filters position (unheld nothing) no_filter
+    (count_held state watched position held inside))
+    ∙ ap (λ (fs : List Filter). get_or fs position no_filter) held.filters
+
+judged_at : (state : State) (watched : AllWatched) (position : ℕ) → AreAll state watched.filters
+    → position < length state.config.filters → IsJudged state (watch_at watched position)
+unfolding watch_at
+judged_at state watched position held inside =
+    All-from_recursion (IsJudged state) watched.filters held.judged position (unheld nothing)
+    (count_held state watched position held inside)
+
+pub kept_set : (state : State) (watched : AllWatched) (position : ℕ) (keys : List (List ℕ))
+    → IsSound state → AreAll state watched.filters → position < length state.config.filters
+    → AreKeysOf (λ key. (verdict_at (kept_of watched position) key).holds) keys
+    → keys ≡ set_at state (filter_of state position) state.moment
+unfolding watch_at
+kept_set state watched position keys sound held inside are =
+    let filtering : Filter = filter_of state position in
+    only-keys (λ key. holds state filtering key state.moment) keys
+    (set_at state filtering state.moment)
+    (record {
+      in_order = are.in_order;
+      exact = λ key. are.exact key ∙ (judged_at state watched position held inside key).holds
+          ∙ holds_in state (watch_at watched position).filter key state.moment sound
+          ∙ ap (λ (f : Filter). holds state f key state.moment)
+          (filter_at state watched position held inside);
+    })
+    (held-keys state filtering state.moment sound.ordered)
+
+-- the first change of the verdicts is the filter's
+quiet : (state : State) (filtering : Filter) (u : ℕ) → IsSound state
+    → (IsChanged (sums_in state) (living_in state) filtering state.moment u → ⊥) → (key : List ℕ)
+    → holds state filtering key u ≡ holds state filtering key state.moment
+quiet state filtering u sound never key =
+    sym (holds_in state filtering key u sound)
+    ∙ bool_same _ _ (λ differs. never (key, differs))
+    ∙ holds_in state filtering key state.moment sound
+
+next_from : (state : State) (filtering : Filter) (next : Option ℕ) → IsSound state
+    → IsFirstFrom (state.moment + 1)
+    (IsChanged (sums_in state) (living_in state) filtering state.moment) next
+    → IsNextChange state filtering next
+next_from state filtering None sound first =
+    no-change state filtering sound.ordered
+    (λ key t later. quiet state filtering t sound (first t (omega arith)) key)
+next_from state filtering (Some t) sound first =
+    let key : List ℕ = first.holds.0 in
+    let since : state.moment + 1 ≤ t = first.since in
+    first-change state filtering key t sound.ordered
+    (record {
+      later = omega arith;
+      differs = λ same. first.holds.1 (holds_in state filtering key t sound ∙ same
+          ∙ sym (holds_in state filtering key state.moment sound));
+      same_before = λ u later before. quiet state filtering u sound
+          (first.not_before u (omega arith) before) key;
+    })
+    (λ other u later before. quiet state filtering u sound
+    (first.not_before u (omega arith) before) other)
+
+pub kept_next : FirstChangeIsTheSets → (state : State) (watched : AllWatched) (position : ℕ)
+    (next : Option ℕ) → IsSound state → AreAll state watched.filters
+    → position < length state.config.filters → IsFirstChange (kept_of watched position) next
+    → IsNextChange state (filter_of state position) next
+unfolding watch_at
+kept_next law state watched position next sound held inside first =
+    subst (λ (f : Filter). IsNextChange state f next)
+    (filter_at state watched position held inside)
+    (next_from state (watch_at watched position).filter next sound
+    (law (sums_in state) (living_in state) state.moment (watch_at watched position) next
+    (judged_at state watched position held inside) first))

@@ -1,0 +1,45 @@
+use Rattle.std.proofs.Common.{◌≡◌, ◌<◌, ◌≤◌, length, sym, ap, subst, arith}
+use Rattle.agg_types.specs.declared.config.Filter.{Filter}
+use Rattle.fleet_model.specs.Answers.{no_filter}
+use Rattle.fleet_model.specs.State.{State}
+use Rattle.fleet_model.proofs.Checked.{conds_few}
+use Rattle.book.proofs.Verdicts.{first_all, first_more}
+use Rattle.book.proofs.held.add_missing.Goals as goal
+
+pub add_one-requires-clause-few : goal.add_one-requires-clause-few
+add_one-requires-clause-few c =
+    let count : length c.machine.inside.config.filters ≡ length c.args.machine.now.config.filters =
+    ap (λ (s : State). length s.config.filters) c.machine.view_is in
+    let end : c.len-position-end.result ≡ length c.machine.inside.config.filters =
+    c.len-position-end.ensures in
+    let test : c.loop-position.position < c.len-position-end.result = c.loop-position-test.true in
+    let inside : c.loop-position.position < length c.args.machine.now.config.filters =
+    omega arith in
+    subst (λ (f : Filter). length f.conds ≤ 4) (sym c.filter_at.ensures)
+    (conds_few c.args.machine.now.config c.loop-position.position no_filter inside
+    c.requires.sound.checked)
+
+pub loop-position-preserved : goal.loop-position-preserved
+loop-position-preserved c = λ first.
+    let count : length c.machine.inside.config.filters ≡ length c.args.machine.now.config.filters =
+    ap (λ (s : State). length s.config.filters) c.machine.view_is in
+    let end : c.len-position-end.result ≡ length c.machine.inside.config.filters =
+    c.len-position-end.ensures in
+    let test : c.loop-position.position < c.len-position-end.result = c.loop-position-test.true in
+    let inside : c.loop-position.position < length c.args.machine.now.config.filters =
+    omega arith in
+    first_more c.args.machine.now c.loop-position.position c.filter_at.result.now
+    c.loop-position.standing.filters c.add_one.new.standing.filters inside c.filter_at.ensures
+    (c.loop-position.invariant first) c.in_ok-add_one.ensures
+
+pub returns : goal.returns
+returns c = λ first.
+    let count : length c.machine.inside.config.filters ≡ length c.args.machine.now.config.filters =
+    ap (λ (s : State). length s.config.filters) c.machine.view_is in
+    let end : c.len-position-end.result ≡ length c.machine.inside.config.filters =
+    c.len-position-end.ensures in
+    let test : c.len-position-end.result ≤ c.loop-position.position = c.loop-position-test.false in
+    let whole : length c.args.machine.now.config.filters ≤ c.loop-position.position =
+    omega arith in
+    first_all c.args.machine.now c.loop-position.position c.loop-position.standing.filters whole
+    (c.loop-position.invariant first)
