@@ -10,7 +10,7 @@ use Rattle.std.proofs.lemmas.List.{take_more}
 use Rattle.std.proofs.lemmas.List.Elements.{All-from_recursion}
 use Rattle.std.specs.Borrow.{Bor}
 use Rattle.std.proofs.lemmas.Bool.{false≢true}
-use Rattle.std.proofs.Common.{◌≢◌, Bool, true, ◌&&◌, ◌||◌, ◌==◌, eq-eqb}
+use Rattle.std.proofs.Common.{Bool, true, ◌&&◌, ◌||◌, ◌==◌, eq-eqb}
 use Rattle.std.specs.List.{AllByRecursion, list_all, list_any}
 use Rattle.agg_types.specs.Op.{op_holds}
 use Rattle.agg_types.specs.declared.column.Col.{Col}

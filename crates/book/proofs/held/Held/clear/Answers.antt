@@ -1,4 +1,4 @@
-use Rattle.std.proofs.Common.{◌≡◌, false, List, sym, ap, ◌∙◌}
+use Rattle.std.proofs.Common.{◌≡◌, false, sym, ap, ◌∙◌}
 use Rattle.std.proofs.Common.{◌==◌}
 use Rattle.std.specs.List.{list_any}
 use Rattle.agg_types.specs.declared.config.Filter.{Filter}
