@@ -1,8 +1,9 @@
-//! The fleet that is served.
+//! The fleet that is served, and what a lens shows of it.
 
-use agg_types::{Col, Config, Items, KeyKind, Name, NoMemory, Shape};
+use agg_types::{Col, Config, Items, Key, KeyKind, Name, NoMemory, Shape};
 use anyhow::Result;
-use hub::Opening;
+use book::Summed;
+use hub::{Lens, Opening};
 use std::alloc::Global;
 
 /// The collector `agg` of two peers, with a table of addresses that stores gpc0.
@@ -31,4 +32,27 @@ pub fn opening(alloc: Global) -> Result<Opening> {
     let config = config(alloc)?;
     config.check()?;
     Ok(Opening::new(alloc, config, 0)?)
+}
+
+/// The sum of the address 10.0.0.1, as a look shows it: 0 where no peer holds it, none where there
+/// is no look.
+pub fn sum_in(alloc: Global, lens: &mut Lens) -> Result<Option<u64>, NoMemory>
+    ensures { lens.new.seen.of ≡ lens.old.seen.of }
+{
+    let key = Key::copy(alloc, &[10, 0, 0, 1])?;
+    Ok(lens
+        .look()
+        .map(|look| first_sum(look.book().summed(0, &key))))
+}
+
+/// The first sum of a row, or 0.
+fn first_sum(summed: Option<Summed>) -> u64 {
+    match summed {
+        None => 0,
+        Some(summed) => summed
+            .values
+            .as_slice()
+            .first()
+            .map_or(0, |sum| u64::try_from(*sum).unwrap_or(u64::MAX)),
+    }
 }
