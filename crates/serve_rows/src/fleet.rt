@@ -1,5 +1,7 @@
 //! The fleet that is served, and what a lens shows of it.
 
+ghost use Rattle.std.specs.Prelude.{◌≡◌};
+
 use agg_types::{Col, Config, Items, Key, KeyKind, Name, NoMemory, Shape};
 use anyhow::Result;
 use book::Summed;
@@ -40,9 +42,15 @@ pub fn sum_in(alloc: Global, lens: &mut Lens) -> Result<Option<u64>, NoMemory>
     ensures { lens.new.seen.of ≡ lens.old.seen.of }
 {
     let key = Key::copy(alloc, &[10, 0, 0, 1])?;
-    Ok(lens
-        .look()
-        .map(|look| first_sum(look.book().summed(0, &key))))
+    Ok(
+        lens.look()
+            .map(|look| first_sum(look.book().summed(0, &key))),
+    )
+}
+
+/// The moment that a lens shows. None where there is no look.
+pub fn moment_in(lens: &mut Lens) -> Option<u64> {
+    lens.look().map(|look| look.book().moment())
 }
 
 /// The first sum of a row, or 0.

@@ -3,40 +3,82 @@
 
 ghost use Rattle.std.specs.Prelude.{◌≡◌};
 
+mod admins;
 mod bytes;
 mod cases;
+mod everyone;
 mod fleet;
+mod lobby;
 mod memory;
+mod order;
 mod paper;
 mod peers;
+mod scene;
+mod timers;
 mod told;
 
 use anyhow::Result;
 use fleet::opening;
 use hub::{Hub, Naming, Opening};
-use memory::Step;
-use paper::EVEN;
-use peers::Case;
+use scene::{Scene, play, read_to, whole, written_to};
 use std::alloc::Global;
 use std::marker::Brand;
 use std::sync::Wait;
+use std::thread::Threads;
 
-fn alone<J: Naming, R: Print + Wait>(
+/// Does a scene over a hub of its own.
+fn stage<J: Naming, R: Print + Wait>(
     rt: &R,
     alloc: Global,
     opening: Opening,
-    case: Case,
+    scene: Scene,
 ) -> Result<()>
     requires { opening.of ≡ J.book }
 {
     let hub = Hub::<J, &R>::new(alloc, rt, opening, 4)?;
-    peers::row(rt, alloc, &hub, case)
+    play(rt, alloc, &hub, scene)
+}
+
+/// Serves all over a hub of its own.
+fn stage_all<J: Naming + Send + Sync, R: Print + Threads + Wait + Copy + Send + Sync>(
+    rt: &R,
+    alloc: Global,
+    opening: Opening,
+) -> Result<()>
+    requires { opening.of ≡ J.book }
+{
+    let hub = Hub::<J, &R>::new(alloc, rt, opening, 4)?;
+    everyone::row(rt, alloc, &hub)
+}
+
+/// The scenes, in their order.
+fn scenes(alloc: Global) -> Result<Vec<Scene>> {
+    let mut scenes = Vec::new(alloc);
+    for (title, steps) in cases::SESSIONS {
+        scenes.push(Scene::Session(whole(title, steps)))?;
+    }
+    for (title, reads) in cases::READS {
+        scenes.push(Scene::Next(read_to(title, &cases::TALK, reads)))?;
+        scenes.push(Scene::Admin(read_to(title, &cases::COMMANDS, reads)))?;
+    }
+    for (title, writes) in cases::WRITES {
+        scenes.push(Scene::Next(written_to(title, &cases::TALK, writes, 3)))?;
+    }
+    for (title, steps) in cases::ADMINS {
+        scenes.push(Scene::Admin(whole(title, steps)))?;
+    }
+    for (title, writes) in cases::WRITES {
+        scenes.push(Scene::Admin(written_to(title, &cases::COMMANDS, writes, 20)))?;
+    }
+    scenes.push(Scene::Leaving(600))?;
+    scenes.push(Scene::Timer(&[100, 200, 150, 300]))?;
+    scenes.push(Scene::Timer(&[70, 70, 70]))?;
+    Ok(scenes)
 }
 
 fn main(rt: HostRuntime) -> Result<()> {
-    for (title, steps) in cases::SESSIONS {
-        let case = Case { title, steps, reads: 1000, pen: EVEN, seated: true };
-        alone::<Brand, HostRuntime>(&rt, rt.alloc(), opening(rt.alloc())?, case)?;
+    for scene in scenes(rt.alloc())? {
+        stage::<Brand, HostRuntime>(&rt, rt.alloc(), opening(rt.alloc())?, scene)?;
     }
-    Ok(())
+    stage_all::<Brand, HostRuntime>(&rt, rt.alloc(), opening(rt.alloc())?)
 }

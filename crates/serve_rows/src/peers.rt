@@ -40,11 +40,7 @@ fn serve<J: Naming, H: Wait + Drop, R: Wait>(
 }
 
 /// A seat, if the case has one.
-fn seat_for<J: Naming, H: Wait + Drop, R: Wait>(
-    rt: &R,
-    hub: &Hub<J, H>,
-    case: Case,
-) -> Option<Pass>
+fn seat_for<J: Naming, H: Wait + Drop, R: Wait>(rt: &R, hub: &Hub<J, H>, case: Case) -> Option<Pass>
     ensures { IfSome result (λ p. SitsDown p × Follows hub.now p.seen) }
 {
     if case.seated { hub.seat(rt).ok() } else { None }

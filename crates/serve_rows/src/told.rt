@@ -82,6 +82,10 @@ impl Ending {
 
 impl Display for Ending {
     fn fmt<W: Write>(&self, f: &mut Formatter<W>) -> fmt::Result {
-        write!(f, "{}; last {:?}, left {:?}", self.how, self.last, self.left)
+        write!(
+            f,
+            "{}; last {:?}, left {:?}",
+            self.how, self.last, self.left
+        )
     }
 }
