@@ -15,10 +15,13 @@ pub const TALK: [Step; 3] = [
 /// Another peer's.
 pub const OTHER_TALK: [Step; 2] = [Step::Bytes(OTHER_HELLO), Step::Bytes(DEFINE_SEVEN)];
 
+/// A line that is no hello.
+pub const NO_HELLO: [Step; 1] = [Step::Bytes(b"Foo 2.1\n")];
+
 /// What each session sends, and what it shows.
-pub const SESSIONS: [(&str, &[Step]); 14] = [
+pub const SESSIONS: [(&str, &[Step]); 15] = [
     ("a right hello", &[Step::Bytes(HELLO)]),
-    ("no hello", &[Step::Bytes(b"Foo 2.1\n")]),
+    ("no hello", &NO_HELLO),
     ("another version", &[Step::Bytes(b"HAProxyS 3.0\n")]),
     ("another receiver", &[Step::Bytes(b"HAProxyS 2.1\nother\n")]),
     (
@@ -59,6 +62,15 @@ pub const SESSIONS: [(&str, &[Step]); 14] = [
             Step::Bytes(HELLO),
             Step::Bytes(DEFINE_FIVE),
             Step::Bytes(NO_FIELD),
+            Step::Bytes(SIX),
+        ],
+    ),
+    (
+        "an update, and then the peer's error",
+        &[
+            Step::Bytes(HELLO),
+            Step::Bytes(DEFINE_FIVE),
+            Step::Bytes(ERROR),
             Step::Bytes(SIX),
         ],
     ),

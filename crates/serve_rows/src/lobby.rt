@@ -33,6 +33,7 @@ pub struct Said<'a, R> {
     order: &'a Order,
     who: Who,
     pieces: &'static [&'static [u8]],
+    next: usize,
     has_turn: bool,
     reads: u64,
 }
@@ -56,10 +57,10 @@ impl<'a, R: Wait> Source for Said<'a, R> {
         }
         self.order.wait(self.rt, self.who);
         self.has_turn = true;
-        let Some((piece, behind)) = self.pieces.split_first() else {
+        let Some(piece) = self.pieces.get(self.next) else {
             return Ok(Came::End);
         };
-        self.pieces = behind;
+        self.next = self.next.saturating_add(1);
         Ok(copied(piece, buffer))
     }
 }
@@ -99,6 +100,7 @@ impl<'a, R> Lobby<'a, R> {
                 order: self.order,
                 who,
                 pieces,
+                next: 0,
                 has_turn: false,
                 reads: 0,
             },

@@ -1,4 +1,11 @@
-//! Workers over memory.
+//! What sessions, admins, timers and all of them together do, over connections in memory.
+//!
+//! Each scene is over a hub of its own. A line has the bytes that a worker wrote; `over`, what the
+//! row of 10.0.0.1 was in the fleet as each write was made; why the worker ended; and how many
+//! events the history has up to the last that it told (`last`), and up to its leave (`left`).
+//! The last lines are of two peers, one that nobody knows, an admin and a timer at once, each in a
+//! thread of its own, which go one at a time in a fixed order: one thread for all would wait for
+//! ever.
 #![tactic(auto)]
 
 ghost use Rattle.std.specs.Prelude.{◌≡◌};
@@ -20,7 +27,7 @@ mod told;
 use anyhow::Result;
 use fleet::opening;
 use hub::{Hub, Naming, Opening};
-use scene::{Scene, play, read_to, whole, written_to};
+use scene::{Scene, interrupted, play, read_to, unseated, whole, written_to};
 use std::alloc::Global;
 use std::marker::Brand;
 use std::sync::Wait;
@@ -57,6 +64,9 @@ fn scenes(alloc: Global) -> Result<Vec<Scene>> {
     for (title, steps) in cases::SESSIONS {
         scenes.push(Scene::Session(whole(title, steps)))?;
     }
+    scenes.push(Scene::Session(unseated("no seat", &cases::TALK)))?;
+    scenes.push(Scene::Session(unseated("no seat, no hello", &cases::NO_HELLO)))?;
+    scenes.push(Scene::Session(interrupted("interrupted writes", &cases::TALK, 3)))?;
     for (title, reads) in cases::READS {
         scenes.push(Scene::Next(read_to(title, &cases::TALK, reads)))?;
         scenes.push(Scene::Admin(read_to(title, &cases::COMMANDS, reads)))?;

@@ -1,7 +1,7 @@
 //! What is done over a hub of its own.
 
 use crate::memory::Step;
-use crate::paper::{EVEN, Pen};
+use crate::paper::EVEN;
 use crate::peers::Case;
 use crate::{admins, cases, peers, timers};
 use anyhow::Result;
@@ -37,28 +37,32 @@ pub fn whole(title: &'static str, steps: &'static [Step]) -> Case {
 
 /// A case of which so many reads work.
 pub fn read_to(title: &'static str, steps: &'static [Step], reads: u64) -> Case {
-    Case {
-        title,
-        steps,
-        reads,
-        pen: EVEN,
-        seated: true,
-    }
+    let mut case = whole(title, steps);
+    case.reads = reads;
+    case
 }
 
 /// A case of which so many writes are taken, each of at most so many bytes.
 pub fn written_to(title: &'static str, steps: &'static [Step], writes: u64, most: usize) -> Case {
-    Case {
-        title,
-        steps,
-        reads: 1000,
-        pen: Pen {
-            writes,
-            most,
-            interrupted: false,
-        },
-        seated: true,
-    }
+    let mut case = whole(title, steps);
+    case.pen.writes = writes;
+    case.pen.most = most;
+    case
+}
+
+/// A case each of whose writes takes at most so many bytes, and is interrupted before.
+pub fn interrupted(title: &'static str, steps: &'static [Step], most: usize) -> Case {
+    let mut case = whole(title, steps);
+    case.pen.interrupted = true;
+    case.pen.most = most;
+    case
+}
+
+/// A case without a seat.
+pub fn unseated(title: &'static str, steps: &'static [Step]) -> Case {
+    let mut case = whole(title, steps);
+    case.seated = false;
+    case
 }
 
 fn next<J: Naming, H: Wait + Drop, R: Wait + Print>(

@@ -12,15 +12,14 @@ use std::alloc::Global;
 use std::sync::Wait;
 use std::sync::atomic::{AtomicUsize, Ordering};
 
-/// The moments of a clock, one behind each rest; the last one stays. Its gate stops a timer behind
-/// the last rest.
+/// The moments of a clock, one behind each rest; then 0.
 #[derive(Drop)]
-struct Beats {
+struct Beats<'a> {
     moments: &'static [u64],
-    at: AtomicUsize,
+    at: &'a AtomicUsize,
 }
 
-impl Clock for Beats {
+impl<'a> Clock for Beats<'a> {
     ghost gives = { λ clock moment. Unit {0} };
 
     fn now(&self) -> u64 {
@@ -33,11 +32,18 @@ impl Clock for Beats {
     }
 }
 
-impl Gate for Beats {
+/// A gate that stops a timer behind so many rests.
+#[derive(Drop)]
+struct Stops<'a> {
+    count: usize,
+    at: &'a AtomicUsize,
+}
+
+impl<'a> Gate for Stops<'a> {
     fn turn(&self, _place: Place) {}
 
     fn stop(&self) -> bool {
-        self.at.load(Ordering::SeqCst) >= self.moments.len()
+        self.at.load(Ordering::SeqCst) >= self.count
     }
 }
 
@@ -45,13 +51,14 @@ impl Gate for Beats {
 fn run<J: Naming, H: Wait + Drop, R: Wait>(
     rt: &R,
     alloc: Global,
-    beats: &Beats,
+    beats: &Beats<'_>,
+    stops: &Stops<'_>,
     hub: &Hub<J, H>,
     pass: Pass,
 ) -> Result<Served, Faulted>
     requires { SitsDown pass × Follows hub.now pass.seen }
 {
-    run_timer(rt, alloc, beats, hub, pass, beats)
+    run_timer(rt, alloc, beats, hub, pass, stops)
 }
 
 /// Runs a timer over these moments, and tells how it ended. None without a seat.
@@ -61,12 +68,14 @@ fn tick<J: Naming, H: Wait + Drop, R: Wait>(
     hub: &Hub<J, H>,
     moments: &'static [u64],
 ) -> Option<Ending> {
-    let beats = Beats {
-        moments,
-        at: AtomicUsize::new(0),
+    let at = AtomicUsize::new(0);
+    let beats = Beats { moments, at: &at };
+    let stops = Stops {
+        count: moments.len(),
+        at: &at,
     };
     let pass = hub.seat(rt).ok()?;
-    let ended = run(rt, alloc, &beats, hub, pass);
+    let ended = run(rt, alloc, &beats, &stops, hub, pass);
     Some(Ending::of(&ended))
 }
 
