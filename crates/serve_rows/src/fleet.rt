@@ -1,7 +1,5 @@
 //! The fleet that is served, and what a lens shows of it.
 
-ghost use Rattle.std.specs.Prelude.{◌≡◌};
-
 use agg_types::{Col, Config, Items, Key, KeyKind, Name, NoMemory, Shape};
 use anyhow::Result;
 use book::Summed;
@@ -38,9 +36,7 @@ pub fn opening(alloc: Global) -> Result<Opening> {
 
 /// The sum of the address 10.0.0.1, as a look shows it: 0 where no peer holds it, none where there
 /// is no look.
-pub fn sum_in(alloc: Global, lens: &mut Lens) -> Result<Option<u64>, NoMemory>
-    ensures { lens.new.seen.of ≡ lens.old.seen.of }
-{
+pub fn sum_in(alloc: Global, lens: &mut Lens) -> Result<Option<u64>, NoMemory> {
     let key = Key::copy(alloc, &[10, 0, 0, 1])?;
     Ok(
         lens.look()
