@@ -81,8 +81,8 @@ fn scenes(alloc: Global) -> Result<Vec<Scene>> {
         scenes.push(Scene::Admin(written_to(title, &cases::COMMANDS, writes, 20)))?;
     }
     scenes.push(Scene::Leaving(600))?;
-    scenes.push(Scene::Timer(&[100, 200, 150, 300]))?;
-    scenes.push(Scene::Timer(&[70, 70, 70]))?;
+    scenes.push(Scene::Timer([100, 200, 150, 300]))?;
+    scenes.push(Scene::Timer([70, 70, 70, 70]))?;
     Ok(scenes)
 }
 

@@ -19,7 +19,7 @@ pub enum Scene {
     /// An admin, after the sessions of both peers.
     Admin(Case),
     /// A timer over these moments.
-    Timer(&'static [u64]),
+    Timer([u64; 4]),
     /// So many sessions one after the other, each with a read that fails.
     Leaving(u64),
 }

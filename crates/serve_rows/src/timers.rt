@@ -14,12 +14,12 @@ use std::sync::atomic::{AtomicUsize, Ordering};
 
 /// The moments of a clock, one behind each rest; then 0.
 #[derive(Drop)]
-struct Beats<'a> {
-    moments: &'static [u64],
-    at: &'a AtomicUsize,
+struct Beats {
+    moments: [u64; 4],
+    at: AtomicUsize,
 }
 
-impl<'a> Clock for Beats<'a> {
+impl Clock for Beats {
     ghost gives = { λ clock moment. Unit {0} };
 
     fn now(&self) -> u64 {
@@ -32,18 +32,19 @@ impl<'a> Clock for Beats<'a> {
     }
 }
 
-/// A gate that stops a timer behind so many rests.
+/// A gate that stops a timer behind four turns.
 #[derive(Drop)]
-struct Stops<'a> {
-    count: usize,
-    at: &'a AtomicUsize,
+struct Turns {
+    made: AtomicUsize,
 }
 
-impl<'a> Gate for Stops<'a> {
-    fn turn(&self, _place: Place) {}
+impl Gate for Turns {
+    fn turn(&self, _place: Place) {
+        self.made.fetch_add(1, Ordering::SeqCst);
+    }
 
     fn stop(&self) -> bool {
-        self.at.load(Ordering::SeqCst) >= self.count
+        self.made.load(Ordering::SeqCst) >= 4
     }
 }
 
@@ -51,14 +52,14 @@ impl<'a> Gate for Stops<'a> {
 fn run<J: Naming, H: Wait + Drop, R: Wait>(
     rt: &R,
     alloc: Global,
-    beats: &Beats<'_>,
-    stops: &Stops<'_>,
+    beats: &Beats,
+    turns: &Turns,
     hub: &Hub<J, H>,
     pass: Pass,
 ) -> Result<Served, Faulted>
     requires { SitsDown pass × Follows hub.now pass.seen }
 {
-    run_timer(rt, alloc, beats, hub, pass, stops)
+    run_timer(rt, alloc, beats, hub, pass, turns)
 }
 
 /// Runs a timer over these moments, and tells how it ended. None without a seat.
@@ -66,16 +67,17 @@ fn tick<J: Naming, H: Wait + Drop, R: Wait>(
     rt: &R,
     alloc: Global,
     hub: &Hub<J, H>,
-    moments: &'static [u64],
+    moments: [u64; 4],
 ) -> Option<Ending> {
-    let at = AtomicUsize::new(0);
-    let beats = Beats { moments, at: &at };
-    let stops = Stops {
-        count: moments.len(),
-        at: &at,
+    let beats = Beats {
+        moments,
+        at: AtomicUsize::new(0),
+    };
+    let turns = Turns {
+        made: AtomicUsize::new(0),
     };
     let pass = hub.seat(rt).ok()?;
-    let ended = run(rt, alloc, &beats, &stops, hub, pass);
+    let ended = run(rt, alloc, &beats, &turns, hub, pass);
     Some(Ending::of(&ended))
 }
 
@@ -84,7 +86,7 @@ pub fn row<J: Naming, H: Wait + Drop, R: Wait + Print>(
     rt: &R,
     alloc: Global,
     hub: &Hub<J, H>,
-    moments: &'static [u64],
+    moments: [u64; 4],
 ) -> Result<()> {
     let Ok(mut lens) = hub.lens(rt) else {
         return Err(anyhow!("no lens"));
