@@ -1,6 +1,6 @@
 //! Admins over memory.
 
-ghost use Rattle.std.specs.Prelude.{◌≡◌, IfOk, IfSome};
+ghost use Rattle.std.specs.Prelude.{◌≡◌, IfSome};
 ghost use Rattle.hub.specs.Posts.{Follows, SitsDown};
 
 use crate::memory::{Calm, Script, Watch};

@@ -1,7 +1,5 @@
 //! Doors in memory, through which two peers, one of no known name and an admin come.
 
-ghost use Rattle.std.specs.Prelude.{◌≡◌, ◌≤◌};
-
 use crate::bytes::{DEFINE_FIVE, DEFINE_SEVEN, HELLO, OTHER_HELLO, SIX};
 use crate::memory::copied;
 use crate::order::{Order, Who};

@@ -1,6 +1,5 @@
 //! Timers over memory.
 
-ghost use Rattle.std.specs.Prelude.{◌≡◌};
 ghost use Rattle.hub.specs.Posts.{Follows, SitsDown};
 
 use crate::fleet::moment_in;
