@@ -1,0 +1,109 @@
+//! `aggregator listen`, a peer and an admin over TCP on this machine.
+//!
+//! The collector runs in a thread, with the configuration on standard input. A peer says hello,
+//! defines a table and sends three updates, each once the one before it is acknowledged; then an
+//! admin asks for the table. What each is answered is printed. The collector doesn't end by itself:
+//! the program ends while it runs.
+#![tactic(auto)]
+
+use anyhow::{Result, anyhow};
+use std::alloc::Global;
+use std::io::{Read, Write};
+use std::net::{Ipv4Addr, Net, SocketAddr, SocketAddrV4, TcpListener, TcpStream};
+use std::time::{Clock, Duration};
+use std::{io, thread};
+
+/// What the peer sends, and how many bytes it is answered: a hello; a definition of the table `t`,
+/// of addresses with gpc0, whose rows never end, and behind it an update of 10.0.0.1 to 5; one of
+/// 10.0.0.2 to 9; and one of 10.0.0.1 to 6.
+const TALK: [(&[u8], usize); 4] = [
+    (b"HAProxyS 2.1\nagg\nlb1 1 1\n", 6),
+    (
+        b"\x0a\x82\x07\x01\x01t\x04\x04\x04\x00\x0a\x80\x09\x00\x00\x00\x01\x0a\x00\x00\x01\x05",
+        8,
+    ),
+    (b"\x0a\x81\x05\x0a\x00\x00\x02\x09", 8),
+    (b"\x0a\x81\x05\x0a\x00\x00\x01\x06", 8),
+];
+
+/// How often a connection is tried, and how long it rests in between, in ms.
+const TRIES: u64 = 100;
+
+const REST: u64 = 50;
+
+/// How long a read may wait, in ms.
+const LIMIT: u64 = 5000;
+
+/// An address of this machine whose port is free.
+fn free_address<R: Net<Listener = TcpListener, Stream = TcpStream>>(
+    rt: &R,
+) -> io::Result<SocketAddr> {
+    let any = SocketAddr::V4(SocketAddrV4::new(Ipv4Addr::LOCALHOST, 0));
+    let listener = TcpListener::bind(rt, any)?;
+    listener.local_addr()
+}
+
+/// Connects, once the collector listens.
+fn connect<R: Clock + Net<Listener = TcpListener, Stream = TcpStream>>(
+    rt: &R,
+    address: SocketAddr,
+) -> Result<TcpStream> {
+    for _ in 0..TRIES {
+        if let Ok(stream) = TcpStream::connect(rt, address) {
+            stream.set_read_timeout(Some(Duration::from_millis(LIMIT)))?;
+            return Ok(stream);
+        }
+        rt.sleep(Duration::from_millis(REST));
+    }
+    Err(anyhow!("nobody listens"))
+}
+
+/// Sends all of the bytes.
+fn send(stream: &TcpStream, bytes: &[u8]) -> io::Result<()> {
+    let mut stream = stream;
+    stream.write_all(bytes)
+}
+
+/// Sends a piece, and prints so many bytes of its answer.
+fn say(rt: &impl Print, stream: &TcpStream, piece: &[u8], count: usize) -> Result<()> {
+    send(stream, piece)?;
+    let mut answer = [0; 16];
+    let answer = &mut answer[..count.min(16)];
+    let mut from = stream;
+    from.read_exact(answer)?;
+    println!(rt; "{}", answer.escape_ascii())?;
+    Ok(())
+}
+
+/// Asks, and prints the answer up to its empty line.
+fn ask(rt: &impl Print, alloc: Global, stream: &TcpStream, line: &[u8]) -> Result<()> {
+    send(stream, line)?;
+    let mut answer = Vec::new(alloc);
+    let mut from = stream;
+    for _ in 0..TRIES {
+        let mut buffer = [0; 1000];
+        let count = from.read(&mut buffer)?;
+        answer.extend_from_slice(&buffer[..count])?;
+        if count == 0 || answer.as_slice().ends_with(b"\n\n") {
+            break;
+        }
+    }
+    io::writer(rt).write_all(answer.as_slice())?;
+    Ok(())
+}
+
+fn main(rt: HostRuntime) -> Result<()> {
+    let peers = free_address(&rt)?;
+    let admin = free_address(&rt)?;
+    let _collector = thread::spawn(&rt, move || {
+        let _ = listening::listen(&rt, peers, admin);
+    })?;
+    let peer = connect(&rt, peers)?;
+    for (piece, count) in TALK {
+        say(&rt, &peer, piece, count)?;
+    }
+    let asking = connect(&rt, admin)?;
+    ask(&rt, rt.alloc(), &asking, b"show table t\n")?;
+    ask(&rt, rt.alloc(), &asking, b"clear table t key 10.0.0.2\n")?;
+    ask(&rt, rt.alloc(), &asking, b"show table\n")
+}

@@ -1,0 +1,164 @@
+//! What peers send in each row.
+
+use crate::bytes::{
+    AT_ONCE, DEFINE_FIVE, DEFINE_SEVEN, ERROR, HELLO, NO_FIELD, OTHER_HELLO, RESYNC, SIX, TOO_LONG,
+};
+use crate::memory::Step;
+
+/// A peer's hello, an update in the next piece and another one.
+pub const TALK: [Step; 3] = [
+    Step::Bytes(HELLO),
+    Step::Bytes(DEFINE_FIVE),
+    Step::Bytes(SIX),
+];
+
+/// Another peer's.
+pub const OTHER_TALK: [Step; 2] = [Step::Bytes(OTHER_HELLO), Step::Bytes(DEFINE_SEVEN)];
+
+/// A line that is no hello.
+pub const NO_HELLO: [Step; 1] = [Step::Bytes(b"Foo 2.1\n")];
+
+/// What each session sends, and what it shows.
+pub const SESSIONS: [(&str, &[Step]); 15] = [
+    ("a right hello", &[Step::Bytes(HELLO)]),
+    ("no hello", &NO_HELLO),
+    ("another version", &[Step::Bytes(b"HAProxyS 3.0\n")]),
+    ("another receiver", &[Step::Bytes(b"HAProxyS 2.1\nother\n")]),
+    (
+        "an unknown sender",
+        &[Step::Bytes(b"HAProxyS 2.1\nagg\nlb9 1 1\n")],
+    ),
+    ("half a hello", &[Step::Bytes(b"HAProxyS 2.1\nag")]),
+    ("two updates", &TALK),
+    ("all in one piece", &[Step::Bytes(AT_ONCE)]),
+    (
+        "a resync request and its end",
+        &[Step::Bytes(HELLO), Step::Bytes(RESYNC)],
+    ),
+    (
+        "silence for 2,999 ms",
+        &[Step::Bytes(HELLO), Step::Silent(2999)],
+    ),
+    (
+        "silence for 3,000 ms, and on to 4,999",
+        &[Step::Bytes(HELLO), Step::Silent(3000), Step::Silent(4999)],
+    ),
+    (
+        "silence for 5,000 ms",
+        &[
+            Step::Bytes(HELLO),
+            Step::Silent(3000),
+            Step::Silent(5000),
+            Step::Bytes(DEFINE_FIVE),
+        ],
+    ),
+    (
+        "too long a message",
+        &[Step::Bytes(HELLO), Step::Bytes(TOO_LONG), Step::Bytes(SIX)],
+    ),
+    (
+        "an update, and then a definition of nothing",
+        &[
+            Step::Bytes(HELLO),
+            Step::Bytes(DEFINE_FIVE),
+            Step::Bytes(NO_FIELD),
+            Step::Bytes(SIX),
+        ],
+    ),
+    (
+        "an update, and then the peer's error",
+        &[
+            Step::Bytes(HELLO),
+            Step::Bytes(DEFINE_FIVE),
+            Step::Bytes(ERROR),
+            Step::Bytes(SIX),
+        ],
+    ),
+];
+
+/// A line of more than 4,096 bytes, that ends.
+const LONG: [u8; 5000] = [b'x'; 5000];
+
+/// What an admin sends behind the sessions of both peers.
+pub const ADMINS: [(&str, &[Step]); 11] = [
+    (
+        "two commands in one piece",
+        &[Step::Bytes(b"show table\nshow table t\n")],
+    ),
+    (
+        "two commands in three pieces",
+        &[
+            Step::Bytes(b"show ta"),
+            Step::Bytes(b"ble\nsh"),
+            Step::Bytes(b"ow table t\n"),
+        ],
+    ),
+    (
+        "a command that hasn't ended",
+        &[Step::Bytes(b"show table\nclear table t")],
+    ),
+    (
+        "a clear",
+        &[Step::Bytes(b"clear table t key 10.0.0.1\nshow table t\n")],
+    ),
+    (
+        "a filter",
+        &[Step::Bytes(b"add filter f t data.gpc0 ge 13\nshow filter f\nadd filter f t x\n")],
+    ),
+    (
+        "a filter, a clear behind it",
+        &[
+            Step::Bytes(b"add filter f t data.gpc0 ge 13\nclear table t\n"),
+            Step::Bytes(b"show filter f\n"),
+        ],
+    ),
+    ("no commands", &[Step::Bytes(b"\nx\n\r\nshow table x\n")]),
+    ("a CR before its LF", &[Step::Bytes(b"show table\r\n")]),
+    (
+        "a long line",
+        &[Step::Bytes(&LONG), Step::Bytes(b"\nshow table\n")],
+    ),
+    ("19 reads of nothing before a command", &NINETEEN),
+    ("20 reads of nothing before a command", &TWENTY),
+];
+
+const NOTHING: Step = Step::Silent(0);
+
+const SHOW: Step = Step::Bytes(b"show table\n");
+
+const NINETEEN: [Step; 20] = [
+    NOTHING, NOTHING, NOTHING, NOTHING, NOTHING, NOTHING, NOTHING, NOTHING, NOTHING, NOTHING,
+    NOTHING, NOTHING, NOTHING, NOTHING, NOTHING, NOTHING, NOTHING, NOTHING, NOTHING, SHOW,
+];
+
+const TWENTY: [Step; 21] = [
+    NOTHING, NOTHING, NOTHING, NOTHING, NOTHING, NOTHING, NOTHING, NOTHING, NOTHING, NOTHING,
+    NOTHING, NOTHING, NOTHING, NOTHING, NOTHING, NOTHING, NOTHING, NOTHING, NOTHING, NOTHING, SHOW,
+];
+
+/// The reads that work before one fails.
+pub const READS: [(&str, u64); 4] = [
+    ("read 1 fails", 0),
+    ("read 2 fails", 1),
+    ("read 3 fails", 2),
+    ("read 4 fails", 3),
+];
+
+/// The writes that work before one fails.
+pub const WRITES: [(&str, u64); 8] = [
+    ("write 1 fails", 0),
+    ("write 2 fails", 1),
+    ("write 3 fails", 2),
+    ("write 4 fails", 3),
+    ("write 5 fails", 4),
+    ("write 6 fails", 5),
+    ("write 7 fails", 6),
+    ("write 8 fails", 7),
+];
+
+/// What an admin sends whose reads and writes fail.
+pub const COMMANDS: [Step; 3] = [
+    Step::Bytes(b"show table\n"),
+    Step::Bytes(b"clear table t\nshow ta"),
+    Step::Bytes(b"ble\n"),
+];

@@ -1,0 +1,120 @@
+//! A connection and a clock in memory.
+
+ghost use Rattle.std.specs.Prelude.{◌≡◌, ◌≤◌, Ok};
+ghost use Rattle.serve.specs.Sources.{IsWithin};
+
+use serve::{Came, Clock, Gate, Place, ReadFailed, Source};
+use std::sync::atomic::{AtomicU64, Ordering};
+
+/// What a read of a script gives.
+#[derive(Clone, Copy)]
+pub enum Step {
+    /// These bytes.
+    Bytes(&'static [u8]),
+    /// Nothing, and the watch then shows this moment.
+    Silent(u64),
+}
+
+/// The moments of a test, in ms: what its script says.
+#[derive(Drop)]
+pub struct Watch {
+    moment: AtomicU64,
+}
+
+impl Watch {
+    /// A watch at 0.
+    pub fn new() -> Watch {
+        Watch {
+            moment: AtomicU64::new(0),
+        }
+    }
+}
+
+impl Clock for Watch {
+    ghost gives = { λ clock moment. Unit {0} };
+
+    fn now(&self) -> u64 {
+        self.moment.load(Ordering::SeqCst)
+    }
+
+    fn rest(&self) {}
+}
+
+/// What a peer or an admin sends: a step at each read, and then the end, until a read fails.
+#[derive(Drop)]
+pub struct Script<'a> {
+    steps: &'a [Step],
+    whole: u64,
+    watch: &'a Watch,
+    reads: u64,
+    failed: u64,
+    ghost fewer: { failed ≤ reads },
+}
+
+impl<'a> Script<'a> {
+    /// A script of which nothing was read. So many reads work, and then one fails.
+    pub fn new(steps: &'a [Step], whole: u64, watch: &'a Watch) -> Script<'a>
+        ensures { result.reads ≡ 0 }
+    {
+        Script {
+            steps,
+            whole,
+            watch,
+            reads: 0,
+            failed: 0,
+        }
+    }
+}
+
+impl<'a> Source for Script<'a> {
+    ghost use Rattle.std.specs.Prelude.{None};
+
+    ghost reads = { λ s. s.reads };
+
+    ghost failed = { λ s. s.failed };
+
+    ghost given = { λ s. None };
+
+    fn read(&mut self, buffer: &mut [u8]) -> Result<Came, ReadFailed> {
+        self.reads += 1;
+        if self.reads > self.whole {
+            self.failed += 1;
+            return Err(ReadFailed);
+        }
+        let Some((step, behind)) = self.steps.split_first() else {
+            return Ok(Came::End);
+        };
+        self.steps = behind;
+        match *step {
+            Step::Bytes(bytes) => Ok(copied(bytes, buffer)),
+            Step::Silent(moment) => {
+                self.watch.moment.store(moment, Ordering::SeqCst);
+                Ok(Came::Nothing)
+            }
+        }
+    }
+}
+
+/// Puts bytes at the front of a buffer, as far as there is room.
+pub fn copied(bytes: &[u8], buffer: &mut [u8]) -> Came
+    ensures { IsWithin (Ok result) buffer.new }
+{
+    let count = bytes.len().min(buffer.len());
+    if count == 0 {
+        return Came::Nothing;
+    }
+    buffer[..count].copy_from_slice(&bytes[..count]);
+    Came::Bytes(count)
+}
+
+/// A gate that lets all pass and tells nothing.
+#[derive(Clone, Copy)]
+pub struct Calm;
+
+impl Gate for Calm {
+    fn turn(&self, _place: Place) {}
+
+    fn stop(&self) -> bool {
+        false
+    }
+}

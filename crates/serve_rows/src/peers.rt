@@ -1,0 +1,108 @@
+//! Sessions over memory.
+
+ghost use Rattle.std.specs.Prelude.{◌≡◌, IfSome};
+ghost use Rattle.hub.specs.Posts.{Follows, SitsDown};
+
+use crate::fleet::sum_in;
+use crate::memory::{Calm, Script, Step, Watch};
+use crate::paper::{Paper, Pen};
+use crate::told::Ending;
+use anyhow::Result;
+use hub::{Hub, Lens, Naming, Pass};
+use serve::{Faulted, Served, serve_session};
+use std::alloc::Global;
+use std::sync::Wait;
+
+/// A connection: what it sends, how many of its reads work, and how it takes what it is sent.
+#[derive(Clone, Copy)]
+pub struct Case {
+    pub title: &'static str,
+    pub steps: &'static [Step],
+    pub reads: u64,
+    pub pen: Pen,
+    pub seated: bool,
+}
+
+/// Serves a session.
+fn serve<J: Naming, H: Wait + Drop, R: Wait>(
+    rt: &R,
+    alloc: Global,
+    source: &mut Script<'_>,
+    writer: &mut Paper,
+    watch: &Watch,
+    hub: &Hub<J, H>,
+    pass: Option<Pass>,
+) -> Result<Served, Faulted>
+    requires pass { IfSome pass (λ p. SitsDown p × Follows hub.now p.seen) }
+    requires reads { source.old.reads ≡ 0 }
+{
+    serve_session(rt, alloc, source, writer, watch, hub, pass, &Calm)
+}
+
+/// A seat, if the case has one.
+fn seat_for<J: Naming, H: Wait + Drop, R: Wait>(rt: &R, hub: &Hub<J, H>, case: Case) -> Option<Pass>
+    ensures { IfSome result (λ p. SitsDown p × Follows hub.now p.seen) }
+{
+    if case.seated { hub.seat(rt).ok() } else { None }
+}
+
+/// Serves a session, and tells how it ended.
+pub fn talk<J: Naming, H: Wait + Drop, R: Wait>(
+    rt: &R,
+    alloc: Global,
+    hub: &Hub<J, H>,
+    case: Case,
+    paper: &mut Paper,
+) -> Ending {
+    let watch = Watch::new();
+    let mut source = Script::new(case.steps, case.reads, &watch);
+    let pass = seat_for(rt, hub, case);
+    let ended = serve(rt, alloc, &mut source, paper, &watch, hub, pass);
+    Ending::of(&ended)
+}
+
+/// Prints what was written, what the row of 10.0.0.1 was at each write, and how it ended.
+pub fn say(rt: &impl Print, title: &str, paper: &Paper, ending: Ending) -> Result<()> {
+    let written = paper.as_slice().escape_ascii();
+    println!(rt; "{title}: [{written}] over {:?}; {ending}", paper.sums())?;
+    Ok(())
+}
+
+/// Prints what the row of 10.0.0.1 is.
+pub fn say_sum(rt: &impl Print, alloc: Global, lens: Option<Lens>) -> Result<()> {
+    if let Some(mut lens) = lens {
+        let sum = sum_in(alloc, &mut lens)?;
+        println!(rt; "  10.0.0.1 has {}", sum.unwrap_or(0))?;
+    }
+    Ok(())
+}
+
+/// Serves a session over a paper that looks.
+pub fn row<J: Naming, H: Wait + Drop, R: Wait + Print>(
+    rt: &R,
+    alloc: Global,
+    hub: &Hub<J, H>,
+    case: Case,
+) -> Result<()> {
+    let mut paper = Paper::new(alloc, case.pen, hub.lens(rt).ok());
+    let ending = talk(rt, alloc, hub, case, &mut paper);
+    say(rt, case.title, &paper, ending)
+}
+
+/// How many of so many sessions had a seat, and left it.
+pub fn leavers<J: Naming, H: Wait + Drop, R: Wait>(
+    rt: &R,
+    alloc: Global,
+    hub: &Hub<J, H>,
+    case: Case,
+    count: u64,
+) -> u64 {
+    let mut left = 0u64;
+    for _ in 0..count {
+        let mut paper = Paper::new(alloc, case.pen, None);
+        if talk(rt, alloc, hub, case, &mut paper).has_left() {
+            left = left.saturating_add(1);
+        }
+    }
+    left
+}

@@ -1,0 +1,117 @@
+//! What is done over a hub of its own.
+
+use crate::memory::Step;
+use crate::paper::EVEN;
+use crate::peers::Case;
+use crate::{admins, cases, peers, timers};
+use anyhow::Result;
+use hub::{Hub, Naming};
+use std::alloc::Global;
+use std::sync::Wait;
+
+/// What is done over a hub.
+#[derive(Clone, Copy)]
+pub enum Scene {
+    /// A session.
+    Session(Case),
+    /// A session of another peer, after one that may fail.
+    Next(Case),
+    /// An admin, after the sessions of both peers.
+    Admin(Case),
+    /// A timer over these moments.
+    Timer([u64; 4]),
+    /// So many sessions one after the other, each with a read that fails.
+    Leaving(u64),
+}
+
+/// A case without a fault.
+pub fn whole(title: &'static str, steps: &'static [Step]) -> Case {
+    Case {
+        title,
+        steps,
+        reads: 1000,
+        pen: EVEN,
+        seated: true,
+    }
+}
+
+/// A case of which so many reads work.
+pub fn read_to(title: &'static str, steps: &'static [Step], reads: u64) -> Case {
+    let mut case = whole(title, steps);
+    case.reads = reads;
+    case
+}
+
+/// A case of which so many writes are taken, each of at most so many bytes.
+pub fn written_to(title: &'static str, steps: &'static [Step], writes: u64, most: usize) -> Case {
+    let mut case = whole(title, steps);
+    case.pen.writes = writes;
+    case.pen.most = most;
+    case
+}
+
+/// A case each of whose writes takes at most so many bytes, and is interrupted before.
+pub fn interrupted(title: &'static str, steps: &'static [Step], most: usize) -> Case {
+    let mut case = whole(title, steps);
+    case.pen.interrupted = true;
+    case.pen.most = most;
+    case
+}
+
+/// A case without a seat.
+pub fn unseated(title: &'static str, steps: &'static [Step]) -> Case {
+    let mut case = whole(title, steps);
+    case.seated = false;
+    case
+}
+
+fn next<J: Naming, H: Wait + Drop, R: Wait + Print>(
+    rt: &R,
+    alloc: Global,
+    hub: &Hub<J, H>,
+    case: Case,
+) -> Result<()> {
+    peers::row(rt, alloc, hub, case)?;
+    peers::say_sum(rt, alloc, hub.lens(rt).ok())?;
+    peers::row(rt, alloc, hub, whole("  the next peer", &cases::OTHER_TALK))?;
+    peers::say_sum(rt, alloc, hub.lens(rt).ok())
+}
+
+fn admin<J: Naming, H: Wait + Drop, R: Wait + Print>(
+    rt: &R,
+    alloc: Global,
+    hub: &Hub<J, H>,
+    case: Case,
+) -> Result<()> {
+    let _ = peers::leavers(rt, alloc, hub, whole("", &cases::TALK), 1);
+    let _ = peers::leavers(rt, alloc, hub, whole("", &cases::OTHER_TALK), 1);
+    admins::row(rt, alloc, hub, case)?;
+    peers::say_sum(rt, alloc, hub.lens(rt).ok())
+}
+
+fn leaving<J: Naming, H: Wait + Drop, R: Wait + Print>(
+    rt: &R,
+    alloc: Global,
+    hub: &Hub<J, H>,
+    count: u64,
+) -> Result<()> {
+    let left = peers::leavers(rt, alloc, hub, read_to("", &cases::TALK, 1), count);
+    println!(rt; "of {count} sessions whose second read fails {left} had a seat and left it")?;
+    Ok(())
+}
+
+/// Does a scene.
+pub fn play<J: Naming, H: Wait + Drop, R: Wait + Print>(
+    rt: &R,
+    alloc: Global,
+    hub: &Hub<J, H>,
+    scene: Scene,
+) -> Result<()> {
+    match scene {
+        Scene::Session(case) => peers::row(rt, alloc, hub, case),
+        Scene::Next(case) => next(rt, alloc, hub, case),
+        Scene::Admin(case) => admin(rt, alloc, hub, case),
+        Scene::Timer(moments) => timers::row(rt, alloc, hub, moments),
+        Scene::Leaving(count) => leaving(rt, alloc, hub, count),
+    }
+}
