@@ -65,12 +65,17 @@ impl Proxies {
             answered: 0,
         };
         for peer in 0..load.peers {
-            let conn = proxies.fleet.step(&Step::Connect)?.conn;
-            proxies.conns.push(conn)?;
-            let opening = load.opening(alloc, peer)?;
-            proxies.send_piece(alloc, conn, opening.as_slice())?;
+            proxies.call(alloc, load, peer)?;
         }
         Ok(proxies)
+    }
+
+    /// Lets one more proxy call, and say what it says first.
+    fn call(&mut self, alloc: Global, load: Load, peer: u8) -> Result<()> {
+        let conn = self.fleet.step(&Step::Connect)?.conn;
+        self.conns.push(conn)?;
+        let opening = load.opening(alloc, peer)?;
+        self.send_piece(alloc, conn, opening.as_slice())
     }
 
     /// Sends one piece of bytes, and counts the bytes that it is answered.
