@@ -32,6 +32,7 @@ rank most t gpc0 20
 """
 PEERS = 8
 KEYS = 20000
+LONG = 4  # seconds; a peer is ended that was silent for 5
 
 
 def text_of(number):
@@ -51,9 +52,13 @@ class Sender:
         head = put_int(1) + put_int(1) + b"t" + put_int(4) + put_int(4) + put_int(1 << 2)
         self.peer.socket.setblocking(True)
         self.peer.socket.sendall(message(DEFINE, head + put_int(0)))
+        self.spoke = time.monotonic()
 
     def push(self, draw):
-        """Sends some updates, and waits for their acknowledgement."""
+        """Sends some updates, and waits for their acknowledgement. One that was put aside for so long that the
+        collector may have ended it for its silence calls again first, as a proxy does."""
+        if time.monotonic() - self.spoke > LONG:
+            self.lose()
         out = bytearray()
         for _ in range(draw.randrange(1, 3000)):
             key, value = draw.randrange(KEYS), draw.randrange(600)
@@ -61,6 +66,7 @@ class Sender:
             payload = struct.pack(">I", self.sent) + struct.pack(">I", 0x0A000000 + key) + put_int(value)
             out += message(UPDATE, payload)
         self.peer.push(bytes(out), self.sent)
+        self.spoke = time.monotonic()
 
     def lose(self):
         """Is lost and comes back."""
