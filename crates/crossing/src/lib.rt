@@ -18,7 +18,7 @@ mod falls;
 mod first;
 mod values;
 
-pub use change::{Part, next_change};
+pub use change::{Part, next_change, next_change_from};
 pub use falls::{Falls, Meter};
 pub use first::first_below;
 pub use values::{Measured, Of, Values};

@@ -8,9 +8,11 @@ returns-in-len1-up-clause-covers g t c d since any differs =
     elim (first_or_others value d c.args.rest.now c.part-item.result c.part-item.is
     (omega arith) any) [
       | inl turns ↦ elim (c.turns-first.ensures.turns d since turns) [
-        | inl first ↦ c.soonest.ensures.kept (suc d) (c.sooner-found-in-len1-up.ensures.kept (suc d)
+        | inl by ↦ c.soonest.ensures.kept (suc d) (c.sooner-found-in-len1-up.ensures.kept (suc d)
+            (c.sooner-found.ensures.kept (suc d) by))
+        | inr (inl first) ↦ c.soonest.ensures.kept (suc d) (c.sooner-found-in-len1-up.ensures.kept (suc d)
             (of_found _ _ (suc d) first c.sooner-found.ensures.turn (omega arith) differs))
-        | inr second ↦ c.soonest.ensures.kept (suc d)
+        | inr (inr second) ↦ c.soonest.ensures.kept (suc d)
             (of_found _ _ (suc d) second c.sooner-found-in-len1-up.ensures.turn
             (omega arith) differs)
       ]

@@ -10,7 +10,7 @@ loop-high-init g c = record {
     not_yet = c.requires.not_yet;
     below = c.requires.below;
   };
-  within = λ soon. record { left = 33; length = omega arith; enough = omega arith };
+  within = λ halvings span. record { left = halvings; length = omega arith; enough = omega arith };
 }
 
 pub loop-high-preserved-then-read-bound : goal.loop-high-preserved-then-read-bound
@@ -21,8 +21,8 @@ loop-high-preserved-then-read-bound g c = record {
     not_yet = c.loop-high.invariant.span.not_yet;
     below = omega arith;
   };
-  within = λ soon. one_read _ _ _ _ _ (omega arith) c.loop-high-test.true (omega arith)
-      (c.loop-high.invariant.within soon);
+  within = λ halvings span. one_read _ _ _ _ _ (omega arith) c.loop-high-test.true (omega arith)
+      (c.loop-high.invariant.within halvings span);
 }
 
 pub loop-high-preserved : goal.loop-high-preserved
@@ -33,6 +33,6 @@ loop-high-preserved g c = record {
     not_yet = omega arith;
     below = c.loop-high.invariant.span.below;
   };
-  within = λ soon. one_read _ _ _ _ _ (omega arith) c.loop-high-test.true (omega arith)
-      (c.loop-high.invariant.within soon);
+  within = λ halvings span. one_read _ _ _ _ _ (omega arith) c.loop-high-test.true (omega arith)
+      (c.loop-high.invariant.within halvings span);
 }

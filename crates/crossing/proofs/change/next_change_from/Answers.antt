@@ -1,7 +1,7 @@
 use Rattle.std.proofs.Common.{inl, inr}
 use Rattle.crossing.specs.Parts.{all_hold}
 use Rattle.crossing.proofs.Turning.{is_first_change, turn_or_same}
-use Rattle.crossing.proofs.change.next_change.Goals as goal
+use Rattle.crossing.proofs.change.next_change_from.Goals as goal
 
 pub returns-clause-next : goal.returns-clause-next
 returns-clause-next g c =
