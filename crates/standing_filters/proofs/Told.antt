@@ -47,17 +47,24 @@ dead_never living met now t dead falls =
     let none : living t ≡ 0 = omega arith in
     rw none refl
 
+-- what is asked first may be asked behind another
+behind : (a b c : Bool) → (a && (b && c)) ≡ (b && (a && c))
+behind true b c = refl
+behind false true c = refl
+behind false false c = refl
+
 one_list : (xs : List Cond) (d0 : Cond) → length xs ≡ 1 → xs ≡ get_or xs 0 d0 ∷ []
 one_list [] d0 is = absurd (omega arith)
 one_list (x0 ∷ []) d0 is = refl
 one_list (x0 ∷ x1 ∷ xs) d0 is = absurd (omega arith)
 
 pub one_hold : (f : Cond → Bool) (xs : List Cond) (d0 : Cond) (l pl p0 : Bool) → length xs ≡ 1
-    → pl ≡ l → p0 ≡ f (get_or xs 0 d0) → (l && list_all f xs) ≡ (pl && (p0 && true))
+    → pl ≡ l → p0 ≡ f (get_or xs 0 d0) → (l && list_all f xs) ≡ (p0 && (pl && true))
 one_hold f xs d0 l pl p0 is el e0 =
     ap (λ b. b && list_all f xs) (sym el)
     ∙ ap (λ ys. pl && list_all f ys) (one_list xs d0 is)
     ∙ ap (λ b. pl && (b && true)) (sym e0)
+    ∙ behind pl p0 true
 
 two_list : (xs : List Cond) (d0 d1 : Cond) → length xs ≡ 2
     → xs ≡ get_or xs 0 d0 ∷ get_or xs 1 d1 ∷ []
@@ -68,12 +75,14 @@ two_list (x0 ∷ x1 ∷ x2 ∷ xs) d0 d1 is = absurd (omega arith)
 
 pub two_hold : (f : Cond → Bool) (xs : List Cond) (d0 d1 : Cond) (l pl p0 p1 : Bool) → length xs ≡ 2
     → pl ≡ l → p0 ≡ f (get_or xs 0 d0) → p1 ≡ f (get_or xs 1 d1)
-    → (l && list_all f xs) ≡ (pl && (p0 && (p1 && true)))
+    → (l && list_all f xs) ≡ (p0 && (p1 && (pl && true)))
 two_hold f xs d0 d1 l pl p0 p1 is el e0 e1 =
     ap (λ b. b && list_all f xs) (sym el)
     ∙ ap (λ ys. pl && list_all f ys) (two_list xs d0 d1 is)
     ∙ ap (λ b. pl && (b && (f (get_or xs 1 d1) && true))) (sym e0)
     ∙ ap (λ b. pl && (p0 && (b && true))) (sym e1)
+    ∙ behind pl p0 (p1 && true)
+    ∙ ap (λ b. p0 && b) (behind pl p1 true)
 
 three_list : (xs : List Cond) (d0 d1 d2 : Cond) → length xs ≡ 3
     → xs ≡ get_or xs 0 d0 ∷ get_or xs 1 d1 ∷ get_or xs 2 d2 ∷ []
@@ -85,13 +94,16 @@ three_list (x0 ∷ x1 ∷ x2 ∷ x3 ∷ xs) d0 d1 d2 is = absurd (omega arith)
 
 pub three_hold : (f : Cond → Bool) (xs : List Cond) (d0 d1 d2 : Cond) (l pl p0 p1 p2 : Bool)
     → length xs ≡ 3 → pl ≡ l → p0 ≡ f (get_or xs 0 d0) → p1 ≡ f (get_or xs 1 d1)
-    → p2 ≡ f (get_or xs 2 d2) → (l && list_all f xs) ≡ (pl && (p0 && (p1 && (p2 && true))))
+    → p2 ≡ f (get_or xs 2 d2) → (l && list_all f xs) ≡ (p0 && (p1 && (p2 && (pl && true))))
 three_hold f xs d0 d1 d2 l pl p0 p1 p2 is el e0 e1 e2 =
     ap (λ b. b && list_all f xs) (sym el)
     ∙ ap (λ ys. pl && list_all f ys) (three_list xs d0 d1 d2 is)
     ∙ ap (λ b. pl && (b && (f (get_or xs 1 d1) && (f (get_or xs 2 d2) && true)))) (sym e0)
     ∙ ap (λ b. pl && (p0 && (b && (f (get_or xs 2 d2) && true)))) (sym e1)
     ∙ ap (λ b. pl && (p0 && (p1 && (b && true)))) (sym e2)
+    ∙ behind pl p0 (p1 && (p2 && true))
+    ∙ ap (λ b. p0 && b) (behind pl p1 (p2 && true))
+    ∙ ap (λ b. p0 && (p1 && b)) (behind pl p2 true)
 
 four_list : (xs : List Cond) (d0 d1 d2 d3 : Cond) → length xs ≡ 4
     → xs ≡ get_or xs 0 d0 ∷ get_or xs 1 d1 ∷ get_or xs 2 d2 ∷ get_or xs 3 d3 ∷ []
@@ -105,7 +117,7 @@ four_list (x0 ∷ x1 ∷ x2 ∷ x3 ∷ x4 ∷ xs) d0 d1 d2 d3 is = absurd (omega
 pub four_hold : (f : Cond → Bool) (xs : List Cond) (d0 d1 d2 d3 : Cond) (l pl p0 p1 p2 p3 : Bool)
     → length xs ≡ 4 → pl ≡ l → p0 ≡ f (get_or xs 0 d0) → p1 ≡ f (get_or xs 1 d1)
     → p2 ≡ f (get_or xs 2 d2) → p3 ≡ f (get_or xs 3 d3)
-    → (l && list_all f xs) ≡ (pl && (p0 && (p1 && (p2 && (p3 && true)))))
+    → (l && list_all f xs) ≡ (p0 && (p1 && (p2 && (p3 && (pl && true)))))
 four_hold f xs d0 d1 d2 d3 l pl p0 p1 p2 p3 is el e0 e1 e2 e3 =
     ap (λ b. b && list_all f xs) (sym el)
     ∙ ap (λ ys. pl && list_all f ys) (four_list xs d0 d1 d2 d3 is)
@@ -114,3 +126,7 @@ four_hold f xs d0 d1 d2 d3 l pl p0 p1 p2 p3 is el e0 e1 e2 e3 =
     ∙ ap (λ b. pl && (p0 && (b && (f (get_or xs 2 d2) && (f (get_or xs 3 d3) && true))))) (sym e1)
     ∙ ap (λ b. pl && (p0 && (p1 && (b && (f (get_or xs 3 d3) && true))))) (sym e2)
     ∙ ap (λ b. pl && (p0 && (p1 && (p2 && (b && true))))) (sym e3)
+    ∙ behind pl p0 (p1 && (p2 && (p3 && true)))
+    ∙ ap (λ b. p0 && b) (behind pl p1 (p2 && (p3 && true)))
+    ∙ ap (λ b. p0 && (p1 && b)) (behind pl p2 (p3 && true))
+    ∙ ap (λ b. p0 && (p1 && (p2 && b))) (behind pl p3 true)

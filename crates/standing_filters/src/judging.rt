@@ -9,7 +9,7 @@ ghost use Rattle.agg_types.specs.Op.{op_holds};
 ghost use Rattle.standing_filters.specs.Verdicts.{IsVerdict, IsTold, meets_at, out};
 
 use agg_types::{Cond, Filter, Key, Op};
-use crossing::{Falls, Measured, Meter, Of, Part, Values, next_change};
+use crossing::{Falls, Measured, Meter, Of, Part, Values, next_change_from};
 
 /// What is known of a filter and a key at a moment.
 #[derive(Clone, Copy, Debug, PartialEq, Eq)]
@@ -62,7 +62,8 @@ pub fn judge<V: Values>(
     )
 }
 
-// Judges a key of a table by up to four conditions.
+// Judges a key of a table by up to four conditions. That a row lives stands behind them, since most
+// keys that aren't held fail the conditions.
 fn judge_by<V: Values>(
     conds: &[Cond],
     table: usize,
@@ -81,25 +82,25 @@ fn judge_by<V: Values>(
     match conds {
         [a] => {
             let a = part_of(a, table, key, values);
-            tell(&[live, a], now, meter)
+            tell(&[a, live], now, meter)
         }
         [a, b] => {
             let a = part_of(a, table, key, values);
             let b = part_of(b, table, key, values);
-            tell(&[live, a, b], now, meter)
+            tell(&[a, b, live], now, meter)
         }
         [a, b, c] => {
             let a = part_of(a, table, key, values);
             let b = part_of(b, table, key, values);
             let c = part_of(c, table, key, values);
-            tell(&[live, a, b, c], now, meter)
+            tell(&[a, b, c, live], now, meter)
         }
         [a, b, c, d] => {
             let a = part_of(a, table, key, values);
             let b = part_of(b, table, key, values);
             let c = part_of(c, table, key, values);
             let d = part_of(d, table, key, values);
-            tell(&[live, a, b, c, d], now, meter)
+            tell(&[a, b, c, d, live], now, meter)
         }
         _ => tell(&[live], now, meter),
     }
@@ -159,7 +160,7 @@ fn tell<F: Falls>(parts: &[Part<F>], now: u64, meter: &mut Meter) -> Verdict
         None => OUT,
         Some(holds) => Verdict {
             holds,
-            next: next_change(parts, now, meter),
+            next: next_change_from(parts, now, holds, meter),
         },
     }
 }
