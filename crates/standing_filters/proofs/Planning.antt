@@ -126,6 +126,19 @@ committed due planned after kept new key verdict old exact is plan unplan become
     ∙ turned s x y h (λ here. ap (λ m. is_moment m e.0) (change_here kept key e.1 here ∙ sym is))
     ∙ sym (become key verdict kept new becomes e)
 
+-- a verdict on a key that had none: nothing is cancelled
+pub entered : (due after : Index) (kept new : Kept) (key : List ℕ) (verdict : Verdict)
+    → IsPlanOf kept due → kept_at kept key ≡ None → IsPlanned key None verdict.next due after
+    → Becomes key verdict kept new → IsPlanOf new after
+entered due after kept new key verdict exact none plan becomes =
+    committed due after after kept new key verdict None exact (sym (ap change_of none)) plan
+    (λ e. never (has_plan after e) (is_at (slice_cmp nat_cmp key) e.1)) becomes
+  where
+    never : (h s : Bool) → h ≡ (h && not (s && false))
+    never true true = refl
+    never true false = refl
+    never false s = refl
+
 cut : (s y h : Bool) → (s ≡ true → h ≡ y) → (h && not (s && (y && not false))) ≡ cond s false h
 cut true y h is = rw (is refl) (by y)
   where

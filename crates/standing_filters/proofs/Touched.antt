@@ -1,6 +1,10 @@
 -- What a touch of one filter makes of it.
-use Rattle.std.proofs.Common.{◌≡◌, ◌≢◌, ℕ, Bool, true, false, cond, List, Option, None, length}
-use Rattle.std.proofs.Common.{is_some, refl, sym, ap, ◌∙◌, subst, ◌≤◌}
+use Rattle.std.proofs.Common.{◌≡◌, ◌≢◌, ◌==◌, ◌||◌, ℕ, Bool, true, false, cond, List, [], ◌∷◌}
+use Rattle.std.proofs.Common.{Option, None, Some, length}
+use Rattle.std.proofs.Common.{is_some, refl, sym, ap, ◌∙◌, subst, ◌≤◌, Result, Ok, Err, OnErr}
+use Rattle.std.specs.Prelude.{OnOk, map, unwrap_or}
+use Rattle.std.specs.List.{list_any}
+use Rattle.std.proofs.lemmas.Bool.{eq-eqb, false≢true}
 use Rattle.std.specs.BTreeMap.{is_at}
 use Rattle.std.specs.Cmp.Lexicographic.{slice_cmp}
 use Rattle.std.specs.Ordering.{is_eq, nat_cmp}
@@ -11,10 +15,11 @@ use Rattle.standing_filters.specs.Plans.{AreWatches, Becomes, IsPlanned, IsUnpla
 use Rattle.standing_filters.specs.Plans.{Watching, change_of, kept_at, shown, with_room}
 use Rattle.standing_filters.specs.Plans.{without_key}
 use Rattle.standing_filters.specs.Verdicts.{IsVerdict, out}
-use Rattle.standing_filters.specs.Watched.{IsTouched, verdict_at}
+use Rattle.standing_filters.specs.Watched.{AreTouched, IsTouched, verdict_at}
 use Rattle.standing_filters.specs.declared.judging.Verdict.{Verdict}
 use Rattle.standing_filters.proofs.Members.{equal_from}
-use Rattle.standing_filters.proofs.Planning.{backed_out, committed, forgotten, room_restored}
+use Rattle.standing_filters.proofs.Planning.{backed_out, committed, entered, forgotten}
+use Rattle.standing_filters.proofs.Planning.{room_restored}
 
 abbrev Kept : Type 0
 Kept = List (List ℕ × Verdict)
@@ -47,6 +52,17 @@ touched summed living table key now old new verdict of same judged becomes = rec
   elsewhere = λ apart. absurd (apart of);
 }
 
+-- a verdict that is kept already becomes itself
+pub becomes_itself : (key : List ℕ) (verdict : Verdict) (kept : Kept)
+    → kept_at kept key ≡ Some verdict → Becomes key verdict kept kept
+becomes_itself key verdict kept is q = by (is_at (slice_cmp nat_cmp key) q) refl
+  where
+    by : (b : Bool) → is_at (slice_cmp nat_cmp key) q ≡ b
+        → verdict_at kept q ≡ cond b verdict (verdict_at kept q)
+    by true same = ap (verdict_at kept) (sym (exact_bytes key q (equal_from _ same)))
+        ∙ ap (λ found. unwrap_or found out) is
+    by false apart = refl
+
 pub untouched : (summed : ℕ → List ℕ → Col → ℕ → ℕ) (living : ℕ → List ℕ → ℕ → ℕ) (table : ℕ)
     (key : List ℕ) (now : ℕ) (w : Watching)
     → w.filter.table ≢ table → IsTouched summed living table key now (shown w) (shown w)
@@ -56,6 +72,29 @@ untouched summed living table key now w apart = record {
   others = λ q other. refl;
   elsewhere = λ _. refl;
 }
+
+-- filters of other tables are what they were
+pub others_untouched : (summed : ℕ → List ℕ → Col → ℕ → ℕ) (living : ℕ → List ℕ → ℕ → ℕ)
+    (table : ℕ) (key : List ℕ) (now : ℕ) (watches : List Watching)
+    → list_any (λ w. w.filter.table == table) watches ≡ false
+    → AreTouched summed living table key now (map shown watches) (map shown watches)
+others_untouched summed living table key now [] none = tt
+others_untouched summed living table key now (w ∷ watches) none =
+    by (w.filter.table == table) refl none
+    (others_untouched summed living table key now watches)
+  where
+    by : (b : Bool) → (w.filter.table == table) ≡ b
+        → (b || list_any (λ w. w.filter.table == table) watches) ≡ false
+        → (list_any (λ w. w.filter.table == table) watches ≡ false
+        → AreTouched summed living table key now (map shown watches) (map shown watches))
+        → AreTouched summed living table key now (map shown (w ∷ watches))
+        (map shown (w ∷ watches))
+    by true is any rest = cc
+    by false is any rest = (
+      untouched summed living table key now w
+          (λ of. false≢true (sym is ∙ eq-eqb w.filter.table table of)),
+      rest any,
+    )
 
 -- where the verdicts were made room for before
 pub becomes_after : (key : List ℕ) (verdict : Verdict) (old roomed new : Kept)
@@ -83,6 +122,22 @@ watch_committed key verdict found old prepared new watch same is plan unplan bec
   planned = committed old.due prepared.due new.due old.kept new.kept key verdict (change_of found)
       watch.planned (ap change_of is) plan unplan becomes;
 }
+
+-- a key on which no verdict was kept has one
+pub watch_entered : (key : List ℕ) (verdict : Verdict) (old new : Watching) → IsWatch old
+    → new.filter ≡ old.filter → kept_at old.kept key ≡ None
+    → IsPlanned key None verdict.next old.due new.due
+    → Becomes key verdict old.kept new.kept → IsWatch new
+watch_entered key verdict old new watch same none plan becomes = record {
+  few = subst (λ f. length f.conds ≤ 4) (sym same) watch.few;
+  planned = entered old.due new.due old.kept new.kept key verdict watch.planned none plan becomes;
+}
+
+-- either a key has a verdict more, or nothing has changed
+pub watch_or_back : {P Q E : Type 0} (r : Result (Unit {0}) E) (old new : Watching) → IsWatch old
+    → (P → Q → IsWatch new) → OnOk r P → OnOk r Q → OnErr r (new ≡ old) → IsWatch new
+watch_or_back (Ok u) old new watch made one other back = made one other
+watch_or_back (Err e) old new watch made one other back = subst IsWatch (sym back) watch
 
 pub kept_restored : (key : List ℕ) (found : Option Verdict) (old prepared new : Watching)
     → found ≡ kept_at old.kept key → prepared.kept ≡ with_room key old.kept

@@ -74,6 +74,13 @@ abbrev pub IsUnplanned : List ℕ → Option ℕ → Option ℕ → List (ℕ ×
 IsUnplanned key gone stays old new =
     (e : ℕ × List ℕ) → has_plan new e ≡ (has_plan old e && not (is_only key gone stays e))
 
+-- a key that stands at the moment `before` stands at `after` in its place
+pub record IsMoved (key : List ℕ) (before after : Option ℕ) (old new : List (ℕ × List ℕ))
+    : Type 0 where
+  pub between : List (ℕ × List ℕ)
+  pub planned : IsPlanned key before after old between
+  pub unplanned : IsUnplanned key before after between new
+
 -- what holds of a standing filter between calls
 pub record IsWatch (w : Watching) : Type 0 where
   pub few : length w.filter.conds ≤ 4

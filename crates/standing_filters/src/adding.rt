@@ -50,11 +50,5 @@ fn judge_one<V: Values>(
         → meter.new.evals ≤ meter.old.evals + 505 }
 {
     let verdict = watch.judge(key, values, now, meter);
-    if verdict.is_out() {
-        watch.forget(key);
-        return Ok(());
-    }
-    let old = watch.prepare(key, verdict)?;
-    watch.commit(key, old, verdict);
-    Ok(())
+    watch.change(key, verdict)
 }

@@ -23,6 +23,7 @@ mod coming;
 mod judging;
 mod keys;
 pub mod laws;
+mod plans;
 mod standing;
 mod touching;
 mod turning;

@@ -1,6 +1,7 @@
 //! One key, judged by the filters of its table: all of them, or none.
 
-ghost use Rattle.std.specs.Prelude.{◌≡◌, ◌≤◌, ◌+◌, ◌*◌, length, map, IsOk, OnOk, OnErr};
+ghost use Rattle.std.specs.Prelude.{◌≡◌, ◌≤◌, ◌+◌, ◌*◌, ◌==◌, length, map, IsOk, OnOk, OnErr};
+ghost use Rattle.std.specs.List.{list_any};
 ghost use Rattle.crossing.specs.First.{IsFlatSoon};
 ghost use Rattle.standing_filters.specs.Plans.{AreWatches, shown};
 ghost use Rattle.standing_filters.specs.Watched.{AreTouched};
@@ -35,6 +36,9 @@ pub(crate) fn touch_each<V: Values>(
         return touch_each(rest, table, key, values, now, meter);
     }
     let verdict = first.judge(key, values, now, meter);
+    if !is_any_of(rest, table) {
+        return first.change(key, verdict);
+    }
     if verdict.is_out() {
         touch_each(rest, table, key, values, now, meter)?;
         first.forget(key);
@@ -47,4 +51,11 @@ pub(crate) fn touch_each<V: Values>(
     }
     first.commit(key, old, verdict);
     Ok(())
+}
+
+// Whether some filter is one of a table.
+fn is_any_of(watches: &[Watch], table: usize) -> bool
+    ensures { result ≡ list_any (λ w. w.filter.table == table) watches.now }
+{
+    watches.iter().any(|watch| watch.is_of(table))
 }

@@ -1,17 +1,18 @@
 //! One standing filter: the verdicts on its keys, and an index of when they change.
 
 ghost use Rattle.std.specs.Prelude.{ℕ, List, ◌≡◌, ◌≤◌, ◌+◌, ◌*◌, ◌==◌, ◌&&◌, nat_lt, [], length};
-ghost use Rattle.std.specs.Prelude.{is_some, if◌then◌else◌, IsSome, IsOk, IsOkAnd, IfOk, OnOk};
-ghost use Rattle.std.specs.Prelude.{OnErr};
+ghost use Rattle.std.specs.Prelude.{is_some, if◌then◌else◌, IsSome, IfSome, IsOk, IsOkAnd, IfOk};
+ghost use Rattle.std.specs.Prelude.{OnOk, OnErr, MatchBool, None, Some};
 ghost use Rattle.std.specs.List.{IsDistinct, list_any};
 ghost use Rattle.std.specs.List.Sorted.{IsStrictlySortedBy};
-ghost use Rattle.std.specs.BTreeMap.{is_at};
+ghost use Rattle.std.specs.BTreeMap.{insert_entry, is_at};
 ghost use Rattle.std.specs.Cmp.Lexicographic.{slice_cmp};
 ghost use Rattle.std.specs.Ordering.{nat_cmp};
 ghost use Rattle.crossing.specs.First.{IsFlatSoon};
 ghost use Rattle.standing_filters.specs.Verdicts.{IsVerdict, out};
 ghost use Rattle.standing_filters.specs.Watched.{IsFirstChange, keys_held, verdict_at};
-ghost use Rattle.standing_filters.specs.Plans.{Becomes, IsPlanOf, IsPlanned, IsUnplanned, Watching};
+ghost use Rattle.standing_filters.specs.Plans.{Becomes, IsPlanOf, IsPlanned, IsUnplanned, IsWatch};
+ghost use Rattle.standing_filters.specs.Plans.{Watching};
 ghost use Rattle.standing_filters.specs.Plans.{change_of, has_plan, kept_at, shown, with_room};
 ghost use Rattle.standing_filters.specs.Plans.{without_key};
 ghost use Rattle.standing_filters.specs.Turns.{AreJudged, ArePlans, IsAhead, IsQuiet, count_due};
@@ -20,6 +21,7 @@ ghost use Rattle.standing_filters.specs.Turns.{keys_judged, same_key, verdict_af
 use crate::coming::{Coming, Judged};
 use crate::judging::{OUT, Verdict, judge};
 use crate::keys::Keys;
+use crate::plans::{move_plan, plan, unplan};
 use agg_types::{Filter, Key, NoMemory};
 use crossing::{Meter, Values};
 use expiry_wheel::{DueIndex, Wheel};
@@ -117,6 +119,8 @@ impl Watch {
         ensures found { IfOk result (λ old. old ≡ kept_at self.old.kept key.now) }
         ensures room { OnOk result (self.new.kept ≡ with_room key.now self.old.kept) }
         ensures there { OnOk result (IsSome (kept_at self.new.kept key.now)) }
+        ensures stands { IfOk result (λ old. IfSome old
+            (λ kept. kept_at self.new.kept key.now ≡ Some kept)) }
         ensures same { OnOk result ((q : _) → verdict_at self.new.kept q
             ≡ verdict_at self.old.kept q) }
         ensures planned { IfOk result (λ old. IsPlanned key.now (change_of old) verdict.next
@@ -146,17 +150,42 @@ impl Watch {
         }
     }
 
-    /// Keeps a verdict on a key, for which all is prepared, in place of an old one.
+    /// Keeps a verdict on a key, for which all is prepared, in place of an old one. No search where
+    /// that is the same.
     pub(crate) fn commit(&mut self, key: &Key, old: Option<Verdict>, verdict: Verdict)
+        requires { IfSome old (λ kept. kept_at self.old.kept key.now ≡ Some kept) }
         ensures filter { self.new.filter ≡ self.old.filter }
         ensures kept { IsSome (kept_at self.old.kept key.now)
             → Becomes key.now verdict self.old.kept self.new.kept }
         ensures due { IsUnplanned key.now (change_of old) verdict.next self.old.due self.new.due }
     {
+        if old == Some(verdict) {
+            return;
+        }
         self.unplan(key, change_of(old), verdict.next);
         if let Some(kept) = self.kept.get_mut(key) {
             *kept = verdict;
         }
+    }
+
+    /// Keeps a verdict on a key, and plans its change. After `NoMemory` nothing has changed; `OUT`
+    /// is never refused. One search of the keys, where one is kept already.
+    pub(crate) fn change(&mut self, key: &Key, verdict: Verdict) -> Result<(), NoMemory>
+        requires { IsWatch self.old }
+        ensures filter { self.new.filter ≡ self.old.filter }
+        ensures stay { IsWatch self.new }
+        ensures kept { OnOk result (Becomes key.now verdict self.old.kept self.new.kept) }
+        ensures err { OnErr result (self.new ≡ self.old) }
+        ensures out { verdict ≡ out → IsOk result }
+    {
+        if verdict.is_out() {
+            self.forget(key);
+            return Ok(());
+        }
+        if self.replace(key, verdict)? {
+            return Ok(());
+        }
+        self.enter(key, verdict)
     }
 
     /// Keeps no verdict on a key, so that it is `OUT`.
@@ -296,6 +325,57 @@ impl Watch {
         Ok(old)
     }
 
+    // Keeps a verdict on a key in place of the one that is kept, and moves its planned change.
+    // Answers false, and changes nothing, where none is kept.
+    fn replace(&mut self, key: &Key, verdict: Verdict) -> Result<bool, NoMemory>
+        requires { IsPlanOf self.old.kept self.old.due }
+        ensures filter { self.new.filter ≡ self.old.filter }
+        ensures kept { IfOk result (λ there. MatchBool there
+            (Becomes key.now verdict self.old.kept self.new.kept)
+            ((kept_at self.old.kept key.now ≡ None) × (self.new ≡ self.old))) }
+        ensures planned { OnOk result (IsPlanOf self.new.kept self.new.due) }
+        ensures err { OnErr result (self.new ≡ self.old) }
+    {
+        let Some(kept) = self.kept.get_mut(key) else {
+            return Ok(false);
+        };
+        let old = *kept;
+        if old != verdict {
+            move_plan(self.alloc, &mut self.due, key, old.next, verdict.next)?;
+            *kept = verdict;
+        }
+        Ok(true)
+    }
+
+    // Keeps a verdict on a key on which none is kept, and plans its change.
+    fn enter(&mut self, key: &Key, verdict: Verdict) -> Result<(), NoMemory>
+        requires none { kept_at self.old.kept key.now ≡ None }
+        ensures filter { self.new.filter ≡ self.old.filter }
+        ensures kept { OnOk result (Becomes key.now verdict self.old.kept self.new.kept) }
+        ensures planned { OnOk result
+            (IsPlanned key.now None verdict.next self.old.due self.new.due) }
+        ensures err { OnErr result (self.new ≡ self.old) }
+    {
+        self.insert(key, verdict)?;
+        if let Err(refused) = self.plan(key, None, verdict.next) {
+            self.take_out(key);
+            return Err(refused);
+        }
+        Ok(())
+    }
+
+    // Puts a verdict on a key in.
+    fn insert(&mut self, key: &Key, verdict: Verdict) -> Result<(), NoMemory>
+        ensures ok { OnOk result (self.new ≡ record self.old {
+          kept = insert_entry (slice_cmp nat_cmp) self.old.kept key.now verdict;
+        }) }
+        ensures becomes { OnOk result (Becomes key.now verdict self.old.kept self.new.kept) }
+        ensures err { OnErr result (self.new ≡ self.old) }
+    {
+        self.kept.insert(key.duplicate(self.alloc)?, verdict)?;
+        Ok(())
+    }
+
     // Takes a key's verdict out.
     fn take_out(&mut self, key: &Key)
         ensures { self.new ≡ record self.old { kept = without_key key.now self.old.kept } }
@@ -310,13 +390,7 @@ impl Watch {
         ensures planned { OnOk result (IsPlanned key.now before after self.old.due self.new.due) }
         ensures err { OnErr result (self.new ≡ self.old) }
     {
-        if before == after {
-            return Ok(());
-        }
-        if let Some(at) = after {
-            self.due.plan(at, key.duplicate(self.alloc)?)?;
-        }
-        Ok(())
+        plan(self.alloc, &mut self.due, key, before, after)
     }
 
     // Cancels a key's change at `gone`, if that isn't the one that stays.
@@ -325,12 +399,7 @@ impl Watch {
         ensures kept { self.new.kept ≡ self.old.kept }
         ensures due { IsUnplanned key.now gone stays self.old.due self.new.due }
     {
-        if gone == stays {
-            return;
-        }
-        if let Some(at) = gone {
-            self.due.cancel(at, key);
-        }
+        unplan(&mut self.due, key, gone, stays);
     }
 }
 

@@ -1,10 +1,12 @@
 use Rattle.std.proofs.Common.{◌≡◌, List, ◌∷◌, map, sym, ap, subst, ◌∙◌}
 use Rattle.std.proofs.lemmas.Bool.{eqb-true}
+use Rattle.std.proofs.lemmas.Result.{on_ok_weaker}
 use Rattle.standing_filters.specs.Plans.{AreWatches, IsWatch, Watching, shown}
 use Rattle.standing_filters.specs.Verdicts.{IsVerdict, out}
 use Rattle.standing_filters.specs.Watched.{AreTouched, Watched}
 use Rattle.standing_filters.specs.declared.judging.Verdict.{Verdict}
-use Rattle.standing_filters.proofs.Touched.{becomes_after, kept_restored, shown_again, touched}
+use Rattle.standing_filters.proofs.Touched.{becomes_after, kept_restored, others_untouched}
+use Rattle.standing_filters.proofs.Touched.{shown_again, touched}
 use Rattle.standing_filters.proofs.Touched.{watch_backed_out, watch_committed, watch_forgotten}
 use Rattle.standing_filters.proofs.touching.+touch_each.Goals as goal
 
@@ -16,6 +18,22 @@ both : (first : Watched) (rest olds : List Watched) (watches : List Watching) (o
     (others : List Watching) → watches ≡ old ∷ others → first ≡ shown old → rest ≡ map shown others
     → (first ∷ rest) ≡ map shown watches
 both first rest olds watches old others is one all = (λ i. one i ∷ all i) ∙ ap (map shown) (sym is)
+
+pub returns-then-not-is_any_of-clause-ok : goal.returns-then-not-is_any_of-clause-ok
+returns-then-not-is_any_of-clause-ok g t c =
+    let summed = g.V.Values.summed c.args.values.now in
+    let living = g.V.Values.living c.args.values.now in
+    let first = c.in-Some.first.now in
+    let of = eqb-true first.filter.table c.args.table (sym c.is_of.ensures
+    ∙ c.if-not-is_of.false) in
+    on_ok_weaker c.change.result (λ becomes. subst (λ (l : List Watching). AreTouched summed living
+    c.args.table c.args.key.now c.args.now (map shown l)
+    (shown c.change.new.self ∷ map shown c.in-Some.rest.now)) (sym c.in-Some.ensures.cases.0) (
+      touched summed living c.args.table c.args.key.now c.args.now first c.change.new.self
+          c.judge-verdict.result of c.change.ensures.filter c.judge-verdict.ensures.verdict becomes,
+      others_untouched summed living c.args.table c.args.key.now c.args.now c.in-Some.rest.now
+          (sym c.is_any_of.ensures ∙ c.if-not-is_any_of.true),
+    )) c.change.ensures.kept
 
 pub returns-then-is_out-clause-stay : goal.returns-then-is_out-clause-stay
 returns-then-is_out-clause-stay g t c =
