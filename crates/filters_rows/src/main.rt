@@ -30,7 +30,8 @@ fn main(rt: HostRuntime) -> Result<()> {
     bounds(&rt, alloc)?;
     four(&rt, alloc)?;
     clock(&rt, alloc)?;
-    added(&rt, alloc)
+    added(&rt, alloc)?;
+    planned(&rt, alloc)
 }
 
 // A rate of 3 events in the second before, which falls to 0 within the next one.
@@ -306,5 +307,36 @@ fn count<R: Print>(rt: &R, standing: &Standing) -> Result<()> {
     let next = standing.next_change(filters - 1);
     let evals = standing.evals();
     println!(rt; "filters:{filters} held:{held} next:{next:?} evals:{evals}")?;
+    Ok(())
+}
+
+// What is planned for three keys, two of which change in the same ms, and once that has come.
+fn planned<R: Print>(rt: &R, alloc: Global) -> Result<()> {
+    println!(rt; "planned")?;
+    let values = Pair {
+        first: falling(0),
+        second: Rate::arrive(1000, 3000, 0, 0, 0),
+        ends: LATE,
+    };
+    let mut standing = Standing::new(alloc, &config(alloc, &[cond(Op::Eq, 2)])?)?;
+    standing.touch(0, &Key::copy(alloc, b"c")?, &values, 0)?;
+    standing.touch(0, &Key::copy(alloc, b"b")?, &values, 1)?;
+    standing.touch(0, &Key::copy(alloc, b"a")?, &values, 0)?;
+    show_plans(rt, &standing)?;
+    standing.moment(&values, 1)?;
+    show_plans(rt, &standing)?;
+    standing.moment(&values, 400)?;
+    show_plans(rt, &standing)
+}
+
+// Prints the planned changes of the first filter.
+fn show_plans<R: Print>(rt: &R, standing: &Standing) -> Result<()> {
+    if standing.len() == 0 {
+        return Ok(());
+    }
+    println!(rt; "next:{:?}", standing.next_change(0))?;
+    for (at, key) in standing.planned(0) {
+        println!(rt; "at {at}: {key:?}")?;
+    }
     Ok(())
 }

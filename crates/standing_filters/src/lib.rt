@@ -13,7 +13,8 @@
 //! verdicts at its moment and leaves all others, `moment` gives each key whose change has come its
 //! verdict then, however many changes were passed, and `add` and `drop_last` add and take away the
 //! last filter; each changes nothing where memory was refused. `keys` lends the keys whose verdict
-//! is that they are held, and `next_change` is the least moment at which a verdict changes. That a
+//! is that they are held, `planned` when each verdict changes, and `next_change` is the least such
+//! moment. That a
 //! key which can't come into a set again is told by one value of each condition is meant for speed,
 //! and no clause says so.
 #![tactic(auto)]
@@ -23,6 +24,7 @@ mod coming;
 mod judging;
 mod keys;
 pub mod laws;
+mod planned;
 mod plans;
 mod standing;
 mod touching;
@@ -31,4 +33,5 @@ mod watch;
 
 pub use judging::{Verdict, judge};
 pub use keys::Keys;
+pub use planned::Planned;
 pub use standing::Standing;

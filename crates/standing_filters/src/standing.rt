@@ -8,12 +8,15 @@ ghost use Rattle.std.specs.BTreeMap.{is_at};
 ghost use Rattle.std.specs.Cmp.Lexicographic.{slice_cmp};
 ghost use Rattle.std.specs.Ordering.{nat_cmp};
 ghost use Rattle.crossing.specs.First.{IsFlatSoon};
+ghost use Rattle.expiry_wheel.specs.Entries.{IsInOrder};
+ghost use Rattle.standing_filters.specs.Plans.{IsPlanOf};
 ghost use Rattle.standing_filters.specs.Turns.{AreTurned, IsQuiet, pairs_due};
 ghost use Rattle.standing_filters.specs.Watched.{AreTouched, IsAdded, IsFirstChange, Watched};
 ghost use Rattle.standing_filters.specs.Watched.{kept_of, keys_held, unheld, verdict_at};
 
 use crate::adding::watch_keys;
 use crate::keys::Keys;
+use crate::planned::Planned;
 use crate::touching::touch_each;
 use crate::turning::turn_each;
 use crate::watch::Watch;
@@ -169,6 +172,16 @@ impl Standing {
         ensures { IsFirstChange (kept_of self.now filter) result }
     {
         self.watches[filter].next_change()
+    }
+
+    /// The planned changes of a filter: when, if only the clock goes on, it comes to hold a key or no
+    /// longer holds one, by moment, then by key.
+    pub fn planned(&self, filter: usize) -> Planned<'_>
+        requires { filter < length self.now.filters }
+        ensures exact { IsPlanOf (kept_of self.now filter) result }
+        ensures ordered { IsInOrder (slice_cmp nat_cmp) result }
+    {
+        self.watches[filter].planned()
     }
 
     /// How many filters there are.

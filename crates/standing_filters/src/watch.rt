@@ -9,6 +9,7 @@ ghost use Rattle.std.specs.BTreeMap.{insert_entry, is_at};
 ghost use Rattle.std.specs.Cmp.Lexicographic.{slice_cmp};
 ghost use Rattle.std.specs.Ordering.{nat_cmp};
 ghost use Rattle.crossing.specs.First.{IsFlatSoon};
+ghost use Rattle.expiry_wheel.specs.Entries.{IsInOrder};
 ghost use Rattle.standing_filters.specs.Verdicts.{IsVerdict, out};
 ghost use Rattle.standing_filters.specs.Watched.{IsFirstChange, keys_held, verdict_at};
 ghost use Rattle.standing_filters.specs.Plans.{Becomes, IsPlanOf, IsPlanned, IsUnplanned, IsWatch};
@@ -21,6 +22,7 @@ ghost use Rattle.standing_filters.specs.Turns.{keys_judged, same_key, verdict_af
 use crate::coming::{Coming, Judged};
 use crate::judging::{OUT, Verdict, judge};
 use crate::keys::Keys;
+use crate::planned::Planned;
 use crate::plans::{move_plan, plan, unplan};
 use agg_types::{Filter, Key, NoMemory};
 use crossing::{Meter, Values};
@@ -88,6 +90,14 @@ impl Watch {
         ensures { IsFirstChange self.now.kept result }
     {
         self.due.next_at()
+    }
+
+    /// The planned changes, in order.
+    pub(crate) fn planned(&self) -> Planned<'_>
+        ensures all { result ≡ self.now.due }
+        ensures ordered { IsInOrder (slice_cmp nat_cmp) self.now.due }
+    {
+        Planned::new(&self.due)
     }
 
     /// Judges a key by its values at a moment.
