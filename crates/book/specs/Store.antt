@@ -1,12 +1,14 @@
 -- What the rows of a book stand for.
-use Rattle.std.specs.Prelude.{◌≡◌, ℕ, ◌^◌, ◌≤◌, ◌==◌, List, [], Option, None, Some, IfNone, filter}
+use Rattle.std.specs.Prelude.{◌≡◌, ℕ, ◌^◌, ◌≤◌, ◌==◌, List, [], Option, None, Some, IfNone, MatchOption, filter}
 use Rattle.std.specs.Prelude.{length, map}
+use Rattle.std.specs.Borrow.{Bor}
 use Rattle.std.specs.List.{dedup}
+use Rattle.std.specs.Option.{option_map}
 use Rattle.fleet_model.specs.Keys.{key_rows}
 use Rattle.fleet_model.specs.Values.{same_key}
 use Rattle.peer_rows.specs.Table.{Spot}
 use Rattle.peer_rows.specs.declared.row.Row.{Row}
-use Rattle.book.specs.Shown.{of_spot}
+use Rattle.book.specs.Shown.{of_peer, of_spot}
 use Rattle.book.specs.declared.at.At.{At}
 use Rattle.agg_types.specs.declared.config.Config.{Config}
 use Rattle.agg_types.specs.declared.column.Col.{Col}
@@ -31,6 +33,15 @@ pub record AreKept (peers tables : ℕ) (rows : RowMap) (items : List (ℕ × Pl
 -- a row as it arrives
 abbrev pub put_arrival : ℕ → Option ℕ → List (Col × ℕ) → List Cell → Arrival
 put_arrival t life cols cells = record { arrived = t; life = life; cells = kept_cells cols cells }
+
+-- these are the rows of a key, each with its peer; there is none where none were found
+abbrev pub AreRowsOf : List (Place × Arrival) → ℕ → List ℕ → Option (List (ℕ × Row)) → Type 0
+AreRowsOf rows table key found = MatchOption found (key_rows rows table key ≡ [])
+    (λ rows_found. map (of_peer table key) rows_found ≡ key_rows rows table key)
+
+-- the same of rows that are lent
+abbrev pub AreFound : List (Place × Arrival) → ℕ → List ℕ → Option (Bor (List (ℕ × Row))) → Type 0
+AreFound rows table key found = AreRowsOf rows table key (option_map (λ lent. lent.now) found)
 
 -- a key without a spot has no row
 abbrev pub IsFound : List (Place × Arrival) → At → Type 0

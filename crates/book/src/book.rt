@@ -135,7 +135,7 @@ impl Book {
     {
         fleet_model::laws::states_are_sound();
         let spot = self.machine.apply(seat, seq, what, hint)?;
-        self.held.follow(&self.machine, what);
+        self.held.follow(&self.machine, what, spot);
         Ok(spot)
     }
 

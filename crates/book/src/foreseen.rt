@@ -1,12 +1,14 @@
 //! When a filter's set changes by the clock alone: when the first of its keys comes or goes.
 
 ghost use Rattle.std.specs.Prelude.{◌≡◌, ◌≤◌, ◌<◌, ◌^◌, ◌-◌, ℕ, List, length, map, min};
-ghost use Rattle.fleet_model.specs.Keys.{key_rows, worth_of};
+ghost use Rattle.std.specs.Prelude.{IfSome};
+ghost use Rattle.fleet_model.specs.Keys.{Rows, key_rows, worth_of};
 ghost use Rattle.fleet_model.specs.Changes.{IsKeyChange};
 ghost use Rattle.fleet_model.specs.Next.{flat_moment, table_flat_from};
 ghost use Rattle.fleet_model.specs.Values.{cols_of};
 ghost use Rattle.book.specs.Foreseen.{IsFirstOf, earlier, flat_within, living_of};
 ghost use Rattle.book.specs.Shown.{as_arrival, of_peer};
+ghost use Rattle.book.specs.Store.{AreFound};
 
 use crate::machine::Machine;
 use crate::next::flat_from;
@@ -98,9 +100,18 @@ fn worth_at(store: &Store, cols: &[(Col, u32)], table: usize, key: &Key, col: Co
 pub fn live_rows(store: &Store, table: usize, key: &Key, t: u64) -> usize
     ensures { result ≡ living_of (key_rows store.now.rows table key.now) t }
 {
-    match store.of_key(table, key) {
+    found_live(store.of_key(table, key).as_ref(), t)
+}
+
+/// How many rows of a key that were found live at a moment.
+pub fn found_live(rows: Option<&OfKey<'_>>, t: u64) -> usize
+    requires { IfSome rows (λ rows. length rows.now < 2 ^ 64) }
+    ensures { (all : Rows) (table : ℕ) (key : List ℕ) → AreFound all table key rows.entry
+        → result ≡ living_of (key_rows all table key) t }
+{
+    match rows {
         None => 0,
-        Some(rows) => count_live(rows, t),
+        Some(rows) => count_live(rows.duplicate(), t),
     }
 }
 
@@ -123,9 +134,18 @@ fn key_flat(store: &Store, table: usize, key: &Key, longest: u32) -> u64
     ensures { result ≡ min (flat_moment longest (key_rows store.now.rows table key.now))
         (2 ^ 64 - 1) }
 {
-    match store.of_key(table, key) {
+    found_flat(store.of_key(table, key).as_ref(), longest)
+}
+
+/// The moment from which the clock changes nothing of the rows of a key that were found, or the
+/// last one of all.
+pub fn found_flat(rows: Option<&OfKey<'_>>, longest: u32) -> u64
+    ensures { (all : Rows) (table : ℕ) (key : List ℕ) → AreFound all table key rows.entry
+        → result ≡ min (flat_moment longest (key_rows all table key)) (2 ^ 64 - 1) }
+{
+    match rows {
         None => 0,
-        Some(rows) => rows_flat(rows, longest),
+        Some(rows) => rows_flat(rows.duplicate(), longest),
     }
 }
 

@@ -15,8 +15,10 @@ ghost use Rattle.book.specs.Held.{AreAll, AreFirst, AreHeld, ChangesKey, Changes
 ghost use Rattle.book.specs.Held.{GoesOn, HasMore, IsOneMore};
 
 use crate::machine::Machine;
+use crate::one_key::OneKey;
 use crate::queries::live_keys;
 use agg_types::{Config, Filter, Items, Key, Name, NoMemory, Select, What};
+use peer_rows::Spot;
 use standing_filters::{Keys, Standing};
 use std::alloc::Global;
 
@@ -37,16 +39,17 @@ impl Held {
         }
     }
 
-    /// Something has happened to the machine: judges what it touched.
-    pub(crate) fn follow(&mut self, machine: &Machine, what: &What)
+    /// Something has happened to the machine: judges what it touched. The spot is a hint at where
+    /// the rows of a Put's key lie.
+    pub(crate) fn follow(&mut self, machine: &Machine, what: &What, spot: Option<Spot>)
         requires sound { IsSound machine.now }
         ensures { (state : State) → IsSound state → Follows what.now state machine.now
             → AreHeld state self.old.standing → AreHeld machine.now self.new.standing }
     {
         match what {
-            What::Put { table, key, .. } => self.touch(machine, *table, key),
+            What::Put { table, key, .. } => self.touch(machine, *table, key, spot),
             What::Clear { table, sel } => match sel {
-                Select::One(key) => self.touch(machine, *table, key),
+                Select::One(key) => self.touch(machine, *table, key, None),
                 Select::All | Select::Conds(_) => self.clear(machine, *table),
             },
             What::AddFilter(_) => self.add(machine),
@@ -58,15 +61,19 @@ impl Held {
     }
 
     // The rows of a key may have changed.
-    fn touch(&mut self, machine: &Machine, table: usize, key: &Key)
+    fn touch(&mut self, machine: &Machine, table: usize, key: &Key, spot: Option<Spot>)
         ensures { (state : State) → ChangesKey table key.now state machine.now
             → AreHeld state self.old.standing → AreHeld machine.now self.new.standing }
     {
         standing_filters::laws::touch_keeps_verdicts();
+        if !has_filter(machine.config.filters.as_slice(), table) {
+            return;
+        }
         let Some(standing) = &mut self.standing else {
             return;
         };
-        if standing.touch(table, key, machine, machine.moment).is_err() {
+        let values = OneKey::new(machine, spot, table, key);
+        if standing.touch(table, key, &values, machine.moment).is_err() {
             self.standing = None;
         }
     }

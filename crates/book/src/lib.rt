@@ -28,6 +28,7 @@ mod held;
 mod leaders;
 mod machine;
 mod next;
+mod one_key;
 mod puts;
 mod queries;
 mod ranking;

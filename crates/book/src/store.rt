@@ -13,12 +13,12 @@ ghost use Rattle.fleet_model.specs.Values.{same_key, same_place};
 ghost use Rattle.fleet_model.specs.Keys.{AreInOrder, held_rows, key_rows, worth_of};
 ghost use Rattle.book.specs.Shown.{of_peer, of_spot};
 ghost use Rattle.book.specs.Planned.{IsInside, IsShort, place_at};
-ghost use Rattle.book.specs.Store.{IsFound, IsWalk, put_arrival, row_keys};
+ghost use Rattle.book.specs.Store.{AreRowsOf, IsFound, IsWalk, put_arrival, row_keys};
 
 use crate::at::At;
 use crate::ends::{Size, end_late, plan_again, set_aside};
 use crate::puts::{drop_key, drop_row, new_row, set_row};
-use crate::values::{arriving_worth, value};
+use crate::values::{arriving_worth, found_worth};
 use agg_types::{Cell, Col, Key, NoMemory, Place, Shape};
 use expiry_wheel::Wheel;
 use peer_rows::{ByKey, OfKey, Rows, Spot};
@@ -139,12 +139,19 @@ impl Store {
 
     /// The rows of a key, by peer: one search. None where there is no such table.
     pub(crate) fn of_key(&self, table: usize, key: &Key) -> Option<OfKey<'_>>
-        ensures value { MatchOption result (key_rows self.now.rows table key.now ≡ [])
-            (λ rows. map (of_peer table key.now) rows ≡ key_rows self.now.rows table key.now) }
+        ensures value { AreRowsOf self.now.rows table key.now result }
+        ensures few { IfSome result (λ rows. length rows ≤ self.now.peers) }
+    {
+        self.of_key_at(None, table, key)
+    }
+
+    /// What `of_key` answers, whatever the hint: one that fits saves the search.
+    pub(crate) fn of_key_at(&self, hint: Option<Spot>, table: usize, key: &Key) -> Option<OfKey<'_>>
+        ensures value { AreRowsOf self.now.rows table key.now result }
         ensures few { IfSome result (λ rows. length rows ≤ self.now.peers) }
     {
         if table < self.size.tables {
-            Some(self.rows.of_key(table, key))
+            Some(self.rows.of_key_at(hint, table, key))
         } else {
             None
         }
@@ -222,7 +229,8 @@ impl Store {
             (put_arrival t life cols.now cells.now)) at.entry.table at.entry.key.now) col t
             ≤ result }
     {
-        let standing = value(self, cols, at.table, at.key, col, t);
+        let found = self.of_key_at(at.spot, at.table, at.key);
+        let standing = found_worth(found.as_ref(), cols, col, t);
         standing + u128::from(arriving_worth(col, cols, cells))
     }
 

@@ -1,11 +1,13 @@
 //! The values of a key, by adding up over its rows.
 
-ghost use Rattle.std.specs.Prelude.{◌≡◌, ◌+◌, ◌-◌, ◌*◌, ◌<◌, ◌≤◌, ◌^◌, length, map, drop, IfSome};
+ghost use Rattle.std.specs.Prelude.{◌≡◌, ◌+◌, ◌-◌, ◌*◌, ◌<◌, ◌≤◌, ◌^◌, ℕ, List, length, map, drop};
+ghost use Rattle.std.specs.Prelude.{IfSome};
 ghost use Rattle.std.specs.List.{list_all};
 ghost use Rattle.agg_types.specs.Op.{op_holds};
-ghost use Rattle.fleet_model.specs.Keys.{row_worth};
+ghost use Rattle.fleet_model.specs.Keys.{Rows, key_rows, row_worth, worth_of};
 ghost use Rattle.fleet_model.specs.Values.{cell_worth, column_worth, meets, value};
 ghost use Rattle.book.specs.Shown.{as_arrival, cell_of, found_worth, rows_worth};
+ghost use Rattle.book.specs.Store.{AreFound};
 
 use crate::row::is_live;
 use crate::store::Store;
@@ -111,10 +113,12 @@ pub fn worth(rows: &OfKey<'_>, cols: &[(Col, u32)], col: Col, t: u64) -> u128
     total
 }
 
-// What the rows of a key that were found sum up to: nothing where none were.
-fn found_worth(rows: Option<&OfKey<'_>>, cols: &[(Col, u32)], col: Col, t: u64) -> u128
+/// What the rows of a key that were found sum up to: nothing where none were.
+pub fn found_worth(rows: Option<&OfKey<'_>>, cols: &[(Col, u32)], col: Col, t: u64) -> u128
     requires { IfSome rows (λ rows. length rows.now < 2 ^ 64) }
     ensures exact { result ≡ found_worth cols.now col t rows.entry }
+    ensures of_key { (all : Rows) (table : ℕ) (key : List ℕ) → AreFound all table key rows.entry
+        → result ≡ worth_of cols.now (key_rows all table key) col t }
     ensures small { result + 2 ^ 64 ≤ 2 ^ 128 }
 {
     match rows {

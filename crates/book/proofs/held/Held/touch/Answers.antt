@@ -1,9 +1,25 @@
-use Rattle.std.proofs.Common.{◌≡◌, ◌∙◌, ℕ, sym, ap, subst}
+use Rattle.std.proofs.Common.{◌≡◌, ◌==◌, ◌∙◌, ℕ, false, inl, sym, ap, subst}
+use Rattle.std.specs.List.{list_any}
+use Rattle.agg_types.specs.declared.config.Filter.{Filter}
 use Rattle.fleet_model.specs.State.{State}
 use Rattle.standing_filters.specs.Watched.{AreTouched}
 use Rattle.book.specs.Held.{AreHeld, living_in, sums_in}
-use Rattle.book.proofs.Verdicts.{from_ok, touched_held}
+use Rattle.book.proofs.Verdicts.{elsewhere_kept, from_ok, touched_held}
 use Rattle.book.proofs.held.Held.touch.Goals as goal
+
+pub returns-then-not-has_filter : goal.returns-then-not-has_filter
+returns-then-not-has_filter c = λ state changes held.
+    let none : list_any (λ (f : Filter). f.table == c.args.table)
+    c.args.machine.now.config.filters ≡ false =
+    ap (λ (s : State). list_any (λ (f : Filter). f.table == c.args.table) s.config.filters)
+    (sym c.machine.view_is)
+    ∙ ap (list_any (λ (f : Filter). f.table == c.args.table)) (sym c.as_slice.ensures)
+    ∙ sym c.has_filter.ensures ∙ c.if-not-has_filter.true in
+    elsewhere_kept state c.args.machine.now c.args.table c.args.self.now.standing (record {
+      config = changes.config;
+      moment = changes.moment;
+      others = λ t other apart. changes.others t other (inl apart);
+    }) none held
 
 pub returns-else-is_err : goal.returns-else-is_err
 returns-else-is_err c = λ state changes held.
@@ -14,5 +30,8 @@ returns-else-is_err c = λ state changes held.
     c.in-Some.standing.filters c.touch.new.self.filters changes
     (subst (λ (t : ℕ). AreTouched (sums_in later) (living_in later) c.args.table c.args.key.now t
     c.in-Some.standing.filters c.touch.new.self.filters) moment
-    (from_ok c.touch.result (sym c.is_err.ensures.value ∙ c.if-is_err.false) c.touch.ensures.ok))
+    (subst (λ (s : State). AreTouched (sums_in s) (living_in s) c.args.table c.args.key.now
+    c.machine.inside.moment c.in-Some.standing.filters c.touch.new.self.filters)
+    c.new-values.ensures
+    (from_ok c.touch.result (sym c.is_err.ensures.value ∙ c.if-is_err.false) c.touch.ensures.ok)))
     (subst (AreHeld state) c.in-Some.is held)

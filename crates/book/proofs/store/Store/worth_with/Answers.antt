@@ -1,27 +1,30 @@
-use Rattle.std.proofs.Common.{◌≡◌, ◌≤◌, ◌+◌, ◌∙◌, arith}
+use Rattle.std.proofs.Common.{◌≡◌, ◌≤◌, ◌+◌, ◌∙◌, arith, rules}
 use Rattle.fleet_model.specs.Keys.{key_rows, worth_of}
 use Rattle.fleet_model.specs.Machine.{with_row}
 use Rattle.fleet_model.specs.Values.{column_worth}
-use Rattle.fleet_model.proofs.KeyRows.{value-rows}
 use Rattle.book.specs.Planned.{place_at}
-use Rattle.book.specs.Store.{put_arrival}
+use Rattle.book.specs.Store.{AreFound, put_arrival}
 use Rattle.book.proofs.Leading.{arriving_more}
 use Rattle.book.proofs.store.Store.worth_with.Goals as goal
 
 pub returns-clause-before : goal.returns-clause-before
 returns-clause-before c =
-    let standing : c.value-standing.result ≡ worth_of c.args.cols.now
+    let found : AreFound c.args.self.now.rows c.args.at.table c.args.at.key.now
+    c.as_ref.result = search rules in
+    let standing : c.found_worth-standing.result ≡ worth_of c.args.cols.now
     (key_rows c.args.self.now.rows c.args.at.table c.args.at.key.now) c.args.col c.args.t =
-    c.value-standing.ensures.exact ∙ value-rows c.args.cols.now c.args.self.now.rows c.args.at.table
-    c.args.at.key.now c.args.col c.args.t in
+    c.found_worth-standing.ensures.of_key c.args.self.now.rows c.args.at.table c.args.at.key.now
+    found in
     omega arith
 
 pub returns-clause-after : goal.returns-clause-after
 returns-clause-after c = λ life.
-    let standing : c.value-standing.result ≡ worth_of c.args.cols.now
+    let found : AreFound c.args.self.now.rows c.args.at.table c.args.at.key.now
+    c.as_ref.result = search rules in
+    let standing : c.found_worth-standing.result ≡ worth_of c.args.cols.now
     (key_rows c.args.self.now.rows c.args.at.table c.args.at.key.now) c.args.col c.args.t =
-    c.value-standing.ensures.exact ∙ value-rows c.args.cols.now c.args.self.now.rows c.args.at.table
-    c.args.at.key.now c.args.col c.args.t in
+    c.found_worth-standing.ensures.of_key c.args.self.now.rows c.args.at.table c.args.at.key.now
+    found in
     let own : c.from.result ≡ column_worth c.args.col 0 c.args.cols.now c.args.cells.now =
     c.from.ensures ∙ c.arriving_worth.ensures in
     let more : worth_of c.args.cols.now
