@@ -3,7 +3,8 @@ use Rattle.std.proofs.Common.{◌≡◌, ◌≢◌, ℕ, zero, suc, ◌+◌, ◌
 use Rattle.std.proofs.Common.{◌&&◌, List, [], ◌∷◌, length, refl, sym, ◌∙◌, ap, subst, arith, get_or}
 use Rattle.std.proofs.Common.{set, get_or-set_same, get_or-set_other, ⊎_elim}
 use Rattle.std.specs.Option.{is_some}
-use Rattle.std.specs.Prelude.{Option, Some, None, IfNone, not, filter, map, sum_by, ◌==◌}
+use Rattle.std.specs.Prelude.{Result, Ok, Err, IfOk}
+use Rattle.std.specs.Prelude.{Option, Some, None, IfNone, MatchBool, not, filter, map, sum_by, ◌==◌}
 use Rattle.std.specs.declared.cmp.Ordering.{Ordering}
 use Rattle.std.specs.declared.cmp.Ordering.TheVariants.{Less, Equal, Greater}
 use Rattle.std.specs.Ordering.{is_eq, nat_cmp, ordering_then}
@@ -126,6 +127,13 @@ module _ (es fs : Keys) (counts : List ℕ) (key : List ℕ) (peer : ℕ) (kept 
           peer,
         ) row old (sorted_rows es kept.ordered kept.once) found);
   }
+
+  pub kept-exchanged : (row : Row) (new : Row) (before : Row) (found : Bool)
+      → MatchBool found (rows_in fs ≡ insert_entry spot_cmp (rows_in es) (key, peer) row) (fs ≡ es)
+      → MatchBool found (lookup (is_at (spot_cmp (key, peer))) (rows_in es) ≡ Some new)
+      (new ≡ before) → IsKept fs counts
+  kept-exchanged row new before true is old = kept-put_held row new is old
+  kept-exchanged row new before false is old = subst (λ (ks : Keys). IsKept ks counts) (sym is) kept
 
   pub kept-take : (old : Row) → rows_in fs ≡ remove_entry (is_at (spot_cmp (key, peer)))
       (rows_in es) → lookup (is_at (spot_cmp (key, peer))) (rows_in es) ≡ Some old
@@ -271,6 +279,10 @@ pub is_there : (o : Option Row) → is_some o ≡ true → (row : Row) × (o ≡
 is_there None e = cc
 is_there (Some row) e = (row, refl)
 
+pub is_nothing : {A : Type 0} (o : Option A) → is_some o ≡ false → o ≡ None
+is_nothing None e = refl
+is_nothing (Some x) e = cc
+
 pub is_missing : (o : Option Row) → is_some o ≡ false → o ≡ None
 is_missing None e = refl
 is_missing (Some row) e = cc
@@ -315,3 +327,9 @@ same_rows n m xs ys e f = rw (e, f) refl
 pub none_then : {A : Type 0} {P Q : Type 0} (o : Option A) → (P → Q) → IfNone o P → IfNone o Q
 none_then None f p = f p
 none_then (Some x) f p = p
+
+-- what holds where nothing was there before
+pub first_then : {A E : Type 0} {P Q : Type 0} (r : Result (Option A) E) → (P → Q)
+    → IfOk r (λ held. IfNone held P) → IfOk r (λ held. IfNone held Q)
+first_then (Ok held) f p = none_then held f p
+first_then (Err e) f p = p

@@ -1,8 +1,8 @@
 -- Where a peer stands among the rows of a key, and what is looked up, put in or taken out there.
 use Rattle.std.proofs.Common.{◌≡◌, ◌≢◌, ℕ, zero, suc, ◌+◌, ◌<◌, ◌≤◌, List, [], ◌∷◌, ◌++◌, length}
 use Rattle.std.proofs.Common.{take, drop, cond, Ok, Err, OnOk, OnErr, refl, sym, ◌∙◌, ap, subst}
-use Rattle.std.proofs.Common.{arith, get_or, set}
-use Rattle.std.specs.Prelude.{Option, Some, None, Result}
+use Rattle.std.proofs.Common.{arith, get_or, set, Bool, true, false}
+use Rattle.std.specs.Prelude.{Option, Some, None, Result, MatchBool}
 use Rattle.std.specs.declared.cmp.Ordering.{Ordering}
 use Rattle.std.specs.declared.cmp.Ordering.TheVariants.{Less, Equal, Greater}
 use Rattle.std.specs.Ordering.{match_ordering, is_eq, nat_cmp}
@@ -104,6 +104,11 @@ module _ (peer : ℕ) where
       → ArePeers new
   are-put_or_not rows new row (Ok old) are is not = are-put rows new row are is
   are-put_or_not rows new row (Err e) are is not = subst ArePeers (sym not) are
+
+  pub are-exchanged : (rows new : List (ℕ × Row)) (row : Row) (found : Bool) → ArePeers rows
+      → MatchBool found (new ≡ insert_entry nat_cmp rows peer row) (new ≡ rows) → ArePeers new
+  are-exchanged rows new row true are is = are-put rows new row are is
+  are-exchanged rows new row false are is = subst ArePeers (sym is) are
 
   pub are-taken : (rows new : List (ℕ × Row)) → ArePeers rows → keys_of rows ≢ peer ∷ []
       → new ≡ remove_entry (is_at (nat_cmp peer)) rows → ArePeers new

@@ -3,7 +3,7 @@ use Rattle.std.proofs.Common.{◌≡◌, ℕ, zero, suc, ◌+◌, ◌<◌, Bool,
 use Rattle.std.proofs.Common.{◌∷◌, length, refl, sym, ◌∙◌, ap, arith, get_or, set, replicate}
 use Rattle.std.specs.Option.{option_and_then}
 use Rattle.std.specs.Prelude.{Option, Some, not, filter, map, ◌==◌, slice_get, count_by, sum_by}
-use Rattle.std.specs.Prelude.{Result, Ok, Err, OnOk, OnErr}
+use Rattle.std.specs.Prelude.{None, Result, Ok, Err, IfOk, OnOk, OnErr, MatchOption}
 use Rattle.agg_types.specs.declared.no_memory.NoMemory.{NoMemory}
 use Rattle.std.specs.declared.cmp.Ordering.{Ordering}
 use Rattle.std.specs.declared.cmp.Ordering.TheVariants.{Less, Equal, Greater}
@@ -347,6 +347,60 @@ module _ {A : Type 0} (ts : List TableRows) (i : ℕ) (new table : TableRows) (f
   map_ok peers (Ok old) is = same_map peers _ _ _ _ (length-set ts i new)
       (placed-put ts i table found key peer row new (ap (λ (t : TableRows). t.entries) is))
   map_ok peers (Err refused) is = is
+
+-- the same with a row in another's place where one was found
+module _ (ts : List TableRows) (i : ℕ) (new table : TableRows) (found : slice_get ts i
+    ≡ Some table) (key : List ℕ) (peer : ℕ) (row : Row) where
+  pub put_found : (peers : ℕ) → AreTables peers ts → (b : Bool) → new ≡ record table {
+    entries = cond b (insert_entry spot_cmp table.entries (key, peer) row) table.entries;
+  } → AreTables peers (set ts i new)
+  put_found peers are true is =
+      tables-put peers ts i new table are found (ap (λ (t : TableRows). t.peers) is) key peer row
+      (ap (λ (t : TableRows). t.entries) is)
+  put_found peers are false is =
+      tables-same peers ts i new table are found (ap (λ (t : TableRows). t.peers) is) is
+
+  map_same : (peers : ℕ) → new ≡ table → row_map peers (length (set ts i new))
+      (placed (set ts i new)) ≡ row_map peers (length ts) (placed ts)
+  map_same peers is = rw (is, set_itself ts i table found) refl
+
+  map_put : (peers : ℕ) → new ≡ record table {
+    entries = insert_entry spot_cmp table.entries (key, peer) row;
+  } → row_map peers (length (set ts i new)) (placed (set ts i new))
+      ≡ row_map peers (length ts) (insert_entry place_cmp (placed ts) (place_of i key peer) row)
+  map_put peers is = same_map peers _ _ _ _ (length-set ts i new)
+      (placed-put ts i table found key peer row new (ap (λ (t : TableRows). t.entries) is))
+
+  pub map_found : (peers : ℕ) (b : Bool) → new ≡ record table {
+    entries = cond b (insert_entry spot_cmp table.entries (key, peer) row) table.entries;
+  } → row_map peers (length (set ts i new)) (placed (set ts i new)) ≡ cond b
+      (row_map peers (length ts) (insert_entry place_cmp (placed ts) (place_of i key peer) row))
+      (row_map peers (length ts) (placed ts))
+  map_found peers true is = map_put peers is
+  map_found peers false is = map_same peers is
+
+  -- and where a key's first row is put, or nothing
+  pub first_result : {A : Type 0} (after : Row) (peers : ℕ) → AreTables peers ts
+      → (r : Result (Option A) NoMemory) → IfOk r (λ held. MatchOption held (new ≡ record table {
+        entries = insert_entry spot_cmp table.entries (key, peer) row;
+      }) (λ _. (new ≡ table) × (after ≡ row))) → OnErr r (new ≡ table)
+      → AreTables peers (set ts i new)
+  first_result after peers are (Ok None) is e = put_found peers are true is
+  first_result after peers are (Ok (Some held)) is e = put_found peers are false is.0
+  first_result after peers are (Err refused) o is = put_found peers are false is
+
+  pub first_map : {A : Type 0} (after : Row) (peers : ℕ) (r : Result (Option A) NoMemory)
+      → IfOk r (λ held. MatchOption held (new ≡ record table {
+        entries = insert_entry spot_cmp table.entries (key, peer) row;
+      }) (λ _. (new ≡ table) × (after ≡ row)))
+      → IfOk r (λ held. MatchOption held (row_map peers (length (set ts i new))
+      (placed (set ts i new))
+      ≡ row_map peers (length ts) (insert_entry place_cmp (placed ts) (place_of i key peer) row))
+      (λ _. (row_map peers (length (set ts i new)) (placed (set ts i new))
+      ≡ row_map peers (length ts) (placed ts)) × (after ≡ row)))
+  first_map after peers (Ok None) is = map_put peers is
+  first_map after peers (Ok (Some held)) is = (map_same peers is.0, is.1)
+  first_map after peers (Err refused) is = is
 
 pub tables-put_result : {A : Type 0} (peers : ℕ) (ts : List TableRows) → AreTables peers ts
     → (i : ℕ) (new table : TableRows) (found : slice_get ts i ≡ Some table) (key : List ℕ)

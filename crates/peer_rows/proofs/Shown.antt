@@ -1,7 +1,7 @@
 -- What becomes of a table's rows where the rows in a key's place change.
 use Rattle.std.proofs.Common.{◌≡◌, ◌≢◌, ◌<◌, ◌^◌, ℕ, List, length, refl, sym, ◌∙◌, ap, subst, arith}
-use Rattle.std.proofs.Common.{Ok, Err, OnOk, OnErr, ⊎_elim}
-use Rattle.std.specs.Prelude.{Option, Some, None, Result}
+use Rattle.std.proofs.Common.{Ok, Err, OnOk, OnErr, ⊎_elim, Bool, true, false}
+use Rattle.std.specs.Prelude.{Option, Some, None, Result, MatchBool}
 use Rattle.agg_types.specs.declared.no_memory.NoMemory.{NoMemory}
 use Rattle.std.specs.Option.{option_map}
 use Rattle.std.specs.Ordering.{nat_cmp}
@@ -68,11 +68,21 @@ module _ (k : KeyAt) (r : RowsAt) (es : Entries) (key : List ℕ) (is : IsIndexe
           rows-shown put
       put-shown peer row (Err e) put = put
 
+      unchanged-shown : s at ≡ r at → seen s es ≡ seen r es
+      unchanged-shown same = seen-same r s es (λ q. ⊎_elim (λ (e : q ≡ at). ap s e ∙ same
+          ∙ ap r (sym e)) (λ (e : q ≢ at). others q e) (cases_eq q at))
+
       pub refused-shown : (result : Result (Option Row) NoMemory) → OnErr result (s at ≡ r at)
           → OnErr result (seen s es ≡ seen r es)
       refused-shown (Ok old) same = same
-      refused-shown (Err e) same = seen-same r s es (λ q. ⊎_elim (λ (e : q ≡ at). ap s e ∙ same
-          ∙ ap r (sym e)) (λ (e : q ≢ at). others q e) (cases_eq q at))
+      refused-shown (Err e) same = unchanged-shown same
+
+      pub exchanged-shown : (peer : ℕ) (row : Row) (found : Bool)
+          → MatchBool found (s at ≡ insert_entry nat_cmp (r at) peer row) (s at ≡ r at)
+          → MatchBool found (rows_in (seen s es) ≡ insert_entry spot_cmp (rows_in (seen r es))
+          (key, peer) row) (seen s es ≡ seen r es)
+      exchanged-shown peer row true put = put-shown peer row (Ok None) put
+      exchanged-shown peer row false same = unchanged-shown same
 
       pub once-shown : EachPeerOnce (seen r es) → ArePeers (s at) → EachPeerOnce (seen s es)
       once-shown once are = subst (λ (keys : Keys). EachPeerOnce keys) (sym changed)

@@ -1,6 +1,6 @@
 -- Entries in the order of their keys, and one more among them.
 use Rattle.std.proofs.Common.{◌≡◌, Bool, true, false, cond, List, [], ◌∷◌, ◌++◌, refl, ◌∙◌, ap}
-use Rattle.std.specs.Prelude.{None}
+use Rattle.std.specs.Prelude.{Some, None}
 use Rattle.std.specs.declared.cmp.Ordering.{Ordering}
 use Rattle.std.specs.declared.cmp.Ordering.TheVariants.{Less, Equal, Greater}
 use Rattle.std.specs.Ordering.{match_ordering, ordering_reverse, is_eq}
@@ -173,6 +173,23 @@ module _ {K X : Type 0} (C : K → K → Ordering) where
       → IsStrictlySortedBy C (e.0 ∷ keys_of es) → lookup (is_at (C k)) (e ∷ es) ≡ None
   lookup_below o k e es less s =
       lookup-above k (e ∷ es) (less, AllAbove-below o k e.0 less es (above_first e.0 es s))
+
+  -- a value that a key has already changes nothing
+  pub insert_entry-held : IsTotalOrder C → (es : List (K × X)) (k : K) (v : X)
+      → IsStrictlySortedBy C (keys_of es) → lookup (is_at (C k)) es ≡ Some v
+      → insert_entry C es k v ≡ es
+  insert_entry-held o [] k v s found = cc
+  insert_entry-held o (e ∷ es) k v s found =
+      by (insert_entry-held o es k v (sorted_others e.0 es s)) (C k e.0) refl found
+    where
+      by : (lookup (is_at (C k)) es ≡ Some v → insert_entry C es k v ≡ es) → (r : Ordering)
+          → C k e.0 ≡ r → cond (is_eq r) (Some e.1) (lookup (is_at (C k)) es) ≡ Some v
+          → match_ordering r ((k, v) ∷ e ∷ es) ((e.0, v) ∷ es) (e ∷ insert_entry C es k v)
+          ≡ e ∷ es
+      by more Less less is = let none : lookup (is_at (C k)) (e ∷ es) ≡ None =
+          lookup_below o k e es less s in let nothing = rw less at none in cc
+      by more Equal equal is = let same : e.1 ≡ v = cc in rw same refl
+      by more Greater above is = ap (λ rest. e ∷ rest) (more is)
 
   -- the first entry goes before the others
   pub insert_first : (f : K) (v : X) (es new : List (K × X)) → new ≡ insert_entry C es f v

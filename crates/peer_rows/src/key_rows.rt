@@ -1,5 +1,6 @@
 ghost use Rattle.std.specs.Prelude.{◌≡◌, ◌≢◌, ◌-◌, List, [], ◌∷◌, length, slice_get, sum_by};
-ghost use Rattle.std.specs.Prelude.{IsTrue, ◌↔◌, IsOk, IsSome, IfOk, OnOk, OnErr, MatchResult};
+ghost use Rattle.std.specs.Prelude.{◌==◌, IsTrue, ◌↔◌, IsOk, IsSome, IfOk, OnOk, OnErr};
+ghost use Rattle.std.specs.Prelude.{MatchBool, MatchResult, Some, is_some};
 ghost use Rattle.std.specs.Option.{option_copied, option_map};
 ghost use Rattle.std.specs.Ordering.{nat_cmp};
 ghost use Rattle.std.specs.Map.{keys_of, lookup, remove_entry};
@@ -92,6 +93,21 @@ impl KeyRows {
                 Ok(None)
             }
             Peers::Many(rows) => put_among(rows, peer, row),
+        }
+    }
+
+    /// Exchanges a peer's row for this one, if it holds one.
+    pub(crate) fn exchange(&mut self, peer: usize, row: &mut Row) -> bool
+        ensures found { result ≡ is_some (lookup (is_at (nat_cmp peer)) self.old) }
+        ensures rows { MatchBool result (self.new ≡ insert_entry nat_cmp self.old peer row.old)
+            (self.new ≡ self.old) }
+        ensures row { MatchBool result
+            (lookup (is_at (nat_cmp peer)) self.old ≡ Some row.new) (row.new ≡ row.old) }
+        ensures are { ArePeers self.new }
+    {
+        match &mut self.peers {
+            Peers::One(held) => exchange_one(held, peer, row),
+            Peers::Many(rows) => exchange_among(rows, peer, row),
         }
     }
 
@@ -195,6 +211,39 @@ fn put_among(rows: &mut Vec<PeerRow>, peer: usize, row: Row) -> Result<Option<Ro
             rows.insert(at, (peer, row))?;
             Ok(None)
         }
+    }
+}
+
+// Exchanges a row, if it is the peer's.
+fn exchange_one(held: &mut PeerRow, peer: usize, row: &mut Row) -> bool
+    ensures same { held.new.0 ≡ held.old.0 }
+    ensures found { result ≡ (held.old.0 == peer) }
+    ensures rows { MatchBool result (held.new.1 ≡ row.old) (held.new ≡ held.old) }
+    ensures row { MatchBool result (row.new ≡ held.old.1) (row.new ≡ row.old) }
+{
+    if held.0 != peer {
+        return false;
+    }
+    mem::swap(&mut held.1, row);
+    true
+}
+
+// Exchanges the row of a peer for another, if it is there.
+fn exchange_among(rows: &mut Vec<PeerRow>, peer: usize, row: &mut Row) -> bool
+    requires { ArePeers rows.old.items }
+    ensures found { result ≡ is_some (lookup (is_at (nat_cmp peer)) rows.old.items) }
+    ensures rows { MatchBool result
+        (rows.new.items ≡ insert_entry nat_cmp rows.old.items peer row.old)
+        (rows.new.items ≡ rows.old.items) }
+    ensures row { MatchBool result
+        (lookup (is_at (nat_cmp peer)) rows.old.items ≡ Some row.new) (row.new ≡ row.old) }
+{
+    match find(rows.as_slice(), peer) {
+        Ok(at) => {
+            mem::swap(&mut rows[at].1, row);
+            true
+        }
+        Err(_) => false,
     }
 }
 

@@ -1,8 +1,9 @@
 //! The rows of a table by key, without the counts: an ordered map says in which place the rows of
 //! each key lie, and what was found lately is found again without it.
-ghost use Rattle.std.specs.Prelude.{◌≡◌, ◌^◌, ◌<◌, ℕ, [], Some, None, length, IsOk, IsSome, IfSome};
-ghost use Rattle.std.specs.Prelude.{IfNone, IfOk, OnOk, OnErr};
-ghost use Rattle.std.specs.Option.{option_copied};
+ghost use Rattle.std.specs.Prelude.{◌≡◌, ◌^◌, ◌<◌, ℕ, List, [], ◌∷◌, Some, None, length, IsOk};
+ghost use Rattle.std.specs.Prelude.{IsSome, IfSome, IfNone, IfOk, OnOk, OnErr, IsTrue, MatchBool};
+ghost use Rattle.std.specs.Prelude.{MatchOption, is_some, if◌then◌else◌};
+ghost use Rattle.std.specs.Option.{option_copied, unwrap_or};
 ghost use Rattle.std.specs.Ordering.{nat_cmp};
 ghost use Rattle.std.specs.Cmp.Lexicographic.{slice_cmp};
 ghost use Rattle.std.specs.Map.{keys_of, lookup, remove_entry};
@@ -18,6 +19,7 @@ use agg_types::{Key, NoMemory};
 use std::alloc::Global;
 use std::collections::BTreeMap;
 use std::marker::Model;
+use std::mem;
 
 /// The rows of a table, by key. Contracts see the list of the keys with the rows of each.
 #[derive(Debug, Drop)]
@@ -69,6 +71,15 @@ impl Keyed {
         Some(Spot::new(at))
     }
 
+    /// Where the rows of a key lie, if that was seen lately.
+    pub(crate) fn spot_near(&self, hint: Option<Spot>, key: &Key) -> Option<Spot> {
+        let at = match hinted(&self.slots, hint, key) {
+            Some(at) => at,
+            None => self.near.find(&self.slots, Hash::of(key), key)?,
+        };
+        Some(Spot::new(at))
+    }
+
     /// The rows of a key.
     pub(crate) fn get(&self, hint: Option<Spot>, key: &Key) -> Option<&KeyRows>
         ensures value { option_copied result ≡ lookup (is_at (slice_cmp nat_cmp key.now)) self.now }
@@ -109,12 +120,66 @@ impl Keyed {
         ensures few { (p : ℕ) → rows_of_peer p (rows_in self.old) < 2 ^ 63 }
     {
         let _few = self.keys.len();
-        let hash = Hash::of(key);
-        let Some(at) = learn(&self.keys, &self.slots, &mut self.near, hint, hash, key) else {
+        let Some(at) = learn(&self.keys, &self.slots, &mut self.near, hint, key) else {
             self.insert(peer, key, row)?;
             return Ok(None);
         };
         self.slots.put(at, peer, row)
+    }
+
+    /// Exchanges the row of a peer and key for this one, if there is one.
+    pub(crate) fn exchange(
+        &mut self,
+        hint: Option<Spot>,
+        peer: usize,
+        key: &Key,
+        row: &mut Row,
+    ) -> bool
+        requires { EachPeerOnce self.old }
+        ensures found { result
+            ≡ is_some (lookup (is_at (spot_cmp (key.now, peer))) (rows_in self.old)) }
+        ensures rows { MatchBool result (rows_in self.new
+            ≡ insert_entry spot_cmp (rows_in self.old) (key.now, peer) row.old)
+            (self.new ≡ self.old) }
+        ensures row { MatchBool result (lookup (is_at (spot_cmp (key.now, peer)))
+            (rows_in self.old) ≡ Some row.new) (row.new ≡ row.old) }
+        ensures once { EachPeerOnce self.new }
+        ensures ordered { IsStrictlySortedBy (slice_cmp nat_cmp) (keys_of self.new) }
+    {
+        let Some(at) = learn(&self.keys, &self.slots, &mut self.near, hint, key) else {
+            return false;
+        };
+        self.slots.exchange(at, peer, row)
+    }
+
+    /// Puts the first row of a key, which is left blank then. Where the key has rows, nothing
+    /// changes, and where they lie comes back.
+    pub(crate) fn insert_first(
+        &mut self,
+        peer: usize,
+        key: &Key,
+        row: &mut Row,
+    ) -> Result<Option<Spot>, NoMemory>
+        requires { EachPeerOnce self.old }
+        ensures new { IfOk result (λ held. IfNone held
+            (lookup (is_at (slice_cmp nat_cmp key.now)) self.old ≡ None)) }
+        ensures ok { IfOk result (λ held. MatchOption held (rows_in self.new
+            ≡ insert_entry spot_cmp (rows_in self.old) (key.now, peer) row.old)
+            (λ _. (self.new ≡ self.old) × (row.new ≡ row.old))) }
+        ensures err { OnErr result (self.new ≡ self.old) }
+        ensures once { EachPeerOnce self.new }
+        ensures ordered { IsStrictlySortedBy (slice_cmp nat_cmp) (keys_of self.new) }
+        ensures few { (p : ℕ) → rows_of_peer p (rows_in self.old) < 2 ^ 63 }
+    {
+        let _few = self.keys.len();
+        let (at, new) = place_key(&mut self.keys, &mut self.slots, peer, key, row)?;
+        self.near.refill(&self.slots);
+        self.near.grow(self.slots.len());
+        self.near.remember(Hash::of(key), at);
+        if !new {
+            return Ok(Some(Spot::new(at)));
+        }
+        Ok(None)
     }
 
     /// Puts the first row of a key.
@@ -150,10 +215,9 @@ impl Keyed {
         ensures ordered { IsStrictlySortedBy (slice_cmp nat_cmp) (keys_of self.new) }
         ensures once { EachPeerOnce self.new }
     {
-        let hash = Hash::of(key);
-        let at = learn(&self.keys, &self.slots, &mut self.near, hint, hash, key)?;
+        let at = learn(&self.keys, &self.slots, &mut self.near, hint, key)?;
         if self.slots.rows(at).is_only(peer) {
-            self.near.forget(hash, at);
+            self.near.forget(Hash::of(key), at);
             remove_key(&mut self.keys, &mut self.slots, at, key)?.into_last()
         } else {
             self.slots.take(at, peer)
@@ -167,9 +231,8 @@ impl Keyed {
         ensures ordered { IsStrictlySortedBy (slice_cmp nat_cmp) (keys_of self.new) }
         ensures unchanged { IfNone result (self.new ≡ self.old) }
     {
-        let hash = Hash::of(key);
-        let at = learn(&self.keys, &self.slots, &mut self.near, hint, hash, key)?;
-        self.near.forget(hash, at);
+        let at = learn(&self.keys, &self.slots, &mut self.near, hint, key)?;
+        self.near.forget(Hash::of(key), at);
         remove_key(&mut self.keys, &mut self.slots, at, key)
     }
 
@@ -208,7 +271,6 @@ fn learn(
     slots: &Slots,
     near: &mut Near,
     hint: Option<Spot>,
-    hash: Hash,
     key: &Key,
 ) -> Option<usize>
     requires { IsIndexed (key_at slots.now.places.items) keys.now.entries }
@@ -219,6 +281,7 @@ fn learn(
     if let Some(at) = hinted(slots, hint, key) {
         return Some(at);
     }
+    let hash = Hash::of(key);
     if let Some(at) = near.find(slots, hash, key) {
         return Some(at);
     }
@@ -255,6 +318,57 @@ fn insert_key(
     keys.insert(key, at)?;
     slots.fill(at, slot);
     Ok(at)
+}
+
+// Lays down the first row of a key, which is left blank then, and says where, and that the key is
+// new. Where the key has a place, nothing changes but that this comes back.
+fn place_key(
+    keys: &mut BTreeMap<Key, usize>,
+    slots: &mut Slots,
+    peer: usize,
+    key: &Key,
+    row: &mut Row,
+) -> Result<(usize, bool), NoMemory>
+    requires { IsIndexed (key_at slots.old.places.items) keys.old.entries }
+    ensures indexed { IsIndexed (key_at slots.new.places.items) keys.new.entries }
+    ensures new { IfOk result (λ x. IsTrue x.1
+        → lookup (is_at (slice_cmp nat_cmp key.now)) keys.old.entries ≡ None) }
+    ensures ok { IfOk result (λ x. MatchBool x.1
+        (seen (rows_at slots.new.places.items) keys.new.entries
+        ≡ insert_entry (slice_cmp nat_cmp) (seen (rows_at slots.old.places.items) keys.old.entries)
+        key.now ((peer, row.old) ∷ []))
+        ((seen (rows_at slots.new.places.items) keys.new.entries
+        ≡ seen (rows_at slots.old.places.items) keys.old.entries) × (row.new ≡ row.old))) }
+    ensures err { OnErr result (seen (rows_at slots.new.places.items) keys.new.entries
+        ≡ seen (rows_at slots.old.places.items) keys.old.entries) }
+{
+    let alloc = slots.allocator();
+    let at = slots.vacant()?;
+    let own = key.duplicate(alloc)?;
+    let place = number(keys, key.duplicate(alloc)?, at)?;
+    if place != at {
+        return Ok((place, false));
+    }
+    let row = mem::replace(row, Row::blank(alloc));
+    let rows = KeyRows::new(alloc, peer, row);
+    slots.fill(at, Slot { key: own, rows });
+    Ok((at, true))
+}
+
+// Gives a key this number, unless it has one: by one search. Its number comes back.
+fn number(keys: &mut BTreeMap<Key, usize>, key: Key, at: usize) -> Result<usize, NoMemory>
+    ensures value { IfOk result (λ number. number
+        ≡ unwrap_or (lookup (is_at (slice_cmp nat_cmp key)) keys.old.entries) at) }
+    ensures ok { IfOk result (λ number. keys.new.entries
+        ≡ insert_entry (slice_cmp nat_cmp) keys.old.entries key number) }
+    ensures updates { IfOk result (λ number. (q : List ℕ)
+        → lookup (is_at (slice_cmp nat_cmp q)) keys.new.entries
+        ≡ (if is_at (slice_cmp nat_cmp key) q then Some number
+        else lookup (is_at (slice_cmp nat_cmp q)) keys.old.entries)) }
+    ensures err { OnErr result (keys.new.entries ≡ keys.old.entries) }
+    ensures ordered { IsStrictlySortedBy (slice_cmp nat_cmp) (keys_of keys.new.entries) }
+{
+    Ok(*keys.entry(key)?.or_insert(at))
 }
 
 // Takes a key and its rows out of their place.

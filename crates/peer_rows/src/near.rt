@@ -55,6 +55,11 @@ fn word(bytes: &[u8]) -> u64 {
     if let Some(eight) = bytes.first_chunk::<8>() {
         return u64::from_le_bytes(*eight);
     }
+    if let Some(four) = bytes.first_chunk::<4>()
+        && bytes.len() == 4
+    {
+        return u64::from(u32::from_le_bytes(*four));
+    }
     let mut word = 0u64;
     for byte in bytes {
         word = word.rotate_left(8) ^ u64::from(*byte);

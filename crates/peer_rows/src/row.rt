@@ -166,3 +166,18 @@ pub struct Row {
     /// The moment at which whoever keeps the row looks at it again; 0 where it never ends.
     pub planned: u64,
 }
+
+impl Row {
+    // What is left where a row was taken. Takes no memory.
+    pub(crate) fn blank(alloc: Global) -> Row {
+        Row {
+            cells: Cells {
+                form: Form::Few(Few::new()),
+                alloc,
+            },
+            arrived: 0,
+            ends: None,
+            planned: 0,
+        }
+    }
+}

@@ -1,5 +1,6 @@
 ghost use Rattle.std.specs.Prelude.{◌≡◌, ◌<◌, [], length, count_by, IsOk, IsSome, IfNone, IfOk};
-ghost use Rattle.std.specs.Prelude.{OnOk, OnErr};
+ghost use Rattle.std.specs.Prelude.{OnOk, OnErr, Some, MatchBool, MatchOption, is_some};
+ghost use Rattle.std.specs.Prelude.{if◌then◌else◌};
 ghost use Rattle.std.specs.Option.{option_copied};
 
 use crate::table::Table;
@@ -176,6 +177,14 @@ impl Rows {
         self.tables[table].spot_of(hint, key)
     }
 
+    /// Where the rows of a table and key lie, if the hint says so or it was seen lately, without a
+    /// search of the ordered map. Nothing is promised of it: a key with no spot may have rows.
+    pub fn spot_near(&self, hint: Option<Spot>, table: usize, key: &Key) -> Option<Spot>
+        requires { table < self.now.tables }
+    {
+        self.tables[table].spot_near(hint, key)
+    }
+
     /// What `get` answers, whatever the hint: one that doesn't fit costs a search.
     pub fn get_at(&self, hint: Option<Spot>, peer: usize, table: usize, key: &Key) -> Option<&Row>
         requires peer_in { peer < self.now.peers }
@@ -205,6 +214,49 @@ impl Rows {
         ensures ordered { AreInOrder self.new.entries }
     {
         self.tables[table].put(hint, peer, key, row)
+    }
+
+    /// Exchanges the row of a peer, table and key for this one, if there is one, whatever the hint.
+    /// Takes no memory.
+    pub fn exchange_at(
+        &mut self,
+        hint: Option<Spot>,
+        peer: usize,
+        table: usize,
+        key: &Key,
+        row: &mut Row,
+    ) -> bool
+        requires peer_in { peer < self.old.peers }
+        requires table_in { table < self.old.tables }
+        ensures found { result ≡ is_some (row_at self.old peer table key.now) }
+        ensures rows { self.new
+            ≡ (if result then with_row self.old peer table key.now row.old else self.old) }
+        ensures row { MatchBool result (row_at self.old peer table key.now ≡ Some row.new)
+            (row.new ≡ row.old) }
+        ensures ordered { AreInOrder self.new.entries }
+    {
+        self.tables[table].exchange(hint, peer, key, row)
+    }
+
+    /// Puts the first row of a key, by the only search of the ordered map; the row is left blank
+    /// then. Where the key has rows, nothing changes, and where they lie comes back.
+    pub fn insert_first(
+        &mut self,
+        peer: usize,
+        table: usize,
+        key: &Key,
+        row: &mut Row,
+    ) -> Result<Option<Spot>, NoMemory>
+        requires peer_in { peer < self.old.peers }
+        requires table_in { table < self.old.tables }
+        ensures new { IfOk result (λ held. IfNone held (peers_of self.old table key.now ≡ [])) }
+        ensures ok { IfOk result (λ held. MatchOption held
+            (self.new ≡ with_row self.old peer table key.now row.old)
+            (λ _. (self.new ≡ self.old) × (row.new ≡ row.old))) }
+        ensures err { OnErr result (self.new ≡ self.old) }
+        ensures ordered { AreInOrder self.new.entries }
+    {
+        self.tables[table].insert_first(peer, key, row)
     }
 
     /// Puts the first row of a key, as `put` does, by one search of the ordered map.

@@ -1,6 +1,6 @@
 //! Numbered places for the rows of keys. A place that was given up is taken again.
 ghost use Rattle.std.specs.Prelude.{◌≡◌, ◌≢◌, ◌<◌, ℕ, [], ◌∷◌, Some, None, length, IsOk, IsSome};
-ghost use Rattle.std.specs.Prelude.{IfOk, OnOk, OnErr, IsTrue};
+ghost use Rattle.std.specs.Prelude.{IfOk, OnOk, OnErr, IsTrue, MatchBool, is_some};
 ghost use Rattle.std.specs.Option.{option_copied};
 ghost use Rattle.std.specs.Ordering.{nat_cmp};
 ghost use Rattle.std.specs.Map.{keys_of, lookup, remove_entry};
@@ -158,6 +158,27 @@ impl Slots {
     {
         match &mut self.places[at] {
             Place::Taken(slot) => slot.rows.put(peer, row),
+            Place::Free(_) => unreachable!(),
+        }
+    }
+
+    /// Exchanges a peer's row in a place for this one, if there is one.
+    pub(crate) fn exchange(&mut self, at: usize, peer: usize, row: &mut Row) -> bool
+        requires { IsSome (key_at self.old.places.items at) }
+        ensures found { result
+            ≡ is_some (lookup (is_at (nat_cmp peer)) (rows_at self.old.places.items at)) }
+        ensures here { MatchBool result (rows_at self.new.places.items at
+            ≡ insert_entry nat_cmp (rows_at self.old.places.items at) peer row.old)
+            (rows_at self.new.places.items at ≡ rows_at self.old.places.items at) }
+        ensures row { MatchBool result (lookup (is_at (nat_cmp peer))
+            (rows_at self.old.places.items at) ≡ Some row.new) (row.new ≡ row.old) }
+        ensures are { ArePeers (rows_at self.new.places.items at) }
+        ensures keys { (q : ℕ) → key_at self.new.places.items q ≡ key_at self.old.places.items q }
+        ensures other_rows { (q : ℕ) → q ≢ at
+            → rows_at self.new.places.items q ≡ rows_at self.old.places.items q }
+    {
+        match &mut self.places[at] {
+            Place::Taken(slot) => slot.rows.exchange(peer, row),
             Place::Free(_) => unreachable!(),
         }
     }

@@ -1,5 +1,6 @@
 ghost use Rattle.std.specs.Prelude.{◌≡◌, ◌+◌, ◌<◌, ◌≤◌, ℕ, [], length, filter, not, map, sum_by};
-ghost use Rattle.std.specs.Prelude.{slice_index, IsOk, IsSome, IfNone, IfOk, OnOk, OnErr};
+ghost use Rattle.std.specs.Prelude.{slice_index, IsOk, IsSome, IfNone, IfOk, OnOk, OnErr, Some};
+ghost use Rattle.std.specs.Prelude.{MatchBool, MatchOption, is_some, if◌then◌else◌};
 ghost use Rattle.std.specs.Option.{option_copied};
 ghost use Rattle.std.specs.List.{dedup};
 ghost use Rattle.std.specs.Map.{lookup, remove_entry};
@@ -102,6 +103,56 @@ impl Table {
             self.counts[peer] += 1;
         }
         Ok(old)
+    }
+
+    /// Where the rows of a key lie, if that was seen lately.
+    pub(crate) fn spot_near(&self, hint: Option<Spot>, key: &Key) -> Option<Spot> {
+        self.keys.spot_near(hint, key)
+    }
+
+    /// Exchanges the row of a peer and key for this one, if there is one.
+    pub(crate) fn exchange(
+        &mut self,
+        hint: Option<Spot>,
+        peer: usize,
+        key: &Key,
+        row: &mut Row,
+    ) -> bool
+        ensures found { result
+            ≡ is_some (lookup (is_at (spot_cmp (key.now, peer))) self.old.entries) }
+        ensures rows { self.new ≡ record self.old {
+          entries = if result
+              then insert_entry spot_cmp self.old.entries (key.now, peer) row.old
+              else self.old.entries;
+        } }
+        ensures row { MatchBool result
+            (lookup (is_at (spot_cmp (key.now, peer))) self.old.entries ≡ Some row.new)
+            (row.new ≡ row.old) }
+    {
+        self.keys.exchange(hint, peer, key, row)
+    }
+
+    /// Puts the first row of a key, which is left blank then. Where the key has rows, nothing
+    /// changes, and where they lie comes back.
+    pub(crate) fn insert_first(
+        &mut self,
+        peer: usize,
+        key: &Key,
+        row: &mut Row,
+    ) -> Result<Option<Spot>, NoMemory>
+        requires { peer < self.old.peers }
+        ensures new { IfOk result (λ held. IfNone held
+            (filter (λ e. same_key key.now e.0.0) self.old.entries ≡ [])) }
+        ensures ok { IfOk result (λ held. MatchOption held (self.new ≡ record self.old
+            { entries = insert_entry spot_cmp self.old.entries (key.now, peer) row.old })
+            (λ _. (self.new ≡ self.old) × (row.new ≡ row.old))) }
+        ensures err { OnErr result (self.new ≡ self.old) }
+    {
+        let held = self.keys.insert_first(peer, key, row)?;
+        if held.is_none() {
+            self.counts[peer] += 1;
+        }
+        Ok(held)
     }
 
     /// Puts the first row of a key.

@@ -1,6 +1,6 @@
-use Rattle.std.proofs.Common.{◌∙◌, sym, ap, subst}
+use Rattle.std.proofs.Common.{sym}
 use Rattle.peer_rows.specs.Slots.{key_at, rows_at, seen}
-use Rattle.peer_rows.specs.Table.{rows_in, EachPeerOnce}
+use Rattle.peer_rows.specs.Table.{EachPeerOnce}
 use Rattle.peer_rows.proofs.Indexed.{sorted-seen, indexed-same}
 use Rattle.peer_rows.proofs.Keying.{lookup_not_held}
 use Rattle.peer_rows.proofs.Shown.{none-shown, peers-shown, put-shown, refused-shown, once-shown}

@@ -1,9 +1,5 @@
-use Rattle.std.proofs.Common.{◌≡◌, ◌∙◌, sym, length, ◌<◌, arith}
-use Rattle.std.specs.Prelude.{[], None, filter}
-use Rattle.std.specs.Ordering.{nat_cmp}
-use Rattle.std.specs.Cmp.Lexicographic.{slice_cmp}
-use Rattle.std.specs.Map.{lookup}
-use Rattle.std.specs.BTreeMap.{is_at}
+use Rattle.std.proofs.Common.{◌≡◌, length, ◌<◌, arith}
+use Rattle.std.specs.Prelude.{[], filter}
 use Rattle.peer_rows.specs.Table.{rows_in, same_key}
 use Rattle.peer_rows.proofs.Keying.{lookup_not_held}
 use Rattle.peer_rows.proofs.Kept.{kept-put_new, none_in_keys, get_or_in}
