@@ -166,6 +166,33 @@ found_put (e ∷ es) place row = by (place_cmp place e.0) refl (found_put es pla
     by Equal is more = rw is refl
     by Greater is more = rw is more
 
+-- a row that is taken out again where none stood
+taken_back : (es : List Entry) (place : Place) (row : Row)
+    → lookup (is_at (place_cmp place)) es ≡ None
+    → remove_entry (is_at (place_cmp place)) (insert_entry place_cmp es place row) ≡ es
+taken_back [] place row none = rw (own_place place) refl
+taken_back (e ∷ es) place row none =
+    by (place_cmp place e.0) refl none (taken_back es place row)
+  where
+    by : (r : Ordering) → place_cmp place e.0 ≡ r
+        → cond (is_eq r) (Some e.1) (lookup (is_at (place_cmp place)) es) ≡ None
+        → (lookup (is_at (place_cmp place)) es ≡ None
+        → remove_entry (is_at (place_cmp place)) (insert_entry place_cmp es place row) ≡ es)
+        → remove_entry (is_at (place_cmp place))
+        (match_ordering r ((place, row) ∷ e ∷ es) ((e.0, row) ∷ es)
+        (e ∷ insert_entry place_cmp es place row)) ≡ e ∷ es
+    by Less is gone more = rw (own_place place) refl
+    by Equal is gone more = cc
+    by Greater is gone more = rw is (ap (λ (rest : List Entry). e ∷ rest) (more gone))
+
+pub rows_taken_back : (rows put new : RowMap) (place : Place) (row : Row)
+    → put ≡ record rows { entries = insert_entry place_cmp rows.entries place row }
+    → new ≡ record put { entries = remove_entry (is_at (place_cmp place)) put.entries }
+    → lookup (is_at (place_cmp place)) rows.entries ≡ None → new ≡ rows
+rows_taken_back rows put new place row is taken none =
+    taken ∙ rw is (ap (λ (es : List Entry). record rows { entries = es })
+    (taken_back rows.entries place row none))
+
 put_others : (before items : List Plan) (place : Place) (row : Row) (es new : List Entry)
     → new ≡ insert_entry place_cmp es place row → AreInOrder new → Others place before items
     → is_planned items (place, row) ≡ true → AllByRecursion (λ e. is_planned before e ≡ true) es

@@ -1,6 +1,6 @@
 -- When rows are looked at, since they may have ended.
-use Rattle.std.specs.Prelude.{◌≡◌, ℕ, ◌+◌, ◌^◌, ◌<◌, ◌≤◌, Bool, true, ◌&&◌, ◌||◌, nat_le, List, []}
-use Rattle.std.specs.Prelude.{Option, None, Some, IfNone}
+use Rattle.std.specs.Prelude.{◌≡◌, ℕ, ◌+◌, ◌^◌, ◌<◌, ◌≤◌, Bool, true, ◌&&◌, ◌||◌, nat_le, List}
+use Rattle.std.specs.Prelude.{Option, None, Some}
 use Rattle.std.specs.BTreeMap.{is_at}
 use Rattle.std.specs.List.{AllByRecursion, list_any}
 use Rattle.std.specs.Map.{lookup}
@@ -9,7 +9,7 @@ use Rattle.agg_types.specs.declared.place.Place.{Place}
 use Rattle.expiry_wheel.specs.Entries.{has_entry}
 use Rattle.fleet_model.specs.Moments.{is_live}
 use Rattle.fleet_model.specs.Values.{same_place}
-use Rattle.peer_rows.specs.Rows.{AreInOrder, RowMap, peers_of}
+use Rattle.peer_rows.specs.Rows.{AreInOrder, RowMap}
 use Rattle.peer_rows.specs.declared.row.Row.{Row}
 use Rattle.book.specs.Shown.{as_arrival}
 use Rattle.book.specs.declared.at.At.{At}
@@ -58,10 +58,6 @@ pub record AreRows (peers tables : ℕ) (rows : RowMap) : Type 0 where
   pub of_tables : rows.tables ≡ tables
   pub ordered : AreInOrder rows.entries
   pub inside : AllByRecursion (λ entry. IsInside peers tables entry.0) rows.entries
-
--- a key without a spot has no row
-abbrev pub IsFoundIn : RowMap → At → Type 0
-IsFoundIn rows at = IfNone at.spot (peers_of rows at.table at.key.now ≡ [])
 
 -- a life that is over by an end
 abbrev pub IsOverBy : ℕ → Option ℕ → ℕ → Type 0

@@ -1,5 +1,6 @@
 -- What the rows of a book stand for.
-use Rattle.std.specs.Prelude.{◌≡◌, ℕ, ◌^◌, ◌≤◌, ◌==◌, List, [], Option, None, Some, IfNone, MatchOption, filter}
+use Rattle.std.specs.Prelude.{◌≡◌, ℕ, ◌^◌, ◌≤◌, ◌==◌, List, [], Option, None, Some, MatchOption}
+use Rattle.std.specs.Prelude.{filter}
 use Rattle.std.specs.Prelude.{length, map}
 use Rattle.std.specs.Borrow.{Bor}
 use Rattle.std.specs.List.{dedup}
@@ -9,7 +10,6 @@ use Rattle.fleet_model.specs.Values.{same_key}
 use Rattle.peer_rows.specs.Table.{Spot}
 use Rattle.peer_rows.specs.declared.row.Row.{Row}
 use Rattle.book.specs.Shown.{of_peer, of_spot}
-use Rattle.book.specs.declared.at.At.{At}
 use Rattle.agg_types.specs.declared.config.Config.{Config}
 use Rattle.agg_types.specs.declared.column.Col.{Col}
 use Rattle.agg_types.specs.declared.event.Cell.{Cell}
@@ -42,10 +42,6 @@ AreRowsOf rows table key found = MatchOption found (key_rows rows table key ≡ 
 -- the same of rows that are lent
 abbrev pub AreFound : List (Place × Arrival) → ℕ → List ℕ → Option (Bor (List (ℕ × Row))) → Type 0
 AreFound rows table key found = AreRowsOf rows table key (option_map (λ lent. lent.now) found)
-
--- a key without a spot has no row
-abbrev pub IsFound : List (Place × Arrival) → At → Type 0
-IsFound rows at = IfNone at.spot (key_rows rows at.table at.key.now ≡ [])
 
 -- rows of a configuration's peers and tables, at a moment that is small
 pub record HasSizes (config : Config) (moment : ℕ) (rows : InForce) : Type 0 where

@@ -13,7 +13,6 @@ ghost use Rattle.fleet_model.specs.Moments.{is_live};
 ghost use Rattle.fleet_model.specs.Rows.{arrival_of};
 ghost use Rattle.book.specs.Leading.{AreLed, IsKeyDropped, StaysLed};
 ghost use Rattle.book.specs.Planned.{IsInside, IsShort, place_at};
-ghost use Rattle.book.specs.Store.{IsFound};
 
 use crate::at::At;
 use crate::foreseen::live_rows;
@@ -61,7 +60,6 @@ pub fn put_led(
 ) -> Result<(), NoMemory>
     requires in_range { t ≤ 2 ^ 62 }
     requires inside { IsInside rows.old.peers rows.old.tables (place_at at) }
-    requires found { IsFound rows.old.rows at }
     requires short { IsShort life }
     requires ordered { AreInOrder rows.old.rows }
     requires led { AreLed config.now.tables config.now.ranks rows.old.rows t leaders.old }
@@ -93,7 +91,6 @@ fn lead_and_put(
 ) -> Result<(), NoMemory>
     requires in_range { t ≤ 2 ^ 62 }
     requires inside { IsInside rows.old.peers rows.old.tables (place_at at) }
-    requires found { IsFound rows.old.rows at }
     requires short { IsShort life }
     requires ordered { AreInOrder rows.old.rows }
     requires led { AreLed config.now.tables config.now.ranks rows.old.rows t leaders.old }

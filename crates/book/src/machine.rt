@@ -15,7 +15,7 @@ ghost use Rattle.book_frame.specs.Due.{IsDue};
 ghost use Rattle.book.specs.Due.{FitsPlace};
 ghost use Rattle.book.specs.Leading.{AreLed};
 ghost use Rattle.book.specs.Planned.{IsInside, IsShort, place_at};
-ghost use Rattle.book.specs.Store.{IsFound, row_keys};
+ghost use Rattle.book.specs.Store.{row_keys};
 
 use crate::at::At;
 use crate::clears::{clear_key, clear_table, clear_where};
@@ -137,7 +137,7 @@ impl Machine {
     }
 
     // One event, as the machine of one event says, whatever the hint; nothing has changed after
-    // NoMemory. Answers where the rows of a Put's key lay before it.
+    // NoMemory. Answers where the rows of a Put's key lay before it, if that was seen lately.
     #[tactic(auto, unfolding(fleet_model::specs::Machine::after, fleet_model::specs::Machine::happened, fleet_model::specs::Machine::with_put, fleet_model::specs::Rows::clears_at))]
     pub(crate) fn apply(
         &mut self,
@@ -176,7 +176,7 @@ impl Machine {
                     table: *table,
                     key,
                     peer: *peer,
-                    spot: self.rows.spot_at(hint, *table, key),
+                    spot: self.rows.spot_near(hint, *table, key),
                 };
                 put(
                     &mut self.rows,
@@ -287,7 +287,6 @@ fn put(
 ) -> Result<(), NoMemory>
     requires in_range { t ≤ 2 ^ 62 }
     requires inside { IsInside rows.old.peers rows.old.tables (place_at at) }
-    requires found { IsFound rows.old.rows at }
     requires short { IsShort life }
     requires led { AreLed config.now.tables config.now.ranks rows.old.rows t leaders.old }
     ensures ok { OnOk result (rows.new ≡ record rows.old {

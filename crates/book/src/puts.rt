@@ -4,7 +4,7 @@
 //! before it and ended no later. That item goes with the row, and where an end moves earlier.
 
 ghost use Rattle.std.specs.Prelude.{◌≡◌, ◌<◌, ◌≤◌, ◌^◌, ◌++◌, ℕ, ◌+◌, List, true, false, map, IsOk};
-ghost use Rattle.std.specs.Prelude.{IsSome, IfSome, IfOk, OnOk, OnErr};
+ghost use Rattle.std.specs.Prelude.{IsSome, IfSome, IfOk, OnOk, OnErr, MatchOption};
 ghost use Rattle.std.specs.Option.{option_map};
 ghost use Rattle.std.specs.BTreeMap.{insert_entry, is_at};
 ghost use Rattle.std.specs.Map.{lookup, remove_entry};
@@ -15,18 +15,18 @@ ghost use Rattle.fleet_model.specs.Machine.{with_row};
 ghost use Rattle.peer_rows.specs.declared.row.Row.{Row};
 ghost use Rattle.fleet_model.specs.Values.{same_place};
 ghost use Rattle.peer_rows.specs.Rows.{AreInOrder, of_table_key, without_key};
-ghost use Rattle.book.specs.Planned.{AreRows, EndsBy, HasPlan, IsFoundIn, IsInside, IsShort, Stays};
+ghost use Rattle.book.specs.Planned.{AreRows, EndsBy, HasPlan, IsInside, IsShort, Stays};
 ghost use Rattle.book.specs.Planned.{is_planned, place_at};
 ghost use Rattle.book.specs.Shown.{arrivals, as_arrival, cell_of};
 ghost use Rattle.book.specs.Store.{AreKept, put_arrival};
 
 use crate::at::At;
 use crate::ends::Size;
-use crate::row::{copy_place, end_of};
+use crate::row::end_of;
 use agg_types::{Cell, Col, Key, NoMemory, Place};
 use book_frame::seats::is_number;
 use expiry_wheel::{DueIndex, Wheel};
-use peer_rows::{Cells, Held, Row, Rows};
+use peer_rows::{Cells, Held, Row, Rows, Spot};
 use period_rate::Rate;
 use std::alloc::Global;
 
@@ -113,14 +113,13 @@ fn planned_of(plan: Option<Plan>) -> Option<u64> {
     Some(plan?.planned)
 }
 
-// The plan of the row at a place, if there is one that ends. A key without a spot has no row.
+// The plan of the row at a place, if there is one that ends.
 fn plan_at(rows: &Rows, size: Size, at: At<'_>, t: u64) -> Option<Plan>
     requires rows { AreRows size.peers size.tables rows.now }
     requires inside { IsInside size.peers size.tables (place_at at) }
     ensures { IfSome result (λ plan. EndsBy rows.now.entries (place_at at.entry) plan.end) }
 {
-    let spot = at.spot?;
-    plan_of(rows.get_at(Some(spot), at.peer, at.table, at.key)?, t)
+    plan_of(rows.get_at(at.spot, at.peer, at.table, at.key)?, t)
 }
 
 // The moment that stays planned where a row takes the place of another, or none where something is
@@ -147,19 +146,19 @@ fn stays(before: Option<Plan>, end: Option<u64>) -> Option<u64>
 fn plan_end(
     alloc: Global,
     due: &mut Wheel<Place>,
-    place: &Place,
+    at: At<'_>,
     end: Option<u64>,
 ) -> Result<(), NoMemory>
     ensures more { (items : List (ℕ × Place)) (entry : Place × Row)
         → is_planned (items ++ due.old) entry ≡ true
         → is_planned (items ++ due.new) entry ≡ true }
-    ensures own { OnOk result (HasPlan due.new place.now end) }
+    ensures own { OnOk result (HasPlan due.new (place_at at.entry) end) }
     ensures err { OnErr result (due.new ≡ due.old) }
 {
     let Some(end) = end else {
         return Ok(());
     };
-    due.plan(end, copy_place(alloc, place)?)?;
+    due.plan(end, at.place(alloc)?)?;
     Ok(())
 }
 
@@ -179,11 +178,10 @@ fn forget(due: &mut Wheel<Place>, place: &Place, planned: Option<u64>, end: Opti
     }
 }
 
-// Puts a row at a place, by at most one search.
+// Puts a row at a place: one that stands there is exchanged for it.
 fn put_row(rows: &mut Rows, size: Size, at: At<'_>, row: Row) -> Result<(), NoMemory>
     requires rows { AreRows size.peers size.tables rows.old }
     requires inside { IsInside size.peers size.tables (place_at at) }
-    requires found { IsFoundIn rows.old at }
     ensures ok { OnOk result (rows.new ≡ record rows.old
         { entries = insert_entry place_cmp rows.old.entries (place_at at.entry) row }) }
     ensures err { OnErr result (rows.new ≡ rows.old) }
@@ -191,11 +189,43 @@ fn put_row(rows: &mut Rows, size: Size, at: At<'_>, row: Row) -> Result<(), NoMe
         → IsOk result }
     ensures ordered { AreInOrder rows.new.entries }
 {
-    if at.spot.is_none() {
-        return rows.insert(at.peer, at.table, at.key, row);
+    let mut row = row;
+    if rows.exchange_at(at.spot, at.peer, at.table, at.key, &mut row) {
+        return Ok(());
     }
     rows.put_at(at.spot, at.peer, at.table, at.key, row)?;
     Ok(())
+}
+
+// Puts the first row of a key, with its end planned, by one search; the row is left blank then.
+// Where the key has rows, nothing changes, and where they lie comes back.
+fn put_first(
+    alloc: Global,
+    rows: &mut Rows,
+    size: Size,
+    due: &mut Wheel<Place>,
+    at: At<'_>,
+    row: &mut Row,
+) -> Result<Option<Spot>, NoMemory>
+    requires rows { AreRows size.peers size.tables rows.old }
+    requires inside { IsInside size.peers size.tables (place_at at) }
+    ensures ok { IfOk result (λ held. MatchOption held (rows.new ≡ record rows.old
+        { entries = insert_entry place_cmp rows.old.entries (place_at at.entry) row.old })
+        (λ _. (rows.new ≡ rows.old) × (row.new ≡ row.old))) }
+    ensures err { OnErr result (rows.new ≡ rows.old) }
+    ensures kept { (items : List (ℕ × Place))
+        → AreKept size.peers size.tables rows.old (items ++ due.old)
+        → AreKept size.peers size.tables rows.new (items ++ due.new) }
+{
+    let end = end_of(row);
+    if let Some(spot) = rows.insert_first(at.peer, at.table, at.key, row)? {
+        return Ok(Some(spot));
+    }
+    if let Err(refused) = plan_end(alloc, due, at, end) {
+        rows.take(at.peer, at.table, at.key);
+        return Err(refused);
+    }
+    Ok(None)
 }
 
 // Puts a row whose end is to be planned, or that no longer ends.
@@ -210,7 +240,6 @@ fn plan_row(
 ) -> Result<(), NoMemory>
     requires rows { AreRows size.peers size.tables rows.old }
     requires inside { IsInside size.peers size.tables (place_at at) }
-    requires found { IsFoundIn rows.old at }
     ensures ok { OnOk result (arrivals rows.new.entries
         ≡ insert_entry place_cmp (arrivals rows.old.entries) (place_at at.entry) (as_arrival row)) }
     ensures err { OnErr result (rows.new ≡ rows.old) }
@@ -220,7 +249,7 @@ fn plan_row(
 {
     let end = end_of(&row);
     let place = at.place(alloc)?;
-    plan_end(alloc, due, &place, end)?;
+    plan_end(alloc, due, at, end)?;
     if let Err(refused) = put_row(rows, size, at, row) {
         forget(due, &place, end, None);
         return Err(refused);
@@ -229,8 +258,8 @@ fn plan_row(
     Ok(())
 }
 
-/// Puts a row that arrives at a moment `t`, in the place of the one that stood there. What is
-/// planned for that one stays where it ends no later, and is planned anew where it does.
+/// Puts a row that arrives at a moment `t`, in the place of the one that stood there. A key whose
+/// spot isn't known is searched once, whether it has rows or not.
 pub fn set_row(
     alloc: Global,
     rows: &mut Rows,
@@ -242,7 +271,42 @@ pub fn set_row(
 ) -> Result<(), NoMemory>
     requires rows { AreRows size.peers size.tables rows.old }
     requires inside { IsInside size.peers size.tables (place_at at) }
-    requires found { IsFoundIn rows.old at }
+    ensures ok { OnOk result (arrivals rows.new.entries
+        ≡ insert_entry place_cmp (arrivals rows.old.entries) (place_at at.entry) (as_arrival row)) }
+    ensures err { OnErr result (rows.new ≡ rows.old) }
+    ensures kept { (items : List (ℕ × Place))
+        → AreKept size.peers size.tables rows.old (items ++ due.old)
+        → AreKept size.peers size.tables rows.new (items ++ due.new) }
+{
+    if at.spot.is_some() {
+        return set_held(alloc, rows, size, due, at, t, row);
+    }
+    let mut row = row;
+    match put_first(alloc, rows, size, due, at, &mut row)? {
+        None => Ok(()),
+        Some(spot) => {
+            let at = At {
+                spot: Some(spot),
+                ..at
+            };
+            set_held(alloc, rows, size, due, at, t, row)
+        }
+    }
+}
+
+// The same for a key that has rows, by a search where no spot is known. What is planned for the row
+// that stood there stays where that ends no later, and is planned anew where it does.
+fn set_held(
+    alloc: Global,
+    rows: &mut Rows,
+    size: Size,
+    due: &mut Wheel<Place>,
+    at: At<'_>,
+    t: u64,
+    row: Row,
+) -> Result<(), NoMemory>
+    requires rows { AreRows size.peers size.tables rows.old }
+    requires inside { IsInside size.peers size.tables (place_at at) }
     ensures ok { OnOk result (arrivals rows.new.entries
         ≡ insert_entry place_cmp (arrivals rows.old.entries) (place_at at.entry) (as_arrival row)) }
     ensures err { OnErr result (rows.new ≡ rows.old) }

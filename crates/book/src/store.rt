@@ -1,7 +1,7 @@
 //! The rows in force, with their ends planned.
 
 ghost use Rattle.std.specs.Prelude.{◌≡◌, ◌<◌, ◌≤◌, ◌^◌, ℕ, List, [], Option, ◌==◌, ◌&&◌, not};
-ghost use Rattle.std.specs.Prelude.{length, map, filter, MatchOption, IfSome, IfNone, IfOk, OnOk};
+ghost use Rattle.std.specs.Prelude.{length, map, filter, MatchOption, IfSome, IfOk, OnOk};
 ghost use Rattle.std.specs.Prelude.{OnErr};
 ghost use Rattle.agg_types.specs.declared.column.Col.{Col as ColName};
 ghost use Rattle.agg_types.specs.declared.event.Cell.{Cell as CellValue};
@@ -13,7 +13,7 @@ ghost use Rattle.fleet_model.specs.Values.{same_key, same_place};
 ghost use Rattle.fleet_model.specs.Keys.{AreInOrder, held_rows, key_rows, worth_of};
 ghost use Rattle.book.specs.Shown.{of_peer, of_spot};
 ghost use Rattle.book.specs.Planned.{IsInside, IsShort, place_at};
-ghost use Rattle.book.specs.Store.{AreRowsOf, IsFound, IsWalk, put_arrival, row_keys};
+ghost use Rattle.book.specs.Store.{AreRowsOf, IsWalk, put_arrival, row_keys};
 
 use crate::at::At;
 use crate::ends::{Size, end_late, plan_again, set_aside};
@@ -90,13 +90,12 @@ impl Store {
         Ok(mem::replace(&mut self.late, Vec::new(self.alloc)))
     }
 
-    /// Where the rows of a key lie, whatever the hint, for the calls that take an `At`: none where
-    /// it has no row.
-    pub(crate) fn spot_at(&self, hint: Option<Spot>, table: usize, key: &Key) -> Option<Spot>
+    /// Where the rows of a key lie, if the hint says so or it was seen lately, for the calls that
+    /// take an `At`.
+    pub(crate) fn spot_near(&self, hint: Option<Spot>, table: usize, key: &Key) -> Option<Spot>
         requires { table < self.now.tables }
-        ensures { IfNone result (key_rows self.now.rows table key.now ≡ []) }
     {
-        self.rows.spot_at(hint, table, key)
+        self.rows.spot_near(hint, table, key)
     }
 
     /// Puts a row that arrives at a moment, in ms, in the place of the one that stood there. One
@@ -112,7 +111,6 @@ impl Store {
     ) -> Result<(), NoMemory>
         requires in_range { t ≤ 2 ^ 62 }
         requires inside { IsInside self.old.peers self.old.tables (place_at at) }
-        requires found { IsFound self.old.rows at }
         requires short { IsShort life }
         ensures ok { OnOk result (self.new ≡ record self.old {
           rows = with_row t self.old.rows (place_at at.entry)

@@ -36,5 +36,5 @@ returns-clause-kept c = λ items kept.
     (c.plan_end.ensures.more items e was))
     (planned_own items c.forget-2.new.due (place_at c.args.at) c.args.row c.end_of-end.result
     c.end_of-end.ensures (rw (← c.in_ok-place.ensures)
-    (c.forget-2.ensures.own c.in_ok-plan_end.ensures.own)))
+    (c.forget-2.ensures.own (rw c.in_ok-place.ensures c.in_ok-plan_end.ensures.own))))
     kept.planned

@@ -6,12 +6,8 @@ use Rattle.fleet_model.specs.Machine.{with_row}
 use Rattle.fleet_model.specs.Moments.{is_live}
 use Rattle.fleet_model.specs.declared.arrival.Arrival.{Arrival}
 use Rattle.book.specs.Planned.{place_at}
-use Rattle.peer_rows.specs.Rows.{peers_of}
-use Rattle.peer_rows.proofs.Kept.{none_then}
-use Rattle.peer_rows.proofs.Placing.{none-mapped}
-use Rattle.book.specs.Shown.{arrivals, of_peer}
+use Rattle.book.specs.Shown.{arrivals}
 use Rattle.book.specs.Store.{InForce, put_arrival}
-use Rattle.book.proofs.Reading.{peers_shown}
 use Rattle.book.proofs.Plans.{with_ended, with_living}
 use Rattle.book.proofs.store.Store.put.Goals as goal
 
@@ -64,10 +60,3 @@ returns-clause-ok c =
 pub invariant_of-self-in_err-set_row : goal.invariant_of-self-in_err-set_row
 invariant_of-self-in_err-set_row c =
     c.set_row.ensures.kept c.self.inside.late.items c.self.invariant
-
-pub set_row-requires-clause-found : goal.set_row-requires-clause-found
-set_row-requires-clause-found c =
-    none_then c.args.at.spot (λ none. none-mapped (of_peer c.args.at.table c.args.at.key.now)
-    (peers_of c.self.inside.rows c.args.at.table c.args.at.key.now)
-    (peers_shown c.args.at.table c.args.at.key.now c.self.inside.rows.entries ∙ none))
-    (rw (← c.self.view_is) at c.requires.found)
