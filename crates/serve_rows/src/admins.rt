@@ -3,7 +3,7 @@
 ghost use Rattle.std.specs.Prelude.{◌≡◌, IfSome};
 ghost use Rattle.hub.specs.Posts.{Follows, SitsDown};
 
-use crate::memory::{Calm, Script, Watch};
+use crate::memory::{Script, Turnstile, Watch};
 use crate::paper::Paper;
 use crate::peers::{Case, say};
 use crate::told::Ending;
@@ -22,12 +22,13 @@ fn serve<J: Naming, H: Wait + Drop, R: Wait>(
     hub: &Hub<J, H>,
     lens: Lens,
     pass: Pass,
+    gate: &Turnstile,
 ) -> Result<Served, Faulted>
     requires pass { SitsDown pass × Follows hub.now pass.seen }
     requires lens { Follows hub.now lens.seen }
     requires reads { source.old.reads ≡ 0 }
 {
-    serve_admin(rt, alloc, source, writer, hub, lens, pass, &Calm)
+    serve_admin(rt, alloc, source, writer, hub, lens, pass, gate)
 }
 
 /// A lens of this hub.
@@ -50,7 +51,8 @@ fn command<J: Naming, H: Wait + Drop, R: Wait>(
     let mut source = Script::new(case.steps, case.reads, &watch);
     let lens = lens_of(rt, hub)?;
     let pass = hub.seat(rt).ok()?;
-    let ended = serve(rt, alloc, &mut source, paper, hub, lens, pass);
+    let gate = Turnstile::new(case.looks);
+    let ended = serve(rt, alloc, &mut source, paper, hub, lens, pass, &gate);
     Some(Ending::of(&ended))
 }
 
@@ -66,4 +68,24 @@ pub fn row<J: Naming, H: Wait + Drop, R: Wait + Print>(
         None => Err(anyhow!("no seat, or no lens")),
         Some(ending) => say(rt, case.title, &paper, ending),
     }
+}
+
+/// How many of so many admins had a seat, and left it.
+pub fn leavers<J: Naming, H: Wait + Drop, R: Wait>(
+    rt: &R,
+    alloc: Global,
+    hub: &Hub<J, H>,
+    case: Case,
+    count: u64,
+) -> u64 {
+    let mut left = 0u64;
+    for _ in 0..count {
+        let mut paper = Paper::new(alloc, case.pen, None);
+        if let Some(ending) = command(rt, alloc, hub, case, &mut paper)
+            && ending.has_left()
+        {
+            left = left.saturating_add(1);
+        }
+    }
+    left
 }

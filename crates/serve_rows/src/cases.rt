@@ -144,6 +144,14 @@ pub const READS: [(&str, u64); 4] = [
     ("read 4 fails", 3),
 ];
 
+/// The looks that find a gate open before one finds it closed.
+pub const LOOKS: [(&str, u64); 4] = [
+    ("the gate is closed at look 1", 0),
+    ("the gate is closed at look 2", 1),
+    ("the gate is closed at look 3", 2),
+    ("the gate is closed at look 4", 3),
+];
+
 /// The writes that work before one fails.
 pub const WRITES: [(&str, u64); 8] = [
     ("write 1 fails", 0),
@@ -156,7 +164,7 @@ pub const WRITES: [(&str, u64); 8] = [
     ("write 8 fails", 7),
 ];
 
-/// What an admin sends whose reads and writes fail.
+/// What an admin sends whose reads and writes fail, or whose gate closes.
 pub const COMMANDS: [Step; 3] = [
     Step::Bytes(b"show table\n"),
     Step::Bytes(b"clear table t\nshow ta"),

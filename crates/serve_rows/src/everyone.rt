@@ -2,7 +2,7 @@
 
 use crate::fleet::{moment_in, sum_in};
 use crate::lobby::Lobby;
-use crate::order::{Order, Who};
+use crate::order::{Course, Order, Who};
 use anyhow::Result;
 use hub::{Hub, Lens, Naming};
 use serve::serve_all;
@@ -29,6 +29,32 @@ const TURNS: [Who; 15] = [
     Who::Timer,
 ];
 
+/// A gate that never closes.
+pub const WHOLE: Course = Course {
+    turns: &TURNS,
+    open: usize::MAX,
+};
+
+/// Who goes when where a gate closes behind the fourth turn. Each has one more turn from then on,
+/// in which it treats what it had waited for; the timer's is the last.
+const LAST_TURNS: [Who; 9] = [
+    Who::First,
+    Who::Second,
+    Who::First,
+    Who::Admin,
+    Who::First,
+    Who::Admin,
+    Who::Second,
+    Who::Third,
+    Who::Timer,
+];
+
+/// A gate that closes while all are at work.
+pub const CLOSING: Course = Course {
+    turns: &LAST_TURNS,
+    open: 4,
+};
+
 /// Prints what a lens shows.
 fn say_shown(rt: &impl Print, alloc: Global, lens: Option<Lens>) -> Result<()> {
     if let Some(mut lens) = lens {
@@ -38,13 +64,13 @@ fn say_shown(rt: &impl Print, alloc: Global, lens: Option<Lens>) -> Result<()> {
     Ok(())
 }
 
-/// Serves all that come through the doors in memory.
+/// Serves all that come through the doors in memory, in this order.
 pub fn row<
     J: Naming + Send + Sync,
     H: Wait + Drop + Send,
     R: Threads + Wait + Print + Copy + Send + Sync,
->(rt: &R, alloc: Global, hub: &Hub<J, H>) -> Result<()> {
-    let order = Order::new(&TURNS);
+>(rt: &R, alloc: Global, hub: &Hub<J, H>, course: Course) -> Result<()> {
+    let order = Order::new(course);
     let lobby = Lobby::new(rt, alloc, &order);
     let ended = serve_all(rt, alloc, &lobby, &lobby, hub, &lobby);
     println!(rt; "{ended:?}")?;

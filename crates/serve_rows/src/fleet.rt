@@ -1,37 +1,20 @@
 //! The fleet that is served, and what a lens shows of it.
 
-use agg_types::{Col, Config, Items, Key, KeyKind, Name, NoMemory, Shape};
+use agg_types::{Key, NoMemory};
 use anyhow::Result;
 use book::Summed;
 use hub::{Lens, Opening};
 use std::alloc::Global;
 
 /// The collector `agg` of two peers, with a table of addresses that stores gpc0.
-fn config(alloc: Global) -> Result<Config, NoMemory> {
-    let table = Shape {
-        name: Name::copy(alloc, b"t")?,
-        kind: KeyKind::Ip,
-        size: 1000,
-        cols: Items::copy(alloc, &[(Col::Gpc0, 0)])?,
-    };
-    let mut config = Config {
-        me: Name::copy(alloc, b"agg")?,
-        peers: Items::from_vec(Vec::new(alloc)),
-        tables: Items::from_vec(Vec::new(alloc)),
-        filters: Items::from_vec(Vec::new(alloc)),
-        ranks: Items::from_vec(Vec::new(alloc)),
-    };
-    config.peers.push(Name::copy(alloc, b"lb1")?)?;
-    config.peers.push(Name::copy(alloc, b"lb2")?)?;
-    config.tables.push(table)?;
-    Ok(config)
-}
+const FLEET: &[u8] = b"name agg\npeer lb1\npeer lb2\ntable t type ip size 1000 store gpc0\n";
 
 /// The fleet, just opened.
 pub fn opening(alloc: Global) -> Result<Opening> {
-    let config = config(alloc)?;
-    config.check()?;
-    Ok(Opening::new(alloc, config, 0)?)
+    match agg_config::read(alloc, FLEET) {
+        Ok(config) => Ok(Opening::new(alloc, config, 0)?),
+        Err(fault) => Err(fault.cause.into()),
+    }
 }
 
 /// The sum of the address 10.0.0.1, as a look shows it: 0 where no peer holds it, none where there

@@ -189,6 +189,6 @@ impl<'a, R: Wait> Gate for Lobby<'a, R> {
     }
 
     fn stop(&self) -> bool {
-        false
+        self.order.is_closed()
     }
 }

@@ -5,7 +5,7 @@
 //! events the history has up to the last that it told (`last`), and up to its leave (`left`).
 //! The last lines are of two peers, one that nobody knows, an admin and a timer at once, each in a
 //! thread of its own, which go one at a time in a fixed order: one thread for all would wait for
-//! ever.
+//! ever. The first time all say what they have, the second time a gate closes before they have.
 #![tactic(auto)]
 
 ghost use Rattle.std.specs.Prelude.{◌≡◌};
@@ -25,9 +25,12 @@ mod timers;
 mod told;
 
 use anyhow::Result;
+use everyone::{CLOSING, WHOLE};
 use fleet::opening;
 use hub::{Hub, Naming, Opening};
-use scene::{Scene, interrupted, play, read_to, unseated, whole, written_to};
+use order::Course;
+use peers::Case;
+use scene::{Scene, gated, interrupted, play, read_to, unseated, whole, written_to};
 use std::alloc::Global;
 use std::marker::Brand;
 use std::sync::Wait;
@@ -51,26 +54,48 @@ fn stage_all<J: Naming + Send + Sync, R: Print + Threads + Wait + Copy + Send + 
     rt: &R,
     alloc: Global,
     opening: Opening,
+    course: Course,
 ) -> Result<()>
     requires { opening.of ≡ J.book }
 {
     let hub = Hub::<J, &R>::new(alloc, rt, opening, 4)?;
-    everyone::row(rt, alloc, &hub)
+    everyone::row(rt, alloc, &hub, course)
 }
 
-/// The scenes, in their order.
-fn scenes(alloc: Global) -> Result<Vec<Scene>> {
-    let mut scenes = Vec::new(alloc);
+/// Sessions to which nothing happens from outside, and some without a seat.
+fn add_sessions(scenes: &mut Vec<Scene>) -> Result<()> {
     for (title, steps) in cases::SESSIONS {
         scenes.push(Scene::Session(whole(title, steps)))?;
     }
-    scenes.push(Scene::Session(unseated("no seat", &cases::TALK)))?;
-    scenes.push(Scene::Session(unseated("no seat, no hello", &cases::NO_HELLO)))?;
-    scenes.push(Scene::Session(interrupted("interrupted writes", &cases::TALK, 3)))?;
-    for (title, reads) in cases::READS {
-        scenes.push(Scene::Next(read_to(title, &cases::TALK, reads)))?;
-        scenes.push(Scene::Admin(read_to(title, &cases::COMMANDS, reads)))?;
+    for case in [
+        unseated("no seat", &cases::TALK),
+        unseated("no seat, no hello", &cases::NO_HELLO),
+        interrupted("interrupted writes", &cases::TALK, 3),
+    ] {
+        scenes.push(Scene::Session(case))?;
     }
+    Ok(())
+}
+
+/// A session with the next peer behind it, and an admin.
+fn add_both(scenes: &mut Vec<Scene>, session: Case, admin: Case) -> Result<()> {
+    scenes.push(Scene::Next(session))?;
+    scenes.push(Scene::Admin(admin))?;
+    Ok(())
+}
+
+/// Sessions and admins whose reads fail.
+fn add_failed_reads(scenes: &mut Vec<Scene>) -> Result<()> {
+    for (title, reads) in cases::READS {
+        let session = read_to(title, &cases::TALK, reads);
+        add_both(scenes, session, read_to(title, &cases::COMMANDS, reads))?;
+    }
+    Ok(())
+}
+
+/// Sessions whose writes fail, admins to which nothing happens from outside, and admins whose
+/// writes fail.
+fn add_failed_writes(scenes: &mut Vec<Scene>) -> Result<()> {
     for (title, writes) in cases::WRITES {
         scenes.push(Scene::Next(written_to(title, &cases::TALK, writes, 3)))?;
     }
@@ -80,9 +105,43 @@ fn scenes(alloc: Global) -> Result<Vec<Scene>> {
     for (title, writes) in cases::WRITES {
         scenes.push(Scene::Admin(written_to(title, &cases::COMMANDS, writes, 20)))?;
     }
-    scenes.push(Scene::Leaving(600))?;
-    scenes.push(Scene::Timer([100, 200, 150, 300]))?;
-    scenes.push(Scene::Timer([70, 70, 70, 70]))?;
+    Ok(())
+}
+
+/// Sessions and admins whose gate closes.
+fn add_gates(scenes: &mut Vec<Scene>) -> Result<()> {
+    for (title, looks) in cases::LOOKS {
+        let session = gated(title, &cases::TALK, looks);
+        add_both(scenes, session, gated(title, &cases::COMMANDS, looks))?;
+    }
+    Ok(())
+}
+
+/// Many workers, one after the other, that end before their source does; and timers.
+fn add_last(scenes: &mut Vec<Scene>) -> Result<()> {
+    for scene in [
+        Scene::Leaving(
+            read_to("sessions whose second read fails", &cases::TALK, 1),
+            600,
+        ),
+        Scene::Leaving(gated("sessions whose gate closes", &cases::TALK, 1), 600),
+        Scene::Quitting(gated("admins whose gate closes", &cases::COMMANDS, 2), 600),
+        Scene::Timer([100, 200, 150, 300]),
+        Scene::Timer([70, 70, 70, 70]),
+    ] {
+        scenes.push(scene)?;
+    }
+    Ok(())
+}
+
+/// The scenes, in their order.
+fn scenes(alloc: Global) -> Result<Vec<Scene>> {
+    let mut scenes = Vec::new(alloc);
+    add_sessions(&mut scenes)?;
+    add_failed_reads(&mut scenes)?;
+    add_failed_writes(&mut scenes)?;
+    add_gates(&mut scenes)?;
+    add_last(&mut scenes)?;
     Ok(scenes)
 }
 
@@ -90,5 +149,8 @@ fn main(rt: HostRuntime) -> Result<()> {
     for scene in scenes(rt.alloc())? {
         stage::<Brand, HostRuntime>(&rt, rt.alloc(), opening(rt.alloc())?, scene)?;
     }
-    stage_all::<Brand, HostRuntime>(&rt, rt.alloc(), opening(rt.alloc())?)
+    for course in [WHOLE, CLOSING] {
+        stage_all::<Brand, HostRuntime>(&rt, rt.alloc(), opening(rt.alloc())?, course)?;
+    }
+    Ok(())
 }

@@ -107,14 +107,27 @@ pub fn copied(bytes: &[u8], buffer: &mut [u8]) -> Came
     Came::Bytes(count)
 }
 
-/// A gate that lets all pass and tells nothing.
-#[derive(Clone, Copy)]
-pub struct Calm;
+/// A gate that is open for so many looks, and closed from then on.
+#[derive(Drop)]
+pub struct Turnstile {
+    open: u64,
+    looks: AtomicU64,
+}
 
-impl Gate for Calm {
+impl Turnstile {
+    /// A gate at which nobody looked yet.
+    pub fn new(open: u64) -> Turnstile {
+        Turnstile {
+            open,
+            looks: AtomicU64::new(0),
+        }
+    }
+}
+
+impl Gate for Turnstile {
     fn turn(&self, _place: Place) {}
 
     fn stop(&self) -> bool {
-        false
+        self.looks.fetch_add(1, Ordering::SeqCst) >= self.open
     }
 }

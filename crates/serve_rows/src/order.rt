@@ -15,22 +15,29 @@ pub enum Who {
     Timer,
 }
 
+/// Who goes when, and the first turn that finds the gate closed.
+#[derive(Clone, Copy)]
+pub struct Course {
+    pub turns: &'static [Who],
+    pub open: usize,
+}
+
 /// How many workers there are.
 const ALL: usize = 5;
 
 /// An order of turns, and how many of them are over. None begins before all workers are here.
 #[derive(Drop)]
 pub struct Order {
-    turns: &'static [Who],
+    course: Course,
     here: AtomicUsize,
     over: AtomicUsize,
 }
 
 impl Order {
     /// An order of which no turn is over.
-    pub fn new(turns: &'static [Who]) -> Order {
+    pub fn new(course: Course) -> Order {
         Order {
-            turns,
+            course,
             here: AtomicUsize::new(0),
             over: AtomicUsize::new(0),
         }
@@ -43,7 +50,12 @@ impl Order {
 
     /// Whether all turns are over.
     pub fn is_over(&self) -> bool {
-        self.place() >= self.turns.len()
+        self.place() >= self.course.turns.len()
+    }
+
+    /// Whether the gate is closed.
+    pub fn is_closed(&self) -> bool {
+        self.place() >= self.course.open
     }
 
     /// A worker is here, and has its seat.
@@ -56,7 +68,7 @@ impl Order {
         if self.here.load(Ordering::SeqCst) < ALL {
             return false;
         }
-        match self.turns.get(self.place()) {
+        match self.course.turns.get(self.place()) {
             None => true,
             Some(turn) => *turn == who,
         }

@@ -4,7 +4,7 @@ ghost use Rattle.std.specs.Prelude.{◌≡◌, IfSome};
 ghost use Rattle.hub.specs.Posts.{Follows, SitsDown};
 
 use crate::fleet::sum_in;
-use crate::memory::{Calm, Script, Step, Watch};
+use crate::memory::{Script, Step, Turnstile, Watch};
 use crate::paper::{Paper, Pen};
 use crate::told::Ending;
 use anyhow::Result;
@@ -13,12 +13,14 @@ use serve::{Faulted, Served, serve_session};
 use std::alloc::Global;
 use std::sync::Wait;
 
-/// A connection: what it sends, how many of its reads work, and how it takes what it is sent.
+/// A connection: what it sends, how many of its reads work, how many looks find its gate open, and
+/// how it takes what it is sent.
 #[derive(Clone, Copy)]
 pub struct Case {
     pub title: &'static str,
     pub steps: &'static [Step],
     pub reads: u64,
+    pub looks: u64,
     pub pen: Pen,
     pub seated: bool,
 }
@@ -32,11 +34,12 @@ fn serve<J: Naming, H: Wait + Drop, R: Wait>(
     watch: &Watch,
     hub: &Hub<J, H>,
     pass: Option<Pass>,
+    gate: &Turnstile,
 ) -> Result<Served, Faulted>
     requires pass { IfSome pass (λ p. SitsDown p × Follows hub.now p.seen) }
     requires reads { source.old.reads ≡ 0 }
 {
-    serve_session(rt, alloc, source, writer, watch, hub, pass, &Calm)
+    serve_session(rt, alloc, source, writer, watch, hub, pass, gate)
 }
 
 /// A seat, if the case has one.
@@ -57,7 +60,8 @@ pub fn talk<J: Naming, H: Wait + Drop, R: Wait>(
     let watch = Watch::new();
     let mut source = Script::new(case.steps, case.reads, &watch);
     let pass = seat_for(rt, hub, case);
-    let ended = serve(rt, alloc, &mut source, paper, &watch, hub, pass);
+    let gate = Turnstile::new(case.looks);
+    let ended = serve(rt, alloc, &mut source, paper, &watch, hub, pass, &gate);
     Ending::of(&ended)
 }
 

@@ -20,8 +20,10 @@ pub enum Scene {
     Admin(Case),
     /// A timer over these moments.
     Timer([u64; 4]),
-    /// So many sessions one after the other, each with a read that fails.
-    Leaving(u64),
+    /// So many sessions one after the other.
+    Leaving(Case, u64),
+    /// So many admins one after the other.
+    Quitting(Case, u64),
 }
 
 /// A case without a fault.
@@ -30,6 +32,7 @@ pub fn whole(title: &'static str, steps: &'static [Step]) -> Case {
         title,
         steps,
         reads: 1000,
+        looks: 1000,
         pen: EVEN,
         seated: true,
     }
@@ -39,6 +42,13 @@ pub fn whole(title: &'static str, steps: &'static [Step]) -> Case {
 pub fn read_to(title: &'static str, steps: &'static [Step], reads: u64) -> Case {
     let mut case = whole(title, steps);
     case.reads = reads;
+    case
+}
+
+/// A case whose gate is open for so many looks.
+pub fn gated(title: &'static str, steps: &'static [Step], looks: u64) -> Case {
+    let mut case = whole(title, steps);
+    case.looks = looks;
     case
 }
 
@@ -89,14 +99,8 @@ fn admin<J: Naming, H: Wait + Drop, R: Wait + Print>(
     peers::say_sum(rt, alloc, hub.lens(rt).ok())
 }
 
-fn leaving<J: Naming, H: Wait + Drop, R: Wait + Print>(
-    rt: &R,
-    alloc: Global,
-    hub: &Hub<J, H>,
-    count: u64,
-) -> Result<()> {
-    let left = peers::leavers(rt, alloc, hub, read_to("", &cases::TALK, 1), count);
-    println!(rt; "of {count} sessions whose second read fails {left} had a seat and left it")?;
+fn say_left(rt: &impl Print, case: Case, count: u64, left: u64) -> Result<()> {
+    println!(rt; "of {count} {} {left} had a seat and left it", case.title)?;
     Ok(())
 }
 
@@ -112,6 +116,16 @@ pub fn play<J: Naming, H: Wait + Drop, R: Wait + Print>(
         Scene::Next(case) => next(rt, alloc, hub, case),
         Scene::Admin(case) => admin(rt, alloc, hub, case),
         Scene::Timer(moments) => timers::row(rt, alloc, hub, moments),
-        Scene::Leaving(count) => leaving(rt, alloc, hub, count),
+        Scene::Leaving(case, count) => {
+            say_left(rt, case, count, peers::leavers(rt, alloc, hub, case, count))
+        }
+        Scene::Quitting(case, count) => {
+            say_left(
+                rt,
+                case,
+                count,
+                admins::leavers(rt, alloc, hub, case, count),
+            )
+        }
     }
 }

@@ -3,10 +3,11 @@
 ghost use Rattle.hub.specs.Posts.{Follows, SitsDown};
 
 use crate::fleet::moment_in;
+use crate::memory::Turnstile;
 use crate::told::Ending;
 use anyhow::{Result, anyhow};
 use hub::{Hub, Naming, Pass};
-use serve::{Clock, Faulted, Gate, Place, Served, run_timer};
+use serve::{Clock, Faulted, Served, run_timer};
 use std::alloc::Global;
 use std::sync::Wait;
 use std::sync::atomic::{AtomicUsize, Ordering};
@@ -31,34 +32,21 @@ impl Clock for Beats {
     }
 }
 
-/// A gate that stops a timer behind four turns.
-#[derive(Drop)]
-struct Turns {
-    made: AtomicUsize,
-}
-
-impl Gate for Turns {
-    fn turn(&self, _place: Place) {
-        self.made.fetch_add(1, Ordering::SeqCst);
-    }
-
-    fn stop(&self) -> bool {
-        self.made.load(Ordering::SeqCst) >= 4
-    }
-}
+/// The turns that a timer makes before its gate closes.
+const TURNS: u64 = 4;
 
 /// Runs a timer.
 fn run<J: Naming, H: Wait + Drop, R: Wait>(
     rt: &R,
     alloc: Global,
     beats: &Beats,
-    turns: &Turns,
+    gate: &Turnstile,
     hub: &Hub<J, H>,
     pass: Pass,
 ) -> Result<Served, Faulted>
     requires { SitsDown pass × Follows hub.now pass.seen }
 {
-    run_timer(rt, alloc, beats, hub, pass, turns)
+    run_timer(rt, alloc, beats, hub, pass, gate)
 }
 
 /// Runs a timer over these moments, and tells how it ended. None without a seat.
@@ -72,11 +60,9 @@ fn tick<J: Naming, H: Wait + Drop, R: Wait>(
         moments,
         at: AtomicUsize::new(0),
     };
-    let turns = Turns {
-        made: AtomicUsize::new(0),
-    };
+    let gate = Turnstile::new(TURNS);
     let pass = hub.seat(rt).ok()?;
-    let ended = run(rt, alloc, &beats, &turns, hub, pass);
+    let ended = run(rt, alloc, &beats, &gate, hub, pass);
     Some(Ending::of(&ended))
 }
 
