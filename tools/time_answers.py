@@ -16,7 +16,6 @@ import struct
 import tempfile
 import time
 
-from ask import ask_proxy
 from peers_protocol import UPDATE, put_int
 from proxies import Collector, free_ports
 from time_receiver import COLLECTOR_CONFIG, Peer, definition, message, start_haproxy
@@ -62,8 +61,7 @@ def main():
     options = words.parse_args()
     with tempfile.TemporaryDirectory() as folder:
         if options.haproxy:
-            process, address = start_haproxy(options.haproxy, 1, folder)
-            asked = lambda question: ask_proxy(f"{folder}/stats", question, timeout=60)
+            process, address, asked = start_haproxy(options.haproxy, 1, folder)
         elif options.collector:
             config = pathlib.Path(folder) / "collector.conf"
             config.write_text(COLLECTOR_CONFIG.format(peers="peer lb1"))

@@ -4,6 +4,8 @@
     time_receiver.py --collector ../crates/aggregator/out/aggregator --keys 100000 --updates 1000000
     time_receiver.py --haproxy /usr/sbin/haproxy --keys 100000 --updates 1000000
     time_receiver.py --to 127.0.0.1:10000 --keys 100000 --updates 1000000
+    time_receiver.py --collector ../crates/aggregator/out/aggregator --ask "show table t key 10.0.0.7"
+    time_receiver.py --collector ../crates/aggregator/out/aggregator --senders 2 --ask "show table t" --pause 0
 
 It speaks as the peer `lb1` to the receiver `agg`, defines a table `t` of addresses with gpc0, conn_cnt and
 http_req_rate(10s), and sends one update of each key, in a scattered order, and then the asked number of
@@ -12,6 +14,10 @@ last update. With `--collector` or `--haproxy` it starts that program as the rec
 how much resident memory a key took; `--threads` is HAProxy's `nbthread`. `--random` draws the keys of the
 updates instead, the same in every run. `--senders 4` pushes as four peers at once, each with the same keys, and
 tells what all of them bring. The bytes are prepared before the clock starts.
+
+With `--ask` as many updates, without ids, are pushed twice in each of some rounds behind those: alone, and beside
+an admin who asks this over and over, with a pause of 0.1 s or `--pause` between an answer and the next question. It
+tells the medians of both, how they differ, and how long the answers took, at rest (five of them) and meanwhile.
 """
 
 import argparse
@@ -20,13 +26,15 @@ import pathlib
 import random
 import select
 import socket
+import statistics
 import struct
 import subprocess
 import sys
 import tempfile
 import time
 
-from peers_protocol import ACK, DEFINE, UPDATE, messages, put_int
+from ask import ask, ask_proxy
+from peers_protocol import ACK, DEFINE, INCREMENTAL, UPDATE, messages, put_int
 
 SCATTER = 2147483647
 
@@ -44,7 +52,7 @@ defaults
     timeout connect 1s
 peers fleet
     peer agg 127.0.0.1:{port}
-    peer lb1 127.0.0.1:1
+{peers}
 backend t
     stick-table type ip size 2m expire 10m store gpc0,conn_cnt,http_req_rate(10s) peers fleet
 """
@@ -62,13 +70,16 @@ def definition(expiry):
 
 
 def updates(first, numbers):
-    """The bytes of updates of these key numbers, with ids from `first` on."""
+    """The bytes of updates of these key numbers, with ids from `first` on; without ids where there is no first."""
     out = bytearray()
     values = put_int(7) + put_int(9)
     rates = [values + put_int(elapsed) + put_int(40) + put_int(30) for elapsed in range(240)]
     for place, number in enumerate(numbers):
-        key = struct.pack(">I", 0x0A000000 + number)
-        out += message(UPDATE, struct.pack(">I", first + place) + key + rates[place % 240])
+        row = struct.pack(">I", 0x0A000000 + number) + rates[place % 240]
+        if first is None:
+            out += message(INCREMENTAL, row)
+        else:
+            out += message(UPDATE, struct.pack(">I", first + place) + row)
     return bytes(out)
 
 
@@ -122,13 +133,14 @@ def resident(pid):
     return 0
 
 
-def start_haproxy(program, threads, folder):
-    """Starts HAProxy as the receiver; its process and its address."""
+def start_haproxy(program, threads, folder, senders=("lb1",)):
+    """Starts HAProxy as the receiver; its process, its address and what asks it."""
     with socket.socket() as probe:
         probe.bind(("127.0.0.1", 0))
         port = probe.getsockname()[1]
     config = pathlib.Path(folder) / "receiver.cfg"
-    config.write_text(CONFIG.format(threads=threads, folder=folder, port=port))
+    peers = "\n".join(f"    peer {name} 127.0.0.1:1" for name in senders)
+    config.write_text(CONFIG.format(threads=threads, folder=folder, port=port, peers=peers))
     process = subprocess.Popen([program, "-L", "agg", "-f", str(config), "-db"], stderr=subprocess.DEVNULL)
     for _ in range(50):
         try:
@@ -138,29 +150,28 @@ def start_haproxy(program, threads, folder):
             time.sleep(0.1)
     # In its first second it still tries to call its peers, and may close a connection of theirs for it.
     time.sleep(1)
-    return process, ("127.0.0.1", port)
+    return process, ("127.0.0.1", port), lambda question: ask_proxy(f"{folder}/stats", question, timeout=60)
 
 
 def start_collector(program, senders, folder):
-    """Starts the collector as the receiver; its process and its peers' address."""
+    """Starts the collector as the receiver; its process, its peers' address and what asks it."""
     probes = [socket.create_server(("127.0.0.1", 0)) for _ in range(2)]
-    peers, admin = [f"127.0.0.1:{probe.getsockname()[1]}" for probe in probes]
+    peers, admin = [probe.getsockname() for probe in probes]
     for probe in probes:
         probe.close()
     names = "\n".join(f"peer {name}" for name in senders)
     config = pathlib.Path(folder) / "collector.conf"
     config.write_text(COLLECTOR_CONFIG.format(peers=names))
     with open(config, "rb") as text:
-        process = subprocess.Popen([program, "listen", "--peers", peers, "--admin", admin], stdin=text,
-                                   stdout=subprocess.PIPE, stderr=subprocess.DEVNULL)
+        words = [program, "listen", "--peers", "%s:%d" % peers, "--admin", "%s:%d" % admin]
+        process = subprocess.Popen(words, stdin=text, stdout=subprocess.PIPE, stderr=subprocess.DEVNULL)
     if process.stdout.readline() != b"listening\n":
         sys.exit("the collector doesn't listen")
-    host, port = peers.split(":")
-    return process, (host, int(port))
+    return process, peers, lambda question: ask(admin, question, timeout=60)
 
 
 def streams(options):
-    """The bytes that make each key known, and those of the updates behind them."""
+    """The bytes of each push: they make each key known, update the keys, and again in each round."""
     scattered = [(place * SCATTER) % options.keys for place in range(options.keys)]
     first = definition(options.expiry) + updates(1, scattered)
     if options.random:
@@ -168,20 +179,87 @@ def streams(options):
         again = [draw.randrange(options.keys) for _ in range(options.updates)]
     else:
         again = [scattered[place % options.keys] for place in range(options.updates)]
-    return first, updates(options.keys + 1, again)
+    rounds = [updates(None, again)] * (2 * options.rounds) if options.ask else []
+    return [first, updates(options.keys + 1, again)] + rounds
 
 
 def push_as(address, options, sender, data, turns, told):
-    """One peer's two pushes, each once all peers are ready."""
+    """One peer's pushes, each once all peers are ready."""
     peer = Peer(address, sender, options.receiver)
-    for bytes_of, last in zip(data, (options.keys, options.keys + options.updates)):
+    for turn, bytes_of in enumerate(data):
         turns.wait()
-        took = peer.push(bytes_of, last)
+        took = peer.push(bytes_of, options.keys + turn * options.updates)
         told.put(took)
         turns.wait()
 
 
-def measure(address, options, pid):
+def timed(asked, question):
+    """How long an answer takes, in ms, and how many bytes it has."""
+    start = time.perf_counter()
+    answer = asked(question)
+    return (time.perf_counter() - start) * 1e3, len(answer)
+
+
+def ask_on(asked, options, done, answers):
+    """Asks until the push is done, and tells how long each answer took."""
+    took = []
+    while not done.is_set():
+        took.append(timed(asked, options.ask)[0])
+        time.sleep(options.pause)
+    answers.put(took)
+
+
+def tell_answers(when, took):
+    """Prints how long answers took."""
+    print(f"{when}: {len(took)} answers, in {statistics.median(took):.1f} ms (median), "
+          f"{min(took):.1f} to {max(took):.1f}")
+
+
+def tell_push(what, total, took):
+    """Prints how long an update took, in us."""
+    print(f"{total} {what}: {took:.2f} us each, {1 / took:.2f} million a second")
+
+
+def push_all(count, turns, told):
+    """Lets all peers push; the us that an update took."""
+    turns.wait()
+    took = max(told.get() for _ in range(turns.parties - 1))
+    turns.wait()
+    return took / (count * (turns.parties - 1)) * 1e6
+
+
+def push_asked(options, asked, turns, told):
+    """Lets all peers push beside an admin; the us that an update took, and the ms of each answer."""
+    done, answers = multiprocessing.Event(), multiprocessing.Queue()
+    admin = multiprocessing.Process(target=ask_on, args=(asked, options, done, answers))
+    admin.start()
+    took = push_all(options.updates, turns, told)
+    done.set()
+    waited = answers.get()
+    admin.join()
+    return took, waited
+
+
+def measure_asked(options, asked, turns, told):
+    """Rounds of pushes, alone and beside an admin."""
+    total = options.updates * (turns.parties - 1)
+    at_rest = [timed(asked, options.ask) for _ in range(5)]
+    tell_answers(f"at rest, {at_rest[-1][1]} bytes", [took for took, _ in at_rest])
+    alone, beside, waited = [], [], []
+    for _ in range(options.rounds):
+        alone.append(push_all(options.updates, turns, told))
+        took, answers = push_asked(options, asked, turns, told)
+        beside.append(took)
+        waited += answers
+    tell_push("updates without ids, alone", total, statistics.median(alone))
+    tell_push("the same beside an admin", total, statistics.median(beside))
+    tell_answers("meanwhile", waited)
+    both = sorted(after / before for before, after in zip(alone, beside))
+    print(f"beside an admin an update took {statistics.median(both):.2f} of the time (median of {options.rounds}), "
+          f"{both[0]:.2f} to {both[-1]:.2f}")
+
+
+def measure(address, options, pid, asked=None):
     data = streams(options)
     before = resident(pid) if pid else 0
     senders = names(options)
@@ -190,14 +268,12 @@ def measure(address, options, pid):
              for name in senders]
     for peer in peers:
         peer.start()
-    for what, count in (("new keys", options.keys), ("updates of held keys", options.updates)):
-        turns.wait()
-        took = max(told.get() for _ in senders)
-        total = count * len(senders)
-        print(f"{total} {what}: {took / total * 1e6:.2f} us each, {total / took / 1e6:.2f} million a second")
-        if pid and what == "new keys":
-            print(f"resident: {(resident(pid) - before) / options.keys:.0f} bytes a key")
-        turns.wait()
+    tell_push("new keys", options.keys * len(senders), push_all(options.keys, turns, told))
+    if pid:
+        print(f"resident: {(resident(pid) - before) / options.keys:.0f} bytes a key")
+    tell_push("updates of held keys", options.updates * len(senders), push_all(options.updates, turns, told))
+    if options.ask:
+        measure_asked(options, asked, turns, told)
     for peer in peers:
         peer.join()
 
@@ -218,10 +294,15 @@ def main():
     words.add_argument("--expiry", type=int, default=600000)
     words.add_argument("--random", action="store_true")
     words.add_argument("--senders", type=int, default=1, help="how many peers push at once")
+    words.add_argument("--ask", help="what an admin asks while the updates are pushed once more")
+    words.add_argument("--rounds", type=int, default=5, help="how often they are pushed alone and beside an admin")
+    words.add_argument("--pause", type=float, default=0.1, help="how long the admin rests, in seconds")
     words.add_argument("--sender", default="lb1")
     words.add_argument("--receiver", default="agg")
     words.add_argument("--pid", type=int, help="the receiver's process, whose memory is to be told")
     options = words.parse_args()
+    if options.to and options.ask:
+        words.error("--ask needs --collector or --haproxy")
     if options.to:
         host, port = options.to.rsplit(":", 1)
         measure((host, int(port)), options, options.pid)
@@ -230,11 +311,11 @@ def main():
         words.error("--collector, --haproxy or --to is needed")
     with tempfile.TemporaryDirectory() as folder:
         if options.collector:
-            process, address = start_collector(options.collector, names(options), folder)
+            process, address, asked = start_collector(options.collector, names(options), folder)
         else:
-            process, address = start_haproxy(options.haproxy, options.threads, folder)
+            process, address, asked = start_haproxy(options.haproxy, options.threads, folder, names(options))
         try:
-            measure(address, options, process.pid)
+            measure(address, options, process.pid, asked)
         finally:
             process.terminate()
             process.wait()
