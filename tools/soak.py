@@ -55,18 +55,20 @@ class Sender:
         self.spoke = time.monotonic()
 
     def push(self, draw):
-        """Sends some updates, and waits for their acknowledgement. One that was put aside for so long that the
-        collector may have ended it for its silence calls again first, as a proxy does."""
+        """Sends some updates, waits for their acknowledgement, and tells how many they were. One that was put
+        aside for so long that the collector may have ended it for its silence calls again first, as a proxy does."""
         if time.monotonic() - self.spoke > LONG:
             self.lose()
         out = bytearray()
-        for _ in range(draw.randrange(1, 3000)):
+        count = draw.randrange(1, 3000)
+        for _ in range(count):
             key, value = draw.randrange(KEYS), draw.randrange(600)
             self.sent, self.rows[key] = self.sent + 1, value
             payload = struct.pack(">I", self.sent) + struct.pack(">I", 0x0A000000 + key) + put_int(value)
             out += message(UPDATE, payload)
         self.peer.push(bytes(out), self.sent)
         self.spoke = time.monotonic()
+        return count
 
     def lose(self):
         """Is lost and comes back."""
@@ -105,9 +107,7 @@ def round_of(collector, senders, draw, seconds, pause):
     while time.monotonic() < end:
         time.sleep(pause)
         sender = draw.choice(senders)
-        before = sender.sent
-        sender.push(draw)
-        sent += sender.sent - before
+        sent += sender.push(draw)
         if draw.random() < 0.02:
             sender.lose()
         if draw.random() < 0.05:
