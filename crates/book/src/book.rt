@@ -92,7 +92,7 @@ impl Book {
 
     /// What `step` does and answers, whatever the hint at where the rows of a Put's key lie. It
     /// says where they lay, for another book that took the same events: none where the key had no
-    /// rows, or where the event isn't a Put that counts.
+    /// rows or they weren't seen lately, or where the event isn't a Put that counts.
     pub fn step_at(&mut self, event: &Event, hint: Option<Spot>) -> Result<Option<Spot>, NoMemory>
         ensures ok { OnOk result (self.new ≡ after self.old event.now) }
         ensures stands { OnOk result ((config : Config) (opening : ℕ) (events : List Event)

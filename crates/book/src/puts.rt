@@ -29,6 +29,7 @@ use expiry_wheel::{DueIndex, Wheel};
 use peer_rows::{Cells, Held, Row, Rows, Spot};
 use period_rate::Rate;
 use std::alloc::Global;
+use std::mem;
 
 /// A row that arrives at a moment, in ms.
 pub fn new_row(
@@ -179,20 +180,26 @@ fn forget(due: &mut Wheel<Place>, place: &Place, planned: Option<u64>, end: Opti
 }
 
 // Puts a row at a place: one that stands there is exchanged for it.
-fn put_row(rows: &mut Rows, size: Size, at: At<'_>, row: Row) -> Result<(), NoMemory>
+fn put_row(
+    alloc: Global,
+    rows: &mut Rows,
+    size: Size,
+    at: At<'_>,
+    row: &mut Row,
+) -> Result<(), NoMemory>
     requires rows { AreRows size.peers size.tables rows.old }
     requires inside { IsInside size.peers size.tables (place_at at) }
     ensures ok { OnOk result (rows.new ≡ record rows.old
-        { entries = insert_entry place_cmp rows.old.entries (place_at at.entry) row }) }
+        { entries = insert_entry place_cmp rows.old.entries (place_at at.entry) row.old }) }
     ensures err { OnErr result (rows.new ≡ rows.old) }
     ensures held { IsSome (lookup (is_at (place_cmp (place_at at.entry))) rows.old.entries)
         → IsOk result }
     ensures ordered { AreInOrder rows.new.entries }
 {
-    let mut row = row;
-    if rows.exchange_at(at.spot, at.peer, at.table, at.key, &mut row) {
+    if rows.exchange_at(at.spot, at.peer, at.table, at.key, row) {
         return Ok(());
     }
+    let row = mem::replace(row, Row::blank(alloc));
     rows.put_at(at.spot, at.peer, at.table, at.key, row)?;
     Ok(())
 }
@@ -236,21 +243,21 @@ fn plan_row(
     due: &mut Wheel<Place>,
     at: At<'_>,
     planned: Option<u64>,
-    row: Row,
+    row: &mut Row,
 ) -> Result<(), NoMemory>
     requires rows { AreRows size.peers size.tables rows.old }
     requires inside { IsInside size.peers size.tables (place_at at) }
-    ensures ok { OnOk result (arrivals rows.new.entries
-        ≡ insert_entry place_cmp (arrivals rows.old.entries) (place_at at.entry) (as_arrival row)) }
+    ensures ok { OnOk result (arrivals rows.new.entries ≡ insert_entry place_cmp
+        (arrivals rows.old.entries) (place_at at.entry) (as_arrival row.old)) }
     ensures err { OnErr result (rows.new ≡ rows.old) }
     ensures kept { (items : List (ℕ × Place))
         → AreKept size.peers size.tables rows.old (items ++ due.old)
         → AreKept size.peers size.tables rows.new (items ++ due.new) }
 {
-    let end = end_of(&row);
+    let end = end_of(row);
     let place = at.place(alloc)?;
     plan_end(alloc, due, at, end)?;
-    if let Err(refused) = put_row(rows, size, at, row) {
+    if let Err(refused) = put_row(alloc, rows, size, at, row) {
         forget(due, &place, end, None);
         return Err(refused);
     }
@@ -258,8 +265,9 @@ fn plan_row(
     Ok(())
 }
 
-/// Puts a row that arrives at a moment `t`, in the place of the one that stood there. A key whose
-/// spot isn't known is searched once, whether it has rows or not.
+/// Puts a row that arrives at a moment `t`, in the place of the one that stood there; another row
+/// is left where it was taken. A key whose spot isn't known is searched once, whether it has rows
+/// or not.
 pub fn set_row(
     alloc: Global,
     rows: &mut Rows,
@@ -267,12 +275,12 @@ pub fn set_row(
     due: &mut Wheel<Place>,
     at: At<'_>,
     t: u64,
-    row: Row,
+    row: &mut Row,
 ) -> Result<(), NoMemory>
     requires rows { AreRows size.peers size.tables rows.old }
     requires inside { IsInside size.peers size.tables (place_at at) }
-    ensures ok { OnOk result (arrivals rows.new.entries
-        ≡ insert_entry place_cmp (arrivals rows.old.entries) (place_at at.entry) (as_arrival row)) }
+    ensures ok { OnOk result (arrivals rows.new.entries ≡ insert_entry place_cmp
+        (arrivals rows.old.entries) (place_at at.entry) (as_arrival row.old)) }
     ensures err { OnErr result (rows.new ≡ rows.old) }
     ensures kept { (items : List (ℕ × Place))
         → AreKept size.peers size.tables rows.old (items ++ due.old)
@@ -281,8 +289,7 @@ pub fn set_row(
     if at.spot.is_some() {
         return set_held(alloc, rows, size, due, at, t, row);
     }
-    let mut row = row;
-    match put_first(alloc, rows, size, due, at, &mut row)? {
+    match put_first(alloc, rows, size, due, at, row)? {
         None => Ok(()),
         Some(spot) => {
             let at = At {
@@ -303,22 +310,23 @@ fn set_held(
     due: &mut Wheel<Place>,
     at: At<'_>,
     t: u64,
-    row: Row,
+    row: &mut Row,
 ) -> Result<(), NoMemory>
     requires rows { AreRows size.peers size.tables rows.old }
     requires inside { IsInside size.peers size.tables (place_at at) }
-    ensures ok { OnOk result (arrivals rows.new.entries
-        ≡ insert_entry place_cmp (arrivals rows.old.entries) (place_at at.entry) (as_arrival row)) }
+    ensures ok { OnOk result (arrivals rows.new.entries ≡ insert_entry place_cmp
+        (arrivals rows.old.entries) (place_at at.entry) (as_arrival row.old)) }
     ensures err { OnErr result (rows.new ≡ rows.old) }
     ensures kept { (items : List (ℕ × Place))
         → AreKept size.peers size.tables rows.old (items ++ due.old)
         → AreKept size.peers size.tables rows.new (items ++ due.new) }
 {
     let before = plan_at(rows, size, at, t);
-    match stays(before, end_of(&row)) {
+    match stays(before, end_of(row)) {
         None => plan_row(alloc, rows, size, due, at, planned_of(before), row),
         Some(planned) => {
-            put_row(rows, size, at, Row { planned, ..row })?;
+            row.planned = planned;
+            put_row(alloc, rows, size, at, row)?;
             Ok(())
         }
     }

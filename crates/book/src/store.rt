@@ -122,7 +122,7 @@ impl Store {
             drop_row(self.alloc, &mut self.rows, self.size, &mut self.due, at, t)?;
             return Ok(());
         }
-        let row = new_row(self.alloc, t, life, cols, cells)?;
+        let mut row = new_row(self.alloc, t, life, cols, cells)?;
         set_row(
             self.alloc,
             &mut self.rows,
@@ -130,7 +130,7 @@ impl Store {
             &mut self.due,
             at,
             t,
-            row,
+            &mut row,
         )?;
         Ok(())
     }

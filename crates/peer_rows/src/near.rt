@@ -44,8 +44,8 @@ impl Hash {
         (self.0 >> 32) as u32
     }
 
-    // Which of the words is written over where none is free.
-    fn spare(self) -> usize {
+    // Which of the words is looked at and taken first, and written over where none is free.
+    fn own(self) -> usize {
         (self.0 >> 61) as usize
     }
 }
@@ -117,15 +117,34 @@ impl Near {
             .unwrap_or(&[])
     }
 
-    /// The place of a key, if it is remembered.
-    pub(crate) fn find(&self, slots: &Slots, hash: Hash, key: &Key) -> Option<usize>
+    // The place that a word names, if the rows of the key lie there.
+    #[inline]
+    fn place_in(&self, word: u32, slots: &Slots, hash: Hash, key: &Key) -> Option<usize>
         ensures { IfSome result (λ at. key_at slots.now.places.items at ≡ Some key.now) }
     {
         let mask = self.mask();
-        let mark = self.mark(hash);
-        for word in self.window(hash) {
-            let at = (*word & mask) as usize;
-            if *word & !mask == mark && slots.is_of(at, key) {
+        let at = (word & mask) as usize;
+        if word & !mask == self.mark(hash) && slots.is_of(at, key) {
+            Some(at)
+        } else {
+            None
+        }
+    }
+
+    /// The place of a key, if it is remembered.
+    ///
+    /// Most keys are found in their own word, which is looked at first: a branch that is foreseen,
+    /// where the place of a word among the others isn't.
+    pub(crate) fn find(&self, slots: &Slots, hash: Hash, key: &Key) -> Option<usize>
+        ensures { IfSome result (λ at. key_at slots.now.places.items at ≡ Some key.now) }
+    {
+        let window = self.window(hash);
+        let own = *window.get(hash.own())?;
+        if let Some(at) = self.place_in(own, slots, hash, key) {
+            return Some(at);
+        }
+        for word in window {
+            if let Some(at) = self.place_in(*word, slots, hash, key) {
                 return Some(at);
             }
         }
@@ -142,12 +161,16 @@ impl Near {
             return;
         }
         let word = self.mark(hash) | number;
-        let spare = self
-            .window(hash)
-            .iter()
-            .position(|old| *old == word || *old == 0)
-            .unwrap_or(hash.spare());
-        let place = self.first(hash).saturating_add(spare);
+        let own = hash.own();
+        let window = self.window(hash);
+        let taken = match window.get(own) {
+            Some(0) => own,
+            _ => window
+                .iter()
+                .position(|old| *old == word || *old == 0)
+                .unwrap_or(own),
+        };
+        let place = self.first(hash).saturating_add(taken);
         if let Some(old) = self.words.get_mut(place) {
             *old = word;
         }

@@ -168,8 +168,8 @@ pub struct Row {
 }
 
 impl Row {
-    // What is left where a row was taken. Takes no memory.
-    pub(crate) fn blank(alloc: Global) -> Row {
+    /// A row without cells, which never ends, to be left where one is taken. Takes no memory.
+    pub fn blank(alloc: Global) -> Row {
         Row {
             cells: Cells {
                 form: Form::Few(Few::new()),

@@ -13,13 +13,13 @@ use Rattle.book.proofs.puts.set_held.Goals as goal
 
 pub returns-in_ok-put_row-in-Some-clause-ok : goal.returns-in_ok-put_row-in-Some-clause-ok
 returns-in_ok-put_row-in-Some-clause-ok c =
-    let row : Row = record c.args.row { planned = c.in-Some.planned } in
+    let row : Row = record c.args.row.now { planned = c.in-Some.planned } in
     ap (λ (rows : RowMap). arrivals rows.entries) c.in_ok-put_row-in-Some.ensures.ok
     ∙ map-insert_entry place_cmp as_arrival c.args.rows.now.entries (place_at c.args.at) row
 
 pub returns-in_ok-put_row-in-Some-clause-kept : goal.returns-in_ok-put_row-in-Some-clause-kept
 returns-in_ok-put_row-in-Some-clause-kept c = λ items kept.
-    let row : Row = record c.args.row { planned = c.in-Some.planned } in
+    let row : Row = record c.args.row.now { planned = c.in-Some.planned } in
     kept_stays c.args.size.peers c.args.size.tables c.args.rows.now c.put_row.new.rows
     (items ++ c.args.due.now) (place_at c.args.at) row
     (option_map (λ (plan : Plan). plan.end) c.plan_at-before.result) c.end_of.result
