@@ -1,6 +1,6 @@
 -- The last update id, counted from the last explicit one.
 use Rattle.std.proofs.Common.{◌≡◌, ℕ, suc, ◌+◌, ◌%◌, ◌^◌, ◌++◌, Bool, true, false, if◌then◌else◌}
-use Rattle.std.proofs.Common.{List, [], ◌∷◌, Option, Some, None, refl, ap, ◌∙◌, arith}
+use Rattle.std.proofs.Common.{List, [], ◌∷◌, Option, Some, None, refl, arith}
 use Rattle.std.specs.Prelude.{option_to_list}
 use Rattle.peers_msg.specs.declared.message.Message.{Message}
 use Rattle.agg_types.specs.declared.config.Shape.{Shape}

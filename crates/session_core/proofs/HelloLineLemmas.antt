@@ -1,9 +1,9 @@
 -- A hello's verdict as a relation on its whole lines.
-use Rattle.std.proofs.Common.{inl, inr, ◌⊎◌, ◌≡◌, ◌≢◌, ℕ, suc, ◌+◌, ◌<◌, ◌≤◌, Bool, true, false}
+use Rattle.std.proofs.Common.{inl, inr, ◌≡◌, ℕ, suc, ◌+◌, ◌<◌, ◌≤◌, Bool, true, false}
 use Rattle.std.proofs.Common.{◌==◌, not, if◌then◌else◌, List, [], ◌∷◌, ◌++◌, length, take, drop}
-use Rattle.std.proofs.Common.{MatchOption, Option, Some, None, Result, Ok, Err, refl, sym, ap, ◌∙◌}
+use Rattle.std.proofs.Common.{MatchOption, Option, Some, None, Result, Ok, Err, refl, sym, ap}
 use Rattle.std.proofs.Common.{arith, append-nil, length-append}
-use Rattle.std.specs.List.{position_or_len, prefix_len}
+use Rattle.std.specs.List.{position_or_len}
 use Rattle.std.specs.Str.{bytes_eq}
 use Rattle.std.proofs.lemmas.Bool.{lt-ltb, le-ltb, ne_eqb}
 use Rattle.std.proofs.lemmas.Bool.Decides.{eqb_tells}

@@ -1,6 +1,6 @@
 -- A session that is over stays so, with its cause.
-use Rattle.std.proofs.Common.{◌≡◌, ◌≢◌, ℕ, Bool, List, [], ◌++◌, Option, Some, None, Result, Ok}
-use Rattle.std.proofs.Common.{Err, IfErr, refl, sym, ap, ◌∙◌}
+use Rattle.std.proofs.Common.{◌≡◌, ◌≢◌, ℕ, Bool, List, ◌++◌, Option, Some, None, Result, Ok}
+use Rattle.std.proofs.Common.{Err, IfErr, refl, ap, ◌∙◌}
 use Rattle.std.specs.Option.{option_map}
 use Rattle.peers_msg.specs.Kept.{Kept}
 use Rattle.peers_msg.specs.Message.{Reading, reading_of}

@@ -11,6 +11,10 @@ use crate::values::{TYPES, elapsed_of, has_type, is_rate_type, low_word, number_
 use agg_types::{Cell, Cells, Col, NoMemory};
 use std::alloc::Global;
 
+/// So many cells are put one by one into the list that takes no memory for them; more are read into
+/// kept room and copied out in one block.
+const FEW: usize = 4;
+
 /// Where a column's integers are among those of an update. Three kinds are told apart by branches,
 /// which are foreseen; four took a table of jumps, and a third of the time of a long row.
 #[derive(Clone, Copy, Debug)]
@@ -128,10 +132,26 @@ impl Plan {
         }
         let numbers = self.numbers.as_slice();
         let sources = self.sources.as_slice();
+        if sources.len() <= FEW {
+            put_each(numbers, sources, cells)?;
+            return Ok(true);
+        }
         fill(&mut self.cells, numbers, sources)?;
         *cells = Cells::copy(alloc, self.cells.as_slice())?;
         Ok(true)
     }
+}
+
+/// Puts the cells of all columns where there were none, one by one.
+#[inline]
+fn put_each(numbers: &[u64], sources: &[Source], cells: &mut Cells) -> Result<(), NoMemory>
+    requires { cells.old ≡ [] }
+    ensures { OnOk result (cells.new ≡ map (cell_from numbers.now) sources.now) }
+{
+    for source in sources {
+        cells.push(cell_from(numbers, *source))?;
+    }
+    Ok(())
 }
 
 /// Puts the cells of all columns in place of what was there.
