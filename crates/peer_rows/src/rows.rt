@@ -147,9 +147,8 @@ impl Rows {
     }
 
     /// The sum of a count column over the rows of a table and key, of all peers: one search, and
-    /// then
-    /// the rows that there are. A rate counts nothing, and neither does a column that a row doesn't
-    /// have. Takes no memory.
+    /// then the rows that there are. A rate counts nothing, and neither does a column that a row
+    /// doesn't have. Takes no memory.
     pub fn count_of(&self, table: usize, key: &Key, col: usize) -> u128
         requires { table < self.now.tables }
         ensures value { result ≡ count_at self.now table key.now col }
@@ -166,15 +165,7 @@ impl Rows {
         requires { table < self.now.tables }
         ensures { IfNone result (peers_of self.now table key.now ≡ []) }
     {
-        self.spot_at(None, table, key)
-    }
-
-    /// What `spot_of` answers, whatever the hint: a hint that was looked at.
-    pub fn spot_at(&self, hint: Option<Spot>, table: usize, key: &Key) -> Option<Spot>
-        requires { table < self.now.tables }
-        ensures { IfNone result (peers_of self.now table key.now ≡ []) }
-    {
-        self.tables[table].spot_of(hint, key)
+        self.tables[table].spot_of(None, key)
     }
 
     /// Where the rows of a table and key lie, if the hint says so or it was seen lately, without a
@@ -257,18 +248,6 @@ impl Rows {
         ensures ordered { AreInOrder self.new.entries }
     {
         self.tables[table].insert_first(peer, key, row)
-    }
-
-    /// Puts the first row of a key, as `put` does, by one search of the ordered map.
-    pub fn insert(&mut self, peer: usize, table: usize, key: &Key, row: Row) -> Result<(), NoMemory>
-        requires peer_in { peer < self.old.peers }
-        requires table_in { table < self.old.tables }
-        requires none { peers_of self.old table key.now ≡ [] }
-        ensures ok { OnOk result (self.new ≡ with_row self.old peer table key.now row) }
-        ensures err { OnErr result (self.new ≡ self.old) }
-        ensures ordered { AreInOrder self.new.entries }
-    {
-        self.tables[table].insert(peer, key, row)
     }
 
     /// What `take` does and answers, whatever the hint.

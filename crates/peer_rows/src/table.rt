@@ -155,19 +155,6 @@ impl Table {
         Ok(held)
     }
 
-    /// Puts the first row of a key.
-    pub(crate) fn insert(&mut self, peer: usize, key: &Key, row: Row) -> Result<(), NoMemory>
-        requires peer { peer < self.old.peers }
-        requires none { filter (λ e. same_key key.now e.0.0) self.old.entries ≡ [] }
-        ensures ok { OnOk result (self.new ≡ record self.old
-            { entries = insert_entry spot_cmp self.old.entries (key.now, peer) row }) }
-        ensures err { OnErr result (self.new ≡ self.old) }
-    {
-        self.keys.insert(peer, key, row)?;
-        self.counts[peer] += 1;
-        Ok(())
-    }
-
     /// Takes a row out.
     pub(crate) fn take(&mut self, hint: Option<Spot>, peer: usize, key: &Key) -> Option<Row>
         requires { peer < self.old.peers }

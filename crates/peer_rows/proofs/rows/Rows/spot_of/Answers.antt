@@ -4,7 +4,7 @@ use Rattle.peer_rows.specs.declared.row.Row.{Row}
 use Rattle.peer_rows.specs.Table.{Spot}
 use Rattle.peer_rows.proofs.Kept.{none_then}
 use Rattle.peer_rows.proofs.Placing.{found_at, of_key-placed}
-use Rattle.peer_rows.proofs.rows.Rows.spot_at.Goals as goal
+use Rattle.peer_rows.proofs.rows.Rows.spot_of.Goals as goal
 
 pub returns : goal.returns
 returns c =
