@@ -66,8 +66,8 @@ class Sender:
             self.sent, self.rows[key] = self.sent + 1, value
             payload = struct.pack(">I", self.sent) + struct.pack(">I", 0x0A000000 + key) + put_int(value)
             out += message(UPDATE, payload)
-        self.peer.push(bytes(out), self.sent)
         self.spoke = time.monotonic()
+        self.peer.push(bytes(out), self.sent)
         return count
 
     def lose(self):

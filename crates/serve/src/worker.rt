@@ -262,7 +262,8 @@ impl Worker {
         }
     }
 
-    // Takes a piece at its turn, tells of its peer, and rests.
+    // Takes a piece at its turn, tells of its peer, and rests: at the moment at which the piece came,
+    // since a peer isn't silent while its own piece waits to be posted.
     fn treat<J: Naming, H: Wait + Drop, R: Wait, W: Write, C: Clock, G: Gate>(
         &mut self,
         rt: &R,
@@ -283,11 +284,12 @@ impl Worker {
     {
         gate.turn(self.place());
         self.listen(piece);
-        match self.take(rt, hub, writer, piece, clock.now()) {
+        let now = clock.now();
+        match self.take(rt, hub, writer, piece, now) {
             Err(cause) => Err(cause),
             Ok(()) => {
                 self.greet(gate);
-                self.go_on(writer, clock.now())
+                self.go_on(writer, now)
             }
         }
     }
