@@ -95,9 +95,8 @@ pub fn count_up(seats: &mut Seats, seat: u64, seq: u64)
     requires small { seq < 2 ^ 62 }
     ensures { seats.new.entries ≡ insert_entry nat_cmp seats.old.entries seat (seq + 1) }
 {
-    match seats.insert(seat, seq + 1) {
-        Ok(_) => {}
-        Err(_) => unreachable!(),
+    if let Some(number) = seats.get_mut(&seat) {
+        *number = seq + 1;
     }
 }
 
