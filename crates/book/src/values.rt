@@ -49,14 +49,13 @@ fn column_worth(
             if position >= cells.len() {
                 return 0;
             }
+            if stored.0.id() != col.id() {
+                return column_worth(col, arrived, since, cols, cells, position + 1);
+            }
             let Some(held) = cells.get(position) else {
                 return 0;
             };
-            if stored.0.id() == col.id() {
-                cell_worth(stored.1, arrived, since, held)
-            } else {
-                column_worth(col, arrived, since, cols, cells, position + 1)
-            }
+            cell_worth(stored.1, arrived, since, held)
         }
     }
 }
