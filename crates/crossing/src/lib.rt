@@ -9,8 +9,9 @@
 //! Promised: `first_below` gives the least moment at which a value is below a bound, and
 //! `next_change` the least later moment at which the truth of all conditions together differs from
 //! now; none exactly where there is none. `Meter` counts every value that is read for it, and for
-//! up to five conditions on values that stay from 2^33 ms on that is at most 500. Nothing takes
-//! memory. No clause says how long reading a value takes.
+//! up to five conditions on values that stay from 2^33 ms on that is at most 500. `first_below`
+//! reads a value three times that drops only at the moment from which it stays, up to 2^32 ms from
+//! now. Nothing takes memory. No clause says how long reading a value takes.
 #![tactic(auto)]
 
 mod change;

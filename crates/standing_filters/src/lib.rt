@@ -13,10 +13,10 @@
 //! verdicts at its moment and leaves all others, `moment` gives each key whose change has come its
 //! verdict then, however many changes were passed, and `add` and `drop_last` add and take away the
 //! last filter; each changes nothing where memory was refused. `keys` lends the keys whose verdict
-//! is that they are held, `planned` when each verdict changes, and `next_change` is the least such
-//! moment. That a
-//! key which can't come into a set again is told by one value of each condition is meant for speed,
-//! and no clause says so.
+//! is that they are held, `planned` the moments at which verdicts change, each with its key, and
+//! `next_change` is the least of them. That a key which can't come into a set again is told by one
+//! value of each condition is meant for speed, and no clause says so; nor that a verdict is
+//! searched for once where a filter is the last of its table.
 #![tactic(auto)]
 
 mod adding;
