@@ -19,7 +19,7 @@ pub const OTHER_TALK: [Step; 2] = [Step::Bytes(OTHER_HELLO), Step::Bytes(DEFINE_
 pub const NO_HELLO: [Step; 1] = [Step::Bytes(b"Foo 2.1\n")];
 
 /// What each session sends, and what it shows.
-pub const SESSIONS: [(&str, &[Step]); 15] = [
+pub const SESSIONS: [(&str, &[Step]); 16] = [
     ("a right hello", &[Step::Bytes(HELLO)]),
     ("no hello", &NO_HELLO),
     ("another version", &[Step::Bytes(b"HAProxyS 3.0\n")]),
@@ -50,6 +50,14 @@ pub const SESSIONS: [(&str, &[Step]); 15] = [
             Step::Silent(3000),
             Step::Silent(5000),
             Step::Bytes(DEFINE_FIVE),
+        ],
+    ),
+    (
+        "an update that is posted for 6,000 ms, and another one",
+        &[
+            Step::Bytes(HELLO),
+            Step::Lasting(DEFINE_FIVE, 6000),
+            Step::Bytes(SIX),
         ],
     ),
     (

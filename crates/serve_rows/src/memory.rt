@@ -13,12 +13,16 @@ pub enum Step {
     Bytes(&'static [u8]),
     /// Nothing, and the watch then shows this moment.
     Silent(u64),
+    /// These bytes, and what is made of them lasts until this moment.
+    Lasting(&'static [u8], u64),
 }
 
 /// The moments of a test, in ms: what its script says.
 #[derive(Drop)]
 pub struct Watch {
     moment: AtomicU64,
+    // What it shows once it was looked at, if that is another moment; else 0.
+    next: AtomicU64,
 }
 
 impl Watch {
@@ -26,6 +30,7 @@ impl Watch {
     pub fn new() -> Watch {
         Watch {
             moment: AtomicU64::new(0),
+            next: AtomicU64::new(0),
         }
     }
 }
@@ -34,7 +39,12 @@ impl Clock for Watch {
     ghost gives = { λ clock moment. Unit {0} };
 
     fn now(&self) -> u64 {
-        self.moment.load(Ordering::SeqCst)
+        let now = self.moment.load(Ordering::SeqCst);
+        let next = self.next.swap(0, Ordering::SeqCst);
+        if next > 0 {
+            self.moment.store(next, Ordering::SeqCst);
+        }
+        now
     }
 
     fn rest(&self) {}
@@ -90,6 +100,10 @@ impl<'a> Source for Script<'a> {
             Step::Silent(moment) => {
                 self.watch.moment.store(moment, Ordering::SeqCst);
                 Ok(Came::Nothing)
+            }
+            Step::Lasting(bytes, moment) => {
+                self.watch.next.store(moment, Ordering::SeqCst);
+                Ok(copied(bytes, buffer))
             }
         }
     }
