@@ -1,10 +1,10 @@
 ghost use Rattle.std.specs.Prelude.{◌≡◌, ◌+◌, ◌≤◌, ◌<◌, ℕ, [], ◌∷◌, ◌++◌, length, slice_get};
 ghost use Rattle.std.specs.Prelude.{slice_index, if◌then◌else◌};
 ghost use Rattle.peer_rows.specs.Few.{width, total_width, cell_at};
-ghost use Rattle.peer_rows.specs.Packed.{held_of};
+ghost use Rattle.peer_rows.specs.Packed.{held_of, is_rate, words_of};
 
 use crate::Held;
-use crate::packed::Packed;
+use crate::packed::{Packed, halves};
 use std::marker::Model;
 
 // How many cells there are at most.
@@ -68,17 +68,30 @@ impl Few {
     }
 
     /// Adds a cell, if there is room for it.
-    pub(crate) fn push(&mut self, cell: &Packed) -> bool
-        ensures { self.new ≡ (if result then self.old ++ held_of cell.now ∷ [] else self.old) }
+    #[inline]
+    pub(crate) fn push(&mut self, held: &Held) -> bool
+        ensures { self.new ≡ (if result then self.old ++ held.now ∷ [] else self.old) }
     {
-        let words = cell.words();
+        match held {
+            Held::Count(count) => self.push_words(&halves(*count), false),
+            Held::Rate(rate) => self.push_words(&rate.to_words(), true),
+        }
+    }
+
+    // Adds the words of a count or of a rate.
+    #[inline]
+    fn push_words(&mut self, words: &[u32], rate: bool) -> bool
+        requires { length words.now ≡ width rate }
+        ensures { (cell : Packed) → is_rate cell ≡ rate → words_of cell ≡ words.now
+            → self.new ≡ (if result then self.old ++ held_of cell ∷ [] else self.old) }
+    {
         let len = self.len as usize;
         let used = self.used as usize;
         if len >= CELLS || WORDS - used < words.len() {
             return false;
         }
         write(&mut self.words, used, words);
-        self.rates[len] = cell.is_rate();
+        self.rates[len] = rate;
         self.len += 1;
         self.used += words.len() as u8;
         true

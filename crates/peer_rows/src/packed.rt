@@ -24,11 +24,7 @@ impl Packed {
         ensures { held_of result ≡ held.now }
     {
         match held {
-            Held::Count(count) => {
-                let low = (*count % WORD) as u32;
-                let high = (*count / WORD) as u32;
-                Packed::Count([low, high])
-            }
+            Held::Count(count) => Packed::Count(halves(*count)),
             Held::Rate(rate) => Packed::Rate(rate.to_words()),
         }
     }
@@ -63,4 +59,14 @@ impl Packed {
             Packed::Rate(words) => words,
         }
     }
+}
+
+/// The low and the high half of a count.
+#[inline]
+pub(crate) fn halves(count: u64) -> [u32; 2]
+    ensures { held_of (Packed.Count result) ≡ Held.Count count }
+{
+    let low = (count % WORD) as u32;
+    let high = (count / WORD) as u32;
+    [low, high]
 }

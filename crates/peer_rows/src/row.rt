@@ -77,18 +77,17 @@ impl Cells {
         ensures ok { OnOk result (self.new ≡ self.old ++ held ∷ []) }
         ensures err { OnErr result (self.new ≡ self.old) }
     {
-        let cell = Packed::new(&held);
         match &mut self.form {
             Form::Few(few) => {
-                if few.push(&cell) {
+                if few.push(&held) {
                     return Ok(());
                 }
                 let mut cells = spread(self.alloc, few)?;
-                cells.push(cell)?;
+                cells.push(Packed::new(&held))?;
                 self.form = Form::Many(cells);
                 Ok(())
             }
-            Form::Many(cells) => Ok(cells.push(cell)?),
+            Form::Many(cells) => Ok(cells.push(Packed::new(&held))?),
         }
     }
 

@@ -1,20 +1,11 @@
-use Rattle.std.proofs.Common.{length, sym, ◌∙◌, ap, arith}
-use Rattle.peer_rows.specs.Few.{width}
-use Rattle.peer_rows.proofs.Widths.{few-pushed, few-fit}
+use Rattle.std.proofs.Common.{refl}
+use Rattle.peer_rows.specs.declared.packed.Packed.TheVariants.{Count, Rate}
 use Rattle.peer_rows.proofs.few.Few.push.Goals as goal
 
-pub invariant_of-self : goal.invariant_of-self
-invariant_of-self c = record {
-  cells = omega arith;
-  words = omega arith;
-  fit = few-fit c.self.inside.len c.self.inside.used c.self.inside.rates c.is_rate.result
-      (length c.words-words.result.now) (omega arith) c.self.invariant.fit
-      (c.words-words.ensures.width ∙ ap width (sym c.is_rate.ensures));
-}
+pub returns-in-Count : goal.returns-in-Count
+returns-in-Count c = rw (c.in-Count.is, ← c.halves.ensures)
+    (c.push_words.ensures (Count c.halves.result) refl refl)
 
-pub returns : goal.returns
-returns c = rw (← c.self.view_is) (few-pushed c.self.inside.len c.self.inside.used
-    c.self.inside.rates c.self.inside.words c.write.new.words c.words-words.result.now
-    c.args.cell.now c.is_rate.result (omega arith) c.self.invariant.fit c.is_rate.ensures
-    c.words-words.ensures.words c.words-words.ensures.width c.write.ensures.here
-    c.write.ensures.before)
+pub returns-in-Rate : goal.returns-in-Rate
+returns-in-Rate c = rw (c.in-Rate.is, ← c.to_words.ensures)
+    (c.push_words-in-Rate.ensures (Rate c.to_words.result) refl refl)
