@@ -10,12 +10,10 @@ use Rattle.std.proofs.lemmas.List.{take-map}
 use Rattle.std.proofs.lemmas.List.Folds.{list_any-append}
 use Rattle.std.proofs.lemmas.Cmp.{eq_by_cmp_equiv, nat_list_cmp_total}
 use Rattle.std.proofs.lemmas.Map.Keys.{IsDistinct-head, IsDistinct-tail}
-use Rattle.std.specs.BTreeMap.{is_at}
 use Rattle.std.specs.Cmp.Lexicographic.{slice_cmp}
 use Rattle.std.specs.List.{AllByRecursion, IsDistinct, list_any}
 use Rattle.std.specs.Ordering.{nat_cmp}
 use Rattle.agg_types.specs.declared.column.Col.{Col}
-use Rattle.agg_types.specs.declared.config.Filter.{Filter}
 use Rattle.crossing.specs.First.{IsFirstFrom}
 use Rattle.expiry_wheel.specs.Entries.{IsInOrder, first_due, without_due}
 use Rattle.standing_filters.specs.Plans.{Becomes, IsPlanOf, IsPlanned, IsUnplanned, IsWatch}

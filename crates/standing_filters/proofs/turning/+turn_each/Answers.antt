@@ -1,7 +1,6 @@
 use Rattle.std.proofs.Common.{◌≡◌, ◌≤◌, ℕ, List, ◌∷◌, length, map, refl, sym, ap, subst, ◌∙◌}
 use Rattle.standing_filters.specs.Plans.{AreWatches, IsPlanOf, IsWatch, Watching, shown}
 use Rattle.standing_filters.specs.Turns.{AreTurned, IsAhead, verdict_after}
-use Rattle.standing_filters.specs.Watched.{verdict_at}
 use Rattle.standing_filters.proofs.Ahead.{turned, watch_settled}
 use Rattle.standing_filters.proofs.turning.+turn_each.Goals as goal
 

@@ -1,4 +1,4 @@
-use Rattle.std.proofs.Common.{◌≡◌, false, is_some, ap, sym, subst, ◌∙◌}
+use Rattle.std.proofs.Common.{◌≡◌, false, is_some, ap, sym, ◌∙◌}
 use Rattle.expiry_wheel.specs.Entries.{first_due}
 use Rattle.standing_filters.specs.Plans.{has_plan}
 use Rattle.standing_filters.proofs.Ahead.{all_out}

@@ -1,5 +1,4 @@
 use Rattle.std.proofs.Common.{◌≡◌, ◌&&◌, ℕ, List, ltb, length}
-use Rattle.agg_types.specs.declared.config.Filter.{Filter}
 use Rattle.standing_filters.specs.Plans.{has_plan}
 use Rattle.standing_filters.proofs.watch.Watch.drop_due.Given as goal
 

@@ -1,4 +1,4 @@
-use Rattle.std.proofs.Common.{◌≡◌, Ok, Err, Result, OnErr, sym, ap, subst, ◌∙◌, rules}
+use Rattle.std.proofs.Common.{Ok, Err, Result, OnErr, sym, ap, subst, ◌∙◌, rules}
 use Rattle.std.specs.Cmp.Lexicographic.{slice_cmp}
 use Rattle.std.specs.Ordering.{nat_cmp}
 use Rattle.std.specs.BTreeMap.{is_at}
