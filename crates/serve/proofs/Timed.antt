@@ -1,5 +1,5 @@
 -- A timer's desk.
-use Rattle.std.proofs.Common.{ℕ, List, [], ◌∷◌, ◌++◌, refl, arith}
+use Rattle.std.proofs.Common.{ℕ, List, [], ◌∷◌, ◌++◌, Result, Ok, Err, IfOk, IfErr, refl, arith}
 use Rattle.std.specs.List.{All}
 use Rattle.std.proofs.lemmas.List.Elements.{All-append}
 use Rattle.agg_types.specs.declared.event.What.{What}
@@ -8,7 +8,9 @@ use Rattle.hub.specs.History.{Beginning}
 use Rattle.serve.proofs.Facts.{all_cons}
 use Rattle.serve.specs.declared.desk.Desk.{Desk}
 use Rattle.serve.specs.declared.served.Served.{Served}
-use Rattle.serve.specs.Moments.{HasTimed, IsMomentOf, IsTimed}
+use Rattle.serve.specs.Moments.{HasTimed, IsMomentOf, IsTimed, stored_by}
+use Rattle.serve.specs.Parting.{WasTimed}
+use Rattle.serve.specs.declared.served.Faulted.{Faulted}
 use Rattle.serve.specs.Told.{HasTold, IsServed}
 
 none_at_all : {X : Type 0} (P : X → Type 0) → All P []
@@ -57,3 +59,11 @@ timed_served hub gives desk seat waiting served timed f = record {
   are = timed.are;
   shown = f timed.moments timed.told;
 }
+
+-- how a timer ended, whatever its seat
+pub was_timed : (gives : ℕ → Type 0) (seat : ℕ) (ended : Result Served Faulted)
+    → IfOk ended (IsTimed gives seat 0)
+    → IfErr ended (λ faulted. IsTimed gives seat (stored_by faulted.cause) faulted.served)
+    → WasTimed gives ended
+was_timed gives seat (Ok served) ok err = record { seat = seat; how = ok }
+was_timed gives seat (Err faulted) ok err = record { seat = seat; how = err }

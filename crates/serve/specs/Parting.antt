@@ -5,6 +5,7 @@ use Rattle.hub.specs.History.{Beginning}
 use Rattle.serve.specs.declared.served.Faulted.{Faulted}
 use Rattle.serve.specs.declared.served.Served.{Served}
 use Rattle.serve.specs.Commands.{IsCommandedUntil, IsCommandedWhole}
+use Rattle.serve.specs.Moments.{IsTimed, stored_by}
 use Rattle.serve.specs.Working.{IsServedUntil, IsServedWhole}
 
 -- a hub of this configuration served a session, at a seat or at none
@@ -24,3 +25,9 @@ pub record WasCommanded (config : Config) (given0 given wrote0 wrote : Option (L
   pub seat : ℕ
   pub how : MatchResult ended (IsCommandedWhole hub seat given0 given wrote0 wrote)
       (IsCommandedUntil hub seat given0 given wrote0 wrote)
+
+-- a timer told moments of a clock, at some seat
+pub record WasTimed (gives : ℕ → Type 0) (ended : Result Served Faulted) : Type 0 where
+  pub seat : ℕ
+  pub how : MatchResult ended (IsTimed gives seat 0)
+      (λ faulted. IsTimed gives seat (stored_by faulted.cause) faulted.served)

@@ -338,6 +338,7 @@ impl<
     }
 
     // Its seat is taken first; then connections are served.
+    #[tactic(auto, using(crate::proofs::Timed::was_timed))]
     fn timer<R: Wait>(&self, rt: &R) {
         let Ok(pass) = self.hub.seat(rt) else {
             self.counts.give_up();
@@ -348,7 +349,8 @@ impl<
             gate: self.gate,
             counts: self.counts,
         };
-        let _ = run_timer(rt, self.alloc, self.clock, self.hub, pass, &gate);
+        let ended = run_timer(rt, self.alloc, self.clock, self.hub, pass, &gate);
+        self.clock.part_timer(ended);
     }
 }
 
@@ -412,7 +414,9 @@ fn open<R: Threads + Wait + Copy + Send + Sync, K: Send + Drop, U: Workers<K> + 
 /// of a peer, admin connections one after the other, and a timer, whose seat is taken first.
 ///
 /// Where that seat is refused, or the thread of the timer or of the admins' door, nothing is
-/// served.
+/// served. Each connection that was served goes back to the doors, and the timer to its clock, with
+/// what is promised of it. Which connections are served, that all go back, and what is counted no
+/// clause says: what other threads did leaves nothing here that one could name.
 pub fn serve_all<
     J: Naming + Send + Sync,
     H: Wait + Drop + Send,

@@ -160,7 +160,7 @@ impl<'a, R: Print> Lobby<'a, R> {
     }
 }
 
-impl<'a, R: Wait> Clock for Lobby<'a, R> {
+impl<'a, R: Wait + Print> Clock for Lobby<'a, R> {
     ghost gives = { λ clock moment. Unit {0} };
 
     // Ten ms a turn; and what no timer posts once all are over.
@@ -175,6 +175,11 @@ impl<'a, R: Wait> Clock for Lobby<'a, R> {
     // Only the timer rests.
     fn rest(&self) {
         self.order.pass();
+    }
+
+    // It goes last.
+    fn part_timer(&self, ended: Result<Served, Faulted>) {
+        let _ = println!(self.rt; "the timer: {}", Ending::of(&ended));
     }
 }
 
