@@ -78,7 +78,8 @@ fn read_line(
     requires { config_faults config.old ≡ [] }
     ensures sound { OnOk result (config_faults config.new ≡ []) }
     ensures ok { OnOk result (Passes config.old named.old (meaning line.now) config.new named.new) }
-    ensures err { IfErr result (λ cause. FailsFirst cause (faults_behind config.old named.old (meaning line.now))) }
+    ensures err { IfErr result (λ cause. FailsFirst cause
+        (faults_behind config.old named.old (meaning line.now))) }
 {
     let Some(declaration) = declared(alloc, line)? else {
         return Ok(());

@@ -67,7 +67,8 @@ impl Connection {
         ensures out { result.out ≡ batch.replies ++ batch.acks }
         ensures end { result.end ≡ end }
         ensures session { self.new.session ≡ self.old.session }
-        ensures counted { self.new.next_seq ≡ option_map (λ seq. seq + length batch.facts) self.old.next_seq }
+        ensures counted { self.new.next_seq
+            ≡ option_map (λ seq. seq + length batch.facts) self.old.next_seq }
     {
         let (facts, out) = batch.into_parts();
         let facts = facts.into_vec();

@@ -29,7 +29,8 @@ pub fn open(
     conn: u64,
     connection: Connection,
 ) -> Result<(), NoMemory>
-    ensures ok { OnOk result (IsSet connections.old.entries connections.new.entries conn (Some connection)) }
+    ensures ok { OnOk result (IsSet connections.old.entries connections.new.entries conn
+        (Some connection)) }
     ensures err { OnErr result (connections.new.entries ≡ connections.old.entries) }
 {
     connections.insert(conn, connection)?;

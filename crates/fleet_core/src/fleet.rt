@@ -207,7 +207,8 @@ impl Fleet {
     ) -> Result<(Items<u8>, Option<SessionCause>), NoMemory>
         requires open { next_seq_at self.old.links conn ≡ Some next_seq }
         requires few { IfSome next_seq (λ seq. seq < 2 ^ 62) }
-        requires unspent { option_map_or (λ seq. is_full seq (length piece.now)) next_seq false ≡ false }
+        requires unspent { option_map_or (λ seq. is_full seq (length piece.now)) next_seq false
+            ≡ false }
         ensures { ForEachPast self.old (λ config opening past. MatchResult result
             (λ sent. IsFed sent.0 sent.1 self.new config opening past conn piece.now)
             (λ _. Keeps self.old self.new config opening past)) }
@@ -294,7 +295,8 @@ impl Fleet {
     // Hands what waits to the book.
     fn settle(&mut self) -> Result<(), NoMemory>
         ensures ok { OnOk result (self.new.waiting ≡ []) }
-        ensures handed { AreHandedOver self.old.waiting self.old.book self.new.waiting self.new.book }
+        ensures handed { AreHandedOver self.old.waiting self.old.book self.new.waiting
+            self.new.book }
         ensures links { self.new.links ≡ self.old.links }
         ensures connected { self.new.connected ≡ self.old.connected }
         ensures next_seq { self.new.next_seq ≡ self.old.next_seq }

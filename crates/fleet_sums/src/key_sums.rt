@@ -23,7 +23,10 @@ impl Model for KeySums {
 
     ghost view = { λ sums. record { rows = sums.rows; totals = sums.totals.items } };
 
-    ghost invariant = { λ sums. IsBounded (record { rows = sums.rows; totals = sums.totals.items }) };
+    ghost invariant = { λ sums. IsBounded (record {
+      rows = sums.rows;
+      totals = sums.totals.items;
+    }) };
 }
 
 impl KeySums {
