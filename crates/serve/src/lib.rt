@@ -7,9 +7,9 @@
 //! Promised of a session: exactly the facts of the bytes that it took are told, and an answer is
 //! written only behind its facts. Promised of an admin: exactly the changes that its lines ask for
 //! are told, in their order, and each line is answered over a book that shows those before it; a
-//! change is answered only once it was told. Promised of a timer: it tells moments of its clock. Each
-//! goes back from `serve_all` with what is promised of it; no clause says what `serve_all` starts,
-//! when it ends, or what it counts.
+//! change is answered only once it was told. Promised of a timer: it tells moments of its clock.
+//! Each goes back from `serve_all` with what is promised of it; no clause says what `serve_all`
+//! starts, when it ends, or what it counts.
 #![tactic(auto)]
 
 mod admin;
