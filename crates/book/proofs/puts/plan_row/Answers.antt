@@ -23,12 +23,14 @@ returns-in-Err-clause-kept c = λ items kept.
 pub returns-clause-ok : goal.returns-clause-ok
 returns-clause-ok c =
     ap (λ (rows : RowMap). arrivals rows.entries) c.in_default.ensures.ok
-    ∙ map-insert_entry place_cmp as_arrival c.args.rows.now.entries (place_at c.args.at) c.args.row.now
+    ∙ map-insert_entry place_cmp as_arrival c.args.rows.now.entries (place_at c.args.at)
+    c.args.row.now
 
 pub returns-clause-kept : goal.returns-clause-kept
 returns-clause-kept c = λ items kept.
     kept_replaced c.args.size.peers c.args.size.tables c.args.rows.now c.put_row.new.rows
-    (items ++ c.args.due.now) (items ++ c.forget-2.new.due) (place_at c.args.at) c.args.row.now
+    (items ++ c.args.due.now) (items ++ c.forget-2.new.due) (place_at c.args.at)
+    c.args.row.now
     c.requires.rows c.requires.inside
     c.in_default.ensures.ok
     c.put_row.ensures.ordered

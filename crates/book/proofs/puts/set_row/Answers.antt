@@ -9,7 +9,8 @@ use Rattle.book.proofs.puts.set_row.Goals as goal
 pub returns-in-None-clause-ok : goal.returns-in-None-clause-ok
 returns-in-None-clause-ok c =
     ap (λ (rows : RowMap). arrivals rows.entries) (rw c.in-None.is at c.in_ok-put_first.ensures.ok)
-    ∙ map-insert_entry place_cmp as_arrival c.args.rows.now.entries (place_at c.args.at) c.args.row.now
+    ∙ map-insert_entry place_cmp as_arrival c.args.rows.now.entries (place_at c.args.at)
+    c.args.row.now
 
 pub returns-in-Some-clause-kept : goal.returns-in-Some-clause-kept
 returns-in-Some-clause-kept c = λ items kept.

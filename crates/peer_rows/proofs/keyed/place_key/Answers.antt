@@ -47,7 +47,8 @@ returns-then-place-at-clause-ok c =
     ∙ insert_entry-held (slice_cmp nat_cmp) nat_list_cmp_total c.args.keys.now.entries
     c.args.key.now c.in_ok-place.place c.requires.ordered found in (
       ap (λ (es : Entries). seen (rows_at c.vacant.new.self.places.items) es) kept
-          ∙ seen-same (rows_at c.args.slots.now.places.items) (rows_at c.vacant.new.self.places.items)
+          ∙ seen-same (rows_at c.args.slots.now.places.items)
+          (rows_at c.vacant.new.self.places.items)
           c.args.keys.now.entries c.in_ok-at.ensures.rows,
       refl,
     )

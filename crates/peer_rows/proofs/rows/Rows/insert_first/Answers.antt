@@ -13,7 +13,8 @@ invariant_of-self c =
     (rw (← c.self.view_is) at c.requires.table_in) c.index_mut.ensures.value in
     first_result c.self.inside.tables.items c.args.table
     c.insert_first.new.self c.index_mut.result.now found c.args.key.now c.args.peer c.args.row.now
-    c.insert_first.new.row c.self.inside.peers c.self.invariant c.insert_first.result c.insert_first.ensures.ok
+    c.insert_first.new.row c.self.inside.peers c.self.invariant c.insert_first.result
+    c.insert_first.ensures.ok
     c.insert_first.ensures.err
 
 pub returns-clause-new : goal.returns-clause-new
@@ -42,5 +43,6 @@ returns-clause-ordered c =
     (rw (← c.self.view_is) at c.requires.table_in) c.index_mut.ensures.value in
     (first_result c.self.inside.tables.items c.args.table
     c.insert_first.new.self c.index_mut.result.now found c.args.key.now c.args.peer c.args.row.now
-    c.insert_first.new.row c.self.inside.peers c.self.invariant c.insert_first.result c.insert_first.ensures.ok
+    c.insert_first.new.row c.self.inside.peers c.self.invariant c.insert_first.result
+    c.insert_first.ensures.ok
     c.insert_first.ensures.err).ordered
