@@ -1,5 +1,5 @@
-ghost use Rattle.std.specs.Prelude.{◌≡◌, ◌⊎◌, ℕ, ◌+◌, ◌*◌, ◌<◌, ◌≤◌, suc, length, MatchBool, IfSome};
-ghost use Rattle.std.specs.Prelude.{Option, None, Some};
+ghost use Rattle.std.specs.Prelude.{◌≡◌, ◌⊎◌, ℕ, ◌+◌, ◌*◌, ◌<◌, ◌≤◌, suc, length, MatchBool};
+ghost use Rattle.std.specs.Prelude.{IfSome, Option, None, Some};
 ghost use Rattle.crossing.specs.First.{IsFirstFrom, IsFlatSoon};
 ghost use Rattle.crossing.specs.Parts.{AnyTurnsAfter, AreFlatSoon, Differs, IsBy, IsOneOf};
 ghost use Rattle.crossing.specs.Parts.{TurnsAfter, all_hold, part_holds};

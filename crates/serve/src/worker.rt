@@ -262,8 +262,8 @@ impl Worker {
         }
     }
 
-    // Takes a piece at its turn, tells of its peer, and rests: at the moment at which the piece came,
-    // since a peer isn't silent while its own piece waits to be posted.
+    // Takes a piece at its turn, tells of its peer, and rests: at the moment at which the piece
+    // came, since a peer isn't silent while its own piece waits to be posted.
     fn treat<J: Naming, H: Wait + Drop, R: Wait, W: Write, C: Clock, G: Gate>(
         &mut self,
         rt: &R,

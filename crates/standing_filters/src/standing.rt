@@ -174,8 +174,8 @@ impl Standing {
         self.watches[filter].next_change()
     }
 
-    /// The planned changes of a filter: when, if only the clock goes on, it comes to hold a key or no
-    /// longer holds one, by moment, then by key.
+    /// The planned changes of a filter: when, if only the clock goes on, it comes to hold a key or
+    /// no longer holds one, by moment, then by key.
     pub fn planned(&self, filter: usize) -> Planned<'_>
         requires { filter < length self.now.filters }
         ensures exact { IsPlanOf (kept_of self.now filter) result }

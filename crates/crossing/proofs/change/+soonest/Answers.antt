@@ -10,7 +10,8 @@ returns-in-len1-up-clause-covers g t c d since any differs =
       | inl turns ↦ elim (c.turns-first.ensures.turns d since turns) [
         | inl by ↦ c.soonest.ensures.kept (suc d) (c.sooner-found-in-len1-up.ensures.kept (suc d)
             (c.sooner-found.ensures.kept (suc d) by))
-        | inr (inl first) ↦ c.soonest.ensures.kept (suc d) (c.sooner-found-in-len1-up.ensures.kept (suc d)
+        | inr (inl first) ↦ c.soonest.ensures.kept (suc d)
+            (c.sooner-found-in-len1-up.ensures.kept (suc d)
             (of_found _ _ (suc d) first c.sooner-found.ensures.turn (omega arith) differs))
         | inr (inr second) ↦ c.soonest.ensures.kept (suc d)
             (of_found _ _ (suc d) second c.sooner-found-in-len1-up.ensures.turn
