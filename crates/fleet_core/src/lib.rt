@@ -6,7 +6,7 @@
 //! answers, and that nothing but its own events waits behind it. `run` does a list of steps, and
 //! promises which fault ends it. `laws` has what the definitions promise.
 //! No clause says that memory suffices, nor that nothing waits where no growth was refused: the
-//! scripts of `replay_rows` show it. A fleet doesn't ask its sessions for idleness.
+//! scripts of `test_replay` show it. A fleet doesn't ask its sessions for idleness.
 #![tactic(auto)]
 
 mod connection;

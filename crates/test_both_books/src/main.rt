@@ -1,0 +1,148 @@
+//! Runs lists of events through the book that the product runs on and through the plain book, side
+//! by side, and compares all that both answer after each event: rows, sums, sets, ranked lists,
+//! next changes, sessions and seats. Prints how many events there were, and how many answers
+//! differ.
+//!
+//! An event for which a growth of memory was refused has to leave each answer as it was, and then
+//! happens once more. `test_both_books again` compares at the end of a run and where a growth was
+//! refused: `tools/refuse_growths.py` refuses each of its growths in turn.
+#![tactic(auto)]
+
+mod answers;
+mod deeds;
+mod drawn;
+mod fleet;
+mod worked;
+
+use crate::deeds::Deed;
+use crate::drawn::Draw;
+use crate::fleet::Pair;
+use anyhow::Result;
+use std::alloc::Global;
+use std::env::Env;
+
+/// How many events are drawn for a run.
+const DRAWN: u32 = 300;
+
+/// How many rows end in one ms.
+const CROWD: u16 = 1_000;
+
+/// How a run goes: whether lives and moments are near one another, and whether all answers are
+/// compared after each event or only at the end.
+#[derive(Clone, Copy, Debug)]
+struct Way {
+    near: bool,
+    often: bool,
+}
+
+/// Near and far runs that are compared after each event, and near ones that aren't.
+const NEAR: Way = Way {
+    near: true,
+    often: true,
+};
+
+const FAR: Way = Way {
+    near: false,
+    often: true,
+};
+
+const SELDOM: Way = Way {
+    near: true,
+    often: false,
+};
+
+fn tell(rt: &impl Print, name: &str, pair: &Pair) -> Result<()> {
+    let seen = pair.seen;
+    println!(rt;
+        "{name}: {} events, {} answers differ; rows {}, sets {}, changes {}",
+        pair.events, pair.differ, seen.rows, seen.sets, seen.changes
+    )?;
+    Ok(())
+}
+
+/// Two books to which nothing has happened, made once more where a growth was refused.
+fn opened(alloc: Global, way: Way) -> Result<Pair> {
+    match Pair::new(alloc, way.near) {
+        Err(_) => Pair::new(alloc, way.near),
+        opened => opened,
+    }
+}
+
+/// Lets something happen, and compares where that is to be done often.
+fn happen(alloc: Global, way: Way, pair: &mut Pair, deed: Deed) -> Result<()> {
+    pair.happen(alloc, deed)?;
+    if way.often {
+        pair.compare(alloc)?;
+    }
+    Ok(())
+}
+
+/// Compares at the end of a run, and tells how it went.
+fn end(rt: &impl Print, alloc: Global, name: &str, way: Way, pair: &mut Pair) -> Result<()> {
+    if !way.often {
+        pair.compare(alloc)?;
+    }
+    tell(rt, name, pair)
+}
+
+/// Worked events, one after the other.
+fn play(rt: &impl Print, alloc: Global, name: &str, way: Way, deeds: &[Deed]) -> Result<()> {
+    let mut pair = opened(alloc, way)?;
+    for deed in deeds {
+        happen(alloc, way, &mut pair, *deed)?;
+    }
+    end(rt, alloc, name, way, &mut pair)
+}
+
+/// Events that are drawn, with lives and moments that are near, or far from one another.
+fn draw(rt: &impl Print, alloc: Global, name: &str, way: Way) -> Result<()> {
+    let mut pair = opened(alloc, way)?;
+    let mut draw = Draw::new(way.near);
+    for _event in 0..DRAWN {
+        let deed = draw.deed(&pair);
+        happen(alloc, way, &mut pair, deed)?;
+    }
+    end(rt, alloc, name, way, &mut pair)
+}
+
+/// Many rows that end in one ms, as the clock comes close and then goes over it.
+fn crowd(rt: &impl Print, alloc: Global) -> Result<()> {
+    let mut pair = Pair::new(alloc, false)?;
+    pair.happen(alloc, Deed::Sit(0))?;
+    pair.happen(alloc, Deed::Sit(1))?;
+    pair.happen(alloc, Deed::Open(1, 0))?;
+    for n in 0..CROWD {
+        pair.happen(alloc, worked::of_crowd(n))?;
+    }
+    for moment in [49, 50] {
+        pair.happen(alloc, Deed::Moment(moment))?;
+        pair.compare_used();
+    }
+    tell(rt, "crowd", &pair)
+}
+
+/// The runs of which each growth is refused in turn.
+fn runs_again(rt: &impl Print, alloc: Global) -> Result<()> {
+    play(rt, alloc, "reconnect", SELDOM, worked::RECONNECT)?;
+    play(rt, alloc, "size limit", SELDOM, worked::SIZE_LIMIT)?;
+    draw(rt, alloc, "drawn, near", SELDOM)
+}
+
+fn all_runs(rt: &impl Print, alloc: Global) -> Result<()> {
+    play(rt, alloc, "reconnect", NEAR, worked::RECONNECT)?;
+    play(rt, alloc, "size limit", NEAR, worked::SIZE_LIMIT)?;
+    play(rt, alloc, "lives", FAR, worked::LIVES)?;
+    play(rt, alloc, "clears", NEAR, worked::CLEARS)?;
+    draw(rt, alloc, "drawn, near", NEAR)?;
+    draw(rt, alloc, "drawn, far", FAR)?;
+    crowd(rt, alloc)
+}
+
+fn main(rt: HostRuntime) -> Result<()> {
+    let again = std::env::args(&rt)?.any(|word| word.as_str() == "again");
+    if again {
+        runs_again(&rt, rt.alloc())
+    } else {
+        all_runs(&rt, rt.alloc())
+    }
+}

@@ -1,0 +1,8 @@
+use Rattle.test_workers.proofs.main.Given as goal
+
+-- the logs that were just opened
+abbrev pub ghosts-stage : goal.ghosts-stage
+ghosts-stage g a = record { book = a.opening.of }
+
+abbrev pub ghosts-stage_all : goal.ghosts-stage_all
+ghosts-stage_all g a = record { book = a.opening.of }
