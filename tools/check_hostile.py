@@ -3,9 +3,9 @@
 
     check_hostile.py [--collector crates/aggregator/out/aggregator]
 
-It starts `aggregator listen` (examples/fleet.conf) and speaks to its sockets: every verdict of a hello, broken and
-cut messages, a byte at a time, resets, more connections than there are seats, a peer that never reads, lines
-without an end, silence, signals, ports that are taken. The last line counts passed and failed; the status is 1
+It starts `aggregator listen` (examples/fleet.conf) and speaks to its sockets. Peers send hellos of every verdict,
+broken and cut messages, a byte at a time; they reset, never read, or are more than there are seats. Admins send
+lines without an end, or nothing. Signals and ports that are taken are tried too. The last line counts passed and failed; the status is 1
 where one failed. It takes about a minute.
 """
 

@@ -3,11 +3,11 @@
 
     check_with_haproxy.py [--collector crates/aggregator/out/aggregator] [--threads 1] [--only NAME]
 
-It starts `aggregator listen` and Debian's haproxy as two proxies of one fleet (examples/haproxy.cfg), sends
-requests of overlapping clients through both, and compares: sums with the sums of the proxies' own
-`show table`, a filter's set and a ranked list with what these say, the end of a row with the proxies' own; and
-again after a proxy was killed and came back, after a reload of a master with workers, and after the
-collector itself was started again. The last line counts passed and failed; the status is 1 where one failed.
+It starts `aggregator listen` and Debian's haproxy as two proxies of one fleet (examples/haproxy.cfg), and sends
+requests of overlapping clients through both. It compares sums with those of the proxies' own `show table`, a
+filter's set and a ranked list with what these say, and the end of a row with the proxies' own. It does so again
+after a proxy was killed and came back, after a reload of a master with workers, and after the collector was
+started again. The last line counts passed and failed; the status is 1 where one failed.
 """
 
 import argparse

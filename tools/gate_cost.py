@@ -3,7 +3,7 @@
 
     python3 tools/gate_cost.py [--out LOG] [COMMAND ..]     (rt ci where no command is named)
 
-It looks at the processes that the command starts ten times in a second, so what lives shorter isn't counted; a
+It looks at the processes that the command starts ten times a second, so what lives shorter isn't counted. A
 crate's line says processor seconds. What the command prints goes to LOG (gate.log), its last line to standard output too.
 """
 

@@ -1,11 +1,11 @@
 #!/usr/bin/env python3
-"""Refuses a built program each growth of its memory in turn, and looks at what it prints.
+"""Lets each allocation of a built program fail in turn, and looks at what it prints.
 
     refuse_growths.py crates/NAME [--from N] [--upto N] [-- ARGUMENTS]
 
-runs crates/NAME/out/NAME (`rt run` builds it) once with all the memory that it asks for, and then
-with its first growth refused, its second, and so on, until a run asks for no more. A growth is a
-call of malloc or realloc; a library that cc makes of the text below stands before libc's. The
+runs crates/NAME/out/NAME (`rt run` builds it) once with all the memory that it asks for. Then its
+first allocation fails, its second, and so on, until a run asks for no more. An allocation is a call
+of malloc or realloc; a library that cc makes of the text below stands before libc's. The
 program gets the crate's stdin, args (or ARGUMENTS) and data, as the gate gives them.
 
 What a run prints is

@@ -6,7 +6,7 @@
 Peers push random updates, are lost and come back; others send garbage; an admin clears keys and asks; filters
 are added. Every half a minute all acknowledgements are awaited, and the collector's whole table, a filter's set
 and a ranked list are compared with those of the updates that were sent. Memory, descriptors and threads are
-told each time. The status is 1 where an answer was wrong. With a pause, in seconds, between one peer's push and the
+printed each time. The status is 1 where an answer was wrong. With a pause, in seconds, between one peer's push and the
 next one's it leaves the machine to others, too.
 """
 

@@ -7,7 +7,7 @@
 It speaks as the peer `lb1` to the receiver `agg`, as time_receiver.py does, and defines a table `t` of addresses
 with gpc0, conn_cnt and http_req_rate(10s). The key of each number n has gpc0 n modulo 200. Then it asks for the
 whole table, for the rows of one key in 200, and for one key, each the least of five times, and clears the table.
-A time is from the question's first byte to the answer's last; the bytes of each answer are told with it.
+A time is from the question's first byte to the answer's last; the bytes of each answer are printed too.
 """
 
 import argparse

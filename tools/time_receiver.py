@@ -13,11 +13,11 @@ updates over the keys in that order again. Each is timed from its first byte to 
 last update. With `--collector` or `--haproxy` it starts that program as the receiver, on free ports, and says
 how much resident memory a key took; `--threads` is HAProxy's `nbthread`. `--random` draws the keys of the
 updates instead, the same in every run. `--senders 4` pushes as four peers at once, each with the same keys, and
-tells what all of them bring. The bytes are prepared before the clock starts.
+prints what all of them bring. The bytes are prepared before the clock starts.
 
-With `--ask` as many updates, without ids, are pushed twice in each of some rounds behind those: alone, and beside
-an admin who asks this over and over, with a pause of 0.1 s or `--pause` between an answer and the next question. It
-tells the medians of both, how they differ, and how long the answers took, at rest (five of them) and meanwhile.
+With `--ask`, each of some rounds behind those pushes as many updates, without ids, twice: alone, and beside an
+admin. The admin asks this over and over, with a pause of 0.1 s or `--pause` between an answer and the next
+question. The medians of both are printed, how they differ, and how long the answers took at rest and meanwhile.
 """
 
 import argparse
@@ -216,12 +216,12 @@ def tell_answers(when, took):
 
 
 def tell_push(what, total, took):
-    """Prints how long an update took, in us."""
+    """Prints how long an update took, in µs."""
     print(f"{total} {what}: {took:.2f} us each, {1 / took:.2f} million a second")
 
 
 def push_all(count, turns, told):
-    """Lets all peers push; the us that an update took."""
+    """Lets all peers push; the µs that an update took."""
     turns.wait()
     took = max(told.get() for _ in range(turns.parties - 1))
     turns.wait()
@@ -229,7 +229,7 @@ def push_all(count, turns, told):
 
 
 def push_asked(options, asked, turns, told):
-    """Lets all peers push beside an admin; the us that an update took, and the ms of each answer."""
+    """Lets all peers push beside an admin; the µs that an update took, and the ms of each answer."""
     done, answers = multiprocessing.Event(), multiprocessing.Queue()
     admin = multiprocessing.Process(target=ask_on, args=(asked, options, done, answers))
     admin.start()
