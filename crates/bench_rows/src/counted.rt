@@ -46,7 +46,11 @@ impl Counted {
         let key = key(self.alloc, id)?;
         let place = key.duplicate(self.alloc)?;
         self.rows.put(0, 0, place, row(self.alloc, id, now)?)?;
-        Ok(self.rows.count_of(0, &key, 0))
+        let mut sum = 0u128;
+        for (_, row) in self.rows.of_key(0, &key) {
+            sum = sum.saturating_add(u128::from(row.cells.count(0)));
+        }
+        Ok(sum)
     }
 
     /// Puts so many rows, and answers the sum of their first counts.

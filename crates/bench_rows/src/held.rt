@@ -80,7 +80,7 @@ impl Held {
         let mut spots = Vec::new(self.alloc);
         for place in 0..number {
             let key = scattered(self.alloc, place, number)?;
-            spots.push(self.rows.spot_of(0, &key))?;
+            spots.push(self.rows.spot_near(None, 0, &key))?;
         }
         Ok(spots)
     }

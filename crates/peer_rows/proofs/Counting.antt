@@ -1,7 +1,6 @@
--- What rows count in a column, and sums over rows that are seen as others.
-use Rattle.std.proofs.Common.{◌≡◌, ℕ, zero, suc, ◌+◌, List, [], ◌∷◌, refl, ap}
-use Rattle.std.specs.Prelude.{Some, None, slice_get, map, sum_by}
-use Rattle.std.proofs.lemmas.List.Folds.{fold-map}
+-- What rows count in a column.
+use Rattle.std.proofs.Common.{◌≡◌, ℕ, zero, suc, List, [], ◌∷◌, refl, ap}
+use Rattle.std.specs.Prelude.{Some, None, slice_get}
 use Rattle.peer_rows.specs.declared.row.Held.{Held}
 use Rattle.peer_rows.specs.Counted.{counted, counted_at}
 
@@ -16,8 +15,3 @@ pub counted_at_none : (cells : List Held) (col : ℕ) → slice_get cells col �
 counted_at_none [] col none = refl
 counted_at_none (c ∷ cells) zero none = cc
 counted_at_none (c ∷ cells) (suc col) none = counted_at_none cells col none
-
--- a sum over what a list is seen as
-pub sum_by-map : {X Y : Type 0} (f : Y → ℕ) (view : X → Y) (xs : List X)
-    → sum_by f (map view xs) ≡ sum_by (λ x. f (view x)) xs
-sum_by-map f view xs = fold-map (λ n y. n + f y) view 0 xs

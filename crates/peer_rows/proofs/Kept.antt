@@ -4,7 +4,7 @@ use Rattle.std.proofs.Common.{◌&&◌, List, [], ◌∷◌, length, refl, sym, 
 use Rattle.std.proofs.Common.{set, get_or-set_same, get_or-set_other, ⊎_elim}
 use Rattle.std.specs.Option.{is_some}
 use Rattle.std.specs.Prelude.{Result, Ok, Err, IfOk}
-use Rattle.std.specs.Prelude.{Option, Some, None, IfNone, MatchBool, not, filter, map, sum_by, ◌==◌}
+use Rattle.std.specs.Prelude.{Option, Some, None, IfNone, MatchBool, not, filter, map, ◌==◌}
 use Rattle.std.specs.declared.cmp.Ordering.{Ordering}
 use Rattle.std.specs.declared.cmp.Ordering.TheVariants.{Less, Equal, Greater}
 use Rattle.std.specs.Ordering.{is_eq, nat_cmp, ordering_then}
@@ -21,7 +21,6 @@ use Rattle.std.proofs.lemmas.Map.{none_passes_from_lookup}
 use Rattle.peer_rows.specs.declared.row.Row.{Row}
 use Rattle.peer_rows.specs.Table.{Spot, spot, spot_cmp, same_key, rows_in, rows_of_peer}
 use Rattle.peer_rows.specs.Table.{rows_at_peer, EachPeerOnce, IsKept, TableRows}
-use Rattle.peer_rows.proofs.Counting.{sum_by-map}
 use Rattle.peer_rows.proofs.Sorted.{equal_itself}
 use Rattle.peer_rows.proofs.Selecting.{filter_not-none, filter-none}
 use Rattle.peer_rows.proofs.Spreading.{spread-remove_entry, spread-none, filter_not-spread}
@@ -194,13 +193,6 @@ module _ (es : Keys) (key : List ℕ) where
     pub length-rows_of_key : length (filter (λ e. same_key key e.0.0) (rows_in es)) ≡ length rows
     length-rows_of_key = sym (length-map (filter (λ (e : Spot × Row). same_key key e.0.0)
         (rows_in es)) (λ e. (e.0.1, e.1))) ∙ ap length rows_of_key
-
-    pub sum-rows_of_key : (f : Row → ℕ)
-        → sum_by (λ e. f e.1) (filter (λ e. same_key key e.0.0) (rows_in es))
-        ≡ sum_by (λ r. f r.1) rows
-    sum-rows_of_key f = sym (sum_by-map (λ (r : ℕ × Row). f r.1) (λ (e : Spot × Row). (e.0.1, e.1))
-        (filter (λ (e : Spot × Row). same_key key e.0.0) (rows_in es)))
-        ∙ ap (λ rs. sum_by (λ (r : ℕ × Row). f r.1) rs) rows_of_key
 
 -- a key of whose rows none is listed isn't there
 pub none_in_keys : (es : Keys) (key : List ℕ) → IsStrictlySortedBy (slice_cmp nat_cmp) (keys_of es)

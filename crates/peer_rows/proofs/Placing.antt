@@ -2,7 +2,7 @@
 use Rattle.std.proofs.Common.{◌≡◌, ℕ, zero, suc, ◌+◌, ◌<◌, Bool, true, false, cond, ◌&&◌, List, []}
 use Rattle.std.proofs.Common.{◌∷◌, length, refl, sym, ◌∙◌, ap, arith, get_or, set, replicate}
 use Rattle.std.specs.Option.{option_and_then}
-use Rattle.std.specs.Prelude.{Option, Some, not, filter, map, ◌==◌, slice_get, count_by, sum_by}
+use Rattle.std.specs.Prelude.{Option, Some, not, filter, map, ◌==◌, slice_get, count_by}
 use Rattle.std.specs.Prelude.{None, Result, Ok, Err, IfOk, OnOk, OnErr, MatchOption}
 use Rattle.agg_types.specs.declared.no_memory.NoMemory.{NoMemory}
 use Rattle.std.specs.declared.cmp.Ordering.{Ordering}
@@ -26,7 +26,6 @@ use Rattle.peer_rows.specs.Spread.{spread}
 use Rattle.peer_rows.specs.Table.{Spot, spot_cmp, same_key, rows_of_peer, TableRows}
 use Rattle.peer_rows.specs.Rows.{place, place_of, in_table, of_table_key, of_table_peer, numbered}
 use Rattle.peer_rows.specs.Rows.{placed, AreInOrder, AreTables, RowMap}
-use Rattle.peer_rows.proofs.Counting.{sum_by-map}
 use Rattle.peer_rows.proofs.Sorted.{equal_itself, AllAbove, sorted-insert_entry}
 use Rattle.peer_rows.proofs.Sorted.{sorted-remove_entry}
 use Rattle.peer_rows.proofs.Selecting.{PassesOnce}
@@ -191,16 +190,6 @@ module _ (ts : List TableRows) (i : ℕ) (table : TableRows) (found : slice_get 
       ∙ ap length (of_key-placed key)
       ∙ length-map {B = ℕ × Row} (filter (λ (e : Spot × Row). same_key key e.0.0) table.entries)
       (λ e. (e.0.1, e.1))
-
-  pub sum-key-placed : (key : List ℕ) (f : Row → ℕ)
-      → sum_by (λ e. f e.1) (filter (λ e. of_table_key i key e.0) (placed ts)) ≡ sum_by (λ e. f e.1)
-      (filter (λ e. same_key key e.0.0) table.entries)
-  sum-key-placed key f = sym (sum_by-map (λ (r : ℕ × Row). f r.1)
-      (λ (e : Place × Row). (e.0.peer, e.1))
-      (filter (λ (e : Place × Row). of_table_key i key e.0) (placed ts)))
-      ∙ ap (λ rs. sum_by (λ (r : ℕ × Row). f r.1) rs) (of_key-placed key)
-      ∙ sum_by-map (λ (r : ℕ × Row). f r.1) (λ (e : Spot × Row). (e.0.1, e.1))
-      (filter (λ (e : Spot × Row). same_key key e.0.0) table.entries)
 
   pub count-peer-placed : (peer : ℕ) → count_by (λ e. of_table_peer i peer e.0) (placed ts)
       ≡ rows_of_peer peer table.entries

@@ -1,8 +1,7 @@
 use Rattle.std.specs.Prelude.{◌≡◌, ℕ, ◌+◌, Bool, ◌&&◌, not, List, [], ◌∷◌, ◌==◌, Option, map}
-use Rattle.std.specs.Prelude.{filter, sum_by, length}
+use Rattle.std.specs.Prelude.{filter, length}
 use Rattle.std.specs.Map.{keys_of, lookup, remove_entry}
 use Rattle.std.specs.BTreeMap.{insert_entry, is_at}
-use Rattle.peer_rows.specs.Counted.{counted_at}
 use Rattle.std.specs.List.{AllByRecursion, dedup}
 use Rattle.std.specs.List.Sorted.{IsStrictlySortedBy}
 use Rattle.agg_types.specs.Place.{place_cmp}
@@ -68,11 +67,6 @@ peers_of rows table key =
 abbrev pub used_in : RowMap → ℕ → ℕ
 used_in rows table =
     length (dedup same_key (map (λ e. e.0.key) (filter (λ e. in_table table e.0) rows.entries)))
-
--- the sum of what the rows of a table and key count in a column
-abbrev pub count_at : RowMap → ℕ → List ℕ → ℕ → ℕ
-count_at rows table key col =
-    sum_by (λ e. counted_at e.1.cells col) (filter (λ e. of_table_key table key e.0) rows.entries)
 
 -- the rows stand in order, each place once
 abbrev pub AreInOrder : List (Place × Row) → Type 0

@@ -152,18 +152,6 @@ impl KeyRows {
         self.as_slice().len()
     }
 
-    /// The sum of what the rows count in a column.
-    pub(crate) fn count_of(&self, col: usize) -> u128
-        ensures { result ≡ sum_by (λ r. counted_at r.1.cells col) self.now }
-    {
-        let rows = self.as_slice();
-        let mut total = 0;
-        for held in rows {
-            total += u128::from(held.1.cells.count(col));
-        }
-        total
-    }
-
     /// The rows with their peers, by peer.
     pub(crate) fn iter(&self) -> OfKey<'_>
         ensures rows { result ≡ self.now }

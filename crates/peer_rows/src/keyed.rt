@@ -62,15 +62,6 @@ impl Keyed {
         self.keys.len()
     }
 
-    /// Where the rows of a key lie, if it has any.
-    pub(crate) fn spot_of(&self, hint: Option<Spot>, key: &Key) -> Option<Spot>
-        ensures { IfNone result
-            (lookup (is_at (slice_cmp nat_cmp key.now)) self.now ≡ None) }
-    {
-        let at = find(&self.keys, &self.slots, &self.near, hint, key)?;
-        Some(Spot::new(at))
-    }
-
     /// Where the rows of a key lie, if that was seen lately.
     pub(crate) fn spot_near(&self, hint: Option<Spot>, key: &Key) -> Option<Spot> {
         let at = match hinted(&self.slots, hint, key) {

@@ -2,8 +2,8 @@
 //!
 //! It is what a book of a fleet keeps of its peers' updates. Contracts see one finite map from
 //! places to rows, as the list of its entries by table, key and peer: each call is an insertion, a
-//! removal, a look-up or a filter of that list, and what was refused for want of memory has changed
-//! nothing. The rows of one key lie together, so that one search finds what all peers hold of it.
+//! removal, a look-up or a filter of that list, and a call that ran out of memory changed nothing.
+//! The rows of one key lie together, so that one search finds what all peers hold of it.
 //!
 //! Rows lie in numbered places, a place for a key. An ordered map of the keys has their places, and
 //! a table of hashes remembers where keys were found lately: what it says, and what a `Spot` says,
@@ -12,7 +12,7 @@
 //!
 //! No clause says how long a call takes: a look-up is at most one search of a table's keys, `count`
 //! and `used` take constant time, and a row that replaces another takes no memory. Nor does one say
-//! anything of a `Spot` but that no answer depends on it, and that a key with rows has one.
+//! anything of a `Spot` but that no answer depends on it.
 #![tactic(auto)]
 
 mod by_key;

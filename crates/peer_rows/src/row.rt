@@ -155,8 +155,7 @@ fn spread(alloc: Global, few: &Few) -> Result<Vec<Packed>, NoMemory>
 }
 
 /// A row as it stands: its cells, the moment of its arrival, and the moment from which it has
-/// ended,
-/// if it ends. Moments are in milliseconds.
+/// ended, if it ends. Moments are in milliseconds.
 #[derive(Debug, Drop)]
 pub struct Row {
     pub cells: Cells,

@@ -12,8 +12,7 @@ use std::marker::Model;
 /// The rows of a fleet: for each peer, table and key at most one.
 ///
 /// Peers and tables are named by their positions. Contracts see the numbers of peers and tables,
-/// and
-/// the rows as the list of the entries of a finite map, by table, then by key, then by peer.
+/// and the rows as the list of the entries of a finite map, by table, then by key, then by peer.
 #[derive(Debug, Drop)]
 pub struct Rows {
     peers: usize,
@@ -37,7 +36,7 @@ impl Model for Rows {
 }
 
 impl Rows {
-    ghost use Rattle.peer_rows.specs.Rows.{count_at, row_at, with_row, without_row, without_key};
+    ghost use Rattle.peer_rows.specs.Rows.{row_at, with_row, without_row, without_key};
     ghost use Rattle.peer_rows.specs.Rows.{rows_of, peers_of, used_in, in_table, of_table_key};
     ghost use Rattle.peer_rows.specs.Rows.{of_table_peer, AreInOrder};
 
@@ -136,8 +135,7 @@ impl Rows {
     }
 
     /// Lends the rows of a table and key over all peers, by peer: one search, and then the rows
-    /// that
-    /// there are. Takes no memory.
+    /// that there are. Takes no memory.
     pub fn of_key(&self, table: usize, key: &Key) -> OfKey<'_>
         requires { table < self.now.tables }
         ensures value { result ≡ peers_of self.now table key.now }
@@ -146,27 +144,7 @@ impl Rows {
         self.of_key_at(None, table, key)
     }
 
-    /// The sum of a count column over the rows of a table and key, of all peers: one search, and
-    /// then the rows that there are. A rate counts nothing, and neither does a column that a row
-    /// doesn't have. Takes no memory.
-    pub fn count_of(&self, table: usize, key: &Key, col: usize) -> u128
-        requires { table < self.now.tables }
-        ensures value { result ≡ count_at self.now table key.now col }
-        ensures ordered { AreInOrder self.now.entries }
-    {
-        self.count_of_at(None, table, key, col)
-    }
-
     // ---- with a hint at where the rows of a key lie
-
-    /// Where the rows of a table and key lie, as a hint for a later call: nothing is promised of it
-    /// but that there is one where the key has rows. Takes no memory.
-    pub fn spot_of(&self, table: usize, key: &Key) -> Option<Spot>
-        requires { table < self.now.tables }
-        ensures { IfNone result (peers_of self.now table key.now ≡ []) }
-    {
-        self.tables[table].spot_of(None, key)
-    }
 
     /// Where the rows of a table and key lie, if the hint says so or it was seen lately, without a
     /// search of the ordered map. Nothing is promised of it: a key with no spot may have rows.
@@ -284,14 +262,5 @@ impl Rows {
         ensures ordered { AreInOrder self.now.entries }
     {
         self.tables[table].of_key(hint, key)
-    }
-
-    /// What `count_of` answers, whatever the hint.
-    pub fn count_of_at(&self, hint: Option<Spot>, table: usize, key: &Key, col: usize) -> u128
-        requires { table < self.now.tables }
-        ensures value { result ≡ count_at self.now table key.now col }
-        ensures ordered { AreInOrder self.now.entries }
-    {
-        self.tables[table].count_of(hint, key, col)
     }
 }

@@ -58,14 +58,6 @@ impl Table {
         self.keys.row_at(hint, peer, key)
     }
 
-    /// Where the rows of a key lie, if it has any.
-    pub(crate) fn spot_of(&self, hint: Option<Spot>, key: &Key) -> Option<Spot>
-        ensures { IfNone result
-            (filter (λ e. same_key key.now e.0.0) self.now.entries ≡ []) }
-    {
-        self.keys.spot_of(hint, key)
-    }
-
     /// How many rows a peer holds.
     pub(crate) fn count(&self, peer: usize) -> usize
         requires { peer < self.now.peers }
@@ -195,17 +187,6 @@ impl Table {
             Some(rows) => rows.iter(),
             None => OfKey::none(),
         }
-    }
-
-    /// The sum of what the rows of a key count in a column.
-    pub(crate) fn count_of(&self, hint: Option<Spot>, key: &Key, col: usize) -> u128
-        ensures { result ≡ sum_by (λ e. counted_at e.1.cells col)
-            (filter (λ e. same_key key.now e.0.0) self.now.entries) }
-    {
-        let Some(rows) = self.keys.get(hint, key) else {
-            return 0;
-        };
-        rows.count_of(col)
     }
 
     /// All rows, by key, then by peer.

@@ -143,15 +143,6 @@ impl Standing {
         Ok(())
     }
 
-    /// Takes the last filter away, if there is one. Takes no memory.
-    pub fn drop_last(&mut self)
-        ensures others { self.new.filters
-            ≡ take (length self.old.filters - 1) self.old.filters }
-        ensures evals { self.new.evals ≡ self.old.evals }
-    {
-        self.watches.pop();
-    }
-
     /// The keys that a filter holds, in order.
     pub fn keys(&self, filter: usize) -> Keys<'_>
         requires { filter < length self.now.filters }

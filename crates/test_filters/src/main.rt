@@ -272,7 +272,7 @@ fn clock<R: Print>(rt: &R, alloc: Global) -> Result<()> {
     go_on(rt, alloc, "clock for none", &contrary, &values, &[167])
 }
 
-// A filter that is added with the keys that have rows, and taken away.
+// A filter that is added with the keys that have rows.
 fn added<R: Print>(rt: &R, alloc: Global) -> Result<()> {
     println!(rt; "added")?;
     let values = Pair {
@@ -288,8 +288,6 @@ fn added<R: Print>(rt: &R, alloc: Global) -> Result<()> {
     standing.moment(&values, 166)?;
     count(rt, &standing)?;
     standing.moment(&values, 167)?;
-    count(rt, &standing)?;
-    standing.drop_last();
     count(rt, &standing)
 }
 

@@ -63,7 +63,7 @@ impl Fleet {
     {
         let key = key(self.alloc, last)?;
         let row = row(self.alloc, count)?;
-        let spot = self.rows.spot_of(0, &key);
+        let spot = self.rows.spot_near(None, 0, &key);
         let old = self.rows.put_at(spot, peer, 0, &key, row)?;
         Ok(old.is_some())
     }
@@ -95,6 +95,15 @@ impl Fleet {
         Ok(())
     }
 
+    // The sum of a column's counts over the rows of a key.
+    fn sum(&self, key: &Key, column: usize) -> u64 {
+        let mut sum = 0u64;
+        for (_, row) in self.rows.of_key(0, key) {
+            sum = sum.saturating_add(row.cells.count(column));
+        }
+        sum
+    }
+
     // Prints what is held of a key.
     fn show_key(&self, rt: &HostRuntime, last: u8) -> Result<()> {
         let key = key(self.alloc, last)?;
@@ -104,11 +113,7 @@ impl Fleet {
             let cells = (row.cells.get(0), row.cells.get(1), row.cells.get(2));
             println!(rt; "peer {peer} arrived {} cells {cells:?}", row.arrived)?;
         }
-        let sums = (
-            self.rows.count_of(0, &key, 0),
-            self.rows.count_of(0, &key, 1),
-            self.rows.count_of(0, &key, 2),
-        );
+        let sums = (self.sum(&key, 0), self.sum(&key, 1), self.sum(&key, 2));
         println!(rt; "counts {sums:?}")?;
         Ok(())
     }
