@@ -1,13 +1,9 @@
 ghost use Rattle.std.specs.Prelude.{◌≡◌, length, find};
 ghost use Rattle.std.specs.Str.{bytes_eq};
-ghost use Rattle.agg_types.specs.Col.{col_id, col_name, is_rate, is_wide, all_cols};
+ghost use Rattle.agg_types.specs.Col.{all_cols, col_id, col_name, info, is_rate, is_wide, place};
 
 /// How many columns there are.
 pub const COLUMNS: usize = 17;
-
-/// The number of the last data type that is a column. In the peers protocol, values and periods of
-/// data types behind it come last in their message.
-pub const LAST_DATA_TYPE: u64 = 18;
 
 /// A column of stick tables that can be added up over a fleet: the stored data types of
 /// HAProxy's Configuration Manual ("stick-table", `store`), save those that are no sums.
@@ -52,6 +48,38 @@ pub enum Col {
     Gpc1Rate,
 }
 
+/// What the values of a column are.
+#[derive(Clone, Copy, Debug, PartialEq, Eq)]
+pub enum ColKind {
+    /// A count of 32 bits.
+    Count,
+    /// A count of 64 bits.
+    WideCount,
+    /// A rate over a period.
+    Rate,
+}
+
+/// What names a column and tells its values.
+#[derive(Clone, Copy, Debug, PartialEq, Eq)]
+pub struct ColInfo {
+    /// The data type's number in the peers protocol.
+    pub id: u8,
+    /// The name that HAProxy gives it.
+    pub name: &'static str,
+    /// What its values are.
+    pub kind: ColKind,
+}
+
+impl ColInfo {
+    fn of(id: u8, name: &'static str, kind: ColKind) -> ColInfo
+        ensures id { result.id ≡ id }
+        ensures name { result.name.now ≡ name.now }
+        ensures kind { result.kind ≡ kind }
+    {
+        ColInfo { id, name, kind }
+    }
+}
+
 impl Col {
     /// Every column, in order.
     pub const ALL: [Col; COLUMNS] = [
@@ -74,54 +102,52 @@ impl Col {
         Col::Gpc1Rate,
     ];
 
-    /// The data type's number in the peers protocol, 2 to 18.
+    /// The number, the name and the kind: a column a line.
+    pub fn info(self) -> ColInfo
+        ensures id { result.id ≡ (info self).id }
+        ensures name { result.name.now ≡ (info self).name }
+        ensures kind { result.kind ≡ (info self).kind }
+    {
+        match self {
+            Col::Gpc0 => ColInfo::of(2, "gpc0", ColKind::Count),
+            Col::Gpc0Rate => ColInfo::of(3, "gpc0_rate", ColKind::Rate),
+            Col::ConnCnt => ColInfo::of(4, "conn_cnt", ColKind::Count),
+            Col::ConnRate => ColInfo::of(5, "conn_rate", ColKind::Rate),
+            Col::ConnCur => ColInfo::of(6, "conn_cur", ColKind::Count),
+            Col::SessCnt => ColInfo::of(7, "sess_cnt", ColKind::Count),
+            Col::SessRate => ColInfo::of(8, "sess_rate", ColKind::Rate),
+            Col::HttpReqCnt => ColInfo::of(9, "http_req_cnt", ColKind::Count),
+            Col::HttpReqRate => ColInfo::of(10, "http_req_rate", ColKind::Rate),
+            Col::HttpErrCnt => ColInfo::of(11, "http_err_cnt", ColKind::Count),
+            Col::HttpErrRate => ColInfo::of(12, "http_err_rate", ColKind::Rate),
+            Col::BytesInCnt => ColInfo::of(13, "bytes_in_cnt", ColKind::WideCount),
+            Col::BytesInRate => ColInfo::of(14, "bytes_in_rate", ColKind::Rate),
+            Col::BytesOutCnt => ColInfo::of(15, "bytes_out_cnt", ColKind::WideCount),
+            Col::BytesOutRate => ColInfo::of(16, "bytes_out_rate", ColKind::Rate),
+            Col::Gpc1 => ColInfo::of(17, "gpc1", ColKind::Count),
+            Col::Gpc1Rate => ColInfo::of(18, "gpc1_rate", ColKind::Rate),
+        }
+    }
+
+    /// The data type's number in the peers protocol.
     pub fn id(self) -> u8
         ensures { result ≡ col_id self }
     {
-        match self {
-            Col::Gpc0 => 2,
-            Col::Gpc0Rate => 3,
-            Col::ConnCnt => 4,
-            Col::ConnRate => 5,
-            Col::ConnCur => 6,
-            Col::SessCnt => 7,
-            Col::SessRate => 8,
-            Col::HttpReqCnt => 9,
-            Col::HttpReqRate => 10,
-            Col::HttpErrCnt => 11,
-            Col::HttpErrRate => 12,
-            Col::BytesInCnt => 13,
-            Col::BytesInRate => 14,
-            Col::BytesOutCnt => 15,
-            Col::BytesOutRate => 16,
-            Col::Gpc1 => 17,
-            Col::Gpc1Rate => 18,
-        }
+        self.info().id
     }
 
     /// The name that HAProxy gives it.
     pub fn name(self) -> &'static str
         ensures { result.now ≡ col_name self }
     {
-        match self {
-            Col::Gpc0 => "gpc0",
-            Col::Gpc0Rate => "gpc0_rate",
-            Col::ConnCnt => "conn_cnt",
-            Col::ConnRate => "conn_rate",
-            Col::ConnCur => "conn_cur",
-            Col::SessCnt => "sess_cnt",
-            Col::SessRate => "sess_rate",
-            Col::HttpReqCnt => "http_req_cnt",
-            Col::HttpReqRate => "http_req_rate",
-            Col::HttpErrCnt => "http_err_cnt",
-            Col::HttpErrRate => "http_err_rate",
-            Col::BytesInCnt => "bytes_in_cnt",
-            Col::BytesInRate => "bytes_in_rate",
-            Col::BytesOutCnt => "bytes_out_cnt",
-            Col::BytesOutRate => "bytes_out_rate",
-            Col::Gpc1 => "gpc1",
-            Col::Gpc1Rate => "gpc1_rate",
-        }
+        self.info().name
+    }
+
+    /// Where it stands among all.
+    pub fn place(self) -> usize
+        ensures { result ≡ place self }
+    {
+        self as usize
     }
 
     /// The column of a name, or none.
@@ -138,16 +164,9 @@ impl Col {
     pub fn is_rate(self) -> bool
         ensures { result ≡ is_rate self }
     {
-        match self {
-            Col::Gpc0Rate
-            | Col::ConnRate
-            | Col::SessRate
-            | Col::HttpReqRate
-            | Col::HttpErrRate
-            | Col::BytesInRate
-            | Col::BytesOutRate
-            | Col::Gpc1Rate => true,
-            _ => false,
+        match self.info().kind {
+            ColKind::Rate => true,
+            ColKind::Count | ColKind::WideCount => false,
         }
     }
 
@@ -155,9 +174,9 @@ impl Col {
     pub fn is_wide(self) -> bool
         ensures { result ≡ is_wide self }
     {
-        match self {
-            Col::BytesInCnt | Col::BytesOutCnt => true,
-            _ => false,
+        match self.info().kind {
+            ColKind::WideCount => true,
+            ColKind::Count | ColKind::Rate => false,
         }
     }
 }

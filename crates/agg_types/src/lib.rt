@@ -20,6 +20,7 @@ mod event;
 mod fits;
 mod items;
 mod key;
+pub mod laws;
 mod name;
 mod no_memory;
 mod place;
@@ -27,7 +28,7 @@ mod short_key;
 
 pub use cells::Cells;
 pub use check::{ConfigFault, MOST_FILTERS, MOST_PEERS, MOST_RANKS, MOST_TABLES};
-pub use column::{COLUMNS, Col, LAST_DATA_TYPE};
+pub use column::{COLUMNS, Col, ColInfo, ColKind};
 pub use config::{Cond, Config, Filter, KeyKind, Op, Rank, Shape};
 pub use event::{Cell, Event, LAST_SEAT, Select, What};
 pub use fits::{LAST_MOMENT, MOST_CONDS};
