@@ -1,0 +1,33 @@
+//! What is wrong with a word of a line.
+
+/// What had to stand where a word is wrong or missing.
+#[derive(Clone, Copy, Debug, PartialEq, Eq)]
+pub enum Expected {
+    /// A name.
+    Name,
+    /// One of the words that may stand here.
+    Keyword,
+    /// The end of the line.
+    End,
+    /// 1 to 20 decimal digits, up to 2^64 - 1.
+    Number,
+    /// The name of a column.
+    Column,
+    /// A column with the period of its rates, or without one where it counts.
+    StoredColumn,
+    /// `data.` and the name of a column.
+    Condition,
+    /// One of eq, ne, le, ge, lt and gt.
+    Operator,
+}
+
+/// The first wrong or missing word of a line, and what had to stand there.
+#[derive(Clone, Copy, Debug, PartialEq, Eq)]
+pub struct Misread {
+    /// The number of the word, from 1.
+    pub word: usize,
+    /// Whether the line ends before that word.
+    pub is_missing: bool,
+    /// What had to stand there.
+    pub expected: Expected,
+}

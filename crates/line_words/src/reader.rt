@@ -1,0 +1,142 @@
+//! The words of a line, read one after the other.
+
+ghost use Rattle.std.specs.Prelude.{◌≡◌, length, nat_eq};
+ghost use Rattle.line_words.specs.Reader.{Reads, column, data_column, end, keyword, left_of};
+ghost use Rattle.line_words.specs.Reader.{number, operator, word, wrong};
+
+use crate::{Expected, Misread, next_word, number, operator};
+use agg_types::{Col, Op};
+use std::marker::Model;
+
+/// What begins a condition's first word.
+pub const DATA: &[u8] = b"data.";
+
+/// What a line has left: its words, and the number of the next of them, from 1.
+///
+/// Contracts see both. After a fault the words are of no use.
+#[derive(Drop)]
+pub struct Words<'a> {
+    line: &'a [u8],
+    number: usize,
+}
+
+impl<'a> Model for Words<'a> {
+    ghost use Rattle.std.specs.Prelude.{◌+◌, ◌≤◌, ◌^◌, length};
+    ghost use Rattle.line_words.specs.Words.{words};
+    ghost use Rattle.line_words.specs.Reader.{Left};
+
+    ghost Value = { Left };
+
+    ghost view = { λ left. record { number = left.number; words = words left.line.now } };
+
+    ghost invariant = { λ left. left.number + length left.line.now ≤ 2 ^ 63 };
+}
+
+impl<'a> Words<'a> {
+    /// The words of a line.
+    pub fn of(line: &'a [u8]) -> Words<'a>
+        ensures { result ≡ left_of line.now }
+    {
+        Words { line, number: 1 }
+    }
+
+    /// Whether no word is left.
+    pub fn is_empty(&self) -> bool
+        ensures { result ≡ nat_eq (length self.now.words) 0 }
+    {
+        next_word(self.line).is_none()
+    }
+
+    /// The next word. Where the line ends before it, `expected` is told.
+    pub fn word(&mut self, expected: Expected) -> Result<&'a [u8], Misread>
+        ensures { Reads (λ found. found.now) (word expected self.old) result self.new }
+    {
+        match next_word(self.line) {
+            None => Err(Misread {
+                word: self.number,
+                is_missing: true,
+                expected,
+            }),
+            Some((found, line)) => {
+                self.line = line;
+                self.number += 1;
+                Ok(found)
+            }
+        }
+    }
+
+    /// That the next word is this one.
+    pub fn keyword(&mut self, wanted: &[u8]) -> Result<(), Misread>
+        ensures { Reads (λ x. x) (keyword wanted.now self.old) result self.new }
+    {
+        let place = self.number;
+        if self.word(Expected::Keyword)? == wanted {
+            Ok(())
+        } else {
+            Err(wrong(place, Expected::Keyword))
+        }
+    }
+
+    /// That no word is left.
+    pub fn end(&mut self) -> Result<(), Misread>
+        ensures { Reads (λ x. x) (end self.old) result self.new }
+    {
+        if self.is_empty() {
+            Ok(())
+        } else {
+            Err(wrong(self.number, Expected::End))
+        }
+    }
+
+    /// The number that the next word writes. A word that writes none is a fault by itself: who
+    /// reads on tells the faults of later words first.
+    pub fn number(&mut self) -> Result<Result<u64, Misread>, Misread>
+        ensures { Reads (λ x. x) (number self.old) result self.new }
+    {
+        let place = self.number;
+        let found = self.word(Expected::Number)?;
+        Ok(number(found).map_err(|_| wrong(place, Expected::Number)))
+    }
+
+    /// The column that the next word names.
+    pub fn column(&mut self) -> Result<Col, Misread>
+        ensures { Reads (λ x. x) (column self.old) result self.new }
+    {
+        let place = self.number;
+        let name = self.word(Expected::Column)?;
+        Col::from_name(name).ok_or(wrong(place, Expected::Column))
+    }
+
+    /// The comparison that the next word names.
+    pub fn operator(&mut self) -> Result<Op, Misread>
+        ensures { Reads (λ x. x) (operator self.old) result self.new }
+    {
+        let place = self.number;
+        let name = self.word(Expected::Operator)?;
+        operator(name).ok_or(wrong(place, Expected::Operator))
+    }
+
+    /// The column of a condition, whose first word is `data.` and the column's name. Its operator
+    /// and its number follow.
+    pub fn data_column(&mut self) -> Result<Col, Misread>
+        ensures { Reads (λ x. x) (data_column self.old) result self.new }
+    {
+        let place = self.number;
+        let first = self.word(Expected::Condition)?;
+        match first.strip_prefix(DATA) {
+            None => Err(wrong(place, Expected::Condition)),
+            Some(name) => Col::from_name(name).ok_or(wrong(place, Expected::Column)),
+        }
+    }
+}
+
+/// The fault that the word of this number isn't what had to stand there.
+pub fn wrong(word: usize, expected: Expected) -> Misread
+    ensures { result ≡ wrong word expected }
+{
+    Misread {
+        word,
+        is_missing: false,
+        expected,
+    }
+}
