@@ -19,4 +19,4 @@ pub use misread::{Expected, Misread};
 pub use numbers::{NumberFault, number};
 pub use operators::operator;
 pub use parts::{is_comment, next_line, next_part, next_word, place_of};
-pub use reader::{DATA, Words, wrong};
+pub use reader::{DATA, Words};

@@ -1,5 +1,8 @@
 //! What is wrong with a word of a line.
 
+ghost use Rattle.std.specs.Prelude.{◌≡◌};
+ghost use Rattle.line_words.specs.Reader.{missing, wrong};
+
 /// What had to stand where a word is wrong or missing.
 #[derive(Clone, Copy, Debug, PartialEq, Eq)]
 pub enum Expected {
@@ -13,8 +16,8 @@ pub enum Expected {
     Number,
     /// The name of a column.
     Column,
-    /// A column with the period of its rates, or without one where it counts.
-    StoredColumn,
+    /// The names of columns, with a comma between them, and a rate's period in parentheses.
+    Columns,
     /// `data.` and the name of a column.
     Condition,
     /// One of eq, ne, le, ge, lt and gt.
@@ -30,4 +33,28 @@ pub struct Misread {
     pub is_missing: bool,
     /// What had to stand there.
     pub expected: Expected,
+}
+
+impl Misread {
+    /// The line ends before the word of this number.
+    pub fn missing(word: usize, expected: Expected) -> Misread
+        ensures { result ≡ missing word expected }
+    {
+        Misread {
+            word,
+            is_missing: true,
+            expected,
+        }
+    }
+
+    /// The word of this number isn't what had to stand there.
+    pub fn wrong(word: usize, expected: Expected) -> Misread
+        ensures { result ≡ wrong word expected }
+    {
+        Misread {
+            word,
+            is_missing: false,
+            expected,
+        }
+    }
 }

@@ -2,7 +2,7 @@
 
 ghost use Rattle.std.specs.Prelude.{◌≡◌, length, nat_eq};
 ghost use Rattle.line_words.specs.Reader.{Reads, column, data_column, end, keyword, left_of};
-ghost use Rattle.line_words.specs.Reader.{number, operator, word, wrong};
+ghost use Rattle.line_words.specs.Reader.{number, operator, word};
 
 use crate::{Expected, Misread, next_word, number, operator};
 use agg_types::{Col, Op};
@@ -40,6 +40,13 @@ impl<'a> Words<'a> {
         Words { line, number: 1 }
     }
 
+    /// The number of the next word, from 1.
+    pub fn place(&self) -> usize
+        ensures { result ≡ self.now.number }
+    {
+        self.number
+    }
+
     /// Whether no word is left.
     pub fn is_empty(&self) -> bool
         ensures { result ≡ nat_eq (length self.now.words) 0 }
@@ -52,11 +59,7 @@ impl<'a> Words<'a> {
         ensures { Reads (λ found. found.now) (word expected self.old) result self.new }
     {
         match next_word(self.line) {
-            None => Err(Misread {
-                word: self.number,
-                is_missing: true,
-                expected,
-            }),
+            None => Err(Misread::missing(self.number, expected)),
             Some((found, line)) => {
                 self.line = line;
                 self.number += 1;
@@ -73,7 +76,7 @@ impl<'a> Words<'a> {
         if self.word(Expected::Keyword)? == wanted {
             Ok(())
         } else {
-            Err(wrong(place, Expected::Keyword))
+            Err(Misread::wrong(place, Expected::Keyword))
         }
     }
 
@@ -84,7 +87,7 @@ impl<'a> Words<'a> {
         if self.is_empty() {
             Ok(())
         } else {
-            Err(wrong(self.number, Expected::End))
+            Err(Misread::wrong(self.number, Expected::End))
         }
     }
 
@@ -95,7 +98,7 @@ impl<'a> Words<'a> {
     {
         let place = self.number;
         let found = self.word(Expected::Number)?;
-        Ok(number(found).map_err(|_| wrong(place, Expected::Number)))
+        Ok(number(found).map_err(|_| Misread::wrong(place, Expected::Number)))
     }
 
     /// The column that the next word names.
@@ -104,7 +107,7 @@ impl<'a> Words<'a> {
     {
         let place = self.number;
         let name = self.word(Expected::Column)?;
-        Col::from_name(name).ok_or(wrong(place, Expected::Column))
+        Col::from_name(name).ok_or(Misread::wrong(place, Expected::Column))
     }
 
     /// The comparison that the next word names.
@@ -113,7 +116,7 @@ impl<'a> Words<'a> {
     {
         let place = self.number;
         let name = self.word(Expected::Operator)?;
-        operator(name).ok_or(wrong(place, Expected::Operator))
+        operator(name).ok_or(Misread::wrong(place, Expected::Operator))
     }
 
     /// The column of a condition, whose first word is `data.` and the column's name. Its operator
@@ -124,19 +127,8 @@ impl<'a> Words<'a> {
         let place = self.number;
         let first = self.word(Expected::Condition)?;
         match first.strip_prefix(DATA) {
-            None => Err(wrong(place, Expected::Condition)),
-            Some(name) => Col::from_name(name).ok_or(wrong(place, Expected::Column)),
+            None => Err(Misread::wrong(place, Expected::Condition)),
+            Some(name) => Col::from_name(name).ok_or(Misread::wrong(place, Expected::Column)),
         }
-    }
-}
-
-/// The fault that the word of this number isn't what had to stand there.
-pub fn wrong(word: usize, expected: Expected) -> Misread
-    ensures { result ≡ wrong word expected }
-{
-    Misread {
-        word,
-        is_missing: false,
-        expected,
     }
 }
