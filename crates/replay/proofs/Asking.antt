@@ -15,9 +15,10 @@ use Rattle.show_clear.specs.Change.{ChangeFits}
 use Rattle.show_clear.specs.Parse.{Read, Tells, command_of}
 use Rattle.show_clear.specs.Refusal.{refusal_text}
 use Rattle.show_clear.specs.declared.command.Command.{Command}
-use Rattle.show_clear.specs.declared.command.Command.TheVariants.{ShowTables, ShowTable, ClearTable}
-use Rattle.show_clear.specs.declared.command.Command.TheVariants.{ShowFilter, ShowRank, ShowNext}
-use Rattle.show_clear.specs.declared.command.Command.TheVariants.{AddFilter}
+use Rattle.show_clear.specs.declared.command.Command.TheVariants.{Ask, Change as Changes}
+use Rattle.show_clear.specs.declared.command.Question.{Question}
+use Rattle.show_clear.specs.declared.command.Change.{Change}
+use Rattle.show_clear.specs.declared.command.Change.TheVariants.{Clear, AddFilter}
 use Rattle.show_clear.specs.declared.fault.CommandFault.{CommandFault}
 use Rattle.show_clear.specs.declared.fault.CommandFault.TheVariants.{Empty, Unknown, NoTable}
 use Rattle.show_clear.specs.declared.fault.CommandFault.TheVariants.{BadColumn, BadOperator}
@@ -71,7 +72,7 @@ just_given (Err e) Gives given fleet config opening before after gives h = h
 pub read_ok : (state : State) (config : Config) (opening : ℕ) (past : List Step) (line : List ℕ)
     (command : Command) (given : Given) → state ≡ state_after config opening past
     → command_of state line ≡ Ok command
-    → CommandGives config opening past command (step_of command) given
+    → CommandGives config opening past command given
     → AskOrRefusal config opening past (command_of (state_after config opening past) line) given
 read_ok state config opening past line command given is read gives =
     inl (subst (λ (read : Read Command). AskGives config opening past read given)
@@ -110,18 +111,14 @@ refused_gives fault state config opening past line is read = by fault read
 
 -- an answer that was appended
 pub answered : (state : State) (fleet : Collected) (config : Config) (opening : ℕ)
-    (past : List Step) (command same : Command) (before after : List ℕ) → fleet.book ≡ state
-    → IsSettled fleet config opening past → same ≡ command → step_of command ≡ None
-    → Answers state same before after
-    → LineDid (CommandGives config opening past command (step_of command)) fleet config opening
-    before after None
-answered state fleet config opening past command same before after book settled is none h =
-    printed (CommandGives config opening past command (step_of command)) fleet config opening past
+    (past : List Step) (question : Question) (before after : List ℕ) → fleet.book ≡ state
+    → IsSettled fleet config opening past → Answers state (Ask question) before after
+    → LineDid (CommandGives config opening past (Ask question)) fleet config opening before after
+    None
+answered state fleet config opening past question before after book settled h =
+    printed (CommandGives config opening past (Ask question)) fleet config opening past
     h.0 before after
-    (subst (λ (o : Option Step). CommandGives config opening past command o (printing past h.0))
-    (sym none)
-    (h.0, rw (sym is, sym (book_is fleet config opening past settled), book) h.2, refl))
-    settled h.1
+    (h.0, rw (sym (book_is fleet config opening past settled), book) h.2, refl) settled h.1
 
 -- a change, with its `ok`
 pub with_ok : (given : Given) (fleet : Collected) (config : Config) (opening : ℕ)
@@ -154,16 +151,8 @@ bad_did (Ok ending) Gives fleet config opening past number fault before after gi
 bad_did (Err e) Gives fleet config opening past number fault before after gives settled text ended =
     tt
 
-step_is : {x y : Step} → Some x ≡ Some y → x ≡ y
-step_is same = cc
-
--- a step that a command asks for fits, where the command's change does
-pub step_fits : (state : State) (command : Command) (step : Step) → step_of command ≡ Some step
-    → ChangeFits state command → does_fit state.config step ≡ true
-step_fits state ShowTables step is fits = absurd cc
-step_fits state (ShowTable table sel) step is fits = absurd cc
-step_fits state (ClearTable table sel) step is fits = rw (← step_is is) fits
-step_fits state (ShowFilter filter) step is fits = absurd cc
-step_fits state (ShowRank rank) step is fits = absurd cc
-step_fits state (ShowNext filter) step is fits = absurd cc
-step_fits state (AddFilter filter) step is fits = rw (← step_is is) fits
+-- the step of a change fits, where the change does
+pub step_fits : (state : State) (change : Change) → ChangeFits state (Changes change)
+    → does_fit state.config (step_of change) ≡ true
+step_fits state (Clear table sel) fits = fits
+step_fits state (AddFilter filter) fits = fits

@@ -9,13 +9,13 @@ use Rattle.fleet_core.specs.StandsFor.{Collected}
 use Rattle.fleet_core.specs.declared.step.Step.{Step}
 use Rattle.fleet_core.specs.declared.step.Step.TheVariants as steps
 use Rattle.line_words.specs.Words.{words}
-use Rattle.show_clear.specs.Answer.{IsAnswer}
+use Rattle.show_clear.specs.Answer.{IsAnswerTo}
 use Rattle.show_clear.specs.Parse.{Read, command_of}
 use Rattle.show_clear.specs.Refusal.{refusal_text}
 use Rattle.show_clear.specs.declared.command.Command.{Command}
-use Rattle.show_clear.specs.declared.command.Command.TheVariants.{ShowTables, ShowTable, ClearTable}
-use Rattle.show_clear.specs.declared.command.Command.TheVariants.{ShowFilter, ShowRank, ShowNext}
-use Rattle.show_clear.specs.declared.command.Command.TheVariants.{AddFilter}
+use Rattle.show_clear.specs.declared.command.Command.TheVariants.{Ask, Change as Changes}
+use Rattle.show_clear.specs.declared.command.Change.{Change}
+use Rattle.show_clear.specs.declared.command.Change.TheVariants.{Clear, AddFilter}
 use Rattle.show_clear.specs.declared.fault.CommandFault.TheVariants as refused
 use Rattle.replay.specs.Given.{Did, Given, step_given}
 use Rattle.replay.specs.Meaning.{meaning_of}
@@ -50,28 +50,23 @@ abbrev pub change_given : Given → Given
 change_given given =
     record { past = given.past; text = given.text ++ ok_if given.ending; ending = given.ending }
 
--- the step that a command asks for, if it changes anything
-abbrev pub step_of : Command → Option Step
-step_of ShowTables = None
-step_of (ShowTable table sel) = None
-step_of (ClearTable table sel) = Some (steps.Clear table sel)
-step_of (ShowFilter filter) = None
-step_of (ShowRank rank) = None
-step_of (ShowNext filter) = None
-step_of (AddFilter filter) = Some (steps.AddFilter filter)
+-- the step that makes a change
+abbrev pub step_of : Change → Step
+step_of (Clear table sel) = steps.Clear table sel
+step_of (AddFilter filter) = steps.AddFilter filter
 
--- what a command does: it is a step, or prints its answer
-abbrev pub CommandGives : Config → ℕ → List Step → Command → Option Step → Given → Type 0
-CommandGives config opening past command None given =
-    (text : List ℕ) × IsAnswer (state_after config opening past) command text
+-- what a command does: a question prints its answer, and a change is a step
+abbrev pub CommandGives : Config → ℕ → List Step → Command → Given → Type 0
+CommandGives config opening past (Ask question) given =
+    (text : List ℕ) × IsAnswerTo (state_after config opening past) question text
     × (given ≡ printing past text)
-CommandGives config opening past command (Some step) given =
-    given ≡ change_given (step_given config opening past step)
+CommandGives config opening past (Changes change) given =
+    given ≡ change_given (step_given config opening past (step_of change))
 
 -- what a line does that asks for something
 abbrev pub AskGives : Config → ℕ → List Step → Read Command → Given → Type 0
 AskGives config opening past (Ok command) given =
-    CommandGives config opening past command (step_of command) given
+    CommandGives config opening past command given
 AskGives config opening past (Err fault) given = given ≡ printing past (refusal_text fault)
 
 -- the same, where a growth of memory may be refused as the command is read

@@ -1,6 +1,6 @@
 //! Commands of a script, over the fleet.
 
-ghost use Rattle.std.specs.Prelude.{◌≡◌, ℕ, List, IfOk, IsTrue, MatchResult, Some, None};
+ghost use Rattle.std.specs.Prelude.{◌≡◌, ℕ, List, IfOk, IsTrue};
 ghost use Rattle.agg_types.specs.declared.config.Config.{Config};
 ghost use Rattle.fleet_core.specs.Possible.{does_fit};
 ghost use Rattle.fleet_core.specs.declared.step.Step.{Step};
@@ -16,7 +16,7 @@ use crate::ending::Ending;
 use agg_types::NoMemory;
 use fleet_core::{Fleet, Step};
 use key_text::append_text;
-use show_clear::{Command, answer, parse, refusal};
+use show_clear::{Change, Command, answer, parse, refusal};
 use std::alloc::Global;
 
 /// Does what a command asks for, and appends its answer or its refusal. After `NoMemory` neither
@@ -54,32 +54,30 @@ fn obey(
     requires fits { ChangeFits fleet.old.book command }
     ensures { (config : Config) (opening : ℕ) (past : List Step)
         → IsSettled fleet.old config opening past
-        → IfOk result (LineDid (CommandGives config opening past command (step_of command))
+        → IfOk result (LineDid (CommandGives config opening past command)
         fleet.new config opening out.old.items out.new.items) }
 {
-    match step_of(command) {
-        Ok(step) => change(alloc, fleet, &step, out),
-        Err(command) => {
+    match command {
+        Command::Change(change) => change_fleet(alloc, fleet, &step_of(change), out),
+        command => {
             answer(alloc, fleet.book(), &command, out)?;
             Ok(None)
         }
     }
 }
 
-// The step that a command asks for, or the command where it changes nothing.
-fn step_of(command: Command) -> Result<Step, Command>
-    ensures { MatchResult result (λ step. step_of command ≡ Some step)
-        (λ same. (same ≡ command) × (step_of command ≡ None)) }
+// The step that makes a change.
+fn step_of(change: Change) -> Step
+    ensures { result ≡ step_of change }
 {
-    match command {
-        Command::ClearTable { table, sel } => Ok(Step::Clear { table, sel }),
-        Command::AddFilter(filter) => Ok(Step::AddFilter(filter)),
-        command => Err(command),
+    match change {
+        Change::Clear { table, sel } => Step::Clear { table, sel },
+        Change::AddFilter(filter) => Step::AddFilter(filter),
     }
 }
 
 // Does the step of a command that changes something, and appends `ok`.
-fn change(
+fn change_fleet(
     alloc: Global,
     fleet: &mut Fleet,
     step: &Step,

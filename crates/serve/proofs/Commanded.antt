@@ -13,11 +13,10 @@ use Rattle.agg_types.specs.declared.event.Event.{Event}
 use Rattle.agg_types.specs.declared.event.What.{What}
 use Rattle.agg_types.specs.declared.event.What.TheVariants.{Sit}
 use Rattle.fleet_model.specs.State.{Stands, State}
-use Rattle.show_clear.specs.Change.{ChangeFits, change_of}
+use Rattle.show_clear.specs.Change.{ChangeFits, asked_event}
 use Rattle.show_clear.specs.declared.command.Command.{Command}
-use Rattle.show_clear.specs.declared.command.Command.TheVariants.{ShowTables, ShowTable, ClearTable}
-use Rattle.show_clear.specs.declared.command.Command.TheVariants.{ShowFilter, ShowRank, ShowNext}
-use Rattle.show_clear.specs.declared.command.Command.TheVariants.{AddFilter}
+use Rattle.show_clear.specs.declared.command.Change.TheVariants.{Clear, AddFilter}
+use Rattle.show_clear.specs.declared.command.Command.TheVariants.{Ask, Change as Changes}
 use Rattle.hub.proofs.Fronts.{prefix_self, prefix_trans}
 use Rattle.hub.proofs.Rolling.{fits_at}
 use Rattle.hub.specs.History.{Beginning, made, own}
@@ -45,14 +44,18 @@ use Rattle.serve.specs.declared.served.Served.{Served}
 -- ---- what may be posted
 
 pub asked_may_post : (book : State) (command : Command) → ChangeFits book command
-    → IfSome (change_of command) (MayPost book.config)
-asked_may_post book ShowTables fit = tt
-asked_may_post book (ShowTable table sel) fit = tt
-asked_may_post book (ClearTable table sel) fit = record { fits = fit; sits = refl; leaves = refl }
-asked_may_post book (ShowFilter filter) fit = tt
-asked_may_post book (ShowRank rank) fit = tt
-asked_may_post book (ShowNext filter) fit = tt
-asked_may_post book (AddFilter filter) fit = record { fits = fit; sits = refl; leaves = refl }
+    → IfSome (asked_event command) (MayPost book.config)
+asked_may_post book (Ask question) fit = tt
+asked_may_post book (Changes (Clear table sel)) fit = record {
+  fits = fit;
+  sits = refl;
+  leaves = refl;
+}
+asked_may_post book (Changes (AddFilter filter)) fit = record {
+  fits = fit;
+  sits = refl;
+  leaves = refl;
+}
 
 may_post_at : (hub seen : Beginning) (book : State) (what : What) → Follows hub seen
     → IsBookOf book seen → MayPost book.config what → MayPost hub.config what

@@ -9,7 +9,7 @@ use Rattle.agg_types.specs.declared.event.What.{What}
 use Rattle.agg_types.specs.declared.event.What.TheVariants.{Sit}
 use Rattle.fleet_model.specs.State.{State}
 use Rattle.show_clear.specs.Answer.{IsAnswer}
-use Rattle.show_clear.specs.Change.{change_of}
+use Rattle.show_clear.specs.Change.{asked_event}
 use Rattle.show_clear.specs.Parse.{command_of}
 use Rattle.show_clear.specs.Refusal.{refusal_text}
 use Rattle.show_clear.specs.declared.command.Command.{Command}
@@ -39,7 +39,7 @@ pub record IsObeyed (book : State) (line : List ℕ) (change : Option What) (tex
     : Type 0 where
   pub command : Command
   pub says : command_of book line ≡ Ok command
-  pub asks : change ≡ change_of command
+  pub asks : change ≡ asked_event command
   pub answers : AnswersWith book command text
 
 -- a line is refused and asks for no change: the text tells its first fault, or that it couldn't be

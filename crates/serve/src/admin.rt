@@ -12,7 +12,7 @@ ghost use Rattle.serve.specs.Commands.{AnswersWith, HasNoEnd, IsCommandedUntil, 
 ghost use Rattle.serve.specs.Commands.{Replies};
 ghost use Rattle.serve.specs.Told.{stored_of};
 ghost use Rattle.show_clear.specs.Answer.{NamesStand};
-ghost use Rattle.show_clear.specs.Change.{change_of};
+ghost use Rattle.show_clear.specs.Change.{asked_event};
 ghost use Rattle.show_clear.specs.Refusal.{refusal_text};
 
 use crate::desk::Desk;
@@ -48,16 +48,18 @@ fn refused(alloc: Global) -> PostFault
 }
 
 /// The answer to a command.
-fn obeyed(alloc: Global, book: &Book, command: &Command) -> Result<Answered, NoMemory>
-    requires { NamesStand book.now command.now }
-    ensures change { IfOk result (λ a. a.change ≡ change_of command.now) }
-    ensures text { IfOk result (λ a. AnswersWith book.now command.now a.text.items) }
+fn obeyed(alloc: Global, book: &Book, command: Command) -> Result<Answered, NoMemory>
+    requires { NamesStand book.now command }
+    ensures change { IfOk result (λ a. a.change ≡ asked_event command) }
+    ensures text { IfOk result (λ a. AnswersWith book.now command a.text.items) }
 {
     let mut text = Vec::new(alloc);
-    answer(alloc, book, command, &mut text)?;
+    answer(alloc, book, &command, &mut text)?;
     text.push(b'\n')?;
-    let change = command.change(alloc)?;
-    Ok(Answered { change, text })
+    Ok(Answered {
+        change: command.into_event(),
+        text,
+    })
 }
 
 /// The refusal of a line.
@@ -78,7 +80,7 @@ fn answer_to(alloc: Global, book: &Book, line: &[u8]) -> Result<Answered, NoMemo
         → IfOk result (λ a. IfSome a.change (MayPost config)) }
 {
     match parse(alloc, book, line) {
-        Ok(command) => obeyed(alloc, book, &command),
+        Ok(command) => obeyed(alloc, book, command),
         Err(fault) => refused_line(alloc, fault),
     }
 }

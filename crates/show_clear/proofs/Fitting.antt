@@ -9,7 +9,8 @@ use Rattle.std.specs.Prelude.{codes, drop, find, IfOk}
 use Rattle.std.specs.Str.{bytes_eq}
 use Rattle.std.specs.Str.Lines.{strip_carriage_return}
 use Rattle.agg_types.specs.Col.{all_cols, col_name}
-use Rattle.agg_types.specs.Fits.{at_table, conds_fit, filter_fits, key_fits, select_fits, stores}
+use Rattle.agg_types.specs.Fits.{at_table, conds_fit, filter_fits, fits, key_fits, select_fits}
+use Rattle.agg_types.specs.Fits.{stores}
 use Rattle.agg_types.specs.Name.{is_name}
 use Rattle.agg_types.specs.declared.column.Col.{Col}
 use Rattle.agg_types.specs.declared.config.Cond.{Cond}
@@ -24,18 +25,21 @@ use Rattle.key_text.specs.Read.{bytes_of, if_fits, key_of}
 use Rattle.line_words.specs.Numbers.{number_of}
 use Rattle.line_words.specs.Operators.{operator_of}
 use Rattle.line_words.specs.Words.{words}
-use Rattle.show_clear.specs.Answer.{NamesStand, no_shape, shape_of}
-use Rattle.show_clear.specs.Change.{ChangeFits}
+use Rattle.show_clear.specs.Answer.{AskedStands, ChangedStands, NamesStand, no_shape, shape_of}
+use Rattle.show_clear.specs.Change.{ChangeFits, event_of}
 use Rattle.show_clear.specs.Parse.{Read, Tells, added, asked, at_end, cleared, command_of, cond_col}
 use Rattle.show_clear.specs.Parse.{cond_of, conds_of, filter_added, filter_named, filter_on}
 use Rattle.show_clear.specs.Parse.{filter_shown, is_data, new_name, next_shown, one_key, or_fault}
 use Rattle.show_clear.specs.Parse.{rank_named, rank_shown, sel_of, shown, some_conds, stored_col}
 use Rattle.show_clear.specs.Parse.{table_and_sel, table_cleared, table_named, table_shown}
 use Rattle.show_clear.specs.Parse.{with_bound, with_fault, with_op, ◌>>=◌}
+use Rattle.show_clear.specs.declared.command.Change.{Change}
+use Rattle.show_clear.specs.declared.command.Change.TheVariants.{Clear, AddFilter}
 use Rattle.show_clear.specs.declared.command.Command.{Command}
-use Rattle.show_clear.specs.declared.command.Command.TheVariants.{ShowTables, ShowTable, ClearTable}
-use Rattle.show_clear.specs.declared.command.Command.TheVariants.{ShowFilter, ShowRank, ShowNext}
-use Rattle.show_clear.specs.declared.command.Command.TheVariants.{AddFilter}
+use Rattle.show_clear.specs.declared.command.Command.TheVariants.{Ask, Change as Changes}
+use Rattle.show_clear.specs.declared.command.Question.{Question}
+use Rattle.show_clear.specs.declared.command.Question.TheVariants.{Tables, Table, FilterKeys}
+use Rattle.show_clear.specs.declared.command.Question.TheVariants.{Ranking, NextChange}
 use Rattle.show_clear.specs.declared.fault.CommandFault.{CommandFault}
 use Rattle.show_clear.specs.declared.fault.CommandFault.TheVariants.{Empty, Unknown, NoTable}
 use Rattle.show_clear.specs.declared.fault.CommandFault.TheVariants.{BadColumn}
@@ -303,6 +307,116 @@ filter_on_fits state name (word ∷ ws) filter named h =
     subst (λ (f : Filter). filter_fits state.config.tables f ≡ true)
     (ok_same (made read.0 more.0) filter more.2) (rw (name_is state name named) there)
 
+-- ---- questions
+
+none_read : {A C : Type 0} (fault : CommandFault) (a : A)
+    → (let r : Read A = Err fault in r) ≡ Ok a → C
+none_read fault a h = absurd cc
+
+either : {A C : Type 0} (b : Bool) (x y : Read A) (a : A) → cond b x y ≡ Ok a → (x ≡ Ok a → C)
+    → (y ≡ Ok a → C) → C
+either true x y a h first second = first h
+either false x y a h first second = second h
+
+table_shown_good : (state : State) (ws : List (List ℕ)) (question : Question)
+    → table_shown state ws ≡ Ok question → AskedStands state question
+table_shown_good state [] question h =
+    subst (AskedStands state) (ok_same Tables question h) tt
+table_shown_good state (name ∷ ws) question h =
+    let read = bind_ok (table_and_sel state name ws) (λ found. Ok (Table found.0 found.1))
+    question h in
+    subst (AskedStands state) (ok_same (Table read.0.0 read.0.1) question read.2)
+    (table_and_sel_within state name ws read.0 read.1)
+
+-- what is read of a name that ends its line
+named_good : (state : State) (named : Read ℕ) (ws : List (List ℕ)) (make : ℕ → Question)
+    (question : Question)
+    → ((place : ℕ) → named ≡ Ok place → AskedStands state (make place))
+    → (named >>= λ place. at_end ws >>= λ _. Ok (make place)) ≡ Ok question
+    → AskedStands state question
+named_good state named ws make question good h =
+    let read = bind_ok named (λ place. at_end ws >>= λ _. Ok (make place)) question h in
+    let more = bind_ok (at_end ws) (λ _. Ok (make read.0)) question read.2 in
+    subst (AskedStands state) (ok_same (make read.0) question more.2) (good read.0 read.1)
+
+filter_shown_good : (state : State) (ws : List (List ℕ)) (question : Question)
+    → filter_shown state ws ≡ Ok question → AskedStands state question
+filter_shown_good state [] question h = none_read Unknown question h
+filter_shown_good state (name ∷ ws) question h =
+    named_good state (filter_named state name) ws FilterKeys question
+    (filter_within state name) h
+
+next_shown_good : (state : State) (ws : List (List ℕ)) (question : Question)
+    → next_shown state ws ≡ Ok question → AskedStands state question
+next_shown_good state [] question h = none_read Unknown question h
+next_shown_good state (name ∷ ws) question h =
+    named_good state (filter_named state name) ws NextChange question
+    (filter_within state name) h
+
+rank_shown_good : (state : State) (ws : List (List ℕ)) (question : Question)
+    → rank_shown state ws ≡ Ok question → AskedStands state question
+rank_shown_good state [] question h = none_read Unknown question h
+rank_shown_good state (name ∷ ws) question h =
+    named_good state (rank_named state name) ws Ranking question (rank_within state name) h
+
+shown_good : (state : State) (ws : List (List ℕ)) (question : Question)
+    → shown state ws ≡ Ok question → AskedStands state question
+shown_good state [] question h = none_read Unknown question h
+shown_good state (word ∷ ws) question h =
+    either (bytes_eq word (codes "table")) (table_shown state ws) _ question h
+    (table_shown_good state ws question) (λ h.
+    either (bytes_eq word (codes "filter")) (filter_shown state ws) _ question h
+    (filter_shown_good state ws question) (λ h.
+    either (bytes_eq word (codes "rank")) (rank_shown state ws) _ question h
+    (rank_shown_good state ws question) (λ h.
+    either (bytes_eq word (codes "next")) (next_shown state ws) (Err Unknown) question h
+    (next_shown_good state ws question) (none_read Unknown question))))
+
+-- ---- changes
+
+-- a change names what stands, and fits
+pub record IsGoodChange (state : State) (change : Change) : Type 0 where
+  pub stands : ChangedStands state change
+  pub fits : fits state.config (event_of change) ≡ true
+
+table_cleared_good : (state : State) (ws : List (List ℕ)) (change : Change)
+    → table_cleared state ws ≡ Ok change → IsGoodChange state change
+table_cleared_good state [] change h = none_read Unknown change h
+table_cleared_good state (name ∷ ws) change h =
+    let read = bind_ok (table_and_sel state name ws) (λ found. Ok (Clear found.0 found.1))
+    change h in
+    subst (IsGoodChange state) (ok_same (Clear read.0.0 read.0.1) change read.2) (record {
+      stands = table_and_sel_within state name ws read.0 read.1;
+      fits = table_and_sel_fits state name ws read.0 read.1;
+    })
+
+filter_added_good : (state : State) (ws : List (List ℕ)) (change : Change)
+    → filter_added state ws ≡ Ok change → IsGoodChange state change
+filter_added_good state [] change h = none_read Unknown change h
+filter_added_good state (word ∷ ws) change h =
+    let named = bind_ok (new_name state word) (λ _. filter_on state word ws >>=
+    λ filter. Ok (AddFilter filter)) change h in
+    let read = bind_ok (filter_on state word ws) (λ filter. Ok (AddFilter filter))
+    change named.2 in
+    subst (IsGoodChange state) (ok_same (AddFilter read.0) change read.2) (record {
+      stands = tt;
+      fits = filter_on_fits state word ws read.0 named.1 read.1;
+    })
+
+cleared_good : (state : State) (ws : List (List ℕ)) (change : Change)
+    → cleared state ws ≡ Ok change → IsGoodChange state change
+cleared_good state [] change h = none_read Unknown change h
+cleared_good state (word ∷ ws) change h =
+    either (bytes_eq word (codes "table")) (table_cleared state ws) (Err Unknown) change h
+    (table_cleared_good state ws change) (none_read Unknown change)
+
+added_good : (state : State) (ws : List (List ℕ)) (change : Change)
+    → added state ws ≡ Ok change → IsGoodChange state change
+added_good state [] change h = none_read Unknown change h
+added_good state (word ∷ ws) change h =
+    either (bytes_eq word (codes "filter")) (filter_added state ws) (Err Unknown) change h
+    (filter_added_good state ws change) (none_read Unknown change)
+
 -- ---- commands
 
 -- a command names what stands, and what it changes fits
@@ -310,118 +424,38 @@ pub record IsGood (state : State) (command : Command) : Type 0 where
   pub stands : NamesStand state command
   pub fits : ChangeFits state command
 
-none_read : {C : Type 0} (fault : CommandFault) (command : Command)
-    → (let r : Read Command = Err fault in r) ≡ Ok command → C
-none_read fault command h = absurd cc
-
-either : {C : Type 0} (b : Bool) (x y : Read Command) (command : Command) → cond b x y ≡ Ok command
-    → (x ≡ Ok command → C) → (y ≡ Ok command → C) → C
-either true x y command h first second = first h
-either false x y command h first second = second h
-
-table_shown_good : (state : State) (ws : List (List ℕ)) (command : Command)
-    → table_shown state ws ≡ Ok command → IsGood state command
-table_shown_good state [] command h =
-    subst (IsGood state) (ok_same ShowTables command h) (record { stands = tt; fits = tt })
-table_shown_good state (name ∷ ws) command h =
-    let read = bind_ok (table_and_sel state name ws) (λ found. Ok (ShowTable found.0 found.1))
-    command h in
-    subst (IsGood state) (ok_same (ShowTable read.0.0 read.0.1) command read.2) (record {
-      stands = table_and_sel_within state name ws read.0 read.1;
+asking_good : (state : State) (read : Read Question) (command : Command)
+    → ((question : Question) → read ≡ Ok question → AskedStands state question)
+    → (read >>= λ question. Ok (Ask question)) ≡ Ok command → IsGood state command
+asking_good state read command good h =
+    let asks = bind_ok read (λ question. Ok (Ask question)) command h in
+    subst (IsGood state) (ok_same (Ask asks.0) command asks.2) (record {
+      stands = good asks.0 asks.1;
       fits = tt;
     })
 
-table_cleared_good : (state : State) (ws : List (List ℕ)) (command : Command)
-    → table_cleared state ws ≡ Ok command → IsGood state command
-table_cleared_good state [] command h = none_read Unknown command h
-table_cleared_good state (name ∷ ws) command h =
-    let read = bind_ok (table_and_sel state name ws) (λ found. Ok (ClearTable found.0 found.1))
-    command h in
-    subst (IsGood state) (ok_same (ClearTable read.0.0 read.0.1) command read.2) (record {
-      stands = table_and_sel_within state name ws read.0 read.1;
-      fits = table_and_sel_fits state name ws read.0 read.1;
+changing_good : (state : State) (read : Read Change) (command : Command)
+    → ((change : Change) → read ≡ Ok change → IsGoodChange state change)
+    → (read >>= λ change. Ok (Changes change)) ≡ Ok command → IsGood state command
+changing_good state read command good h =
+    let asks = bind_ok read (λ change. Ok (Changes change)) command h in
+    let found = good asks.0 asks.1 in
+    subst (IsGood state) (ok_same (Changes asks.0) command asks.2) (record {
+      stands = found.stands;
+      fits = found.fits;
     })
-
--- what is read of a name that ends its line
-named_good : (state : State) (named : Read ℕ) (ws : List (List ℕ)) (make : ℕ → Command)
-    (command : Command) → ((place : ℕ) → named ≡ Ok place → IsGood state (make place))
-    → (named >>= λ place. at_end ws >>= λ _. Ok (make place)) ≡ Ok command → IsGood state command
-named_good state named ws make command good h =
-    let read = bind_ok named (λ place. at_end ws >>= λ _. Ok (make place)) command h in
-    let more = bind_ok (at_end ws) (λ _. Ok (make read.0)) command read.2 in
-    subst (IsGood state) (ok_same (make read.0) command more.2) (good read.0 read.1)
-
-filter_shown_good : (state : State) (ws : List (List ℕ)) (command : Command)
-    → filter_shown state ws ≡ Ok command → IsGood state command
-filter_shown_good state [] command h = none_read Unknown command h
-filter_shown_good state (name ∷ ws) command h =
-    named_good state (filter_named state name) ws ShowFilter command
-    (λ f found. record { stands = filter_within state name f found; fits = tt }) h
-
-next_shown_good : (state : State) (ws : List (List ℕ)) (command : Command)
-    → next_shown state ws ≡ Ok command → IsGood state command
-next_shown_good state [] command h = none_read Unknown command h
-next_shown_good state (name ∷ ws) command h =
-    named_good state (filter_named state name) ws ShowNext command
-    (λ f found. record { stands = filter_within state name f found; fits = tt }) h
-
-rank_shown_good : (state : State) (ws : List (List ℕ)) (command : Command)
-    → rank_shown state ws ≡ Ok command → IsGood state command
-rank_shown_good state [] command h = none_read Unknown command h
-rank_shown_good state (name ∷ ws) command h =
-    named_good state (rank_named state name) ws ShowRank command
-    (λ rank found. record { stands = rank_within state name rank found; fits = tt }) h
-
-filter_added_good : (state : State) (ws : List (List ℕ)) (command : Command)
-    → filter_added state ws ≡ Ok command → IsGood state command
-filter_added_good state [] command h = none_read Unknown command h
-filter_added_good state (word ∷ ws) command h =
-    let named = bind_ok (new_name state word) (λ _. filter_on state word ws >>=
-    λ filter. Ok (AddFilter filter)) command h in
-    let read = bind_ok (filter_on state word ws) (λ filter. Ok (AddFilter filter))
-    command named.2 in
-    subst (IsGood state) (ok_same (AddFilter read.0) command read.2) (record {
-      stands = tt;
-      fits = filter_on_fits state word ws read.0 named.1 read.1;
-    })
-
-shown_good : (state : State) (ws : List (List ℕ)) (command : Command)
-    → shown state ws ≡ Ok command → IsGood state command
-shown_good state [] command h = none_read Unknown command h
-shown_good state (word ∷ ws) command h =
-    either (bytes_eq word (codes "table")) (table_shown state ws) _ command h
-    (table_shown_good state ws command) (λ h.
-    either (bytes_eq word (codes "filter")) (filter_shown state ws) _ command h
-    (filter_shown_good state ws command) (λ h.
-    either (bytes_eq word (codes "rank")) (rank_shown state ws) _ command h
-    (rank_shown_good state ws command) (λ h.
-    either (bytes_eq word (codes "next")) (next_shown state ws) (Err Unknown) command h
-    (next_shown_good state ws command) (none_read Unknown command))))
-
-cleared_good : (state : State) (ws : List (List ℕ)) (command : Command)
-    → cleared state ws ≡ Ok command → IsGood state command
-cleared_good state [] command h = none_read Unknown command h
-cleared_good state (word ∷ ws) command h =
-    either (bytes_eq word (codes "table")) (table_cleared state ws) (Err Unknown) command h
-    (table_cleared_good state ws command) (none_read Unknown command)
-
-added_good : (state : State) (ws : List (List ℕ)) (command : Command)
-    → added state ws ≡ Ok command → IsGood state command
-added_good state [] command h = none_read Unknown command h
-added_good state (word ∷ ws) command h =
-    either (bytes_eq word (codes "filter")) (filter_added state ws) (Err Unknown) command h
-    (filter_added_good state ws command) (none_read Unknown command)
 
 asked_good : (state : State) (ws : List (List ℕ)) (command : Command)
     → asked state ws ≡ Ok command → IsGood state command
 asked_good state [] command h = none_read Empty command h
 asked_good state (word ∷ ws) command h =
-    either (bytes_eq word (codes "show")) (shown state ws) _ command h
-    (shown_good state ws command) (λ h.
-    either (bytes_eq word (codes "clear")) (cleared state ws) _ command h
-    (cleared_good state ws command) (λ h.
-    either (bytes_eq word (codes "add")) (added state ws) (Err Unknown) command h
-    (added_good state ws command) (none_read Unknown command)))
+    either (bytes_eq word (codes "show")) (shown state ws >>= λ question. Ok (Ask question)) _
+    command h (asking_good state (shown state ws) command (shown_good state ws)) (λ h.
+    either (bytes_eq word (codes "clear")) (cleared state ws >>= λ change. Ok (Changes change)) _
+    command h (changing_good state (cleared state ws) command (cleared_good state ws)) (λ h.
+    either (bytes_eq word (codes "add")) (added state ws >>= λ change. Ok (Changes change))
+    (Err Unknown) command h (changing_good state (added state ws) command (added_good state ws))
+    (none_read Unknown command)))
 
 -- what a line says names what stands, and what it changes fits
 command_good : (state : State) (line : List ℕ) (command : Command)

@@ -21,10 +21,13 @@ use Rattle.fleet_model.specs.declared.summed.Summed.{Summed}
 use Rattle.key_text.specs.Printed.{key_text}
 use Rattle.show_clear.specs.Tables.{cell_text, column_text, heading, ms_or_never, row_text}
 use Rattle.show_clear.specs.Tables.{value_in}
+use Rattle.show_clear.specs.declared.command.Change.{Change}
+use Rattle.show_clear.specs.declared.command.Change.TheVariants.{Clear, AddFilter}
 use Rattle.show_clear.specs.declared.command.Command.{Command}
-use Rattle.show_clear.specs.declared.command.Command.TheVariants.{ShowTables, ShowTable, ClearTable}
-use Rattle.show_clear.specs.declared.command.Command.TheVariants.{ShowFilter, ShowRank, ShowNext}
-use Rattle.show_clear.specs.declared.command.Command.TheVariants.{AddFilter}
+use Rattle.show_clear.specs.declared.command.Command.TheVariants.{Ask, Change as Changes}
+use Rattle.show_clear.specs.declared.command.Question.{Question}
+use Rattle.show_clear.specs.declared.command.Question.TheVariants.{Tables, Table, FilterKeys}
+use Rattle.show_clear.specs.declared.command.Question.TheVariants.{Ranking, NextChange}
 
 abbrev pub no_shape : Shape
 no_shape = record { name = []; kind = Integer; size = 0; cols = [] }
@@ -121,15 +124,18 @@ IsNextText state filter text =
     (t : Option ℕ) × IsNextChange state filter t
     × (text ≡ change_text filter (shape_of state filter.table) t)
 
--- the text of a command's answer. What changes something is answered `ok`.
+-- the text of a question's answer
+abbrev pub IsAnswerTo : State → Question → List ℕ → Type 0
+IsAnswerTo state Tables text = text ≡ headings state 0 state.config.tables
+IsAnswerTo state (Table table sel) text = text ≡ table_text state table sel
+IsAnswerTo state (FilterKeys filter) text = text ≡ filter_text state (filter_of state filter)
+IsAnswerTo state (Ranking rank) text = text ≡ rank_text state (rank_of state rank)
+IsAnswerTo state (NextChange filter) text = IsNextText state (filter_of state filter) text
+
+-- the text of a command's answer. A change is answered `ok`.
 abbrev pub IsAnswer : State → Command → List ℕ → Type 0
-IsAnswer state ShowTables text = text ≡ headings state 0 state.config.tables
-IsAnswer state (ShowTable table sel) text = text ≡ table_text state table sel
-IsAnswer state (ClearTable table sel) text = text ≡ codes "ok\n"
-IsAnswer state (ShowFilter filter) text = text ≡ filter_text state (filter_of state filter)
-IsAnswer state (ShowRank rank) text = text ≡ rank_text state (rank_of state rank)
-IsAnswer state (ShowNext filter) text = IsNextText state (filter_of state filter) text
-IsAnswer state (AddFilter filter) text = text ≡ codes "ok\n"
+IsAnswer state (Ask question) text = IsAnswerTo state question text
+IsAnswer state (Changes change) text = text ≡ codes "ok\n"
 
 -- the text of a filter's next change was put behind what was there
 abbrev pub AppendsNext : State → Filter → List ℕ → List ℕ → Type 0
@@ -140,12 +146,25 @@ AppendsNext state filter old new = (text : List ℕ) × (new ≡ old ++ text)
 abbrev pub Answers : State → Command → List ℕ → List ℕ → Type 0
 Answers state command old new = (text : List ℕ) × (new ≡ old ++ text) × IsAnswer state command text
 
+-- a question was answered behind what was there
+abbrev pub AnswersQuestion : State → Question → List ℕ → List ℕ → Type 0
+AnswersQuestion state question old new =
+    (text : List ℕ) × (new ≡ old ++ text) × IsAnswerTo state question text
+
+-- a question names what stands in a configuration
+abbrev pub AskedStands : State → Question → Type 0
+AskedStands state Tables = ⊤
+AskedStands state (Table table sel) = table < length state.config.tables
+AskedStands state (FilterKeys filter) = filter < length state.config.filters
+AskedStands state (Ranking rank) = rank < length state.config.ranks
+AskedStands state (NextChange filter) = filter < length state.config.filters
+
+-- a change names what stands in a configuration
+abbrev pub ChangedStands : State → Change → Type 0
+ChangedStands state (Clear table sel) = table < length state.config.tables
+ChangedStands state (AddFilter filter) = ⊤
+
 -- a command names what stands in a configuration
 abbrev pub NamesStand : State → Command → Type 0
-NamesStand state ShowTables = ⊤
-NamesStand state (ShowTable table sel) = table < length state.config.tables
-NamesStand state (ClearTable table sel) = table < length state.config.tables
-NamesStand state (ShowFilter filter) = filter < length state.config.filters
-NamesStand state (ShowRank rank) = rank < length state.config.ranks
-NamesStand state (ShowNext filter) = filter < length state.config.filters
-NamesStand state (AddFilter filter) = ⊤
+NamesStand state (Ask question) = AskedStands state question
+NamesStand state (Changes change) = ChangedStands state change

@@ -22,10 +22,13 @@ use Rattle.line_words.specs.Numbers.{number_of}
 use Rattle.line_words.specs.Operators.{operator_of}
 use Rattle.line_words.specs.Words.{words}
 use Rattle.show_clear.specs.Answer.{shape_of}
+use Rattle.show_clear.specs.declared.command.Change.{Change}
+use Rattle.show_clear.specs.declared.command.Change.TheVariants.{Clear, AddFilter}
 use Rattle.show_clear.specs.declared.command.Command.{Command}
-use Rattle.show_clear.specs.declared.command.Command.TheVariants.{ShowTables, ShowTable, ClearTable}
-use Rattle.show_clear.specs.declared.command.Command.TheVariants.{ShowFilter, ShowRank, ShowNext}
-use Rattle.show_clear.specs.declared.command.Command.TheVariants.{AddFilter}
+use Rattle.show_clear.specs.declared.command.Command.TheVariants.{Ask, Change as Changes}
+use Rattle.show_clear.specs.declared.command.Question.{Question}
+use Rattle.show_clear.specs.declared.command.Question.TheVariants.{Tables, Table, FilterKeys}
+use Rattle.show_clear.specs.declared.command.Question.TheVariants.{Ranking, NextChange}
 use Rattle.show_clear.specs.declared.fault.CommandFault.{CommandFault}
 use Rattle.show_clear.specs.declared.fault.CommandFault.TheVariants.{Empty, Unknown, NoTable}
 use Rattle.show_clear.specs.declared.fault.CommandFault.TheVariants.{BadColumn, BadOperator}
@@ -134,33 +137,33 @@ table_and_sel state name ws = table_named state name >>= λ table.
     sel_of (shape_of state table) ws >>= λ sel. Ok (table, sel)
 
 -- behind `show table`
-abbrev pub table_shown : State → List (List ℕ) → Read Command
-table_shown state [] = Ok ShowTables
+abbrev pub table_shown : State → List (List ℕ) → Read Question
+table_shown state [] = Ok Tables
 table_shown state (name ∷ ws) =
-    table_and_sel state name ws >>= λ found. Ok (ShowTable found.0 found.1)
+    table_and_sel state name ws >>= λ found. Ok (Table found.0 found.1)
 
 -- behind `clear table`
-abbrev pub table_cleared : State → List (List ℕ) → Read Command
+abbrev pub table_cleared : State → List (List ℕ) → Read Change
 table_cleared state [] = Err Unknown
 table_cleared state (name ∷ ws) =
-    table_and_sel state name ws >>= λ found. Ok (ClearTable found.0 found.1)
+    table_and_sel state name ws >>= λ found. Ok (Clear found.0 found.1)
 
 -- behind `show filter`
-abbrev pub filter_shown : State → List (List ℕ) → Read Command
+abbrev pub filter_shown : State → List (List ℕ) → Read Question
 filter_shown state [] = Err Unknown
 filter_shown state (name ∷ ws) =
-    filter_named state name >>= λ f. at_end ws >>= λ _. Ok (ShowFilter f)
+    filter_named state name >>= λ f. at_end ws >>= λ _. Ok (FilterKeys f)
 
 -- behind `show next`
-abbrev pub next_shown : State → List (List ℕ) → Read Command
+abbrev pub next_shown : State → List (List ℕ) → Read Question
 next_shown state [] = Err Unknown
-next_shown state (name ∷ ws) = filter_named state name >>= λ f. at_end ws >>= λ _. Ok (ShowNext f)
+next_shown state (name ∷ ws) = filter_named state name >>= λ f. at_end ws >>= λ _. Ok (NextChange f)
 
 -- behind `show rank`
-abbrev pub rank_shown : State → List (List ℕ) → Read Command
+abbrev pub rank_shown : State → List (List ℕ) → Read Question
 rank_shown state [] = Err Unknown
 rank_shown state (name ∷ ws) =
-    rank_named state name >>= λ rank. at_end ws >>= λ _. Ok (ShowRank rank)
+    rank_named state name >>= λ rank. at_end ws >>= λ _. Ok (Ranking rank)
 
 -- whether a filter of this name may be added
 abbrev pub new_name : State → List ℕ → Read (Unit {0})
@@ -178,13 +181,13 @@ filter_on state name (word ∷ ws) = table_named state word >>= λ table.
     Ok (record { name = name; table = table; conds = conds })
 
 -- behind `add filter`
-abbrev pub filter_added : State → List (List ℕ) → Read Command
+abbrev pub filter_added : State → List (List ℕ) → Read Change
 filter_added state [] = Err Unknown
 filter_added state (word ∷ ws) =
     new_name state word >>= λ _. filter_on state word ws >>= λ filter. Ok (AddFilter filter)
 
 -- behind `show`
-abbrev pub shown : State → List (List ℕ) → Read Command
+abbrev pub shown : State → List (List ℕ) → Read Question
 shown state [] = Err Unknown
 shown state (word ∷ ws) =
     if bytes_eq word (codes "table") then table_shown state ws
@@ -194,13 +197,13 @@ shown state (word ∷ ws) =
     else Err Unknown
 
 -- behind `clear`
-abbrev pub cleared : State → List (List ℕ) → Read Command
+abbrev pub cleared : State → List (List ℕ) → Read Change
 cleared state [] = Err Unknown
 cleared state (word ∷ ws) = if bytes_eq word (codes "table")
     then table_cleared state ws else Err Unknown
 
 -- behind `add`
-abbrev pub added : State → List (List ℕ) → Read Command
+abbrev pub added : State → List (List ℕ) → Read Change
 added state [] = Err Unknown
 added state (word ∷ ws) = if bytes_eq word (codes "filter")
     then filter_added state ws else Err Unknown
@@ -209,9 +212,9 @@ added state (word ∷ ws) = if bytes_eq word (codes "filter")
 abbrev pub asked : State → List (List ℕ) → Read Command
 asked state [] = Err Empty
 asked state (word ∷ ws) =
-    if bytes_eq word (codes "show") then shown state ws
-    else if bytes_eq word (codes "clear") then cleared state ws
-    else if bytes_eq word (codes "add") then added state ws
+    if bytes_eq word (codes "show") then (shown state ws >>= λ question. Ok (Ask question))
+    else if bytes_eq word (codes "clear") then (cleared state ws >>= λ change. Ok (Changes change))
+    else if bytes_eq word (codes "add") then (added state ws >>= λ change. Ok (Changes change))
     else Err Unknown
 
 -- the command that a line of up to 4,096 bytes says. A CR at its end is no part of it.

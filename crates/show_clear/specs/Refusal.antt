@@ -8,33 +8,26 @@ use Rattle.show_clear.specs.declared.fault.CommandFault.TheVariants.{BadValue, B
 use Rattle.show_clear.specs.declared.fault.CommandFault.TheVariants.{NoMemory, BadName, Exists}
 use Rattle.show_clear.specs.declared.fault.CommandFault.TheVariants.{Full}
 
+-- the numbers and names of faults
+abbrev pub fault_entry : CommandFault → ℕ × List ℕ
+fault_entry Empty = (1, codes "Empty")
+fault_entry Unknown = (2, codes "Unknown")
+fault_entry NoTable = (3, codes "NoTable")
+fault_entry BadColumn = (4, codes "BadColumn")
+fault_entry BadOperator = (5, codes "BadOperator")
+fault_entry BadValue = (6, codes "BadValue")
+fault_entry BadKey = (7, codes "BadKey")
+fault_entry TooMany = (8, codes "TooMany")
+fault_entry NoMemory = (9, codes "NoMemory")
+fault_entry BadName = (10, codes "BadName")
+fault_entry Exists = (11, codes "Exists")
+fault_entry Full = (12, codes "Full")
+
 abbrev pub fault_number : CommandFault → ℕ
-fault_number Empty = 1
-fault_number Unknown = 2
-fault_number NoTable = 3
-fault_number BadColumn = 4
-fault_number BadOperator = 5
-fault_number BadValue = 6
-fault_number BadKey = 7
-fault_number TooMany = 8
-fault_number NoMemory = 9
-fault_number BadName = 10
-fault_number Exists = 11
-fault_number Full = 12
+fault_number fault = (fault_entry fault).0
 
 abbrev pub fault_name : CommandFault → List ℕ
-fault_name Empty = codes "Empty"
-fault_name Unknown = codes "Unknown"
-fault_name NoTable = codes "NoTable"
-fault_name BadColumn = codes "BadColumn"
-fault_name BadOperator = codes "BadOperator"
-fault_name BadValue = codes "BadValue"
-fault_name BadKey = codes "BadKey"
-fault_name TooMany = codes "TooMany"
-fault_name NoMemory = codes "NoMemory"
-fault_name BadName = codes "BadName"
-fault_name Exists = codes "Exists"
-fault_name Full = codes "Full"
+fault_name fault = (fault_entry fault).1
 
 -- a fault's number and name on a line
 abbrev pub refusal_text : CommandFault → List ℕ

@@ -4,14 +4,15 @@ ghost use Rattle.std.specs.Prelude.{◌≡◌, ◌++◌, ◌<◌, length, take, 
 ghost use Rattle.agg_types.specs.declared.event.Select.TheVariants.{One, Conds};
 ghost use Rattle.fleet_model.specs.Answers.{filter_of};
 ghost use Rattle.fleet_model.specs.Ranking.{rank_of};
-ghost use Rattle.show_clear.specs.Answer.{Answers, AppendsNext, NamesStand, all_hold, filter_text};
+ghost use Rattle.show_clear.specs.Answer.{Answers, AnswersQuestion, AppendsNext, AskedStands};
+ghost use Rattle.show_clear.specs.Answer.{NamesStand, all_hold, filter_text};
 ghost use Rattle.show_clear.specs.Answer.{headings, rank_text, row_lines, rows_text, shape_of};
 ghost use Rattle.show_clear.specs.Answer.{table_text};
 
-use crate::Command;
 use crate::fleet::{Book, BookRows, Summed};
 use crate::lists::{append_change, append_held, append_ranking};
 use crate::tables::{append_heading, append_row, value_in};
+use crate::{Command, Question};
 use agg_types::{Cond, Filter, Key, NoMemory, Rank, Select, Shape};
 use key_text::append_text;
 use std::alloc::Global;
@@ -49,14 +50,28 @@ fn append_answer(
     ensures begins { take (length out.old.items) out.new.items ≡ out.old.items }
 {
     match command {
-        Command::ShowTables => append_headings(book, out),
-        Command::ShowTable { table, sel } => append_table(alloc, book, *table, sel, out),
-        Command::ShowFilter(filter) => append_filter(alloc, book, *filter, out),
-        Command::ShowRank(rank) => append_rank(alloc, book, *rank, out),
-        Command::ShowNext(filter) => append_next(alloc, book, *filter, out),
-        Command::ClearTable { table: _, sel: _ } | Command::AddFilter(_) => append_text(
-            b"ok\n", out,
-        ),
+        Command::Ask(question) => append_asked(alloc, book, question, out),
+        Command::Change(_) => append_text(b"ok\n", out),
+    }
+}
+
+fn append_asked(
+    alloc: Global,
+    book: &Book,
+    question: &Question,
+    out: &mut Vec<u8>,
+) -> Result<(), NoMemory>
+    requires { AskedStands book.now question.now }
+    ensures ok { OnOk result
+        (AnswersQuestion book.now question.now out.old.items out.new.items) }
+    ensures begins { take (length out.old.items) out.new.items ≡ out.old.items }
+{
+    match question {
+        Question::Tables => append_headings(book, out),
+        Question::Table { table, sel } => append_table(alloc, book, *table, sel, out),
+        Question::FilterKeys(filter) => append_filter(alloc, book, *filter, out),
+        Question::Ranking(rank) => append_rank(alloc, book, *rank, out),
+        Question::NextChange(filter) => append_next(alloc, book, *filter, out),
     }
 }
 

@@ -8,47 +8,36 @@ use crate::pieces::{append_counted, append_labelled};
 use agg_types::NoMemory;
 use key_text::append_text;
 use std::alloc::{AllocError, AllocFailed};
-use thiserror::Error;
+use std::error::Error;
+use std::fmt;
 
 /// Why a line is no command: the first fault from the left. Its text is its name in a refusal, and
 /// its number there is its place in this list, from 1.
-#[derive(Clone, Copy, Debug, PartialEq, Eq, Error)]
+#[derive(Clone, Copy, Debug, PartialEq, Eq)]
 pub enum CommandFault {
     /// The line has no word.
-    #[error("Empty")]
     Empty,
     /// A word is unknown, missing or one too many, or the line has more than 4,096 bytes.
-    #[error("Unknown")]
     Unknown,
     /// No table, standing filter or ranked list has this name.
-    #[error("NoTable")]
     NoTable,
     /// No column has this name, or the table doesn't store it.
-    #[error("BadColumn")]
     BadColumn,
     /// It isn't one of eq, ne, le, ge, lt and gt.
-    #[error("BadOperator")]
     BadOperator,
     /// It isn't 1 to 20 digits, or is above 2^64 - 1.
-    #[error("BadValue")]
     BadValue,
     /// It is no key of the table's kind.
-    #[error("BadKey")]
     BadKey,
     /// A fifth condition.
-    #[error("TooMany")]
     TooMany,
     /// A growth of memory was refused.
-    #[error("NoMemory")]
     NoMemory,
     /// It can't name a standing filter: it has more than 128 bytes, or one outside 33 to 126.
-    #[error("BadName")]
     BadName,
     /// A standing filter has this name already.
-    #[error("Exists")]
     Exists,
     /// 32 standing filters stand.
-    #[error("Full")]
     Full,
 }
 
@@ -57,42 +46,45 @@ impl CommandFault {
     pub fn number(self) -> u8
         ensures { result ≡ fault_number self }
     {
-        match self {
-            CommandFault::Empty => 1,
-            CommandFault::Unknown => 2,
-            CommandFault::NoTable => 3,
-            CommandFault::BadColumn => 4,
-            CommandFault::BadOperator => 5,
-            CommandFault::BadValue => 6,
-            CommandFault::BadKey => 7,
-            CommandFault::TooMany => 8,
-            CommandFault::NoMemory => 9,
-            CommandFault::BadName => 10,
-            CommandFault::Exists => 11,
-            CommandFault::Full => 12,
-        }
+        self.listed().0
     }
 
     /// The name in a refusal.
     pub fn name(self) -> &'static str
         ensures { result.now ≡ fault_name self }
     {
+        self.listed().1
+    }
+
+    // The table of numbers and names.
+    fn listed(self) -> (u8, &'static str)
+        ensures number { result.0 ≡ fault_number self }
+        ensures name { result.1.now ≡ fault_name self }
+    {
         match self {
-            CommandFault::Empty => "Empty",
-            CommandFault::Unknown => "Unknown",
-            CommandFault::NoTable => "NoTable",
-            CommandFault::BadColumn => "BadColumn",
-            CommandFault::BadOperator => "BadOperator",
-            CommandFault::BadValue => "BadValue",
-            CommandFault::BadKey => "BadKey",
-            CommandFault::TooMany => "TooMany",
-            CommandFault::NoMemory => "NoMemory",
-            CommandFault::BadName => "BadName",
-            CommandFault::Exists => "Exists",
-            CommandFault::Full => "Full",
+            CommandFault::Empty => (1, "Empty"),
+            CommandFault::Unknown => (2, "Unknown"),
+            CommandFault::NoTable => (3, "NoTable"),
+            CommandFault::BadColumn => (4, "BadColumn"),
+            CommandFault::BadOperator => (5, "BadOperator"),
+            CommandFault::BadValue => (6, "BadValue"),
+            CommandFault::BadKey => (7, "BadKey"),
+            CommandFault::TooMany => (8, "TooMany"),
+            CommandFault::NoMemory => (9, "NoMemory"),
+            CommandFault::BadName => (10, "BadName"),
+            CommandFault::Exists => (11, "Exists"),
+            CommandFault::Full => (12, "Full"),
         }
     }
 }
+
+impl fmt::Display for CommandFault {
+    fn fmt<W: fmt::Write>(&self, f: &mut fmt::Formatter<W>) -> fmt::Result {
+        f.write_str(self.name())
+    }
+}
+
+impl Error for CommandFault {}
 
 impl From<NoMemory> for CommandFault {
     ghost from_gives = { λ _ fault. fault ≡ RefusedGrowth };

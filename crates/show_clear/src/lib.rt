@@ -1,14 +1,12 @@
 //! Commands of one line each, and the texts of their answers, over a book: for scripts and for
 //! admin connections.
 //!
-//! `parse` gives the command that a line says, or its first fault from the left; `Command::change`
-//! the event that it asks for; `answer` and `refusal` append their texts whole, or leave what was
-//! there. What lines and answers say stands in specs/Parse and specs/Answer, as functions of bytes
+//! `parse` gives the command that a line says, a question or a change, or its first fault from the
+//! left; `answer` and `refusal` append their texts whole, or leave what was there. What lines and answers say stands in specs/Parse and specs/Answer, as functions of bytes
 //! and of the book's state. No clause says that a growth is refused only for want of memory.
 #![tactic(auto)]
 
 mod answers;
-mod change;
 mod command;
 mod conditions;
 mod fault;
@@ -21,6 +19,6 @@ mod tables;
 mod word;
 
 pub use answers::answer;
-pub use command::Command;
+pub use command::{Change, Command, Question};
 pub use fault::{CommandFault, refusal};
 pub use parsing::parse;

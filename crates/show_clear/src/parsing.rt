@@ -17,7 +17,7 @@ use crate::answers::shape_of;
 use crate::conditions::{read_conds, read_some_conds};
 use crate::fleet::Book;
 use crate::word::some_word;
-use crate::{Command, CommandFault};
+use crate::{Change, Command, CommandFault, Question};
 use agg_types::{Filter, KeyKind, MOST_FILTERS, Name, Rank, Select, Shape, is_name};
 use key_text::read_key;
 use line_words::next_word;
@@ -63,15 +63,15 @@ fn parse_words(alloc: Global, book: &Book, line: &[u8]) -> Result<Command, Comma
         return Err(CommandFault::Empty);
     };
     match word {
-        b"show" => parse_show(alloc, book, rest),
-        b"clear" => parse_clear(alloc, book, rest),
-        b"add" => parse_add(alloc, book, rest),
+        b"show" => Ok(Command::Ask(parse_show(alloc, book, rest)?)),
+        b"clear" => Ok(Command::Change(parse_clear(alloc, book, rest)?)),
+        b"add" => Ok(Command::Change(parse_add(alloc, book, rest)?)),
         _ => Err(CommandFault::Unknown),
     }
 }
 
 // Behind `show`.
-fn parse_show(alloc: Global, book: &Book, line: &[u8]) -> Result<Command, CommandFault>
+fn parse_show(alloc: Global, book: &Book, line: &[u8]) -> Result<Question, CommandFault>
     ensures { Tells (shown book.now (words line.now)) result }
 {
     let (word, rest) = some_word(line)?;
@@ -85,7 +85,7 @@ fn parse_show(alloc: Global, book: &Book, line: &[u8]) -> Result<Command, Comman
 }
 
 // Behind `clear`.
-fn parse_clear(alloc: Global, book: &Book, line: &[u8]) -> Result<Command, CommandFault>
+fn parse_clear(alloc: Global, book: &Book, line: &[u8]) -> Result<Change, CommandFault>
     ensures { Tells (cleared book.now (words line.now)) result }
 {
     let (word, rest) = some_word(line)?;
@@ -96,7 +96,7 @@ fn parse_clear(alloc: Global, book: &Book, line: &[u8]) -> Result<Command, Comma
 }
 
 // Behind `add`.
-fn parse_add(alloc: Global, book: &Book, line: &[u8]) -> Result<Command, CommandFault>
+fn parse_add(alloc: Global, book: &Book, line: &[u8]) -> Result<Change, CommandFault>
     ensures { Tells (added book.now (words line.now)) result }
 {
     let (word, rest) = some_word(line)?;
@@ -196,62 +196,62 @@ fn one_key(alloc: Global, kind: KeyKind, line: &[u8]) -> Result<Select, CommandF
 }
 
 // Behind `show table`.
-fn parse_show_table(alloc: Global, book: &Book, line: &[u8]) -> Result<Command, CommandFault>
+fn parse_show_table(alloc: Global, book: &Book, line: &[u8]) -> Result<Question, CommandFault>
     ensures { Tells (table_shown book.now (words line.now)) result }
 {
     let Some((name, rest)) = next_word(line) else {
-        return Ok(Command::ShowTables);
+        return Ok(Question::Tables);
     };
     let (table, sel) = table_and_sel(alloc, book, name, rest)?;
-    Ok(Command::ShowTable { table, sel })
+    Ok(Question::Table { table, sel })
 }
 
 // Behind `clear table`.
-fn parse_clear_table(alloc: Global, book: &Book, line: &[u8]) -> Result<Command, CommandFault>
+fn parse_clear_table(alloc: Global, book: &Book, line: &[u8]) -> Result<Change, CommandFault>
     ensures { Tells (table_cleared book.now (words line.now)) result }
 {
     let (name, rest) = some_word(line)?;
     let (table, sel) = table_and_sel(alloc, book, name, rest)?;
-    Ok(Command::ClearTable { table, sel })
+    Ok(Change::Clear { table, sel })
 }
 
 // Behind `show filter`.
-fn parse_show_filter(book: &Book, line: &[u8]) -> Result<Command, CommandFault>
+fn parse_show_filter(book: &Book, line: &[u8]) -> Result<Question, CommandFault>
     ensures { Tells (filter_shown book.now (words line.now)) result }
 {
     let (name, rest) = some_word(line)?;
     let filter = filter_named(book, name)?;
     at_end(rest)?;
-    Ok(Command::ShowFilter(filter))
+    Ok(Question::FilterKeys(filter))
 }
 
 // Behind `show next`.
-fn parse_show_next(book: &Book, line: &[u8]) -> Result<Command, CommandFault>
+fn parse_show_next(book: &Book, line: &[u8]) -> Result<Question, CommandFault>
     ensures { Tells (next_shown book.now (words line.now)) result }
 {
     let (name, rest) = some_word(line)?;
     let filter = filter_named(book, name)?;
     at_end(rest)?;
-    Ok(Command::ShowNext(filter))
+    Ok(Question::NextChange(filter))
 }
 
 // Behind `show rank`.
-fn parse_show_rank(book: &Book, line: &[u8]) -> Result<Command, CommandFault>
+fn parse_show_rank(book: &Book, line: &[u8]) -> Result<Question, CommandFault>
     ensures { Tells (rank_shown book.now (words line.now)) result }
 {
     let (name, rest) = some_word(line)?;
     let rank = rank_named(book, name)?;
     at_end(rest)?;
-    Ok(Command::ShowRank(rank))
+    Ok(Question::Ranking(rank))
 }
 
 // Behind `add filter`.
-fn parse_add_filter(alloc: Global, book: &Book, line: &[u8]) -> Result<Command, CommandFault>
+fn parse_add_filter(alloc: Global, book: &Book, line: &[u8]) -> Result<Change, CommandFault>
     ensures { Tells (filter_added book.now (words line.now)) result }
 {
     let (name, rest) = some_word(line)?;
     check_new_name(book, name)?;
-    Ok(Command::AddFilter(filter_on(alloc, book, name, rest)?))
+    Ok(Change::AddFilter(filter_on(alloc, book, name, rest)?))
 }
 
 // Whether a filter of this name may be added.

@@ -1,13 +1,13 @@
 use Rattle.std.proofs.Common.{◌∙◌, sym}
-use Rattle.replay.specs.Runs.{AskOrRefusal, CommandGives, state_after, step_of}
+use Rattle.replay.specs.Runs.{AskOrRefusal, CommandGives, state_after}
 use Rattle.show_clear.specs.Parse.{command_of}
 use Rattle.replay.proofs.Asking.{book_is, given_too, printed, read_ok, refused_gives}
 use Rattle.replay.proofs.commands.ask.Goals as goal
 
 pub returns-in-Ok : goal.returns-in-Ok
 returns-in-Ok c = λ config opening past settled.
-    given_too c.obey.result (CommandGives config opening past c.in-Ok.command
-    (step_of c.in-Ok.command)) (AskOrRefusal config opening past
+    given_too c.obey.result (CommandGives config opening past c.in-Ok.command)
+    (AskOrRefusal config opening past
     (command_of (state_after config opening past) c.args.line.now)) c.obey.new.fleet config
     opening c.args.out.now.items c.obey.new.out.items
     (λ given gives. read_ok _ config opening past c.args.line.now c.in-Ok.command given
