@@ -1,0 +1,55 @@
+//! What test and bench programs share: configurations by their text, keys and events.
+//!
+//! A program writes the fleet that it runs as an operator would, and not as a literal of the types:
+//! so it reads like the documents, and stays as it is when the types change.
+#![tactic(auto)]
+
+ghost use Rattle.agg_types.specs.Check.{config_faults};
+ghost use Rattle.std.specs.Prelude.{◌≡◌, [], IfOk};
+
+use agg_types::{Cell, Cells, Config, Key, NoMemory, What};
+use anyhow::Result;
+use std::alloc::Global;
+
+/// The collector `agg` of the proxies `lb1` and `lb2`, with a table of a count by address.
+pub const TWO_PROXIES: &[u8] =
+    b"name agg\npeer lb1\npeer lb2\ntable t type ip size 1000 store gpc0\n";
+
+/// The configuration that a text writes.
+pub fn config(alloc: Global, text: &[u8]) -> Result<Config>
+    ensures { IfOk result (λ config. config_faults config ≡ []) }
+{
+    match agg_config::read(alloc, text) {
+        Ok(config) => Ok(config),
+        Err(fault) => Err(fault.cause.into()),
+    }
+}
+
+/// The address of a number: 0 is 0.0.0.0.
+pub fn address(alloc: Global, number: u32) -> Result<Key, NoMemory> {
+    Key::copy(alloc, &number.to_be_bytes())
+}
+
+/// A peer puts a count of an address into the first table.
+pub fn put(alloc: Global, peer: usize, number: u32, count: u64) -> Result<What, NoMemory> {
+    Ok(What::Put {
+        peer,
+        table: 0,
+        key: address(alloc, number)?,
+        life: None,
+        cells: Cells::copy(alloc, &[Cell::Count(count)])?,
+    })
+}
+
+/// A batch of one event.
+pub fn alone(alloc: Global, what: What) -> Result<Vec<What>, NoMemory> {
+    let mut whats = Vec::new(alloc);
+    whats.push(what)?;
+    Ok(whats)
+}
+
+/// The place at which a turn finds its key: each key in turn, and none beside its neighbour.
+pub fn scattered(turn: u32, keys: u32) -> u32 {
+    let keys = u64::from(keys.max(1));
+    (u64::from(turn).wrapping_mul(2_147_483_647) % keys) as u32
+}
