@@ -2,16 +2,17 @@
 use Rattle.std.proofs.Common.{inl, inr, ◌≡◌, ℕ, zero, suc, ◌+◌, ◌-◌, ◌<◌, ◌≤◌, ◌^◌, Bool, true}
 use Rattle.std.proofs.Common.{false, ◌==◌, if◌then◌else◌, List, [], ◌∷◌, ◌++◌, drop, map, Option}
 use Rattle.std.proofs.Common.{Some, None, refl, sym, ap, ◌∙◌, arith, append_assoc, append-nil}
-use Rattle.std.proofs.Common.{add-one}
-use Rattle.std.specs.Prelude.{slice_get, unwrap_or}
+use Rattle.std.proofs.Common.{add-one, not}
+use Rattle.std.proofs.lemmas.Bool.{ltb-true}
+use Rattle.std.specs.Prelude.{ltb, slice_get, unwrap_or}
 use Rattle.std.specs.Option.{option_map}
 use Rattle.std.specs.Prelude.{vec_len}
 use Rattle.std.proofs.lemmas.List.{drop-drop}
 use Rattle.session_core.specs.declared.plan.Plan.{Plan}
 use Rattle.peers_msg.specs.Payload.{◌>>=◌, number_at}
+use Rattle.agg_types.proofs.Columns.{of_each}
 use Rattle.agg_types.specs.Col.{col_id, is_rate, is_wide}
 use Rattle.agg_types.specs.declared.column.Col.{Col}
-use Rattle.agg_types.specs.declared.column.Col.TheVariants as cols
 use Rattle.agg_types.specs.declared.event.Cell.TheVariants as cells
 use Rattle.session_core.specs.declared.values.Sent.{Sent}
 use Rattle.session_core.specs.declared.values.Sent.TheVariants.{Absent, Count, Rate}
@@ -284,43 +285,23 @@ sent_at_place bits (suc n) (suc i) kind numbers lt =
 
 -- ---- the cell of one column
 
-rate_ids : (col : Col) → is_rate_type (col_id col) ≡ is_rate col
-rate_ids cols.Gpc0 = refl
-rate_ids cols.Gpc0Rate = refl
-rate_ids cols.ConnCnt = refl
-rate_ids cols.ConnRate = refl
-rate_ids cols.ConnCur = refl
-rate_ids cols.SessCnt = refl
-rate_ids cols.SessRate = refl
-rate_ids cols.HttpReqCnt = refl
-rate_ids cols.HttpReqRate = refl
-rate_ids cols.HttpErrCnt = refl
-rate_ids cols.HttpErrRate = refl
-rate_ids cols.BytesInCnt = refl
-rate_ids cols.BytesInRate = refl
-rate_ids cols.BytesOutCnt = refl
-rate_ids cols.BytesOutRate = refl
-rate_ids cols.Gpc1 = refl
-rate_ids cols.Gpc1Rate = refl
+abbrev agree : Bool → Bool → Bool
+agree true b = b
+agree false b = not b
 
+same_from_agree : (a b : Bool) → agree a b ≡ true → a ≡ b
+same_from_agree true true is = refl
+same_from_agree true false is = sym is
+same_from_agree false true is = is
+same_from_agree false false is = refl
+
+rate_ids : (col : Col) → is_rate_type (col_id col) ≡ is_rate col
+rate_ids col = same_from_agree (is_rate_type (col_id col)) (is_rate col)
+    (of_each (λ c. agree (is_rate_type (col_id c)) (is_rate c)) refl col)
+
+-- no column's data type is behind the last one that is read
 col_ids : (col : Col) → col_id col < types
-col_ids cols.Gpc0 = omega arith
-col_ids cols.Gpc0Rate = omega arith
-col_ids cols.ConnCnt = omega arith
-col_ids cols.ConnRate = omega arith
-col_ids cols.ConnCur = omega arith
-col_ids cols.SessCnt = omega arith
-col_ids cols.SessRate = omega arith
-col_ids cols.HttpReqCnt = omega arith
-col_ids cols.HttpReqRate = omega arith
-col_ids cols.HttpErrCnt = omega arith
-col_ids cols.HttpErrRate = omega arith
-col_ids cols.BytesInCnt = omega arith
-col_ids cols.BytesInRate = omega arith
-col_ids cols.BytesOutCnt = omega arith
-col_ids cols.BytesOutRate = omega arith
-col_ids cols.Gpc1 = omega arith
-col_ids cols.Gpc1Rate = omega arith
+col_ids col = ltb-true (col_id col) types (of_each (λ c. ltb (col_id c) types) refl col)
 
 rate_same : (numbers : List ℕ) → rate_cell true (rate_of numbers) ≡ rate_in numbers
 rate_same [] = refl

@@ -1,11 +1,12 @@
 -- The key and the values of an update, as they stand behind its id and its life.
 use Rattle.std.specs.Prelude.{ℕ, zero, suc, ◌-◌, ◌/◌, ◌%◌, ◌^◌, Bool, true, false, nat_lt, nat_le}
-use Rattle.std.specs.Prelude.{◌==◌, ◌&&◌, ◌||◌, if◌then◌else◌, List, [], ◌∷◌, length, take, drop}
+use Rattle.std.specs.Prelude.{◌==◌, ◌&&◌, if◌then◌else◌, List, [], ◌∷◌, length, take, drop}
 use Rattle.std.specs.Prelude.{map, min, slice_get, slice_set, unwrap_or, replicate, Option, Some}
 use Rattle.std.specs.Prelude.{None}
+use Rattle.std.specs.List.{list_any}
 use Rattle.peers_msg.specs.Kinds.{last_type}
 use Rattle.peers_msg.specs.Payload.{◌>>=◌, number_at, string_at}
-use Rattle.agg_types.specs.Col.{col_id, is_rate, is_wide}
+use Rattle.agg_types.specs.Col.{all_cols, col_id, is_rate, is_wide}
 use Rattle.agg_types.specs.declared.column.Col.{Col}
 use Rattle.agg_types.specs.declared.config.KeyKind.{KeyKind}
 use Rattle.agg_types.specs.declared.config.KeyKind.TheVariants.{Integer, Ip, Ipv6, Str, Binary}
@@ -43,9 +44,7 @@ has_type bits kind = bits / 2 ^ kind % 2 == 1
 
 -- whether a data type is a rate: three integers where others are one
 abbrev pub is_rate_type : ℕ → Bool
-is_rate_type kind =
-    kind == 3 || kind == 5 || kind == 8 || kind == 10 || kind == 12 || kind == 14 || kind == 16 ||
-    kind == 18
+is_rate_type kind = list_any (λ col. is_rate col && (col_id col == kind)) all_cols
 
 unfoldable pub count_at : List ℕ → Option (Sent × List ℕ)
 count_at bytes = do

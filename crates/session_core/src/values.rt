@@ -6,7 +6,7 @@ ghost use Rattle.peers_msg.specs.Payload.{number_at, string_at};
 ghost use Rattle.session_core.specs.Values.{bytes_at, text_at, key_at, has_type, is_rate_type};
 ghost use Rattle.session_core.specs.Values.{periods_of, elapsed_of, life_of};
 
-use agg_types::KeyKind;
+use agg_types::{Col, KeyKind};
 use peers_msg::{LAST_TYPE, get_int};
 
 /// How many data types come before those that are trailing bytes.
@@ -72,17 +72,13 @@ pub(crate) fn number_at(bytes: &[u8]) -> Option<(u64, &[u8])>
     }
 }
 
+/// Whether a data type is a rate: the columns say it.
 pub(crate) fn is_rate_type(kind: usize) -> bool
     ensures { result ≡ is_rate_type kind }
 {
-    kind == 3
-        || kind == 5
-        || kind == 8
-        || kind == 10
-        || kind == 12
-        || kind == 14
-        || kind == 16
-        || kind == 18
+    Col::ALL
+        .iter()
+        .any(|col| col.is_rate() && usize::from(col.id()) == kind)
 }
 
 pub(crate) fn has_type(bits: u64, kind: usize) -> bool
