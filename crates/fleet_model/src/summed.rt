@@ -1,3 +1,5 @@
+use agg_types::COLUMNS;
+
 /// What the fleet says of a key: how many peers hold a row of it, the ms that the longest of them
 /// has left, or none where some row never ends, and the sum of each column, in the order of
 /// `Col::ALL` (0 for a column that isn't stored).
@@ -5,5 +7,5 @@
 pub struct Summed {
     pub peers: usize,
     pub left: Option<u64>,
-    pub values: [u128; 17],
+    pub values: [u128; COLUMNS],
 }
