@@ -1,11 +1,10 @@
-ghost use Rattle.std.specs.Prelude.{◌≡◌, ◌≢◌, ◌-◌, List, [], ◌∷◌, length, slice_get, sum_by};
+ghost use Rattle.std.specs.Prelude.{◌≡◌, ◌≢◌, ◌-◌, List, [], ◌∷◌, length, slice_get};
 ghost use Rattle.std.specs.Prelude.{◌==◌, IsTrue, ◌↔◌, IsOk, IsSome, IfOk, OnOk, OnErr};
 ghost use Rattle.std.specs.Prelude.{MatchBool, MatchResult, Some, is_some};
 ghost use Rattle.std.specs.Option.{option_copied, option_map};
 ghost use Rattle.std.specs.Ordering.{nat_cmp};
 ghost use Rattle.std.specs.Map.{keys_of, lookup, remove_entry};
 ghost use Rattle.std.specs.BTreeMap.{insert_entry, is_at};
-ghost use Rattle.peer_rows.specs.Counted.{counted_at};
 ghost use Rattle.peer_rows.specs.Peers.{IsFound, IsGap, IsOne, ArePeers, held_by};
 
 use crate::{OfKey, Row};

@@ -1,11 +1,10 @@
-ghost use Rattle.std.specs.Prelude.{◌≡◌, ◌+◌, ◌<◌, ◌≤◌, ℕ, [], length, filter, not, map, sum_by};
+ghost use Rattle.std.specs.Prelude.{◌≡◌, ◌+◌, ◌<◌, ◌≤◌, ℕ, [], length, filter, not, map};
 ghost use Rattle.std.specs.Prelude.{slice_index, IsOk, IsSome, IfNone, IfOk, OnOk, OnErr, Some};
 ghost use Rattle.std.specs.Prelude.{MatchBool, MatchOption, is_some, if◌then◌else◌};
 ghost use Rattle.std.specs.Option.{option_copied};
 ghost use Rattle.std.specs.List.{dedup};
 ghost use Rattle.std.specs.Map.{lookup, remove_entry};
 ghost use Rattle.std.specs.BTreeMap.{insert_entry, is_at};
-ghost use Rattle.peer_rows.specs.Counted.{counted_at};
 ghost use Rattle.peer_rows.specs.Table.{rows_at_peer};
 
 use crate::key_rows::KeyRows;
