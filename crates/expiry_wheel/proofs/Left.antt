@@ -1,6 +1,6 @@
 -- What is left of an ascending list beyond its next entry.
-use Rattle.std.proofs.Common.{◌≡◌, ℕ, ◌<◌, Bool, true, false, cond, List, [], ◌∷◌, length, refl, ap}
-use Rattle.std.proofs.Common.{sym, ◌∙◌, subst, arith, inl, inr}
+use Rattle.std.proofs.Common.{◌≡◌, ℕ, ◌<◌, ◌≤◌, Bool, true, false, cond, List, [], ◌∷◌, length, refl, ap}
+use Rattle.std.proofs.Common.{sym, ◌∙◌, subst, arith, inl, inr, ⊎_elim}
 use Rattle.std.specs.Prelude.{Option, Some, None, filter}
 use Rattle.std.specs.declared.cmp.Ordering.{Ordering}
 use Rattle.std.specs.declared.cmp.Ordering.TheVariants.{Less, Equal, Greater}
@@ -8,9 +8,12 @@ use Rattle.std.specs.Cmp.{IsTotalOrder}
 use Rattle.std.specs.Ordering.{is_lt}
 use Rattle.std.specs.List.{AllByRecursion, find}
 use Rattle.std.specs.List.Sorted.{IsStrictlySortedBy}
+use Rattle.std.proofs.lemmas.Bool.{cases_lt, false≢true}
 use Rattle.std.proofs.lemmas.Cmp.{on_total, then_total, nat_cmp_total, tied_itself}
 use Rattle.expiry_wheel.specs.Entries.{entry_cmp, IsInOrder, first_above}
+use Rattle.expiry_wheel.specs.Items.{AreFromFirst, first_item, without_first}
 use Rattle.expiry_wheel.specs.Merge.{left_from, merged, second_comes_first}
+use Rattle.expiry_wheel.proofs.Grouped.{nat_cmp-greater}
 use Rattle.expiry_wheel.proofs.Lists.{all-imply}
 
 module _ {X : Type 0} (c : X → X → Ordering) (o : IsTotalOrder c) where
@@ -100,6 +103,32 @@ left_at_start cmp o (x ∷ entries) h next e =
     ∙ ap (λ l. x ∷ l) (rw (tied_itself (entries_total cmp o) x)
     (all_above (entry_cmp cmp) (entries_total cmp o) x entries h.0))
 
+-- ---- what is left has no earlier moment than its first entry
+
+not_earlier : {T : Type 0} (cmp : T → T → Ordering) (e f : ℕ × T)
+    → is_lt (entry_cmp cmp e f) ≡ true → e.0 ≤ f.0
+not_earlier cmp e f h = ⊎_elim (λ less. absurd (false≢true (rw (nat_cmp-greater e.0 f.0 less)
+    at h))) (λ most. most) (cases_lt f.0 e.0)
+
+above : {T : Type 0} (cmp : T → T → Ordering) (e : ℕ × T) (entries : List (ℕ × T))
+    → AllByRecursion (λ f. e.0 ≤ f.0) (filter (λ f. is_lt (entry_cmp cmp e f)) entries)
+above cmp e [] = tt
+above cmp e (f ∷ entries) = go (is_lt (entry_cmp cmp e f)) (not_earlier cmp e f)
+    (above cmp e entries)
+  where
+    go : (b : Bool) → (b ≡ true → e.0 ≤ f.0)
+        → AllByRecursion (λ f. e.0 ≤ f.0) (filter (λ f. is_lt (entry_cmp cmp e f)) entries)
+        → AllByRecursion (λ f. e.0 ≤ f.0)
+        (cond b (f ∷ filter (λ f. is_lt (entry_cmp cmp e f)) entries)
+        (filter (λ f. is_lt (entry_cmp cmp e f)) entries))
+    go true le rest = (le refl, rest)
+    go false le rest = rest
+
+pub from_first : {T : Type 0} (cmp : T → T → Ordering) (next : Option (ℕ × T))
+    (entries : List (ℕ × T)) → AreFromFirst (left_from cmp next entries)
+from_first cmp None entries = tt
+from_first cmp (Some e) entries = above cmp e entries
+
 -- ---- one step of a merge
 
 module _ {T U : Type 0} (first_cmp : T → T → Ordering) (second_cmp : U → U → Ordering) where
@@ -120,3 +149,9 @@ module _ {T U : Type 0} (first_cmp : T → T → Ordering) (second_cmp : U → U
 -- what is left is shorter by one
 pub shorter : {X : Type 0} (s t : List X) (x : X) → s ≡ x ∷ t → length t < length s
 shorter s t x e = rw e (omega arith)
+
+-- entries whose first one is known
+pub first_and_rest : {X : Type 0} (xs : List X) (x : X) → Some x ≡ first_item xs
+    → xs ≡ x ∷ without_first xs
+first_and_rest [] x h = absurd cc
+first_and_rest (y ∷ xs) x h = let same : y ≡ x = cc in ap (λ z. z ∷ xs) same

@@ -1,8 +1,8 @@
 -- The items of one moment, in order.
-use Rattle.std.specs.Prelude.{◌≡◌, List, [], ◌∷◌, Option, Some, None, IfNone}
+use Rattle.std.specs.Prelude.{◌≡◌, ℕ, ◌≤◌, List, [], ◌∷◌, Option, Some, None, IfNone}
 use Rattle.std.specs.declared.cmp.Ordering.{Ordering}
 use Rattle.std.specs.Ordering.{is_lt}
-use Rattle.std.specs.List.{find}
+use Rattle.std.specs.List.{AllByRecursion, find}
 use Rattle.std.specs.List.Sorted.{IsStrictlySortedBy}
 
 abbrev pub first_item : {T : Type 0} → List T → Option T
@@ -12,6 +12,11 @@ first_item (x ∷ xs) = Some x
 abbrev pub without_first : {T : Type 0} → List T → List T
 without_first [] = []
 without_first (x ∷ xs) = xs
+
+-- no entry has an earlier moment than the first
+abbrev pub AreFromFirst : {T : Type 0} → List (ℕ × T) → Type 0
+AreFromFirst [] = Unit {0}
+AreFromFirst (e ∷ entries) = AllByRecursion (λ f. e.0 ≤ f.0) entries
 
 -- the first item above the given one
 abbrev pub first_item_above : {T : Type 0} → (T → T → Ordering) → T → List T → Option T

@@ -1,17 +1,18 @@
 //! Planned moments: sets of pairs of a moment and an item, the least first.
 //!
 //! Books keep the ends of rows in one, and standing filters the moments at which a key may come or
-//! go.
-//! `DueIndex` is what callers see: contracts speak of the list of its entries in order, and `plan`,
-//! `cancel`, `next_at`, `take_due` and `after` answer exactly what that list says; only `plan`
-//! takes memory, and a refused one changes nothing. `OrderedDue` keeps one ordered map; `Wheel` has
-//! levels of 256 slots for every 64-bit moment; both meet one contract. `Due` goes through two
-//! indexes side by side, by moment, the first one's entries first on a tie.
+//! go. `DueIndex` is what callers see: contracts speak of the list of its entries in order, and
+//! `plan`, `cancel`, `next_at`, `take_due` and `after` answer exactly what that list says. Only
+//! `plan` takes memory, and one that runs out of it changes nothing. `OrderedDue` keeps one ordered
+//! map; `Wheel` has levels of 256 slots for every 64-bit moment; both meet one contract. `Entries`
+//! lends the entries of one index in order. `Due` goes through two indexes side by side, by moment,
+//! the first one's entries first on a tie.
 //!
 //! No clause says what a call costs, nor that a wheel has levels: docs/ARCHITECTURE.md has figures.
 #![tactic(auto)]
 
 mod due;
+mod entries;
 mod index;
 mod marks;
 mod ordered;
@@ -20,6 +21,7 @@ mod together;
 mod wheel;
 
 pub use due::{Due, Planned};
+pub use entries::Entries;
 pub use index::DueIndex;
 pub use ordered::OrderedDue;
 pub use wheel::Wheel;
