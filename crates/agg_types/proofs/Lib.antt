@@ -1,3 +1,4 @@
 pub mod Columns
 pub mod Checking
+pub mod Naming
 pub mod Numbers

@@ -4,5 +4,6 @@ pub mod Col
 pub mod Fits
 pub mod Key
 pub mod Name
+pub mod Naming
 pub mod Op
 pub mod Place

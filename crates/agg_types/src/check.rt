@@ -7,7 +7,7 @@ ghost use Rattle.agg_types.specs.Check.{is_within, len_fits, peer_faults, period
 ghost use Rattle.agg_types.specs.Check.{table_faults};
 
 use crate::fits::{MOST_CONDS, all_stored};
-use crate::{Col, Config, Filter, KeyKind, Name, Rank, Shape};
+use crate::{Col, Config, Declared, Filter, KeyKind, Name, Named, Rank, Shape};
 use thiserror::Error;
 
 /// The most peers of a fleet.
@@ -71,80 +71,161 @@ impl Config {
             return Err(ConfigFault::BadName);
         }
         let tables = self.tables.as_slice();
-        check_peers(self.peers.as_slice())?;
-        check_tables(tables)?;
-        check_filters(tables, self.filters.as_slice())?;
-        check_ranks(tables, self.ranks.as_slice())?;
+        check_each(tables, &self.peers)?;
+        check_each(tables, &self.tables)?;
+        check_each(tables, &self.filters)?;
+        check_each(tables, &self.ranks)?;
         Ok(())
     }
 }
 
-fn check_peers(peers: &[Name]) -> Result<(), ConfigFault>
-    ensures { FindsFirst result (each peer_faults [] peers.now) }
+// What `Config::check` judges an entry by.
+trait Checked: Named {
+    ghost use Rattle.std.specs.Prelude.{List};
+    ghost use Rattle.agg_types.specs.declared.check.ConfigFault.{ConfigFault};
+    ghost use Rattle.agg_types.specs.declared.config.Shape.{Shape};
+
+    // The faults of an entry, which are told by the tables and by the entries before it.
+    ghost faults: { List Shape → List Self → Self → List ConfigFault };
+
+    // The first fault of an entry, where `named` says whether one before it has its name.
+    fn check_behind(
+        &self,
+        tables: &[Shape],
+        before: &[Self],
+        named: bool,
+    ) -> Result<(), ConfigFault>
+        requires { named ≡ list_any (λ other. bytes_eq (Self.name_of other) (Self.name_of self.now))
+            before.now }
+        ensures { FindsFirst result (faults tables.now before.now self.now) };
+}
+
+fn check_each<T: Checked>(tables: &[Shape], entries: &Declared<T>) -> Result<(), ConfigFault>
+    ensures { FindsFirst result (each (T.faults tables.now) [] entries.now) }
 {
-    for (i, peer) in peers.iter().enumerate() {
-        check_peer(&peers[..i], peer)?;
+    let listed = entries.as_slice();
+    for (i, entry) in listed.iter().enumerate() {
+        let named = entries.has_before(i, entry.name());
+        entry.check_behind(tables, &listed[..i], named)?;
     }
     Ok(())
 }
 
-#[tactic(auto, unfolding(crate::specs::Check::peer_faults))]
-fn check_peer(before: &[Name], peer: &Name) -> Result<(), ConfigFault>
-    ensures { FindsFirst result (peer_faults before.now peer.now) }
-{
-    if before.len() >= MOST_PEERS {
-        return Err(ConfigFault::TooMany);
+impl Checked for Name {
+    ghost faults = { λ _. peer_faults };
+
+    #[tactic(auto, unfolding(crate::specs::Check::peer_faults))]
+    fn check_behind(
+        &self,
+        _tables: &[Shape],
+        before: &[Name],
+        named: bool,
+    ) -> Result<(), ConfigFault> {
+        if before.len() >= MOST_PEERS {
+            return Err(ConfigFault::TooMany);
+        }
+        if !self.is_valid() {
+            return Err(ConfigFault::BadName);
+        }
+        if named {
+            return Err(ConfigFault::Duplicate);
+        }
+        Ok(())
     }
-    if !peer.is_valid() {
-        return Err(ConfigFault::BadName);
-    }
-    if any_peer(before, peer.as_slice()) {
-        return Err(ConfigFault::Duplicate);
-    }
-    Ok(())
 }
 
-fn any_peer(peers: &[Name], name: &[u8]) -> bool
-    ensures { result ≡ list_any (λ other. bytes_eq other name.now) peers.now }
-{
-    peers.iter().any(|other| other.is(name))
+impl Checked for Shape {
+    ghost faults = { λ _. table_faults };
+
+    #[tactic(auto, unfolding(crate::specs::Check::table_faults))]
+    fn check_behind(
+        &self,
+        _tables: &[Shape],
+        before: &[Shape],
+        named: bool,
+    ) -> Result<(), ConfigFault> {
+        if before.len() >= MOST_TABLES {
+            return Err(ConfigFault::TooMany);
+        }
+        if !self.name.is_valid() {
+            return Err(ConfigFault::BadName);
+        }
+        if named || !ascends(self.cols.as_slice()) {
+            return Err(ConfigFault::Duplicate);
+        }
+        if !all_periods_fit(self.cols.as_slice()) {
+            return Err(ConfigFault::BadPeriod);
+        }
+        if !is_within(self.size, LARGEST_SIZE) || !len_fits(self.kind) {
+            return Err(ConfigFault::BadSize);
+        }
+        Ok(())
+    }
 }
 
-fn check_tables(tables: &[Shape]) -> Result<(), ConfigFault>
-    ensures { FindsFirst result (each table_faults [] tables.now) }
-{
-    for (i, shape) in tables.iter().enumerate() {
-        check_table(&tables[..i], shape)?;
+impl Checked for Filter {
+    ghost faults = { filter_faults };
+
+    #[tactic(auto, unfolding(crate::specs::Check::filter_faults))]
+    fn check_behind(
+        &self,
+        tables: &[Shape],
+        before: &[Filter],
+        named: bool,
+    ) -> Result<(), ConfigFault> {
+        let conds = self.conds.as_slice();
+        if before.len() >= MOST_FILTERS || conds.len() > MOST_CONDS {
+            return Err(ConfigFault::TooMany);
+        }
+        if !self.name.is_valid() {
+            return Err(ConfigFault::BadName);
+        }
+        if named {
+            return Err(ConfigFault::Duplicate);
+        }
+        let Some(shape) = tables.get(self.table) else {
+            return Err(ConfigFault::UnknownTable);
+        };
+        if !all_stored(shape.cols.as_slice(), conds) {
+            return Err(ConfigFault::UnknownColumn);
+        }
+        if conds.is_empty() {
+            return Err(ConfigFault::BadSize);
+        }
+        Ok(())
     }
-    Ok(())
 }
 
-#[tactic(auto, unfolding(crate::specs::Check::table_faults))]
-fn check_table(before: &[Shape], shape: &Shape) -> Result<(), ConfigFault>
-    ensures { FindsFirst result (table_faults before.now shape.now) }
-{
-    if before.len() >= MOST_TABLES {
-        return Err(ConfigFault::TooMany);
-    }
-    if !shape.name.is_valid() {
-        return Err(ConfigFault::BadName);
-    }
-    if any_table(before, shape.name.as_slice()) || !ascends(shape.cols.as_slice()) {
-        return Err(ConfigFault::Duplicate);
-    }
-    if !all_periods_fit(shape.cols.as_slice()) {
-        return Err(ConfigFault::BadPeriod);
-    }
-    if !is_within(shape.size, LARGEST_SIZE) || !len_fits(shape.kind) {
-        return Err(ConfigFault::BadSize);
-    }
-    Ok(())
-}
+impl Checked for Rank {
+    ghost faults = { rank_faults };
 
-fn any_table(tables: &[Shape], name: &[u8]) -> bool
-    ensures { result ≡ list_any (λ other. bytes_eq other.name name.now) tables.now }
-{
-    tables.iter().any(|other| other.name.is(name))
+    #[tactic(auto, unfolding(crate::specs::Check::rank_faults))]
+    fn check_behind(
+        &self,
+        tables: &[Shape],
+        before: &[Rank],
+        named: bool,
+    ) -> Result<(), ConfigFault> {
+        if before.len() >= MOST_RANKS {
+            return Err(ConfigFault::TooMany);
+        }
+        if !self.name.is_valid() {
+            return Err(ConfigFault::BadName);
+        }
+        if named {
+            return Err(ConfigFault::Duplicate);
+        }
+        let Some(shape) = tables.get(self.table) else {
+            return Err(ConfigFault::UnknownTable);
+        };
+        if !shape.stores(self.col) {
+            return Err(ConfigFault::UnknownColumn);
+        }
+        if !is_within(self.n, LONGEST_RANK) {
+            return Err(ConfigFault::BadSize);
+        }
+        Ok(())
+    }
 }
 
 fn ascends(cols: &[(Col, u32)]) -> bool
@@ -182,87 +263,6 @@ fn len_fits(kind: KeyKind) -> bool
         KeyKind::Str(len) | KeyKind::Binary(len) => is_within(len, LONGEST_KEY),
         KeyKind::Integer | KeyKind::Ip | KeyKind::Ipv6 => true,
     }
-}
-
-fn check_filters(tables: &[Shape], filters: &[Filter]) -> Result<(), ConfigFault>
-    ensures { FindsFirst result (each (filter_faults tables.now) [] filters.now) }
-{
-    for (i, filter) in filters.iter().enumerate() {
-        check_filter(tables, &filters[..i], filter)?;
-    }
-    Ok(())
-}
-
-#[tactic(auto, unfolding(crate::specs::Check::filter_faults))]
-fn check_filter(tables: &[Shape], before: &[Filter], filter: &Filter) -> Result<(), ConfigFault>
-    ensures { FindsFirst result (filter_faults tables.now before.now filter.now) }
-{
-    let conds = filter.conds.as_slice();
-    if before.len() >= MOST_FILTERS || conds.len() > MOST_CONDS {
-        return Err(ConfigFault::TooMany);
-    }
-    if !filter.name.is_valid() {
-        return Err(ConfigFault::BadName);
-    }
-    if any_filter(before, filter.name.as_slice()) {
-        return Err(ConfigFault::Duplicate);
-    }
-    let Some(shape) = tables.get(filter.table) else {
-        return Err(ConfigFault::UnknownTable);
-    };
-    if !all_stored(shape.cols.as_slice(), conds) {
-        return Err(ConfigFault::UnknownColumn);
-    }
-    if conds.is_empty() {
-        return Err(ConfigFault::BadSize);
-    }
-    Ok(())
-}
-
-fn any_filter(filters: &[Filter], name: &[u8]) -> bool
-    ensures { result ≡ list_any (λ other. bytes_eq other.name name.now) filters.now }
-{
-    filters.iter().any(|other| other.name.is(name))
-}
-
-fn check_ranks(tables: &[Shape], ranks: &[Rank]) -> Result<(), ConfigFault>
-    ensures { FindsFirst result (each (rank_faults tables.now) [] ranks.now) }
-{
-    for (i, rank) in ranks.iter().enumerate() {
-        check_rank(tables, &ranks[..i], rank)?;
-    }
-    Ok(())
-}
-
-#[tactic(auto, unfolding(crate::specs::Check::rank_faults))]
-fn check_rank(tables: &[Shape], before: &[Rank], rank: &Rank) -> Result<(), ConfigFault>
-    ensures { FindsFirst result (rank_faults tables.now before.now rank.now) }
-{
-    if before.len() >= MOST_RANKS {
-        return Err(ConfigFault::TooMany);
-    }
-    if !rank.name.is_valid() {
-        return Err(ConfigFault::BadName);
-    }
-    if any_rank(before, rank.name.as_slice()) {
-        return Err(ConfigFault::Duplicate);
-    }
-    let Some(shape) = tables.get(rank.table) else {
-        return Err(ConfigFault::UnknownTable);
-    };
-    if !shape.stores(rank.col) {
-        return Err(ConfigFault::UnknownColumn);
-    }
-    if !is_within(rank.n, LONGEST_RANK) {
-        return Err(ConfigFault::BadSize);
-    }
-    Ok(())
-}
-
-fn any_rank(ranks: &[Rank], name: &[u8]) -> bool
-    ensures { result ≡ list_any (λ other. bytes_eq other.name name.now) ranks.now }
-{
-    ranks.iter().any(|other| other.name.is(name))
 }
 
 fn is_within(number: u64, most: u64) -> bool

@@ -1,7 +1,7 @@
 ghost use Rattle.std.specs.Prelude.{◌≡◌, IfOk};
 ghost use Rattle.agg_types.specs.Op.{op_holds};
 
-use crate::{Col, Items, Name, NoMemory};
+use crate::{Col, Declared, Items, Name, Named, NoMemory};
 use std::alloc::Global;
 
 /// The kind of a table's keys (Configuration Manual, "stick-table", `type`).
@@ -86,10 +86,22 @@ pub struct Rank {
 #[derive(Debug, Drop)]
 pub struct Config {
     pub me: Name,
-    pub peers: Items<Name>,
-    pub tables: Items<Shape>,
-    pub filters: Items<Filter>,
-    pub ranks: Items<Rank>,
+    pub peers: Declared<Name>,
+    pub tables: Declared<Shape>,
+    pub filters: Declared<Filter>,
+    pub ranks: Declared<Rank>,
+}
+
+impl Named for Shape {
+    ghost name_of = { λ shape. shape.name };
+
+    fn name(&self) -> &[u8] {
+        self.name.as_slice()
+    }
+
+    fn again(&self, alloc: Global) -> Result<Shape, NoMemory> {
+        self.duplicate(alloc)
+    }
 }
 
 impl Shape {
@@ -106,6 +118,18 @@ impl Shape {
     }
 }
 
+impl Named for Filter {
+    ghost name_of = { λ filter. filter.name };
+
+    fn name(&self) -> &[u8] {
+        self.name.as_slice()
+    }
+
+    fn again(&self, alloc: Global) -> Result<Filter, NoMemory> {
+        self.duplicate(alloc)
+    }
+}
+
 impl Filter {
     /// An equal filter.
     pub fn duplicate(&self, alloc: Global) -> Result<Filter, NoMemory>
@@ -116,6 +140,18 @@ impl Filter {
             table: self.table,
             conds: self.conds.duplicate(alloc)?,
         })
+    }
+}
+
+impl Named for Rank {
+    ghost name_of = { λ rank. rank.name };
+
+    fn name(&self) -> &[u8] {
+        self.name.as_slice()
+    }
+
+    fn again(&self, alloc: Global) -> Result<Rank, NoMemory> {
+        self.duplicate(alloc)
     }
 }
 
@@ -140,50 +176,10 @@ impl Config {
     {
         Ok(Config {
             me: self.me.duplicate(alloc)?,
-            peers: duplicate_peers(alloc, self.peers.as_slice())?,
-            tables: duplicate_tables(alloc, self.tables.as_slice())?,
-            filters: duplicate_filters(alloc, self.filters.as_slice())?,
-            ranks: duplicate_ranks(alloc, self.ranks.as_slice())?,
+            peers: self.peers.duplicate(alloc)?,
+            tables: self.tables.duplicate(alloc)?,
+            filters: self.filters.duplicate(alloc)?,
+            ranks: self.ranks.duplicate(alloc)?,
         })
     }
-}
-
-fn duplicate_peers(alloc: Global, peers: &[Name]) -> Result<Items<Name>, NoMemory>
-    ensures { IfOk result (λ copied. copied ≡ peers.now) }
-{
-    let mut copied = Vec::with_capacity(alloc, peers.len())?;
-    for peer in peers {
-        copied.push(peer.duplicate(alloc)?)?;
-    }
-    Ok(Items::from_vec(copied))
-}
-
-fn duplicate_tables(alloc: Global, tables: &[Shape]) -> Result<Items<Shape>, NoMemory>
-    ensures { IfOk result (λ copied. copied ≡ tables.now) }
-{
-    let mut copied = Vec::with_capacity(alloc, tables.len())?;
-    for shape in tables {
-        copied.push(shape.duplicate(alloc)?)?;
-    }
-    Ok(Items::from_vec(copied))
-}
-
-fn duplicate_filters(alloc: Global, filters: &[Filter]) -> Result<Items<Filter>, NoMemory>
-    ensures { IfOk result (λ copied. copied ≡ filters.now) }
-{
-    let mut copied = Vec::with_capacity(alloc, filters.len())?;
-    for filter in filters {
-        copied.push(filter.duplicate(alloc)?)?;
-    }
-    Ok(Items::from_vec(copied))
-}
-
-fn duplicate_ranks(alloc: Global, ranks: &[Rank]) -> Result<Items<Rank>, NoMemory>
-    ensures { IfOk result (λ copied. copied ≡ ranks.now) }
-{
-    let mut copied = Vec::with_capacity(alloc, ranks.len())?;
-    for rank in ranks {
-        copied.push(rank.duplicate(alloc)?)?;
-    }
-    Ok(Items::from_vec(copied))
 }

@@ -3,7 +3,7 @@ ghost use Rattle.std.specs.List.{list_all};
 ghost use Rattle.std.specs.Str.{bytes_eq};
 ghost use Rattle.agg_types.specs.Name.{is_name, is_printable};
 
-use crate::{Items, NoMemory};
+use crate::{Items, Named, NoMemory};
 use std::alloc::Global;
 use std::marker::Model;
 
@@ -60,6 +60,18 @@ impl Name {
         ensures { result ≡ is_name self.now }
     {
         is_name(self.as_slice())
+    }
+}
+
+impl Named for Name {
+    ghost name_of = { λ name. name };
+
+    fn name(&self) -> &[u8] {
+        self.as_slice()
+    }
+
+    fn again(&self, alloc: Global) -> Result<Name, NoMemory> {
+        self.duplicate(alloc)
     }
 }
 
