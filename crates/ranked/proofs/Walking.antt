@@ -10,7 +10,8 @@ use Rattle.std.specs.Ordering.{is_lt}
 use Rattle.fleet_model.specs.Ranking.{put_in_order, rank_cmp}
 use Rattle.expiry_wheel.specs.Items.{first_item}
 use Rattle.std.specs.Prelude.{remove}
-use Rattle.ranked.specs.Walk.{AreBounds, AreFromFirst, bound_of, found, is_done, is_settled}
+use Rattle.expiry_wheel.specs.Items.{AreFromFirst}
+use Rattle.ranked.specs.Walk.{AreBounds, bound_of, found, is_done, is_settled}
 use Rattle.ranked.specs.Walk.{put_all, worth}
 
 pub map_take : {X Y : Type 0} (f : X → Y) (m : ℕ) (xs : List X)

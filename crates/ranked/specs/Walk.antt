@@ -50,11 +50,6 @@ found living value room candidates entries =
 abbrev pub shown : Bor (List ℕ) × ℕ → List ℕ × ℕ
 shown candidate = (candidate.0.now, candidate.1)
 
--- each entry's bound is at most that of the first
-abbrev pub AreFromFirst : List (ℕ × List ℕ) → Type 0
-AreFromFirst [] = Unit {0}
-AreFromFirst (e ∷ entries) = AllByRecursion (λ f. e.0 ≤ f.0) entries
-
 -- each has a value of at most that of any before it
 abbrev pub AreFalling : List (List ℕ × ℕ) → Type 0
 AreFalling [] = Unit {0}

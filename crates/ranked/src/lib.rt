@@ -17,7 +17,6 @@
 //! keys with a bound of at least that value. No clause says what a step costs.
 #![tactic(auto)]
 
-mod ahead;
 mod bounds;
 mod candidates;
 mod leaders;

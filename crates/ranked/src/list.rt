@@ -5,11 +5,10 @@ ghost use Rattle.std.specs.Ordering.{nat_cmp};
 ghost use Rattle.expiry_wheel.specs.Entries.{IsInOrder};
 ghost use Rattle.ranked.specs.Walk.{AreBounds, GivesFirst, found};
 
-use crate::ahead::Ahead;
 use crate::walk::settle;
 use agg_types::{Col, Key, NoMemory, Rank};
 use crossing::Values;
-use expiry_wheel::OrderedDue;
+use expiry_wheel::{Entries, OrderedDue};
 use std::alloc::Global;
 use std::marker::Model;
 
@@ -21,7 +20,7 @@ use std::marker::Model;
 #[derive(Drop)]
 pub struct Ranked<'a, V: Values> {
     index: &'a OrderedDue<Key>,
-    ahead: Ahead<'a>,
+    ahead: Entries<'a, Key, OrderedDue<Key>>,
     // The best keys taken so far and not given yet, the best first.
     candidates: Vec<(&'a Key, u128)>,
     values: &'a V,
@@ -77,7 +76,7 @@ impl<'a, V: Values> Ranked<'a, V> {
         let left = rank.n as usize;
         Ok(Ranked {
             index,
-            ahead: Ahead::new(index),
+            ahead: Entries::new(index),
             candidates: Vec::with_capacity(alloc, left + 1)?,
             values,
             table: rank.table,

@@ -2,16 +2,16 @@
 
 ghost use Rattle.std.specs.Prelude.{◌≡◌, ◌<◌, ◌≤◌, ◌⊎◌, [], false, true, length, map, slice_get};
 ghost use Rattle.std.specs.Prelude.{take, vec_len, vec_capacity};
-ghost use Rattle.expiry_wheel.specs.Items.{first_item, without_first};
+ghost use Rattle.expiry_wheel.specs.Items.{AreFromFirst, first_item, without_first};
 ghost use Rattle.fleet_model.specs.Ranking.{put_in_order, rank_cmp};
 ghost use Rattle.std.specs.Option.{option_map};
 ghost use Rattle.expiry_wheel.specs.Lent.{lent_entry};
-ghost use Rattle.ranked.specs.Walk.{AreBounds, AreFromFirst, WalksOn, found, is_done, shown};
+ghost use Rattle.ranked.specs.Walk.{AreBounds, WalksOn, found, is_done, shown};
 
-use crate::ahead::Ahead;
 use crate::candidates::{is_settled, place_of};
 use agg_types::{Col, Key};
 use crossing::Values;
+use expiry_wheel::{Entries, OrderedDue};
 
 /// Puts a key among the candidates, of which no more are kept than there is room for.
 pub(crate) fn offer<'a>(candidates: &mut Vec<(&'a Key, u128)>, room: usize, key: (&'a Key, u128))
@@ -41,7 +41,7 @@ fn is_done(candidates: &[(&Key, u128)], next: Option<(u64, &Key)>) -> bool
 
 // Takes the next entry, and offers its key if it has a live row.
 fn take_next<'a, V: Values>(
-    ahead: &mut Ahead<'a>,
+    ahead: &mut Entries<'a, Key, OrderedDue<Key>>,
     candidates: &mut Vec<(&'a Key, u128)>,
     room: usize,
     values: &V,
@@ -76,7 +76,7 @@ fn take_next<'a, V: Values>(
 
 /// Takes entries until the best candidate is settled or none is left, and answers how many.
 pub(crate) fn settle<'a, V: Values>(
-    ahead: &mut Ahead<'a>,
+    ahead: &mut Entries<'a, Key, OrderedDue<Key>>,
     candidates: &mut Vec<(&'a Key, u128)>,
     room: usize,
     values: &V,

@@ -1,9 +1,9 @@
 use Rattle.std.proofs.Common.{ℕ, ◌+◌, ◌<◌, ◌≡◌, List, ◌∷◌, false, map, ap, sym, subst, ◌∙◌}
 use Rattle.std.specs.Option.{option_map}
-use Rattle.expiry_wheel.specs.Items.{without_first}
+use Rattle.expiry_wheel.specs.Items.{AreFromFirst, without_first}
 use Rattle.expiry_wheel.specs.Lent.{lent_entry}
-use Rattle.ranked.specs.Walk.{AreBounds, AreFromFirst, IsWalk, found, is_done, shown}
-use Rattle.ranked.proofs.Entries.{first_and_rest}
+use Rattle.ranked.specs.Walk.{AreBounds, IsWalk, found, is_done, shown}
+use Rattle.expiry_wheel.proofs.Left.{first_and_rest}
 use Rattle.ranked.proofs.Reached.{never_undone, walk_offered, walk_passed}
 use Rattle.ranked.proofs.Walking.{taken_live}
 use Rattle.ranked.proofs.walk.take_next.Goals as goal
