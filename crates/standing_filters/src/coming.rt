@@ -11,7 +11,7 @@ ghost use Rattle.expiry_wheel.specs.Merge.{entries_until};
 
 use crate::judging::Verdict;
 use agg_types::Key;
-use expiry_wheel::{DueIndex, Wheel};
+use expiry_wheel::{Entries, Wheel};
 use std::marker::Model;
 
 /// A key whose verdict was to change, and the verdict that it has now.
@@ -28,23 +28,17 @@ pub(crate) struct Judged {
 /// Contracts see the list of what it has left.
 #[derive(Drop)]
 pub(crate) struct Coming<'a> {
-    due: &'a Wheel<Key>,
+    entries: Entries<'a, Key, Wheel<Key>>,
     until: u64,
-    next: Option<(u64, &'a Key)>,
 }
 
 impl<'a> Model for Coming<'a> {
     ghost use Rattle.std.specs.Prelude.{List, ℕ, ◌+◌};
-    ghost use Rattle.std.specs.Option.{option_map};
-    ghost use Rattle.std.specs.Cmp.Lexicographic.{slice_cmp};
-    ghost use Rattle.std.specs.Ordering.{nat_cmp};
-    ghost use Rattle.expiry_wheel.specs.Lent.{lent_entry};
-    ghost use Rattle.expiry_wheel.specs.Merge.{entries_until, left_from};
+    ghost use Rattle.expiry_wheel.specs.Merge.{entries_until};
 
     ghost Value = { List (ℕ × List ℕ) };
 
-    ghost view = { λ c. entries_until (c.until + 1)
-        (left_from (slice_cmp nat_cmp) (option_map lent_entry c.next) c.due.now) };
+    ghost view = { λ c. entries_until (c.until + 1) c.entries };
 }
 
 impl<'a> Coming<'a> {
@@ -54,9 +48,8 @@ impl<'a> Coming<'a> {
         ensures ordered { IsInOrder (slice_cmp nat_cmp) due.entry.now }
     {
         Coming {
-            due,
+            entries: Entries::new(due),
             until,
-            next: due.after(None),
         }
     }
 }
@@ -69,11 +62,11 @@ impl<'a> Iterator for Coming<'a> {
     ghost remaining = { λ entries. at_most (length entries) };
 
     fn next(&mut self) -> Option<(u64, &'a Key)> {
-        let (at, key) = self.next?;
+        let (at, key) = self.entries.peek()?;
         if at > self.until {
             return None;
         }
-        self.next = self.due.after(Some((at, key)));
+        self.entries.step();
         Some((at, key))
     }
 }

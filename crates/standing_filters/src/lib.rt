@@ -11,12 +11,12 @@
 //! Promised: a verdict is exact; none is named as its change exactly where it never changes; at
 //! most 505 values are read for it where they stay from 2^33 ms on. A touch gives the key's
 //! verdicts at its moment and leaves all others, `moment` gives each key whose change has come its
-//! verdict then, however many changes were passed, and `add` and `drop_last` add and take away the
-//! last filter; each changes nothing where memory was refused. `keys` lends the keys whose verdict
-//! is that they are held, `planned` the moments at which verdicts change, each with its key, and
-//! `next_change` is the least of them. That a key which can't come into a set again is told by one
-//! value of each condition is meant for speed, and no clause says so; nor that a verdict is
-//! searched for once where a filter is the last of its table.
+//! verdict then, however many changes were passed, and `add` adds a last filter. Each changes
+//! nothing where it runs out of memory. `keys` lends the keys whose verdict is that they are held,
+//! `planned` the moments at which verdicts change, each with its key, and `next_change` is the
+//! least of them. That a key which can't come into a set again is told by one value of each
+//! condition is meant for speed, and no clause says so; nor that a verdict is searched for once
+//! where a filter is the last of its table.
 #![tactic(auto)]
 
 mod adding;
@@ -24,7 +24,6 @@ mod coming;
 mod judging;
 mod keys;
 pub mod laws;
-mod planned;
 mod plans;
 mod standing;
 mod touching;
@@ -33,5 +32,4 @@ mod watch;
 
 pub use judging::{Verdict, judge};
 pub use keys::Keys;
-pub use planned::Planned;
 pub use standing::Standing;

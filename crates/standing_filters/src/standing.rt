@@ -16,12 +16,12 @@ ghost use Rattle.standing_filters.specs.Watched.{kept_of, keys_held, unheld, ver
 
 use crate::adding::watch_keys;
 use crate::keys::Keys;
-use crate::planned::Planned;
 use crate::touching::touch_each;
 use crate::turning::turn_each;
 use crate::watch::Watch;
 use agg_types::{Config, Filter, Key, NoMemory};
 use crossing::{Meter, Values};
+use expiry_wheel::{Entries, Wheel};
 use std::alloc::Global;
 use std::marker::Model;
 
@@ -165,9 +165,9 @@ impl Standing {
         self.watches[filter].next_change()
     }
 
-    /// The planned changes of a filter: when, if only the clock goes on, it comes to hold a key or
-    /// no longer holds one, by moment, then by key.
-    pub fn planned(&self, filter: usize) -> Planned<'_>
+    /// The planned changes of a filter: when, in ms, if only the clock goes on, it comes to hold a
+    /// key or no longer holds one, by moment, then by key.
+    pub fn planned(&self, filter: usize) -> Entries<'_, Key, Wheel<Key>>
         requires { filter < length self.now.filters }
         ensures exact { IsPlanOf (kept_of self.now filter) result }
         ensures ordered { IsInOrder (slice_cmp nat_cmp) result }

@@ -22,11 +22,10 @@ ghost use Rattle.standing_filters.specs.Turns.{keys_judged, same_key, verdict_af
 use crate::coming::{Coming, Judged};
 use crate::judging::{OUT, Verdict, judge};
 use crate::keys::Keys;
-use crate::planned::Planned;
 use crate::plans::{move_plan, plan, unplan};
 use agg_types::{Filter, Key, NoMemory};
 use crossing::{Meter, Values};
-use expiry_wheel::{DueIndex, Wheel};
+use expiry_wheel::{DueIndex, Entries, Wheel};
 use std::alloc::Global;
 use std::collections::BTreeMap;
 use std::marker::Model;
@@ -93,11 +92,11 @@ impl Watch {
     }
 
     /// The planned changes, in order.
-    pub(crate) fn planned(&self) -> Planned<'_>
+    pub(crate) fn planned(&self) -> Entries<'_, Key, Wheel<Key>>
         ensures all { result ≡ self.now.due }
         ensures ordered { IsInOrder (slice_cmp nat_cmp) self.now.due }
     {
-        Planned::new(&self.due)
+        Entries::new(&self.due)
     }
 
     /// Judges a key by its values at a moment.
