@@ -58,11 +58,11 @@ fn obey(
         fleet.new config opening out.old.items out.new.items) }
 {
     match command {
-        Command::Change(change) => change_fleet(alloc, fleet, &step_of(change), out),
-        command => {
-            answer(alloc, fleet.book(), &command, out)?;
+        Command::Ask(question) => {
+            answer(alloc, fleet.book(), &Command::Ask(question), out)?;
             Ok(None)
         }
+        Command::Change(change) => change_fleet(alloc, fleet, &step_of(change), out),
     }
 }
 
