@@ -1,9 +1,9 @@
 -- The lines of a text, one behind the others.
 use Rattle.std.proofs.Common.{◌≡◌, ℕ, ◌+◌, ◌<◌, ◌||◌, List, [], ◌∷◌, ◌++◌, length, take, drop}
-use Rattle.std.proofs.Common.{get_or, map, Some, refl, sym, ap, ◌∙◌, arith, length-drop, drop-cons}
-use Rattle.std.proofs.Common.{add-one}
+use Rattle.std.proofs.Common.{get_or, map, Option, Some, None, Ok, Err, Bool, ◌&&◌, refl, sym, ap}
+use Rattle.std.proofs.Common.{◌∙◌, arith, length-drop, drop-cons, add-one}
 use Rattle.std.specs.Prelude.{slice_get}
-use Rattle.std.proofs.Common.{inl, below_more}
+use Rattle.std.proofs.Common.{below_more}
 use Rattle.std.proofs.Math.Bool.{or-false}
 use Rattle.std.proofs.lemmas.List.Sums.{fold-append}
 use Rattle.std.proofs.lemmas.List.{take_more}
@@ -11,10 +11,14 @@ use Rattle.std.proofs.lemmas.List.Folds.{list_any-append}
 use Rattle.agg_config.specs.declared.causes.LineCause.{LineCause}
 use Rattle.agg_config.specs.declared.causes.LineCause.TheVariants.{Syntax, Number, Check, NoMemory}
 use Rattle.agg_config.specs.Declarations.{declared}
-use Rattle.agg_config.specs.Reading.{AreSound, FailsFirst, FaultBehind, behind, faults_behind}
-use Rattle.agg_config.specs.Reading.{is_named, line_fault, names, written}
+use Rattle.agg_config.specs.Reading.{AreSound, FailsFirst, FaultBehind, Meaning, behind, declaring}
+use Rattle.agg_config.specs.Reading.{faults_behind, is_me, is_named, line_fault, names, written}
+use Rattle.agg_config.specs.Reading.{wrong_check, wrong_word}
+use Rattle.agg_types.specs.Check.{config_faults, fault_if}
 use Rattle.agg_types.specs.declared.check.ConfigFault.{ConfigFault}
-use Rattle.line_words.specs.Words.{words}
+use Rattle.agg_types.specs.declared.check.ConfigFault.TheVariants.{Duplicate}
+use Rattle.agg_types.specs.declared.config.Config.{Config}
+use Rattle.line_words.specs.declared.misread.Misread.{Misread}
 
 -- where a line stands, by what is left
 pub record Stands (lines : List (List ℕ)) (before : ℕ) (line : List ℕ) (rest : List (List ℕ))
@@ -41,42 +45,67 @@ stands lines before line rest e =
     }
 
 pub written-push : (before : List (List ℕ)) (line : List ℕ) → written (before ++ line ∷ [])
-    ≡ behind (written before) (declared (words line))
+    ≡ behind (written before) (declared line)
 unfolding written
 written-push before line = rw fold-append refl
 
 pub is_named-push : (before : List (List ℕ)) (line : List ℕ) → is_named (before ++ line ∷ [])
-    ≡ (is_named before || names (declared (words line)))
+    ≡ (is_named before || names (declared line))
 unfolding is_named
-is_named-push before line = rw (list_any-append (λ line. names (declared (words line))) before
-    (line ∷ [])) (ap (λ b. is_named before || b) (or-false (names (declared (words line)))))
+is_named-push before line = rw (list_any-append (λ line. names (declared line)) before
+    (line ∷ [])) (ap (λ b. is_named before || b) (or-false (names (declared line))))
 
 -- a line without a fault keeps those before it sound
 pub sound_more : (lines : List (List ℕ)) (before : ℕ) (line : List ℕ)
     → get_or lines before [] ≡ line → AreSound lines before
     → faults_behind (written (take before lines)) (is_named (take before lines))
-    (declared (words line)) ≡ [] → AreSound lines (before + 1)
+    (declared line) ≡ [] → AreSound lines (before + 1)
 unfolding line_fault
 sound_more lines before line at sound none = below_more _ before sound (rw (at, none) refl)
 
+checks_first : (faults : List ConfigFault) → slice_get (map wrong_check faults) 0
+    ≡ Some (record { cause = Syntax; place = None }) → ⊥
+checks_first [] e = absurd cc
+checks_first (fault ∷ faults) e =
+    let same : wrong_check fault ≡ record { cause = Syntax; place = None } = cc in
+    let causes : Check fault ≡ Syntax = ap (λ wrong. wrong.cause) same in
+    absurd cc
+
+-- a line's own fault has a word, where it is of its words
+syntax_has_word : (config : Config) (named : Bool) (line : Meaning)
+    → slice_get (faults_behind config named line) 0
+    ≡ Some (record { cause = Syntax; place = None }) → ⊥
+syntax_has_word config named (Err misread) e =
+    let same : wrong_word misread ≡ record { cause = Syntax; place = None } = cc in
+    let places : Some misread ≡ None = ap (λ wrong. wrong.place) same in
+    absurd cc
+syntax_has_word config named (Ok None) e = absurd cc
+syntax_has_word config named (Ok (Some declaration)) e =
+    checks_first (config_faults (declaring config declaration)
+    ++ fault_if (named && is_me declaration) Duplicate) e
+
 -- a line's first fault is that of the lines
 pub faulty : (lines : List (List ℕ)) (before : ℕ) (line : List ℕ) (cause : LineCause)
-    → before < length lines → get_or lines before [] ≡ line → AreSound lines before
-    → FailsFirst cause (faults_behind (written (take before lines)) (is_named (take before lines))
-    (declared (words line))) → FaultBehind lines before cause
+    (place : Option Misread) → before < length lines → get_or lines before [] ≡ line
+    → AreSound lines before → FailsFirst (record { cause = cause; place = place })
+    (faults_behind (written (take before lines)) (is_named (take before lines)) (declared line))
+    → FaultBehind lines before cause place
 unfolding line_fault
-faulty lines before line Syntax inside at sound fails =
-    inl (record { sound = sound; there = inside; first = rw at fails })
-faulty lines before line Number inside at sound fails =
-    record { sound = sound; there = inside; first = rw at fails }
-faulty lines before line (Check fault) inside at sound fails =
-    record { sound = sound; there = inside; first = rw at fails }
-faulty lines before line NoMemory inside at sound fails = (omega arith, sound)
+faulty lines before line Syntax None inside at sound fails =
+    absurd (syntax_has_word (written (take before lines)) (is_named (take before lines))
+    (declared line) (fails (λ e. absurd cc)))
+faulty lines before line Syntax (Some misread) inside at sound fails =
+    record { sound = sound; there = inside; first = rw at (fails (λ e. absurd cc)) }
+faulty lines before line Number place inside at sound fails =
+    record { sound = sound; there = inside; first = rw at (fails (λ e. absurd cc)) }
+faulty lines before line (Check fault) place inside at sound fails =
+    record { sound = sound; there = inside; first = rw at (fails (λ e. absurd cc)) }
+faulty lines before line NoMemory place inside at sound fails = (omega arith, sound)
 
 -- the first fault of a configuration stands first where others follow
 pub first_check : (faults others : List ConfigFault) (fault : ConfigFault)
-    → slice_get faults 0 ≡ Some fault → slice_get (map Check (faults ++ others)) 0
-    ≡ Some (Check fault)
+    → slice_get faults 0 ≡ Some fault → slice_get (map wrong_check (faults ++ others)) 0
+    ≡ Some (wrong_check fault)
 first_check [] others fault e = absurd cc
 first_check (first ∷ faults) others fault e = let same : first ≡ fault = cc in
-    ap (λ f. Some (Check f)) same
+    ap (λ f. Some (wrong_check f)) same

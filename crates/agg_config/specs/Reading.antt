@@ -1,20 +1,27 @@
 -- A text's configuration: what each line declares, behind the lines before it.
-use Rattle.std.specs.Prelude.{◌≡◌, ℕ, ◌+◌, ◌<◌, ◌≤◌, Bool, true, false, ◌&&◌, ◌||◌, List, [], ◌∷◌}
+use Rattle.std.specs.Prelude.{◌≡◌, ◌≢◌, ℕ, ◌+◌, ◌<◌, ◌≤◌, Bool, true, false, ◌&&◌, ◌||◌, not}
+use Rattle.std.specs.Prelude.{if◌then◌else◌, List, [], ◌∷◌}
 use Rattle.std.specs.Prelude.{◌++◌, length, take, map, fold, position, unwrap_or, slice_get}
-use Rattle.std.specs.Prelude.{slice_index_or, Option, None, Some, Result, Ok, Err, ◌⊎◌}
+use Rattle.std.specs.Prelude.{slice_index_or, Option, None, Some, Result, Ok, Err}
 use Rattle.std.specs.List.{list_any}
 use Rattle.std.specs.Str.{bytes_eq}
 use Rattle.agg_types.specs.Check.{config_faults, fault_if}
+use Rattle.agg_types.specs.declared.check.ConfigFault.{ConfigFault}
 use Rattle.agg_types.specs.declared.check.ConfigFault.TheVariants.{Duplicate}
 use Rattle.agg_types.specs.declared.config.Config.{Config}
 use Rattle.agg_types.specs.declared.config.Filter as Filters
 use Rattle.agg_types.specs.declared.config.Rank as Ranks
 use Rattle.agg_types.specs.declared.config.Shape.{Shape}
-use Rattle.line_words.specs.Words.{words}
+use Rattle.line_words.specs.declared.misread.Expected.{Expected}
+use Rattle.line_words.specs.declared.misread.Expected.TheVariants as expected
+use Rattle.line_words.specs.declared.misread.Misread.{Misread}
 use Rattle.agg_config.specs.Declarations.{declared}
 use Rattle.agg_config.specs.declared.causes.LineCause.{LineCause}
 use Rattle.agg_config.specs.declared.causes.LineCause.TheVariants.{Syntax, Number, Check, NoMemory}
 use Rattle.agg_config.specs.declared.causes.LineFault.{LineFault}
+use Rattle.agg_config.specs.declared.causes.Unread.{Unread}
+use Rattle.agg_config.specs.declared.causes.Unread.TheVariants as unread
+use Rattle.agg_config.specs.declared.causes.Wrong.{Wrong}
 use Rattle.agg_config.specs.declared.declarations.Declaration.{Declaration}
 use Rattle.agg_config.specs.declared.declarations.Declaration.TheVariants.{Me, Peer, Table, Filter}
 use Rattle.agg_config.specs.declared.declarations.Declaration.TheVariants.{Rank}
@@ -46,12 +53,39 @@ is_me (Table shape) = false
 is_me (Filter name table conds) = false
 is_me (Rank name table col n) = false
 
+-- a word that had to be a number and is none has a cause of its own
+abbrev pub is_number : Expected → Bool
+is_number expected.Name = false
+is_number expected.Keyword = false
+is_number expected.End = false
+is_number expected.Number = true
+is_number expected.Column = false
+is_number expected.Columns = false
+is_number expected.Condition = false
+is_number expected.Operator = false
+
+abbrev pub cause_of : Misread → LineCause
+cause_of misread = if not misread.is_missing && is_number misread.expected then Number else Syntax
+
+-- a wrong or missing word of a line
+abbrev pub wrong_word : Misread → Wrong
+wrong_word misread = record { cause = cause_of misread; place = Some misread }
+
+-- why the words of a line aren't read
+abbrev pub wrong_of : Unread → Wrong
+wrong_of (unread.Misread misread) = wrong_word misread
+wrong_of unread.NoMemory = record { cause = NoMemory; place = None }
+
+-- what a line declares goes against the lines before it
+abbrev pub wrong_check : ConfigFault → Wrong
+wrong_check fault = record { cause = Check fault; place = None }
+
 -- what a line says: a declaration, or nothing, or what is wrong with its words
 abbrev pub Meaning : Type 0
-Meaning = Result (Option Declaration) LineCause
+Meaning = Result (Option Declaration) Misread
 
 abbrev pub meaning : List ℕ → Meaning
-meaning line = declared (words line)
+meaning line = declared line
 
 -- a configuration behind a line, where it is read
 abbrev pub behind : Config → Meaning → Config
@@ -78,12 +112,12 @@ unfoldable pub is_named : List (List ℕ) → Bool
 is_named lines = list_any (λ line. names (meaning line)) lines
 
 -- the faults of a line behind a configuration that has its name already or not
-abbrev pub faults_behind : Config → Bool → Meaning → List LineCause
-faults_behind config named (Err cause) = cause ∷ []
+abbrev pub faults_behind : Config → Bool → Meaning → List Wrong
+faults_behind config named (Err misread) = wrong_word misread ∷ []
 faults_behind config named (Ok None) = []
 faults_behind config named (Ok (Some declaration)) =
     let second = fault_if (named && is_me declaration) Duplicate in
-    map Check (config_faults (declaring config declaration) ++ second)
+    map wrong_check (config_faults (declaring config declaration) ++ second)
 
 -- a line is read without a fault: what it leaves
 pub record Passes (config : Config) (named : Bool) (line : Meaning) (after : Config)
@@ -92,15 +126,12 @@ pub record Passes (config : Config) (named : Bool) (line : Meaning) (after : Con
   pub whole : after ≡ behind config line
   pub told : named_after ≡ (named || names line)
 
--- a cause is the first of these faults, unless memory was refused
-abbrev pub FailsFirst : LineCause → List LineCause → Type 0
-FailsFirst NoMemory faults = Unit {0}
-FailsFirst Syntax faults = slice_get faults 0 ≡ Some Syntax
-FailsFirst Number faults = slice_get faults 0 ≡ Some Number
-FailsFirst (Check fault) faults = slice_get faults 0 ≡ Some (Check fault)
+-- it is the first of these faults, unless memory was refused
+abbrev pub FailsFirst : Wrong → List Wrong → Type 0
+FailsFirst wrong faults = wrong.cause ≢ NoMemory → slice_get faults 0 ≡ Some wrong
 
 -- the first fault of a line behind others, if it has one
-unfoldable pub line_fault : List (List ℕ) → List ℕ → Option LineCause
+unfoldable pub line_fault : List (List ℕ) → List ℕ → Option Wrong
 line_fault before line =
     slice_get (faults_behind (written before) (is_named before) (meaning line)) 0
 
@@ -115,10 +146,10 @@ pub record Write (lines : List (List ℕ)) (config : Config) : Type 0 where
   pub whole : config ≡ written lines
 
 -- this many lines have no fault, and the next one has this, its first
-pub record FaultyLine (lines : List (List ℕ)) (before : ℕ) (cause : LineCause) : Type 0 where
+pub record FaultyLine (lines : List (List ℕ)) (before : ℕ) (wrong : Wrong) : Type 0 where
   pub sound : AreSound lines before
   pub there : before < length lines
-  pub first : line_fault (take before lines) (slice_index_or lines before []) ≡ Some cause
+  pub first : line_fault (take before lines) (slice_index_or lines before []) ≡ Some wrong
 
 -- no line has a fault, but none gives the collector its name
 pub record Nameless (lines : List (List ℕ)) (before : ℕ) : Type 0 where
@@ -126,14 +157,19 @@ pub record Nameless (lines : List (List ℕ)) (before : ℕ) : Type 0 where
   pub last : before ≡ length lines
   pub nameless : is_named lines ≡ false
 
--- what is wrong at the line behind this many; where memory was refused none of these has a fault
-abbrev pub FaultBehind : List (List ℕ) → ℕ → LineCause → Type 0
-FaultBehind lines before NoMemory = (before ≤ length lines) × AreSound lines before
-FaultBehind lines before Syntax = FaultyLine lines before Syntax ⊎ Nameless lines before
-FaultBehind lines before Number = FaultyLine lines before Number
-FaultBehind lines before (Check fault) = FaultyLine lines before (Check fault)
+-- what is wrong at the line behind this many; where memory was refused none of these has a fault,
+-- and Syntax with no word is told behind the last line only
+abbrev pub FaultBehind : List (List ℕ) → ℕ → LineCause → Option Misread → Type 0
+FaultBehind lines before NoMemory place = (before ≤ length lines) × AreSound lines before
+FaultBehind lines before Syntax None = Nameless lines before
+FaultBehind lines before Syntax (Some misread) =
+    FaultyLine lines before (record { cause = Syntax; place = Some misread })
+FaultBehind lines before Number place =
+    FaultyLine lines before (record { cause = Number; place = place })
+FaultBehind lines before (Check fault) place =
+    FaultyLine lines before (record { cause = Check fault; place = place })
 
 -- the first fault of the lines, which are counted from 1
 abbrev pub IsFirstFault : List (List ℕ) → LineFault → Type 0
-IsFirstFault lines fault =
-    (before : ℕ) × (fault.line ≡ before + 1) × FaultBehind lines before fault.cause
+IsFirstFault lines fault = (before : ℕ) × (fault.line ≡ before + 1)
+    × FaultBehind lines before fault.cause fault.place

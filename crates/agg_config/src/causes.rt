@@ -1,7 +1,12 @@
-ghost use Rattle.std.specs.Prelude.{◌≡◌};
-ghost use Rattle.agg_config.specs.declared.causes.LineCause.TheVariants.{NoMemory as Refused};
+ghost use Rattle.std.specs.Prelude.{◌≡◌, None};
+ghost use Rattle.agg_config.specs.Reading.{cause_of, wrong_of};
+ghost use Rattle.agg_config.specs.declared.causes.Unread.TheVariants.{NoMemory as Refused};
+ghost use Rattle.agg_config.specs.declared.causes.Unread.TheVariants.{Misread as Wrongly};
+ghost use Rattle.agg_config.specs.declared.causes.Wrong.{Wrong};
+ghost use Rattle.agg_config.specs.declared.causes.LineCause.TheVariants.{NoMemory as RefusedLine};
 
 use agg_types::{ConfigFault, NoMemory};
+use line_words::{Expected, Misread};
 use std::alloc::AllocFailed;
 use thiserror::Error;
 
@@ -17,7 +22,7 @@ pub enum LineCause {
     /// What the line declares doesn't go with the lines before it.
     #[error("{0}")]
     Check(ConfigFault),
-    /// A growth of memory was refused.
+    /// An allocation failed.
     #[error("NoMemory")]
     NoMemory,
 }
@@ -28,20 +33,85 @@ pub enum LineCause {
 pub struct LineFault {
     pub line: usize,
     pub cause: LineCause,
+    /// The word that is wrong or missing, and what had to stand there. A line that goes against
+    /// those before it has none, nor has a configuration without a `name` line.
+    pub place: Option<Misread>,
 }
 
-impl From<NoMemory> for LineCause {
-    ghost from_gives = { λ _ cause. cause ≡ Refused };
+/// What is wrong with a line, and with which word.
+#[derive(Clone, Copy)]
+pub(crate) struct Wrong {
+    pub cause: LineCause,
+    pub place: Option<Misread>,
+}
 
-    fn from(_refused: NoMemory) -> LineCause {
-        LineCause::NoMemory
+/// Why the words of a line aren't read.
+#[derive(Clone, Copy)]
+pub(crate) enum Unread {
+    /// A word is wrong or missing.
+    Misread(Misread),
+    /// An allocation failed.
+    NoMemory,
+}
+
+impl From<Misread> for Unread {
+    ghost from_gives = { λ misread unread. unread ≡ Wrongly misread };
+
+    fn from(misread: Misread) -> Unread {
+        Unread::Misread(misread)
     }
 }
 
-impl<T: Drop> From<AllocFailed<T>> for LineCause {
-    ghost from_gives = { λ _ cause. cause ≡ Refused };
+impl From<NoMemory> for Unread {
+    ghost from_gives = { λ _ unread. unread ≡ Refused };
 
-    fn from(_refused: AllocFailed<T>) -> LineCause {
-        LineCause::NoMemory
+    fn from(_refused: NoMemory) -> Unread {
+        Unread::NoMemory
+    }
+}
+
+impl<T: Drop> From<AllocFailed<T>> for Unread {
+    ghost from_gives = { λ _ unread. unread ≡ Refused };
+
+    fn from(_refused: AllocFailed<T>) -> Unread {
+        Unread::NoMemory
+    }
+}
+
+impl From<NoMemory> for Wrong {
+    ghost from_gives = { λ _ wrong. wrong ≡ record { cause = RefusedLine; place = None } };
+
+    fn from(_refused: NoMemory) -> Wrong {
+        Wrong {
+            cause: LineCause::NoMemory,
+            place: None,
+        }
+    }
+}
+
+impl From<Unread> for Wrong {
+    ghost from_gives = { λ unread wrong. wrong ≡ wrong_of unread };
+
+    fn from(unread: Unread) -> Wrong {
+        match unread {
+            Unread::Misread(misread) => Wrong {
+                cause: cause_of(misread),
+                place: Some(misread),
+            },
+            Unread::NoMemory => Wrong {
+                cause: LineCause::NoMemory,
+                place: None,
+            },
+        }
+    }
+}
+
+fn cause_of(misread: Misread) -> LineCause
+    ensures { result ≡ cause_of misread }
+{
+    if !misread.is_missing && misread.expected == Expected::Number {
+        LineCause::Number
+    } else {
+        LineCause::Syntax
     }
 }

@@ -1,49 +1,49 @@
 //! The columns of a `store` list.
 
 ghost use Rattle.std.specs.Prelude.{◌≡◌, ◌++◌, OnOk, IfOk};
-ghost use Rattle.line_words.specs.Words.{parts, words};
-ghost use Rattle.agg_config.specs.Columns.{column, count_item, in_order, item, known_period};
-ghost use Rattle.agg_config.specs.Columns.{of_column, ordered_by, period_of, rate_item, stored};
+ghost use Rattle.line_words.specs.Words.{parts};
+ghost use Rattle.agg_config.specs.Columns.{column_at, count_item, in_order, item, known_period};
+ghost use Rattle.agg_config.specs.Columns.{list_stored, of_column, ordered_by, period_of};
+ghost use Rattle.agg_config.specs.Columns.{rate_item, stored};
 ghost use Rattle.agg_config.specs.Front.{Gives, read_each};
 
-use crate::LineCause;
-use crate::front::{end, keyword, numeral, word};
+use crate::Unread;
 use agg_types::{Col, Items, NoMemory};
-use line_words::{next_part, next_word, place_of};
+use line_words::{Expected, Misread, Words, next_part, number, place_of};
 use std::alloc::Global;
 
-/// The column of a name.
-pub(crate) fn column(name: &[u8]) -> Result<Col, LineCause>
-    ensures { Gives (λ col. col) result (column name.now) }
-{
-    match Col::from_name(name) {
-        None => Err(LineCause::Syntax),
-        Some(col) => Ok(col),
-    }
-}
+/// A column as the text has it, with its period in ms, or why that is no number.
+pub(crate) type Stored = (Col, Result<u32, Misread>);
 
-/// The columns of the words behind a table's size, each with its period in ms, or none where that
-/// is no number. They stand as in the text.
-pub(crate) fn stored(alloc: Global, line: &[u8]) -> Result<Vec<(Col, Option<u32>)>, LineCause>
-    ensures { Gives (λ cols. cols.items) result (stored (words line.now)) }
+/// The columns behind a table's size, to the end of the line. They stand as in the text.
+pub(crate) fn stored(alloc: Global, words: &mut Words<'_>) -> Result<Vec<Stored>, Unread>
+    ensures { Gives (λ cols. cols.items) result (stored words.old) }
 {
-    if next_word(line).is_none() {
+    if words.is_empty() {
         return Ok(Vec::new(alloc));
     }
-    let rest = keyword(line, b"store")?;
-    let (list, rest) = word(rest)?;
-    end(rest)?;
-    items(alloc, list)
+    list_stored(alloc, words)
 }
 
-fn items(alloc: Global, list: &[u8]) -> Result<Vec<(Col, Option<u32>)>, LineCause>
-    ensures { Gives (λ cols. cols.items) result (read_each item (parts 44 list.now)) }
+fn list_stored(alloc: Global, words: &mut Words<'_>) -> Result<Vec<Stored>, Unread>
+    ensures { Gives (λ cols. cols.items) result (list_stored words.old) }
+{
+    words.keyword(b"store")?;
+    let place = words.place();
+    let list = words.word(Expected::Columns)?;
+    words.end()?;
+    items(alloc, place, list)
+}
+
+// The columns of a list, which is the word of this number.
+fn items(alloc: Global, place: usize, list: &[u8]) -> Result<Vec<Stored>, Unread>
+    ensures { Gives (λ cols. cols.items) result (read_each (item place) (parts 44 list.now)) }
 {
     let mut cols = Vec::new(alloc);
     let mut left = list;
     'items: loop {
         let (first, rest) = next_part(left, b',');
-        cols.push(item(first)?)?;
+        cols.push(item(place, first)?)?;
         match rest {
             None => return Ok(cols),
             Some(rest) => left = rest,
@@ -53,48 +53,51 @@ fn items(alloc: Global, list: &[u8]) -> Result<Vec<(Col, Option<u32>)>, LineCaus
 
 // A count by its name, a rate with its period in parentheses.
 #[tactic(auto, unfolding(crate::specs::Columns::item))]
-fn item(text: &[u8]) -> Result<(Col, Option<u32>), LineCause>
-    ensures { Gives (λ col. col) result (item text.now) }
+fn item(place: usize, text: &[u8]) -> Result<Stored, Misread>
+    ensures { result ≡ item place text.now }
 {
     match place_of(text, b'(') {
-        None => count_item(column(text)?),
-        Some(open) => rate_item(column(&text[..open])?, &text[open..]),
+        None => count_item(place, column(place, text)?),
+        Some(open) => rate_item(place, column(place, &text[..open])?, &text[open..]),
     }
 }
 
-fn count_item(col: Col) -> Result<(Col, Option<u32>), LineCause>
-    ensures { Gives (λ col. col) result (count_item col) }
+fn column(place: usize, name: &[u8]) -> Result<Col, Misread>
+    ensures { result ≡ column_at place name.now }
+{
+    Col::from_name(name).ok_or(Misread::wrong(place, Expected::Columns))
+}
+
+fn count_item(place: usize, col: Col) -> Result<Stored, Misread>
+    ensures { result ≡ count_item place col }
 {
     if col.is_rate() {
-        Err(LineCause::Syntax)
+        Err(Misread::wrong(place, Expected::Columns))
     } else {
-        Ok((col, Some(0)))
+        Ok((col, Ok(0)))
     }
 }
 
-fn rate_item(col: Col, text: &[u8]) -> Result<(Col, Option<u32>), LineCause>
-    ensures { Gives (λ col. col) result (rate_item col text.now) }
+fn rate_item(place: usize, col: Col, text: &[u8]) -> Result<Stored, Misread>
+    ensures { result ≡ rate_item place col text.now }
 {
     match text {
-        [_, period @ .., b')'] if col.is_rate() => Ok((col, period_of(period))),
-        _ => Err(LineCause::Syntax),
+        [_, period @ .., b')'] if col.is_rate() => Ok((col, period_of(place, period))),
+        _ => Err(Misread::wrong(place, Expected::Columns)),
     }
 }
 
-fn period_of(word: &[u8]) -> Option<u32>
-    ensures { result ≡ period_of word.now }
+fn period_of(place: usize, word: &[u8]) -> Result<u32, Misread>
+    ensures { result ≡ period_of place word.now }
 {
-    match numeral(word) {
-        None => None,
-        Some(ms) => Some(ms.min(u64::from(u32::MAX)) as u32),
+    match number(word) {
+        Err(_) => Err(Misread::wrong(place, Expected::Number)),
+        Ok(ms) => Ok(ms.min(u64::from(u32::MAX)) as u32),
     }
 }
 
 /// The columns with their periods, where each is a number.
-pub(crate) fn known_periods(
-    alloc: Global,
-    cols: &[(Col, Option<u32>)],
-) -> Result<Vec<(Col, u32)>, LineCause>
+pub(crate) fn known_periods(alloc: Global, cols: &[Stored]) -> Result<Vec<(Col, u32)>, Unread>
     ensures { Gives (λ known. known.items) result (read_each known_period cols.now) }
 {
     let mut known = Vec::new(alloc);
@@ -104,13 +107,11 @@ pub(crate) fn known_periods(
     Ok(known)
 }
 
-fn known_period(col: (Col, Option<u32>)) -> Result<(Col, u32), LineCause>
-    ensures { Gives (λ known. known) result (known_period col) }
+fn known_period(col: Stored) -> Result<(Col, u32), Misread>
+    ensures { result ≡ known_period col }
 {
-    match col.1 {
-        None => Err(LineCause::Number),
-        Some(period) => Ok((col.0, period)),
-    }
+    let period = col.1?;
+    Ok((col.0, period))
 }
 
 /// The columns in ascending order.

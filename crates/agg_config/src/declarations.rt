@@ -1,19 +1,17 @@
 //! What a line declares.
 
 ghost use Rattle.std.specs.Prelude.{◌≡◌};
-ghost use Rattle.line_words.specs.Words.{words};
+ghost use Rattle.line_words.specs.Reader.{Reads};
 ghost use Rattle.agg_config.specs.Declarations.{declared, filter_line, key_kind, length_of};
 ghost use Rattle.agg_config.specs.Declarations.{line_declaration, me_line, peer_line, rank_line};
 ghost use Rattle.agg_config.specs.Declarations.{shape, table_line};
-ghost use Rattle.agg_config.specs.Front.{Gives, there};
-ghost use Rattle.agg_config.specs.declared.causes.LineCause.TheVariants.{Number};
+ghost use Rattle.agg_config.specs.Front.{Gives};
 
-use crate::LineCause;
-use crate::columns::{column, in_order, known_periods, stored};
+use crate::Unread;
+use crate::columns::{Stored, in_order, known_periods, stored};
 use crate::filters::{conditions, known_bounds};
-use crate::front::{end, keyword, numeral, word};
 use agg_types::{Col, Cond, Items, KeyKind, Name, Shape};
-use line_words::is_comment;
+use line_words::{Expected, Misread, Words, is_comment};
 use std::alloc::Global;
 
 /// What a line declares. A filter and a ranked list name their table.
@@ -37,92 +35,91 @@ pub(crate) enum Declaration {
 
 /// What a line declares, or nothing where it is blank or a comment.
 #[tactic(auto, unfolding(crate::specs::Declarations::declared))]
-pub(crate) fn declared(alloc: Global, line: &[u8]) -> Result<Option<Declaration>, LineCause>
-    ensures { Gives (λ x. x) result (declared (words line.now)) }
+pub(crate) fn declared(alloc: Global, line: &[u8]) -> Result<Option<Declaration>, Unread>
+    ensures { Gives (λ x. x) result (declared line.now) }
 {
     if is_comment(line) {
         return Ok(None);
     }
-    Ok(Some(line_declaration(alloc, line)?))
+    let mut words = Words::of(line);
+    Ok(Some(line_declaration(alloc, &mut words)?))
 }
 
 #[tactic(auto, unfolding(crate::specs::Declarations::line_declaration))]
-fn line_declaration(alloc: Global, line: &[u8]) -> Result<Declaration, LineCause>
-    ensures { Gives (λ x. x) result (line_declaration (words line.now)) }
+fn line_declaration(alloc: Global, words: &mut Words<'_>) -> Result<Declaration, Unread>
+    ensures { Gives (λ x. x) result (line_declaration words.old) }
 {
-    let (kind, rest) = word(line)?;
-    match kind {
-        b"name" => me_line(alloc, rest),
-        b"peer" => peer_line(alloc, rest),
-        b"table" => table_line(alloc, rest),
-        b"filter" => filter_line(alloc, rest),
-        b"rank" => rank_line(alloc, rest),
-        _ => Err(LineCause::Syntax),
+    let place = words.place();
+    match words.word(Expected::Keyword)? {
+        b"name" => me_line(alloc, words),
+        b"peer" => peer_line(alloc, words),
+        b"table" => table_line(alloc, words),
+        b"filter" => filter_line(alloc, words),
+        b"rank" => rank_line(alloc, words),
+        _ => Err(Unread::Misread(Misread::wrong(place, Expected::Keyword))),
     }
 }
 
 #[tactic(auto, unfolding(crate::specs::Declarations::me_line))]
-fn me_line(alloc: Global, line: &[u8]) -> Result<Declaration, LineCause>
-    ensures { Gives (λ x. x) result (me_line (words line.now)) }
+fn me_line(alloc: Global, words: &mut Words<'_>) -> Result<Declaration, Unread>
+    ensures { Gives (λ x. x) result (me_line words.old) }
 {
-    let (name, rest) = word(line)?;
-    end(rest)?;
+    let name = words.word(Expected::Name)?;
+    words.end()?;
     Ok(Declaration::Me(Name::copy(alloc, name)?))
 }
 
 #[tactic(auto, unfolding(crate::specs::Declarations::peer_line))]
-fn peer_line(alloc: Global, line: &[u8]) -> Result<Declaration, LineCause>
-    ensures { Gives (λ x. x) result (peer_line (words line.now)) }
+fn peer_line(alloc: Global, words: &mut Words<'_>) -> Result<Declaration, Unread>
+    ensures { Gives (λ x. x) result (peer_line words.old) }
 {
-    let (name, rest) = word(line)?;
-    end(rest)?;
+    let name = words.word(Expected::Name)?;
+    words.end()?;
     Ok(Declaration::Peer(Name::copy(alloc, name)?))
 }
 
 #[tactic(auto, unfolding(crate::specs::Declarations::table_line))]
-fn table_line(alloc: Global, line: &[u8]) -> Result<Declaration, LineCause>
-    ensures { Gives (λ x. x) result (table_line (words line.now)) }
+fn table_line(alloc: Global, words: &mut Words<'_>) -> Result<Declaration, Unread>
+    ensures { Gives (λ x. x) result (table_line words.old) }
 {
-    let (name, rest) = word(line)?;
-    let rest = keyword(rest, b"type")?;
-    let (kind, rest) = key_kind(rest)?;
-    let rest = keyword(rest, b"size")?;
-    let (size, rest) = word(rest)?;
-    let cols = stored(alloc, rest)?;
-    shape(alloc, name, kind, numeral(size), cols.as_slice())
+    let name = words.word(Expected::Name)?;
+    words.keyword(b"type")?;
+    let kind = key_kind(words)?;
+    words.keyword(b"size")?;
+    let size = words.number()?;
+    let cols = stored(alloc, words)?;
+    shape(alloc, name, kind, size, cols.as_slice())
 }
 
-// The kind of keys, or none where its length is no number, and what follows it.
+// The kind of keys, or why its length is no number.
 #[tactic(auto, unfolding(crate::specs::Declarations::key_kind))]
-fn key_kind(line: &[u8]) -> Result<(Option<KeyKind>, &[u8]), LineCause>
-    ensures { Gives (λ x. (x.0, words x.1.now)) result (key_kind (words line.now)) }
+fn key_kind(words: &mut Words<'_>) -> Result<Result<KeyKind, Misread>, Misread>
+    ensures { Reads (λ x. x) (key_kind words.old) result words.new }
 {
-    let (kind, rest) = word(line)?;
+    let place = words.place();
+    let kind = words.word(Expected::Keyword)?;
     if kind == b"integer".as_slice() {
-        Ok((Some(KeyKind::Integer), rest))
+        Ok(Ok(KeyKind::Integer))
     } else if kind == b"ip".as_slice() {
-        Ok((Some(KeyKind::Ip), rest))
+        Ok(Ok(KeyKind::Ip))
     } else if kind == b"ipv6".as_slice() {
-        Ok((Some(KeyKind::Ipv6), rest))
+        Ok(Ok(KeyKind::Ipv6))
     } else if kind == b"string".as_slice() {
-        let (len, rest) = length(rest)?;
-        Ok((len.map(KeyKind::Str), rest))
+        Ok(length(words)?.map(KeyKind::Str))
     } else if kind == b"binary".as_slice() {
-        let (len, rest) = length(rest)?;
-        Ok((len.map(KeyKind::Binary), rest))
+        Ok(length(words)?.map(KeyKind::Binary))
     } else {
-        Err(LineCause::Syntax)
+        Err(Misread::wrong(place, Expected::Keyword))
     }
 }
 
-// The length of keys, or none where it is no number, and what follows it.
+// The length of keys, or why it is no number.
 #[tactic(auto, unfolding(crate::specs::Declarations::length_of))]
-fn length(line: &[u8]) -> Result<(Option<u64>, &[u8]), LineCause>
-    ensures { Gives (λ x. (x.0, words x.1.now)) result (length_of (words line.now)) }
+fn length(words: &mut Words<'_>) -> Result<Result<u64, Misread>, Misread>
+    ensures { Reads (λ x. x) (length_of words.old) result words.new }
 {
-    let rest = keyword(line, b"len")?;
-    let (len, rest) = word(rest)?;
-    Ok((numeral(len), rest))
+    words.keyword(b"len")?;
+    words.number()
 }
 
 // The table, where its numbers are known.
@@ -130,14 +127,14 @@ fn length(line: &[u8]) -> Result<(Option<u64>, &[u8]), LineCause>
 fn shape(
     alloc: Global,
     name: &[u8],
-    kind: Option<KeyKind>,
-    size: Option<u64>,
-    cols: &[(Col, Option<u32>)],
-) -> Result<Declaration, LineCause>
+    kind: Result<KeyKind, Misread>,
+    size: Result<u64, Misread>,
+    cols: &[Stored],
+) -> Result<Declaration, Unread>
     ensures { Gives (λ x. x) result (shape name.now kind size cols.now) }
 {
-    let kind = there(kind)?;
-    let size = there(size)?;
+    let kind = kind?;
+    let size = size?;
     let cols = known_periods(alloc, cols)?;
     Ok(Declaration::Table(Shape {
         name: Name::copy(alloc, name)?,
@@ -147,25 +144,16 @@ fn shape(
     }))
 }
 
-// A number that has to be one.
-fn there<T: Drop>(number: Option<T>) -> Result<T, LineCause>
-    ensures { Gives (λ x. x) result (there Number number) }
-{
-    match number {
-        None => Err(LineCause::Number),
-        Some(number) => Ok(number),
-    }
-}
-
 #[tactic(auto, unfolding(crate::specs::Declarations::filter_line))]
-fn filter_line(alloc: Global, line: &[u8]) -> Result<Declaration, LineCause>
-    ensures { Gives (λ x. x) result (filter_line (words line.now)) }
+fn filter_line(alloc: Global, words: &mut Words<'_>) -> Result<Declaration, Unread>
+    ensures { Gives (λ x. x) result (filter_line words.old) }
 {
-    let (name, rest) = word(line)?;
-    let (table, rest) = word(rest)?;
-    let conds = conditions(alloc, rest)?;
+    let name = words.word(Expected::Name)?;
+    let table = words.word(Expected::Name)?;
+    let place = words.place();
+    let conds = conditions(alloc, words)?;
     if conds.is_empty() {
-        return Err(LineCause::Syntax);
+        return Err(Unread::Misread(Misread::missing(place, Expected::Condition)));
     }
     let conds = known_bounds(alloc, conds.as_slice())?;
     Ok(Declaration::Filter {
@@ -176,20 +164,18 @@ fn filter_line(alloc: Global, line: &[u8]) -> Result<Declaration, LineCause>
 }
 
 #[tactic(auto, unfolding(crate::specs::Declarations::rank_line))]
-fn rank_line(alloc: Global, line: &[u8]) -> Result<Declaration, LineCause>
-    ensures { Gives (λ x. x) result (rank_line (words line.now)) }
+fn rank_line(alloc: Global, words: &mut Words<'_>) -> Result<Declaration, Unread>
+    ensures { Gives (λ x. x) result (rank_line words.old) }
 {
-    let (name, rest) = word(line)?;
-    let (table, rest) = word(rest)?;
-    let (col, rest) = word(rest)?;
-    let (n, rest) = word(rest)?;
-    end(rest)?;
-    let col = column(col)?;
-    let n = there(numeral(n))?;
+    let name = words.word(Expected::Name)?;
+    let table = words.word(Expected::Name)?;
+    let col = words.column()?;
+    let n = words.number()?;
+    words.end()?;
     Ok(Declaration::Rank {
+        n: n?,
         name: Name::copy(alloc, name)?,
         table: Name::copy(alloc, table)?,
         col,
-        n,
     })
 }

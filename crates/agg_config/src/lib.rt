@@ -12,8 +12,8 @@ mod causes;
 mod columns;
 mod declarations;
 mod filters;
-mod front;
 mod reader;
 
+pub(crate) use causes::Unread;
 pub use causes::{LineCause, LineFault};
 pub use reader::read;

@@ -6,7 +6,9 @@ ghost use Rattle.agg_types.specs.Check.{config_faults};
 ghost use Rattle.line_words.specs.Words.{lines_of};
 ghost use Rattle.agg_config.specs.Reading.{FailsFirst, IsFirstFault, Passes, Write, declaring};
 ghost use Rattle.agg_config.specs.Reading.{faults_behind, is_me, meaning, opening, table_at};
+ghost use Rattle.agg_config.specs.Reading.{wrong_check};
 
+use crate::causes::Wrong;
 use crate::declarations::{Declaration, declared};
 use crate::{LineCause, LineFault};
 use agg_types::{Config, ConfigFault, Filter, Items, Name, NoMemory, Rank, Shape};
@@ -69,16 +71,11 @@ fn declare(config: &mut Config, declaration: Declaration) -> Result<(), NoMemory
 }
 
 // Reads a line behind the others. After a fault the configuration is of no use.
-fn read_line(
-    alloc: Global,
-    config: &mut Config,
-    named: &mut bool,
-    line: &[u8],
-) -> Result<(), LineCause>
+fn read_line(alloc: Global, config: &mut Config, named: &mut bool, line: &[u8]) -> Result<(), Wrong>
     requires { config_faults config.old ≡ [] }
     ensures sound { OnOk result (config_faults config.new ≡ []) }
     ensures ok { OnOk result (Passes config.old named.old (meaning line.now) config.new named.new) }
-    ensures err { IfErr result (λ cause. FailsFirst cause
+    ensures err { IfErr result (λ wrong. FailsFirst wrong
         (faults_behind config.old named.old (meaning line.now))) }
 {
     let Some(declaration) = declared(alloc, line)? else {
@@ -88,13 +85,22 @@ fn read_line(
     declare(config, declaration)?;
     match config.check() {
         Ok(()) => {}
-        Err(fault) => return Err(LineCause::Check(fault)),
+        Err(fault) => return Err(wrong_check(fault)),
     }
     if *named && me {
-        return Err(LineCause::Check(ConfigFault::Duplicate));
+        return Err(wrong_check(ConfigFault::Duplicate));
     }
     *named = *named || me;
     Ok(())
+}
+
+fn wrong_check(fault: ConfigFault) -> Wrong
+    ensures { result ≡ wrong_check fault }
+{
+    Wrong {
+        cause: LineCause::Check(fault),
+        place: None,
+    }
 }
 
 // No peer, table, filter or ranked list, under a name that isn't the collector's yet.
@@ -126,6 +132,7 @@ pub fn read(alloc: Global, text: &[u8]) -> Result<Config, LineFault>
         return Err(LineFault {
             line: 1,
             cause: LineCause::NoMemory,
+            place: None,
         });
     };
     let mut named = false;
@@ -134,10 +141,11 @@ pub fn read(alloc: Global, text: &[u8]) -> Result<Config, LineFault>
     'lines: while let Some((line, rest)) = next_line(left) {
         match read_line(alloc, &mut config, &mut named, line) {
             Ok(()) => {}
-            Err(cause) => {
+            Err(wrong) => {
                 return Err(LineFault {
                     line: before + 1,
-                    cause,
+                    cause: wrong.cause,
+                    place: wrong.place,
                 });
             }
         }
@@ -150,6 +158,7 @@ pub fn read(alloc: Global, text: &[u8]) -> Result<Config, LineFault>
         Err(LineFault {
             line: before + 1,
             cause: LineCause::Syntax,
+            place: None,
         })
     }
 }

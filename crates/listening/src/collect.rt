@@ -34,6 +34,7 @@ fn configuration(rt: &(impl Input + AllocGlobal)) -> Result<Config, LineFault>
     let wanting = LineFault {
         line: 1,
         cause: LineCause::NoMemory,
+        place: None,
     };
     let mut text = Vec::new(rt.alloc());
     let Ok(mut input) = BufReader::new(rt.alloc(), rt.reader()) else {

@@ -35,7 +35,11 @@ fn print_row<W: Write>(alloc: Global, title: &[u8], text: &[u8], out: &mut W) ->
     out.write_all(b": ")?;
     match read(alloc, text) {
         Ok(config) => print_config(&config, out),
-        Err(LineFault { line, cause }) => writeln!(out, "config line {line}: {cause}"),
+        Err(LineFault {
+            line,
+            cause,
+            place: _,
+        }) => writeln!(out, "config line {line}: {cause}"),
     }
 }
 
@@ -47,6 +51,7 @@ fn read(alloc: Global, text: &[u8]) -> Result<Config, LineFault> {
             LineFault {
                 line: _,
                 cause: LineCause::NoMemory,
+                place: _,
             },
         ) => agg_config::read(alloc, text),
         read => read,

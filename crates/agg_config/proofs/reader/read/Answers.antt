@@ -24,7 +24,7 @@ returns-in-Err-clause-fault c =
       c.lines.before,
       refl,
       faulty (lines_of c.args.text.now) c.lines.before c.in-Some.line.now
-          c.in-Err.cause s.inside s.at c.lines.invariant.sound fails,
+          c.in-Err.wrong.cause c.in-Err.wrong.place s.inside s.at c.lines.invariant.sound fails,
     )
 
 pub lines-preserved : goal.lines-preserved
