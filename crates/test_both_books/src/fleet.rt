@@ -2,83 +2,42 @@
 
 use crate::answers::{Seen, differences};
 use crate::deeds::{Deed, seat_of, what};
-use agg_types::{Col, Cond, Config, Filter, Items, KeyKind, Name, NoMemory, Op, Rank, Shape, What};
+use agg_types::{NoMemory, What};
 use anyhow::Result;
 use book::Book;
 use plain_book::Book as PlainBook;
 use std::alloc::Global;
 use std::marker::Model;
-
-/// How many rows a peer may hold of the first table.
-const SMALL: u64 = 6;
+use test_support::config;
 
 /// How many peers and tables there are.
 pub const PEERS: usize = 3;
 
 pub const TABLES: usize = 2;
 
-fn table(alloc: Global, name: &[u8], kind: KeyKind, size: u64) -> Result<Shape, NoMemory> {
-    Ok(Shape {
-        name: Name::copy(alloc, name)?,
-        kind,
-        size,
-        cols: Items::copy(alloc, &[(Col::Gpc0, 0), (Col::HttpReqRate, 10)])?,
-    })
-}
+/// Three peers, a table of addresses and one of strings; the first holds a million rows.
+const MANY: &[u8] = b"name agg
+peer lb1
+peer lb2
+peer lb3
+table addresses type ip size 1000000 store gpc0,http_req_rate(10)
+table strings type string len 64 size 100 store gpc0,http_req_rate(10)
+filter standing addresses data.gpc0 gt 40
+rank counts addresses gpc0 3
+rank rates strings http_req_rate 3
+";
 
-fn filter(alloc: Global, table: usize, cond: Cond) -> Result<Filter, NoMemory> {
-    Ok(Filter {
-        name: Name::copy(alloc, b"standing")?,
-        table,
-        conds: Items::copy(alloc, &[cond])?,
-    })
-}
-
-fn rank(alloc: Global, name: &[u8], table: usize, col: Col) -> Result<Rank, NoMemory> {
-    Ok(Rank {
-        name: Name::copy(alloc, name)?,
-        table,
-        col,
-        n: 3,
-    })
-}
-
-fn empty(alloc: Global) -> Result<Config, NoMemory> {
-    Ok(Config {
-        me: Name::copy(alloc, b"agg")?,
-        peers: Items::from_vec(Vec::new(alloc)),
-        tables: Items::from_vec(Vec::new(alloc)),
-        filters: Items::from_vec(Vec::new(alloc)),
-        ranks: Items::from_vec(Vec::new(alloc)),
-    })
-}
-
-/// Three peers, a table of addresses and one of strings; the first table holds few rows where they
-/// are to be few.
-fn config(alloc: Global, few: bool) -> Result<Config, NoMemory> {
-    let mut config = empty(alloc)?;
-    for name in [b"lb1", b"lb2", b"lb3"] {
-        config.peers.push(Name::copy(alloc, name)?)?;
-    }
-    let size = if few { SMALL } else { 1_000_000 };
-    config
-        .tables
-        .push(table(alloc, b"addresses", KeyKind::Ip, size)?)?;
-    config
-        .tables
-        .push(table(alloc, b"strings", KeyKind::Str(64), 100)?)?;
-    let above = Cond {
-        col: Col::Gpc0,
-        op: Op::Gt,
-        bound: 40,
-    };
-    config.filters.push(filter(alloc, 0, above)?)?;
-    config.ranks.push(rank(alloc, b"counts", 0, Col::Gpc0)?)?;
-    config
-        .ranks
-        .push(rank(alloc, b"rates", 1, Col::HttpReqRate)?)?;
-    Ok(config)
-}
+/// The same, but for the first table, which holds six rows.
+const FEW: &[u8] = b"name agg
+peer lb1
+peer lb2
+peer lb3
+table addresses type ip size 6 store gpc0,http_req_rate(10)
+table strings type string len 64 size 100 store gpc0,http_req_rate(10)
+filter standing addresses data.gpc0 gt 40
+rank counts addresses gpc0 3
+rank rates strings http_req_rate 3
+";
 
 // What happens, made once more where a growth was refused.
 fn made(alloc: Global, deed: Deed) -> Result<What, NoMemory> {
@@ -110,10 +69,9 @@ impl Pair {
     /// Two books to which nothing has happened. Next changes are asked for only where all moments
     /// are near, and there tables are small.
     pub fn new(alloc: Global, near: bool) -> Result<Pair> {
-        let one = config(alloc, near)?;
-        let other = config(alloc, near)?;
-        one.check()?;
-        other.check()?;
+        let fleet = if near { FEW } else { MANY };
+        let one = config(alloc, fleet)?;
+        let other = config(alloc, fleet)?;
         Ok(Pair {
             fast: Book::new(alloc, one, 0)?,
             plain: PlainBook::new(alloc, other, 0)?,

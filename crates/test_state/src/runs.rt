@@ -1,6 +1,6 @@
 //! The runs, as data.
 
-use agg_types::{Cell, Col, Op};
+use agg_types::Cell;
 
 /// A row of key 10.0.0.n with one cell.
 #[derive(Clone, Copy)]
@@ -11,19 +11,34 @@ pub struct Row {
     pub cell: Cell,
 }
 
-/// A fleet of two peers and one table of a column, with a filter by tests of it and a list of its
-/// first two keys; rows that arrive at a moment; and the moments from then on at which it is looked
-/// at, all in ms.
+/// A fleet of two peers and one table of a column, with a list of its first two keys; the
+/// conditions of its filter; rows that arrive at a moment; and the moments from then on at which it
+/// is looked at, all in ms.
 #[derive(Clone, Copy)]
 pub struct Run {
     pub name: &'static str,
-    pub col: Col,
-    pub period: u32,
-    pub filter: &'static [(Op, u64)],
+    pub fleet: &'static [u8],
+    pub filter: &'static [u8],
     pub start: u64,
     pub rows: &'static [Row],
     pub moments: &'static [u64],
 }
+
+/// A table of a rate of one second, and the beginning of its filter's line.
+const RATE: &[u8] = b"name agg
+peer lb1
+peer lb2
+table t type ip size 100 store http_req_rate(1000)
+rank top t http_req_rate 2
+filter f t ";
+
+/// A table of a count, and the beginning of its filter's line.
+const COUNT: &[u8] = b"name agg
+peer lb1
+peer lb2
+table t type ip size 100 store gpc0
+rank top t gpc0 2
+filter f t ";
 
 /// Events of one second before, as two peers tell them half a second apart.
 const TWO_RATES: &[Row] = &[
@@ -158,14 +173,13 @@ const THREE_KEYS: &[Row] = &[
 /// A run over a rate of one second, from moment 0 on.
 fn rate(
     name: &'static str,
-    filter: &'static [(Op, u64)],
+    filter: &'static [u8],
     rows: &'static [Row],
     moments: &'static [u64],
 ) -> Run {
     Run {
         name,
-        col: Col::HttpReqRate,
-        period: 1000,
+        fleet: RATE,
         filter,
         start: 0,
         rows,
@@ -176,15 +190,14 @@ fn rate(
 /// A run over a count.
 fn count(
     name: &'static str,
-    filter: &'static [(Op, u64)],
+    filter: &'static [u8],
     start: u64,
     rows: &'static [Row],
     moments: &'static [u64],
 ) -> Run {
     Run {
         name,
-        col: Col::Gpc0,
-        period: 0,
+        fleet: COUNT,
         filter,
         start,
         rows,
@@ -194,20 +207,57 @@ fn count(
 
 pub fn runs() -> [Run; 10] {
     [
-        rate("fleet rate", &[(Op::Ge, 3)], TWO_RATES, &[0, 166, 167]),
-        rate("passing set", &[(Op::Eq, 2)], ONE_RATE, &[0, 1, 333, 334]),
         rate(
-            "between",
-            &[(Op::Le, 2), (Op::Ge, 2)],
+            "fleet rate",
+            b"data.http_req_rate ge 3",
+            TWO_RATES,
+            &[0, 166, 167],
+        ),
+        rate(
+            "passing set",
+            b"data.http_req_rate eq 2",
             ONE_RATE,
             &[0, 1, 333, 334],
         ),
-        rate("nowhere", &[(Op::Ge, 3), (Op::Le, 2)], ONE_RATE, &[0]),
-        rate("lone event before", &[(Op::Ge, 1)], LONE_BEFORE, &[0, 1001]),
-        rate("lone event now", &[(Op::Ge, 1)], LONE_NOW, &[0, 2001]),
-        rate("idle rates", &[(Op::Lt, 1)], IDLE, &[0, 1]),
-        count("last row ends", &[(Op::Ge, 1)], 500, LAST_ROW, &[500, 1500]),
-        count("one of two ends", &[(Op::Lt, 5)], 0, ONE_OF_TWO, &[0, 100]),
-        count("three keys", &[(Op::Ge, 5)], 0, THREE_KEYS, &[0, 100]),
+        rate(
+            "between",
+            b"data.http_req_rate le 2 data.http_req_rate ge 2",
+            ONE_RATE,
+            &[0, 1, 333, 334],
+        ),
+        rate(
+            "nowhere",
+            b"data.http_req_rate ge 3 data.http_req_rate le 2",
+            ONE_RATE,
+            &[0],
+        ),
+        rate(
+            "lone event before",
+            b"data.http_req_rate ge 1",
+            LONE_BEFORE,
+            &[0, 1001],
+        ),
+        rate(
+            "lone event now",
+            b"data.http_req_rate ge 1",
+            LONE_NOW,
+            &[0, 2001],
+        ),
+        rate("idle rates", b"data.http_req_rate lt 1", IDLE, &[0, 1]),
+        count(
+            "last row ends",
+            b"data.gpc0 ge 1",
+            500,
+            LAST_ROW,
+            &[500, 1500],
+        ),
+        count(
+            "one of two ends",
+            b"data.gpc0 lt 5",
+            0,
+            ONE_OF_TWO,
+            &[0, 100],
+        ),
+        count("three keys", b"data.gpc0 ge 5", 0, THREE_KEYS, &[0, 100]),
     ]
 }

@@ -1,8 +1,6 @@
 //! What happens to a fleet, as data.
 
-use agg_types::{
-    Col, Cond, Config, Filter, Items, Key, KeyKind, Name, NoMemory, Op, Select, Shape,
-};
+use agg_types::{Col, Cond, Filter, Items, Key, Name, NoMemory, Op, Select};
 use fleet_core::Step;
 use std::alloc::Global;
 
@@ -45,25 +43,4 @@ fn many(alloc: Global) -> Result<Filter, NoMemory> {
         table: 0,
         conds: Items::copy(alloc, &[cond])?,
     })
-}
-
-/// The collector `agg` of the proxies `lb1` and `lb2`, with a table `t` of a count by address.
-pub fn config(alloc: Global) -> Result<Config, NoMemory> {
-    let table = Shape {
-        name: Name::copy(alloc, b"t")?,
-        kind: KeyKind::Ip,
-        size: 100,
-        cols: Items::copy(alloc, &[(Col::Gpc0, 0)])?,
-    };
-    let mut config = Config {
-        me: Name::copy(alloc, b"agg")?,
-        peers: Items::from_vec(Vec::new(alloc)),
-        tables: Items::from_vec(Vec::new(alloc)),
-        filters: Items::from_vec(Vec::new(alloc)),
-        ranks: Items::from_vec(Vec::new(alloc)),
-    };
-    config.peers.push(Name::copy(alloc, b"lb1")?)?;
-    config.peers.push(Name::copy(alloc, b"lb2")?)?;
-    config.tables.push(table)?;
-    Ok(config)
 }

@@ -10,12 +10,13 @@ mod deeds;
 ghost use Rattle.std.specs.Prelude.{◌≡◌, IfOk};
 ghost use Rattle.fleet_core.specs.Possible.{does_fit};
 
-use crate::deeds::{Deed, config, step};
+use crate::deeds::{Deed, step};
 use agg_types::NoMemory;
 use anyhow::{Result, anyhow, ensure};
 use book::Book;
 use fleet_core::{Fleet, FleetFault, Replies, Step};
 use std::alloc::Global;
+use test_support::{TWO_PROXIES, config};
 
 /// A hello of the first proxy, and one of the second with its first definition and update.
 const FIRST: &[u8] = b"HAProxyS 2.1\nagg\nlb1 100 1\n";
@@ -134,11 +135,10 @@ fn print_held(rt: &impl Print, alloc: Global, book: &Book) -> Result<()> {
 
 /// A fleet to which nothing has happened, made once more where a growth was refused.
 fn opened(alloc: Global) -> Result<Fleet> {
-    let config = match config(alloc) {
-        Err(NoMemory) => config(alloc)?,
-        made => made?,
+    let config = match config(alloc, TWO_PROXIES) {
+        Err(_) => config(alloc, TWO_PROXIES)?,
+        Ok(config) => config,
     };
-    config.check()?;
     Ok(Fleet::new(alloc, config, 0)?)
 }
 
