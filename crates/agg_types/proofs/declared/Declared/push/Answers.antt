@@ -1,5 +1,4 @@
-use Rattle.std.proofs.Common.{◌≡◌, [], ◌∷◌, ◌++◌, length, rules, subst, sym}
-use Rattle.agg_types.specs.Naming.{KeepsFirsts}
+use Rattle.std.proofs.Common.{◌≡◌, [], ◌∷◌, ◌++◌, length, rules}
 use Rattle.agg_types.proofs.Naming.{keeps-push}
 use Rattle.agg_types.proofs.declared.Declared.push.Goals as goal
 
