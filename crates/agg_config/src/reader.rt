@@ -1,7 +1,6 @@
 //! The lines of a configuration, one after the other.
 
-ghost use Rattle.std.specs.Prelude.{◌≡◌, [], position, OnOk, IfOk, IfErr};
-ghost use Rattle.std.specs.Str.{bytes_eq};
+ghost use Rattle.std.specs.Prelude.{◌≡◌, [], OnOk, IfOk, IfErr};
 ghost use Rattle.agg_types.specs.Check.{config_faults};
 ghost use Rattle.line_words.specs.Words.{lines_of};
 ghost use Rattle.agg_config.specs.Reading.{FailsFirst, IsFirstFault, Passes, Write, declaring};
@@ -11,24 +10,18 @@ ghost use Rattle.agg_config.specs.Reading.{wrong_check};
 use crate::causes::Wrong;
 use crate::declarations::{Declaration, declared};
 use crate::{LineCause, LineFault};
-use agg_types::{Config, ConfigFault, Filter, Items, Name, NoMemory, Rank, Shape};
+use agg_types::{Config, ConfigFault, Declared, Filter, Name, NoMemory, Rank, Shape};
 use line_words::next_line;
 use std::alloc::Global;
 
 // The position of the table of a name; past the last where there is none, so that it is unknown.
-fn table_at(tables: &[Shape], name: &[u8]) -> usize
+fn table_at(tables: &Declared<Shape>, name: &[u8]) -> usize
     ensures { result ≡ table_at tables.now name.now }
 {
-    match table_named(tables, name) {
+    match tables.position(name) {
         None => tables.len(),
         Some(table) => table,
     }
-}
-
-fn table_named(tables: &[Shape], name: &[u8]) -> Option<usize>
-    ensures { result ≡ position (λ shape. bytes_eq shape.name name.now) tables.now }
-{
-    tables.iter().position(|shape| shape.name.is(name))
 }
 
 fn is_me(declaration: &Declaration) -> bool
@@ -49,7 +42,7 @@ fn declare(config: &mut Config, declaration: Declaration) -> Result<(), NoMemory
         Declaration::Peer(name) => config.peers.push(name)?,
         Declaration::Table(shape) => config.tables.push(shape)?,
         Declaration::Filter { name, table, conds } => {
-            let table = table_at(config.tables.as_slice(), table.as_slice());
+            let table = table_at(&config.tables, table.as_slice());
             config.filters.push(Filter { name, table, conds })?
         }
         Declaration::Rank {
@@ -58,7 +51,7 @@ fn declare(config: &mut Config, declaration: Declaration) -> Result<(), NoMemory
             col,
             n,
         } => {
-            let table = table_at(config.tables.as_slice(), table.as_slice());
+            let table = table_at(&config.tables, table.as_slice());
             config.ranks.push(Rank {
                 name,
                 table,
@@ -109,10 +102,10 @@ fn opening(alloc: Global) -> Result<Config, NoMemory>
 {
     Ok(Config {
         me: Name::copy(alloc, b"-")?,
-        peers: Items::from_vec(Vec::new(alloc)),
-        tables: Items::from_vec(Vec::new(alloc)),
-        filters: Items::from_vec(Vec::new(alloc)),
-        ranks: Items::from_vec(Vec::new(alloc)),
+        peers: Declared::new(alloc),
+        tables: Declared::new(alloc),
+        filters: Declared::new(alloc),
+        ranks: Declared::new(alloc),
     })
 }
 

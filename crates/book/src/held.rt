@@ -17,7 +17,7 @@ ghost use Rattle.book.specs.Held.{GoesOn, HasMore, IsOneMore};
 use crate::machine::Machine;
 use crate::one_key::OneKey;
 use crate::queries::live_keys;
-use agg_types::{Config, Filter, Items, Key, Name, NoMemory, Select, What};
+use agg_types::{Config, Declared, Filter, Key, Name, NoMemory, Select, What};
 use peer_rows::Spot;
 use standing_filters::{Keys, Standing};
 use std::alloc::Global;
@@ -160,10 +160,10 @@ fn no_filters(alloc: Global) -> Result<Config, NoMemory>
 {
     Ok(Config {
         me: Name::copy(alloc, &[])?,
-        peers: Items::from_vec(Vec::new(alloc)),
-        tables: Items::from_vec(Vec::new(alloc)),
-        filters: Items::from_vec(Vec::new(alloc)),
-        ranks: Items::from_vec(Vec::new(alloc)),
+        peers: Declared::new(alloc),
+        tables: Declared::new(alloc),
+        filters: Declared::new(alloc),
+        ranks: Declared::new(alloc),
     })
 }
 

@@ -2,15 +2,13 @@
 
 ghost use Rattle.std.specs.Prelude.{◌≡◌, ◌<◌, ◌++◌, [], ◌∷◌, if◌then◌else◌, length};
 ghost use Rattle.std.specs.Prelude.{slice_index_or, OnOk, OnErr};
-ghost use Rattle.std.specs.List.{list_any};
-ghost use Rattle.std.specs.Str.{bytes_eq};
 ghost use Rattle.fleet_model.specs.Answers.{no_filter};
 ghost use Rattle.fleet_model.specs.Filters.{is_new};
 ghost use Rattle.fleet_model.specs.Next.{longest_period};
 ghost use Rattle.fleet_model.specs.Ranking.{no_rank};
 ghost use Rattle.fleet_model.specs.Values.{cols_of};
 
-use agg_types::{Col, Filter, Items, MOST_FILTERS, NoMemory, Rank, Shape};
+use agg_types::{Col, Declared, Filter, MOST_FILTERS, NoMemory, Rank, Shape};
 use std::alloc::Global;
 
 /// The columns of a table; none where there is no such table.
@@ -53,14 +51,14 @@ pub fn filter_at(filters: &[Filter], position: usize) -> &Filter
 /// Adds a filter behind the others, if it is new.
 pub fn add_filter(
     alloc: Global,
-    filters: &mut Items<Filter>,
+    filters: &mut Declared<Filter>,
     filter: &Filter,
 ) -> Result<(), NoMemory>
     ensures ok { OnOk result (filters.new
         ≡ (if is_new filters.old filter.now then filters.old ++ filter.now ∷ [] else filters.old)) }
     ensures err { OnErr result (filters.new ≡ filters.old) }
 {
-    if is_new(filters.as_slice(), filter) {
+    if is_new(filters, filter) {
         filters.push(filter.duplicate(alloc)?)
     } else {
         Ok(())
@@ -68,15 +66,9 @@ pub fn add_filter(
 }
 
 /// Whether a filter may be added: fewer stand than may, and none has its name.
-fn is_new(filters: &[Filter], filter: &Filter) -> bool
+fn is_new(filters: &Declared<Filter>, filter: &Filter) -> bool
     ensures { result ≡ is_new filters.now filter.now }
 {
-    let named = is_named(filters, filter.name.as_slice());
+    let named = filters.contains(filter.name.as_slice());
     filters.len() < MOST_FILTERS && !named
-}
-
-fn is_named(filters: &[Filter], name: &[u8]) -> bool
-    ensures { result ≡ list_any (λ other. bytes_eq other.name name.now) filters.now }
-{
-    filters.iter().any(|other| other.name.is(name))
 }

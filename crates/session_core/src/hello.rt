@@ -5,7 +5,7 @@ ghost use Rattle.session_core.specs.Hello.{seen, line_at, without_cr, version_fa
 ghost use Rattle.session_core.specs.Hello.{hello_of, receiver_line, sender_line, peer_of};
 
 use crate::Status;
-use agg_types::{Config, Name};
+use agg_types::{Config, Declared, Name};
 
 /// The greatest length of a line before its LF, in bytes.
 const LONGEST_LINE: usize = 256;
@@ -65,7 +65,7 @@ fn sender_line<'a>(
     let Some((line, rest)) = line_at(bytes)? else {
         return Ok(None);
     };
-    let Some(peer) = peer_of(config.peers.as_slice(), sender_of(line)) else {
+    let Some(peer) = peer_of(&config.peers, sender_of(line)) else {
         return Err(Status::RemoteName);
     };
     if !seated {
@@ -128,10 +128,10 @@ fn sender_of(line: &[u8]) -> &[u8]
     }
 }
 
-fn peer_of(peers: &[Name], sender: &[u8]) -> Option<usize>
+fn peer_of(peers: &Declared<Name>, sender: &[u8]) -> Option<usize>
     ensures { result ≡ peer_of peers.now sender.now }
 {
-    peers.iter().position(|peer| peer.is(sender))
+    peers.position(sender)
 }
 
 /// Where a byte stands first.

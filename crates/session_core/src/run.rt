@@ -8,7 +8,7 @@ ghost use Rattle.session_core.specs.Run.{Ran, run, ack_of, acks_of, settled};
 use crate::cause::End;
 use crate::track::{Entry, Heard, Track};
 use crate::undo::Change;
-use agg_types::{NoMemory, Shape, What};
+use agg_types::{Declared, NoMemory, Shape, What};
 use peers_msg::{Message, write_message};
 use std::alloc::Global;
 
@@ -17,7 +17,7 @@ use std::alloc::Global;
 /// replies are added to those that are there.
 pub(crate) fn run(
     alloc: Global,
-    tables: &[Shape],
+    tables: &Declared<Shape>,
     peer: usize,
     track: &mut Track,
     messages: &[Message],

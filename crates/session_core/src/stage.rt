@@ -20,7 +20,7 @@ use crate::hello::hello_of;
 use crate::run::{run, write_acks};
 use crate::track::Track;
 use crate::undo::Change;
-use agg_types::{Config, Items, NoMemory, Shape, What};
+use agg_types::{Config, Declared, Items, NoMemory, Shape, What};
 use peers_msg::{Feed, Given, Message, WireCause, write_message};
 use std::alloc::Global;
 
@@ -89,7 +89,7 @@ pub(crate) fn take_piece(
             let peer = dialogue.peer;
             let outcome = converse(
                 alloc,
-                config.tables.as_slice(),
+                &config.tables,
                 dialogue,
                 Vec::new(alloc),
                 Vec::new(alloc),
@@ -131,7 +131,7 @@ fn greet(
             batch: Batch::empty(alloc),
             end: None,
         }),
-        Ok(Some((peer, rest))) => open(alloc, config.tables.as_slice(), peer, rest),
+        Ok(Some((peer, rest))) => open(alloc, &config.tables, peer, rest),
         Err(status) => refuse(alloc, status),
     }
 }
@@ -165,7 +165,12 @@ fn status_text(status: Status) -> &'static [u8]
 }
 
 /// An accepted hello, and the bytes after it.
-fn open(alloc: Global, tables: &[Shape], peer: usize, rest: &[u8]) -> Result<StageOutcome, NoMemory>
+fn open(
+    alloc: Global,
+    tables: &Declared<Shape>,
+    peer: usize,
+    rest: &[u8],
+) -> Result<StageOutcome, NoMemory>
     ensures opened { IfOk result (λ outcome. outcome
         ≡ accepted_outcome tables.now (peer, rest.now)) }
     ensures settled { IfOk result (λ outcome. IsSettled outcome.stage) }
@@ -200,7 +205,7 @@ fn end_stage(stage: &mut Stage, peer: usize, end: Option<End>)
 #[tactic(auto, unfolding(crate::specs::Piece::messages_outcome))]
 fn converse(
     alloc: Global,
-    tables: &[Shape],
+    tables: &Declared<Shape>,
     dialogue: &mut Dialogue,
     facts: Vec<What>,
     replies: Vec<u8>,
@@ -231,7 +236,7 @@ fn converse(
 #[tactic(auto, unfolding(crate::specs::Piece::messages_outcome))]
 fn answer(
     alloc: Global,
-    tables: &[Shape],
+    tables: &Declared<Shape>,
     dialogue: &mut Dialogue,
     given: Given,
     facts: Vec<What>,
@@ -280,7 +285,7 @@ fn answer(
 /// of the track lead back to what it was.
 fn say(
     alloc: Global,
-    tables: &[Shape],
+    tables: &Declared<Shape>,
     peer: usize,
     track: &mut Track,
     given: &Given,

@@ -1,7 +1,6 @@
 //! What a session keeps of its sender's tables, and what a message does to it.
 
-ghost use Rattle.std.specs.Prelude.{◌≡◌, ◌≤◌, List, [], length, position, IfOk, IfSome, OnOk, true};
-ghost use Rattle.std.specs.Str.{bytes_eq};
+ghost use Rattle.std.specs.Prelude.{◌≡◌, ◌≤◌, List, [], length, IfOk, IfSome, OnOk, true};
 ghost use Rattle.std.specs.Option.{option_map};
 ghost use Rattle.agg_types.specs.declared.event.What.{What};
 ghost use Rattle.session_core.specs.Meaning.{IsTold};
@@ -18,7 +17,7 @@ use crate::kept::{Kept, take_plan};
 use crate::run::settle;
 use crate::undo::{Change, note, take_back};
 use crate::values::{TYPES, key_at, life_of, periods_of};
-use agg_types::{Cells, Col, Key, KeyKind, NoMemory, Shape, What};
+use agg_types::{Cells, Col, Declared, Key, KeyKind, NoMemory, Shape, What};
 use peers_msg::{Definition, Message, WireCause};
 use std::alloc::Global;
 
@@ -97,10 +96,10 @@ fn is_key_of(kind: KeyKind, sent: u64, len: u64) -> bool
 /// What is kept of a definition, if it is followed: its table's name is configured, and its key is
 /// that table's.
 #[tactic(auto, unfolding(crate::specs::Tracked::followed_of))]
-fn followed_of(tables: &[Shape], definition: &Definition) -> Option<Followed>
+fn followed_of(tables: &Declared<Shape>, definition: &Definition) -> Option<Followed>
     ensures { result ≡ followed_of tables.now definition.now }
 {
-    let table = table_named(tables, definition.name.as_slice())?;
+    let table = tables.position(definition.name.as_slice())?;
     let shape = tables.get(table)?;
     followed_at(table, definition, shape)
 }
@@ -120,19 +119,13 @@ fn followed_at(table: usize, definition: &Definition, shape: &Shape) -> Option<F
     })
 }
 
-fn table_named(tables: &[Shape], name: &[u8]) -> Option<usize>
-    ensures { result ≡ position (λ shape. bytes_eq shape.name name.now) tables.now }
-{
-    tables.iter().position(|shape| shape.name.is(name))
-}
-
 /// Adds the row that an update gives to the facts; false where its key or a value is cut or too
 /// large. It is read along the plan of its table, which is made where there is none.
 #[inline]
 #[tactic(auto, unfolding(crate::specs::Tracked::put_of))]
 fn tell_put(
     alloc: Global,
-    tables: &[Shape],
+    tables: &Declared<Shape>,
     peer: usize,
     followed: &Followed,
     plan: &mut Option<Kept>,
@@ -282,7 +275,7 @@ impl Track {
     }
 
     /// Takes out the plan of the table in force, if it is kept.
-    pub(crate) fn plan_now(&mut self, tables: &[Shape]) -> Option<Kept>
+    pub(crate) fn plan_now(&mut self, tables: &Declared<Shape>) -> Option<Kept>
         ensures plan { IfSome result (IsPlanNow tables.now self.old) }
         ensures same { self.new ≡ self.old }
     {
@@ -323,7 +316,7 @@ impl Track {
     pub(crate) fn step(
         &mut self,
         alloc: Global,
-        tables: &[Shape],
+        tables: &Declared<Shape>,
         peer: usize,
         plan: &mut Option<Kept>,
         message: &Message,
@@ -433,7 +426,7 @@ impl Track {
     fn update(
         &mut self,
         alloc: Global,
-        tables: &[Shape],
+        tables: &Declared<Shape>,
         peer: usize,
         plan: &mut Option<Kept>,
         id: Option<u32>,

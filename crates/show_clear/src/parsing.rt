@@ -1,8 +1,6 @@
 //! Commands from their lines.
 
-ghost use Rattle.std.specs.Prelude.{◌≡◌, ◌<◌, length, position, IfOk, IfSome};
-ghost use Rattle.std.specs.List.{list_any};
-ghost use Rattle.std.specs.Str.{bytes_eq};
+ghost use Rattle.std.specs.Prelude.{◌≡◌, ◌<◌, length, IfOk};
 ghost use Rattle.std.specs.Str.Lines.{strip_carriage_return};
 ghost use Rattle.line_words.specs.Words.{words};
 ghost use Rattle.show_clear.specs.Parse.{Tells, added, asked, at_end, cleared, command_of};
@@ -18,7 +16,7 @@ use crate::conditions::{read_conds, read_some_conds};
 use crate::fleet::Book;
 use crate::word::some_word;
 use crate::{Change, Command, CommandFault, Question};
-use agg_types::{Filter, KeyKind, MOST_FILTERS, Name, Rank, Select, Shape, is_name};
+use agg_types::{Filter, KeyKind, MOST_FILTERS, Name, Select, Shape, is_name};
 use key_text::read_key;
 use line_words::next_word;
 use std::alloc::Global;
@@ -111,40 +109,30 @@ fn table_named(book: &Book, name: &[u8]) -> Result<usize, CommandFault>
     ensures read { result ≡ table_named book.now name.now }
     ensures within { IfOk result (λ table. table < length book.now.config.tables) }
 {
-    table_place(book.config().tables.as_slice(), name).ok_or(CommandFault::NoTable)
+    book.config()
+        .tables
+        .position(name)
+        .ok_or(CommandFault::NoTable)
 }
 
 // The position of a standing filter.
 fn filter_named(book: &Book, name: &[u8]) -> Result<usize, CommandFault>
     ensures { result ≡ filter_named book.now name.now }
 {
-    filter_place(book.config().filters.as_slice(), name).ok_or(CommandFault::NoTable)
+    book.config()
+        .filters
+        .position(name)
+        .ok_or(CommandFault::NoTable)
 }
 
 // The position of a ranked list.
 fn rank_named(book: &Book, name: &[u8]) -> Result<usize, CommandFault>
     ensures { result ≡ rank_named book.now name.now }
 {
-    rank_place(book.config().ranks.as_slice(), name).ok_or(CommandFault::NoTable)
-}
-
-fn table_place(tables: &[Shape], name: &[u8]) -> Option<usize>
-    ensures place { result ≡ position (λ shape. bytes_eq shape.name name.now) tables.now }
-    ensures within { IfSome result (λ place. place < length tables.now) }
-{
-    tables.iter().position(|shape| shape.name.is(name))
-}
-
-fn filter_place(filters: &[Filter], name: &[u8]) -> Option<usize>
-    ensures { result ≡ position (λ filter. bytes_eq filter.name name.now) filters.now }
-{
-    filters.iter().position(|filter| filter.name.is(name))
-}
-
-fn rank_place(ranks: &[Rank], name: &[u8]) -> Option<usize>
-    ensures { result ≡ position (λ rank. bytes_eq rank.name name.now) ranks.now }
-{
-    ranks.iter().position(|rank| rank.name.is(name))
+    book.config()
+        .ranks
+        .position(name)
+        .ok_or(CommandFault::NoTable)
 }
 
 // No further word may follow.
@@ -258,11 +246,11 @@ fn parse_add_filter(alloc: Global, book: &Book, line: &[u8]) -> Result<Change, C
 fn check_new_name(book: &Book, name: &[u8]) -> Result<(), CommandFault>
     ensures { result ≡ new_name book.now name.now }
 {
-    let filters = book.config().filters.as_slice();
+    let filters = &book.config().filters;
     if !is_name(name) {
         return Err(CommandFault::BadName);
     }
-    if is_named(filters, name) {
+    if filters.contains(name) {
         return Err(CommandFault::Exists);
     }
     if filters.len() < MOST_FILTERS {
@@ -270,12 +258,6 @@ fn check_new_name(book: &Book, name: &[u8]) -> Result<(), CommandFault>
     } else {
         Err(CommandFault::Full)
     }
-}
-
-fn is_named(filters: &[Filter], name: &[u8]) -> bool
-    ensures { result ≡ list_any (λ other. bytes_eq other.name name.now) filters.now }
-{
-    filters.iter().any(|other| other.name.is(name))
 }
 
 // The filter of this name, from its table and conditions.
