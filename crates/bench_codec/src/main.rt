@@ -6,7 +6,7 @@
 
 ghost use Rattle.std.specs.Prelude.{◌<◌};
 
-use agg_types::{Col, Config, Items, KeyKind, Name, Shape};
+use agg_types::{Col, Config, Declared, Items, KeyKind, Name, Shape};
 use anyhow::Result;
 use peers_msg::{Feed, put_int};
 use session_core::Session;
@@ -72,9 +72,9 @@ fn stream(alloc: Global, values: &[u8]) -> Result<Vec<u8>> {
 
 /// The collector `agg` of the peer `lb1`, with the table `t` of these columns.
 fn config(alloc: Global, cols: &[(Col, u32)]) -> Result<Config> {
-    let mut peers = Vec::new(alloc);
+    let mut peers = Declared::new(alloc);
     peers.push(Name::copy(alloc, b"lb1")?)?;
-    let mut tables = Vec::new(alloc);
+    let mut tables = Declared::new(alloc);
     tables.push(Shape {
         name: Name::copy(alloc, b"t")?,
         kind: KeyKind::Ip,
@@ -83,10 +83,10 @@ fn config(alloc: Global, cols: &[(Col, u32)]) -> Result<Config> {
     })?;
     Ok(Config {
         me: Name::copy(alloc, b"agg")?,
-        peers: Items::from_vec(peers),
-        tables: Items::from_vec(tables),
-        filters: Items::from_vec(Vec::new(alloc)),
-        ranks: Items::from_vec(Vec::new(alloc)),
+        peers,
+        tables,
+        filters: Declared::new(alloc),
+        ranks: Declared::new(alloc),
     })
 }
 

@@ -1,7 +1,7 @@
 //! What proxies send: which updates, of which keys, and what stands at the collector meanwhile.
 
 use crate::asking::Standing;
-use agg_types::{Col, Config, Items, Key, KeyKind, Name, Shape};
+use agg_types::{Col, Config, Declared, Items, Key, KeyKind, Name, Shape};
 use anyhow::Result;
 use std::alloc::Global;
 
@@ -42,10 +42,10 @@ impl Load {
     pub fn config(self, alloc: Global) -> Result<Config> {
         let mut config = Config {
             me: Name::copy(alloc, b"agg")?,
-            peers: Items::from_vec(Vec::new(alloc)),
-            tables: Items::from_vec(Vec::new(alloc)),
-            filters: Items::from_vec(Vec::new(alloc)),
-            ranks: Items::from_vec(Vec::new(alloc)),
+            peers: Declared::new(alloc),
+            tables: Declared::new(alloc),
+            filters: Declared::new(alloc),
+            ranks: Declared::new(alloc),
         };
         for peer in 0..self.peers {
             config.peers.push(Name::copy(alloc, &peer_name(peer))?)?;

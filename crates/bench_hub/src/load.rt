@@ -1,6 +1,8 @@
 //! What the proxies of a run send: updates of an address, two counts and a rate, in batches.
 
-use agg_types::{Cell, Cells, Col, Config, Items, Key, KeyKind, Name, NoMemory, Shape, What};
+use agg_types::{
+    Cell, Cells, Col, Config, Declared, Items, Key, KeyKind, Name, NoMemory, Shape, What,
+};
 use anyhow::Result;
 use std::alloc::Global;
 use std::fmt;
@@ -46,10 +48,10 @@ pub fn config(alloc: Global) -> Result<Config> {
     };
     let mut config = Config {
         me: Name::copy(alloc, b"agg")?,
-        peers: Items::from_vec(Vec::new(alloc)),
-        tables: Items::from_vec(Vec::new(alloc)),
-        filters: Items::from_vec(Vec::new(alloc)),
-        ranks: Items::from_vec(Vec::new(alloc)),
+        peers: Declared::new(alloc),
+        tables: Declared::new(alloc),
+        filters: Declared::new(alloc),
+        ranks: Declared::new(alloc),
     };
     for name in [b"lb1", b"lb2", b"lb3", b"lb4"] {
         config.peers.push(Name::copy(alloc, name)?)?;

@@ -1,8 +1,8 @@
 //! The fleet that is asked: two proxies, and tables of each kind of keys.
 
 use agg_types::{
-    Cell, Cells, Col, Cond, Config, Filter, Items, Key, KeyKind, Name, NoMemory, Op, Rank, Shape,
-    What,
+    Cell, Cells, Col, Cond, Config, Declared, Filter, Items, Key, KeyKind, Name, NoMemory, Op,
+    Rank, Shape, What,
 };
 use anyhow::Result;
 use book::Book;
@@ -47,10 +47,10 @@ fn shape(
     })
 }
 
-fn tables(alloc: Global) -> Result<Items<Shape>, NoMemory> {
+fn tables(alloc: Global) -> Result<Declared<Shape>, NoMemory> {
     let count = [(Col::Gpc0, 0)];
     let both = [(Col::Gpc0, 0), (Col::HttpReqRate, 1000)];
-    let mut tables = Items::from_vec(Vec::new(alloc));
+    let mut tables = Declared::new(alloc);
     tables.push(shape(alloc, b"t", KeyKind::Ip, &both)?)?;
     tables.push(shape(alloc, b"i", KeyKind::Integer, &count)?)?;
     tables.push(shape(alloc, b"v6", KeyKind::Ipv6, &count)?)?;
@@ -61,13 +61,13 @@ fn tables(alloc: Global) -> Result<Items<Shape>, NoMemory> {
 }
 
 // The filter f of the first table, by a rate that has come down from 3 by the moment 1.
-fn filters(alloc: Global) -> Result<Items<Filter>, NoMemory> {
+fn filters(alloc: Global) -> Result<Declared<Filter>, NoMemory> {
     let cond = Cond {
         col: Col::HttpReqRate,
         op: Op::Ge,
         bound: 3,
     };
-    let mut filters = Items::from_vec(Vec::new(alloc));
+    let mut filters = Declared::new(alloc);
     filters.push(Filter {
         name: Name::copy(alloc, b"f")?,
         table: 0,
@@ -86,10 +86,10 @@ fn rank(alloc: Global, name: &[u8], col: Col) -> Result<Rank, NoMemory> {
 }
 
 fn config(alloc: Global) -> Result<Config, NoMemory> {
-    let mut peers = Items::from_vec(Vec::new(alloc));
+    let mut peers = Declared::new(alloc);
     peers.push(Name::copy(alloc, b"lb1")?)?;
     peers.push(Name::copy(alloc, b"lb2")?)?;
-    let mut ranks = Items::from_vec(Vec::new(alloc));
+    let mut ranks = Declared::new(alloc);
     ranks.push(rank(alloc, b"top", Col::Gpc0)?)?;
     ranks.push(rank(alloc, b"fast", Col::HttpReqRate)?)?;
     Ok(Config {

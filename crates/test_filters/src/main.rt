@@ -10,7 +10,7 @@ ghost use Rattle.std.specs.List.{All};
 
 mod pair;
 
-use agg_types::{Col, Cond, Config, Filter, Items, Key, Name, NoMemory, Op};
+use agg_types::{Col, Cond, Config, Declared, Filter, Items, Key, Name, NoMemory, Op};
 use anyhow::Result;
 use pair::Pair;
 use period_rate::Rate;
@@ -65,14 +65,14 @@ fn config(alloc: Global, conds: &[Cond]) -> Result<Config, NoMemory>
     requires { length conds.now ≤ 4 }
     ensures { IfOk result (λ config. All (λ filter. length filter.conds ≤ 4) config.filters) }
 {
-    let mut filters = Vec::new(alloc);
+    let mut filters = Declared::new(alloc);
     filters.push(filter(alloc, conds)?)?;
     Ok(Config {
         me: Name::copy(alloc, b"agg")?,
-        peers: Items::from_vec(Vec::new(alloc)),
-        tables: Items::from_vec(Vec::new(alloc)),
-        filters: Items::from_vec(filters),
-        ranks: Items::from_vec(Vec::new(alloc)),
+        peers: Declared::new(alloc),
+        tables: Declared::new(alloc),
+        filters,
+        ranks: Declared::new(alloc),
     })
 }
 

@@ -1,6 +1,6 @@
 //! The fleet that the rows are of, and what its proxies say.
 
-use agg_types::{Cell, Cells, Col, Config, Items, Key, KeyKind, Name, Shape, What};
+use agg_types::{Cell, Cells, Col, Config, Declared, Items, Key, KeyKind, Name, Shape, What};
 use anyhow::Result;
 use hub::Opening;
 use std::alloc::Global;
@@ -15,10 +15,10 @@ fn config(alloc: Global) -> Result<Config> {
     };
     let mut config = Config {
         me: Name::copy(alloc, b"agg")?,
-        peers: Items::from_vec(Vec::new(alloc)),
-        tables: Items::from_vec(Vec::new(alloc)),
-        filters: Items::from_vec(Vec::new(alloc)),
-        ranks: Items::from_vec(Vec::new(alloc)),
+        peers: Declared::new(alloc),
+        tables: Declared::new(alloc),
+        filters: Declared::new(alloc),
+        ranks: Declared::new(alloc),
     };
     config.peers.push(Name::copy(alloc, b"lb1")?)?;
     config.peers.push(Name::copy(alloc, b"lb2")?)?;

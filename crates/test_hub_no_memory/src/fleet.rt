@@ -2,8 +2,8 @@
 //! has.
 
 use agg_types::{
-    Cell, Cells, Col, Cond, Config, Filter, Items, Key, KeyKind, Name, NoMemory, Op, Rank, Select,
-    Shape, What,
+    Cell, Cells, Col, Cond, Config, Declared, Filter, Items, Key, KeyKind, Name, NoMemory, Op,
+    Rank, Select, Shape, What,
 };
 use anyhow::Result;
 use hub::Opening;
@@ -28,10 +28,10 @@ pub enum Batch {
 fn config(alloc: Global) -> Result<Config, NoMemory> {
     let mut config = Config {
         me: Name::copy(alloc, b"agg")?,
-        peers: Items::from_vec(Vec::new(alloc)),
-        tables: Items::from_vec(Vec::new(alloc)),
-        filters: Items::from_vec(Vec::new(alloc)),
-        ranks: Items::from_vec(Vec::new(alloc)),
+        peers: Declared::new(alloc),
+        tables: Declared::new(alloc),
+        filters: Declared::new(alloc),
+        ranks: Declared::new(alloc),
     };
     config.peers.push(Name::copy(alloc, b"lb1")?)?;
     config.peers.push(Name::copy(alloc, b"lb2")?)?;

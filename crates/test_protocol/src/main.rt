@@ -10,7 +10,7 @@
 
 ghost use Rattle.std.specs.Prelude.{◌<◌};
 
-use agg_types::{Col, Config, Items, KeyKind, Name, NoMemory, Shape, What};
+use agg_types::{Col, Config, Declared, Items, KeyKind, Name, NoMemory, Shape, What};
 use anyhow::{Context, Result};
 use bytes::Bytes;
 use peers_msg::{Definition, Feed, Message, WireCause, WireFault, get_int, put_int, write_message};
@@ -32,19 +32,19 @@ fn table(alloc: Global, name: &[u8], kind: KeyKind, cols: &[(Col, u32)]) -> Resu
 /// The collector `agg` of the peer `lb1`, with the tables `t` of a count by address, `r` of a rate
 /// by integer, and `s` of a narrow and a wide count by text.
 fn config(alloc: Global) -> Result<Config> {
-    let mut peers = Vec::new(alloc);
+    let mut peers = Declared::new(alloc);
     peers.push(Name::copy(alloc, b"lb1")?)?;
     let wide = [(Col::ConnCnt, 0), (Col::BytesInCnt, 0)];
-    let mut tables = Vec::new(alloc);
+    let mut tables = Declared::new(alloc);
     tables.push(table(alloc, b"t", KeyKind::Ip, &[(Col::Gpc0, 0)])?)?;
     tables.push(table(alloc, b"r", KeyKind::Integer, &[(Col::HttpReqRate, 10_000)])?)?;
     tables.push(table(alloc, b"s", KeyKind::Str(8), &wide)?)?;
     Ok(Config {
         me: Name::copy(alloc, b"agg")?,
-        peers: Items::from_vec(peers),
-        tables: Items::from_vec(tables),
-        filters: Items::from_vec(Vec::new(alloc)),
-        ranks: Items::from_vec(Vec::new(alloc)),
+        peers,
+        tables,
+        filters: Declared::new(alloc),
+        ranks: Declared::new(alloc),
     })
 }
 
