@@ -2,10 +2,11 @@
 use Rattle.std.specs.Prelude.{◌≡◌, ◌≢◌, ℕ, ◌+◌, ◌<◌, ◌≤◌, Bool, true, false, ◌&&◌, ◌||◌, not}
 use Rattle.std.specs.Prelude.{if◌then◌else◌, List, [], ◌∷◌}
 use Rattle.std.specs.Prelude.{◌++◌, length, take, map, fold, position, unwrap_or, slice_get}
-use Rattle.std.specs.Prelude.{slice_index_or, Option, None, Some, Result, Ok, Err}
+use Rattle.std.specs.Prelude.{slice_index_or, codes, Option, None, Some, Result, Ok, Err}
 use Rattle.std.specs.List.{list_any}
 use Rattle.std.specs.Str.{bytes_eq}
 use Rattle.agg_types.specs.Check.{config_faults, fault_if}
+use Rattle.agg_types.specs.FaultName.{config_fault_name}
 use Rattle.agg_types.specs.declared.check.ConfigFault.{ConfigFault}
 use Rattle.agg_types.specs.declared.check.ConfigFault.TheVariants.{Duplicate}
 use Rattle.agg_types.specs.declared.config.Config.{Config}
@@ -52,6 +53,13 @@ is_me (Peer name) = false
 is_me (Table shape) = false
 is_me (Filter name table conds) = false
 is_me (Rank name table col n) = false
+
+-- a cause's name
+abbrev pub cause_name : LineCause → List ℕ
+cause_name Syntax = codes "Syntax"
+cause_name Number = codes "Number"
+cause_name (Check fault) = config_fault_name fault
+cause_name NoMemory = codes "NoMemory"
 
 -- a word that had to be a number and is none has a cause of its own
 abbrev pub is_number : Expected → Bool

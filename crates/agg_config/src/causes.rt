@@ -1,5 +1,5 @@
 ghost use Rattle.std.specs.Prelude.{◌≡◌, None};
-ghost use Rattle.agg_config.specs.Reading.{cause_of, wrong_of};
+ghost use Rattle.agg_config.specs.Reading.{cause_name, cause_of, wrong_of};
 ghost use Rattle.agg_config.specs.declared.causes.Unread.TheVariants.{NoMemory as Refused};
 ghost use Rattle.agg_config.specs.declared.causes.Unread.TheVariants.{Misread as Wrongly};
 ghost use Rattle.agg_config.specs.declared.causes.Wrong.{Wrong};
@@ -8,24 +8,44 @@ ghost use Rattle.agg_config.specs.declared.causes.LineCause.TheVariants.{NoMemor
 use agg_types::{ConfigFault, NoMemory};
 use line_words::{Expected, Misread};
 use std::alloc::AllocFailed;
-use thiserror::Error;
+use std::error::Error;
+use std::fmt;
 
 /// What is wrong with a line of a configuration. Its text is what is printed of it.
-#[derive(Clone, Copy, Debug, PartialEq, Eq, Error)]
+#[derive(Clone, Copy, Debug, PartialEq, Eq)]
 pub enum LineCause {
     /// An unknown word, column or operator, a missing word or one too many.
-    #[error("Syntax")]
     Syntax,
     /// A word that has to be a number isn't 1 to 20 decimal digits up to 2^64 - 1.
-    #[error("Number")]
     Number,
     /// What the line declares doesn't go with the lines before it.
-    #[error("{0}")]
     Check(ConfigFault),
     /// An allocation failed.
-    #[error("NoMemory")]
     NoMemory,
 }
+
+impl LineCause {
+    /// Its name, which is its text.
+    pub fn name(self) -> &'static str
+        ensures { result.now ≡ cause_name self }
+    {
+        match self {
+            LineCause::Syntax => "Syntax",
+            LineCause::Number => "Number",
+            LineCause::Check(fault) => fault.name(),
+            LineCause::NoMemory => "NoMemory",
+        }
+    }
+}
+
+impl fmt::Display for LineCause {
+    fn fmt<W: fmt::Write>(&self, f: &mut fmt::Formatter<W>) -> fmt::Result {
+        let name = self.name();
+        write!(f, "{name}")
+    }
+}
+
+impl Error for LineCause {}
 
 /// The first faulty line of a configuration, counted from 1, and its first fault: Syntax before
 /// Number before Check.

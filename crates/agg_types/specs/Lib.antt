@@ -1,6 +1,7 @@
 pub mod Cells
 pub mod Check
 pub mod Col
+pub mod FaultName
 pub mod Fits
 pub mod Key
 pub mod Name

@@ -2,13 +2,15 @@ ghost use Rattle.std.specs.Prelude.{◌≡◌, [], map};
 ghost use Rattle.std.specs.List.{list_all, list_any};
 ghost use Rattle.std.specs.Str.{bytes_eq};
 ghost use Rattle.agg_types.specs.Col.{col_id};
+ghost use Rattle.agg_types.specs.FaultName.{config_fault_name};
 ghost use Rattle.agg_types.specs.Check.{FindsFirst, ascends, config_faults, each, filter_faults};
 ghost use Rattle.agg_types.specs.Check.{is_within, len_fits, peer_faults, period_fits, rank_faults};
 ghost use Rattle.agg_types.specs.Check.{table_faults};
 
 use crate::fits::{MOST_CONDS, all_stored};
 use crate::{Col, Config, Declared, Filter, KeyKind, Name, Named, Rank, Shape};
-use thiserror::Error;
+use std::error::Error;
+use std::fmt;
 
 /// The most peers of a fleet.
 pub const MOST_PEERS: usize = 256;
@@ -35,30 +37,49 @@ const LONGEST_RANK: u64 = 1000;
 const PERIOD_END: u32 = 1 << 31;
 
 /// What is wrong with a configuration. Its text is its name.
-#[derive(Clone, Copy, Debug, PartialEq, Eq, Error)]
+#[derive(Clone, Copy, Debug, PartialEq, Eq)]
 pub enum ConfigFault {
     /// A name stands twice among its kind, or a table's columns don't ascend.
-    #[error("Duplicate")]
     Duplicate,
     /// More peers, tables, filters, conditions or ranked lists than there may be.
-    #[error("TooMany")]
     TooMany,
     /// A filter or a ranked list of a table that isn't there.
-    #[error("UnknownTable")]
     UnknownTable,
     /// A condition or a ranked list on a column that its table doesn't store.
-    #[error("UnknownColumn")]
     UnknownColumn,
     /// A rate without a period of 1 to 2^31 - 1 ms, or a count with one.
-    #[error("BadPeriod")]
     BadPeriod,
     /// A table's size or key length, a list's length or a filter's conditions out of range.
-    #[error("BadSize")]
     BadSize,
     /// A name that is empty, has more than 128 bytes, or a byte outside 33 to 126.
-    #[error("BadName")]
     BadName,
 }
+
+impl ConfigFault {
+    /// Its name, which is its text.
+    pub fn name(self) -> &'static str
+        ensures { result.now ≡ config_fault_name self }
+    {
+        match self {
+            ConfigFault::Duplicate => "Duplicate",
+            ConfigFault::TooMany => "TooMany",
+            ConfigFault::UnknownTable => "UnknownTable",
+            ConfigFault::UnknownColumn => "UnknownColumn",
+            ConfigFault::BadPeriod => "BadPeriod",
+            ConfigFault::BadSize => "BadSize",
+            ConfigFault::BadName => "BadName",
+        }
+    }
+}
+
+impl fmt::Display for ConfigFault {
+    fn fmt<W: fmt::Write>(&self, f: &mut fmt::Formatter<W>) -> fmt::Result {
+        let name = self.name();
+        write!(f, "{name}")
+    }
+}
+
+impl Error for ConfigFault {}
 
 impl Config {
     /// Whether the configuration is sound. The fault is the first, in the order of the collector's
