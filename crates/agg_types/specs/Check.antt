@@ -7,6 +7,9 @@ use Rattle.agg_types.specs.Col.{col_id, is_rate}
 use Rattle.agg_types.specs.Fits.{at_table, stores}
 use Rattle.agg_types.specs.Name.{is_name}
 use Rattle.agg_types.specs.declared.column.Col.{Col}
+use Rattle.agg_types.specs.declared.limits.TheConstants.{LARGEST_SIZE, LONGEST_KEY, LONGEST_RANK}
+use Rattle.agg_types.specs.declared.limits.TheConstants.{MOST_CONDS, MOST_FILTERS, MOST_PEERS}
+use Rattle.agg_types.specs.declared.limits.TheConstants.{MOST_RANKS, MOST_TABLES, PERIOD_END}
 use Rattle.agg_types.specs.declared.config.Config.{Config}
 use Rattle.agg_types.specs.declared.config.Filter.{Filter}
 use Rattle.agg_types.specs.declared.config.KeyKind.{KeyKind}
@@ -32,7 +35,7 @@ each faults before (entry ∷ entries) = faults before entry
 -- the faults of a peer, which are told by those before it
 unfoldable pub peer_faults : List (List ℕ) → List ℕ → List ConfigFault
 peer_faults before name =
-    fault_if (nat_le 256 (length before)) TooMany
+    fault_if (nat_le MOST_PEERS (length before)) TooMany
     ++ fault_if (not (is_name name)) BadName
     ++ fault_if (list_any (λ other. bytes_eq other name) before) Duplicate
 
@@ -48,16 +51,16 @@ ascends (first ∷ rest) = ascends_above first rest
 
 -- a rate has a period of 1 to 2^31 - 1 ms, a count none
 abbrev pub period_fits : Col × ℕ → Bool
-period_fits col = if is_rate col.0 then nat_le 1 col.1 && nat_lt col.1 (2 ^ 31) else (col.1 == 0)
+period_fits col = if is_rate col.0 then nat_le 1 col.1 && nat_lt col.1 PERIOD_END else (col.1 == 0)
 
 -- 1 to the most that there may be
 abbrev pub is_within : ℕ → ℕ → Bool
 is_within number most = nat_le 1 number && nat_le number most
 
--- 1 to 256 bytes, where the length is told
+-- a length that keys may have, where it is told
 abbrev pub len_fits : KeyKind → Bool
-len_fits (Str len) = is_within len 256
-len_fits (Binary len) = is_within len 256
+len_fits (Str len) = is_within len LONGEST_KEY
+len_fits (Binary len) = is_within len LONGEST_KEY
 len_fits Integer = true
 len_fits Ip = true
 len_fits Ipv6 = true
@@ -65,17 +68,17 @@ len_fits Ipv6 = true
 -- the faults of a table, which are told by those before it
 unfoldable pub table_faults : List Shape → Shape → List ConfigFault
 table_faults before shape =
-    fault_if (nat_le 16 (length before)) TooMany
+    fault_if (nat_le MOST_TABLES (length before)) TooMany
     ++ fault_if (not (is_name shape.name)) BadName
     ++ fault_if (list_any (λ other. bytes_eq other.name shape.name) before
     || not (ascends (map (λ col. col_id col.0) shape.cols))) Duplicate
     ++ fault_if (not (list_all period_fits shape.cols)) BadPeriod
-    ++ fault_if (not (is_within shape.size 1000000 && len_fits shape.kind)) BadSize
+    ++ fault_if (not (is_within shape.size LARGEST_SIZE && len_fits shape.kind)) BadSize
 
 -- the faults of a filter, which are told by those before it
 unfoldable pub filter_faults : List Shape → List Filter → Filter → List ConfigFault
 filter_faults tables before filter =
-    fault_if (nat_le 32 (length before) || nat_lt 4 (length filter.conds)) TooMany
+    fault_if (nat_le MOST_FILTERS (length before) || nat_lt MOST_CONDS (length filter.conds)) TooMany
     ++ fault_if (not (is_name filter.name)) BadName
     ++ fault_if (list_any (λ other. bytes_eq other.name filter.name) before) Duplicate
     ++ fault_if (is_none (slice_get tables filter.table)) UnknownTable
@@ -86,13 +89,13 @@ filter_faults tables before filter =
 -- the faults of a ranked list, which are told by those before it
 unfoldable pub rank_faults : List Shape → List Rank → Rank → List ConfigFault
 rank_faults tables before rank =
-    fault_if (nat_le 16 (length before)) TooMany
+    fault_if (nat_le MOST_RANKS (length before)) TooMany
     ++ fault_if (not (is_name rank.name)) BadName
     ++ fault_if (list_any (λ other. bytes_eq other.name rank.name) before) Duplicate
     ++ fault_if (is_none (slice_get tables rank.table)) UnknownTable
     ++ fault_if (not (at_table tables rank.table (λ shape. stores shape.cols rank.col)))
     UnknownColumn
-    ++ fault_if (not (is_within rank.n 1000)) BadSize
+    ++ fault_if (not (is_within rank.n LONGEST_RANK)) BadSize
 
 -- the faults of a configuration, in the order in which they count
 abbrev pub config_faults : Config → List ConfigFault

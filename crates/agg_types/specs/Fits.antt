@@ -6,6 +6,7 @@ use Rattle.agg_types.specs.Col.{is_rate, is_wide, same_col}
 use Rattle.agg_types.specs.Name.{is_name}
 use Rattle.agg_types.specs.declared.column.Col.{Col}
 use Rattle.agg_types.specs.declared.config.Config.{Config}
+use Rattle.agg_types.specs.declared.limits.TheConstants.{LAST_MOMENT, MOST_CONDS}
 use Rattle.agg_types.specs.declared.config.Cond.{Cond}
 use Rattle.agg_types.specs.declared.config.Filter.{Filter}
 use Rattle.agg_types.specs.declared.config.Shape.{Shape}
@@ -44,9 +45,9 @@ cells_fit (col ∷ cols) (cell ∷ cells) = cell_fits col.0 cell && cells_fit co
 abbrev pub stores : List (Col × ℕ) → Col → Bool
 stores cols col = list_any (λ stored. same_col stored.0 col) cols
 
--- one to four conditions, each on a stored column
+-- conditions, as many as there may be, each on a stored column
 abbrev pub conds_fit : List (Col × ℕ) → List Cond → Bool
-conds_fit cols conds = nat_le 1 (length conds) && nat_le (length conds) 4
+conds_fit cols conds = nat_le 1 (length conds) && nat_le (length conds) MOST_CONDS
     && list_all (λ cond. stores cols cond.col) conds
 
 -- whether a table has such keys or columns
@@ -78,5 +79,5 @@ fits config (Put peer table key life cells) =
     (λ shape. key_fits shape.kind key && cells_fit shape.cols cells)
 fits config (Clear table sel) = at_table config.tables table (λ shape. select_fits shape sel)
 fits config (AddFilter filter) = filter_fits config.tables filter
-fits config (Moment moment) = nat_le moment (2 ^ 62)
+fits config (Moment moment) = nat_le moment LAST_MOMENT
 fits config Leave = true

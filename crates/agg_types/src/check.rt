@@ -7,34 +7,14 @@ ghost use Rattle.agg_types.specs.Check.{FindsFirst, ascends, config_faults, each
 ghost use Rattle.agg_types.specs.Check.{is_within, len_fits, peer_faults, period_fits, rank_faults};
 ghost use Rattle.agg_types.specs.Check.{table_faults};
 
-use crate::fits::{MOST_CONDS, all_stored};
+use crate::fits::all_stored;
+use crate::limits::{
+    LARGEST_SIZE, LONGEST_KEY, LONGEST_RANK, MOST_CONDS, MOST_FILTERS, MOST_PEERS, MOST_RANKS,
+    MOST_TABLES, PERIOD_END,
+};
 use crate::{Col, Config, Declared, Filter, KeyKind, Name, Named, Rank, Shape};
 use std::error::Error;
 use std::fmt;
-
-/// The most peers of a fleet.
-pub const MOST_PEERS: usize = 256;
-
-/// The most tables.
-pub const MOST_TABLES: usize = 16;
-
-/// The most standing filters, configured and added.
-pub const MOST_FILTERS: usize = 32;
-
-/// The most ranked lists.
-pub const MOST_RANKS: usize = 16;
-
-/// The longest key of a string or binary table, in bytes.
-const LONGEST_KEY: u64 = 256;
-
-/// The most rows of one peer in one table.
-const LARGEST_SIZE: u64 = 1_000_000;
-
-/// The longest ranked list.
-const LONGEST_RANK: u64 = 1000;
-
-/// The first period, in ms, that is too long.
-const PERIOD_END: u32 = 1 << 31;
 
 /// What is wrong with a configuration. Its text is its name.
 #[derive(Clone, Copy, Debug, PartialEq, Eq)]

@@ -1,8 +1,5 @@
 use crate::{Cells, Cond, Filter, Items, Key};
 
-/// The greatest number that a seat may have. The numbers of a seat's events stay below it.
-pub const LAST_SEAT: u64 = 1 << 62;
-
 /// A cell of a row as it comes: a count, or a rate with the ms elapsed in its current period and
 /// the events of the current and of the previous period.
 #[derive(Clone, Copy, Debug, PartialEq, Eq)]

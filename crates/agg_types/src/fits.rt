@@ -3,13 +3,8 @@ ghost use Rattle.std.specs.List.{list_all};
 ghost use Rattle.agg_types.specs.Fits.{key_fits, cell_fits, cells_fit, stores, conds_fit};
 ghost use Rattle.agg_types.specs.Fits.{select_fits, at_table, life_fits, filter_fits, fits};
 
+use crate::limits::{LAST_MOMENT, MOST_CONDS};
 use crate::{Cell, Col, Cond, Config, Filter, Key, KeyKind, Select, Shape, What};
-
-/// The greatest moment, in ms.
-pub const LAST_MOMENT: u64 = 1 << 62;
-
-/// The most conditions of a filter or of a command.
-pub const MOST_CONDS: usize = 4;
 
 impl Config {
     /// Whether something may happen in this configuration: its positions are in range, its key has

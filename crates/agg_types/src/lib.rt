@@ -22,20 +22,24 @@ mod fits;
 mod items;
 mod key;
 pub mod laws;
+pub mod limits;
 mod name;
 mod no_memory;
 mod place;
 mod short_key;
 
 pub use cells::Cells;
-pub use check::{ConfigFault, MOST_FILTERS, MOST_PEERS, MOST_RANKS, MOST_TABLES};
+pub use check::ConfigFault;
 pub use column::{COLUMNS, Col, ColInfo, ColKind};
 pub use config::{Cond, Config, Filter, KeyKind, Op, Rank, Shape};
 pub use declared::{Declared, Named};
-pub use event::{Cell, Event, LAST_SEAT, Select, What};
-pub use fits::{LAST_MOMENT, MOST_CONDS};
+pub use event::{Cell, Event, Select, What};
 pub use items::Items;
 pub use key::Key;
+pub use limits::{
+    LAST_MOMENT, LAST_SEAT, MOST_CONDS, MOST_FILTERS, MOST_PEERS, MOST_RANKS, MOST_SEATS,
+    MOST_TABLES,
+};
 pub use name::{Name, is_name};
 pub use no_memory::NoMemory;
 pub use place::Place;

@@ -3,12 +3,10 @@ ghost use Rattle.std.specs.List.{list_all};
 ghost use Rattle.std.specs.Str.{bytes_eq};
 ghost use Rattle.agg_types.specs.Name.{is_name, is_printable};
 
+use crate::limits::LONGEST_NAME;
 use crate::{Items, Named, NoMemory};
 use std::alloc::Global;
 use std::marker::Model;
-
-/// The greatest length of a name, in bytes.
-pub const LONGEST_NAME: usize = 128;
 
 /// The name of the collector, a peer, a table, a filter or a ranked list.
 #[derive(Debug, Drop)]
