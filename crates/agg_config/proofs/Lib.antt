@@ -1,3 +1,4 @@
 pub mod Conditions
 pub mod Each
 pub mod Lines
+pub mod Ordered

@@ -4,16 +4,18 @@
 //! For the programs, which read it before they serve or replay. `read` answers the configuration
 //! that the text writes, or the first faulty line with what is wrong with it, exactly; what each
 //! line means, and when it is faulty behind the lines before it, is said in specs/ of whole lists
-//! of words and lines. No clause says that there is memory; the texts of the faults are only
-//! tested.
+//! of words and lines. A fault has its line, its cause, and the word that is wrong or missing with
+//! what had to stand there. No clause says that there is memory.
 #![tactic(auto)]
 
 mod causes;
 mod columns;
 mod declarations;
 mod filters;
+mod laws;
 mod reader;
 
 pub(crate) use causes::Unread;
 pub use causes::{LineCause, LineFault};
+pub use laws::in_order_keeps;
 pub use reader::read;
