@@ -6,7 +6,7 @@
 ghost use Rattle.std.specs.Prelude.{IfOk};
 ghost use Rattle.show_clear.specs.Answer.{NamesStand};
 
-use agg_types::{NoMemory, What};
+use agg_types::What;
 use anyhow::{Result, ensure};
 use book::Book;
 use show_clear::{Command, CommandFault, answer, parse, refusal};
@@ -47,14 +47,6 @@ pub fn refused(fault: &CommandFault, before: &[u8], out: &mut Vec<u8>) -> Result
         refusal(fault, out)?;
     }
     Ok(())
-}
-
-/// What a command changes, if it changes anything.
-pub fn changed(alloc: Global, command: &Command) -> Result<Option<What>, NoMemory> {
-    match command.change(alloc) {
-        Err(NoMemory) => command.change(alloc),
-        made => made,
-    }
 }
 
 /// Does what a command asks for, as the next event of a seat.

@@ -74,7 +74,7 @@ fn ask(
         }
         Ok(command) => {
             again::answered(alloc, book, &command, before, out)?;
-            let Some(what) = again::changed(alloc, &command)? else {
+            let Some(what) = command.into_event() else {
                 return Ok(false);
             };
             again::taken(book, fleet::SEAT, seq, &what)?;
