@@ -128,7 +128,7 @@ handed_on f g config opening past step are links connected front queued =
       own = record { first = are.gone; split = sym queued.own ∙ are.split };
     }
 
--- want of memory before anything is queued
+-- `NoMemory` before anything is queued
 pub kept : (f g : Collected) (config : Config) (opening : ℕ) (past : List Step)
     → AreHandedOver f.waiting f.book g.waiting g.book → g.links ≡ f.links
     → g.connected ≡ f.connected → g.next_seq ≡ f.next_seq → StandsFor f config opening past

@@ -64,7 +64,7 @@ pub record IsRan (ran : Ran) (config : Config) (opening : ℕ) (steps : List Ste
   pub sent : ran.sent ≡ sent_in config opening (done config opening [] steps)
   pub no_fault : run_fault config opening steps ≡ None
 
--- the fault that a run ends by: the one that there is, or want of memory behind the checks of the
+-- the fault that a run ends by: the one that there is, or `NoMemory` behind the checks of the
 -- opening
 abbrev pub IsFault : RunFault → Config → ℕ → List Step → Type 0
 IsFault (faults.Config fault) config opening steps =

@@ -32,7 +32,7 @@ const NUMBERS_END: u64 = 1 << 62;
 ///
 /// Seat 0 sits for clears, added filters and moments. A connection's seat has its number. A fleet
 /// stands for the steps that were done, and its book answers what recomputing from all their events
-/// gives, but for the last of them, which wait where a growth of memory was refused.
+/// gives, but for the last of them, which wait where an allocation failed.
 #[derive(Drop)]
 pub struct Fleet {
     alloc: Global,
@@ -94,8 +94,8 @@ impl Fleet {
     }
 
     /// Does a step. A clear, an added filter or a moment fits the configuration that stands, which
-    /// `Step::fits` tells. Faults, in this order: NoConn, Spent, NoMemory, Session. Where a growth
-    /// is refused after the step is done, what the book has yet to take waits.
+    /// `Step::fits` tells. Faults, in this order: NoConn, Spent, NoMemory, Session. Where an
+    /// allocation fails after the step is done, what the book has yet to take waits.
     ///
     /// A connection is open if it came, wasn't lost, and its stream hasn't ended.
     pub fn step(&mut self, step: &Step) -> Result<Replies, FleetFault>

@@ -2,11 +2,11 @@
 //!
 //! `replay` and `bench_fleet` drive it. A `Fleet` stands for the steps that were done, and its book
 //! answers what recomputing from all their events gives, but for the last of them, which wait where
-//! a growth of memory was refused. `Fleet::step` promises what each step sends, which fault it
-//! answers, and that nothing but its own events waits behind it. `run` does a list of steps, and
-//! promises which fault ends it. `laws` has what the definitions promise.
-//! No clause says that memory suffices, nor that nothing waits where no growth was refused: the
-//! scripts of `test_replay` show it. A fleet doesn't ask its sessions for idleness.
+//! an allocation failed. `Fleet::step` promises what each step sends, which fault it answers, and
+//! that nothing but its own events waits behind it. `run` does a list of steps, and promises which
+//! fault ends it. `laws` has what the definitions promise. No clause says that memory suffices, nor
+//! that nothing waits where no allocation failed: the scripts of `test_replay` show it. A fleet
+//! doesn't ask its sessions for idleness.
 #![tactic(auto)]
 
 mod connection;

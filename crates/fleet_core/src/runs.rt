@@ -20,7 +20,7 @@ pub enum RunFault {
     /// The configuration is unsound.
     #[error("{0}")]
     Config(ConfigFault),
-    /// A growth of memory was refused.
+    /// An allocation failed.
     #[error("out of memory")]
     NoMemory,
     /// There are no numbers left.

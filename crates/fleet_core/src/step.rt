@@ -90,7 +90,7 @@ pub enum FleetFault {
     /// There are no numbers left for what the step would add. Nothing has changed.
     #[error("no numbers left")]
     Spent,
-    /// A growth of memory was refused. The step isn't done; events that waited may have been taken.
+    /// An allocation failed. The step isn't done; events that waited may have been taken.
     #[error("out of memory")]
     NoMemory,
     /// The step is done and the connection is closed. What it told before is stored, and these

@@ -28,7 +28,7 @@ FaultIsFirst BadInteger first = first ≡ Faulty BadInteger
 FaultIsFirst BadField first = first ≡ Faulty BadField
 FaultIsFirst NoMemory first = Unit {0}
 
--- a fault of the bytes, and no want of memory
+-- a fault of the bytes, and not `NoMemory`
 abbrev pub IsWireFault : WireCause → Type 0
 IsWireFault TooLong = Unit {0}
 IsWireFault BadInteger = Unit {0}

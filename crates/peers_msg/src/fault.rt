@@ -19,7 +19,7 @@ pub enum WireCause {
     /// A needed field of a payload is cut short, or above 2^64 - 1.
     #[error("a field of a message is cut short or too large")]
     BadField,
-    /// A growth of memory was refused.
+    /// An allocation failed.
     #[error("out of memory")]
     NoMemory,
 }

@@ -75,7 +75,7 @@ impl Feed {
         ensures stands { (taken : List ℕ) → self.old ≡ feed_of taken
             → self.new ≡ kept_after result (feed_of taken) (reading_of (taken ++ piece.now)) }
 
-        // After a fault its cause comes for good, and never want of memory.
+        // Once faulted, every later call answers the same cause; `NoMemory` never stays.
         ensures ended { IfErr result (λ fault. fault.cause ≢ WireCause.NoMemory
             → self.new.fault ≡ Some fault.cause) }
         ensures for_good { (cause : WireCause) → self.old.fault ≡ Some cause
@@ -85,7 +85,8 @@ impl Feed {
         // Less than one message is kept.
         ensures bounded { length self.new.rest < longest_head + max_payload }
     {
-        // What every feed keeps of itself is known here, and behind the call: the last clauses.
+        // A hint to the prover: reading a field brings what every feed keeps of itself into scope,
+        // before and after the call.
         let _ = &self.growing;
         let handed_out = self.take_piece(piece);
         let _ = &self.growing;

@@ -92,8 +92,7 @@ count_cell limit Absent = cells.Count 0
 count_cell limit (Rate elapsed cur prev) = cells.Count 0
 
 -- The elapsed time that is kept, in ms. A sender whose threads' clocks differ sends one that is up
--- to
--- 60,000 below 0 as 2^32 less so much; that is 0.
+-- to 60,000 below 0 as 2^32 less so much; that is 0.
 abbrev pub elapsed_of : ℕ → ℕ
 elapsed_of elapsed =
     if nat_le (2 ^ 32 - 60000) elapsed && nat_lt elapsed (2 ^ 32) then 0 else elapsed

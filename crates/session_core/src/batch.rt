@@ -104,7 +104,6 @@ pub struct SessionFault {
     /// Why.
     pub cause: SessionCause,
     /// What the piece gave up to the fault, with the fault's own answer. Empty after `NoMemory`,
-    /// and
-    /// where the session had ended before.
+    /// and where the session had ended before.
     pub batch: Batch,
 }

@@ -64,7 +64,7 @@ pub enum SessionCause {
     /// The peer sent an error message.
     #[error("the peer reports an error")]
     PeerError,
-    /// A growth of memory was refused. The session is as before the call.
+    /// An allocation failed. The session is as before the call.
     #[error("out of memory")]
     NoMemory,
     /// Nothing came for too long.

@@ -48,9 +48,8 @@ pub fn hello_lines()
 {}
 
 /// The last update id of a sender's table id is the explicit one of its last followed update, or,
-/// if
-/// that was incremental, the last explicit one (0 if none) and as many more as came since, modulo
-/// 2^32.
+/// if that was incremental, the last explicit one (0 if none) and as many more as came since,
+/// modulo 2^32.
 pub fn update_ids()
     ensures { (tables : List Shape) (id : ℕ) (past : List Message)
         → last_id tables id past ≡ counted_id (followed_updates tables id past) }

@@ -13,8 +13,7 @@ use peers_msg::{Message, write_message};
 use std::alloc::Global;
 
 /// What the messages do, up to the first that ends the session; its cause is returned. The facts
-/// and
-/// replies are added to those that are there.
+/// and replies are added to those that are there.
 pub(crate) fn run(
     alloc: Global,
     tables: &Declared<Shape>,

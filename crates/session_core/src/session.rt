@@ -86,14 +86,12 @@ impl Session {
     }
 
     /// Takes the next piece of the stream, whatever it is cut from, with the configuration that
-    /// each
-    /// call of the session gets: the same name, peers and tables.
+    /// each call of the session gets: the same name, peers and tables.
     ///
     /// A fault comes with what the piece gave before it, and is answered for good from then on,
-    /// with
-    /// an empty batch. `NoMemory` comes with an empty batch and leaves the session as it was.
+    /// with an empty batch. `NoMemory` comes with an empty batch and leaves the session as it was.
     pub fn feed(&mut self, config: &Config, piece: &[u8], now: u64) -> Result<Batch, SessionFault>
-        // What the piece gives, from what is kept; want of memory leaves all as it was.
+        // What the piece gives, from what is kept; `NoMemory` leaves all as it was.
         ensures exact { Answers result self.old self.new piece.now now
             (piece_of (setup_of config.now) self.old.seated self.old.stage piece.now) }
 
@@ -107,7 +105,8 @@ impl Session {
             ≡ stage_of (setup_of config.now) self.old.seated taken
             → FactsFit config.now result }
 
-        // After a fault its cause comes for good, with an empty batch, and never want of memory.
+        // Once faulted, every later call answers the same cause and an empty batch; `NoMemory`
+        // never stays.
         ensures ended { IfErr result (λ fault. fault.cause ≢ SessionCause.NoMemory
             → over_with self.new.stage ≡ Some fault.cause) }
         ensures for_good { (cause : SessionCause) → over_with self.old.stage ≡ Some cause

@@ -200,8 +200,7 @@ fn end_stage(stage: &mut Stage, peer: usize, end: Option<End>)
 }
 
 /// What a piece of messages gives, behind the facts and replies that are there. After `NoMemory`
-/// the
-/// dialogue is as it was, and where the piece showed an end it is over.
+/// the dialogue is as it was, and where the piece showed an end it is over.
 #[tactic(auto, unfolding(crate::specs::Piece::messages_outcome))]
 fn converse(
     alloc: Global,
