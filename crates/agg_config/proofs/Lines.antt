@@ -1,12 +1,12 @@
 -- The lines of a text, one behind the others.
-use Rattle.std.proofs.Common.{◌≡◌, ℕ, ◌+◌, ◌<◌, ◌||◌, List, [], ◌∷◌, ◌++◌, length, take, drop}
+use Rattle.std.proofs.Common.{◌≡◌, ℕ, ◌+◌, ◌<◌, ◌≤◌, ◌||◌, List, [], ◌∷◌, ◌++◌, length, take, drop}
 use Rattle.std.proofs.Common.{get_or, map, Option, Some, None, Ok, Err, Bool, ◌&&◌, refl, sym, ap}
 use Rattle.std.proofs.Common.{◌∙◌, arith, length-drop, drop-cons, add-one}
 use Rattle.std.specs.Prelude.{slice_get}
 use Rattle.std.proofs.Common.{below_more}
 use Rattle.std.proofs.Math.Bool.{or-false}
 use Rattle.std.proofs.lemmas.List.Sums.{fold-append}
-use Rattle.std.proofs.lemmas.List.{take_more}
+use Rattle.std.proofs.lemmas.List.{take_all, take_more}
 use Rattle.std.proofs.lemmas.List.Folds.{list_any-append}
 use Rattle.agg_config.specs.declared.causes.LineCause.{LineCause}
 use Rattle.agg_config.specs.declared.causes.LineCause.TheVariants.{Syntax, Number, Check, NoMemory}
@@ -42,6 +42,21 @@ stands lines before line rest e =
       behind = others;
       front =
           rw (take_more lines before [] inside, first) refl;
+    }
+
+-- where nothing is left, all lines were read
+pub record AllRead (lines : List (List ℕ)) (before : ℕ) : Type 0 where
+  pub all : before ≡ length lines
+  pub front : take before lines ≡ lines
+
+pub all_read : (lines : List (List ℕ)) (before : ℕ) → before ≤ length lines
+    → drop before lines ≡ [] → AllRead lines before
+all_read lines before within e =
+    let all : before ≡ length lines =
+        omega (arith, within, length-drop before lines, ap length e) in
+    record {
+      all = all;
+      front = take_all before lines (omega (arith, all));
     }
 
 pub written-push : (before : List (List ℕ)) (line : List ℕ) → written (before ++ line ∷ [])

@@ -1,7 +1,8 @@
 use Rattle.std.proofs.Common.{◌∙◌, sym, ap, refl, arith, take}
 use Rattle.line_words.specs.Words.{lines_of}
 use Rattle.agg_config.specs.Reading.{is_named, written}
-use Rattle.agg_config.proofs.Lines.{stands, faulty, sound_more, written-push, is_named-push}
+use Rattle.agg_config.proofs.Lines.{all_read, stands, faulty, sound_more, written-push}
+use Rattle.agg_config.proofs.Lines.{is_named-push}
 use Rattle.agg_config.proofs.reader.read.Goals as goal
 
 pub lines-init : goal.lines-init
@@ -46,3 +47,26 @@ lines-preserved c =
           ∙ is_named-push (take c.lines.before lines) c.in-Some.line.now);
       checked = c.in-Ok-read_line.ensures.sound;
     }
+
+pub returns-then-named-clause-written : goal.returns-then-named-clause-written
+returns-then-named-clause-written c =
+    let a = all_read (lines_of c.args.text.now) c.lines.before c.lines.invariant.within
+    (c.lines.invariant.left ∙ c.in_default-next_line.ensures.line) in
+    record {
+      sound = rw a.all at c.lines.invariant.sound;
+      named = sym (ap is_named a.front) ∙ sym c.lines.invariant.named ∙ c.if-named.true;
+      whole = c.lines.invariant.config ∙ ap written a.front;
+    }
+
+pub returns-else-named-clause-fault : goal.returns-else-named-clause-fault
+returns-else-named-clause-fault c =
+    let a = all_read (lines_of c.args.text.now) c.lines.before c.lines.invariant.within
+    (c.lines.invariant.left ∙ c.in_default-next_line.ensures.line) in (
+      c.lines.before,
+      refl,
+      record {
+        sound = rw a.all at c.lines.invariant.sound;
+        last = a.all;
+        nameless = sym (ap is_named a.front) ∙ sym c.lines.invariant.named ∙ c.if-named.false;
+      },
+    )
