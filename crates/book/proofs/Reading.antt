@@ -2,7 +2,7 @@
 use Rattle.std.proofs.Common.{◌≡◌, ℕ, zero, suc, ◌^◌, ◌-◌, ◌||◌, not, max, min, nat_lt, is_some}
 use Rattle.std.proofs.Common.{take, ◌+◌, ◌<◌, ◌≤◌, ◌==◌, Bool, true, false, cond, ◌&&◌, List, []}
 use Rattle.std.proofs.Common.{◌∷◌, Option, None, Some, length, refl, sym, ap, ◌∙◌, drop, arith}
-use Rattle.std.specs.Prelude.{filter, map, slice_get}
+use Rattle.std.specs.Prelude.{filter, map, slice_get, sum_by}
 use Rattle.std.specs.Cmp.Lexicographic.{slice_cmp}
 use Rattle.std.specs.BTreeMap.{is_at}
 use Rattle.std.specs.Borrow.{Bor}
@@ -23,10 +23,10 @@ use Rattle.std.specs.declared.cmp.Ordering.{Ordering}
 use Rattle.std.specs.declared.cmp.Ordering.TheVariants.{Less, Equal, Greater}
 use Rattle.std.proofs.lemmas.Bool.{and_parts, eqb-true}
 use Rattle.std.proofs.lemmas.Bool.Decides.{nat_tests}
+use Rattle.std.proofs.lemmas.List.Folds.{fold-map}
 use Rattle.std.proofs.lemmas.Map.Lookups.{exact_bytes}
 use Rattle.std.proofs.Math.Numerals.{add-one}
 use Rattle.std.proofs.lemmas.Cmp.{nat_list_cmp_total}
-use Rattle.peer_rows.proofs.Counting.{sum_by-map}
 use Rattle.peer_rows.proofs.Sorted.{equal_itself}
 use Rattle.agg_types.specs.Place.{place_cmp}
 use Rattle.agg_types.specs.declared.event.Cell.{Cell}
@@ -511,6 +511,12 @@ walk_some rows table None own walk is = cc
 walk_some rows table (Some found) own walk is = let same : found ≡ own = cc in rw (← same) walk
 
 -- ---- what a key's rows sum up to
+
+-- a sum over what a list is seen as
+sum_by-map : {X Y : Type 0} (f : Y → ℕ) (view : X → Y) (xs : List X)
+    → sum_by f (map view xs) ≡ sum_by (λ x. f (view x)) xs
+sum_by-map f view xs = fold-map (λ n y. n + f y) view 0 xs
+
 worth_shown : (table : ℕ) (key : List ℕ) (cols : List (Col × ℕ)) (col : Col) (t : ℕ)
     (rows : List (ℕ × Row)) → rows_worth cols col t rows
     ≡ worth_of cols (map (of_peer table key) rows) col t
