@@ -51,6 +51,36 @@ held_longer book shown view pending queue front roll h old later events front' r
       counted = counted;
     }
 
+-- what readers lack lies elsewhere, and is the same
+pub held_moved : (book : Book) (shown shown' : Copied) (view view' : Option Beginning)
+    (pending pending' queue queue' : List Brought) (front : Beginning) (roll : Counted)
+    → IsHeld book shown view pending queue front roll → shown' ≡ shown → view' ≡ view
+    → pending' ++ queue' ≡ pending ++ queue → IsHeld book shown' view' pending' queue' front roll
+held_moved book shown shown' view view' pending pending' queue queue' front roll h same told kept =
+    record {
+      named = h.named;
+      shown_named = ap (λ (x : Copied). x.at.of) same ∙ h.shown_named;
+      told = subst (IsTold book) (sym told) h.told;
+      brings = ap (λ (x : Copied). all_taken x (pending' ++ queue')) same
+          ∙ (ap (all_taken shown) kept ∙ h.brings);
+      counted = h.counted;
+    }
+
+-- readers lack nothing
+pub held_whole : (book : Book) (shown : Copied) (view : Option Beginning)
+    (pending queue : List Brought) (front : Beginning) (roll : Counted) → front.of ≡ book
+    → IsCountOf roll front → shown ≡ whole front → view ≡ Some front → pending ≡ []
+    → queue ≡ [] → IsHeld book shown view pending queue front roll
+held_whole book shown view pending queue front roll named counted all told none empty = record {
+  named = named;
+  shown_named = ap (λ (x : Copied). x.at.of) all ∙ named;
+  told = subst (IsTold book) (sym told) named;
+  brings = ap (λ (x : Copied). all_taken x (pending ++ queue)) all
+      ∙ (ap (λ lacking. all_taken (whole front) (lacking ++ queue)) none
+      ∙ ap (all_taken (whole front)) empty);
+  counted = counted;
+}
+
 -- a seat that just sat down has that event alone
 pub sits_alone : (b : Beginning) (roll : Counted) → IsCountOf roll b
     → AllCount b.config b.opening b.events

@@ -9,3 +9,4 @@ pub mod Replacing
 pub mod Filling
 pub mod Held
 pub mod Allowing
+pub mod Posting

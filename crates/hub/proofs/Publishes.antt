@@ -8,6 +8,10 @@ use Rattle.left_right.specs.Register.{Admits, Forks, Merges, Turns, TurnsAt}
 use Rattle.atomic_table.proofs.Lists.{at_set, at_snoc}
 use Rattle.hub.specs.History.{Beginning}
 use Rattle.hub.specs.Copied.{Copied, Fits, IsWhole, Keeps, Sees, whole}
+use Rattle.hub.specs.Kept.{IsTold}
+use Rattle.hub.specs.Posts.{Follows}
+use Rattle.logbook.specs.Pages.{Book}
+use mathlib.Core.List.{IsPrefix}
 
 abbrev View : Type 0
 View = Option Beginning
@@ -87,3 +91,28 @@ pub shows : (seat : ℕ) (v : View) (x y : Copied) (b : Beginning) → y ≡ who
     → TurnsAt Keeps seat v x y Sees
 shows seat v x y b is same = publishes seat v x y (whole_is y b is) (ap (λ (c : Copied). c.at.of) is
     ∙ sym same)
+
+-- who finds the copy is told of the log that it was told of before
+pub told_again : (book : Book) (x : Copied) (v w : View) → IsTold book v → Fits x v
+    → w ≡ Some x.at → IsTold book w
+told_again book x None w told fits is = absurd told
+told_again book x (Some before) w told fits is =
+    subst (IsTold book) (sym is) (sym fits ∙ told)
+
+-- a beginning of one log and fleet that is no shorter is a later one
+pub follows_on : (b later : Beginning) → later.of ≡ b.of → later.config ≡ b.config
+    → later.opening ≡ b.opening → IsPrefix b.events later.events → Follows b later
+follows_on b later of config opening prefix = record {
+  same = λ i. record {
+    of = of i;
+    config = config i;
+    opening = opening i;
+    events = later.events;
+  };
+  events = prefix;
+}
+
+-- who finds a copy knows of which log it is
+pub log_of : (book : Book) (x : Copied) (v : View) → IsTold book v → Fits x v → x.at.of ≡ book
+log_of book x None told fits = absurd told
+log_of book x (Some before) told fits = sym fits ∙ told

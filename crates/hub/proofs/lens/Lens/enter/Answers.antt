@@ -1,5 +1,41 @@
-use Rattle.hub.proofs.Publishes.{looks}
+use Rattle.std.proofs.Common.{◌≡◌, IfSome, ap, sym, subst, ◌∙◌}
+use Rattle.left_right.specs.Sides.{view}
+use Rattle.hub.specs.Copied.{Copied}
+use Rattle.hub.specs.History.{Beginning}
+use Rattle.hub.specs.Kept.{IsTold}
+use Rattle.hub.specs.Posts.{Follows}
+use Rattle.hub.specs.Views.{Seeing}
+use Rattle.hub.proofs.Publishes.{follows_on, log_of, looks, told_again}
 use Rattle.hub.proofs.lens.Lens.enter.Goals as goal
 
 pub enter_as-requires : goal.enter_as-requires
 enter_as-requires c = looks _ _
+
+pub invariant_of-self-then-not-compare : goal.invariant_of-self-then-not-compare
+invariant_of-self-then-not-compare c =
+    let told : IsTold c.self.inside.front.of (view c.in-Some.reader.place) =
+        subst (λ o. IfSome o (λ r. IsTold c.self.inside.front.of (view r.place)))
+        (sym c.in-Some.ensures.value) c.self.invariant.0 in (
+      told_again c.self.inside.front.of c.in-Ok.reading.part.value (view c.in-Some.reader.place)
+          (view c.leave-then-not-compare.result.place) told c.in-Ok.ensures.1.1
+          (c.leave-then-not-compare.ensures.1 ∙ c.in-Ok.ensures.1.2),
+      c.self.invariant.1,
+    )
+
+pub returns-else-not-compare-clause-seen : goal.returns-else-not-compare-clause-seen
+returns-else-not-compare-clause-seen c =
+    let told : IsTold c.self.inside.front.of (view c.in-Some.reader.place) =
+        subst (λ o. IfSome o (λ r. IsTold c.self.inside.front.of (view r.place)))
+        (sym c.in-Some.ensures.value) c.self.invariant.0 in
+    let at : c.again-at.result ≡ c.in-Ok.reading.part.value.at = c.again-at.ensures
+        ∙ ap (λ (x : Copied). x.at) (c.behind-reading.view_is ∙ c.get.ensures) in
+    let of : c.again-at.result.of ≡ c.self.inside.front.of =
+        ap (λ (b : Beginning). b.of) at
+        ∙ log_of c.self.inside.front.of c.in-Ok.reading.part.value (view c.in-Some.reader.place)
+        told c.in-Ok.ensures.1.1 in
+    let seen : c.self.inside.front ≡ c.args.self.now.seen =
+        ap (λ (s : Seeing). s.seen) (c.self.view_is ∙ c.leave.ensures) in
+    subst (λ (b : Beginning). Follows b c.again-at.result) seen
+    (follows_on c.self.inside.front c.again-at.result of c.compare.ensures.fleet.0
+    c.compare.ensures.fleet.1
+    (rw c.if-not-compare.false at c.compare.ensures.order))
