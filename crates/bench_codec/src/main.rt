@@ -6,7 +6,7 @@
 
 ghost use Rattle.std.specs.Prelude.{◌<◌};
 
-use agg_types::{Col, Config, Declared, Items, KeyKind, Name, Shape};
+use agg_types::{Col, Config};
 use anyhow::Result;
 use peers_msg::{Feed, put_int};
 use session_core::Session;
@@ -72,22 +72,18 @@ fn stream(alloc: Global, values: &[u8]) -> Result<Vec<u8>> {
 
 /// The collector `agg` of the peer `lb1`, with the table `t` of these columns.
 fn config(alloc: Global, cols: &[(Col, u32)]) -> Result<Config> {
-    let mut peers = Declared::new(alloc);
-    peers.push(Name::copy(alloc, b"lb1")?)?;
-    let mut tables = Declared::new(alloc);
-    tables.push(Shape {
-        name: Name::copy(alloc, b"t")?,
-        kind: KeyKind::Ip,
-        size: 1_000_000,
-        cols: Items::copy(alloc, cols)?,
-    })?;
-    Ok(Config {
-        me: Name::copy(alloc, b"agg")?,
-        peers,
-        tables,
-        filters: Declared::new(alloc),
-        ranks: Declared::new(alloc),
-    })
+    let mut text = Vec::new(alloc);
+    text.extend_from_slice(b"name agg\npeer lb1\ntable t type ip size 1000000 store ")?;
+    for (place, (col, _)) in cols.iter().enumerate() {
+        if place > 0 {
+            text.push(b',')?;
+        }
+        text.extend_from_slice(col.name().as_bytes())?;
+        if col.is_rate() {
+            text.extend_from_slice(b"(10000)")?;
+        }
+    }
+    test_support::config(alloc, text.as_slice())
 }
 
 /// The definition of the table `t` under the id 1.

@@ -1,7 +1,6 @@
 //! The filters and the ranked list that stand while updates come, and how long answers take.
 
 use crate::load::{Load, Order};
-use agg_types::{Col, Cond, Config, Filter, Items, Name, Op, Rank};
 use anyhow::Result;
 use book::Book;
 use std::alloc::Global;
@@ -20,41 +19,17 @@ pub struct Standing {
 }
 
 impl Standing {
-    /// Declares it in a configuration.
-    pub fn stand(self, alloc: Global, config: &mut Config) -> Result<()> {
-        if self.rare {
-            declare(alloc, config, b"rare", Col::HttpReqRate, Op::Gt, 100)?;
-        }
-        if self.every {
-            declare(alloc, config, b"every", Col::Gpc0, Op::Ge, 1)?;
-        }
-        if self.rank {
-            config.ranks.push(Rank {
-                name: Name::copy(alloc, b"first")?,
-                table: 0,
-                col: Col::HttpReqRate,
-                n: 10,
-            })?;
-        }
-        Ok(())
+    /// Its lines of a configuration, and an empty one for each that doesn't stand.
+    pub fn lines(self) -> [&'static [u8]; 3] {
+        let rare: &[u8] = b"filter rare t data.http_req_rate gt 100\n";
+        let every: &[u8] = b"filter every t data.gpc0 ge 1\n";
+        let rank: &[u8] = b"rank first t http_req_rate 10\n";
+        [
+            if self.rare { rare } else { b"\n" },
+            if self.every { every } else { b"\n" },
+            if self.rank { rank } else { b"\n" },
+        ]
     }
-}
-
-/// Declares a filter of one condition on the first table.
-fn declare(
-    alloc: Global,
-    config: &mut Config,
-    name: &[u8],
-    col: Col,
-    op: Op,
-    bound: u64,
-) -> Result<()> {
-    config.filters.push(Filter {
-        name: Name::copy(alloc, name)?,
-        table: 0,
-        conds: Items::copy(alloc, &[Cond { col, op, bound }])?,
-    })?;
-    Ok(())
 }
 
 /// Asks a book for its rows, for some of its keys, and for each filter and each list, and tells how

@@ -1,9 +1,13 @@
 //! What proxies send: which updates, of which keys, and what stands at the collector meanwhile.
 
+ghost use Rattle.agg_types.specs.Check.{config_faults};
+ghost use Rattle.std.specs.Prelude.{◌≡◌, [], IfOk};
+
 use crate::asking::Standing;
-use agg_types::{Col, Config, Declared, Items, Key, KeyKind, Name, Shape};
+use agg_types::{Config, Key};
 use anyhow::Result;
 use std::alloc::Global;
+use test_support::config;
 
 /// Of one key in so many the rate is above 100.
 const KEYS_A_FAST_ONE: u32 = 1000;
@@ -12,6 +16,12 @@ const KEYS_A_FAST_ONE: u32 = 1000;
 const FAST: &[u8] = b"\x02\x05\xf4\x8d\x00\x1e\x64";
 
 const SLOW: &[u8] = b"\x02\x05\xf4\x8d\x00\x1e\x14";
+
+/// The table that they send, by address or by text.
+const ADDRESSES: &[u8] = b"table t type ip size 1000000 store gpc0,conn_cnt,http_req_rate(10000)\n";
+
+const TEXTS: &[u8] =
+    b"table t type string len 32 size 1000000 store gpc0,conn_cnt,http_req_rate(10000)\n";
 
 /// How many digits the number of a key of text has, behind `client-`.
 const DIGITS: u32 = 13;
@@ -38,39 +48,28 @@ pub enum Order {
 }
 
 impl Load {
-    /// The collector `agg` of proxies `lb1` and so on, with the table that they send.
-    pub fn config(self, alloc: Global) -> Result<Config> {
-        let mut config = Config {
-            me: Name::copy(alloc, b"agg")?,
-            peers: Declared::new(alloc),
-            tables: Declared::new(alloc),
-            filters: Declared::new(alloc),
-            ranks: Declared::new(alloc),
-        };
-        for peer in 0..self.peers {
-            config.peers.push(Name::copy(alloc, &peer_name(peer))?)?;
-        }
-        config.tables.push(self.table(alloc)?)?;
-        self.standing.stand(alloc, &mut config)?;
-        Ok(config)
+    /// The collector `agg` of proxies `lb1` and so on, with the table that they send and what
+    /// stands over it.
+    pub fn config(self, alloc: Global) -> Result<Config>
+        ensures { IfOk result (λ config. config_faults config ≡ []) }
+    {
+        let text = self.text(alloc)?;
+        config(alloc, text.as_slice())
     }
 
-    fn table(self, alloc: Global) -> Result<Shape> {
-        let cols = [
-            (Col::Gpc0, 0),
-            (Col::ConnCnt, 0),
-            (Col::HttpReqRate, 10_000),
-        ];
-        Ok(Shape {
-            name: Name::copy(alloc, b"t")?,
-            kind: if self.texts {
-                KeyKind::Str(32)
-            } else {
-                KeyKind::Ip
-            },
-            size: 1_000_000,
-            cols: Items::copy(alloc, &cols)?,
-        })
+    fn text(self, alloc: Global) -> Result<Vec<u8>> {
+        let mut text = Vec::new(alloc);
+        text.extend_from_slice(b"name agg\n")?;
+        for peer in 0..self.peers {
+            text.extend_from_slice(b"peer ")?;
+            text.extend_from_slice(&peer_name(peer))?;
+            text.push(b'\n')?;
+        }
+        text.extend_from_slice(if self.texts { TEXTS } else { ADDRESSES })?;
+        for line in self.standing.lines() {
+            text.extend_from_slice(line)?;
+        }
+        Ok(text)
     }
 
     /// What a proxy says before its updates: its hello, and the definition of the table with gpc0,

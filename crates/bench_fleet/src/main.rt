@@ -57,7 +57,6 @@ impl Proxies {
     /// Connects the proxies of a load to a new fleet, each of which says what it says first.
     fn connect(alloc: Global, load: Load) -> Result<Proxies> {
         let config = load.config(alloc)?;
-        config.check()?;
         let mut proxies = Proxies {
             fleet: Fleet::new(alloc, config, 0)?,
             conns: Vec::new(alloc),

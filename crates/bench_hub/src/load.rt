@@ -1,12 +1,10 @@
 //! What the proxies of a run send: updates of an address, two counts and a rate, in batches.
 
-use agg_types::{
-    Cell, Cells, Col, Config, Declared, Items, Key, KeyKind, Name, NoMemory, Shape, What,
-};
-use anyhow::Result;
+use agg_types::{Cell, Cells, NoMemory, What};
 use std::alloc::Global;
 use std::fmt;
 use std::fmt::{Display, Formatter, Write};
+use test_support::{address, scattered};
 
 /// How many updates come in a batch.
 const BATCH: u32 = 900;
@@ -34,41 +32,13 @@ pub struct Share {
 }
 
 /// The collector `agg` of four proxies, with the table that they send.
-pub fn config(alloc: Global) -> Result<Config> {
-    let cols = [
-        (Col::Gpc0, 0),
-        (Col::ConnCnt, 0),
-        (Col::HttpReqRate, 10_000),
-    ];
-    let table = Shape {
-        name: Name::copy(alloc, b"t")?,
-        kind: KeyKind::Ip,
-        size: 1_000_000,
-        cols: Items::copy(alloc, &cols)?,
-    };
-    let mut config = Config {
-        me: Name::copy(alloc, b"agg")?,
-        peers: Declared::new(alloc),
-        tables: Declared::new(alloc),
-        filters: Declared::new(alloc),
-        ranks: Declared::new(alloc),
-    };
-    for name in [b"lb1", b"lb2", b"lb3", b"lb4"] {
-        config.peers.push(Name::copy(alloc, name)?)?;
-    }
-    config.tables.push(table)?;
-    Ok(config)
-}
-
-/// The place at which a turn finds its key: each in turn, and none beside its neighbour.
-pub fn scattered(turn: u32, keys: u32) -> u64 {
-    u64::from(turn).wrapping_mul(2_147_483_647) % u64::from(keys.max(1))
-}
-
-/// The address of a number.
-pub fn address(alloc: Global, number: u64) -> Result<Key, NoMemory> {
-    Key::copy(alloc, &number.to_be_bytes()[4..])
-}
+pub const FLEET: &[u8] = b"name agg
+peer lb1
+peer lb2
+peer lb3
+peer lb4
+table t type ip size 1000000 store gpc0,conn_cnt,http_req_rate(10000)
+";
 
 impl Display for Load {
     fn fmt<W: Write>(&self, f: &mut Formatter<W>) -> fmt::Result {
@@ -135,8 +105,8 @@ impl Share {
     // One update. Passes share the keys out: each has as many, and they lie beside one another.
     fn put(self, alloc: Global, turn: u32) -> Result<What, NoMemory> {
         let number = scattered(turn, self.keys)
-            .wrapping_mul(u64::from(self.passes))
-            .wrapping_add(u64::from(self.peer));
+            .wrapping_mul(self.passes)
+            .wrapping_add(self.peer);
         let rate = Cell::Rate {
             elapsed: 0,
             cur: 30,

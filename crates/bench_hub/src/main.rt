@@ -24,7 +24,7 @@ use anyhow::{Context, Result};
 use book::Book;
 use crew::{Crew, timed};
 use hub::{Hub, Naming, Opening};
-use load::{Load, config};
+use load::{FLEET, Load};
 use shared::Shared;
 use std::alloc::Global;
 use std::env;
@@ -33,6 +33,7 @@ use std::rt::{Clock, Env, Files};
 use std::sync::Wait;
 use std::thread::Threads;
 use tell::{Measured, resident, tell};
+use test_support::config;
 
 /// How many lenses a hub has places for.
 const PLACES: usize = 16;
@@ -42,8 +43,7 @@ const RUNS: [(u32, u32); 6] = [(1, 0), (1, 1), (1, 8), (4, 0), (4, 1), (4, 8)];
 
 /// A fleet that was just opened.
 fn opening(alloc: Global) -> Result<Opening> {
-    let config = config(alloc)?;
-    config.check()?;
+    let config = config(alloc, FLEET)?;
     Ok(Opening::new(alloc, config, 0)?)
 }
 
@@ -79,8 +79,7 @@ fn measure<
 
 /// The book of a fleet that was just opened.
 fn book(alloc: Global) -> Result<Book> {
-    let config = config(alloc)?;
-    config.check()?;
+    let config = config(alloc, FLEET)?;
     Ok(Book::new(alloc, config, 0)?)
 }
 

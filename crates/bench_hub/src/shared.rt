@@ -3,12 +3,13 @@
 ghost use Rattle.std.specs.Prelude.{◌≡◌, IfSome};
 
 use crate::crew::{Crew, Told};
-use crate::load::{Load, Share, address, scattered};
+use crate::load::{Load, Share};
 use crate::tell::Shown;
 use agg_types::What;
 use hub::{Hub, Lens, Naming, Pass, Receipt};
 use std::alloc::Global;
 use std::sync::Wait;
+use test_support::{address, scattered};
 
 /// The threads of a run over a hub.
 #[derive(Drop)]
@@ -124,7 +125,7 @@ fn look_on<W: Wait>(rt: &W, alloc: Global, lens: &mut Lens, keys: u32, told: &To
 }
 
 // Looks, and reads the summed row of a key; whether there was a look.
-fn look(alloc: Global, lens: &mut Lens, number: u64) -> bool {
+fn look(alloc: Global, lens: &mut Lens, number: u32) -> bool {
     let Ok(key) = address(alloc, number) else {
         return false;
     };

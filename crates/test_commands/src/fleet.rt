@@ -1,12 +1,10 @@
 //! The fleet that is asked: two proxies, and tables of each kind of keys.
 
-use agg_types::{
-    Cell, Cells, Col, Cond, Config, Declared, Filter, Items, Key, KeyKind, Name, NoMemory, Op,
-    Rank, Shape, What,
-};
+use agg_types::{Cell, Cells, Key, NoMemory, What};
 use anyhow::Result;
 use book::Book;
 use std::alloc::Global;
+use test_support::config;
 
 /// The seat that speaks for both proxies.
 pub const SEAT: u64 = 0;
@@ -33,73 +31,21 @@ fn rows(alloc: Global) -> Result<Vec<Row>, NoMemory> {
     Ok(rows)
 }
 
-fn shape(
-    alloc: Global,
-    name: &[u8],
-    kind: KeyKind,
-    cols: &[(Col, u32)],
-) -> Result<Shape, NoMemory> {
-    Ok(Shape {
-        name: Name::copy(alloc, name)?,
-        kind,
-        size: 100,
-        cols: Items::copy(alloc, cols)?,
-    })
-}
-
-fn tables(alloc: Global) -> Result<Declared<Shape>, NoMemory> {
-    let count = [(Col::Gpc0, 0)];
-    let both = [(Col::Gpc0, 0), (Col::HttpReqRate, 1000)];
-    let mut tables = Declared::new(alloc);
-    tables.push(shape(alloc, b"t", KeyKind::Ip, &both)?)?;
-    tables.push(shape(alloc, b"i", KeyKind::Integer, &count)?)?;
-    tables.push(shape(alloc, b"v6", KeyKind::Ipv6, &count)?)?;
-    tables.push(shape(alloc, b"s", KeyKind::Str(6), &count)?)?;
-    tables.push(shape(alloc, b"b", KeyKind::Binary(2), &count)?)?;
-    tables.push(shape(alloc, b"100%", KeyKind::Ip, &count)?)?;
-    Ok(tables)
-}
-
-// The filter f of the first table, by a rate that has come down from 3 by the moment 1.
-fn filters(alloc: Global) -> Result<Declared<Filter>, NoMemory> {
-    let cond = Cond {
-        col: Col::HttpReqRate,
-        op: Op::Ge,
-        bound: 3,
-    };
-    let mut filters = Declared::new(alloc);
-    filters.push(Filter {
-        name: Name::copy(alloc, b"f")?,
-        table: 0,
-        conds: Items::copy(alloc, &[cond])?,
-    })?;
-    Ok(filters)
-}
-
-fn rank(alloc: Global, name: &[u8], col: Col) -> Result<Rank, NoMemory> {
-    Ok(Rank {
-        name: Name::copy(alloc, name)?,
-        table: 0,
-        col,
-        n: 2,
-    })
-}
-
-fn config(alloc: Global) -> Result<Config, NoMemory> {
-    let mut peers = Declared::new(alloc);
-    peers.push(Name::copy(alloc, b"lb1")?)?;
-    peers.push(Name::copy(alloc, b"lb2")?)?;
-    let mut ranks = Declared::new(alloc);
-    ranks.push(rank(alloc, b"top", Col::Gpc0)?)?;
-    ranks.push(rank(alloc, b"fast", Col::HttpReqRate)?)?;
-    Ok(Config {
-        me: Name::copy(alloc, b"agg")?,
-        peers,
-        tables: tables(alloc)?,
-        filters: filters(alloc)?,
-        ranks,
-    })
-}
+/// Two proxies, a table of each kind of keys, a filter by a rate that has come down from 3 by the
+/// moment 1, and two ranked lists.
+const FLEET: &[u8] = b"name agg
+peer lb1
+peer lb2
+table t type ip size 100 store gpc0,http_req_rate(1000)
+table i type integer size 100 store gpc0
+table v6 type ipv6 size 100 store gpc0
+table s type string len 6 size 100 store gpc0
+table b type binary len 2 size 100 store gpc0
+table 100% type ip size 100 store gpc0
+filter f t data.http_req_rate ge 3
+rank top t gpc0 2
+rank fast t http_req_rate 2
+";
 
 // What a proxy says of a row. Keys of the first table have had 3 requests in the period before.
 fn put(alloc: Global, row: Row) -> Result<What, NoMemory> {
@@ -124,8 +70,7 @@ fn put(alloc: Global, row: Row) -> Result<What, NoMemory> {
 
 /// The fleet with its rows, and the number of its seat's next event.
 pub fn opened(alloc: Global) -> Result<(Book, u64)> {
-    let config = config(alloc)?;
-    config.check()?;
+    let config = config(alloc, FLEET)?;
     let mut book = Book::new(alloc, config, 0)?;
     book.take(SEAT, 0, &What::Sit)?;
     book.take(SEAT, 1, &What::Open(0))?;

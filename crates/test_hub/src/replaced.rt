@@ -2,13 +2,14 @@
 
 ghost use Rattle.std.specs.Prelude.{◌≡◌, IfOk};
 
-use crate::fleet::{alone, put};
+use crate::fleet::batch;
 use crate::steps::{post, sit};
 use agg_types::What;
 use anyhow::{Result, anyhow};
 use hub::{Hub, Lens, Naming, Pass, PostFault, Receipt};
 use std::alloc::Global;
 use std::sync::Wait;
+use test_support::{alone, put};
 
 /// A seat that opened a peer.
 fn open<J: Naming, H: Wait + Drop, W: Wait>(
@@ -87,7 +88,7 @@ fn reopen<J: Naming, H: Wait + Drop, W: Wait + Print>(
     requires pass { pass.seen.of ≡ hub.now.of }
     requires lens { lens.old.seen.of ≡ hub.now.of }
 {
-    let receipt = post(rt, alloc, hub, &mut pass, crate::fleet::batch(alloc, 0, 3)?)?;
+    let receipt = post(rt, alloc, hub, &mut pass, batch(alloc, 0, 3)?)?;
     lens.learn(&receipt);
     println!(rt; "opened anew: in force {:?}", session_of(lens, 0)?)?;
     Ok(())

@@ -2,7 +2,7 @@
 
 ghost use Rattle.std.specs.Prelude.{◌≡◌};
 
-use crate::fleet::{address, alone, batch, put};
+use crate::fleet::batch;
 use crate::steps::{gpc0, post, sit};
 use anyhow::{Result, anyhow};
 use hub::{Hub, Lens, Naming};
@@ -11,6 +11,7 @@ use std::sync::Wait;
 use std::sync::atomic::{AtomicBool, AtomicU32, Ordering};
 use std::thread;
 use std::thread::Threads;
+use test_support::{address, alone, put};
 
 /// How often the look is read.
 const TURNS: u32 = 1000;

@@ -2,12 +2,13 @@
 
 ghost use Rattle.std.specs.Prelude.{◌≡◌, IfOk};
 
-use crate::fleet::{address, batch};
+use crate::fleet::batch;
 use agg_types::What;
 use anyhow::{Result, anyhow};
 use hub::{Hub, Lens, Naming, Pass, PostFault, Receipt, SeatFault};
 use std::alloc::Global;
 use std::sync::Wait;
+use test_support::address;
 
 /// Takes a seat, at the second call where the first one had no memory.
 pub fn sit<J: Naming, H: Wait + Drop, W: Wait>(rt: &W, hub: &Hub<J, H>) -> Result<Pass>

@@ -1,6 +1,5 @@
 //! Two sessions and a reader, each in a thread of its own.
 
-use crate::fleet::{alone, put};
 use crate::steps::{lens, post, seen, session, sit};
 use anyhow::Result;
 use hub::{Hub, Lens, Naming, Pass};
@@ -9,6 +8,7 @@ use std::sync::Wait;
 use std::sync::atomic::{AtomicU64, Ordering};
 use std::thread;
 use std::thread::Threads;
+use test_support::{alone, put};
 
 /// What threads tell of themselves.
 #[derive(Drop)]

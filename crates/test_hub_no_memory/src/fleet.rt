@@ -1,13 +1,11 @@
 //! The fleet that is posted to, and what its proxies say, in few events that grow all that a book
 //! has.
 
-use agg_types::{
-    Cell, Cells, Col, Cond, Config, Declared, Filter, Items, Key, KeyKind, Name, NoMemory, Op,
-    Rank, Select, Shape, What,
-};
+use agg_types::{Cell, Cells, Col, Cond, Filter, Items, Key, Name, NoMemory, Op, Select, What};
 use anyhow::Result;
 use hub::Opening;
 use std::alloc::Global;
+use test_support::{alone, config};
 
 /// The batches of a run, each made when it is posted.
 #[derive(Clone, Copy)]
@@ -25,35 +23,16 @@ pub enum Batch {
 }
 
 /// The collector `agg` of two peers, with a table of texts that stores gpc0 and a ranked list.
-fn config(alloc: Global) -> Result<Config, NoMemory> {
-    let mut config = Config {
-        me: Name::copy(alloc, b"agg")?,
-        peers: Declared::new(alloc),
-        tables: Declared::new(alloc),
-        filters: Declared::new(alloc),
-        ranks: Declared::new(alloc),
-    };
-    config.peers.push(Name::copy(alloc, b"lb1")?)?;
-    config.peers.push(Name::copy(alloc, b"lb2")?)?;
-    config.tables.push(Shape {
-        name: Name::copy(alloc, b"t")?,
-        kind: KeyKind::Str(64),
-        size: 1000,
-        cols: Items::copy(alloc, &[(Col::Gpc0, 0)])?,
-    })?;
-    config.ranks.push(Rank {
-        name: Name::copy(alloc, b"top")?,
-        table: 0,
-        col: Col::Gpc0,
-        n: 2,
-    })?;
-    Ok(config)
-}
+const FLEET: &[u8] = b"name agg
+peer lb1
+peer lb2
+table t type string len 64 size 1000 store gpc0
+rank top t gpc0 2
+";
 
 /// The fleet, just opened.
 pub fn opening(alloc: Global) -> Result<Opening> {
-    let config = config(alloc)?;
-    config.check()?;
+    let config = config(alloc, FLEET)?;
     Ok(Opening::new(alloc, config, 0)?)
 }
 
@@ -98,12 +77,6 @@ fn clear(alloc: Global) -> Result<What, NoMemory> {
         table: 0,
         sel: Select::Conds(above_zero(alloc)?),
     })
-}
-
-fn alone(alloc: Global, what: What) -> Result<Vec<What>, NoMemory> {
-    let mut whats = Vec::new(alloc);
-    whats.push(what)?;
-    Ok(whats)
 }
 
 impl Batch {

@@ -10,43 +10,25 @@
 
 ghost use Rattle.std.specs.Prelude.{◌<◌};
 
-use agg_types::{Col, Config, Declared, Items, KeyKind, Name, NoMemory, Shape, What};
+use agg_types::{Config, Items, NoMemory, What};
 use anyhow::{Context, Result};
 use bytes::Bytes;
 use peers_msg::{Definition, Feed, Message, WireCause, WireFault, get_int, put_int, write_message};
 use session_core::{Batch, Session, SessionCause, SessionFault};
 use std::alloc::Global;
+use test_support::config;
 
 /// The longest text behind an update's id and life that is written again.
 const SMALL: usize = 1_000;
 
-fn table(alloc: Global, name: &[u8], kind: KeyKind, cols: &[(Col, u32)]) -> Result<Shape> {
-    Ok(Shape {
-        name: Name::copy(alloc, name)?,
-        kind,
-        size: 100,
-        cols: Items::copy(alloc, cols)?,
-    })
-}
-
 /// The collector `agg` of the peer `lb1`, with the tables `t` of a count by address, `r` of a rate
 /// by integer, and `s` of a narrow and a wide count by text.
-fn config(alloc: Global) -> Result<Config> {
-    let mut peers = Declared::new(alloc);
-    peers.push(Name::copy(alloc, b"lb1")?)?;
-    let wide = [(Col::ConnCnt, 0), (Col::BytesInCnt, 0)];
-    let mut tables = Declared::new(alloc);
-    tables.push(table(alloc, b"t", KeyKind::Ip, &[(Col::Gpc0, 0)])?)?;
-    tables.push(table(alloc, b"r", KeyKind::Integer, &[(Col::HttpReqRate, 10_000)])?)?;
-    tables.push(table(alloc, b"s", KeyKind::Str(8), &wide)?)?;
-    Ok(Config {
-        me: Name::copy(alloc, b"agg")?,
-        peers,
-        tables,
-        filters: Declared::new(alloc),
-        ranks: Declared::new(alloc),
-    })
-}
+const FLEET: &[u8] = b"name agg
+peer lb1
+table t type ip size 100 store gpc0
+table r type integer size 100 store http_req_rate(10000)
+table s type string len 8 size 100 store conn_cnt,bytes_in_cnt
+";
 
 fn print_read(rt: &impl Print, bytes: &[u8]) -> Result<()> {
     match get_int(bytes) {
@@ -260,7 +242,7 @@ fn run_line(
 }
 
 fn main(rt: HostRuntime) -> Result<()> {
-    let config = config(rt.alloc())?;
+    let config = config(rt.alloc(), FLEET)?;
     let mut session = Session::accept(rt.alloc(), true, 0);
     for line in rt.lines(rt.alloc()) {
         let line = line?;
