@@ -8,43 +8,33 @@
 ghost use Rattle.std.specs.Prelude.{◌≤◌, length, IfOk};
 ghost use Rattle.std.specs.List.{All};
 
+mod cases;
 mod pair;
 
-use agg_types::{Col, Cond, Config, Declared, Filter, Items, Key, Name, NoMemory, Op};
-use anyhow::Result;
+use agg_types::{Cond, Config, Declared, Filter, Items, Key, Name, NoMemory};
+use anyhow::{Result, ensure};
+use cases::{CASES, Case, FROM_THREE, IS_TWO, LATE, OVER};
 use pair::Pair;
 use period_rate::Rate;
 use standing_filters::Standing;
 use std::alloc::Global;
 use std::io::Print;
 
-// The end of a row that outlasts all rows here.
-const LATE: u64 = 1_000_000;
-
 fn main(rt: HostRuntime) -> Result<()> {
-    let alloc = rt.alloc();
-    passing(&rt, alloc)?;
-    fleet(&rt, alloc)?;
-    ending(&rt, alloc)?;
-    contrary(&rt, alloc)?;
-    bounds(&rt, alloc)?;
-    four(&rt, alloc)?;
-    clock(&rt, alloc)?;
-    added(&rt, alloc)?;
-    planned(&rt, alloc)
+    for case in CASES {
+        play(&rt, rt.alloc(), &case)?;
+    }
+    added(&rt, rt.alloc())?;
+    planned(&rt, rt.alloc())
 }
 
-// A rate of 3 events in the second before, which falls to 0 within the next one.
-fn falling(elapsed: u64) -> Rate {
-    Rate::arrive(1000, elapsed, 0, 3, 0)
-}
-
-// A condition on the value.
-fn cond(op: Op, bound: u64) -> Cond {
-    Cond {
-        col: Col::Gpc0,
-        op,
-        bound,
+// Two rates of 3 events in the period before, which fall to 0 within the next one. The second
+// period began so many ms before the moment 0.
+fn falling(second: u64, ends: u64) -> Pair {
+    Pair {
+        first: Rate::arrive(1000, 0, 0, 3, 0),
+        second: Rate::arrive(1000, second, 0, 3, 0),
+        ends,
     }
 }
 
@@ -60,15 +50,14 @@ fn filter(alloc: Global, conds: &[Cond]) -> Result<Filter, NoMemory>
     })
 }
 
-// A configuration with one filter on its first table.
-fn config(alloc: Global, conds: &[Cond]) -> Result<Config, NoMemory>
-    requires { length conds.now ≤ 4 }
+// A configuration of this filter.
+fn config(alloc: Global, filters: Declared<Filter>) -> Result<Config, NoMemory>
+    requires { All (λ filter. length filter.conds ≤ 4) filters }
     ensures { IfOk result (λ config. All (λ filter. length filter.conds ≤ 4) config.filters) }
 {
-    let mut filters = Declared::new(alloc);
-    filters.push(filter(alloc, conds)?)?;
+    let me = Name::copy(alloc, b"agg")?;
     Ok(Config {
-        me: Name::copy(alloc, b"agg")?,
+        me,
         peers: Declared::new(alloc),
         tables: Declared::new(alloc),
         filters,
@@ -76,23 +65,51 @@ fn config(alloc: Global, conds: &[Cond]) -> Result<Config, NoMemory>
     })
 }
 
-// Touches a key at each moment, and prints what the filter says then.
-fn tell<R: Print>(
-    rt: &R,
-    alloc: Global,
-    name: &str,
-    conds: &[Cond],
-    values: &Pair,
-    moments: &[u64],
-) -> Result<()>
+// One standing filter on the first table.
+fn standing(alloc: Global, conds: &[Cond]) -> Result<Standing>
     requires { length conds.now ≤ 4 }
 {
-    println!(rt; "{name}")?;
-    let mut standing = Standing::new(alloc, &config(alloc, conds)?)?;
+    let mut filters = Declared::new(alloc);
+    filters.push(filter(alloc, conds)?)?;
+    let config = config(alloc, filters)?;
+    Ok(Standing::new(alloc, &config)?)
+}
+
+// Prints what the filter says of the case's key at each moment.
+fn play<R: Print>(rt: &R, alloc: Global, case: &Case) -> Result<()> {
+    println!(rt; "{}", case.name)?;
+    ensure!(case.conds.len() <= 4, "too many conditions");
+    let mut standing = standing(alloc, case.conds)?;
     let key = Key::copy(alloc, b"k")?;
+    let values = falling(case.second, case.ends);
+    if case.touched {
+        return touch_each(rt, &mut standing, &key, &values, case.moments);
+    }
+    standing.touch(0, &key, &values, 0)?;
+    show(rt, &standing, 0)?;
+    go_on(rt, &mut standing, &values, case.moments)
+}
+
+// Touches a key at each moment.
+fn touch_each<R: Print>(
+    rt: &R,
+    standing: &mut Standing,
+    key: &Key,
+    values: &Pair,
+    moments: &[u64],
+) -> Result<()> {
     for t in moments {
-        standing.touch(0, &key, values, *t)?;
-        show(rt, &standing, *t)?;
+        standing.touch(0, key, values, *t)?;
+        show(rt, standing, *t)?;
+    }
+    Ok(())
+}
+
+// Lets the clock go on to each moment.
+fn go_on<R: Print>(rt: &R, standing: &mut Standing, values: &Pair, moments: &[u64]) -> Result<()> {
+    for t in moments {
+        standing.moment(values, *t)?;
+        show(rt, standing, *t)?;
     }
     Ok(())
 }
@@ -109,186 +126,26 @@ fn show<R: Print>(rt: &R, standing: &Standing, t: u64) -> Result<()> {
     Ok(())
 }
 
-// A value that passes 2 from above: the key comes at 1 and goes at 334.
-fn passing<R: Print>(rt: &R, alloc: Global) -> Result<()> {
-    let values = Pair {
-        first: falling(0),
-        second: Rate::arrive(1000, 3000, 0, 0, 0),
-        ends: LATE,
-    };
-    tell(
-        rt,
-        alloc,
-        "passing",
-        &[cond(Op::Eq, 2)],
-        &values,
-        &[0, 1, 333, 334],
-    )?;
-    tell(rt, alloc, "jump", &[cond(Op::Eq, 2)], &values, &[0, 334])
-}
-
-// Two proxies' rates, each rounded down by itself.
-fn fleet<R: Print>(rt: &R, alloc: Global) -> Result<()> {
-    let values = Pair {
-        first: falling(0),
-        second: falling(500),
-        ends: LATE,
-    };
-    tell(
-        rt,
-        alloc,
-        "fleet",
-        &[cond(Op::Ge, 3)],
-        &values,
-        &[0, 1, 166, 167],
-    )
-}
-
-// A row that ends in the millisecond in which its value falls below the bound, or before.
-fn ending<R: Print>(rt: &R, alloc: Global) -> Result<()> {
-    let mut values = Pair {
-        first: falling(0),
-        second: falling(500),
-        ends: 167,
-    };
-    tell(
-        rt,
-        alloc,
-        "ends with",
-        &[cond(Op::Ge, 3)],
-        &values,
-        &[0, 166, 167],
-    )?;
-    values.ends = 100;
-    tell(
-        rt,
-        alloc,
-        "ends before",
-        &[cond(Op::Ge, 3)],
-        &values,
-        &[0, 99, 100],
-    )
-}
-
-// Conditions that never hold together.
-fn contrary<R: Print>(rt: &R, alloc: Global) -> Result<()> {
-    let values = Pair {
-        first: falling(0),
-        second: falling(0),
-        ends: LATE,
-    };
-    let conds = [cond(Op::Ge, 3), cond(Op::Lt, 3)];
-    tell(rt, alloc, "contrary", &conds, &values, &[0, 500])
-}
-
-// The least and the greatest bound.
-fn bounds<R: Print>(rt: &R, alloc: Global) -> Result<()> {
-    let values = Pair {
-        first: falling(0),
-        second: falling(0),
-        ends: 2000,
-    };
-    tell(
-        rt,
-        alloc,
-        "ge 0",
-        &[cond(Op::Ge, 0)],
-        &values,
-        &[0, 1999, 2000],
-    )?;
-    tell(rt, alloc, "lt 0", &[cond(Op::Lt, 0)], &values, &[0])?;
-    tell(
-        rt,
-        alloc,
-        "le most",
-        &[cond(Op::Le, u64::MAX)],
-        &values,
-        &[0, 2000],
-    )?;
-    tell(
-        rt,
-        alloc,
-        "gt most",
-        &[cond(Op::Gt, u64::MAX)],
-        &values,
-        &[0],
-    )
-}
-
-// Four conditions on one value.
-fn four<R: Print>(rt: &R, alloc: Global) -> Result<()> {
-    let values = Pair {
-        first: falling(0),
-        second: falling(0),
-        ends: LATE,
-    };
-    let conds = [
-        cond(Op::Lt, 6),
-        cond(Op::Ge, 2),
-        cond(Op::Ne, 4),
-        cond(Op::Le, 5),
-    ];
-    tell(rt, alloc, "four", &conds, &values, &[0, 1, 333, 334, 667])
-}
-
-// Touches a key at 0, lets the clock go on to each moment, and prints what the filter says then.
-fn go_on<R: Print>(
-    rt: &R,
-    alloc: Global,
-    name: &str,
-    conds: &[Cond],
-    values: &Pair,
-    moments: &[u64],
-) -> Result<()>
-    requires { length conds.now ≤ 4 }
-{
-    println!(rt; "{name}")?;
-    let mut standing = Standing::new(alloc, &config(alloc, conds)?)?;
-    standing.touch(0, &Key::copy(alloc, b"k")?, values, 0)?;
-    show(rt, &standing, 0)?;
-    for t in moments {
-        standing.moment(values, *t)?;
-        show(rt, &standing, *t)?;
-    }
+// Adds a filter with the keys that have rows.
+fn add(alloc: Global, standing: &mut Standing, values: &Pair) -> Result<()> {
+    let (one, other) = (Key::copy(alloc, b"a")?, Key::copy(alloc, b"b")?);
+    let more = filter(alloc, FROM_THREE)?;
+    standing.add(&more, &[&one, &other], values, 0)?;
     Ok(())
-}
-
-// The clock alone: a change that has come is judged once, whatever was passed, and nothing else is.
-fn clock<R: Print>(rt: &R, alloc: Global) -> Result<()> {
-    let mut values = Pair {
-        first: falling(0),
-        second: Rate::arrive(1000, 3000, 0, 0, 0),
-        ends: LATE,
-    };
-    let passing = [cond(Op::Eq, 2)];
-    go_on(rt, alloc, "clock", &passing, &values, &[1, 333, 334, 400])?;
-    go_on(rt, alloc, "clock jumps", &passing, &values, &[334])?;
-    go_on(rt, alloc, "clock between", &passing, &values, &[333, 334])?;
-    values.second = falling(500);
-    values.ends = 167;
-    let falling = [cond(Op::Ge, 3)];
-    go_on(rt, alloc, "clock and end", &falling, &values, &[166, 167])?;
-    let contrary = [cond(Op::Ge, 3), cond(Op::Lt, 3)];
-    go_on(rt, alloc, "clock for none", &contrary, &values, &[167])
 }
 
 // A filter that is added with the keys that have rows.
 fn added<R: Print>(rt: &R, alloc: Global) -> Result<()> {
     println!(rt; "added")?;
-    let values = Pair {
-        first: falling(0),
-        second: falling(500),
-        ends: LATE,
-    };
-    let mut standing = Standing::new(alloc, &config(alloc, &[cond(Op::Eq, 2)])?)?;
-    let (one, other) = (Key::copy(alloc, b"a")?, Key::copy(alloc, b"b")?);
-    let more = filter(alloc, &[cond(Op::Ge, 3)])?;
-    standing.add(&more, &[&one, &other], &values, 0)?;
+    let values = falling(500, LATE);
+    let mut standing = standing(alloc, IS_TWO)?;
+    add(alloc, &mut standing, &values)?;
     count(rt, &standing)?;
-    standing.moment(&values, 166)?;
-    count(rt, &standing)?;
-    standing.moment(&values, 167)?;
-    count(rt, &standing)
+    for t in [166, 167] {
+        standing.moment(&values, t)?;
+        count(rt, &standing)?;
+    }
+    Ok(())
 }
 
 // Prints how many filters there are, and of the last one how many keys it holds and its next
@@ -308,23 +165,26 @@ fn count<R: Print>(rt: &R, standing: &Standing) -> Result<()> {
     Ok(())
 }
 
+// Touches a key.
+fn touch(alloc: Global, standing: &mut Standing, key: &[u8], values: &Pair, t: u64) -> Result<()> {
+    standing.touch(0, &Key::copy(alloc, key)?, values, t)?;
+    Ok(())
+}
+
 // What is planned for three keys, two of which change in the same ms, and once that has come.
 fn planned<R: Print>(rt: &R, alloc: Global) -> Result<()> {
     println!(rt; "planned")?;
-    let values = Pair {
-        first: falling(0),
-        second: Rate::arrive(1000, 3000, 0, 0, 0),
-        ends: LATE,
-    };
-    let mut standing = Standing::new(alloc, &config(alloc, &[cond(Op::Eq, 2)])?)?;
-    standing.touch(0, &Key::copy(alloc, b"c")?, &values, 0)?;
-    standing.touch(0, &Key::copy(alloc, b"b")?, &values, 1)?;
-    standing.touch(0, &Key::copy(alloc, b"a")?, &values, 0)?;
+    let values = falling(OVER, LATE);
+    let mut standing = standing(alloc, IS_TWO)?;
+    for (key, t) in [(b"c", 0), (b"b", 1), (b"a", 0)] {
+        touch(alloc, &mut standing, key, &values, t)?;
+    }
     show_plans(rt, &standing)?;
-    standing.moment(&values, 1)?;
-    show_plans(rt, &standing)?;
-    standing.moment(&values, 400)?;
-    show_plans(rt, &standing)
+    for t in [1, 400] {
+        standing.moment(&values, t)?;
+        show_plans(rt, &standing)?;
+    }
+    Ok(())
 }
 
 // Prints the planned changes of the first filter.
