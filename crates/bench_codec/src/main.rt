@@ -13,18 +13,13 @@ use session_core::Session;
 use std::alloc::Global;
 use std::rt::Clock;
 use std::time::Instant;
+use test_support::{HELLO, scattered};
 
 /// How many updates are read.
 const UPDATES: u32 = 1_000_000;
 
 /// How many keys they are of.
-const KEYS: u64 = 100_000;
-
-/// Far apart from key to key.
-const STRIDE: u64 = 2_147_483_647;
-
-/// The hello of the peer `lb1` to the collector `agg`.
-const HELLO: &[u8] = b"HAProxyS 2.1\nagg\nlb1 100 1\n";
+const KEYS: u32 = 100_000;
 
 /// The period of each rate, in ms.
 const PERIOD: u32 = 10_000;
@@ -61,10 +56,10 @@ fn stream(alloc: Global, values: &[u8]) -> Result<Vec<u8>> {
     put_int((values.len() as u64).saturating_add(8), &mut head)?;
     let mut bytes = Vec::new(alloc);
     for id in 0..UPDATES {
-        let key = u64::from(id).wrapping_mul(STRIDE) % KEYS;
+        let key = scattered(id, KEYS);
         bytes.extend_from_slice(head.as_slice())?;
         bytes.extend_from_slice(&id.to_be_bytes())?;
-        bytes.extend_from_slice(&(key as u32).to_be_bytes())?;
+        bytes.extend_from_slice(&key.to_be_bytes())?;
         bytes.extend_from_slice(values)?;
     }
     Ok(bytes)

@@ -7,7 +7,7 @@ use crate::asking::Standing;
 use agg_types::{Config, Key};
 use anyhow::Result;
 use std::alloc::Global;
-use test_support::config;
+use test_support::{config, scattered};
 
 /// Of one key in so many the rate is above 100.
 const KEYS_A_FAST_ONE: u32 = 1000;
@@ -131,11 +131,10 @@ impl Load {
 impl Order {
     /// The number of the key of an update.
     pub fn key_of(self, id: u32, keys: u32) -> u32 {
-        let number = match self {
-            Order::Scattered => u64::from(id).wrapping_mul(2_147_483_647),
-            Order::Drawn => drawn(u64::from(id)),
-        };
-        u32::try_from(number % u64::from(keys.max(1))).unwrap_or(0)
+        match self {
+            Order::Scattered => scattered(id, keys),
+            Order::Drawn => (drawn(u64::from(id)) % u64::from(keys.max(1))) as u32,
+        }
     }
 }
 

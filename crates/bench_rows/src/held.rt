@@ -7,14 +7,14 @@ use anyhow::Result;
 use peer_rows::{Rows, Spot};
 use std::alloc::Global;
 use std::time::Duration;
+use test_support::address;
 
 /// How often each key is updated.
 const UPDATES: u32 = 4;
 
 /// The key of 4 bytes at a place of an order in which no key stands beside its neighbour.
 fn scattered(alloc: Global, place: u32, number: u32) -> Result<Key, NoMemory> {
-    let id = u64::from(place).wrapping_mul(2_147_483_647) % u64::from(number.max(1));
-    Key::copy(alloc, &id.to_be_bytes()[4..])
+    address(alloc, test_support::scattered(place, number))
 }
 
 /// The rows that one peer holds of one table.

@@ -1,25 +1,21 @@
-//! Seats, posts, receipts and looks of a hub: in one thread, and in threads of their own.
+//! Seats, posts, receipts and looks of a hub, in one thread.
 #![tactic(auto)]
 
 ghost use Rattle.std.specs.Prelude.{◌≡◌};
 
-mod fleet;
 mod replaced;
 mod seats;
-mod stare;
-mod steps;
-mod threads;
 
+use agg_types::What;
 use anyhow::Result;
-use fleet::{long_batch, opening};
 use hub::{Hub, Lens, Naming, Opening};
 use replaced::replace;
 use seats::{fill, has_place};
 use std::alloc::Global;
 use std::marker::Brand;
 use std::sync::Wait;
-use std::thread::Threads;
-use steps::{lens, post, seen, session, sit};
+use test_hub_support::{lens, opening, post, seen, session, sit};
+use test_support::{alone, put};
 
 /// Two sessions, one after the other, each with a peer of its own; what they posted is learned.
 fn learn_both<J: Naming, H: Wait + Drop, W: Wait>(
@@ -50,6 +46,15 @@ fn look_on<J: Naming, H: Wait + Drop, W: Wait + Print>(
     Ok(())
 }
 
+/// A peer speaks, and puts the first 1,000 addresses in turn, so often in all.
+fn long_batch(alloc: Global, peer: usize, puts: u32) -> Result<Vec<What>> {
+    let mut whats = alone(alloc, What::Open(peer))?;
+    for turn in 0..puts {
+        whats.push(put(alloc, peer, turn % 1000, 1)?)?;
+    }
+    Ok(whats)
+}
+
 /// Batches of no event, of one and of 100,001.
 fn sizes<J: Naming, H: Wait + Drop, W: Wait + Print>(
     rt: &W,
@@ -66,8 +71,8 @@ fn sizes<J: Naming, H: Wait + Drop, W: Wait + Print>(
     Ok(())
 }
 
-/// Rows over a hub with one place for a lens, in one thread.
-fn alone<J: Naming, R: Print + Wait>(rt: &R, alloc: Global, opening: Opening) -> Result<()>
+/// Steps over a hub with one place for a lens.
+fn run_alone<J: Naming, R: Print + Wait>(rt: &R, alloc: Global, opening: Opening) -> Result<()>
     requires { opening.of ≡ J.book }
 {
     let hub = Hub::<J, &R>::new(alloc, rt, opening, 1)?;
@@ -87,27 +92,7 @@ fn late<J: Naming, R: Print + Wait>(rt: &R, alloc: Global, opening: Opening) -> 
     replace(rt, alloc, &hub, &mut lens)
 }
 
-/// Rows over a hub that threads share.
-fn shared<J: Naming + Send + Sync, R: Print + Threads + Wait + Copy + Send + Sync>(
-    rt: &R,
-    alloc: Global,
-    opening: Opening,
-) -> Result<()>
-    requires { opening.of ≡ J.book }
-{
-    let hub = Hub::<J, &R>::new(alloc, rt, opening, 8)?;
-    let (shown, less) = threads::at_once(rt, alloc, &hub);
-    println!(rt; "sessions that saw what they posted: {shown}, looks that went back: {less}")?;
-    let mut lens = lens(rt, &hub)?;
-    println!(rt; "both have ended: {}", seen(alloc, &mut lens)?)?;
-    let (same, posted) = stare::at_once(rt, alloc, &hub, &mut lens);
-    println!(rt; "one look shows the same {same} times, batches posted: {posted}")?;
-    println!(rt; "the next look: {}", seen(alloc, &mut lens)?)?;
-    Ok(())
-}
-
 fn main(rt: HostRuntime) -> Result<()> {
-    alone::<Brand, HostRuntime>(&rt, rt.alloc(), opening(rt.alloc())?)?;
-    late::<Brand, HostRuntime>(&rt, rt.alloc(), opening(rt.alloc())?)?;
-    shared::<Brand, HostRuntime>(&rt, rt.alloc(), opening(rt.alloc())?)
+    run_alone::<Brand, HostRuntime>(&rt, rt.alloc(), opening(rt.alloc())?)?;
+    late::<Brand, HostRuntime>(&rt, rt.alloc(), opening(rt.alloc())?)
 }

@@ -2,13 +2,12 @@
 
 ghost use Rattle.std.specs.Prelude.{◌≡◌, IfOk};
 
-use crate::fleet::batch;
-use crate::steps::{post, sit};
 use agg_types::What;
 use anyhow::{Result, anyhow};
 use hub::{Hub, Lens, Naming, Pass, PostFault, Receipt};
 use std::alloc::Global;
 use std::sync::Wait;
+use test_hub_support::{batch, post, sit};
 use test_support::{alone, put};
 
 /// A seat that opened a peer.

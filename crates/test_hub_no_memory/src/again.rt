@@ -8,29 +8,10 @@ ghost use Rattle.std.specs.Prelude.{◌≡◌, IfOk, IfSome};
 use crate::seen::seen;
 use agg_types::What;
 use anyhow::{Result, anyhow, ensure};
-use hub::{Hub, Lens, Naming, Pass, PostFault, Receipt, SeatFault};
+use hub::{Hub, Lens, Naming, Pass, PostFault, Receipt};
 use std::alloc::Global;
 use std::sync::Wait;
-
-/// Takes a seat.
-pub fn sit<J: Naming, H: Wait + Drop, W: Wait>(rt: &W, hub: &Hub<J, H>) -> Result<Pass>
-    ensures { IfOk result (λ p. p.seen.of ≡ hub.now.of) }
-{
-    match hub.seat(rt) {
-        Ok(pass) => Ok(pass),
-        Err(SeatFault::NoMemory) => sit_again(rt, hub),
-        Err(SeatFault::NoSeat) => Err(anyhow!("no seat")),
-    }
-}
-
-fn sit_again<J: Naming, H: Wait + Drop, W: Wait>(rt: &W, hub: &Hub<J, H>) -> Result<Pass>
-    ensures { IfOk result (λ p. p.seen.of ≡ hub.now.of) }
-{
-    match hub.seat(rt) {
-        Ok(pass) => Ok(pass),
-        Err(_) => Err(anyhow!("no seat again")),
-    }
-}
+use test_hub_support::{leave_once, post_once};
 
 /// Posts a batch, and shows what is pending of it by an empty batch.
 pub fn post<J: Naming, H: Wait + Drop, W: Wait>(
@@ -53,29 +34,13 @@ pub fn post<J: Naming, H: Wait + Drop, W: Wait>(
         Err(PostFault::NoMemory(back)) => {
             ensure!(back.len() == count, "a part of the batch was lost");
             before.stands(lens)?;
-            post_again(rt, hub, pass, back)
+            post_once(rt, hub, pass, back)
         }
         Err(PostFault::Pending) => {
             before.stands(lens)?;
-            post_again(rt, hub, pass, Vec::new(alloc))
+            post_once(rt, hub, pass, Vec::new(alloc))
         }
         Err(_) => Err(anyhow!("refused")),
-    }
-}
-
-fn post_again<J: Naming, H: Wait + Drop, W: Wait>(
-    rt: &W,
-    hub: &Hub<J, H>,
-    pass: &mut Pass,
-    whats: Vec<What>,
-) -> Result<Receipt>
-    requires { pass.old.seen.of ≡ hub.now.of }
-    ensures { IfOk result (λ r. (r.of ≡ hub.now.of) × (pass.new.seen.of ≡ hub.now.of)) }
-{
-    ensure!(hub.allows(whats.as_slice()), "it does not fit");
-    match hub.post(rt, pass, whats) {
-        Ok(receipt) => Ok(receipt),
-        Err(_) => Err(anyhow!("refused again")),
     }
 }
 
@@ -99,22 +64,8 @@ pub fn leave<J: Naming, H: Wait + Drop, W: Wait>(
         }
         Err((pass, PostFault::NoMemory(_))) => {
             before.stands(lens)?;
-            leave_again(rt, hub, pass)
+            leave_once(rt, hub, pass)
         }
         Err(_) => Err(anyhow!("it stays")),
-    }
-}
-
-fn leave_again<J: Naming, H: Wait + Drop, W: Wait>(
-    rt: &W,
-    hub: &Hub<J, H>,
-    pass: Pass,
-) -> Result<Option<Receipt>>
-    requires { pass.seen.of ≡ hub.now.of }
-    ensures { IfOk result (λ left. IfSome left (λ r. r.of ≡ hub.now.of)) }
-{
-    match hub.leave(rt, pass) {
-        Ok(left) => Ok(left),
-        Err(_) => Err(anyhow!("it stays again")),
     }
 }

@@ -11,7 +11,7 @@ mod again;
 mod fleet;
 mod seen;
 
-use again::{leave, post, sit};
+use again::{leave, post};
 use anyhow::{Context, Result};
 use fleet::{Batch, opening};
 use hub::{Hub, Lens, Naming, Opening, Pass, Receipt};
@@ -19,6 +19,7 @@ use seen::seen;
 use std::alloc::Global;
 use std::marker::Brand;
 use std::sync::Wait;
+use test_hub_support::sit;
 
 /// Keys that are as long as a key may be that takes no memory of its own, and longer ones.
 const KEYS: [&[u8]; 3] = [

@@ -2,8 +2,6 @@
 
 ghost use Rattle.std.specs.Prelude.{◌≡◌};
 
-use crate::fleet::batch;
-use crate::steps::{gpc0, post, sit};
 use anyhow::{Result, anyhow};
 use hub::{Hub, Lens, Naming};
 use std::alloc::Global;
@@ -11,6 +9,7 @@ use std::sync::Wait;
 use std::sync::atomic::{AtomicBool, AtomicU32, Ordering};
 use std::thread;
 use std::thread::Threads;
+use test_hub_support::{batch, first_sum, post, sit};
 use test_support::{address, alone, put};
 
 /// How often the look is read.
@@ -47,9 +46,9 @@ fn stare(alloc: Global, lens: &mut Lens, turns: &Turns) -> Result<()> {
         return Err(anyhow!("no look"));
     };
     turns.looks.store(true, Ordering::SeqCst);
-    let first = gpc0(look.book().summed(0, &key));
+    let first = first_sum(look.book().summed(0, &key));
     for _ in 0..TURNS {
-        if gpc0(look.book().summed(0, &key)) == first {
+        if first_sum(look.book().summed(0, &key)) == first {
             turns.same.fetch_add(1, Ordering::SeqCst);
         }
         thread::yield_now();

@@ -1,6 +1,5 @@
 //! Two sessions and a reader, each in a thread of its own.
 
-use crate::steps::{lens, post, seen, session, sit};
 use anyhow::Result;
 use hub::{Hub, Lens, Naming, Pass};
 use std::alloc::Global;
@@ -8,6 +7,7 @@ use std::sync::Wait;
 use std::sync::atomic::{AtomicU64, Ordering};
 use std::thread;
 use std::thread::Threads;
+use test_hub_support::{lens, post, seen, session, sit};
 use test_support::{alone, put};
 
 /// What threads tell of themselves.

@@ -16,11 +16,9 @@ use anyhow::{Result, anyhow, ensure};
 use book::Book;
 use fleet_core::{Fleet, FleetFault, Replies, Step};
 use std::alloc::Global;
-use test_support::{TWO_PROXIES, config};
+use test_support::{HELLO, TWO_PROXIES, config};
 
-/// A hello of the first proxy, and one of the second with its first definition and update.
-const FIRST: &[u8] = b"HAProxyS 2.1\nagg\nlb1 100 1\n";
-
+/// The hello of the second proxy, with its first definition and update.
 const SECOND: &[u8] = b"HAProxyS 2.1\nagg\nlb2 200 1\n\
     \x0a\x82\x08\x01\x01t\x04\x04\x04\xf8\x2f\x0a\x80\x09\x00\x00\x00\x01\x0a\x00\x00\x01\x02";
 
@@ -45,7 +43,7 @@ const TOO_LONG: &[u8] = b"\x0a\x80\xf1\xf0\x80\x80\x80\x01";
 /// What happens, in order.
 const DEEDS: [Deed; 17] = [
     Deed::Connect,
-    Deed::Send(1, FIRST),
+    Deed::Send(1, HELLO),
     Deed::Send(1, OPENING),
     Deed::Connect,
     Deed::Send(2, SECOND),

@@ -1,4 +1,5 @@
-//! What test and bench programs share: configurations by their text, keys and events.
+//! What test and bench programs share: configurations by their text, a hello, keys and events, a
+//! source and a writer that fail.
 //!
 //! A program writes the fleet that it runs as an operator would, and not as a literal of the types:
 //! so it reads like the documents, and stays as it is when the types change.
@@ -7,13 +8,19 @@
 ghost use Rattle.agg_types.specs.Check.{config_faults};
 ghost use Rattle.std.specs.Prelude.{◌≡◌, [], IfOk};
 
+mod memory;
+
 use agg_types::{Cell, Cells, Config, Key, NoMemory, What};
 use anyhow::Result;
+pub use memory::{Full, Torn};
 use std::alloc::Global;
 
 /// The collector `agg` of the proxies `lb1` and `lb2`, with a table of a count by address.
 pub const TWO_PROXIES: &[u8] =
     b"name agg\npeer lb1\npeer lb2\ntable t type ip size 1000 store gpc0\n";
+
+/// The hello of the proxy `lb1` to the collector `agg`.
+pub const HELLO: &[u8] = b"HAProxyS 2.1\nagg\nlb1 100 1\n";
 
 /// The configuration that a text writes.
 pub fn config(alloc: Global, text: &[u8]) -> Result<Config>

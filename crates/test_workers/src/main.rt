@@ -26,7 +26,6 @@ mod told;
 
 use anyhow::Result;
 use everyone::{CLOSING, WHOLE};
-use fleet::opening;
 use hub::{Hub, Naming, Opening};
 use order::Course;
 use peers::Case;
@@ -35,6 +34,7 @@ use std::alloc::Global;
 use std::marker::Brand;
 use std::sync::Wait;
 use std::thread::Threads;
+use test_hub_support::opening;
 
 /// Does a scene over a hub of its own.
 fn stage<J: Naming, R: Print + Wait>(

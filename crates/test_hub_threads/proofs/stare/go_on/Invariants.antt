@@ -1,5 +1,5 @@
 use Rattle.std.proofs.Common.{◌≡◌}
-use Rattle.test_hub.proofs.stare.go_on.Given as goal
+use Rattle.test_hub_threads.proofs.stare.go_on.Given as goal
 
 -- the pass stays one of this hub
 abbrev pub invariant-loop-count : goal.invariant-loop-count
