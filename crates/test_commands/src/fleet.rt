@@ -12,24 +12,23 @@ pub const SEAT: u64 = 0;
 /// A row of a proxy: its peer, table and key, the ms that it lives, and its count.
 type Row = (usize, usize, &'static [u8], Option<u64>, u64);
 
-fn rows(alloc: Global) -> Result<Vec<Row>, NoMemory> {
-    let mut rows: Vec<Row> = Vec::new(alloc);
-    rows.push((0, 0, b"\x0a\x00\x00\x01", None, 6))?;
-    rows.push((1, 0, b"\x0a\x00\x00\x01", None, 5))?;
-    rows.push((0, 0, b"\x0a\x00\x00\x02", Some(60_000), 9))?;
-    rows.push((0, 0, b"\xff\x00\x0a\x64", None, 4_294_967_295))?;
-    rows.push((0, 1, b"\x00\x00\x00\x00", None, 1))?;
-    rows.push((0, 1, b"\x7f\xff\xff\xff", None, 2))?;
-    rows.push((0, 1, b"\x80\x00\x00\x00", None, 3))?;
-    rows.push((0, 1, b"\xff\xff\xff\xff", None, 4))?;
-    rows.push((0, 2, b"\x20\x01\x0d\xb8\0\0\0\0\0\0\0\0\0\0\0\x01", None, 1))?;
-    rows.push((0, 3, b"", None, 1))?;
-    rows.push((0, 3, b"a b%\x00\xff", None, 2))?;
-    rows.push((0, 3, b"abc", None, 3))?;
-    rows.push((0, 4, b"\x00\xff", None, 1))?;
-    rows.push((0, 5, b"\x01\x02\x03\x04", None, 1))?;
-    Ok(rows)
-}
+/// Keys of each table.
+const ROWS: [Row; 14] = [
+    (0, 0, b"\x0a\x00\x00\x01", None, 6),
+    (1, 0, b"\x0a\x00\x00\x01", None, 5),
+    (0, 0, b"\x0a\x00\x00\x02", Some(60_000), 9),
+    (0, 0, b"\xff\x00\x0a\x64", None, 4_294_967_295),
+    (0, 1, b"\x00\x00\x00\x00", None, 1),
+    (0, 1, b"\x7f\xff\xff\xff", None, 2),
+    (0, 1, b"\x80\x00\x00\x00", None, 3),
+    (0, 1, b"\xff\xff\xff\xff", None, 4),
+    (0, 2, b"\x20\x01\x0d\xb8\0\0\0\0\0\0\0\0\0\0\0\x01", None, 1),
+    (0, 3, b"", None, 1),
+    (0, 3, b"a b%\x00\xff", None, 2),
+    (0, 3, b"abc", None, 3),
+    (0, 4, b"\x00\xff", None, 1),
+    (0, 5, b"\x01\x02\x03\x04", None, 1),
+];
 
 /// Two proxies, a table of each kind of keys, a filter by a rate that has come down from 3 by the
 /// moment 1, and two ranked lists.
@@ -76,8 +75,8 @@ pub fn opened(alloc: Global) -> Result<(Book, u64)> {
     book.take(SEAT, 1, &What::Open(0))?;
     book.take(SEAT, 2, &What::Open(1))?;
     let mut seq = 3u64;
-    for row in rows(alloc)?.as_slice() {
-        book.take(SEAT, seq, &put(alloc, *row)?)?;
+    for row in ROWS {
+        book.take(SEAT, seq, &put(alloc, row)?)?;
         seq = seq.saturating_add(1);
     }
     Ok((book, seq))
