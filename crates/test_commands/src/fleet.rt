@@ -30,22 +30,6 @@ const ROWS: [Row; 14] = [
     (0, 5, b"\x01\x02\x03\x04", None, 1),
 ];
 
-/// Two proxies, a table of each kind of keys, a filter by a rate that has come down from 3 by the
-/// moment 1, and two ranked lists.
-const FLEET: &[u8] = b"name agg
-peer lb1
-peer lb2
-table t type ip size 100 store gpc0,http_req_rate(1000)
-table i type integer size 100 store gpc0
-table v6 type ipv6 size 100 store gpc0
-table s type string len 6 size 100 store gpc0
-table b type binary len 2 size 100 store gpc0
-table 100% type ip size 100 store gpc0
-filter f t data.http_req_rate ge 3
-rank top t gpc0 2
-rank fast t http_req_rate 2
-";
-
 // What a proxy says of a row. Keys of the first table have had 3 requests in the period before.
 fn put(alloc: Global, row: Row) -> Result<What, NoMemory> {
     let (peer, table, key, life, count) = row;
@@ -67,17 +51,29 @@ fn put(alloc: Global, row: Row) -> Result<What, NoMemory> {
     })
 }
 
-/// The fleet with its rows, and the number of its seat's next event.
-pub fn opened(alloc: Global) -> Result<(Book, u64)> {
-    let config = config(alloc, FLEET)?;
+// Puts each row, and tells the number of the seat's next event.
+fn put_rows(alloc: Global, book: &mut Book, rows: &[Row], first: u64) -> Result<u64> {
+    let mut seq = first;
+    for row in rows {
+        book.take(SEAT, seq, &put(alloc, *row)?)?;
+        seq = seq.saturating_add(1);
+    }
+    Ok(seq)
+}
+
+// A fleet as its text declares it, with both proxies open.
+fn connected(alloc: Global, text: &[u8]) -> Result<Book> {
+    let config = config(alloc, text)?;
     let mut book = Book::new(alloc, config, 0)?;
     book.take(SEAT, 0, &What::Sit)?;
     book.take(SEAT, 1, &What::Open(0))?;
     book.take(SEAT, 2, &What::Open(1))?;
-    let mut seq = 3u64;
-    for row in ROWS {
-        book.take(SEAT, seq, &put(alloc, row)?)?;
-        seq = seq.saturating_add(1);
-    }
+    Ok(book)
+}
+
+/// The fleet of a text with its rows, and the number of its seat's next event.
+pub fn opened(alloc: Global, text: &[u8]) -> Result<(Book, u64)> {
+    let mut book = connected(alloc, text)?;
+    let seq = put_rows(alloc, &mut book, &ROWS, 3)?;
     Ok((book, seq))
 }

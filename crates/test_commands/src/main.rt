@@ -1,4 +1,4 @@
-//! Asks a small fleet each line of data/commands, and prints what is answered.
+//! Asks the fleet of data/fleet each line of data/commands, and prints what is answered.
 //!
 //! A clear or an added filter is then done, as the steps of a fleet are.
 #![tactic(auto)]
@@ -17,29 +17,42 @@ use std::{fs, io};
 const SHOWN: usize = 72;
 
 fn main(rt: HostRuntime) -> Result<()> {
-    let text = fs::read(&rt, "commands")?;
-    let (mut book, mut seq) = opened(rt.alloc())?;
+    let fleet = fs::read(&rt, "fleet")?;
+    let commands = fs::read(&rt, "commands")?;
+    let (mut book, seq) = opened(rt.alloc(), fleet.as_slice())?;
     let mut writer = io::writer(&rt);
-    let mut rest = text.as_slice();
+    ask_all(rt.alloc(), &mut book, seq, commands.as_slice(), &mut writer)
+}
+
+// The fleet, opened once more where a growth was refused.
+fn opened(alloc: Global, text: &[u8]) -> Result<(Book, u64)> {
+    match fleet::opened(alloc, text) {
+        Err(_) => fleet::opened(alloc, text),
+        opened => opened,
+    }
+}
+
+// Asks each line of a text, and writes what is answered. The first event has this number.
+fn ask_all(
+    alloc: Global,
+    book: &mut Book,
+    first: u64,
+    text: &[u8],
+    writer: &mut impl Write,
+) -> Result<()> {
+    let mut seq = first;
+    let mut rest = text;
     while let Some((line, behind)) = next_line(rest) {
-        let shown = shown_line(rt.alloc(), line)?;
-        let mut out = Vec::new(rt.alloc());
+        let shown = shown_line(alloc, line)?;
+        let mut out = Vec::new(alloc);
         out.extend_from_slice(shown.as_slice())?;
-        if ask(rt.alloc(), &mut book, seq, line, shown.as_slice(), &mut out)? {
+        if ask(alloc, book, seq, line, shown.as_slice(), &mut out)? {
             seq = seq.saturating_add(1);
         }
         writer.write_all(out.as_slice())?;
         rest = behind;
     }
     Ok(())
-}
-
-// The fleet, opened once more where a growth was refused.
-fn opened(alloc: Global) -> Result<(Book, u64)> {
-    match fleet::opened(alloc) {
-        Err(_) => fleet::opened(alloc),
-        opened => opened,
-    }
 }
 
 // The beginning of a line, with `?` for what is no ASCII text.

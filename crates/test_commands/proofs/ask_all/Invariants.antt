@@ -1,5 +1,5 @@
 use Rattle.std.proofs.Common.{length}
-use Rattle.test_commands.proofs.main.Given as goal
+use Rattle.test_commands.proofs.ask_all.Given as goal
 
 abbrev pub decreases-loop-line : goal.decreases-loop-line
 decreases-loop-line l = length l.rest
