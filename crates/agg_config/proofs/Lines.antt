@@ -53,7 +53,7 @@ pub all_read : (lines : List (List ℕ)) (before : ℕ) → before ≤ length li
     → drop before lines ≡ [] → AllRead lines before
 all_read lines before within e =
     let all : before ≡ length lines =
-        omega (arith, within, length-drop before lines, ap length e) in
+    omega (arith, within, length-drop before lines, ap length e) in
     record {
       all = all;
       front = take_all before lines (omega (arith, all));

@@ -7,8 +7,11 @@ use Rattle.hub.specs.Posts.{Follows, IsNotNext, Seated}
 pub not_next : (p : Seated) (all shown : Beginning) (found number : ℕ) → number ≡ p.number
     → Follows p.seen all → length (own p.seat all.events) ≡ found → shown ≡ all
     → found ≢ number → (p ≡ p) × IsNotNext p found shown
-not_next p all shown found number is follows owns same other = (refl, record {
-  seen = subst (Follows p.seen) (sym same) follows;
-  owns = subst (λ (b : Beginning). length (own p.seat b.events) ≡ found) (sym same) owns;
-  other = λ e. other (e ∙ sym is);
-})
+not_next p all shown found number is follows owns same other = (
+  refl,
+  record {
+    seen = subst (Follows p.seen) (sym same) follows;
+    owns = subst (λ (b : Beginning). length (own p.seat b.events) ≡ found) (sym same) owns;
+    other = λ e. other (e ∙ sym is);
+  },
+)

@@ -35,11 +35,13 @@ fn print_row<W: Write>(alloc: Global, title: &[u8], text: &[u8], out: &mut W) ->
     out.write_all(b": ")?;
     match read(alloc, text) {
         Ok(config) => print_config(&config, out),
-        Err(LineFault {
-            line,
-            cause,
-            place: _,
-        }) => writeln!(out, "config line {line}: {cause}"),
+        Err(
+            LineFault {
+                line,
+                cause,
+                place: _,
+            },
+        ) => writeln!(out, "config line {line}: {cause}"),
     }
 }
 

@@ -8,12 +8,12 @@ invariant_of-keeper g c =
     let old = c.self.inside.hand.writer in
     let new = c.hand_over.new.writer in
     let desk : new.desk ≡ old.desk =
-        c.hand_over.ensures.desk ∙ ap (λ w. w.desk) c.open-writer.ensures in
+    c.hand_over.ensures.desk ∙ ap (λ w. w.desk) c.open-writer.ensures in
     let kept : drop new.behind new.log.items ++ c.hand_over.new.queue.items
-        ≡ drop old.behind old.log.items ++ c.self.inside.queue.items =
-        c.hand_over.ensures.kept
-        ∙ ap (λ w. drop w.behind w.log.items ++ c.self.inside.queue.items)
-        c.open-writer.ensures in
+    ≡ drop old.behind old.log.items ++ c.self.inside.queue.items =
+    c.hand_over.ensures.kept
+    ∙ ap (λ w. drop w.behind w.log.items ++ c.self.inside.queue.items)
+    c.open-writer.ensures in
     held_moved g.J.Naming.book old.desk.shown.value new.desk.shown.value (view old.desk.place)
     (view new.desk.place) (drop old.behind old.log.items) (drop new.behind new.log.items)
     c.self.inside.queue.items c.hand_over.new.queue.items c.self.inside.front
@@ -36,12 +36,12 @@ invariant_of-keeper-in-Err g c =
     let over = c.hand_over.new.writer in
     let new = c.show-writer.result.0 in
     let desk : over.desk ≡ old.desk =
-        c.hand_over.ensures.desk ∙ ap (λ w. w.desk) c.open-writer.ensures in
+    c.hand_over.ensures.desk ∙ ap (λ w. w.desk) c.open-writer.ensures in
     let kept : drop over.behind over.log.items ++ c.hand_over.new.queue.items
-        ≡ drop old.behind old.log.items ++ c.self.inside.queue.items =
-        c.hand_over.ensures.kept
-        ∙ ap (λ w. drop w.behind w.log.items ++ c.self.inside.queue.items)
-        c.open-writer.ensures in
+    ≡ drop old.behind old.log.items ++ c.self.inside.queue.items =
+    c.hand_over.ensures.kept
+    ∙ ap (λ w. drop w.behind w.log.items ++ c.self.inside.queue.items)
+    c.open-writer.ensures in
     held_moved g.J.Naming.book old.desk.shown.value new.desk.shown.value (view old.desk.place)
     (view new.desk.place) (drop old.behind old.log.items) (drop new.behind new.log.items)
     c.self.inside.queue.items c.hand_over.new.queue.items c.self.inside.front

@@ -14,8 +14,8 @@ enter_as-requires c = looks _ _
 pub invariant_of-self-then-not-compare : goal.invariant_of-self-then-not-compare
 invariant_of-self-then-not-compare c =
     let told : IsTold c.self.inside.front.of (view c.in-Some.reader.place) =
-        subst (λ o. IfSome o (λ r. IsTold c.self.inside.front.of (view r.place)))
-        (sym c.in-Some.ensures.value) c.self.invariant.0 in (
+    subst (λ o. IfSome o (λ r. IsTold c.self.inside.front.of (view r.place)))
+    (sym c.in-Some.ensures.value) c.self.invariant.0 in (
       told_again c.self.inside.front.of c.in-Ok.reading.part.value (view c.in-Some.reader.place)
           (view c.leave-then-not-compare.result.place) told c.in-Ok.ensures.1.1
           (c.leave-then-not-compare.ensures.1 ∙ c.in-Ok.ensures.1.2),
@@ -25,16 +25,16 @@ invariant_of-self-then-not-compare c =
 pub returns-else-not-compare-clause-seen : goal.returns-else-not-compare-clause-seen
 returns-else-not-compare-clause-seen c =
     let told : IsTold c.self.inside.front.of (view c.in-Some.reader.place) =
-        subst (λ o. IfSome o (λ r. IsTold c.self.inside.front.of (view r.place)))
-        (sym c.in-Some.ensures.value) c.self.invariant.0 in
+    subst (λ o. IfSome o (λ r. IsTold c.self.inside.front.of (view r.place)))
+    (sym c.in-Some.ensures.value) c.self.invariant.0 in
     let at : c.again-at.result ≡ c.in-Ok.reading.part.value.at = c.again-at.ensures
-        ∙ ap (λ (x : Copied). x.at) (c.behind-reading.view_is ∙ c.get.ensures) in
+    ∙ ap (λ (x : Copied). x.at) (c.behind-reading.view_is ∙ c.get.ensures) in
     let of : c.again-at.result.of ≡ c.self.inside.front.of =
-        ap (λ (b : Beginning). b.of) at
-        ∙ log_of c.self.inside.front.of c.in-Ok.reading.part.value (view c.in-Some.reader.place)
-        told c.in-Ok.ensures.1.1 in
+    ap (λ (b : Beginning). b.of) at
+    ∙ log_of c.self.inside.front.of c.in-Ok.reading.part.value (view c.in-Some.reader.place)
+    told c.in-Ok.ensures.1.1 in
     let seen : c.self.inside.front ≡ c.args.self.now.seen =
-        ap (λ (s : Seeing). s.seen) (c.self.view_is ∙ c.leave.ensures) in
+    ap (λ (s : Seeing). s.seen) (c.self.view_is ∙ c.leave.ensures) in
     subst (λ (b : Beginning). Follows b c.again-at.result) seen
     (follows_on c.self.inside.front c.again-at.result of c.compare.ensures.fleet.0
     c.compare.ensures.fleet.1
