@@ -35,9 +35,15 @@ use std::marker::Model;
 /// Contracts see what recomputing from the whole list of events gives: the configuration with the
 /// filters that stand, the moment, the rows in force, the sessions and the seats. It is always
 /// sound.
-#[derive(Drop)]
 pub struct Book {
     machine: Machine,
+}
+
+// By hand, so that a crate that drops a book proves nothing of its parts.
+impl Drop for Book {
+    fn drop(self) {
+        let Book { machine: _ } = self;
+    }
 }
 
 impl Model for Book {
