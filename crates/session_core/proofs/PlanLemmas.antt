@@ -8,7 +8,7 @@ use Rattle.std.specs.Prelude.{ltb, slice_get, unwrap_or}
 use Rattle.std.specs.Option.{option_map}
 use Rattle.std.specs.Prelude.{vec_len}
 use Rattle.std.proofs.lemmas.List.{drop-drop}
-use Rattle.session_core.specs.declared.plan.Plan.{Plan}
+use Rattle.session_core.specs.declared.plan.DecodePlan.{DecodePlan}
 use Rattle.peers_msg.specs.Payload.{◌>>=◌, number_at}
 use Rattle.agg_types.proofs.Columns.{of_each}
 use Rattle.agg_types.specs.Col.{col_id, is_rate, is_wide}
@@ -375,7 +375,7 @@ cells_split bits periods cols (Some numbers) = ap Some (cells_same bits periods 
 
 -- what is read along a plan is what the definitions say
 pub planned_cells : (bits : ℕ) (periods : List ℕ) (cols : List (Col × ℕ)) (bytes : List ℕ)
-    (plan : Plan) → IsPlan bits periods cols plan
+    (plan : DecodePlan) → IsPlan bits periods cols plan
     → option_map (λ numbers. map (cell_from numbers) plan.sources.items)
     (numbers_at (vec_len plan.numbers) bytes) ≡ option_map (λ sents. cells_of sents periods cols)
     (sents_at bits bytes)

@@ -5,7 +5,7 @@ use Rattle.std.specs.Prelude.{slice_get, slice_set, IfSome}
 use Rattle.std.proofs.lemmas.List.{length-set}
 use Rattle.std.proofs.lemmas.Option.{slice_get_read}
 use Rattle.agg_types.specs.declared.config.Shape.{Shape}
-use Rattle.session_core.specs.declared.plan.Plan.{Plan}
+use Rattle.session_core.specs.declared.plan.DecodePlan.{DecodePlan}
 use Rattle.session_core.specs.declared.track.Entry.{Entry}
 use Rattle.session_core.specs.declared.track.Followed.{Followed}
 use Rattle.session_core.specs.Plan.{IsPlanNow, IsPlanOf, followed_now}
@@ -31,13 +31,15 @@ pub now_is : (t : Tracked) (inside xs : List Entry) (current : Option ℕ) (at :
 now_is t inside xs current at entry followed view same cur get is =
     subst (λ (s : Tracked). followed_now s ≡ Some followed) view (rw (cur, ← same, get) is)
 
-pub plan_of_now : (plan : Option Plan) (tables : List Shape) (t : Tracked) (followed : Followed)
+pub plan_of_now : (plan : Option DecodePlan) (tables : List Shape) (t : Tracked)
+    (followed : Followed)
     → followed_now t ≡ Some followed → IfSome plan (IsPlanNow tables t)
     → IfSome plan (IsPlanOf tables followed)
 plan_of_now None tables t followed is h = tt
 plan_of_now (Some plan) tables t followed is h = h followed is
 
-pub plan_now_of : (plan : Option Plan) (tables : List Shape) (t : Tracked) (followed : Followed)
+pub plan_now_of : (plan : Option DecodePlan) (tables : List Shape) (t : Tracked)
+    (followed : Followed)
     → followed_now t ≡ Some followed → IfSome plan (IsPlanOf tables followed)
     → IfSome plan (IsPlanNow tables t)
 plan_now_of None tables t followed is h = tt

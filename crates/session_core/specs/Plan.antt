@@ -9,7 +9,7 @@ use Rattle.agg_types.specs.declared.column.Col.{Col}
 use Rattle.agg_types.specs.declared.config.Shape.{Shape}
 use Rattle.agg_types.specs.declared.event.Cell.{Cell}
 use Rattle.agg_types.specs.declared.event.Cell.TheVariants as cells
-use Rattle.session_core.specs.declared.plan.Plan.{Plan}
+use Rattle.session_core.specs.declared.plan.DecodePlan.{DecodePlan}
 use Rattle.session_core.specs.declared.plan.Source.{Source}
 use Rattle.session_core.specs.declared.plan.Source.TheVariants as sources
 use Rattle.session_core.specs.declared.track.Followed.{Followed}
@@ -68,13 +68,13 @@ AreCells whole cells None = whole ≡ false
 AreCells whole cells (Some those) = (whole ≡ true) × (cells ≡ those)
 
 -- the plan has room for the integers of these data types, and knows where each column's are
-abbrev pub IsPlan : ℕ → List ℕ → List (Col × ℕ) → Plan → Type 0
+abbrev pub IsPlan : ℕ → List ℕ → List (Col × ℕ) → DecodePlan → Type 0
 IsPlan bits periods cols plan =
     (vec_len plan.numbers ≡ widths bits types 0)
     × (plan.sources.items ≡ map (source_of bits periods) cols)
 
 -- the plan is that of a followed definition
-abbrev pub IsPlanOf : List Shape → Followed → Plan → Type 0
+abbrev pub IsPlanOf : List Shape → Followed → DecodePlan → Type 0
 IsPlanOf tables followed plan =
     (shape : Shape) → slice_get tables followed.table ≡ Some shape
     → IsPlan followed.bits followed.periods shape.cols plan
@@ -88,6 +88,6 @@ abbrev pub followed_now : Tracked → Option Followed
 followed_now t = followed_in t.current t
 
 -- the plan is that of the table in force
-abbrev pub IsPlanNow : List Shape → Tracked → Plan → Type 0
+abbrev pub IsPlanNow : List Shape → Tracked → DecodePlan → Type 0
 IsPlanNow tables t plan =
     (followed : Followed) → followed_now t ≡ Some followed → IsPlanOf tables followed plan

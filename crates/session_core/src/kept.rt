@@ -4,7 +4,7 @@ ghost use Rattle.std.specs.Prelude.{◌≡◌, [], map, vec_len, IsTrue, IfOk, I
 ghost use Rattle.std.specs.Option.{option_map};
 ghost use Rattle.session_core.specs.Plan.{AreCells, cell_from, numbers_at, IsPlan};
 
-use crate::plan::Plan;
+use crate::plan::DecodePlan;
 use crate::track::Followed;
 use crate::values::TYPES;
 use agg_types::{Cells, Col, Items, NoMemory};
@@ -23,23 +23,23 @@ struct Made {
     bits: u64,
     periods: [u64; TYPES],
     cols: Items<(Col, u32)>,
-    plan: Plan,
+    plan: DecodePlan,
 }
 
 impl Model for Kept {
     ghost use Rattle.std.specs.Prelude.{box_value};
-    ghost use Rattle.session_core.specs.declared.plan.Plan.{Plan};
+    ghost use Rattle.session_core.specs.declared.plan.DecodePlan.{DecodePlan};
 
-    ghost Value = { Plan };
+    ghost Value = { DecodePlan };
 
     ghost view = { λ kept. box_value kept.made };
 }
 
 impl Model for Made {
-    ghost use Rattle.session_core.specs.declared.plan.Plan.{Plan};
+    ghost use Rattle.session_core.specs.declared.plan.DecodePlan.{DecodePlan};
     ghost use Rattle.session_core.specs.Plan.{IsPlan};
 
-    ghost Value = { Plan };
+    ghost Value = { DecodePlan };
 
     ghost view = { λ made. made.plan };
 
@@ -60,7 +60,7 @@ impl Kept {
             bits,
             periods: *periods,
             cols: Items::copy(alloc, cols)?,
-            plan: Plan::new(alloc, bits, periods, cols)?,
+            plan: DecodePlan::new(alloc, bits, periods, cols)?,
         };
         Ok(Kept {
             made: Box::new(alloc, made)?,

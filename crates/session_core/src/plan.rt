@@ -29,7 +29,7 @@ pub(crate) enum Source {
 
 /// How the updates of a table are read.
 #[derive(Debug, Drop)]
-pub(crate) struct Plan {
+pub(crate) struct DecodePlan {
     /// Room for the integers of an update.
     pub(crate) numbers: Vec<u64>,
     /// Where each column's integers are among them.
@@ -88,14 +88,14 @@ fn source_of(bits: u64, periods: &[u64], col: (Col, u32)) -> Source
     }
 }
 
-impl Plan {
+impl DecodePlan {
     /// The plan for updates with these data types and periods, under these columns.
     pub(crate) fn new(
         alloc: Global,
         bits: u64,
         periods: &[u64],
         cols: &[(Col, u32)],
-    ) -> Result<Plan, NoMemory>
+    ) -> Result<DecodePlan, NoMemory>
         ensures { IfOk result (IsPlan bits periods.now cols.now) }
     {
         let mut sources = Vec::with_capacity(alloc, cols.len())?;
@@ -104,7 +104,7 @@ impl Plan {
         }
         let mut numbers = Vec::new(alloc);
         numbers.resize(widths(bits, TYPES), 0)?;
-        Ok(Plan {
+        Ok(DecodePlan {
             numbers,
             sources,
             cells: Vec::new(alloc),
