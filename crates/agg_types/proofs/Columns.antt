@@ -1,30 +1,17 @@
 -- What holds of each entry of the table of columns holds of every column.
 use Rattle.std.proofs.Common.{◌≡◌, ℕ, zero, suc, Bool, true, false, List, [], ◌∷◌, Some}
-use Rattle.std.proofs.Common.{map, refl, ◌&&◌}
+use Rattle.std.proofs.Common.{◌≤◌, map, refl, nat_le, ◌&&◌}
+use Rattle.std.proofs.lemmas.Bool.{leb-true}
 use Rattle.std.specs.Prelude.{slice_get, slice_index}
 use Rattle.std.specs.List.{list_all}
-use Rattle.agg_types.specs.Col.{all_cols, place}
+use Rattle.agg_types.specs.Col.{all_cols, col_id, place}
 use Rattle.agg_types.specs.declared.column.Col.{Col}
 use Rattle.agg_types.specs.declared.column.Col.TheVariants as cols
+use Rattle.agg_types.specs.declared.column.TheConstants.{LAST_TYPE}
 
 at_place : (col : Col) → slice_get all_cols (place col) ≡ Some col
 at_place cols.Gpc0 = refl
-at_place cols.Gpc0Rate = refl
-at_place cols.ConnCnt = refl
-at_place cols.ConnRate = refl
-at_place cols.ConnCur = refl
-at_place cols.SessCnt = refl
-at_place cols.SessRate = refl
-at_place cols.HttpReqCnt = refl
-at_place cols.HttpReqRate = refl
-at_place cols.HttpErrCnt = refl
-at_place cols.HttpErrRate = refl
-at_place cols.BytesInCnt = refl
-at_place cols.BytesInRate = refl
-at_place cols.BytesOutCnt = refl
-at_place cols.BytesOutRate = refl
-at_place cols.Gpc1 = refl
-at_place cols.Gpc1Rate = refl
+at_place col = refl
 
 value_at : (f : Col → ℕ) (xs : List Col) (i : ℕ) (col : Col) → slice_get xs i ≡ Some col
     → slice_index (map f xs) i ≡ f col
@@ -52,3 +39,7 @@ all_at p (x ∷ xs) (suc i) col all is = all_at p xs i col (others (p x) (list_a
 -- a test that every entry of the table passes is passed by each column
 pub of_each : (p : Col → Bool) → list_all p all_cols ≡ true → (col : Col) → p col ≡ true
 of_each p all col = all_at p all_cols (place col) col all (at_place col)
+
+-- no column's number is above the last
+pub ids_end : (col : Col) → col_id col ≤ LAST_TYPE
+ids_end col = leb-true (col_id col) LAST_TYPE (of_each (λ c. nat_le (col_id c) LAST_TYPE) refl col)

@@ -5,6 +5,9 @@ ghost use Rattle.agg_types.specs.Col.{all_cols, col_id, col_name, info, is_rate,
 /// How many columns there are.
 pub const COLUMNS: usize = 17;
 
+/// The greatest number of a column's data type in the peers protocol.
+pub const LAST_TYPE: u64 = 18;
+
 /// A column of stick tables that can be added up over a fleet: the stored data types of
 /// HAProxy's Configuration Manual ("stick-table", `store`), save those that are no sums.
 ///
