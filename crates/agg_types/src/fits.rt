@@ -9,7 +9,8 @@ use crate::{Cell, Col, Cond, Config, Filter, Key, KeyKind, Select, Shape, What};
 impl Config {
     /// Whether something may happen in this configuration: its positions are in range, its key has
     /// the table's length, each stored column has one cell of its kind, its life has 32 bits, its
-    /// moment is at most 2^62, and its 1 to 4 conditions are on stored columns.
+    /// moment is at most the last, and it has a condition or as many as there may be, each on a
+    /// stored column.
     pub fn fits(&self, what: &What) -> bool
         ensures { result ≡ fits self.now what.now }
     {

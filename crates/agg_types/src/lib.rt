@@ -5,8 +5,7 @@
 //! its bytes, in their order; a collection is the list of its items; a configuration and an event
 //! are records of these. Promised are the tests: `Config::check` answers the first fault in a
 //! stated order and none exactly where there is none; `Config::fits` holds exactly of what may
-//! happen;
-//! `Op::holds` is the comparison; what is copied or duplicated is equal.
+//! happen; `Op::holds` is the comparison; what is copied or duplicated is equal.
 //!
 //! No clause says that a copy succeeds while there is memory, nor how much room a key takes (24
 //! bytes where it has up to 16), nor that up to four cells take none beside their list.
@@ -30,7 +29,7 @@ mod short_key;
 
 pub use cells::Cells;
 pub use check::ConfigFault;
-pub use column::{COLUMNS, Col, ColInfo, ColKind};
+pub use column::{COLUMNS, Col, ColInfo, ColKind, LAST_TYPE};
 pub use config::{Cond, Config, Filter, KeyKind, Op, Rank, Shape};
 pub use declared::{Declared, Named};
 pub use event::{Cell, Event, Select, What};
@@ -38,7 +37,7 @@ pub use items::Items;
 pub use key::Key;
 pub use limits::{
     LAST_MOMENT, LAST_SEAT, MOST_CONDS, MOST_FILTERS, MOST_PEERS, MOST_RANKS, MOST_SEATS,
-    MOST_TABLES,
+    MOST_TABLES, NUMBERS_END,
 };
 pub use name::{Name, is_name};
 pub use no_memory::NoMemory;

@@ -33,8 +33,23 @@ pub const LONGEST_RANK: u64 = 1000;
 /// The first period, in ms, that is too long.
 pub const PERIOD_END: u32 = 1 << 31;
 
+/// The longest payload of a message of the peers protocol, in bytes.
+pub const LONGEST_PAYLOAD: u64 = 16_384;
+
+/// The longest line of a hello, in bytes before its LF.
+pub const LONGEST_HELLO_LINE: usize = 256;
+
+/// The longest line of commands, in bytes before its LF.
+pub const LONGEST_COMMAND_LINE: usize = 4096;
+
+/// The most tables of its sender, by their ids, that a session ever follows.
+pub const MOST_FOLLOWED: usize = 256;
+
 /// The greatest moment, in ms.
 pub const LAST_MOMENT: u64 = 1 << 62;
 
-/// The greatest number that a seat may have. The numbers of a seat's events stay below it.
+/// The greatest number of a seat.
 pub const LAST_SEAT: u64 = 1 << 62;
+
+/// The first number that none of a seat's events has. They are numbered from 0.
+pub const NUMBERS_END: u64 = 1 << 62;
