@@ -8,6 +8,8 @@ use Rattle.std.specs.Int.{w32, to_be_bytes, from_be_bytes}
 use Rattle.std.proofs.lemmas.Bool.{le-ltb}
 use Rattle.std.proofs.lemmas.List.{take_at, drop_at, append-nil}
 use Rattle.std.proofs.lemmas.Nat.{from_be_bytes-to_be_bytes_4}
+use Rattle.agg_types.specs.declared.column.TheConstants.{LAST_TYPE}
+use Rattle.agg_types.specs.declared.limits.TheConstants.{LONGEST_PAYLOAD}
 use Rattle.peers_msg.specs.declared.message.Definition.{Definition}
 use Rattle.peers_msg.specs.declared.message.Message.{Message}
 use Rattle.peers_msg.specs.declared.message.Message.TheVariants as messages
@@ -57,7 +59,7 @@ unfolding pair_at
 pair_again p rest fits =
     let regrouped : pair_spelling p ++ rest ≡ integer_spelling p.0 ++ (integer_spelling p.1 ++ rest)
     = append_assoc (integer_spelling p.0) (integer_spelling p.1) rest in
-    let low : ltb 18 p.0 ≡ false = le-ltb 18 p.0 fits.0 in
+    let low : ltb LAST_TYPE p.0 ≡ false = le-ltb LAST_TYPE p.0 fits.0 in
     ap pair_at regrouped ∙ rw (
       number_again p.0 (integer_spelling p.1 ++ rest)
           (omega (arith, fits.0)),
@@ -126,7 +128,7 @@ update_again id life rest has_id has_life p q i j =
 
 -- ---- messages
 
-frame_again : (kind : ℕ) (payload more : List ℕ) → 128 ≤ kind → length payload ≤ 16384
+frame_again : (kind : ℕ) (payload more : List ℕ) → 128 ≤ kind → length payload ≤ LONGEST_PAYLOAD
     → frame_at (framed_spelling 10 kind payload ++ more) ≡ Framed 10 kind payload more
 unfolding frame_at
 frame_again kind payload more high small =
@@ -140,7 +142,7 @@ frame_again kind payload more high small =
     ++ (payload ++ more)) ≡ payload ++ more =
     drop_at (integer_spelling (length payload)) (payload ++ more)
     (length (integer_spelling (length payload))) refl in
-    let a : ltb 16384 (length payload) ≡ false = le-ltb _ _ small in
+    let a : ltb LONGEST_PAYLOAD (length payload) ≡ false = le-ltb _ _ small in
     let b : ltb (length (payload ++ more)) (length payload) ≡ false =
     le-ltb _ _ (omega (arith, length-append payload more)) in
     rw (
@@ -155,7 +157,7 @@ frame_again kind payload more high small =
     ) refl
 
 framed_again : (kind : ℕ) (payload more : List ℕ) (message : Message) → 128 ≤ kind
-    → length payload ≤ 16384 → table_of kind payload ≡ Some message
+    → length payload ≤ LONGEST_PAYLOAD → table_of kind payload ≡ Some message
     → first_of (framed_spelling 10 kind payload ++ more) ≡ Whole message more
 unfolding first_of message_of
 framed_again kind payload more message high small is =
@@ -198,7 +200,8 @@ table_acked id last p q =
           ≡ Some (last, []) = word_again last [] q in e,
     ) refl
 
-name_fits : (d : Definition) → length (definition_spelling d) ≤ 16384 → length d.name < 2 ^ 64
+name_fits : (d : Definition) → length (definition_spelling d) ≤ LONGEST_PAYLOAD
+    → length d.name < 2 ^ 64
 name_fits d small =
     let e : length (definition_spelling d) ≡ length (integer_spelling d.id) +
     (length (integer_spelling (length d.name)) +

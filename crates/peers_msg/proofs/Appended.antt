@@ -6,6 +6,7 @@ use Rattle.std.proofs.Common.{Err, refl, sym, ap, subst, ◌∙◌, length-appen
 use Rattle.std.proofs.lemmas.Bool.{ltb-false, le-ltb, le-leb, lt-leb, cases_Bool}
 use Rattle.std.proofs.lemmas.List.{take-append-le, drop-append-le, append-nil}
 use Rattle.std.proofs.lemmas.Option.{none-some}
+use Rattle.agg_types.specs.declared.limits.TheConstants.{LONGEST_PAYLOAD}
 use Rattle.peers_msg.specs.declared.integer.IntTooLarge.{IntTooLarge}
 use Rattle.peers_msg.specs.declared.message.Message.{Message}
 use Rattle.peers_msg.specs.declared.fault.WireCause.{WireCause}
@@ -107,11 +108,12 @@ FrameGoesOn (Wrong cause) later more = later ≡ Wrong cause
 FrameGoesOn (Framed class kind payload rest) later more =
     later ≡ Framed class kind payload (rest ++ more)
 
-payload_more : (class kind len : ℕ) (after b : List ℕ) (long cut : Bool) → long ≡ ltb 16384 len
+payload_more : (class kind len : ℕ) (after b : List ℕ) (long cut : Bool) → long
+    ≡ ltb LONGEST_PAYLOAD len
     → cut ≡ ltb (length after) len
     → FrameGoesOn (cond long (Wrong TooLong)
     (cond cut Short (Framed class kind (take len after) (drop len after))))
-    (cond (ltb 16384 len) (Wrong TooLong) (cond (ltb (length (after ++ b)) len) Short
+    (cond (ltb LONGEST_PAYLOAD len) (Wrong TooLong) (cond (ltb (length (after ++ b)) len) Short
     (Framed class kind (take len (after ++ b)) (drop len (after ++ b))))) b
 payload_more class kind len after b true cut p q = rw (← p) refl
 payload_more class kind len after b false true p q = tt
@@ -132,7 +134,7 @@ framed_more class kind a b false (Err over) is = rw (integer_still_over a b over
 framed_more class kind a b false (Ok (Some size)) is =
     let m = integer_more a b size is in
     let d : drop size.1 (a ++ b) ≡ drop size.1 a ++ b = drop-append-le size.1 a b m.1 in
-    rw (m.0, d) (payload_more class kind size.0 (drop size.1 a) b (ltb 16384 size.0)
+    rw (m.0, d) (payload_more class kind size.0 (drop size.1 a) b (ltb LONGEST_PAYLOAD size.0)
     (ltb (length (drop size.1 a)) size.0) refl refl)
 
 frame_more : (a b : List ℕ) → FrameGoesOn (frame_at a) (frame_at (a ++ b)) b

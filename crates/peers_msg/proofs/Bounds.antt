@@ -5,6 +5,7 @@ use Rattle.std.proofs.Common.{Result, Ok, Err, refl, ap, ◌∙◌, length-drop,
 use Rattle.std.proofs.Math.Nat.{mul-le-mul_right}
 use Rattle.std.proofs.lemmas.Bool.{ltb-true, ltb-false, leb-true, leb-false, cases_Bool, cases_lt}
 use Rattle.std.proofs.lemmas.Bool.{or_parts}
+use Rattle.agg_types.specs.declared.limits.TheConstants.{LONGEST_PAYLOAD}
 use Rattle.peers_msg.specs.declared.integer.IntTooLarge.{IntTooLarge}
 use Rattle.peers_msg.specs.declared.message.Message.{Message}
 use Rattle.peers_msg.specs.declared.fault.WireCause.TheVariants.{TooLong}
@@ -151,13 +152,13 @@ short_framed class kind payload rest false false e = absurd cc
 short_bound : (class kind : ℕ) (bytes : List ℕ) (low : Bool)
     (r : Result (Option (ℕ × ℕ)) IntTooLarge) → integer_at bytes ≡ r
     → cond low (Framed class kind [] bytes) (framed class kind bytes r) ≡ Short
-    → length bytes < 10 + 16384
+    → length bytes < 10 + LONGEST_PAYLOAD
 short_bound class kind bytes true r is e = absurd cc
 short_bound class kind bytes false (Ok None) is e = omega (arith, cut_short bytes is)
 short_bound class kind bytes false (Err over) is e = absurd cc
 short_bound class kind bytes false (Ok (Some size)) is e =
     let a = short_framed class kind (take size.0 (drop size.1 bytes))
-    (drop size.0 (drop size.1 bytes)) (ltb 16384 size.0)
+    (drop size.0 (drop size.1 bytes)) (ltb LONGEST_PAYLOAD size.0)
     (ltb (length (drop size.1 bytes)) size.0) e in
     omega (
       arith,
@@ -167,7 +168,7 @@ short_bound class kind bytes false (Ok (Some size)) is e =
       found_short bytes size is,
     )
 
-pub frame_short : (bytes : List ℕ) → frame_at bytes ≡ Short → length bytes < 12 + 16384
+pub frame_short : (bytes : List ℕ) → frame_at bytes ≡ Short → length bytes < 12 + LONGEST_PAYLOAD
 unfolding frame_at
 frame_short [] e = omega arith
 frame_short (class ∷ []) e = omega arith
@@ -184,19 +185,21 @@ short_frame (Wrong cause) e = absurd cc
 short_frame (Framed class kind payload rest) e =
     absurd (whole_not (message_of class kind payload) rest e)
 
-pub unfinished_short : (bytes : List ℕ) → first_of bytes ≡ Unfinished → length bytes < 12 + 16384
+pub unfinished_short : (bytes : List ℕ) → first_of bytes ≡ Unfinished
+    → length bytes < 12 + LONGEST_PAYLOAD
 unfolding first_of
 unfinished_short bytes e = frame_short bytes (short_frame (frame_at bytes) e)
 
 rest_by : (next : List ℕ → Reading) (bytes : List ℕ) (f : First) → first_of bytes ≡ f
     → ((message : Message) (rest : List ℕ) → f ≡ Whole message rest
-    → length (next rest).rest < 12 + 16384) → length (reading_by next bytes f).rest < 12 + 16384
+    → length (next rest).rest < 12 + LONGEST_PAYLOAD)
+    → length (reading_by next bytes f).rest < 12 + LONGEST_PAYLOAD
 rest_by next bytes Unfinished is h = unfinished_short bytes is
 rest_by next bytes (Faulty cause) is h = omega arith
 rest_by next bytes (Whole message rest) is h = h message rest refl
 
 rest_within : (n : ℕ) (bytes : List ℕ) → length bytes ≤ n
-    → length (reading_within n bytes).rest < 12 + 16384
+    → length (reading_within n bytes).rest < 12 + LONGEST_PAYLOAD
 unfolding reading_within
 rest_within zero bytes le = omega arith
 rest_within (suc n) bytes le =
@@ -204,14 +207,14 @@ rest_within (suc n) bytes le =
     (λ message rest e. rest_within n rest (omega (arith, first_shorter bytes message rest e)))
 
 -- what is left of a reading is less than a message
-pub reading_rest : (bytes : List ℕ) → length (reading_of bytes).rest < 12 + 16384
+pub reading_rest : (bytes : List ℕ) → length (reading_of bytes).rest < 12 + LONGEST_PAYLOAD
 unfolding reading_of
 reading_rest bytes = rest_within (length bytes) bytes (omega arith)
 
 -- what is kept after a reading that ends with its rest
 pub kept_short : (messages : List Message) (left bytes : List ℕ)
     → reading_of bytes ≡ record { messages = messages; fault = None; rest = left }
-    → length left < 12 + 16384
+    → length left < 12 + LONGEST_PAYLOAD
 kept_short messages left bytes e =
     let r : (reading_of bytes).rest ≡ left = ap (λ (reading : Reading). reading.rest) e in
     omega (arith, reading_rest bytes, ap length r)

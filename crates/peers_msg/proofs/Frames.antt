@@ -4,6 +4,7 @@ use Rattle.std.proofs.Common.{◌∷◌, length, get_or, take, drop, Option, Som
 use Rattle.std.proofs.Common.{refl, ap, length-drop, arith}
 use Rattle.std.proofs.lemmas.Bool.{le-ltb}
 use Rattle.std.proofs.lemmas.List.{drop-drop}
+use Rattle.agg_types.specs.declared.limits.TheConstants.{LONGEST_PAYLOAD}
 use Rattle.peers_msg.specs.declared.integer.IntTooLarge.{IntTooLarge}
 use Rattle.peers_msg.specs.declared.message.Message.{Message}
 use Rattle.peers_msg.specs.declared.fault.WireCause.TheVariants.{TooLong}
@@ -12,7 +13,7 @@ use Rattle.peers_msg.specs.Message.{Short, Wrong, Framed, framed, frame_at, Firs
 use Rattle.peers_msg.specs.Message.{Faulty, Whole, whole_or_bad, first_in, first_of, message_of}
 
 pub whole_head : (bytes : List ℕ) (len taken : ℕ) → 2 ≤ length bytes → 128 ≤ get_or bytes 1 0
-    → integer_at (drop 2 bytes) ≡ Ok (Some (len, taken)) → len ≤ 16384
+    → integer_at (drop 2 bytes) ≡ Ok (Some (len, taken)) → len ≤ LONGEST_PAYLOAD
     → len ≤ length (drop 2 bytes) - taken
     → frame_at bytes ≡ Framed (get_or bytes 0 0) (get_or bytes 1 0)
     (take len (drop (2 + taken) bytes)) (drop len (drop (2 + taken) bytes))
@@ -21,7 +22,7 @@ whole_head [] len taken two high is small long = absurd (omega arith)
 whole_head (class ∷ []) len taken two high is small long = absurd (omega arith)
 whole_head (class ∷ kind ∷ bytes) len taken two high is small long =
     let k : ltb kind 128 ≡ false = le-ltb kind 128 high in
-    let a : ltb 16384 len ≡ false = le-ltb 16384 len small in
+    let a : ltb LONGEST_PAYLOAD len ≡ false = le-ltb LONGEST_PAYLOAD len small in
     let b : ltb (length (drop taken bytes)) len ≡ false =
     le-ltb (length (drop taken bytes)) len (omega (arith, length-drop taken bytes)) in
     let d : drop taken bytes ≡ drop (2 + taken) (class ∷ kind ∷ bytes) =
@@ -59,7 +60,7 @@ left_le class kind bytes false (Err over) = omega arith
 left_le class kind bytes false (Ok (Some size)) =
     omega (
       arith,
-      left_framed class kind size.0 (drop size.1 bytes) (ltb 16384 size.0)
+      left_framed class kind size.0 (drop size.1 bytes) (ltb LONGEST_PAYLOAD size.0)
           (ltb (length (drop size.1 bytes)) size.0),
       length-drop size.1 bytes,
     )

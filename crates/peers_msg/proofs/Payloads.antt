@@ -4,6 +4,7 @@ use Rattle.std.proofs.Common.{List, [], ◌∷◌, ◌++◌, length, drop, Optio
 use Rattle.std.proofs.Common.{Err, refl, sym, ap, ◌∙◌, append_assoc, length-drop, arith}
 use Rattle.std.specs.Option.{option_map_or}
 use Rattle.std.proofs.lemmas.List.{append-nil}
+use Rattle.agg_types.specs.declared.column.TheConstants.{LAST_TYPE}
 use Rattle.peers_msg.specs.declared.integer.IntTooLarge.{IntTooLarge}
 use Rattle.peers_msg.specs.Numeral.{integer_at, spelling_front, spelling_ends, value}
 use Rattle.peers_msg.specs.Payload.{◌>>=◌, split_found, number_at, pair_at, pairs_within, pairs_at}
@@ -50,11 +51,12 @@ pub pair_shorter : (bytes : List ℕ) (x : (ℕ × ℕ) × List ℕ) → pair_at
     → length x.1 < length bytes
 unfolding pair_at
 pair_shorter bytes x e =
-    let a = bind_some (number_at bytes) (λ id. number_at id.1 >>= λ period. cond (ltb 18 id.0) None
+    let a = bind_some (number_at bytes)
+        (λ id. number_at id.1 >>= λ period. cond (ltb LAST_TYPE id.0) None
     (Some ((id.0, period.0), period.1))) x e in
     let b = bind_some (number_at a.0.1)
-    (λ period. cond (ltb 18 a.0.0) None (Some ((a.0.0, period.0), period.1))) x a.2 in
-    let g = guard_some (ltb 18 a.0.0) ((a.0.0, b.0.0), b.0.1) x b.2 in
+    (λ period. cond (ltb LAST_TYPE a.0.0) None (Some ((a.0.0, period.0), period.1))) x a.2 in
+    let g = guard_some (ltb LAST_TYPE a.0.0) ((a.0.0, b.0.0), b.0.1) x b.2 in
     let s = number_shorter bytes a.0 a.1 in
     let t = number_shorter a.0.1 b.0 b.1 in
     let r : b.0.1 ≡ x.1 = ap (λ (p : (ℕ × ℕ) × List ℕ). p.1) g.1 in

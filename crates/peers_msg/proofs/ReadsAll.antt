@@ -6,6 +6,7 @@ use Rattle.std.proofs.Common.{inl, inr}
 use Rattle.std.proofs.lemmas.Bool.{ltb-true, ltb-false, le-ltb, lt-ltb}
 use Rattle.std.proofs.lemmas.List.{take_at, drop_at, take-append-drop}
 use Rattle.std.proofs.lemmas.Option.{none-some}
+use Rattle.agg_types.specs.declared.limits.TheConstants.{LONGEST_PAYLOAD}
 use Rattle.peers_msg.specs.declared.integer.IntTooLarge.{IntTooLarge}
 use Rattle.peers_msg.specs.declared.message.Message.{Message}
 use Rattle.peers_msg.specs.declared.fault.WireCause.{WireCause}
@@ -37,11 +38,12 @@ after_text : (bytes : List ℕ) (n len : ℕ) (h : IsIntegerAt bytes n len) → 
 after_text bytes n len h = sym (drop_at h.0 h.1 len h.5) ∙ ap (drop len) (sym h.2)
 
 payload_said : (class kind : ℕ) (bytes : List ℕ) (n len : ℕ) → 128 ≤ kind → IsIntegerAt bytes n len
-    → (long cut : Bool) → ltb 16384 n ≡ long → ltb (length (drop len bytes)) n ≡ cut
+    → (long cut : Bool) → ltb LONGEST_PAYLOAD n ≡ long → ltb (length (drop len bytes)) n ≡ cut
     → FrameSaid (class ∷ kind ∷ bytes)
     (cond long (Wrong TooLong) (cond cut Short (Framed class kind (take n (drop len bytes))
     (drop n (drop len bytes)))))
-payload_said class kind bytes n len high f true cut p q = (high, (n, len, f, ltb-true 16384 n p))
+payload_said class kind bytes n len high f true cut p q =
+    (high, (n, len, f, ltb-true LONGEST_PAYLOAD n p))
 payload_said class kind bytes n len high f false true p q =
     let r = ap length (after_text bytes n len f) in (
       high,
@@ -51,7 +53,7 @@ payload_said class kind bytes n len high f false true p q =
         n,
         f.2,
         (f.3, f.4, f.6),
-        ltb-false 16384 n p,
+        ltb-false LONGEST_PAYLOAD n p,
         omega (arith, r, ltb-true (length (drop len bytes)) n q),
       ),
     )
@@ -66,7 +68,7 @@ payload_said class kind bytes n len high f false false p q =
       ap (λ (bs : List ℕ). class ∷ kind ∷ bs) whole,
       inr (
         high,
-        omega (arith, k, ltb-false 16384 n p),
+        omega (arith, k, ltb-false LONGEST_PAYLOAD n p),
         (f.0, (f.3, f.4 ∙ sym k, omega (arith, f.6, k)), refl),
       ),
     )
@@ -84,7 +86,7 @@ frame_said_by class kind bytes fits false (Err over) p is =
     (ltb-false kind 128 p, over_is bytes over fits is)
 frame_said_by class kind bytes fits false (Ok (Some size)) p is =
     payload_said class kind bytes size.0 size.1 (ltb-false kind 128 p)
-    (found_is bytes fits size.0 size.1 is) (ltb 16384 size.0)
+    (found_is bytes fits size.0 size.1 is) (ltb LONGEST_PAYLOAD size.0)
     (ltb (length (drop size.1 bytes)) size.0) refl refl
 
 frame_said : (bytes : List ℕ) → AreBytes bytes → FrameSaid bytes (frame_at bytes)
@@ -193,7 +195,7 @@ frames_frame text more payload class kind (inr h) =
     ∙ ap (λ v. Ok (Some (v, length size))) s.1 in
     let d : drop (length size) (size ++ (payload ++ more)) ≡ payload ++ more =
     drop_at size (payload ++ more) (length size) refl in
-    let a : ltb 16384 (length payload) ≡ false = le-ltb _ _ h.1 in
+    let a : ltb LONGEST_PAYLOAD (length payload) ≡ false = le-ltb _ _ h.1 in
     let b : ltb (length (payload ++ more)) (length payload) ≡ false =
     le-ltb _ _ (omega (arith, length-append payload more)) in
     ap (λ (bs : List ℕ). frame_at (bs ++ more)) h.2.2 ∙ rw (
@@ -226,7 +228,8 @@ rest_frame (class ∷ kind ∷ bytes) (high, inr h) =
     ∙ ap (λ v. Ok (Some (v, length h.0))) h.4.1 in
     let d : drop (length h.0) bytes ≡ h.1 = ap (drop (length h.0)) h.3
     ∙ drop_at h.0 h.1 (length h.0) refl in
-    rw (le-ltb kind 128 high, n, d, le-ltb 16384 h.2 h.5, lt-ltb (length h.1) h.2 h.6) refl
+    rw (le-ltb kind 128 high, n, d, le-ltb LONGEST_PAYLOAD h.2 h.5,
+    lt-ltb (length h.1) h.2 h.6) refl
 
 rest_first : (bytes : List ℕ) → IsRest bytes → first_of bytes ≡ Unfinished
 unfolding first_of
@@ -245,7 +248,8 @@ unfolding first_of frame_at
 fault_first TooLong [] fits h = absurd h
 fault_first TooLong (class ∷ []) fits h = absurd h
 fault_first TooLong (class ∷ kind ∷ bytes) fits h =
-    rw (le-ltb kind 128 h.0, is_found bytes h.1.0 h.1.1 h.1.2, lt-ltb 16384 h.1.0 h.1.3) refl
+    rw (le-ltb kind 128 h.0, is_found bytes h.1.0 h.1.1 h.1.2,
+    lt-ltb LONGEST_PAYLOAD h.1.0 h.1.3) refl
 fault_first BadInteger [] fits h = absurd h
 fault_first BadInteger (class ∷ []) fits h = absurd h
 fault_first BadInteger (class ∷ kind ∷ bytes) fits h =

@@ -9,6 +9,7 @@ use Rattle.std.proofs.lemmas.Bool.{ltb-false, le-ltb, cases_lt}
 use Rattle.std.proofs.lemmas.List.{take_at, drop_at, take-append-drop, get_or-drop, get_or-take}
 use Rattle.std.proofs.lemmas.List.{get_or_past}
 use Rattle.std.proofs.lemmas.Option.{none-some, same_Some}
+use Rattle.agg_types.specs.declared.column.TheConstants.{LAST_TYPE}
 use Rattle.peers_msg.specs.declared.integer.IntTooLarge.{IntTooLarge}
 use Rattle.peers_msg.specs.declared.message.Definition.{Definition}
 use Rattle.peers_msg.specs.declared.message.Message.{Message}
@@ -165,11 +166,12 @@ pair_is : (bytes : List ℕ) (x : (ℕ × ℕ) × List ℕ) → AreBytes bytes �
     → (text : List ℕ) × (bytes ≡ text ++ x.1) × SpellsPair text x.0
 unfolding pair_at
 pair_is bytes x fits e =
-    let a = bind_some (number_at bytes) (λ id. number_at id.1 >>= λ period. cond (ltb 18 id.0) None
+    let a = bind_some (number_at bytes)
+        (λ id. number_at id.1 >>= λ period. cond (ltb LAST_TYPE id.0) None
     (Some ((id.0, period.0), period.1))) x e in
     let b = bind_some (number_at a.0.1)
-    (λ period. cond (ltb 18 a.0.0) None (Some ((a.0.0, period.0), period.1))) x a.2 in
-    let g = guard_some (ltb 18 a.0.0) ((a.0.0, b.0.0), b.0.1) x b.2 in
+    (λ period. cond (ltb LAST_TYPE a.0.0) None (Some ((a.0.0, period.0), period.1))) x a.2 in
+    let g = guard_some (ltb LAST_TYPE a.0.0) ((a.0.0, b.0.0), b.0.1) x b.2 in
     let m = number_is bytes a.0 fits a.1 in
     let n = number_is a.0.1 b.0 (rest_bytes m.0 a.0.1 bytes m.1 fits) b.1 in
     let whole : bytes ≡ (m.0 ++ n.0) ++ b.0.1 = m.1 ∙ ap (λ (bs : List ℕ). m.0 ++ bs) n.1
@@ -183,7 +185,7 @@ unfolding pair_at
 is_pair text rest p is =
     let regrouped : text ++ rest ≡ is.0 ++ (is.1 ++ rest) = ap (λ (bs : List ℕ). bs ++ rest) is.2
     ∙ append_assoc is.0 is.1 rest in
-    let low : ltb 18 p.0 ≡ false = le-ltb 18 p.0 is.5 in
+    let low : ltb LAST_TYPE p.0 ≡ false = le-ltb LAST_TYPE p.0 is.5 in
     ap pair_at regrouped ∙ rw (
       is_number is.0 (is.1 ++ rest) p.0 is.3,
       is_number is.1 rest p.1 is.4,

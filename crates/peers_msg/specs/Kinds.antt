@@ -61,14 +61,6 @@ timed_incremental_update = 134
 abbrev pub first_with_payload : ℕ
 first_with_payload = 128
 
--- the greatest length of a payload
-abbrev pub max_payload : ℕ
-max_payload = 16384
-
 -- the longest head of a message: class, type, and an encoded length
 abbrev pub longest_head : ℕ
 longest_head = 12
-
--- the greatest id of a data type that is read; those above it are trailing bytes
-abbrev pub last_type : ℕ
-last_type = 18

@@ -1,6 +1,7 @@
 -- Messages, one after the other, and what a stream of bytes says.
 use Rattle.std.specs.Prelude.{ℕ, zero, suc, true, false, nat_lt, ◌==◌, List, [], ◌∷◌, ◌++◌, length}
 use Rattle.std.specs.Prelude.{take, drop, Option, Some, None, Result, Ok, Err, if◌then◌else◌}
+use Rattle.agg_types.specs.declared.limits.TheConstants.{LONGEST_PAYLOAD}
 use Rattle.peers_msg.specs.declared.integer.IntTooLarge.{IntTooLarge}
 use Rattle.peers_msg.specs.declared.message.Message.{Message}
 use Rattle.peers_msg.specs.declared.message.Message.TheVariants as messages
@@ -12,7 +13,7 @@ use Rattle.peers_msg.specs.Kinds.{control_class, error_class, table_class, resyn
 use Rattle.peers_msg.specs.Kinds.{resync_finished, resync_partial, resync_confirm, heartbeat}
 use Rattle.peers_msg.specs.Kinds.{protocol_error, size_error, update, incremental_update}
 use Rattle.peers_msg.specs.Kinds.{table_definition, table_switch, acknowledgement, timed_update}
-use Rattle.peers_msg.specs.Kinds.{timed_incremental_update, first_with_payload, max_payload}
+use Rattle.peers_msg.specs.Kinds.{timed_incremental_update, first_with_payload}
 
 -- the messages of class 0, which have no payload
 unfoldable pub control_of : ℕ → Message
@@ -64,7 +65,7 @@ abbrev pub framed : ℕ → ℕ → List ℕ → Result (Option (ℕ × ℕ)) In
 framed class kind bytes (Ok None) = Short
 framed class kind bytes (Err over) = Wrong BadInteger
 framed class kind bytes (Ok (Some size)) =
-    if nat_lt max_payload size.0 then Wrong TooLong
+    if nat_lt LONGEST_PAYLOAD size.0 then Wrong TooLong
     else if nat_lt (length (drop size.1 bytes)) size.0 then Short
     else Framed class kind (take size.0 (drop size.1 bytes)) (drop size.0 (drop size.1 bytes))
 

@@ -3,12 +3,12 @@ use Rattle.std.specs.Prelude.{ℕ, zero, suc, Bool, true, false, nat_lt, List, [
 use Rattle.std.specs.Prelude.{drop, Option, Some, None, Result, Ok, Err, if◌then◌else◌}
 use Rattle.std.specs.Int.{w32, from_be_bytes}
 use Rattle.std.specs.Option.{option_map_or}
+use Rattle.agg_types.specs.declared.column.TheConstants.{LAST_TYPE}
 use Rattle.peers_msg.specs.declared.integer.IntTooLarge.{IntTooLarge}
 use Rattle.peers_msg.specs.declared.message.Definition.{Definition}
 use Rattle.peers_msg.specs.declared.message.Message.{Message}
 use Rattle.peers_msg.specs.declared.message.Message.TheVariants as messages
 use Rattle.peers_msg.specs.Numeral.{integer_at}
-use Rattle.peers_msg.specs.Kinds.{last_type}
 
 infixl 10 ◌>>=◌
 abbrev pub ◌>>=◌ : {A B : Type 0} → Option A → (A → Option B) → Option B
@@ -35,12 +35,13 @@ string_at bytes = do
   size ← number_at bytes
   if nat_lt (length size.1) size.0 then None else Some (take size.0 size.1, drop size.0 size.1)
 
--- a data type's id up to 18 and its period, and the bytes after them
+-- a data type's id up to that of the last column and its period, and the bytes after them; what
+-- comes after the last is not read
 unfoldable pub pair_at : List ℕ → Option ((ℕ × ℕ) × List ℕ)
 pair_at bytes = do
   id ← number_at bytes
   period ← number_at id.1
-  if nat_lt last_type id.0 then None else Some ((id.0, period.0), period.1)
+  if nat_lt LAST_TYPE id.0 then None else Some ((id.0, period.0), period.1)
 
 -- the whole pairs at the front, at most so many
 unfoldable pub pairs_within : ℕ → List ℕ → List (ℕ × ℕ)

@@ -2,6 +2,8 @@
 use Rattle.std.specs.Prelude.{◌≡◌, ◌≢◌, ◌⊎◌, ℕ, ◌^◌, ◌<◌, ◌≤◌, List, [], ◌∷◌, ◌++◌, length}
 use Rattle.std.specs.Prelude.{slice_index, Option, Some, None}
 use Rattle.std.specs.Int.{w32, from_be_bytes}
+use Rattle.agg_types.specs.declared.column.TheConstants.{LAST_TYPE}
+use Rattle.agg_types.specs.declared.limits.TheConstants.{LONGEST_PAYLOAD}
 use Rattle.peers_msg.specs.declared.message.Definition.{Definition}
 use Rattle.peers_msg.specs.declared.message.Message.{Message}
 use Rattle.peers_msg.specs.declared.message.Message.TheVariants as messages
@@ -12,7 +14,7 @@ use Rattle.peers_msg.specs.Message.{control_of, error_of}
 use Rattle.peers_msg.specs.Spelling.{update_kind}
 use Rattle.peers_msg.specs.Kinds.{control_class, error_class, table_class, update}
 use Rattle.peers_msg.specs.Kinds.{timed_incremental_update, table_definition, table_switch}
-use Rattle.peers_msg.specs.Kinds.{acknowledgement, first_with_payload, max_payload, last_type}
+use Rattle.peers_msg.specs.Kinds.{acknowledgement, first_with_payload}
 
 abbrev pub AreBytes : List ℕ → Type 0
 AreBytes bytes = (i : ℕ) → slice_index bytes i < 256
@@ -26,11 +28,11 @@ abbrev pub SpellsWord : List ℕ → Option ℕ → Type 0
 SpellsWord text None = text ≡ []
 SpellsWord text (Some n) = (length text ≡ 4) × (from_be_bytes w32 text ≡ n)
 
--- a data type's id up to 18, and its period
+-- a data type's id up to that of the last column, and its period
 abbrev pub SpellsPair : List ℕ → ℕ × ℕ → Type 0
 SpellsPair text p =
     (id period : List ℕ) × (text ≡ id ++ period) × Spells id p.0 × Spells period p.1
-    × (p.0 ≤ last_type)
+    × (p.0 ≤ LAST_TYPE)
 
 -- these pairs stand at the front, and no further one behind them
 abbrev pub BeginsWithPairs : List ℕ → List (ℕ × ℕ) → Type 0
@@ -94,7 +96,7 @@ Says class kind payload message =
 abbrev pub Frames : List ℕ → ℕ → ℕ → List ℕ → Type 0
 Frames text class kind payload =
     ((kind < first_with_payload) × (payload ≡ []) × (text ≡ class ∷ kind ∷ []))
-    ⊎ ((first_with_payload ≤ kind) × (length payload ≤ max_payload)
+    ⊎ ((first_with_payload ≤ kind) × (length payload ≤ LONGEST_PAYLOAD)
     × ((size : List ℕ) × Spells size (length payload) × (text ≡ class ∷ kind ∷ (size ++ payload))))
 
 -- the whole text is this message
@@ -107,7 +109,7 @@ SpellsMessage text message =
 abbrev pub HasCutPayload : List ℕ → Type 0
 HasCutPayload bytes =
     (size part : List ℕ) × (n : ℕ) × (bytes ≡ size ++ part) × Spells size n
-    × (n ≤ max_payload) × (length part < n)
+    × (n ≤ LONGEST_PAYLOAD) × (length part < n)
 
 -- neither a whole message nor a fault: the length is cut short, or the payload is
 abbrev pub IsRest : List ℕ → Type 0
@@ -119,7 +121,7 @@ IsRest (class ∷ kind ∷ bytes) =
 -- this fault stands at the front
 abbrev pub IsFaultAt : WireCause → List ℕ → Type 0
 IsFaultAt TooLong (class ∷ kind ∷ bytes) =
-    (first_with_payload ≤ kind) × ((n len : ℕ) × IsIntegerAt bytes n len × (max_payload < n))
+    (first_with_payload ≤ kind) × ((n len : ℕ) × IsIntegerAt bytes n len × (LONGEST_PAYLOAD < n))
 IsFaultAt BadInteger (class ∷ kind ∷ bytes) = (first_with_payload ≤ kind) × IsTooLarge bytes
 IsFaultAt BadField bytes =
     (text more : List ℕ) × (class kind : ℕ) × (payload : List ℕ) × (bytes ≡ text ++ more)

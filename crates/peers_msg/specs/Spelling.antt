@@ -3,6 +3,8 @@ use Rattle.std.specs.Prelude.{ℕ, zero, suc, ◌+◌, ◌-◌, ◌/◌, ◌%◌
 use Rattle.std.specs.Prelude.{◌∷◌, ◌++◌, length, Option, Some, None, if◌then◌else◌}
 use Rattle.std.specs.List.{flat_map, AllByRecursion}
 use Rattle.std.specs.Int.{w32, to_be_bytes}
+use Rattle.agg_types.specs.declared.column.TheConstants.{LAST_TYPE}
+use Rattle.agg_types.specs.declared.limits.TheConstants.{LONGEST_PAYLOAD}
 use Rattle.peers_msg.specs.declared.message.Definition.{Definition}
 use Rattle.peers_msg.specs.declared.message.Message.{Message}
 use Rattle.peers_msg.specs.declared.message.Message.TheVariants as messages
@@ -10,7 +12,7 @@ use Rattle.peers_msg.specs.Kinds.{control_class, error_class, table_class, resyn
 use Rattle.peers_msg.specs.Kinds.{resync_finished, resync_partial, resync_confirm, heartbeat}
 use Rattle.peers_msg.specs.Kinds.{protocol_error, size_error, update, incremental_update}
 use Rattle.peers_msg.specs.Kinds.{table_definition, table_switch, acknowledgement, timed_update}
-use Rattle.peers_msg.specs.Kinds.{timed_incremental_update, max_payload, last_type}
+use Rattle.peers_msg.specs.Kinds.{timed_incremental_update}
 
 -- the bytes after the first of a spelling, of which one more in the next byte counts 1; at most as
 -- many as said
@@ -85,8 +87,8 @@ message_spelling (messages.Other class kind) = []
 -- acknowledgement always is.
 abbrev pub IsSendable : Message → Type 0
 IsSendable (messages.Update id life rest) =
-    length (word_spelling id ++ word_spelling life ++ rest) ≤ max_payload
-IsSendable (messages.Define definition) = length (definition_spelling definition) ≤ max_payload
+    length (word_spelling id ++ word_spelling life ++ rest) ≤ LONGEST_PAYLOAD
+IsSendable (messages.Define definition) = length (definition_spelling definition) ≤ LONGEST_PAYLOAD
 IsSendable (messages.Other class kind) = ⊥
 IsSendable message = Unit {0}
 
@@ -96,7 +98,7 @@ IsWord (Some n) = n < 2 ^ 32
 
 -- the pair of a data type whose period is read
 abbrev pub IsKeptPair : ℕ × ℕ → Type 0
-IsKeptPair p = (p.0 ≤ last_type) × (p.1 < 2 ^ 64)
+IsKeptPair p = (p.0 ≤ LAST_TYPE) × (p.1 < 2 ^ 64)
 
 -- a definition's numbers are in their ranges, and its pairs are of data types whose period is read
 pub record IsDefinition (d : Definition) : Type 0 where

@@ -10,7 +10,7 @@ use thiserror::Error;
 /// What is wrong with a stream of messages.
 #[derive(Clone, Copy, Debug, PartialEq, Eq, Error)]
 pub enum WireCause {
-    /// A payload's length is above the limit of 16,384 bytes.
+    /// A payload's length is above the limit, `LONGEST_PAYLOAD`.
     #[error("a message is too long")]
     TooLong,
     /// A payload's length is above 2^64 - 1.

@@ -2,6 +2,7 @@
 
 ghost use Rattle.std.specs.Prelude.{◌≡◌, ◌≢◌, ◌+◌, ◌++◌, ◌<◌, ℕ, List, [], length, take, Some, Err};
 ghost use Rattle.std.specs.Prelude.{IsSome, IfOk, IfErr, IsOkAnd, OnOk, OnErr};
+ghost use Rattle.agg_types.specs.declared.limits.TheConstants.{LONGEST_PAYLOAD};
 
 use crate::decoding::decode;
 use crate::framing::{Head, head_of};
@@ -42,7 +43,7 @@ impl Model for Feed {
 }
 
 impl Feed {
-    ghost use Rattle.peers_msg.specs.Kinds.{longest_head, max_payload};
+    ghost use Rattle.peers_msg.specs.Kinds.{longest_head};
     ghost use Rattle.peers_msg.specs.Message.{reading_of};
     ghost use Rattle.peers_msg.specs.Feed.{feed_of, fed, kept_of, kept_after, Answers, GoesOn};
     ghost use Rattle.peers_msg.specs.Feed.{HasRead};
@@ -83,7 +84,7 @@ impl Feed {
             × (result ≡ Err (record { cause = cause; before = [] })) }
 
         // Less than one message is kept.
-        ensures bounded { length self.new.rest < longest_head + max_payload }
+        ensures bounded { length self.new.rest < longest_head + LONGEST_PAYLOAD }
     {
         // A hint to the prover: reading a field brings what every feed keeps of itself into scope,
         // before and after the call.

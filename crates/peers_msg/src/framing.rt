@@ -6,7 +6,8 @@ ghost use Rattle.peers_msg.specs.Decoded.{IsHead, HeadFits};
 
 use crate::WireCause;
 use crate::integer::read_int;
-use crate::kinds::{FIRST_WITH_PAYLOAD, MAX_PAYLOAD};
+use crate::kinds::FIRST_WITH_PAYLOAD;
+use agg_types::limits::LONGEST_PAYLOAD;
 
 /// What stands at the front of bytes.
 #[derive(Clone, Copy, Debug)]
@@ -47,7 +48,7 @@ pub(crate) fn head_of(bytes: &[u8]) -> Head
                 Ok(None) => Head::Short,
                 Err(_) => Head::Wrong(WireCause::BadInteger),
                 Ok(Some((len, taken))) => {
-                    if len > MAX_PAYLOAD {
+                    if len > LONGEST_PAYLOAD {
                         Head::Wrong(WireCause::TooLong)
                     } else if rest.len() - taken < len as usize {
                         Head::Short

@@ -1,9 +1,10 @@
 //! What a piece of a stream gives.
 
 ghost use Rattle.std.specs.Prelude.{◌≡◌, ◌+◌, ◌<◌, [], length, None, Some};
+ghost use Rattle.agg_types.specs.declared.limits.TheConstants.{LONGEST_PAYLOAD};
 ghost use Rattle.peers_msg.specs.Decoded.{IsWireFault};
 ghost use Rattle.peers_msg.specs.Kept.{IsKept};
-ghost use Rattle.peers_msg.specs.Kinds.{longest_head, max_payload};
+ghost use Rattle.peers_msg.specs.Kinds.{longest_head};
 
 use crate::{Message, WireCause};
 use agg_types::Items;
@@ -38,7 +39,7 @@ impl Model for Given {
 impl Given {
     /// Messages and the bytes behind them, which hold no fault and are less than a message.
     pub(crate) fn whole(messages: Items<Message>, rest: BytesMut) -> Given
-        requires { length rest.items < longest_head + max_payload }
+        requires { length rest.items < longest_head + LONGEST_PAYLOAD }
         ensures { result ≡ record { messages = messages; fault = None; rest = rest.items } }
     {
         Given {

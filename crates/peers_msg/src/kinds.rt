@@ -41,9 +41,3 @@ pub(crate) const TIMED_INCREMENTAL_UPDATE: u8 = 134;
 
 /// The least type whose messages have a payload.
 pub(crate) const FIRST_WITH_PAYLOAD: u8 = 128;
-
-/// The greatest length of a payload in bytes.
-pub(crate) const MAX_PAYLOAD: u64 = 16_384;
-
-/// The greatest id of a data type that is read; those above it are trailing bytes.
-pub const LAST_TYPE: u64 = 18;

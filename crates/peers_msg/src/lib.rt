@@ -26,6 +26,5 @@ pub use fault::{WireCause, WireFault};
 pub use feed::Feed;
 pub use given::Given;
 pub use integer::{IntTooLarge, get_int, put_int};
-pub use kinds::LAST_TYPE;
 pub use message::{Definition, Message};
 pub use writing::write_message;

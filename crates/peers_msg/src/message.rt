@@ -64,7 +64,7 @@ pub struct Definition {
     pub bits: u64,
     /// The life of an entry in milliseconds; 0 for no end.
     pub expiry: u64,
-    /// Each data type's id, up to 18, with its period in milliseconds, in the order in which they
-    /// were sent. The last pair of an id holds.
+    /// Each data type's id, up to that of the last column, with its period in milliseconds, in the
+    /// order in which they were sent. The last pair of an id holds.
     pub periods: Items<(u64, u64)>,
 }

@@ -6,9 +6,8 @@ ghost use Rattle.peers_msg.specs.Payload.{number_at, word_at, word_if, string_at
 ghost use Rattle.peers_msg.specs.Payload.{pairs_at, definition_of, switch_of, acked_of, update_of};
 
 use crate::integer::read_int;
-use crate::kinds::LAST_TYPE;
 use crate::{Definition, Message, WireCause};
-use agg_types::{Items, NoMemory};
+use agg_types::{Items, LAST_TYPE, NoMemory};
 use bytes::Bytes;
 use std::alloc::Global;
 

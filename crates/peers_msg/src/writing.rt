@@ -15,7 +15,7 @@ use agg_types::NoMemory;
 
 /// Appends the one spelling of a message. After `NoMemory` the bytes of `out` are as they were.
 ///
-/// The message is of a known kind, and its payload within the limit of 16,384 bytes.
+/// The message is of a known kind, and its payload no longer than the longest.
 pub fn write_message(message: &Message, out: &mut Vec<u8>) -> Result<(), NoMemory>
     requires { IsSendable message.now }
     ensures ok { OnOk result (out.new.items ≡ out.old.items ++ message_spelling message.now) }

@@ -6,6 +6,7 @@ use Rattle.std.specs.List.{position_or_len, prefix_len}
 use Rattle.std.specs.Str.{bytes_eq}
 use Rattle.std.proofs.lemmas.Bool.{lt-ltb}
 use Rattle.std.proofs.lemmas.List.{take-append-le, drop-append-le}
+use Rattle.agg_types.specs.declared.limits.TheConstants.{LONGEST_HELLO_LINE}
 use Rattle.session_core.specs.declared.cause.Status.{Status}
 use Rattle.session_core.specs.declared.cause.Status.TheVariants.{LocalName}
 use Rattle.session_core.specs.Hello.{◌>>=◌, admitted, hello_of, line_at, peer_of, receiver_line}
@@ -43,7 +44,7 @@ prefix_past q (x ∷ a) b le =
 whole_longer : (a b : List ℕ) (n : ℕ) → n < length a
     → Longer (split_line a (Some n)) (split_line (a ++ b) (Some n)) b
 whole_longer a b n lt =
-    elim (lt_tells 256 n) [
+    elim (lt_tells LONGEST_HELLO_LINE n) [
       | inl p ↦ rw p.0 refl
       | inr p ↦
           let front : take n (a ++ b) ≡ take n a = take-append-le n a b (omega arith) in
@@ -60,15 +61,16 @@ long_longer a b le =
     let past : length a ≤ position_or_len (λ byte. byte == 10) (a ++ b) =
     prefix_past (λ byte. not (byte == 10)) a b le in
     let len : length a ≤ length (a ++ b) = omega (arith, length-append a b) in
-    elim (lt_tells 256 (length a)) [
+    elim (lt_tells LONGEST_HELLO_LINE (length a)) [
       | inl p ↦
           rw p.0 (elim (lt_tells (position_or_len (λ byte. byte == 10) (a ++ b)) (length (a ++ b))) [
             | inl q ↦ rw (
               q.0,
-              lt-ltb 256 (position_or_len (λ byte. byte == 10) (a ++ b))
+              lt-ltb LONGEST_HELLO_LINE (position_or_len (λ byte. byte == 10) (a ++ b))
                   (omega (arith, p.1)),
             ) refl
-            | inr q ↦ rw (q.0, lt-ltb 256 (length (a ++ b)) (omega (arith, p.1))) refl
+            | inr q ↦
+                rw (q.0, lt-ltb LONGEST_HELLO_LINE (length (a ++ b)) (omega (arith, p.1))) refl
           ])
       | inr p ↦ rw p.0 tt
     ]

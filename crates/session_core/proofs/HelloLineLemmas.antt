@@ -9,6 +9,7 @@ use Rattle.std.proofs.lemmas.Bool.{lt-ltb, le-ltb, ne_eqb}
 use Rattle.std.proofs.lemmas.Bool.Decides.{eqb_tells}
 use Rattle.std.proofs.lemmas.List.{take-append-drop, length-take-le}
 use Rattle.std.proofs.Math.Seq.{take-append_seam, drop-append-add}
+use Rattle.agg_types.specs.declared.limits.TheConstants.{LONGEST_HELLO_LINE}
 use Rattle.session_core.specs.declared.cause.Status.{Status}
 use Rattle.session_core.specs.declared.cause.Status.TheVariants.{TryLater, Protocol, LocalName}
 use Rattle.session_core.specs.declared.cause.Status.TheVariants.{RemoteName}
@@ -78,7 +79,7 @@ LineIs bytes (Err status) = HasLongLine bytes × (status ≡ Protocol)
 whole_line_is : (bytes : List ℕ) → lf_place bytes < length bytes
     → LineIs bytes (split_line bytes (Some (lf_place bytes)))
 whole_line_is bytes lt =
-    elim (lt_tells 256 (lf_place bytes)) [
+    elim (lt_tells LONGEST_HELLO_LINE (lf_place bytes)) [
       | inl p ↦
           let len : length (take (lf_place bytes) bytes) ≡ lf_place bytes =
           length-take-le (lf_place bytes) bytes (omega arith) in
@@ -107,7 +108,7 @@ whole_line_is bytes lt =
 open_line_is : (bytes : List ℕ) → length bytes ≤ lf_place bytes
     → LineIs bytes (split_line bytes None)
 open_line_is bytes le =
-    elim (lt_tells 256 (length bytes)) [
+    elim (lt_tells LONGEST_HELLO_LINE (length bytes)) [
       | inl p ↦ rw p.0 ((bytes, [], sym (append-nil bytes), none_in_all bytes le, p.1), refl)
       | inr p ↦ rw p.0 (none_in_all bytes le, p.1)
     ]
@@ -135,7 +136,7 @@ is_line bytes line rest h =
       h.1,
       at,
       lt-ltb (length sent) (length (sent ++ 10 ∷ rest)) (omega (arith, len)),
-      le-ltb 256 (length sent) h.3,
+      le-ltb LONGEST_HELLO_LINE (length sent) h.3,
       front,
       back,
       h.4,
@@ -146,7 +147,7 @@ unfolding line_at
 is_cut_line bytes h =
     rw (
       le-ltb (lf_place bytes) (length bytes) (place_past bytes h.0),
-      le-ltb 256 (length bytes) h.1,
+      le-ltb LONGEST_HELLO_LINE (length bytes) h.1,
     ) refl
 
 is_long_line : (bytes : List ℕ) → HasLongLine bytes → line_at bytes ≡ Err Protocol
@@ -158,8 +159,12 @@ is_long_line bytes h =
     prefix_past (λ byte. not (byte == 10)) front more (place_past front h.3) in
     let len : length (front ++ more) ≡ length front + length more = length-append front more in
     rw h.2 (elim (lt_tells (lf_place (front ++ more)) (length (front ++ more))) [
-      | inl p ↦ rw (p.0, lt-ltb 256 (lf_place (front ++ more)) (omega (arith, past, h.4))) refl
-      | inr p ↦ rw (p.0, lt-ltb 256 (length (front ++ more)) (omega (arith, len, h.4))) refl
+      | inl p ↦
+          rw (p.0, lt-ltb LONGEST_HELLO_LINE (lf_place (front ++ more))
+          (omega (arith, past, h.4))) refl
+      | inr p ↦
+          rw (p.0, lt-ltb LONGEST_HELLO_LINE (length (front ++ more))
+          (omega (arith, len, h.4))) refl
     ])
 
 -- ---- the line at the front, and what follows it

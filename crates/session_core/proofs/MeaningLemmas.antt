@@ -11,6 +11,7 @@ use Rattle.peers_msg.specs.declared.message.Message.TheVariants as messages
 use Rattle.peers_msg.specs.declared.fault.WireCause.TheVariants.{BadField}
 use Rattle.agg_types.specs.declared.config.Shape.{Shape}
 use Rattle.agg_types.specs.declared.event.What.{What}
+use Rattle.agg_types.specs.declared.limits.TheConstants.{MOST_FOLLOWED}
 use Rattle.session_core.specs.declared.cause.End.TheVariants.{Wire}
 use Rattle.session_core.specs.declared.track.Entry.{Entry}
 use Rattle.session_core.specs.declared.track.Followed.{Followed}
@@ -383,7 +384,7 @@ define_skipped tables newest definition past e none =
 define_more : (tables : List Shape) (newest : ℕ) (definition : Definition) (past : List Message)
     (followed : Followed) → is_in definition.id (followed_ids tables past) ≡ false
     → followed_of tables definition ≡ Some followed
-    → nat_le 256 (length (entries_for tables newest past)) ≡ false
+    → nat_le MOST_FOLLOWED (length (entries_for tables newest past)) ≡ false
     → defined (track_for tables newest past) definition.id (followed_of tables definition) None
     ≡ record {
       track = track_for tables (suc newest) (messages.Define definition ∷ past);
@@ -428,7 +429,7 @@ define_more tables newest definition past followed e some room =
 
 define_full : (tables : List Shape) (newest : ℕ) (definition : Definition) (past : List Message)
     (followed : Followed) → followed_of tables definition ≡ Some followed
-    → nat_le 256 (length (entries_for tables newest past)) ≡ true
+    → nat_le MOST_FOLLOWED (length (entries_for tables newest past)) ≡ true
     → defined (track_for tables newest past) definition.id (followed_of tables definition) None
     ≡ record { track = track_for tables newest past; meaning = End (Wire BadField) }
 define_full tables newest definition past followed some full =
@@ -456,7 +457,8 @@ meaning_skipped tables peer definition past none = rw none refl
 
 meaning_new : (tables : List Shape) (peer : ℕ) (definition : Definition) (past : List Message)
     (followed : Followed) (full : Bool) → is_in definition.id (followed_ids tables past) ≡ false
-    → followed_of tables definition ≡ Some followed → nat_le 256 (length (followed_ids tables past))
+    → followed_of tables definition ≡ Some followed
+    → nat_le MOST_FOLLOWED (length (followed_ids tables past))
     ≡ full → meaning tables peer past (messages.Define definition)
     ≡ (if full then End (Wire BadField) else Nothing)
 unfolding meaning
@@ -493,17 +495,17 @@ define_is tables peer newest past definition =
                 (meaning_skipped tables peer definition past none) (unknown
                 ∙ define_skipped tables newest definition past e none)
             | inr some ↦
-                elim (bool_tells (nat_le 256 (length (followed_ids tables past)))) [
+                elim (bool_tells (nat_le MOST_FOLLOWED (length (followed_ids tables past)))) [
                   | inl full ↦
                       step_same t u (meaning tables peer past (messages.Define definition))
                       (meaning_new tables peer definition past some.0 true e some.1 full)
                       (unknown ∙ define_full tables newest definition past some.0 some.1
-                      (ap (nat_le 256) (entries_len tables newest past) ∙ full))
+                      (ap (nat_le MOST_FOLLOWED) (entries_len tables newest past) ∙ full))
                   | inr room ↦
                       step_same t u (meaning tables peer past (messages.Define definition))
                       (meaning_new tables peer definition past some.0 false e some.1 room)
                       (unknown ∙ define_more tables newest definition past some.0 e some.1
-                      (ap (nat_le 256) (entries_len tables newest past) ∙ room))
+                      (ap (nat_le MOST_FOLLOWED) (entries_len tables newest past) ∙ room))
                 ]
           ]
     ]

@@ -4,6 +4,7 @@ use Rattle.std.specs.Prelude.{List, length, take, drop, codes, position, slice_g
 use Rattle.std.specs.Prelude.{None, Result, Ok, Err}
 use Rattle.std.specs.Option.{option_map_or}
 use Rattle.std.specs.Str.{bytes_eq}
+use Rattle.agg_types.specs.declared.limits.TheConstants.{LONGEST_HELLO_LINE}
 use Rattle.session_core.specs.declared.cause.Status.{Status}
 use Rattle.session_core.specs.declared.cause.Status.TheVariants.{TryLater, Protocol, Version}
 use Rattle.session_core.specs.declared.cause.Status.TheVariants.{LocalName, RemoteName}
@@ -28,11 +29,11 @@ without_cr line =
     if option_map_or (λ byte. byte == 13) (slice_get line (length line - 1)) false
     then take (length line - 1) line else line
 
--- a line of at most 256 bytes before its LF, and the bytes after the LF
+-- a line that is not too long before its LF, and the bytes after the LF
 abbrev pub split_line : List ℕ → Option ℕ → Result (Option (List ℕ × List ℕ)) Status
-split_line bytes None = if nat_lt 256 (length bytes) then Err Protocol else Ok None
+split_line bytes None = if nat_lt LONGEST_HELLO_LINE (length bytes) then Err Protocol else Ok None
 split_line bytes (Some end) =
-    if nat_lt 256 end then Err Protocol
+    if nat_lt LONGEST_HELLO_LINE end then Err Protocol
     else Ok (Some (without_cr (take end bytes), drop (end + 1) bytes))
 
 unfoldable pub line_at : List ℕ → Result (Option (List ℕ × List ℕ)) Status

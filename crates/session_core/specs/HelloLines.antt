@@ -3,6 +3,7 @@ use Rattle.std.specs.Prelude.{◌≡◌, ◌≢◌, ◌⊎◌, ℕ, ◌<◌, ◌
 use Rattle.std.specs.Prelude.{MatchOption, Option, Some, None, Result, Ok, Err, if◌then◌else◌}
 use Rattle.std.specs.List.{AllByRecursion}
 use Rattle.std.specs.Str.{bytes_eq}
+use Rattle.agg_types.specs.declared.limits.TheConstants.{LONGEST_HELLO_LINE}
 use Rattle.session_core.specs.declared.cause.Status.{Status}
 use Rattle.session_core.specs.declared.cause.Status.TheVariants.{TryLater, Protocol, LocalName}
 use Rattle.session_core.specs.declared.cause.Status.TheVariants.{RemoteName}
@@ -15,21 +16,23 @@ Verdict = Result (Option (ℕ × List ℕ)) Status
 abbrev pub HasNoLf : List ℕ → Type 0
 HasNoLf bytes = AllByRecursion (λ byte. byte ≢ 10) bytes
 
--- the bytes are a line of at most 256 bytes, its LF, and a rest; a CR before the LF is no part of
+-- the bytes are a line that is not too long, its LF, and a rest; a CR before the LF is no part of
 -- it
 abbrev pub HasLine : List ℕ → List ℕ → List ℕ → Type 0
 HasLine bytes line rest =
-    (sent : List ℕ) × (bytes ≡ sent ++ 10 ∷ rest) × HasNoLf sent × (length sent ≤ 256)
+    (sent : List ℕ) × (bytes ≡ sent ++ 10 ∷ rest) × HasNoLf sent
+    × (length sent ≤ LONGEST_HELLO_LINE)
     × (line ≡ without_cr sent)
 
 -- 257 bytes without LF stand at the front
 abbrev pub HasLongLine : List ℕ → Type 0
 HasLongLine bytes =
-    (front more : List ℕ) × (bytes ≡ front ++ more) × HasNoLf front × (256 < length front)
+    (front more : List ℕ) × (bytes ≡ front ++ more) × HasNoLf front
+    × (LONGEST_HELLO_LINE < length front)
 
 -- the line isn't whole yet
 abbrev pub IsCutLine : List ℕ → Type 0
-IsCutLine bytes = HasNoLf bytes × (length bytes ≤ 256)
+IsCutLine bytes = HasNoLf bytes × (length bytes ≤ LONGEST_HELLO_LINE)
 
 -- The line at the front decides where it is too long, not yet whole or at fault. Where it is sound,
 -- what follows it does.

@@ -13,6 +13,7 @@ use Rattle.peers_msg.specs.Spelling.{message_spelling}
 use Rattle.agg_types.specs.declared.config.Shape.{Shape}
 use Rattle.agg_types.specs.declared.event.What.{What}
 use Rattle.agg_types.specs.declared.event.What.TheVariants.{Open}
+use Rattle.agg_types.specs.declared.limits.TheConstants.{MOST_FOLLOWED}
 use Rattle.session_core.specs.declared.cause.End.{End as Ending}
 use Rattle.session_core.specs.declared.cause.End.TheVariants.{Refused, Wire, PeerError}
 use Rattle.session_core.specs.declared.cause.Status.{Status}
@@ -40,10 +41,10 @@ update_under tables peer None life rest = Nothing
 update_under tables peer (Some followed) life rest =
     row_or_end (put_of tables peer followed life rest)
 
--- whether a definition is followed, of an id that wasn't before, with 256 that were
+-- whether a definition is followed, of an id that wasn't before, with as many that were as may be
 abbrev pub is_too_many : Bool → ℕ → List ℕ → Bool
 is_too_many followed id ids =
-    followed && not (list_any (λ other. other == id) ids) && nat_le 256 (length ids)
+    followed && not (list_any (λ other. other == id) ids) && nat_le MOST_FOLLOWED (length ids)
 
 -- what a message means behind those before it, newest first
 unfoldable pub meaning : List Shape → ℕ → List Message → Message → Meaning

@@ -15,6 +15,7 @@ use Rattle.agg_types.specs.declared.config.KeyKind.TheVariants.{Integer, Ip, Ipv
 use Rattle.agg_types.specs.declared.config.Shape.{Shape}
 use Rattle.agg_types.specs.declared.event.What.{What}
 use Rattle.agg_types.specs.declared.event.What.TheVariants.{Put}
+use Rattle.agg_types.specs.declared.limits.TheConstants.{MOST_FOLLOWED}
 use Rattle.session_core.specs.declared.cause.End.TheVariants.{Wire, PeerError}
 use Rattle.session_core.specs.declared.track.Followed.{Followed}
 use Rattle.session_core.specs.declared.track.Entry.{Entry}
@@ -114,7 +115,7 @@ defined t id followed (Some entry) =
     (place_if followed (place id t.entries))
 defined t id None None = quiet_step t.entries None
 defined t id (Some followed) None =
-    if nat_le 256 (length t.entries) then end_step t
+    if nat_le MOST_FOLLOWED (length t.entries) then end_step t
     else quiet_step (insert t.entries (place id t.entries) (new_entry id followed))
     (Some (place id t.entries))
 

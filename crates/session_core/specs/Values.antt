@@ -4,10 +4,10 @@ use Rattle.std.specs.Prelude.{◌==◌, ◌&&◌, if◌then◌else◌, List, [],
 use Rattle.std.specs.Prelude.{map, min, slice_get, slice_set, unwrap_or, replicate, Option, Some}
 use Rattle.std.specs.Prelude.{None}
 use Rattle.std.specs.List.{list_any}
-use Rattle.peers_msg.specs.Kinds.{last_type}
 use Rattle.peers_msg.specs.Payload.{◌>>=◌, number_at, string_at}
 use Rattle.agg_types.specs.Col.{all_cols, col_id, is_rate, is_wide}
 use Rattle.agg_types.specs.declared.column.Col.{Col}
+use Rattle.agg_types.specs.declared.column.TheConstants.{LAST_TYPE}
 use Rattle.agg_types.specs.declared.config.KeyKind.{KeyKind}
 use Rattle.agg_types.specs.declared.config.KeyKind.TheVariants.{Integer, Ip, Ipv6, Str, Binary}
 use Rattle.agg_types.specs.declared.event.Cell.{Cell}
@@ -17,7 +17,7 @@ use Rattle.session_core.specs.declared.values.Sent.TheVariants.{Absent, Count, R
 
 -- how many data types are read: those from 0 on
 abbrev pub types : ℕ
-types = suc last_type
+types = suc LAST_TYPE
 
 -- so many bytes, and those after them
 abbrev pub bytes_at : ℕ → List ℕ → Option (List ℕ × List ℕ)
@@ -74,7 +74,7 @@ sents_from bits (suc n) kind bytes = do
   others ← sents_from bits n (suc kind) first.1
   Some (first.0 ∷ others)
 
--- the data types 0 to 18 ascend; what comes after them is ignored
+-- the data types up to the last ascend; what comes after them is ignored
 unfoldable pub sents_at : ℕ → List ℕ → Option (List Sent)
 sents_at bits bytes = sents_from bits types 0 bytes
 
@@ -91,8 +91,8 @@ count_cell limit (Count count) = cells.Count (count % limit)
 count_cell limit Absent = cells.Count 0
 count_cell limit (Rate elapsed cur prev) = cells.Count 0
 
--- The elapsed time that is kept, in ms. A sender whose threads' clocks differ sends one that is up
--- to 60,000 below 0 as 2^32 less so much; that is 0.
+-- The elapsed time that is kept, in ms. A sender whose threads' clocks differ sends one that is
+-- below 0 by up to 60,000, as 2^32 less so much; that is 0.
 abbrev pub elapsed_of : ℕ → ℕ
 elapsed_of elapsed =
     if nat_le (2 ^ 32 - 60000) elapsed && nat_lt elapsed (2 ^ 32) then 0 else elapsed

@@ -5,10 +5,8 @@ ghost use Rattle.session_core.specs.Hello.{seen, line_at, without_cr, version_fa
 ghost use Rattle.session_core.specs.Hello.{hello_of, receiver_line, sender_line, peer_of};
 
 use crate::Status;
+use agg_types::limits::LONGEST_HELLO_LINE;
 use agg_types::{Config, Declared, Name};
-
-/// The greatest length of a line before its LF, in bytes.
-const LONGEST_LINE: usize = 256;
 
 /// What the first line begins with.
 const GREETING: &[u8] = b"HAProxyS ";
@@ -81,13 +79,13 @@ fn line_at(bytes: &[u8]) -> Result<Option<(&[u8], &[u8])>, Status>
 {
     match place_of(b'\n', bytes) {
         None => {
-            if bytes.len() > LONGEST_LINE {
+            if bytes.len() > LONGEST_HELLO_LINE {
                 return Err(Status::Protocol);
             }
             Ok(None)
         }
         Some(end) => {
-            if end > LONGEST_LINE {
+            if end > LONGEST_HELLO_LINE {
                 return Err(Status::Protocol);
             }
             Ok(Some((without_cr(&bytes[..end]), &bytes[end + 1..])))

@@ -17,12 +17,10 @@ use crate::kept::{Kept, take_plan};
 use crate::run::settle;
 use crate::undo::{Change, note, take_back};
 use crate::values::{TYPES, key_at, life_of, periods_of};
+use agg_types::limits::MOST_FOLLOWED;
 use agg_types::{Cells, Col, Declared, Key, KeyKind, NoMemory, Shape, What};
 use peers_msg::{Definition, Message, WireCause};
 use std::alloc::Global;
-
-/// The most ids that are ever followed in a session.
-const MOST_FOLLOWED: usize = 256;
 
 /// The most plans that are kept for tables that aren't in force.
 const MOST_PLANS: usize = 16;

@@ -6,8 +6,8 @@ ghost use Rattle.peers_msg.specs.Payload.{number_at, string_at};
 ghost use Rattle.session_core.specs.Values.{bytes_at, text_at, key_at, has_type, is_rate_type};
 ghost use Rattle.session_core.specs.Values.{periods_of, elapsed_of, life_of};
 
-use agg_types::{Col, KeyKind};
-use peers_msg::{LAST_TYPE, get_int};
+use agg_types::{Col, KeyKind, LAST_TYPE};
+use peers_msg::get_int;
 
 /// How many data types come before those that are trailing bytes.
 pub(crate) const TYPES: usize = LAST_TYPE as usize + 1;
