@@ -62,22 +62,7 @@ kept col cols (other ∷ order) =
 once : (col : Col) (cols : List (Col × ℕ))
     → flat_map (λ other. if same_col other col then cols else []) all_cols ≡ cols
 once column.Gpc0 cols = append-nil cols
-once column.Gpc0Rate cols = append-nil cols
-once column.ConnCnt cols = append-nil cols
-once column.ConnRate cols = append-nil cols
-once column.ConnCur cols = append-nil cols
-once column.SessCnt cols = append-nil cols
-once column.SessRate cols = append-nil cols
-once column.HttpReqCnt cols = append-nil cols
-once column.HttpReqRate cols = append-nil cols
-once column.HttpErrCnt cols = append-nil cols
-once column.HttpErrRate cols = append-nil cols
-once column.BytesInCnt cols = append-nil cols
-once column.BytesInRate cols = append-nil cols
-once column.BytesOutCnt cols = append-nil cols
-once column.BytesOutRate cols = append-nil cols
-once column.Gpc1 cols = append-nil cols
-once column.Gpc1Rate cols = append-nil cols
+once col cols = append-nil cols
 
 pub in_order_keeps : (col : Col) (cols : List (Col × ℕ))
     → of_column col (in_order cols) ≡ of_column col cols
