@@ -7,7 +7,7 @@ ghost use Rattle.agg_types.specs.Col.{all_cols};
 
 use crate::rows::Rows;
 use crate::values::{is_live, is_of, value};
-use agg_types::{Col, Key, NoMemory};
+use agg_types::{COLUMNS, Col, Key, NoMemory};
 use book_frame::keys::{is_other, longer};
 use fleet_model::{Arrival, Summed};
 use std::alloc::Global;
@@ -91,26 +91,12 @@ fn left_of(t: u64, row: &Arrival) -> Option<u64>
     }
 }
 
-fn values(rows: &Rows, cols: &[(Col, u32)], table: usize, key: &Key, t: u64) -> [u128; 17]
+fn values(rows: &Rows, cols: &[(Col, u32)], table: usize, key: &Key, t: u64) -> [u128; COLUMNS]
     ensures { result ≡ map (λ col. value cols.now rows.now.entries table key.now col t) all_cols }
 {
-    [
-        value(cols, rows, table, key, Col::Gpc0, t),
-        value(cols, rows, table, key, Col::Gpc0Rate, t),
-        value(cols, rows, table, key, Col::ConnCnt, t),
-        value(cols, rows, table, key, Col::ConnRate, t),
-        value(cols, rows, table, key, Col::ConnCur, t),
-        value(cols, rows, table, key, Col::SessCnt, t),
-        value(cols, rows, table, key, Col::SessRate, t),
-        value(cols, rows, table, key, Col::HttpReqCnt, t),
-        value(cols, rows, table, key, Col::HttpReqRate, t),
-        value(cols, rows, table, key, Col::HttpErrCnt, t),
-        value(cols, rows, table, key, Col::HttpErrRate, t),
-        value(cols, rows, table, key, Col::BytesInCnt, t),
-        value(cols, rows, table, key, Col::BytesInRate, t),
-        value(cols, rows, table, key, Col::BytesOutCnt, t),
-        value(cols, rows, table, key, Col::BytesOutRate, t),
-        value(cols, rows, table, key, Col::Gpc1, t),
-        value(cols, rows, table, key, Col::Gpc1Rate, t),
-    ]
+    let mut values = [0; COLUMNS];
+    for (i, col) in Col::ALL.iter().enumerate() {
+        values[i] = value(cols, rows, table, key, *col, t);
+    }
+    values
 }
