@@ -8,7 +8,7 @@
 //! lends the entries of one index in order. `Due` goes through two indexes side by side, by moment,
 //! the first one's entries first on a tie.
 //!
-//! No clause says what a call costs, nor that a wheel has levels: docs/ARCHITECTURE.md has figures.
+//! No clause says what a call costs, nor that a wheel has levels: docs/PERFORMANCE.md has figures.
 #![tactic(auto)]
 
 mod due;

@@ -1,11 +1,10 @@
 //! The plain book: three ordered maps that an event changes and whose queries scan.
 //!
-//! The fleet and the hub can stand on it, and it is what a faster book is compared with. It
-//! promises that after each list of events answered Ok it is what recomputing from the whole list
-//! gives, that each query is exactly what the definitions of fleet_model say of that, and that it
-//! is always sound. A call that is refused memory changes nothing; a `Leave`, and an event that
-//! doesn't count, never are. No clause says how long a call takes, or that one succeeds while there
-//! is memory.
+//! It is what the faster book is compared with, and only tests run on it. It promises that after
+//! each list of events answered Ok it is what recomputing from the whole list gives, that each
+//! query is exactly what the definitions of fleet_model say of that, and that it is always sound. A
+//! call that is refused memory changes nothing; a `Leave`, and an event that doesn't count, never
+//! are. No clause says how long a call takes, or that one succeeds while there is memory.
 #![tactic(auto)]
 
 mod book;
