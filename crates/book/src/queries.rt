@@ -12,7 +12,7 @@ ghost use Rattle.book.specs.Shown.{as_arrival, of_peer, rows_worth};
 use crate::row::{end_of, is_live};
 use crate::store::Store;
 use crate::values::worth;
-use agg_types::{Col, Key, NoMemory};
+use agg_types::{COLUMNS, Col, Key, NoMemory};
 use book_frame::keys::{is_other, longer};
 use fleet_model::Summed;
 use peer_rows::{ByKey, OfKey, Row};
@@ -89,27 +89,13 @@ fn left_of(t: u64, row: &Row) -> Option<u64>
 }
 
 // What rows of one key sum up to, by column.
-fn values(rows: &OfKey<'_>, cols: &[(Col, u32)], t: u64) -> [u128; 17]
+fn values(rows: &OfKey<'_>, cols: &[(Col, u32)], t: u64) -> [u128; COLUMNS]
     requires { length rows.now < 2 ^ 64 }
     ensures { result ≡ map (λ col. rows_worth cols.now col t rows.now) all_cols }
 {
-    [
-        worth(rows, cols, Col::Gpc0, t),
-        worth(rows, cols, Col::Gpc0Rate, t),
-        worth(rows, cols, Col::ConnCnt, t),
-        worth(rows, cols, Col::ConnRate, t),
-        worth(rows, cols, Col::ConnCur, t),
-        worth(rows, cols, Col::SessCnt, t),
-        worth(rows, cols, Col::SessRate, t),
-        worth(rows, cols, Col::HttpReqCnt, t),
-        worth(rows, cols, Col::HttpReqRate, t),
-        worth(rows, cols, Col::HttpErrCnt, t),
-        worth(rows, cols, Col::HttpErrRate, t),
-        worth(rows, cols, Col::BytesInCnt, t),
-        worth(rows, cols, Col::BytesInRate, t),
-        worth(rows, cols, Col::BytesOutCnt, t),
-        worth(rows, cols, Col::BytesOutRate, t),
-        worth(rows, cols, Col::Gpc1, t),
-        worth(rows, cols, Col::Gpc1Rate, t),
-    ]
+    let mut values = [0; COLUMNS];
+    for (i, col) in Col::ALL.iter().enumerate() {
+        values[i] = worth(rows, cols, *col, t);
+    }
+    values
 }
