@@ -1,15 +1,11 @@
 -- Conditions are judged alike, of a key's rows and of its summed row.
-use Rattle.std.proofs.Common.{◌≡◌, ℕ, ◌-◌, Bool, true, false, ◌&&◌, List, [], ◌∷◌, ◌++◌, map}
+use Rattle.std.proofs.Common.{◌≡◌, ℕ, Bool, true, false, ◌&&◌, List, [], ◌∷◌, ◌++◌, map}
 use Rattle.std.proofs.Common.{filter, get_or, Option, None, Some, if◌then◌else◌, refl, sym, ap, ◌∙◌}
 use Rattle.std.specs.List.{flat_map}
-use Rattle.agg_types.specs.Col.{all_cols, col_id}
+use Rattle.agg_types.proofs.Columns.{value_at_place}
+use Rattle.agg_types.specs.Col.{all_cols, place}
 use Rattle.agg_types.specs.Op.{op_holds}
 use Rattle.agg_types.specs.declared.column.Col.{Col}
-use Rattle.agg_types.specs.declared.column.Col.TheVariants.{Gpc0, Gpc0Rate, ConnCnt, ConnRate}
-use Rattle.agg_types.specs.declared.column.Col.TheVariants.{ConnCur, SessCnt, SessRate, HttpReqCnt}
-use Rattle.agg_types.specs.declared.column.Col.TheVariants.{HttpReqRate, HttpErrCnt, HttpErrRate}
-use Rattle.agg_types.specs.declared.column.Col.TheVariants.{BytesInCnt, BytesInRate, BytesOutCnt}
-use Rattle.agg_types.specs.declared.column.Col.TheVariants.{BytesOutRate, Gpc1, Gpc1Rate}
 use Rattle.agg_types.specs.declared.config.Cond.{Cond}
 use Rattle.agg_types.specs.declared.event.Select.TheVariants.{Conds}
 use Rattle.agg_types.specs.declared.place.Place.{Place}
@@ -21,26 +17,6 @@ use Rattle.fleet_model.specs.declared.summed.Summed.{Summed}
 use Rattle.show_clear.specs.Answer.{all_hold, line_if, rows_text, shape_of}
 use Rattle.show_clear.specs.Selected.{key_row, taken_keys}
 use Rattle.show_clear.specs.Tables.{row_text, value_in}
-
--- the values of all columns stand at their places
-value_at : (f : Col → ℕ) (col : Col) → get_or (map f all_cols) (col_id col - 2) 0 ≡ f col
-value_at f Gpc0 = refl
-value_at f Gpc0Rate = refl
-value_at f ConnCnt = refl
-value_at f ConnRate = refl
-value_at f ConnCur = refl
-value_at f SessCnt = refl
-value_at f SessRate = refl
-value_at f HttpReqCnt = refl
-value_at f HttpReqRate = refl
-value_at f HttpErrCnt = refl
-value_at f HttpErrRate = refl
-value_at f BytesInCnt = refl
-value_at f BytesInRate = refl
-value_at f BytesOutCnt = refl
-value_at f BytesOutRate = refl
-value_at f Gpc1 = refl
-value_at f Gpc1Rate = refl
 
 summed_is : {x y : Summed} → Some x ≡ Some y → x ≡ y
 summed_is same = cc
@@ -58,8 +34,8 @@ pub shown_value : (state : State) (table : ℕ) (key : List ℕ) (sums : Summed)
 unfolding summed
 shown_value state table key sums col is =
     let f : Col → ℕ = λ col. key_value state table key col state.moment in
-    ap (λ (values : List ℕ). get_or values (col_id col - 2) 0)
-    (sums_have (map f all_cols) state.moment (rows_of state table key) sums is) ∙ value_at f col
+    ap (λ (values : List ℕ). get_or values (place col) 0)
+    (sums_have (map f all_cols) state.moment (rows_of state table key) sums is) ∙ value_at_place f col
 
 -- conditions hold of a row that is shown where the key meets them
 pub holds_as_met : (state : State) (table : ℕ) (key : List ℕ) (conds : List Cond) (sums : Summed)

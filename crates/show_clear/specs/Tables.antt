@@ -1,9 +1,9 @@
 -- The texts of tables and their rows.
-use Rattle.std.specs.Prelude.{ℕ, ◌-◌, List, [], ◌∷◌, ◌++◌, codes, slice_index, Option, None, Some}
+use Rattle.std.specs.Prelude.{ℕ, List, [], ◌∷◌, ◌++◌, codes, slice_index, Option, None, Some}
 use Rattle.std.specs.Prelude.{if◌then◌else◌}
 use Rattle.std.specs.Fmt.{decimal}
 use Rattle.std.specs.List.{flat_map}
-use Rattle.agg_types.specs.Col.{col_id, col_name, is_rate}
+use Rattle.agg_types.specs.Col.{col_name, is_rate, place}
 use Rattle.agg_types.specs.declared.column.Col.{Col}
 use Rattle.agg_types.specs.declared.config.KeyKind.{KeyKind}
 use Rattle.agg_types.specs.declared.config.KeyKind.TheVariants.{Integer, Ip, Ipv6, Str, Binary}
@@ -40,10 +40,9 @@ column_text col =
 abbrev pub cell_text : Col × ℕ → ℕ → List ℕ
 cell_text col value = codes " " ++ column_text col ++ codes "=" ++ decimal value
 
--- a summed row's value of a column: columns stand in the order of their numbers, of which 2 is the
--- first
+-- a summed row's value of a column
 abbrev pub value_in : Summed → Col → ℕ
-value_in sums col = slice_index sums.values (col_id col - 2)
+value_in sums col = slice_index sums.values (place col)
 
 -- a number of ms, if there is one
 abbrev pub ms_or_never : Option ℕ → List ℕ

@@ -72,7 +72,7 @@ pub(crate) fn append_cell(col: (Col, u32), value: u128, out: &mut Vec<u8>) -> Re
 pub(crate) fn value_in(sums: &Summed, col: Col) -> u128
     ensures { result ≡ value_in sums.now col }
 {
-    sums.values[col.id() as usize - 2]
+    sums.values[col.place()]
 }
 
 /// Appends a number of ms, or that there is none.
