@@ -9,8 +9,9 @@ use Rattle.agg_types.specs.declared.event.Event.{Event}
 use Rattle.agg_types.specs.declared.event.What.{What}
 use Rattle.agg_types.specs.declared.event.What.TheVariants.{Sit, Open, Put, Clear, AddFilter}
 use Rattle.agg_types.specs.declared.event.What.TheVariants.{Moment, Leave}
+use Rattle.agg_types.specs.declared.limits.TheConstants.{MOST_SEATS}
 use Rattle.fleet_model.specs.Machine.{counts_now, number_of}
-use Rattle.fleet_model.specs.Seats.{is_next, most_seats}
+use Rattle.fleet_model.specs.Seats.{is_next}
 use Rattle.fleet_model.specs.State.{State}
 use Rattle.book_frame.proofs.Chosen.{and-left, and-right}
 use Rattle.book.specs.Due.{FitsPlace}
@@ -54,5 +55,5 @@ pub due-fits : (state : State) (e : Event) → counts_now state e ≡ true
 unfolding counts_now
 due-fits state e counts =
     placed state.config e.what (and-left (fits state.config e.what)
-    (is_next e.what e.seat e.seq (nat_lt (length state.seats) most_seats) state.next_seat
+    (is_next e.what e.seat e.seq (nat_lt (length state.seats) MOST_SEATS) state.next_seat
     (number_of state e.seat)) counts)

@@ -1,5 +1,5 @@
 -- The keys that a ranked list finds by bounds are the first of its table's.
-use Rattle.std.proofs.Common.{◌≡◌, ℕ, ◌^◌, ◌<◌, ◌≤◌, Bool, true, false, not, ◌&&◌, nat_le, nat_lt}
+use Rattle.std.proofs.Common.{◌≡◌, ℕ, ◌<◌, ◌≤◌, Bool, true, false, not, ◌&&◌, nat_le, nat_lt}
 use Rattle.std.proofs.Common.{List, [], ◌∷◌, ◌++◌, length, map, zero, suc, Option, None, Some}
 use Rattle.std.proofs.Common.{is_some, refl, sym, ap, ◌∙◌, subst, arith}
 use Rattle.std.specs.Prelude.{filter, take, slice_index_or}
@@ -20,6 +20,7 @@ use Rattle.agg_types.specs.declared.check.ConfigFault.TheVariants.{BadSize}
 use Rattle.agg_types.specs.declared.config.Config.{Config}
 use Rattle.agg_types.specs.declared.config.Rank.{Rank}
 use Rattle.agg_types.specs.declared.config.Shape.{Shape}
+use Rattle.agg_types.specs.declared.limits.TheConstants.{LAST_MOMENT}
 use Rattle.fleet_model.specs.Answers.{keys_of}
 use Rattle.fleet_model.specs.Keys.{key_rows, worth_of}
 use Rattle.fleet_model.specs.Laws.{IsKeyList, IsOrdered, is_key_among}
@@ -73,12 +74,12 @@ lists_short config list within none = ranks_short config.tables [] config.ranks 
     (back_none _ (each (rank_faults config.tables) [] config.ranks) none)
 
 -- ---- bounds at the machine's moment
-in_time : (t : ℕ) → t ≤ 2 ^ 62 → within t ≡ t
+in_time : (t : ℕ) → t ≤ LAST_MOMENT → within t ≡ t
 in_time t short = omega arith
 
 pub list_bounded : (state : State) (lists : Lists) (list t : ℕ) (rank : Rank)
     → AreLed state.config.tables state.config.ranks state.rows state.moment lists
-    → list < length state.config.ranks → state.moment ≤ 2 ^ 62 → t ≡ state.moment
+    → list < length state.config.ranks → state.moment ≤ LAST_MOMENT → t ≡ state.moment
     → rank ≡ rank_at state.config.ranks list
     → AreAllBounded (bounds_of lists list)
     (λ key. living_within (key_rows state.rows rank.table key) t)
@@ -143,7 +144,7 @@ live_found state rank bounds living value ordered by_key lives bounded =
     ∙ sym (all.exact key))
 
 pub first_is : (state : State) (rank : Rank) (bounds : List (List ℕ × ℕ)) (t : ℕ) → IsOrdered state
-    → IsByKey bounds → state.moment ≤ 2 ^ 62 → t ≡ state.moment
+    → IsByKey bounds → state.moment ≤ LAST_MOMENT → t ≡ state.moment
     → AreAllBounded bounds (λ key. living_within (key_rows state.rows rank.table key) t)
     (λ key. worth_within (cols_of state.config.tables rank.table)
     (key_rows state.rows rank.table key) rank.col t)

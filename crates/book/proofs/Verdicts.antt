@@ -1,5 +1,5 @@
 -- Kept verdicts: they stay right as events are followed, and say what the filters' sets are.
-use Rattle.std.proofs.Common.{◌≡◌, ℕ, ◌+◌, ◌^◌, ◌≤◌, ◌<◌, false, nat_lt, List}
+use Rattle.std.proofs.Common.{◌≡◌, ℕ, ◌+◌, ◌≤◌, ◌<◌, false, nat_lt, List}
 use Rattle.std.proofs.Common.{[], ◌∷◌, ◌++◌, length, get_or, take, map, Option, None, Some}
 use Rattle.std.proofs.Common.{refl, sym, ap, ◌∙◌, subst, arith, Ok, Err}
 use Rattle.std.specs.Prelude.{Result, OnOk}
@@ -20,6 +20,7 @@ use Rattle.standing_filters.specs.declared.judging.Verdict.{Verdict}
 use Rattle.agg_types.specs.declared.config.Config.{Config}
 use Rattle.agg_types.specs.declared.config.Filter.{Filter}
 use Rattle.agg_types.specs.declared.config.Shape.{Shape}
+use Rattle.agg_types.specs.declared.limits.TheConstants.{LAST_MOMENT}
 use Rattle.expiry_wheel.proofs.Lists.{all-append}
 use Rattle.fleet_model.specs.Answers.{filter_of, no_filter, set_at}
 use Rattle.fleet_model.specs.Keys.{AreKeysOf, Rows, has_live, holds, key_rows}
@@ -240,7 +241,7 @@ dead_now : (state : State) (table : ℕ) (key : List ℕ) (keys : List (Bor (Lis
     → map (λ (k : Bor (List ℕ)). k.now) keys ≡ live_keys state.rows table state.moment
     → is_among keys key ≡ false → living_in state table key state.moment ≡ 0
 dead_now state table key keys sound listed none =
-    let small : state.moment ≤ 2 ^ 62 = sound.in_range in
+    let small : state.moment ≤ LAST_MOMENT = sound.in_range in
     let now : within state.moment ≡ state.moment = omega arith in
     let rows : Rows = key_rows state.rows table key in
     let dead : has_live rows state.moment ≡ false =

@@ -1,8 +1,9 @@
-use Rattle.std.specs.Prelude.{ℕ, ◌^◌, ◌<◌, ◌≤◌, Option, length}
+use Rattle.std.specs.Prelude.{ℕ, ◌<◌, ◌≤◌, Option, length}
 use Rattle.agg_types.specs.declared.event.What.{What}
 use Rattle.agg_types.specs.declared.event.What.TheVariants.{Sit, Open, Put, Clear, AddFilter}
 use Rattle.agg_types.specs.declared.event.What.TheVariants.{Moment, Leave}
 use Rattle.agg_types.specs.declared.config.Config.{Config}
+use Rattle.agg_types.specs.declared.limits.TheConstants.{LAST_MOMENT}
 use Rattle.book.specs.Planned.{IsShort}
 
 -- a row of these peers and tables, whose life has 32 bits
@@ -18,5 +19,5 @@ FitsPlace config (Open peer) = Unit {0}
 FitsPlace config (Put peer table key life cells) = IsPlaced config peer table life
 FitsPlace config (Clear table sel) = Unit {0}
 FitsPlace config (AddFilter filter) = Unit {0}
-FitsPlace config (Moment moment) = moment ≤ 2 ^ 62
+FitsPlace config (Moment moment) = moment ≤ LAST_MOMENT
 FitsPlace config Leave = Unit {0}

@@ -1,5 +1,5 @@
 -- What the rows of a book stand for.
-use Rattle.std.specs.Prelude.{◌≡◌, ℕ, ◌^◌, ◌≤◌, ◌==◌, List, [], Option, None, Some, MatchOption}
+use Rattle.std.specs.Prelude.{◌≡◌, ℕ, ◌≤◌, ◌==◌, List, [], Option, None, Some, MatchOption}
 use Rattle.std.specs.Prelude.{filter}
 use Rattle.std.specs.Prelude.{length, map}
 use Rattle.std.specs.Borrow.{Bor}
@@ -13,6 +13,7 @@ use Rattle.book.specs.Shown.{of_peer, of_spot}
 use Rattle.agg_types.specs.declared.config.Config.{Config}
 use Rattle.agg_types.specs.declared.column.Col.{Col}
 use Rattle.agg_types.specs.declared.event.Cell.{Cell}
+use Rattle.agg_types.specs.declared.limits.TheConstants.{LAST_MOMENT}
 use Rattle.agg_types.specs.declared.place.Place.{Place}
 use Rattle.fleet_model.specs.Kept.{kept_cells}
 use Rattle.fleet_model.specs.declared.arrival.Arrival.{Arrival}
@@ -47,7 +48,7 @@ AreFound rows table key found = AreRowsOf rows table key (option_map (λ lent. l
 pub record HasSizes (config : Config) (moment : ℕ) (rows : InForce) : Type 0 where
   pub peers : rows.peers ≡ length config.peers
   pub tables : rows.tables ≡ length config.tables
-  pub in_range : moment ≤ 2 ^ 62
+  pub in_range : moment ≤ LAST_MOMENT
 
 -- a walk of a table's rows gives them all, by key, then by peer; there is none where there are no
 -- rows

@@ -2,6 +2,7 @@
 
 ghost use Rattle.std.specs.Prelude.{◌≡◌, ◌≤◌, ◌<◌, ◌^◌, ◌-◌, ℕ, List, length, map, min};
 ghost use Rattle.std.specs.Prelude.{IfSome};
+ghost use Rattle.agg_types.specs.declared.limits.TheConstants.{MOST_CONDS};
 ghost use Rattle.fleet_model.specs.Keys.{Rows, key_rows, worth_of};
 ghost use Rattle.fleet_model.specs.Changes.{IsKeyChange};
 ghost use Rattle.fleet_model.specs.Next.{flat_moment, table_flat_from};
@@ -163,7 +164,7 @@ fn rows_flat(rows: OfKey<'_>, longest: u32) -> u64
 /// The first moment above the machine's, in ms, at which a filter holds one of these keys that it
 /// doesn't now, or the other way round; none where it never does.
 pub(crate) fn first_change(machine: &Machine, standing: &Filter, keys: &[&Key]) -> Option<u64>
-    requires few { length standing.now.conds ≤ 4 }
+    requires few { length standing.now.conds ≤ MOST_CONDS }
     requires flat { table_flat_from machine.now standing.now.table < 2 ^ 64 }
     ensures { IsFirstOf machine.now standing.now keys.now result }
 {
@@ -176,7 +177,7 @@ pub(crate) fn first_change(machine: &Machine, standing: &Filter, keys: &[&Key]) 
 
 // The first moment at which a filter holds a key that it doesn't now, or the other way round.
 fn key_change(machine: &Machine, standing: &Filter, key: &Key) -> Option<u64>
-    requires few { length standing.now.conds ≤ 4 }
+    requires few { length standing.now.conds ≤ MOST_CONDS }
     requires flat { table_flat_from machine.now standing.now.table < 2 ^ 64 }
     ensures { IsKeyChange machine.now standing.now key.now result }
 {

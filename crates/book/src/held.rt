@@ -7,6 +7,7 @@
 
 ghost use Rattle.std.specs.Prelude.{◌≡◌, ◌<◌, ◌≤◌, ◌==◌, [], length, map, IfOk, OnOk};
 ghost use Rattle.std.specs.List.{list_any};
+ghost use Rattle.agg_types.specs.declared.limits.TheConstants.{MOST_CONDS};
 ghost use Rattle.fleet_model.specs.Keys.{AreKeysOf};
 ghost use Rattle.fleet_model.specs.Sound.{IsSound};
 ghost use Rattle.fleet_model.specs.State.{State};
@@ -183,7 +184,7 @@ fn add_missing(standing: &mut Standing, machine: &Machine) -> Result<(), NoMemor
 // Adds a filter behind the others, with its verdicts on all keys of its table.
 fn add_one(standing: &mut Standing, machine: &Machine, filter: &Filter) -> Result<(), NoMemory>
     requires sound { IsSound machine.now }
-    requires few { length filter.now.conds ≤ 4 }
+    requires few { length filter.now.conds ≤ MOST_CONDS }
     ensures { OnOk result (IsOneMore machine.now filter.now standing.old.filters
         standing.new.filters) }
 {

@@ -5,8 +5,9 @@
 //! that a refused growth leaves bounds that hold. A key whose last row goes takes its bounds with
 //! it.
 
-ghost use Rattle.std.specs.Prelude.{◌≡◌, ◌<◌, ◌≤◌, ◌^◌, ℕ, List, Option, length, filter, OnOk};
+ghost use Rattle.std.specs.Prelude.{◌≡◌, ◌<◌, ◌≤◌, ℕ, List, Option, length, filter, OnOk};
 ghost use Rattle.std.specs.Prelude.{OnErr};
+ghost use Rattle.agg_types.specs.declared.limits.TheConstants.{LAST_MOMENT};
 ghost use Rattle.fleet_model.specs.Keys.{AreInOrder};
 ghost use Rattle.fleet_model.specs.Machine.{with_row};
 ghost use Rattle.fleet_model.specs.Moments.{is_live};
@@ -58,7 +59,7 @@ pub fn put_led(
     life: Option<u64>,
     cells: &[Cell],
 ) -> Result<(), NoMemory>
-    requires in_range { t ≤ 2 ^ 62 }
+    requires in_range { t ≤ LAST_MOMENT }
     requires inside { IsInside rows.old.peers rows.old.tables (place_at at) }
     requires short { IsShort life }
     requires ordered { AreInOrder rows.old.rows }
@@ -89,7 +90,7 @@ fn lead_and_put(
     life: Option<u64>,
     cells: &[Cell],
 ) -> Result<(), NoMemory>
-    requires in_range { t ≤ 2 ^ 62 }
+    requires in_range { t ≤ LAST_MOMENT }
     requires inside { IsInside rows.old.peers rows.old.tables (place_at at) }
     requires short { IsShort life }
     requires ordered { AreInOrder rows.old.rows }

@@ -1,9 +1,10 @@
 //! The machine of one event: what a book holds, and what an event makes of it.
 
-ghost use Rattle.std.specs.Prelude.{◌≡◌, ◌<◌, ◌≤◌, ◌^◌, ◌&&◌, ◌==◌, length};
+ghost use Rattle.std.specs.Prelude.{◌≡◌, ◌<◌, ◌≤◌, ◌&&◌, ◌==◌, length};
 ghost use Rattle.std.specs.Prelude.{not, if◌then◌else◌, false, filter, IsTrue, IfOk, IsOk, OnOk};
 ghost use Rattle.std.specs.Prelude.{OnErr};
 ghost use Rattle.agg_types.specs.declared.event.What.TheVariants.{Leave};
+ghost use Rattle.agg_types.specs.declared.limits.TheConstants.{LAST_MOMENT};
 ghost use Rattle.fleet_model.specs.Answers.{filter_of};
 ghost use Rattle.fleet_model.specs.Keys.{key_rows, sum_of};
 ghost use Rattle.fleet_model.specs.Machine.{after, counts_now, event_of, number_of, opened};
@@ -89,7 +90,7 @@ impl Machine {
     /// A machine to which nothing has happened yet.
     #[tactic(auto, unfolding(fleet_model::specs::Machine::opened))]
     pub(crate) fn new(alloc: Global, config: Config, moment: u64) -> Result<Machine, NoMemory>
-        requires { moment ≤ 2 ^ 62 }
+        requires { moment ≤ LAST_MOMENT }
         ensures { IfOk result (λ machine. machine ≡ opened config moment) }
     {
         let size = Size {
@@ -300,7 +301,7 @@ fn put(
     life: Option<u64>,
     cells: &Cells,
 ) -> Result<(), NoMemory>
-    requires in_range { t ≤ 2 ^ 62 }
+    requires in_range { t ≤ LAST_MOMENT }
     requires inside { IsInside rows.old.peers rows.old.tables (place_at at) }
     requires short { IsShort life }
     requires led { AreLed config.now.tables config.now.ranks rows.old.rows t leaders.old }

@@ -3,12 +3,13 @@
 //! A row that ends has one item in the index: at its end, or at the end of one that stood there
 //! before it and ended no later. That item goes with the row, and where an end moves earlier.
 
-ghost use Rattle.std.specs.Prelude.{◌≡◌, ◌<◌, ◌≤◌, ◌^◌, ◌++◌, ℕ, ◌+◌, List, true, false, map, IsOk};
+ghost use Rattle.std.specs.Prelude.{◌≡◌, ◌<◌, ◌≤◌, ◌++◌, ℕ, ◌+◌, List, true, false, map, IsOk};
 ghost use Rattle.std.specs.Prelude.{IsSome, IfSome, IfOk, OnOk, OnErr, MatchOption};
 ghost use Rattle.std.specs.Option.{option_map};
 ghost use Rattle.std.specs.BTreeMap.{insert_entry, is_at};
 ghost use Rattle.std.specs.Map.{lookup, remove_entry};
 ghost use Rattle.agg_types.specs.Place.{place_cmp};
+ghost use Rattle.agg_types.specs.declared.limits.TheConstants.{LAST_MOMENT};
 ghost use Rattle.agg_types.specs.declared.place.Place.{Place};
 ghost use Rattle.fleet_model.specs.Kept.{kept_cell, kept_cells};
 ghost use Rattle.fleet_model.specs.Machine.{with_row};
@@ -39,7 +40,7 @@ pub fn new_row(
     cols: &[(Col, u32)],
     cells: &[Cell],
 ) -> Result<Row, NoMemory>
-    requires in_range { t ≤ 2 ^ 62 }
+    requires in_range { t ≤ LAST_MOMENT }
     requires short { IsShort life }
     ensures { IfOk result (λ row. as_arrival row ≡ put_arrival t life cols.now cells.now) }
 {
@@ -61,7 +62,7 @@ pub fn new_row(
 
 // Puts cells that arrive at a moment behind others.
 fn hold(held: &mut Cells, t: u64, cols: &[(Col, u32)], cells: &[Cell]) -> Result<(), NoMemory>
-    requires { t ≤ 2 ^ 62 }
+    requires { t ≤ LAST_MOMENT }
     ensures { OnOk result (map (cell_of t) held.new
         ≡ map (cell_of t) held.old ++ kept_cells cols.now cells.now) }
 {
@@ -79,7 +80,7 @@ fn hold(held: &mut Cells, t: u64, cols: &[(Col, u32)], cells: &[Cell]) -> Result
 
 // A cell that arrives at a moment.
 fn hold_cell(t: u64, period: u32, cell: Cell) -> Held
-    requires { t ≤ 2 ^ 62 }
+    requires { t ≤ LAST_MOMENT }
     ensures { cell_of t result ≡ kept_cell period cell }
 {
     match cell {

@@ -1,10 +1,11 @@
 //! The rows in force, with their ends planned.
 
-ghost use Rattle.std.specs.Prelude.{◌≡◌, ◌<◌, ◌≤◌, ◌^◌, ℕ, List, [], Option, ◌==◌, ◌&&◌, not};
+ghost use Rattle.std.specs.Prelude.{◌≡◌, ◌<◌, ◌≤◌, ℕ, List, [], Option, ◌==◌, ◌&&◌, not};
 ghost use Rattle.std.specs.Prelude.{length, map, filter, MatchOption, IfSome, IfOk, OnOk};
 ghost use Rattle.std.specs.Prelude.{OnErr};
 ghost use Rattle.agg_types.specs.declared.column.Col.{Col as ColName};
 ghost use Rattle.agg_types.specs.declared.event.Cell.{Cell as CellValue};
+ghost use Rattle.agg_types.specs.declared.limits.TheConstants.{LAST_MOMENT};
 ghost use Rattle.fleet_model.specs.Machine.{with_row};
 ghost use Rattle.std.specs.List.{list_any};
 ghost use Rattle.fleet_model.specs.Moments.{is_live};
@@ -109,7 +110,7 @@ impl Store {
         cols: &[(Col, u32)],
         cells: &[Cell],
     ) -> Result<(), NoMemory>
-        requires in_range { t ≤ 2 ^ 62 }
+        requires in_range { t ≤ LAST_MOMENT }
         requires inside { IsInside self.old.peers self.old.tables (place_at at) }
         requires short { IsShort life }
         ensures ok { OnOk result (self.new ≡ record self.old {

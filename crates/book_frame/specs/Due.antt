@@ -1,18 +1,19 @@
-use Rattle.std.specs.Prelude.{◌≡◌, ℕ, ◌^◌, ◌<◌, ◌≤◌, Option, IsTrue}
+use Rattle.std.specs.Prelude.{◌≡◌, ℕ, ◌<◌, ◌≤◌, Option, IsTrue}
 use Rattle.agg_types.specs.declared.event.What.{What}
 use Rattle.agg_types.specs.declared.event.What.TheVariants.{Sit, Open, Put, Clear, AddFilter}
 use Rattle.agg_types.specs.declared.event.What.TheVariants.{Moment, Leave}
+use Rattle.agg_types.specs.declared.limits.TheConstants.{LAST_SEAT, NUMBERS_END}
 use Rattle.fleet_model.specs.Seats.{is_number}
 
 -- the number of an event that its seat is due
 pub record HasDueNumber (seq : ℕ) (due : Option ℕ) : Type 0 where
   pub is_it : IsTrue (is_number due seq)
-  pub small : seq < 2 ^ 62
+  pub small : seq < NUMBERS_END
 
 -- the first number, and a seat that may sit down
 pub record IsFirst (seat seq : ℕ) : Type 0 where
   pub first : seq ≡ 0
-  pub small : seat ≤ 2 ^ 62
+  pub small : seat ≤ LAST_SEAT
 
 -- an event has the number that is due
 abbrev pub IsDue : What → ℕ → ℕ → Option ℕ → Type 0

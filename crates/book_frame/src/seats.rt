@@ -1,15 +1,15 @@
 //! Work on the seats that sit and on the sessions in force.
 
-ghost use Rattle.std.specs.Prelude.{◌≡◌, ◌+◌, ◌^◌, ◌<◌, ◌==◌, ◌&&◌, not, filter, length, nat_lt};
+ghost use Rattle.std.specs.Prelude.{◌≡◌, ◌+◌, ◌<◌, ◌==◌, ◌&&◌, not, filter, length, nat_lt};
 ghost use Rattle.std.specs.Prelude.{IsTrue, OnOk, OnErr};
 ghost use Rattle.std.specs.BTreeMap.{insert_entry, is_at};
 ghost use Rattle.std.specs.Map.{lookup, remove_entry};
 ghost use Rattle.std.specs.Ordering.{nat_cmp};
 ghost use Rattle.agg_types.specs.Fits.{fits};
-ghost use Rattle.fleet_model.specs.Seats.{is_next, is_number, most_seats};
+ghost use Rattle.fleet_model.specs.Seats.{is_next, is_number};
 ghost use Rattle.book_frame.specs.Due.{IsDue};
 
-use agg_types::{Config, NoMemory, What};
+use agg_types::{Config, LAST_SEAT, MOST_SEATS, NUMBERS_END, NoMemory, What};
 use std::collections::BTreeMap;
 
 /// The number of its next event, by seat that sits.
@@ -18,15 +18,9 @@ pub type Seats = BTreeMap<u64, u64>;
 /// The seat that is the session in force, by peer.
 pub type Sessions = BTreeMap<usize, u64>;
 
-// How many seats may sit at once.
-const MOST_SEATS: usize = 512;
-
-// The greatest number of a seat, and the first that no event but a `Leave` may have.
-const LAST_NUMBER: u64 = 1 << 62;
-
 /// Whether fewer seats sit than may.
 pub fn has_free_seat(seats: &Seats) -> bool
-    ensures { result ≡ nat_lt (length seats.now.entries) most_seats }
+    ensures { result ≡ nat_lt (length seats.now.entries) MOST_SEATS }
 {
     seats.len() < MOST_SEATS
 }
@@ -60,8 +54,8 @@ fn is_next(what: &What, seat: u64, seq: u64, free: bool, above: u64, due: Option
     ensures { result ≡ is_next what.now seat seq free above due }
 {
     match what {
-        What::Sit => seq == 0 && seat <= LAST_NUMBER && above <= seat && free,
-        _ => is_number(due, seq) && seq < LAST_NUMBER,
+        What::Sit => seq == 0 && seat <= LAST_SEAT && above <= seat && free,
+        _ => is_number(due, seq) && seq < NUMBERS_END,
     }
 }
 
@@ -69,7 +63,7 @@ fn is_next(what: &What, seat: u64, seq: u64, free: bool, above: u64, due: Option
 /// number and its seat are.
 pub fn is_due(config: &Config, seats: &Seats, above: u64, seat: u64, seq: u64, what: &What) -> bool
     ensures exact { result ≡ (fits config.now what.now
-        && is_next what.now seat seq (nat_lt (length seats.now.entries) most_seats) above
+        && is_next what.now seat seq (nat_lt (length seats.now.entries) MOST_SEATS) above
         (lookup (is_at (nat_cmp seat)) seats.now.entries)) }
     ensures sits { IsTrue result
         → IsDue what.now seat seq (lookup (is_at (nat_cmp seat)) seats.now.entries) }
@@ -79,7 +73,7 @@ pub fn is_due(config: &Config, seats: &Seats, above: u64, seat: u64, seq: u64, w
 
 fn counts(config: &Config, seats: &Seats, above: u64, seat: u64, seq: u64, what: &What) -> bool
     ensures { result ≡ (fits config.now what.now
-        && is_next what.now seat seq (nat_lt (length seats.now.entries) most_seats) above
+        && is_next what.now seat seq (nat_lt (length seats.now.entries) MOST_SEATS) above
         (lookup (is_at (nat_cmp seat)) seats.now.entries)) }
 {
     let due = number_of(seats, seat);
@@ -92,7 +86,7 @@ fn counts(config: &Config, seats: &Seats, above: u64, seat: u64, seq: u64, what:
 /// One more event of a seat that sits.
 pub fn count_up(seats: &mut Seats, seat: u64, seq: u64)
     requires due { IsTrue (is_number (lookup (is_at (nat_cmp seat)) seats.old.entries) seq) }
-    requires small { seq < 2 ^ 62 }
+    requires small { seq < NUMBERS_END }
     ensures { seats.new.entries ≡ insert_entry nat_cmp seats.old.entries seat (seq + 1) }
 {
     if let Some(number) = seats.get_mut(&seat) {

@@ -14,7 +14,7 @@ use Rattle.fleet_core.specs.declared.step.Step.{Step}
 use Rattle.fleet_core.specs.declared.step.Step.TheVariants.{Connect, Bytes, Lost, Clear, AddFilter}
 use Rattle.fleet_core.specs.declared.step.Step.TheVariants.{Moment}
 use Rattle.fleet_core.specs.Events.{added, at_seat, count_of, events_of, has_free_seat, is_seated}
-use Rattle.fleet_core.specs.Events.{numbered}
+use Rattle.fleet_model.specs.Seats.{numbered}
 use Rattle.fleet_core.specs.Steps.{connects, is_lost, names, stream}
 
 pub bool_tells : (b : Bool) → (b ≡ true) ⊎ (b ≡ false)

@@ -10,6 +10,7 @@ use Rattle.agg_types.specs.declared.config.Config.{Config}
 use Rattle.agg_types.specs.declared.event.Event.{Event}
 use Rattle.agg_types.specs.declared.event.What.{What}
 use Rattle.agg_types.specs.declared.event.What.TheVariants.{Leave}
+use Rattle.fleet_model.specs.Seats.{numbered}
 use Rattle.fleet_model.specs.State.{state_of}
 use Rattle.session_core.specs.Cause.{cause_of}
 use Rattle.session_core.specs.Piece.{setup_of, Setup}
@@ -22,7 +23,7 @@ use Rattle.fleet_core.specs.declared.step.Step.{Step}
 use Rattle.fleet_core.specs.declared.step.Step.TheVariants.{Bytes, Lost}
 use Rattle.fleet_core.specs.Possible.{end_by, is_possible, sent_between, sent_by}
 use Rattle.fleet_core.specs.Events.{added, at_seat, count_of, events_of, is_seated, leave_at, news}
-use Rattle.fleet_core.specs.Events.{numbered, talk_of, talk_with}
+use Rattle.fleet_core.specs.Events.{talk_of, talk_with}
 use Rattle.fleet_core.specs.Feeding.{Feeds, FeedsAt, IsClosedIf, IsSet}
 use Rattle.fleet_core.specs.Links.{Link, as_link, found, is_open, link_of, linked, open_link}
 use Rattle.fleet_core.specs.Links.{next_seq_of}

@@ -6,10 +6,11 @@ use Rattle.std.specs.List.{list_any}
 use Rattle.agg_types.specs.declared.config.Config.{Config}
 use Rattle.agg_types.specs.declared.event.Event.{Event}
 use Rattle.agg_types.specs.declared.event.What.{What}
+use Rattle.fleet_model.specs.Seats.{numbered}
 use Rattle.fleet_core.specs.declared.step.Step.{Step}
 use Rattle.fleet_core.specs.declared.step.Step.TheVariants.{Connect, Bytes, Lost, Clear, AddFilter}
 use Rattle.fleet_core.specs.declared.step.Step.TheVariants.{Moment}
-use Rattle.fleet_core.specs.Events.{added, at_front, count_of, events_of, numbered}
+use Rattle.fleet_core.specs.Events.{added, at_front, count_of, events_of}
 use Rattle.fleet_core.specs.Links.{link_of, linked}
 use Rattle.fleet_core.specs.Possible.{is_possible}
 use Rattle.fleet_core.specs.StandsFor.{Collected, StandsFor}

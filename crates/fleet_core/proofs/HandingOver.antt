@@ -9,11 +9,12 @@ use Rattle.agg_types.specs.declared.event.Event.{Event}
 use Rattle.agg_types.specs.declared.event.What.{What}
 use Rattle.fleet_model.proofs.Runs.{step_by_step}
 use Rattle.fleet_model.specs.Machine.{after, opened}
+use Rattle.fleet_model.specs.Seats.{numbered}
 use Rattle.fleet_model.specs.State.{State, state_of}
 use Rattle.fleet_core.specs.declared.step.Step.{Step}
 use Rattle.std.proofs.lemmas.List.{append_cancel_left}
 use Rattle.fleet_core.specs.Adds.{Adds, Keeps}
-use Rattle.fleet_core.specs.Events.{added_by, count_of, events_of, numbered}
+use Rattle.fleet_core.specs.Events.{added_by, count_of, events_of}
 use Rattle.fleet_core.specs.Possible.{are_possible, is_possible}
 use Rattle.fleet_core.specs.Links.{link_of, linked}
 use Rattle.fleet_core.specs.StandsFor.{Collected, StandsFor}

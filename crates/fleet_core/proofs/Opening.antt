@@ -1,5 +1,5 @@
 -- What a peer that connects leaves.
-use Rattle.std.proofs.Common.{◌≡◌, inl, inr, ℕ, ◌+◌, ◌^◌, ◌<◌, ◌≤◌, Bool, true, false, ◌==◌, List}
+use Rattle.std.proofs.Common.{◌≡◌, inl, inr, ℕ, ◌+◌, ◌<◌, ◌≤◌, Bool, true, false, ◌==◌, List}
 use Rattle.std.proofs.Common.{[], ◌∷◌, ◌++◌, length, Option, None, Some, if◌then◌else◌, nat_le}
 use Rattle.std.proofs.Common.{nat_lt, sym, ap, ◌∙◌, refl, add-zero, zero-add, append-nil, arith}
 use Rattle.std.proofs.Common.{option_map}
@@ -9,7 +9,8 @@ use Rattle.std.specs.List.{list_any}
 use Rattle.agg_types.specs.declared.config.Config.{Config}
 use Rattle.agg_types.specs.declared.event.Event.{Event}
 use Rattle.agg_types.specs.declared.event.What.TheVariants.{Sit}
-use Rattle.fleet_model.specs.Seats.{most_seats}
+use Rattle.agg_types.specs.declared.limits.TheConstants.{LAST_SEAT, MOST_SEATS}
+use Rattle.fleet_model.specs.Seats.{numbered}
 use Rattle.fleet_model.specs.State.{state_of}
 use Rattle.session_core.specs.Hello.{hello_of, line_at}
 use Rattle.session_core.specs.Piece.{Setup, setup_of}
@@ -17,7 +18,7 @@ use Rattle.session_core.specs.Talk.{stage_of, talk}
 use Rattle.fleet_core.specs.declared.connection.Connection.{Connection}
 use Rattle.fleet_core.specs.declared.step.Step.{Step}
 use Rattle.fleet_core.specs.declared.step.Step.TheVariants.{Connect}
-use Rattle.fleet_core.specs.Events.{added, count_of, events_of, has_free_seat, numbered, talk_of}
+use Rattle.fleet_core.specs.Events.{added, count_of, events_of, has_free_seat, talk_of}
 use Rattle.fleet_core.specs.Feeding.{IsSet}
 use Rattle.fleet_core.specs.Links.{Link, as_link, found, is_open, link_of, linked, open_link}
 use Rattle.fleet_core.specs.Possible.{can_be, is_possible, is_spent}
@@ -69,7 +70,7 @@ all_taken f config opening past h none = h.book
     ∙ append-nil h.handed))
 
 connect_possible : (config : Config) (opening : ℕ) (past : List Step)
-    → nat_le (2 ^ 62) (connects past) ≡ false → is_possible config opening past Connect ≡ true
+    → nat_le LAST_SEAT (connects past) ≡ false → is_possible config opening past Connect ≡ true
 unfolding can_be is_spent
 connect_possible config opening past some = rw some refl
 
@@ -126,13 +127,13 @@ new_link config events past seated connection count named stands is_seated_now s
 pub accepted : (f g : Collected) (config : Config) (opening : ℕ) (past : List Step) (seated : Bool)
     (connection : Connection)
     → StandsFor f config opening past → f.waiting ≡ []
-    → seated ≡ nat_lt (length f.book.seats) most_seats
+    → seated ≡ nat_lt (length f.book.seats) MOST_SEATS
     → ((setup : Setup) → connection.session.stage ≡ stage_of setup seated [])
     → connection.session.seated ≡ seated → connection.next_seq ≡ then_some seated 1
     → IsSet f.links g.links (f.connected + 1) (Some connection)
     → g.book ≡ f.book → g.waiting ≡ numbered (f.connected + 1) 0 (if seated then Sit ∷ [] else [])
     → g.connected ≡ f.connected + 1 → g.next_seq ≡ f.next_seq
-    → f.connected < 2 ^ 62
+    → f.connected < LAST_SEAT
     → Queued g config opening past Connect
 unfolding events_of added
 accepted f g config opening past seated connection h none free stands is_seated_now seat set book
@@ -153,7 +154,7 @@ accepted f g config opening past seated connection h none free stands is_seated_
     events = events_of config opening past
 
     is_free : seated ≡ has_free_seat config opening events
-    is_free = free ∙ ap (λ state. nat_lt (length state.seats) most_seats)
+    is_free = free ∙ ap (λ state. nat_lt (length state.seats) MOST_SEATS)
         (all_taken f config opening past h none)
 
     waited : (b : Bool) → (if b then numbered conn 0 (Sit ∷ []) else [])

@@ -1,5 +1,5 @@
 -- What one more step of a run leaves.
-use Rattle.std.proofs.Common.{suc, ◌+◌, ◌<◌, ◌≤◌, length, get_or, drop-cons, add-one, ◌^◌, nat_lt}
+use Rattle.std.proofs.Common.{suc, ◌+◌, ◌<◌, ◌≤◌, length, get_or, drop-cons, add-one, nat_lt}
 use Rattle.std.proofs.Common.{◌≡◌, ℕ, Bool, true, false, not, List, [], ◌∷◌, ◌++◌, Option, None}
 use Rattle.std.proofs.Common.{Some, Result, Ok, Err, drop, slice_get, inl, inr, arith, sym, ap, ◌∙◌}
 use Rattle.std.proofs.Common.{refl, if◌then◌else◌}
@@ -7,6 +7,7 @@ use Rattle.std.proofs.lemmas.Bool.{lt-ltb, ltb-true}
 use Rattle.std.specs.Option.{option_map, option_or}
 use Rattle.agg_types.specs.Check.{config_faults}
 use Rattle.agg_types.specs.declared.config.Config.{Config}
+use Rattle.agg_types.specs.declared.limits.TheConstants.{LAST_MOMENT}
 use Rattle.session_core.specs.declared.cause.SessionCause.{SessionCause}
 use Rattle.fleet_core.specs.declared.runs.RunFault.{RunFault}
 use Rattle.fleet_core.specs.declared.runs.RunFault.TheVariants as faults
@@ -171,8 +172,8 @@ no_fault_then config opening past left steps step none h =
     sym (ap (λ o. option_or o (step_fault config opening (then_done config opening past step) left))
     none) ∙ h
 
-early : (opening : ℕ) → opening ≤ 2 ^ 62 → late_fault opening ≡ None
-early opening le = rw (not_lt (2 ^ 62) opening le) refl
+early : (opening : ℕ) → opening ≤ LAST_MOMENT → late_fault opening ≡ None
+early opening le = rw (not_lt LAST_MOMENT opening le) refl
   where
     not_lt : (a b : ℕ) → b ≤ a → nat_lt a b ≡ false
     not_lt a b le = elim (bool_tells (nat_lt a b)) [
@@ -183,12 +184,12 @@ early opening le = rw (not_lt (2 ^ 62) opening le) refl
 
 -- behind the checks of the opening the first fault of a step decides
 pub behind_opening : (config : Config) (opening : ℕ) (steps : List Step) → config_faults config ≡ []
-    → opening ≤ 2 ^ 62 → run_fault config opening steps ≡ step_fault config opening [] steps
+    → opening ≤ LAST_MOMENT → run_fault config opening steps ≡ step_fault config opening [] steps
 behind_opening config opening steps sound le = rw (sound, early opening le) refl
 
 pub opened_late : (config : Config) (opening : ℕ) (steps : List Step) → config_faults config ≡ []
-    → 2 ^ 62 < opening → run_fault config opening steps ≡ Some faults.Unfit
-opened_late config opening steps sound lt = rw (sound, lt-ltb (2 ^ 62) opening lt) refl
+    → LAST_MOMENT < opening → run_fault config opening steps ≡ Some faults.Unfit
+opened_late config opening steps sound lt = rw (sound, lt-ltb LAST_MOMENT opening lt) refl
 
 -- the step that is at hand ends the run
 fault_first : (fault : RunFault) (config : Config) (opening : ℕ) (past left steps : List Step)
@@ -201,7 +202,7 @@ fault_first fault config opening past left steps step is so_far = sym so_far
 
 pub fault_is : (fault : RunFault) (fleet : Collected) (replies : List Replies) (config : Config)
     (opening : ℕ) (past left steps : List Step) (step : Step) → config_faults config ≡ []
-    → opening ≤ 2 ^ 62
+    → opening ≤ LAST_MOMENT
     → step_fault config opening past (step ∷ left) ≡ step_fault config opening [] steps
     → Goes (Err fault) fleet replies config opening past step → IsFault fault config opening steps
 fault_is (faults.Config fault) fleet replies config opening past left steps step sound le so_far h =

@@ -1,5 +1,5 @@
 -- What each kind of step leaves, once what waited was taken.
-use Rattle.std.proofs.Common.{arith, ◌≤◌, ◌<◌, ◌≡◌, ℕ, ◌+◌, ◌^◌, Bool, true, false, ◌&&◌, not}
+use Rattle.std.proofs.Common.{arith, ◌≤◌, ◌<◌, ◌≡◌, ℕ, ◌+◌, Bool, true, false, ◌&&◌, not}
 use Rattle.std.proofs.Common.{is_some, List, [], ◌∷◌, ◌++◌, length, Option, None, Some, Result, Ok}
 use Rattle.std.proofs.Common.{Err, option_map, option_to_list, IsSome, IsErrAnd, MatchResult}
 use Rattle.std.proofs.Common.{if◌then◌else◌, nat_lt, nat_le, sym, ap, ◌∙◌, refl, append-nil}
@@ -9,8 +9,9 @@ use Rattle.agg_types.specs.declared.config.Config.{Config}
 use Rattle.agg_types.specs.declared.event.Event.{Event}
 use Rattle.agg_types.specs.declared.event.What.{What}
 use Rattle.agg_types.specs.declared.event.What.TheVariants.{Leave, Sit}
+use Rattle.agg_types.specs.declared.limits.TheConstants.{LAST_SEAT, MOST_SEATS}
 use Rattle.agg_types.specs.declared.no_memory.NoMemory.{NoMemory}
-use Rattle.fleet_model.specs.Seats.{most_seats}
+use Rattle.fleet_model.specs.Seats.{numbered}
 use Rattle.fleet_model.specs.State.{state_of}
 use Rattle.session_core.specs.Piece.{Setup, setup_of}
 use Rattle.session_core.specs.Talk.{stage_of}
@@ -24,7 +25,7 @@ use Rattle.fleet_core.specs.declared.step.Step.TheVariants.{Connect, Bytes, Lost
 use Rattle.fleet_core.specs.declared.step.Step.TheVariants.{Moment}
 use Rattle.fleet_core.specs.Adds.{Adds, IsFed}
 use Rattle.fleet_core.specs.Answers.{Answers}
-use Rattle.fleet_core.specs.Events.{count_of, events_of, is_seated, numbered}
+use Rattle.fleet_core.specs.Events.{count_of, events_of, is_seated}
 use Rattle.fleet_core.specs.Feeding.{FeedsAt, IsAfter, IsClosedIf, IsSet}
 use Rattle.fleet_core.specs.Links.{as_link, found, is_open, next_seq_at, next_seq_of, open_link}
 use Rattle.fleet_core.specs.Possible.{can_be, does_fit, end_by, is_full, is_possible, is_spent}
@@ -359,8 +360,8 @@ lost_answers f g config opening past conn replies finds silent adds =
 pub connect_taken : (f g : Collected) (config : Config) (opening : ℕ) (past : List Step)
     (seated : Bool) (connection : Connection) (links : List (ℕ × Connection)) (events : List Event)
     (facts : List What)
-    → StandsFor f config opening past → f.waiting ≡ [] → f.connected < 2 ^ 62
-    → seated ≡ nat_lt (length f.book.seats) most_seats
+    → StandsFor f config opening past → f.waiting ≡ [] → f.connected < LAST_SEAT
+    → seated ≡ nat_lt (length f.book.seats) MOST_SEATS
     → ((setup : Setup) → connection.session.stage ≡ stage_of setup seated [])
     → connection.session.seated ≡ seated → connection.next_seq ≡ then_some seated 1
     → IsSet f.links links (f.connected + 1) (Some connection)
@@ -387,11 +388,11 @@ connect_taken f g config opening past seated connection links events facts h non
     }
 
 pub connect_finds : (f : Collected) (config : Config) (opening : ℕ) (past : List Step)
-    (spent : Bool) → StandsFor f config opening past → nat_le (2 ^ 62) f.connected ≡ spent
+    (spent : Bool) → StandsFor f config opening past → nat_le LAST_SEAT f.connected ≡ spent
     → Finds config opening past Connect spent
 unfolding can_be is_spent
 connect_finds f config opening past spent h is =
-    record { could_be = refl; numbers = ap (nat_le (2 ^ 62)) (sym h.connected) ∙ is }
+    record { could_be = refl; numbers = ap (nat_le LAST_SEAT) (sym h.connected) ∙ is }
 
 pub connect_answers : (f g : Collected) (config : Config) (opening : ℕ) (past : List Step)
     (conn : ℕ) (replies : Replies) → Finds config opening past Connect false

@@ -5,7 +5,8 @@ use Rattle.agg_types.specs.declared.config.Config.{Config}
 use Rattle.agg_types.specs.declared.event.Event.{Event}
 use Rattle.agg_types.specs.declared.event.What.{What}
 use Rattle.agg_types.specs.declared.event.What.TheVariants as whats
-use Rattle.fleet_model.specs.Seats.{most_seats}
+use Rattle.agg_types.specs.declared.limits.TheConstants.{MOST_SEATS}
+use Rattle.fleet_model.specs.Seats.{numbered}
 use Rattle.fleet_model.specs.State.{state_of}
 use Rattle.session_core.specs.Piece.{setup_of}
 use Rattle.session_core.specs.Talk.{Talk, talk}
@@ -14,12 +15,6 @@ use Rattle.fleet_core.specs.declared.step.Step.{Step}
 use Rattle.fleet_core.specs.declared.step.Step.TheVariants.{Connect, Bytes, Lost, Clear, AddFilter}
 use Rattle.fleet_core.specs.declared.step.Step.TheVariants.{Moment}
 use Rattle.fleet_core.specs.Steps.{connects, stream}
-
--- what happens at a seat, one event each, under numbers from this one on
-abbrev pub numbered : ℕ → ℕ → List What → List Event
-numbered seat seq [] = []
-numbered seat seq (what ∷ whats) =
-    record { seat = seat; seq = seq; what = what } ∷ numbered seat (seq + 1) whats
 
 -- how many events a seat has
 abbrev pub count_of : ℕ → List Event → ℕ
@@ -57,7 +52,7 @@ talk_with config events past conn piece =
 -- whether fewer seats sit than may
 abbrev pub has_free_seat : Config → ℕ → List Event → Bool
 has_free_seat config opening events =
-    nat_lt (length (state_of config opening events).seats) most_seats
+    nat_lt (length (state_of config opening events).seats) MOST_SEATS
 
 -- the events that a step adds to these, of the steps before it
 unfoldable pub added : Config → ℕ → List Step → List Event → Step → List Event

@@ -1,5 +1,5 @@
 -- Which connections are open after a list of steps, newest first, and what is kept of each.
-use Rattle.std.specs.Prelude.{ℕ, ◌<◌, ◌^◌, IfSome, Bool, ◌&&◌, not, nat_le, nat_lt, is_none, List}
+use Rattle.std.specs.Prelude.{ℕ, ◌<◌, IfSome, Bool, ◌&&◌, not, nat_le, nat_lt, is_none, List}
 use Rattle.std.specs.Prelude.{Option}
 use Rattle.std.specs.Bool.{then_some}
 use Rattle.std.specs.BTreeMap.{is_at}
@@ -8,6 +8,7 @@ use Rattle.std.specs.Option.{option_map}
 use Rattle.std.specs.Ordering.{nat_cmp}
 use Rattle.agg_types.specs.declared.config.Config.{Config}
 use Rattle.agg_types.specs.declared.event.Event.{Event}
+use Rattle.agg_types.specs.declared.limits.TheConstants.{NUMBERS_END}
 use Rattle.session_core.specs.Piece.{setup_of}
 use Rattle.session_core.specs.Talk.{stage_of}
 use Rattle.session_core.specs.declared.stage.Stage.{Stage}
@@ -66,4 +67,4 @@ next_seq_at links conn = option_map (λ connection. connection.next_seq) (found 
 
 -- its seat has numbers left, if it has one
 abbrev pub HasNumbers : Connection → Type 0
-HasNumbers connection = IfSome connection.next_seq (λ seq. seq < 2 ^ 62)
+HasNumbers connection = IfSome connection.next_seq (λ seq. seq < NUMBERS_END)

@@ -1,9 +1,10 @@
 -- Which steps can be done after others, and what they send. Lists of steps begin with the newest.
-use Rattle.std.specs.Prelude.{◌≡◌, ℕ, ◌+◌, ◌-◌, ◌^◌, Bool, true, false, ◌&&◌, not, nat_le, nat_lt}
+use Rattle.std.specs.Prelude.{◌≡◌, ℕ, ◌+◌, ◌-◌, Bool, true, false, ◌&&◌, not, nat_le, nat_lt}
 use Rattle.std.specs.Prelude.{List, [], ◌∷◌, ◌++◌, length, drop, Option, None, Some}
 use Rattle.std.specs.Option.{option_map, option_map_or}
 use Rattle.agg_types.specs.Fits.{fits}
 use Rattle.agg_types.specs.declared.config.Config.{Config}
+use Rattle.agg_types.specs.declared.limits.TheConstants.{LAST_SEAT, NUMBERS_END}
 use Rattle.session_core.specs.Cause.{cause_of}
 use Rattle.session_core.specs.Talk.{Talk, acks_among}
 use Rattle.session_core.specs.declared.cause.SessionCause.{SessionCause}
@@ -34,7 +35,7 @@ can_be config opening past (Moment moment) = true
 
 -- whether a seat has no numbers left for so many events
 abbrev pub is_full : ℕ → ℕ → Bool
-is_full count more = nat_lt (2 ^ 62 - 1) (count + more)
+is_full count more = nat_le NUMBERS_END (count + more)
 
 -- the same of a seat after these steps
 abbrev pub is_seat_full : Config → ℕ → List Step → ℕ → ℕ → Bool
@@ -44,7 +45,7 @@ is_seat_full config opening past seat more =
 -- whether numbers are spent: those of connections, or of a seat for as many events as a piece has
 -- bytes, or for one at seat 0
 unfoldable pub is_spent : Config → ℕ → List Step → Step → Bool
-is_spent config opening past Connect = nat_le (2 ^ 62) (connects past)
+is_spent config opening past Connect = nat_le LAST_SEAT (connects past)
 is_spent config opening past (Bytes conn piece) =
     is_seated conn (events_of config opening past)
     && is_seat_full config opening past conn (length piece)

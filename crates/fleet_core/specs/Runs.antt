@@ -1,10 +1,11 @@
 -- What a run of steps leaves. Steps are given oldest first; those that were done are kept newest
 -- first.
-use Rattle.std.specs.Prelude.{◌≡◌, ⊤, ℕ, ◌≤◌, ◌^◌, not, nat_lt, if◌then◌else◌, List, [], ◌∷◌, ◌++◌}
+use Rattle.std.specs.Prelude.{◌≡◌, ⊤, ℕ, ◌≤◌, not, nat_lt, if◌then◌else◌, List, [], ◌∷◌, ◌++◌}
 use Rattle.std.specs.Prelude.{slice_get, Option, None, Some, Result, Ok, Err}
 use Rattle.std.specs.Option.{option_map, option_or}
 use Rattle.agg_types.specs.Check.{config_faults}
 use Rattle.agg_types.specs.declared.config.Config.{Config}
+use Rattle.agg_types.specs.declared.limits.TheConstants.{LAST_MOMENT}
 use Rattle.fleet_core.specs.declared.runs.Ran.{Ran}
 use Rattle.fleet_core.specs.declared.runs.RunFault.{RunFault}
 use Rattle.fleet_core.specs.declared.runs.RunFault.TheVariants as faults
@@ -47,7 +48,7 @@ step_fault config opening past (step ∷ steps) =
 
 -- an opening moment that is too late
 abbrev pub late_fault : ℕ → Option RunFault
-late_fault opening = if nat_lt (2 ^ 62) opening then Some faults.Unfit else None
+late_fault opening = if nat_lt LAST_MOMENT opening then Some faults.Unfit else None
 
 -- why a run ends early, were there memory for all: the first fault of the configuration, then an
 -- opening moment that is too late, then the first step that has a fault
@@ -69,7 +70,7 @@ pub record IsRan (ran : Ran) (config : Config) (opening : ℕ) (steps : List Ste
 abbrev pub IsFault : RunFault → Config → ℕ → List Step → Type 0
 IsFault (faults.Config fault) config opening steps =
     run_fault config opening steps ≡ Some (faults.Config fault)
-IsFault faults.NoMemory config opening steps = (config_faults config ≡ []) × (opening ≤ 2 ^ 62)
+IsFault faults.NoMemory config opening steps = (config_faults config ≡ []) × (opening ≤ LAST_MOMENT)
 IsFault faults.Spent config opening steps = run_fault config opening steps ≡ Some faults.Spent
 IsFault faults.Unfit config opening steps = run_fault config opening steps ≡ Some faults.Unfit
 

@@ -3,6 +3,7 @@
 ghost use Rattle.std.specs.Prelude.{◌≡◌, ◌+◌, ◌++◌, ◌<◌, ◌^◌, [], ℕ, List, length, IfSome, IfOk};
 ghost use Rattle.std.specs.Prelude.{OnErr, option_map};
 ghost use Rattle.std.specs.Bool.{then_some};
+ghost use Rattle.agg_types.specs.declared.limits.TheConstants.{NUMBERS_END};
 ghost use Rattle.session_core.specs.Piece.{Setup};
 ghost use Rattle.session_core.specs.Talk.{stage_of};
 ghost use Rattle.fleet_core.specs.Feeding.{Feeds, IsAfter};
@@ -44,7 +45,7 @@ impl Connection {
 
     /// Takes the next piece of the stream. After NoMemory the connection is as it was.
     pub fn feed(&mut self, config: &Config, piece: &[u8], now: u64) -> Result<Outcome, NoMemory>
-        requires few { IfSome self.old.next_seq (λ seq. seq < 2 ^ 62) }
+        requires few { IfSome self.old.next_seq (λ seq. seq < NUMBERS_END) }
         ensures ok { (bytes : List ℕ) → IsAfter self.old config.now bytes
             → IfOk result (λ given. Feeds given self.old self.new config.now bytes piece.now) }
         ensures short { IfOk result (λ given. length given.facts < 2 ^ 63) }
@@ -61,7 +62,7 @@ impl Connection {
 
     // Counts the facts at the connection's seat.
     fn outcome(&mut self, batch: Batch, end: Option<SessionCause>) -> Outcome
-        requires few { IfSome self.old.next_seq (λ seq. seq < 2 ^ 62) }
+        requires few { IfSome self.old.next_seq (λ seq. seq < NUMBERS_END) }
         ensures facts { result.facts ≡ batch.facts }
         ensures short { length result.facts < 2 ^ 63 }
         ensures out { result.out ≡ batch.replies ++ batch.acks }

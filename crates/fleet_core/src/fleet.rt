@@ -1,9 +1,10 @@
-ghost use Rattle.std.specs.Prelude.{◌≡◌, ◌+◌, ◌↔◌, ◌≤◌, ◌<◌, ◌^◌, ◌∷◌, [], true, false, length};
+ghost use Rattle.std.specs.Prelude.{◌≡◌, ◌+◌, ◌↔◌, ◌≤◌, ◌<◌, ◌∷◌, [], true, false, length};
 ghost use Rattle.std.specs.Prelude.{IfSome, IsSome, IsTrue, IfOk, OnOk, option_to_list};
 ghost use Rattle.std.specs.Prelude.{MatchResult, if◌then◌else◌};
 ghost use Rattle.std.specs.Option.{option_map_or};
 ghost use Rattle.agg_types.specs.Check.{config_faults};
 ghost use Rattle.agg_types.specs.declared.event.What.TheVariants.{Sit};
+ghost use Rattle.agg_types.specs.declared.limits.TheConstants.{LAST_MOMENT};
 ghost use Rattle.fleet_core.specs.declared.step.Step.TheVariants.{Bytes, Connect, Lost};
 ghost use Rattle.fleet_core.specs.Answers.{Answers, EndsBy, IfDone, IfNoMemory, IfRefused, Sends};
 ghost use Rattle.fleet_core.specs.Answers.{past_after};
@@ -19,14 +20,11 @@ use crate::connection::{Connection, Outcome};
 use crate::connections::{Connections, close, close_if, feed, next_seq_at, open};
 use crate::waiting::Waiting;
 use crate::{Book, FleetFault, Replies, Step};
-use agg_types::{Config, Items, NoMemory, What};
+use agg_types::{Config, Items, LAST_SEAT, NUMBERS_END, NoMemory, What};
 use session_core::SessionCause;
 use std::alloc::Global;
 use std::collections::BTreeMap;
 use std::marker::Model;
-
-/// The first number that no event but a leave may have, and the most connections.
-const NUMBERS_END: u64 = 1 << 62;
 
 /// A collector in one thread: the connections of its peers, and the book of what they push.
 ///
@@ -58,11 +56,11 @@ impl Model for Fleet {
 }
 
 impl Fleet {
-    /// A fleet with no connections, at its opening moment, in ms, at most 2^62. The configuration
+    /// A fleet with no connections, at its opening moment, in ms, at most the last. The configuration
     /// is one that `Config::check` accepts.
     pub fn new(alloc: Global, config: Config, moment: u64) -> Result<Fleet, NoMemory>
         requires checked { config_faults config ≡ [] }
-        requires in_range { moment ≤ 2 ^ 62 }
+        requires in_range { moment ≤ LAST_MOMENT }
         ensures stands { IfOk result (λ fleet. StandsFor fleet config moment []) }
         ensures waiting { IfOk result (λ fleet. fleet.waiting ≡ []) }
     {
@@ -151,7 +149,7 @@ impl Fleet {
         ensures { ForEachPast self.old (λ config opening past.
             Answers result self.old self.new config opening past Connect) }
     {
-        if self.connected >= NUMBERS_END {
+        if self.connected >= LAST_SEAT {
             return Err(FleetFault::Spent);
         }
         match self.open_next() {
@@ -162,7 +160,7 @@ impl Fleet {
 
     // Opens the next connection, with a seat if one is free.
     fn open_next(&mut self) -> Result<u64, NoMemory>
-        requires few { self.old.connected < 2 ^ 62 }
+        requires few { self.old.connected < LAST_SEAT }
         ensures { ForEachPast self.old (λ config opening past. MatchResult result
             (λ conn. (conn ≡ connects past + 1) × Adds self.new config opening past Connect)
             (λ _. Keeps self.old self.new config opening past)) }
@@ -206,7 +204,7 @@ impl Fleet {
         piece: &[u8],
     ) -> Result<(Items<u8>, Option<SessionCause>), NoMemory>
         requires open { next_seq_at self.old.links conn ≡ Some next_seq }
-        requires few { IfSome next_seq (λ seq. seq < 2 ^ 62) }
+        requires few { IfSome next_seq (λ seq. seq < NUMBERS_END) }
         requires unspent { option_map_or (λ seq. is_full seq (length piece.now)) next_seq false
             ≡ false }
         ensures { ForEachPast self.old (λ config opening past. MatchResult result
@@ -278,7 +276,7 @@ impl Fleet {
     fn queue_own(&mut self, step: &Step) -> Result<(), NoMemory>
         requires own { IsSome (what_at step.now) }
         requires fits { IsTrue (does_fit self.old.book.config step.now) }
-        requires few { self.old.next_seq < 2 ^ 62 }
+        requires few { self.old.next_seq < NUMBERS_END }
         requires unspent { is_full self.old.next_seq 1 ≡ false }
         ensures { ForEachPast self.old (λ config opening past. MatchResult result
             (λ _. Adds self.new config opening past step.now)
@@ -331,7 +329,7 @@ fn is_spent(next_seq: Option<u64>, more: u64) -> bool
 {
     match next_seq {
         None => false,
-        Some(seq) => u128::from(seq) + u128::from(more) > u128::from(NUMBERS_END - 1),
+        Some(seq) => u128::from(seq) + u128::from(more) >= u128::from(NUMBERS_END),
     }
 }
 

@@ -34,7 +34,7 @@ pub enum RunFault {
 /// Opens a fleet and does the steps, in turn. A step of a connection that isn't open is passed
 /// over, and the end of a session ends nothing else. At Ok no event waits.
 ///
-/// Faults, in this order: Config, Unfit of an opening moment above 2^62 ms, NoMemory of the
+/// Faults, in this order: Config, Unfit of an opening moment above the last, NoMemory of the
 /// opening, and then those of each step in turn, Unfit before the step is made.
 pub fn run(alloc: Global, config: Config, moment: u64, steps: &[Step]) -> Result<Ran, RunFault>
     ensures ok { IfOk result (λ ran. IsRan ran config moment steps.now) }

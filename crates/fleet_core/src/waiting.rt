@@ -2,7 +2,7 @@
 
 ghost use Rattle.std.specs.Prelude.{◌≡◌, ◌<◌, ◌+◌, ◌^◌, ◌++◌, [], length, IfSome, OnOk, OnErr};
 ghost use Rattle.std.specs.Option.{option_map_or};
-ghost use Rattle.fleet_core.specs.Events.{numbered};
+ghost use Rattle.fleet_model.specs.Seats.{numbered};
 ghost use Rattle.fleet_core.specs.Waiting.{AreHandedOver, IsOneHandedOver, leave_if};
 
 use crate::Book;
@@ -24,7 +24,7 @@ pub struct Waiting {
 impl Model for Waiting {
     ghost use Rattle.std.specs.Prelude.{List, ◌++◌, ◌≤◌, ◌<◌, ◌+◌, ◌-◌, ◌^◌, drop, length};
     ghost use Rattle.agg_types.specs.declared.event.Event.{Event};
-    ghost use Rattle.fleet_core.specs.Events.{numbered};
+    ghost use Rattle.fleet_model.specs.Seats.{numbered};
     ghost use Rattle.fleet_core.specs.Waiting.{leave_if};
 
     ghost Value = { List Event };

@@ -24,6 +24,7 @@ use Rattle.agg_types.specs.declared.config.Cond.{Cond}
 use Rattle.agg_types.specs.declared.config.Config.{Config}
 use Rattle.agg_types.specs.declared.config.Filter.{Filter}
 use Rattle.agg_types.specs.declared.config.Shape.{Shape}
+use Rattle.agg_types.specs.declared.limits.TheConstants.{MOST_CONDS, MOST_FILTERS}
 use Rattle.fleet_model.specs.Filters.{is_new}
 use Rattle.fleet_model.specs.Next.{longest_period}
 use Rattle.fleet_model.specs.Values.{cols_of}
@@ -100,9 +101,9 @@ unfolding filter_faults
 filter_sound tables filters added fit new =
     let parts = and_parts (is_name added.name)
     (at_table tables added.table (λ shape. conds_fit shape.cols added.conds)) fit in
-    let told = and_parts (nat_lt (length filters) 32)
+    let told = and_parts (nat_lt (length filters) MOST_FILTERS)
     (not (list_any (λ other. bytes_eq other.name added.name) filters)) new in
-    let room : nat_le 32 (length filters) ≡ false = let fewer = told.0 in
+    let room : nat_le MOST_FILTERS (length filters) ≡ false = let fewer = told.0 in
     grind (arith, nat_tests) in
     let stands = stands_from (slice_get tables added.table) added.conds parts.1 in
     both_none _ _ (both_none _ _ (both_none _ _
@@ -186,13 +187,14 @@ periods_short config table none =
 
 -- ---- conditions
 few_conds : (tables : List Shape) (before : List Filter) (filter : Filter)
-    → filter_faults tables before filter ≡ [] → length filter.conds ≤ 4
+    → filter_faults tables before filter ≡ [] → length filter.conds ≤ MOST_CONDS
 unfolding filter_faults
 few_conds tables before filter none =
-    let counts = was_no_fault (nat_le 32 (length before) || nat_lt 4 (length filter.conds)) TooMany
+    let counts = was_no_fault (nat_le MOST_FILTERS (length before)
+        || nat_lt MOST_CONDS (length filter.conds)) TooMany
     (front_none _ _ (front_none _ _ (front_none _ _ (front_none _ _ (front_none _ _ none))))) in
-    let most : nat_lt 4 (length filter.conds) ≡ false =
-    second (nat_le 32 (length before)) (nat_lt 4 (length filter.conds)) counts in
+    let most : nat_lt MOST_CONDS (length filter.conds) ≡ false =
+    second (nat_le MOST_FILTERS (length before)) (nat_lt MOST_CONDS (length filter.conds)) counts in
     grind (arith, nat_tests)
   where
     second : (a b : Bool) → (a || b) ≡ false → b ≡ false
@@ -201,7 +203,7 @@ few_conds tables before filter none =
 
 filters_few : (tables : List Shape) (before filters : List Filter) (position : ℕ) (other : Filter)
     → position < length filters → each (filter_faults tables) before filters ≡ []
-    → length (slice_index_or filters position other).conds ≤ 4
+    → length (slice_index_or filters position other).conds ≤ MOST_CONDS
 filters_few tables before [] position other within none = absurd (omega arith)
 filters_few tables before (filter ∷ filters) zero other within none =
     few_conds tables before filter (front_none _ _ none)
@@ -211,7 +213,7 @@ filters_few tables before (filter ∷ filters) (suc position) other within none 
 
 -- each filter has at most four conditions
 pub conds_few : (config : Config) (position : ℕ) (other : Filter) → position < length config.filters
-    → config_faults config ≡ [] → length (slice_index_or config.filters position other).conds ≤ 4
+    → config_faults config ≡ [] → length (slice_index_or config.filters position other).conds ≤ MOST_CONDS
 conds_few config position other within none =
     let to_filters = front_none _ (each (rank_faults config.tables) [] config.ranks) none in
     filters_few config.tables [] config.filters position other within

@@ -12,10 +12,11 @@ use Rattle.agg_types.specs.declared.event.Event.{Event}
 use Rattle.agg_types.specs.declared.event.What.{What}
 use Rattle.agg_types.specs.declared.event.What.TheVariants.{Sit, Open, Put, Clear, AddFilter}
 use Rattle.agg_types.specs.declared.event.What.TheVariants.{Moment, Leave}
+use Rattle.agg_types.specs.declared.limits.TheConstants.{MOST_FILTERS}
 use Rattle.fleet_model.proofs.Bools.{and_no}
 use Rattle.fleet_model.proofs.Step.{counts_same}
 use Rattle.fleet_model.specs.Filters.{added_by, added_in, filters_after, filters_in, first_named}
-use Rattle.fleet_model.specs.Filters.{is_named, most_filters}
+use Rattle.fleet_model.specs.Filters.{is_named}
 use Rattle.fleet_model.specs.History.{judged}
 use Rattle.fleet_model.specs.Machine.{counts_now}
 use Rattle.fleet_model.specs.Rows.{counted_of, rows_in}
@@ -23,39 +24,39 @@ use Rattle.fleet_model.specs.Seats.{counts}
 use Rattle.fleet_model.specs.State.{state_of}
 
 abbrev standing : List Filter → List Filter → List Filter
-standing filters added = filters ++ take (most_filters - length filters) (first_named filters added)
+standing filters added = filters ++ take (MOST_FILTERS - length filters) (first_named filters added)
 
 -- one filter more, as it has room and a new name or not
 one_added : (filters : List Filter) (filter : Filter) (later : List Filter) (after : List Filter
     → List Filter) → ((fs : List Filter) → after fs ≡ standing fs later)
-    → after (cond (nat_lt (length filters) most_filters && not (is_named filters filter))
+    → after (cond (nat_lt (length filters) MOST_FILTERS && not (is_named filters filter))
     (filters ++ filter ∷ []) filters) ≡ standing filters (filter ∷ later)
 one_added filters filter later after h =
     elim (is_named filters filter) as
-    (λ b. after (cond (nat_lt (length filters) most_filters && not b) (filters ++ filter ∷ [])
-    filters) ≡ filters ++ take (most_filters - length filters)
+    (λ b. after (cond (nat_lt (length filters) MOST_FILTERS && not b) (filters ++ filter ∷ [])
+    filters) ≡ filters ++ take (MOST_FILTERS - length filters)
     (cond b (first_named filters later) (filter ∷ first_named (filters ++ filter ∷ []) later))) [
       | true ↦ ap (λ b. after (cond b (filters ++ filter ∷ []) filters))
-          (and_no (nat_lt (length filters) most_filters)) ∙ h filters
-      | false ↦ elim (nat_lt (length filters) most_filters) as
-          (λ r. nat_lt (length filters) most_filters ≡ r
+          (and_no (nat_lt (length filters) MOST_FILTERS)) ∙ h filters
+      | false ↦ elim (nat_lt (length filters) MOST_FILTERS) as
+          (λ r. nat_lt (length filters) MOST_FILTERS ≡ r
           → after (cond (r && true) (filters ++ filter ∷ []) filters) ≡ filters
-          ++ take (most_filters - length filters)
+          ++ take (MOST_FILTERS - length filters)
           (filter ∷ first_named (filters ++ filter ∷ []) later)) [
             | true ↦ λ room.
-                let fewer : length filters < most_filters = grind (arith, nat_tests) in
+                let fewer : length filters < MOST_FILTERS = grind (arith, nat_tests) in
                 let longer = length-append filters (filter ∷ []) in
-                let left : most_filters - length filters
-                ≡ suc (most_filters - length (filters ++ filter ∷ [])) = omega arith in
+                let left : MOST_FILTERS - length filters
+                ≡ suc (MOST_FILTERS - length (filters ++ filter ∷ [])) = omega arith in
                 h (filters ++ filter ∷ [])
                 ∙ append_assoc filters (filter ∷ [])
-                (take (most_filters - length (filters ++ filter ∷ []))
+                (take (MOST_FILTERS - length (filters ++ filter ∷ []))
                 (first_named (filters ++ filter ∷ []) later))
                 ∙ ap (λ n. filters ++ take n (filter ∷ first_named (filters ++ filter ∷ []) later))
                 (sym left)
             | false ↦ λ full.
-                let none : most_filters - length filters ≡ 0 =
-                let most : most_filters ≤ length filters = grind (arith, nat_tests) in
+                let none : MOST_FILTERS - length filters ≡ 0 =
+                let most : MOST_FILTERS ≤ length filters = grind (arith, nat_tests) in
                 omega arith in
                 h filters
                 ∙ ap (λ n. filters ++ take n (first_named filters later)) none
@@ -80,7 +81,7 @@ all_added : (counted : List Event) (filters : List Filter)
     → fold (λ filters e. filters_after filters e.what) filters counted
     ≡ standing filters (added_by counted)
 all_added [] filters = sym (append-nil filters)
-    ∙ ap (λ fs. filters ++ fs) (sym (no_more (most_filters - length filters)))
+    ∙ ap (λ fs. filters ++ fs) (sym (no_more (MOST_FILTERS - length filters)))
   where
     no_more : (n : ℕ) → take n (first_named filters []) ≡ []
     no_more n = grind arith
@@ -90,7 +91,7 @@ all_added (e ∷ counted) filters =
 
 pub first_of_each_name : (config : Config) (opening : ℕ) (events : List Event)
     → (state_of config opening events).config.filters ≡ config.filters
-    ++ take (most_filters - length config.filters)
+    ++ take (MOST_FILTERS - length config.filters)
     (first_named config.filters (added_by (counted_of (judged config opening events))))
 unfolding state_of filters_in
 first_of_each_name config opening events = all_added (counted_of (judged config opening events))

@@ -16,6 +16,7 @@ use Rattle.agg_types.specs.declared.event.Event.{Event}
 use Rattle.agg_types.specs.declared.event.What.{What}
 use Rattle.agg_types.specs.declared.event.What.TheVariants.{Sit, Open, Put, Clear, AddFilter}
 use Rattle.agg_types.specs.declared.event.What.TheVariants.{Moment, Leave}
+use Rattle.agg_types.specs.declared.limits.TheConstants.{LAST_MOMENT, MOST_SEATS}
 use Rattle.agg_types.specs.declared.place.Place.{Place}
 use Rattle.fleet_model.proofs.Checked.{periods_short}
 use Rattle.fleet_model.proofs.Every.{every-filter, every-insert, every-map, every-remove}
@@ -26,17 +27,17 @@ use Rattle.fleet_model.specs.Machine.{with_put, with_row}
 use Rattle.fleet_model.specs.Moments.{is_live}
 use Rattle.fleet_model.specs.Next.{flat_moment, longest_period, table_flat_from}
 use Rattle.fleet_model.specs.Rows.{has_room, arrival_of}
-use Rattle.fleet_model.specs.Seats.{is_next, is_number, most_seats}
+use Rattle.fleet_model.specs.Seats.{is_next, is_number}
 use Rattle.fleet_model.specs.Sound.{IsSound, IsSoundRow}
 use Rattle.fleet_model.specs.State.{State, state_of}
 use Rattle.fleet_model.specs.Values.{cols_of}
 use Rattle.fleet_model.specs.declared.arrival.Arrival.{Arrival}
 
 abbrev IsSmall : Place × Arrival → Type 0
-IsSmall row = (row.1.arrived ≤ 2 ^ 62) × (unwrap_or row.1.life 0 < 2 ^ 32)
+IsSmall row = (row.1.arrived ≤ LAST_MOMENT) × (unwrap_or row.1.life 0 < 2 ^ 32)
 
 record Small (state : State) : Type 0 where
-  moment : state.moment ≤ 2 ^ 62
+  moment : state.moment ≤ LAST_MOMENT
   rows : AllByRecursion IsSmall state.rows
 
 small_life : (life : Option ℕ) → life_fits life ≡ true → unwrap_or life 0 < 2 ^ 32
@@ -79,8 +80,8 @@ small_happened state e (Clear table sel) fit h =
     record { moment = h.moment; rows = every-filter IsSmall _ state.rows h.rows }
 small_happened state e (AddFilter filter) fit h = record { moment = h.moment; rows = h.rows }
 small_happened state e (Moment moment) fit h =
-    let told : moment ≤ 2 ^ 62 = grind (arith, nat_tests) in
-    let now : state.moment ≤ 2 ^ 62 = h.moment in
+    let told : moment ≤ LAST_MOMENT = grind (arith, nat_tests) in
+    let now : state.moment ≤ LAST_MOMENT = h.moment in
     record { moment = omega arith; rows = every-filter IsSmall _ state.rows h.rows }
 small_happened state e Leave fit h = record { moment = h.moment; rows = h.rows }
 
@@ -91,12 +92,13 @@ small_after state e h =
     → Small (cond b (happened state e e.what) state)) [
       | true ↦ λ counts. small_happened state e e.what
           (and_parts (fits state.config e.what)
-          (is_next e.what e.seat e.seq (nat_lt (length state.seats) most_seats) state.next_seat
+          (is_next e.what e.seat e.seq (nat_lt (length state.seats) MOST_SEATS) state.next_seat
           (number_of state e.seat)) counts).0 h
       | false ↦ λ not. h
     ] refl
 
-small_opened : (config : Config) (opening : ℕ) → opening ≤ 2 ^ 62 → Small (opened config opening)
+small_opened : (config : Config) (opening : ℕ) → opening ≤ LAST_MOMENT
+    → Small (opened config opening)
 unfolding opened
 small_opened config opening small = record { moment = small; rows = tt }
 
@@ -104,7 +106,7 @@ small_flat : (longest : ℕ) (rows : List (Place × Arrival)) → longest < 2 ^ 
     → AllByRecursion IsSmall rows → flat_moment longest rows < 2 ^ 64
 small_flat longest [] short h = omega arith
 small_flat longest (row ∷ rows) short h =
-    let arrived : row.1.arrived ≤ 2 ^ 62 = h.0.0 in
+    let arrived : row.1.arrived ≤ LAST_MOMENT = h.0.0 in
     let life : unwrap_or row.1.life 0 < 2 ^ 32 = h.0.1 in
     let rest : flat_moment longest rows < 2 ^ 64 = small_flat longest rows short h.1 in
     omega arith
@@ -116,7 +118,7 @@ same_tables config opening events = refl
 
 -- no set changes by the clock behind moments of 64 bits
 pub flat_in_time : (config : Config) (opening : ℕ) (events : List Event) (table : ℕ)
-    → opening ≤ 2 ^ 62 → longest_period (cols_of config.tables table) < 2 ^ 32
+    → opening ≤ LAST_MOMENT → longest_period (cols_of config.tables table) < 2 ^ 32
     → table_flat_from (state_of config opening events) table < 2 ^ 64
 flat_in_time config opening events table small short =
     let state = state_of config opening events in
@@ -129,7 +131,7 @@ flat_in_time config opening events table small short =
 small_rows : (state : State) → IsSound state → (row : Place × Arrival)
     → IsSoundRow state.config state.moment row → IsSmall row
 small_rows state sound row own =
-    let now : state.moment ≤ 2 ^ 62 = sound.in_range in
+    let now : state.moment ≤ LAST_MOMENT = sound.in_range in
     let before : row.1.arrived ≤ state.moment = own.arrived in (
       omega arith,
       small_life row.1.life (life_from state.config row.0.peer row.0.table row.0.key

@@ -1,5 +1,5 @@
 -- Every state that a checked configuration comes to is sound.
-use Rattle.std.proofs.Common.{◌≡◌, ℕ, ◌≤◌, ◌^◌, Bool, true, false, cond, not, ◌&&◌, max, nat_lt}
+use Rattle.std.proofs.Common.{◌≡◌, ℕ, ◌≤◌, Bool, true, false, cond, not, ◌&&◌, max, nat_lt}
 use Rattle.std.proofs.Common.{List, [], ◌∷◌, ◌++◌, ◌+◌, ◌==◌, length, Option, None, Some, refl, sym}
 use Rattle.std.proofs.Common.{ap, ◌∙◌, subst, arith}
 use Rattle.std.proofs.lemmas.Bool.{and_from, and_parts}
@@ -26,6 +26,7 @@ use Rattle.agg_types.specs.declared.event.Event.{Event}
 use Rattle.agg_types.specs.declared.event.What.{What}
 use Rattle.agg_types.specs.declared.event.What.TheVariants.{Sit, Open, Put, Clear, AddFilter}
 use Rattle.agg_types.specs.declared.event.What.TheVariants.{Moment, Leave}
+use Rattle.agg_types.specs.declared.limits.TheConstants.{LAST_MOMENT, MOST_SEATS}
 use Rattle.agg_types.specs.declared.place.Place.{Place}
 use Rattle.fleet_model.proofs.Cells.{kept_twice}
 use Rattle.fleet_model.proofs.Checked.{checked-add}
@@ -42,7 +43,7 @@ use Rattle.fleet_model.specs.Machine.{after, counts_now, happened, number_of, op
 use Rattle.fleet_model.specs.Machine.{with_event, with_put, with_row}
 use Rattle.fleet_model.specs.Moments.{is_live}
 use Rattle.fleet_model.specs.Rows.{arrival_of, clears_at, has_room}
-use Rattle.fleet_model.specs.Seats.{is_next, is_number, most_seats}
+use Rattle.fleet_model.specs.Seats.{is_next, is_number}
 use Rattle.fleet_model.specs.Sound.{IsSound, IsSoundRow}
 use Rattle.fleet_model.specs.State.{State, state_of}
 use Rattle.fleet_model.specs.Values.{cols_of}
@@ -161,7 +162,7 @@ numbers-insert : (entries : List (ℕ × ℕ)) (n m : ℕ) → Sorted entries
     → Sorted (insert_entry nat_cmp entries n m)
 numbers-insert entries n m h = ordered-insert nat_cmp nat_cmp_total exact_unsigned entries n m h
 
-sound_as : (s : State) → config_faults s.config ≡ [] → s.moment ≤ 2 ^ 62
+sound_as : (s : State) → config_faults s.config ≡ [] → s.moment ≤ LAST_MOMENT
     → AreSound s.config s.moment s.rows → Sorted s.sessions → Sorted s.seats
     → IsWithinSizes s → IsSound s
 sound_as s checked in_range rows sessions seats within = record {
@@ -211,8 +212,8 @@ happened_sound s e (AddFilter added) fit h within =
     sound_as (happened s e (AddFilter added)) (checked-add s.config added fit h.checked) h.in_range
     rows h.ordered.sessions (numbers-insert s.seats e.seat (e.seq + 1) h.ordered.seats) within
 happened_sound s e (Moment told) fit h within =
-    let small : told ≤ 2 ^ 62 = grind (arith, nat_tests) in
-    let now : s.moment ≤ 2 ^ 62 = h.in_range in
+    let small : told ≤ LAST_MOMENT = grind (arith, nat_tests) in
+    let now : s.moment ≤ LAST_MOMENT = h.in_range in
     sound_as (happened s e (Moment told)) h.checked (omega arith)
     (sound-moment s.config s.moment (max s.moment told) s.rows (omega arith) (rows_are s h))
     h.ordered.sessions (numbers-insert s.seats e.seat (e.seq + 1) h.ordered.seats) within
@@ -229,14 +230,15 @@ sound_after s e h =
     elim (counts_now s e) as (λ b. counts_now s e ≡ b → IsSound (cond b (happened s e e.what) s)) [
       | true ↦ λ counts. happened_sound s e e.what
           (and_parts (fits s.config e.what)
-          (is_next e.what e.seat e.seq (nat_lt (length s.seats) most_seats) s.next_seat
+          (is_next e.what e.seat e.seq (nat_lt (length s.seats) MOST_SEATS) s.next_seat
           (number_of s e.seat)) counts).0 h
           (happened_within s e e.what (sorted_from place_cmp s.rows h.ordered.rows) h.within_sizes)
       | false ↦ λ not. h
     ] refl
 
 -- an opened fleet is sound
-pub sound_opened : (config : Config) (opening : ℕ) → config_faults config ≡ [] → opening ≤ 2 ^ 62
+pub sound_opened : (config : Config) (opening : ℕ) → config_faults config ≡ []
+    → opening ≤ LAST_MOMENT
     → IsSound (opened config opening)
 unfolding opened IsStrictlySortedBy
 sound_opened config opening checked small = record {
@@ -250,7 +252,7 @@ sound_opened config opening checked small = record {
 
 -- so each list of events leaves a sound state
 pub sound_states : (config : Config) (opening : ℕ) (events : List Event) → config_faults config ≡ []
-    → opening ≤ 2 ^ 62 → IsSound (state_of config opening events)
+    → opening ≤ LAST_MOMENT → IsSound (state_of config opening events)
 sound_states config opening events checked small =
     along config opening IsSound (sound_opened config opening checked small)
     (λ before e. sound_after (state_of config opening before) e) events

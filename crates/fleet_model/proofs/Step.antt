@@ -16,6 +16,7 @@ use Rattle.agg_types.specs.declared.event.Event.{Event}
 use Rattle.agg_types.specs.declared.event.What.{What}
 use Rattle.agg_types.specs.declared.event.What.TheVariants.{Sit, Open, Put, Clear, AddFilter}
 use Rattle.agg_types.specs.declared.event.What.TheVariants.{Moment, Leave}
+use Rattle.agg_types.specs.declared.limits.TheConstants.{MOST_SEATS}
 use Rattle.agg_types.specs.declared.place.Place.{Place}
 use Rattle.fleet_model.proofs.InForce.{Clears_none, rows-cleared, rows-later, rows-put, rows-same}
 use Rattle.fleet_model.proofs.Seats.{SitFirst, SitFirst-push, above-sit, ever_sat}
@@ -30,7 +31,7 @@ use Rattle.fleet_model.specs.Moments.{moment_after, now_of}
 use Rattle.fleet_model.specs.Rows.{Judged, by_place, clears_at, counted_of, has_room, if_counted}
 use Rattle.fleet_model.specs.Rows.{in_force, judge_at, arrival_of, putter, row_of, rows_in}
 use Rattle.fleet_model.specs.Seats.{above_all, counts, is_leave, is_next, is_number, is_sit}
-use Rattle.fleet_model.specs.Seats.{most_seats, number, seats_in, seats_of}
+use Rattle.fleet_model.specs.Seats.{number, seats_in, seats_of}
 use Rattle.fleet_model.specs.Sessions.{opens, session, sessions_in}
 use Rattle.fleet_model.specs.State.{Stands, State, state_after, state_of, with_filters}
 use Rattle.fleet_model.specs.declared.arrival.Arrival.{Arrival}
@@ -133,7 +134,7 @@ by_kind : (config : Config) (opening : ℕ) (h : List Judged) (counted : List Ev
     (rows_before opening h counted) (now_of opening counted) e w
     → ((place : Place) → j.clears place ≡ clears_at config (rows_before opening h counted)
     (now_of opening counted) w place) → SitFirst counted → fits config w ≡ true
-    → is_next w e.seat e.seq (nat_lt (length (seats_in counted)) most_seats)
+    → is_next w e.seat e.seq (nat_lt (length (seats_in counted)) MOST_SEATS)
     (above_all (seats_of counted)) (number counted e.seat) ≡ true
     → longer config opening h j (counted ++ e ∷ [])
     ≡ happened (shorter config opening h counted) e w
@@ -252,7 +253,7 @@ pub counts_same : (config : Config) (opening : ℕ) (h : List Judged) (counted :
 unfolding counts_now counts
 counts_same config opening h counted e =
     λ i. fits_same config (filters_in config counted) e.what i && is_next e.what e.seat e.seq
-    (nat_lt (length (seats_in counted)) most_seats) (above_all (seats_of counted))
+    (nat_lt (length (seats_in counted)) MOST_SEATS) (above_all (seats_of counted))
     (found-seats e.seat counted i)
 
 after_is : (state : State) (e : Event) (b : Bool) → counts_now state e ≡ b
@@ -262,7 +263,7 @@ after_is state e b does = ap (λ b. cond b (happened state e e.what) state) does
 
 counts_parts : (config : Config) (counted : List Event) (e : Event) → counts config counted e ≡ true
     → (fits config e.what ≡ true) ×
-    (is_next e.what e.seat e.seq (nat_lt (length (seats_in counted)) most_seats)
+    (is_next e.what e.seat e.seq (nat_lt (length (seats_in counted)) MOST_SEATS)
     (above_all (seats_of counted)) (number counted e.seat) ≡ true)
 unfolding counts
 counts_parts config counted e does = and_parts (fits config e.what) _ does

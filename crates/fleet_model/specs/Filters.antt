@@ -9,18 +9,15 @@ use Rattle.agg_types.specs.declared.event.Event.{Event}
 use Rattle.agg_types.specs.declared.event.What.{What}
 use Rattle.agg_types.specs.declared.event.What.TheVariants.{Sit, Open, Put, Clear, AddFilter}
 use Rattle.agg_types.specs.declared.event.What.TheVariants.{Moment, Leave}
-
--- how many filters may stand
-abbrev pub most_filters : ℕ
-most_filters = 32
+use Rattle.agg_types.specs.declared.limits.TheConstants.{MOST_FILTERS}
 
 -- whether one of them has a filter's name
 abbrev pub is_named : List Filter → Filter → Bool
 is_named filters filter = list_any (λ other. bytes_eq other.name filter.name) filters
 
--- a filter is taken while fewer than 32 stand, if none of them has its name
+-- a filter is taken while fewer are active than may be, if none of them has its name
 abbrev pub is_new : List Filter → Filter → Bool
-is_new filters filter = nat_lt (length filters) most_filters && not (is_named filters filter)
+is_new filters filter = nat_lt (length filters) MOST_FILTERS && not (is_named filters filter)
 
 -- the filter that is added, if one is
 abbrev pub added_in : What → Option Filter

@@ -11,12 +11,13 @@ use Rattle.agg_types.specs.declared.event.Event.{Event}
 use Rattle.agg_types.specs.declared.event.What.{What}
 use Rattle.agg_types.specs.declared.event.What.TheVariants.{Sit, Open, Put, Clear, AddFilter}
 use Rattle.agg_types.specs.declared.event.What.TheVariants.{Moment, Leave}
+use Rattle.agg_types.specs.declared.limits.TheConstants.{MOST_SEATS}
 use Rattle.agg_types.specs.declared.place.Place.{Place}
 use Rattle.fleet_model.specs.declared.arrival.Arrival.{Arrival}
 use Rattle.fleet_model.specs.Filters.{filters_after}
 use Rattle.fleet_model.specs.Moments.{is_live}
 use Rattle.fleet_model.specs.Rows.{has_room, clears_at, arrival_of}
-use Rattle.fleet_model.specs.Seats.{is_next, is_number, most_seats}
+use Rattle.fleet_model.specs.Seats.{is_next, is_number}
 use Rattle.fleet_model.specs.State.{State}
 
 -- an event by its parts
@@ -35,7 +36,7 @@ number_of state seat = lookup (is_at (nat_cmp seat)) state.seats
 unfoldable pub counts_now : State → Event → Bool
 counts_now state e =
     fits state.config e.what
-    && is_next e.what e.seat e.seq (nat_lt (length state.seats) most_seats) state.next_seat
+    && is_next e.what e.seat e.seq (nat_lt (length state.seats) MOST_SEATS) state.next_seat
     (number_of state e.seat)
 
 -- the rows with another one at a place: in place of an older one, and gone at once if its life is

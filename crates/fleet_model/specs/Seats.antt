@@ -1,5 +1,5 @@
 -- Which seats sit, and which events count. Lists of events begin with the oldest.
-use Rattle.std.specs.Prelude.{ℕ, ◌+◌, ◌^◌, Bool, true, false, ◌&&◌, not, if◌then◌else◌, ◌==◌}
+use Rattle.std.specs.Prelude.{ℕ, ◌+◌, Bool, true, false, ◌&&◌, not, if◌then◌else◌, ◌==◌}
 use Rattle.std.specs.Prelude.{nat_le, nat_lt, List, [], ◌∷◌, length, Option, None, Some, map}
 use Rattle.std.specs.Prelude.{filter, fold, count_by, max}
 use Rattle.std.specs.Bool.{then_some}
@@ -12,10 +12,7 @@ use Rattle.agg_types.specs.declared.event.Event.{Event}
 use Rattle.agg_types.specs.declared.event.What.{What}
 use Rattle.agg_types.specs.declared.event.What.TheVariants.{Sit, Open, Put, Clear, AddFilter}
 use Rattle.agg_types.specs.declared.event.What.TheVariants.{Moment, Leave}
-
--- how many seats may sit at once
-abbrev pub most_seats : ℕ
-most_seats = 512
+use Rattle.agg_types.specs.declared.limits.TheConstants.{LAST_SEAT, MOST_SEATS, NUMBERS_END}
 
 abbrev pub is_sit : What → Bool
 is_sit Sit = true
@@ -44,6 +41,12 @@ sits counted seat =
 -- the number of a seat's next event, if it sits: how many of its events counted
 unfoldable pub number : List Event → ℕ → Option ℕ
 number counted seat = then_some (sits counted seat) (count_by (λ e. e.seat == seat) counted)
+
+-- what happens at a seat, an event each, under its numbers from this one on
+abbrev pub numbered : ℕ → ℕ → List What → List Event
+numbered seat seq [] = []
+numbered seat seq (what ∷ whats) =
+    record { seat = seat; seq = seq; what = what } ∷ numbered seat (seq + 1) whats
 
 -- the seats that ever sat down
 unfoldable pub seats_of : List Event → List ℕ
@@ -75,12 +78,12 @@ is_number (Some m) n = m == n
 abbrev pub is_next : What → ℕ → ℕ → (free : Bool) → (above : ℕ) → (due : Option ℕ) → Bool
 is_next what seat seq free above due =
     if is_sit what
-    then (seq == 0) && nat_le seat (2 ^ 62) && nat_le above seat && free
-    else is_number due seq && nat_lt seq (2 ^ 62)
+    then (seq == 0) && nat_le seat LAST_SEAT && nat_le above seat && free
+    else is_number due seq && nat_lt seq NUMBERS_END
 
 -- whether an event counts after those that counted: it fits, and it comes next
 unfoldable pub counts : Config → List Event → Event → Bool
 counts config counted e =
-    let free : Bool = nat_lt (length (seats_in counted)) most_seats in
+    let free : Bool = nat_lt (length (seats_in counted)) MOST_SEATS in
     fits config e.what
     && is_next e.what e.seat e.seq free (above_all (seats_of counted)) (number counted e.seat)

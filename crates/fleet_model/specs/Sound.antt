@@ -1,11 +1,12 @@
 -- What holds of every state that a checked configuration comes to, whatever happens.
-use Rattle.std.specs.Prelude.{◌≡◌, ℕ, ◌^◌, ◌≤◌, true, []}
+use Rattle.std.specs.Prelude.{◌≡◌, ℕ, ◌≤◌, true, []}
 use Rattle.std.specs.List.{AllByRecursion}
 use Rattle.agg_types.specs.Check.{config_faults}
 use Rattle.agg_types.specs.Fits.{fits}
 use Rattle.agg_types.specs.declared.config.Config.{Config}
 use Rattle.agg_types.specs.declared.event.What.{What}
 use Rattle.agg_types.specs.declared.event.What.TheVariants.{Put}
+use Rattle.agg_types.specs.declared.limits.TheConstants.{LAST_MOMENT}
 use Rattle.agg_types.specs.declared.place.Place.{Place}
 use Rattle.fleet_model.specs.Kept.{kept_cells}
 use Rattle.fleet_model.specs.Laws.{AreLive, IsOrdered, IsWithinSizes}
@@ -25,11 +26,11 @@ pub record IsSoundRow (config : Config) (moment : ℕ) (row : Place × Arrival) 
   pub kept : kept_cells (cols_of config.tables row.0.table) row.1.cells ≡ row.1.cells
   pub arrived : row.1.arrived ≤ moment
 
--- the configuration, with the filters that stand, has no fault; moments are up to 2^62 ms; rows,
+-- the configuration, with the filters that stand, has no fault; moments are up to the last; rows,
 -- sessions and seats are in order; rows live, are no more than the sizes, and fit
 pub record IsSound (state : State) : Type 0 where
   pub checked : config_faults state.config ≡ []
-  pub in_range : state.moment ≤ 2 ^ 62
+  pub in_range : state.moment ≤ LAST_MOMENT
   pub ordered : IsOrdered state
   pub live : AreLive state
   pub within_sizes : IsWithinSizes state

@@ -58,13 +58,13 @@ abbrev pub number_in : List Event → ℕ → ℕ
 number_in events seat = count_by (λ e. e.seat == seat) events
 
 -- things that happen at seats, as events, each with its seat's next number
-unfoldable pub numbered : List (ℕ × What) → List Event
-numbered happenings =
+unfoldable pub in_turn : List (ℕ × What) → List Event
+in_turn happenings =
     fold (λ events h. events ++ event_of h.0 (number_in events h.0) h.1 ∷ []) [] happenings
 
 -- what a list of things that happen from moment 0 on leaves
 unfoldable pub left_by : Config → List (ℕ × What) → State
-left_by config happenings = state_of config 0 (numbered happenings)
+left_by config happenings = state_of config 0 (in_turn happenings)
 
 -- the keys of the table, each with its summed row
 unfoldable pub shown : State → List (List ℕ × Option Summed)

@@ -17,10 +17,11 @@ ghost use Rattle.agg_types.specs.declared.config.Rank.{Rank};
 ghost use Rattle.agg_types.specs.declared.event.Cell.{Cell};
 ghost use Rattle.agg_types.specs.declared.event.Event.{Event};
 ghost use Rattle.agg_types.specs.declared.event.What.TheVariants.{Open, Moment, Leave};
+ghost use Rattle.agg_types.specs.declared.limits.TheConstants.{LAST_MOMENT, MOST_FILTERS};
 ghost use Rattle.agg_types.specs.declared.place.Place.{Place};
 ghost use Rattle.fleet_model.specs.Answers.{set_at, summed};
 ghost use Rattle.fleet_model.specs.Answers as answers;
-ghost use Rattle.fleet_model.specs.Filters.{added_by, first_named, most_filters};
+ghost use Rattle.fleet_model.specs.Filters.{added_by, first_named};
 ghost use Rattle.fleet_model.specs.History.{judged};
 ghost use Rattle.fleet_model.specs.Kept.{GivesElapsedBack, kept_cells};
 ghost use Rattle.fleet_model.specs.Laws.{AnswersAlike, AreLive, IsInForce, IsKeyList, IsOrdered};
@@ -82,12 +83,12 @@ pub fn counting_is_of_the_list()
         ≡ counts config (counted_of (judged config opening events)) e }
 {}
 
-/// The filters that stand are the configured ones, and behind them the first of each name that was
-/// added and isn't configured, while fewer than 32 stand.
+/// The active filters are the configured ones, and behind them the first of each name that was
+/// added and isn't configured, while fewer are active than may be.
 pub fn filters_are_the_first_of_each_name()
     ensures { (config : Config) (opening : ℕ) (events : List Event)
         → (state_of config opening events).config.filters
-        ≡ config.filters ++ take (most_filters - length config.filters)
+        ≡ config.filters ++ take (MOST_FILTERS - length config.filters)
         (first_named config.filters (added_by (counted_of (judged config opening events)))) }
 {}
 
@@ -257,12 +258,12 @@ pub fn next_change_comes_before_flat()
 {}
 
 /// That moment has 64 bits, as moments and lives are small: in every sound state, and where the
-/// opening moment is at most 2^62 and periods are below 2^32.
+/// opening moment is at most the last and periods are below 2^32.
 pub fn sets_are_flat_in_time()
     ensures sound { (state : State) (table : ℕ) → IsSound state
         → table_flat_from state table < 2 ^ 64 }
     ensures listed { (config : Config) (opening : ℕ) (events : List Event) (table : ℕ)
-        → opening ≤ 2 ^ 62 → longest_period (cols_of config.tables table) < 2 ^ 32
+        → opening ≤ LAST_MOMENT → longest_period (cols_of config.tables table) < 2 ^ 32
         → table_flat_from (state_of config opening events) table < 2 ^ 64 }
 {}
 
@@ -299,13 +300,14 @@ pub fn kept_cells_say_the_same()
         → GivesElapsedBack period elapsed cur prev t }
 {}
 
-/// A checked configuration opened at a moment up to 2^62 ms is sound, and every event keeps a state
-/// so: so what any list of events leaves is sound.
+/// A checked configuration opened at a moment up to the last is sound, and every event keeps a
+/// state so: so what any list of events leaves is sound.
 pub fn states_are_sound()
-    ensures opened { (config : Config) (opening : ℕ) → config_faults config ≡ [] → opening ≤ 2 ^ 62
+    ensures opened { (config : Config) (opening : ℕ) → config_faults config ≡ []
+        → opening ≤ LAST_MOMENT
         → IsSound (opened config opening) }
     ensures kept { (state : State) (e : Event) → IsSound state → IsSound (after state e) }
     ensures whole { (config : Config) (opening : ℕ) (events : List Event)
-        → config_faults config ≡ [] → opening ≤ 2 ^ 62
+        → config_faults config ≡ [] → opening ≤ LAST_MOMENT
         → IsSound (state_of config opening events) }
 {}

@@ -1,5 +1,5 @@
 -- The numbers of seats: how many events of a seat a history has.
-use Rattle.std.proofs.Common.{◌≡◌, ℕ, ◌+◌, ◌<◌, ◌≤◌, ◌==◌, ◌^◌, ◌&&◌, Bool, true, false, cond, not}
+use Rattle.std.proofs.Common.{◌≡◌, ℕ, ◌+◌, ◌<◌, ◌≤◌, ◌==◌, ◌&&◌, Bool, true, false, cond, not}
 use Rattle.std.proofs.Common.{nat_lt, nat_le, List, [], ◌∷◌, ◌++◌, length, Option, None, Some, T}
 use Rattle.std.proofs.Common.{refl, sym, ap, ◌∙◌, subst, arith, append-nil, fold, append_assoc}
 use Rattle.std.proofs.Common.{length-append}
@@ -17,12 +17,13 @@ use Rattle.agg_types.specs.declared.event.Event.{Event}
 use Rattle.agg_types.specs.declared.event.What.{What}
 use Rattle.agg_types.specs.declared.event.What.TheVariants.{Sit, Open, Put, Clear, AddFilter}
 use Rattle.agg_types.specs.declared.event.What.TheVariants.{Moment, Leave}
+use Rattle.agg_types.specs.declared.limits.TheConstants.{LAST_SEAT, MOST_SEATS, NUMBERS_END}
 use Rattle.fleet_model.proofs.Entries.{keep, lookup-filter, lookup-insert, remove_is, sorted-filter}
 use Rattle.fleet_model.proofs.Entries.{sorted-insert}
 use Rattle.fleet_model.proofs.Runs.{step_by_step}
 use Rattle.fleet_model.proofs.Seats.{is_eq_back, is_eq_same, number_from}
 use Rattle.fleet_model.specs.Machine.{after, counts_now, happened, opened}
-use Rattle.fleet_model.specs.Seats.{is_leave, is_next, is_number, is_sit, most_seats}
+use Rattle.fleet_model.specs.Seats.{is_leave, is_next, is_number, is_sit}
 use Rattle.fleet_model.specs.State.{State, state_of}
 use Rattle.hub.specs.History.{AllCount, all_count, own}
 
@@ -172,7 +173,7 @@ and_right true b h = h
 and_right false b h = absurd (cc h)
 
 abbrev pub next_in : State → Event → What → Bool
-next_in s e what = is_next what e.seat e.seq (nat_lt (length s.seats) most_seats) s.next_seat
+next_in s e what = is_next what e.seat e.seq (nat_lt (length s.seats) MOST_SEATS) s.next_seat
     (found e.seat s.seats)
 
 counted_next : (s : State) (e : Event) → counts_now s e ≡ true → next_in s e e.what ≡ true
@@ -182,10 +183,10 @@ counted_next s e counts = and_right _ _ counts
 pub due_from : (s : State) (e : Event) (what : What) → is_sit what ≡ false → next_in s e what ≡ true
     → found e.seat s.seats ≡ Some e.seq
 due_from s e what sits next =
-    let plain : is_number (found e.seat s.seats) e.seq && nat_lt e.seq (2 ^ 62) ≡ true =
-    ap (λ b. cond b ((e.seq == 0) && nat_le e.seat (2 ^ 62) && nat_le s.next_seat e.seat
-    && nat_lt (length s.seats) most_seats) (is_number (found e.seat s.seats) e.seq
-    && nat_lt e.seq (2 ^ 62))) (sym sits) ∙ next in
+    let plain : is_number (found e.seat s.seats) e.seq && nat_lt e.seq NUMBERS_END ≡ true =
+    ap (λ b. cond b ((e.seq == 0) && nat_le e.seat LAST_SEAT && nat_le s.next_seat e.seat
+    && nat_lt (length s.seats) MOST_SEATS) (is_number (found e.seat s.seats) e.seq
+    && nat_lt e.seq NUMBERS_END)) (sym sits) ∙ next in
     number_from (found e.seat s.seats) e.seq (and_left _ _ plain)
 
 abbrev Counts : State → List Event → Type 0
@@ -195,12 +196,13 @@ happened_more : (s : State) (events : List Event) (e : Event) (what : What) → 
     → next_in s e what ≡ true → Counts (happened s e what) (events ++ e ∷ [])
 unfolding happened
 happened_more s events e Sit h next =
-    let three = and_left ((e.seq == 0) && nat_le e.seat (2 ^ 62) && nat_le s.next_seat e.seat)
-    (nat_lt (length s.seats) most_seats) next in
-    let two = and_left ((e.seq == 0) && nat_le e.seat (2 ^ 62)) (nat_le s.next_seat e.seat) three in
+    let three = and_left ((e.seq == 0) && nat_le e.seat LAST_SEAT && nat_le s.next_seat e.seat)
+    (nat_lt (length s.seats) MOST_SEATS) next in
+    let two = and_left ((e.seq == 0) && nat_le e.seat LAST_SEAT)
+        (nat_le s.next_seat e.seat) three in
     let above : nat_le s.next_seat e.seat ≡ true =
-    and_right ((e.seq == 0) && nat_le e.seat (2 ^ 62)) (nat_le s.next_seat e.seat) three in
-    let zero_is : (e.seq == 0) ≡ true = and_left (e.seq == 0) (nat_le e.seat (2 ^ 62)) two in
+    and_right ((e.seq == 0) && nat_le e.seat LAST_SEAT) (nat_le s.next_seat e.seat) three in
+    let zero_is : (e.seq == 0) ≡ true = and_left (e.seq == 0) (nat_le e.seat LAST_SEAT) two in
     sit_more s.seats s.next_seat events e h (grind (arith, nat_tests)) (grind (arith, nat_tests))
 happened_more s events e (Open peer) h next =
     plain_more s.seats s.next_seat events e h (due_from s e (Open peer) refl next)

@@ -1,5 +1,5 @@
 -- A batch on its way into the history, one event after the other.
-use Rattle.std.proofs.Common.{◌≡◌, ℕ, suc, ◌+◌, ◌<◌, ◌^◌, cond, true, List, [], ◌∷◌, ◌++◌, length}
+use Rattle.std.proofs.Common.{◌≡◌, ℕ, suc, ◌+◌, ◌<◌, cond, true, List, [], ◌∷◌, ◌++◌, length}
 use Rattle.std.proofs.Common.{Some, sym, ap, ◌∙◌, subst, arith, append_assoc}
 use Rattle.std.proofs.lemmas.Bool.Decides.{nat_tests}
 use Rattle.std.proofs.lemmas.Cmp.{nat_cmp_total}
@@ -10,10 +10,12 @@ use Rattle.std.specs.List.{All}
 use Rattle.std.specs.Ordering.{is_eq, nat_cmp}
 use Rattle.agg_types.specs.declared.event.Event.{Event}
 use Rattle.agg_types.specs.declared.event.What.{What}
+use Rattle.agg_types.specs.declared.limits.TheConstants.{NUMBERS_END}
 use Rattle.fleet_model.proofs.Entries.{lookup-insert}
 use Rattle.fleet_model.proofs.Step.{one_more}
 use Rattle.fleet_model.specs.Machine.{counts_now}
-use Rattle.hub.specs.History.{Beginning, longer_by, made}
+use Rattle.fleet_model.specs.Seats.{numbered}
+use Rattle.hub.specs.History.{Beginning, longer_by}
 use Rattle.hub.specs.Copied.{Brought, Stores, all_taken, taken, whole}
 use Rattle.hub.specs.Roll.{Counted, IsCountOf, MayPost, last_after}
 use Rattle.hub.specs.Sitting.{Recalled, Recalls, opened_after}
@@ -55,12 +57,13 @@ pub record Filling (r0 : Recalled) (all : List What) (q0 : List Brought) (b0 : B
     : Type 0 where
   pub seat : r.seat ≡ r0.seat
   pub number : r.number + length rest ≡ r0.number + length all
-  pub front : longer_by b (made r.seat r.number rest) ≡ longer_by b0 (made r0.seat r0.number all)
+  pub front : longer_by b (numbered r.seat r.number rest)
+      ≡ longer_by b0 (numbered r0.seat r0.number all)
   pub counted : IsCountOf roll b
   pub recalled : Recalls r b
   pub fits : All (MayPost b.config) rest
   pub due : found r.seat roll.seats ≡ Some r.number
-  pub last : r.number + length rest < 2 ^ 62
+  pub last : r.number + length rest < NUMBERS_END
   pub stored : Stores q0 b0 q b
 
 pub filled_one : (r0 : Recalled) (all : List What) (q0 : List Brought) (b0 : Beginning)
@@ -80,7 +83,7 @@ pub filled_one : (r0 : Recalled) (all : List What) (q0 : List Brought) (b0 : Beg
     → Filling r0 all q0 b0 rest q' b' roll' r'
 filled_one r0 all q0 b0 what rest q b roll r h e b' q' roll' r' e_is b_is q_is roll_is r_is =
     let f = event_at r.seat r.number what in
-    let small : r.number < 2 ^ 62 = let l = h.last in omega arith in
+    let small : r.number < NUMBERS_END = let l = h.last in omega arith in
     let may = all_head (MayPost b.config) what rest h.fits in
     let longer_is : b' ≡ longer b f = b_is ∙ ap (longer b) e_is in
     let rolled : roll' ≡ record {
@@ -107,9 +110,9 @@ filled_one r0 all q0 b0 what rest q b roll r h e b' q' roll' r' e_is b_is q_is r
     (record {
       seat = h.seat;
       number = let n = h.number in omega arith;
-      front = ap (λ (c : Beginning). longer_by c (made r.seat (r.number + 1) rest)) longer_is
+      front = ap (λ (c : Beginning). longer_by c (numbered r.seat (r.number + 1) rest)) longer_is
           ∙ (ap (λ es. record b { events = es })
-          (append_assoc b.events (f ∷ []) (made r.seat (r.number + 1) rest)) ∙ h.front);
+          (append_assoc b.events (f ∷ []) (numbered r.seat (r.number + 1) rest)) ∙ h.front);
       counted = subst (λ (c : Counted). IsCountOf c b') (sym rolled)
           (subst (IsCountOf _) (sym longer_is) count);
       recalled = subst (Recalls r'') (sym longer_is) recall;
@@ -130,6 +133,6 @@ pub filling_counts : (r0 : Recalled) (all : List What) (q0 : List Brought) (b0 :
     → e ≡ event_at r.seat r.number what → counts_now (state_at b) e ≡ true
 filling_counts r0 all q0 b0 what rest q b roll r h e e_is =
     let may = all_head (MayPost b.config) what rest h.fits in
-    let small : r.number < 2 ^ 62 = let l = h.last in omega arith in
+    let small : r.number < NUMBERS_END = let l = h.last in omega arith in
     ap (counts_now (state_at b)) e_is ∙ post_counts b roll r.seat r.number what h.counted may.sits
     may.fits h.due small

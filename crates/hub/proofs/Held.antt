@@ -1,5 +1,5 @@
 -- What lies under the lock stays as it must.
-use Rattle.std.proofs.Common.{◌≡◌, ℕ, zero, suc, ◌==◌, ◌^◌, ◌≤◌, nat_lt, true, List, [], ◌∷◌, ◌++◌}
+use Rattle.std.proofs.Common.{◌≡◌, ℕ, zero, suc, ◌==◌, ◌≤◌, nat_lt, true, List, [], ◌∷◌, ◌++◌}
 use Rattle.std.proofs.Common.{length, replicate, get_or, Option, None, Some, refl, sym, ap, ◌∙◌}
 use Rattle.std.proofs.Common.{subst, arith}
 use Rattle.std.proofs.lemmas.Bool.Decides.{nat_tests}
@@ -9,9 +9,9 @@ use Rattle.std.proofs.lemmas.List.Sums.{fold-append}
 use Rattle.logbook.specs.Pages.{Book}
 use Rattle.agg_types.specs.declared.event.Event.{Event}
 use Rattle.agg_types.specs.declared.event.What.TheVariants.{Sit}
+use Rattle.agg_types.specs.declared.limits.TheConstants.{LAST_SEAT, MOST_SEATS}
 use Rattle.fleet_model.proofs.Order.{no_events}
 use Rattle.fleet_model.specs.Machine.{opened}
-use Rattle.fleet_model.specs.Seats.{most_seats}
 use Rattle.fleet_model.specs.Sessions.{last_opener}
 use Rattle.fleet_model.specs.State.{state_of}
 use Rattle.hub.specs.History.{AllCount, Beginning, longer_by, own}
@@ -100,7 +100,7 @@ seated seat number seen = record { seat = seat; number = number; seen = seen }
 pub sat_down : (k k' : Kept) (book : Book) (b b' : Beginning) (roll : Counted) (p : Seated)
     (seat : ℕ) → k.all ≡ b → k'.all ≡ b' → b.of ≡ book → IsCountOf roll b
     → AllCount b.config b.opening b.events → seat ≡ roll.next_seat
-    → nat_lt (length roll.seats) most_seats ≡ true → roll.next_seat ≤ 2 ^ 62
+    → nat_lt (length roll.seats) MOST_SEATS ≡ true → roll.next_seat ≤ LAST_SEAT
     → b' ≡ longer b (event_at seat 0 Sit) → p ≡ record { seat = seat; number = 1; seen = b' }
     → SitsDownIn k k' book p
 sat_down k k' book b b' roll p seat k_is k'_is of is all seat_is free small b_is p_is =

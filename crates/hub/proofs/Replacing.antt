@@ -14,10 +14,10 @@ use Rattle.agg_types.specs.declared.event.What.{What}
 use Rattle.agg_types.specs.declared.event.What.TheVariants.{Leave}
 use Rattle.fleet_model.specs.Laws.{opens_at}
 use Rattle.fleet_model.specs.Rows.{putter}
-use Rattle.fleet_model.specs.Seats.{is_number}
+use Rattle.fleet_model.specs.Seats.{is_number, numbered}
 use Rattle.fleet_model.specs.Sessions.{last_opener, opens}
 use mathlib.Core.List.{IsPrefix}
-use Rattle.hub.specs.History.{Beginning, made, own}
+use Rattle.hub.specs.History.{Beginning, own}
 use Rattle.hub.specs.Posts.{FindsReplaced, IsReplacedPut, NoneReplaced, Seated, is_put, is_replaced}
 use Rattle.hub.specs.Roll.{Counted, IsCountOf}
 use Rattle.hub.specs.Sitting.{Recalled, Recalls, other_than, replacer, replacer_at}
@@ -27,7 +27,7 @@ use Rattle.hub.proofs.Rolling.{last_opener-append}
 -- ---- what a seat made itself
 
 last_opener-made : (peer seat number : ℕ) (whats : List What)
-    → last_opener peer (made seat number whats) ≡ then_some (list_any (opens peer) whats) seat
+    → last_opener peer (numbered seat number whats) ≡ then_some (list_any (opens peer) whats) seat
 last_opener-made peer seat number [] = refl
 last_opener-made peer seat number (what ∷ whats) =
     ap (λ o. option_or o (then_some (opens peer what) seat))
@@ -42,11 +42,12 @@ last_opener-made peer seat number (what ∷ whats) =
     either false false = refl
 
 opens-made : (peer seat number : ℕ) (whats : List What)
-    → list_any (opens_at seat peer) (made seat number whats) ≡ list_any (opens peer) whats
+    → list_any (opens_at seat peer) (numbered seat number whats) ≡ list_any (opens peer) whats
 opens-made peer seat number [] = refl
 opens-made peer seat number (what ∷ whats) =
     let this : (seat == seat) ≡ true = grind (arith, nat_tests) in
-    ap (λ s. (s && opens peer what) || list_any (opens_at seat peer) (made seat (number + 1) whats))
+    ap (λ s. (s && opens peer what)
+    || list_any (opens_at seat peer) (numbered seat (number + 1) whats))
     this
     ∙ ap (λ a. opens peer what || a) (opens-made peer seat (number + 1) whats)
 
@@ -60,20 +61,20 @@ behind seat by true last false = refl
 behind seat by false last false = refl
 
 replaced-made : (seat by number peer : ℕ) (before : List Event) (whats : List What)
-    → is_replaced seat by (before ++ made seat number whats) peer
+    → is_replaced seat by (before ++ numbered seat number whats) peer
     ≡ not (list_any (opens peer) whats) && is_replaced seat by before peer
 replaced-made seat by number peer before whats =
     let again = list_any (opens peer) whats in
-    let openings : list_any (opens_at seat peer) (before ++ made seat number whats)
+    let openings : list_any (opens_at seat peer) (before ++ numbered seat number whats)
     ≡ (list_any (opens_at seat peer) before || again)
-    = list_any-append (opens_at seat peer) before (made seat number whats)
+    = list_any-append (opens_at seat peer) before (numbered seat number whats)
     ∙ ap (λ a. list_any (opens_at seat peer) before || a) (opens-made peer seat number whats) in
-    let lasts : last_opener peer (before ++ made seat number whats)
+    let lasts : last_opener peer (before ++ numbered seat number whats)
     ≡ option_or (then_some again seat) (last_opener peer before)
-    = last_opener-append peer before (made seat number whats)
+    = last_opener-append peer before (numbered seat number whats)
     ∙ ap (λ o. option_or o (last_opener peer before))
     (last_opener-made peer seat number whats) in
-    ap (λ a. (a && is_number (last_opener peer (before ++ made seat number whats)) by)
+    ap (λ a. (a && is_number (last_opener peer (before ++ numbered seat number whats)) by)
     && not (by == seat)) openings
     ∙ (ap (λ o. ((list_any (opens_at seat peer) before || again) && is_number o by)
     && not (by == seat)) lasts

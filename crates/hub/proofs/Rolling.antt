@@ -1,5 +1,5 @@
 -- What is counted under the lock, as the history goes on.
-use Rattle.std.proofs.Common.{◌≡◌, ◌≢◌, ℕ, ◌+◌, ◌<◌, ◌≤◌, ◌==◌, ◌^◌, ◌&&◌, Bool, true, false, cond}
+use Rattle.std.proofs.Common.{◌≡◌, ◌≢◌, ℕ, ◌+◌, ◌<◌, ◌≤◌, ◌==◌, ◌&&◌, Bool, true, false, cond}
 use Rattle.std.proofs.Common.{nat_lt, nat_le, List, [], ◌∷◌, ◌++◌, length, get_or, set, Option}
 use Rattle.std.proofs.Common.{None, Some, refl, sym, ap, ◌∙◌, arith}
 use Rattle.std.proofs.lemmas.Bool.Decides.{nat_tests}
@@ -17,9 +17,10 @@ use Rattle.agg_types.specs.declared.event.Event.{Event}
 use Rattle.agg_types.specs.declared.event.What.{What}
 use Rattle.agg_types.specs.declared.event.What.TheVariants.{Sit, Open, Put, Clear, AddFilter}
 use Rattle.agg_types.specs.declared.event.What.TheVariants.{Moment, Leave}
+use Rattle.agg_types.specs.declared.limits.TheConstants.{LAST_SEAT, MOST_SEATS, NUMBERS_END}
 use Rattle.fleet_model.proofs.Step.{one_more}
 use Rattle.fleet_model.specs.Machine.{counts_now, happened}
-use Rattle.fleet_model.specs.Seats.{is_next, is_number, is_sit, most_seats}
+use Rattle.fleet_model.specs.Seats.{is_next, is_number, is_sit}
 use Rattle.fleet_model.specs.Sessions.{last_opener, opens}
 use Rattle.fleet_model.specs.State.{State, state_of}
 use Rattle.hub.specs.History.{Beginning}
@@ -59,20 +60,20 @@ both true b p q = q
 both false b p q = p
 
 counts_by : (s : State) (e : Event) (what : What) → is_sit what ≡ false → fits s.config what ≡ true
-    → found e.seat s.seats ≡ Some e.seq → e.seq < 2 ^ 62
-    → (fits s.config what && is_next what e.seat e.seq (nat_lt (length s.seats) most_seats)
+    → found e.seat s.seats ≡ Some e.seq → e.seq < NUMBERS_END
+    → (fits s.config what && is_next what e.seat e.seq (nat_lt (length s.seats) MOST_SEATS)
     s.next_seat (found e.seat s.seats)) ≡ true
 counts_by s e what sits fit due small =
-    let plain : is_number (found e.seat s.seats) e.seq && nat_lt e.seq (2 ^ 62) ≡ true =
+    let plain : is_number (found e.seat s.seats) e.seq && nat_lt e.seq NUMBERS_END ≡ true =
     both _ _ (number_is (found e.seat s.seats) e.seq due) (grind (arith, nat_tests)) in
-    both _ _ fit (ap (λ b. cond b ((e.seq == 0) && nat_le e.seat (2 ^ 62) && nat_le s.next_seat
-    e.seat && nat_lt (length s.seats) most_seats) (is_number (found e.seat s.seats) e.seq
-    && nat_lt e.seq (2 ^ 62))) sits ∙ plain)
+    both _ _ fit (ap (λ b. cond b ((e.seq == 0) && nat_le e.seat LAST_SEAT && nat_le s.next_seat
+    e.seat && nat_lt (length s.seats) MOST_SEATS) (is_number (found e.seat s.seats) e.seq
+    && nat_lt e.seq NUMBERS_END)) sits ∙ plain)
 
 -- what a seat that sits may post counts under its next number
 pub post_counts : (b : Beginning) (counted : Counted) (seat seq : ℕ) (what : What)
     → IsCountOf counted b → is_sit what ≡ false → fits b.config what ≡ true
-    → found seat counted.seats ≡ Some seq → seq < 2 ^ 62
+    → found seat counted.seats ≡ Some seq → seq < NUMBERS_END
     → counts_now (state_at b) (event_at seat seq what) ≡ true
 unfolding counts_now
 post_counts b counted seat seq what is sits fit due small =
@@ -81,15 +82,15 @@ post_counts b counted seat seq what is sits fit due small =
 
 -- the next seat may sit down while fewer sit than may
 pub sit_counts : (b : Beginning) (counted : Counted) → IsCountOf counted b
-    → nat_lt (length counted.seats) most_seats ≡ true → counted.next_seat ≤ 2 ^ 62
+    → nat_lt (length counted.seats) MOST_SEATS ≡ true → counted.next_seat ≤ LAST_SEAT
     → counts_now (state_at b) (event_at counted.next_seat 0 Sit) ≡ true
 unfolding counts_now
 sit_counts b counted is free small =
     let above : (state_at b).next_seat ≤ counted.next_seat = omega (arith, is.next_seat) in
-    let in_range : nat_le counted.next_seat (2 ^ 62) ≡ true = grind (arith, nat_tests) in
+    let in_range : nat_le counted.next_seat LAST_SEAT ≡ true = grind (arith, nat_tests) in
     let new : nat_le (state_at b).next_seat counted.next_seat ≡ true = grind (arith, nat_tests) in
-    let room : nat_lt (length (state_at b).seats) most_seats ≡ true =
-    ap (λ (seats : List (ℕ × ℕ)). nat_lt (length seats) most_seats) (sym is.seats) ∙ free in
+    let room : nat_lt (length (state_at b).seats) MOST_SEATS ≡ true =
+    ap (λ (seats : List (ℕ × ℕ)). nat_lt (length seats) MOST_SEATS) (sym is.seats) ∙ free in
     both true _ refl (both _ _ (both _ _ (both true _ refl in_range) new) room)
 
 -- ---- one event more
@@ -161,7 +162,7 @@ length-last_after last seat Leave = refl
 -- a seat posts something
 pub post_more : (b : Beginning) (counted : Counted) (seat seq : ℕ) (what : What)
     → IsCountOf counted b → MayPost b.config what → found seat counted.seats ≡ Some seq
-    → seq < 2 ^ 62
+    → seq < NUMBERS_END
     → IsCountOf (record {
       seats = insert_entry nat_cmp counted.seats seat (seq + 1);
       next_seat =

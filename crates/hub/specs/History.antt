@@ -33,12 +33,6 @@ IsLonger events longer = IsPrefix events longer × (length events < length longe
 abbrev pub own : ℕ → List Event → List Event
 own seat events = filter (λ e. e.seat == seat) events
 
--- what happens at a seat, as events with its numbers from `seq` on
-abbrev pub made : ℕ → ℕ → List What → List Event
-made seat seq [] = []
-made seat seq (what ∷ whats) =
-    (record { seat = seat; seq = seq; what = what }) ∷ made seat (seq + 1) whats
-
 -- a beginning with these events more
 abbrev pub longer_by : Beginning → List Event → Beginning
 longer_by b events = record b { events = b.events ++ events }

@@ -5,15 +5,16 @@ use Rattle.agg_types.specs.declared.event.What.TheVariants.{Leave}
 use Rattle.hub.specs.declared.faults.PostFault.{PostFault}
 use Rattle.hub.specs.declared.faults.PostFault.TheVariants.{Replaced, NotNext, NoMemory, Pending}
 use Rattle.hub.specs.declared.faults.PostFault.TheVariants.{Spent}
-use Rattle.hub.specs.History.{Beginning, longer_by, made}
+use Rattle.hub.specs.History.{Beginning, longer_by}
 use Rattle.hub.specs.Copied.{whole}
 use Rattle.hub.specs.Kept.{Kept}
 use Rattle.hub.specs.Posts.{Follows, Seated, SitsDown}
 use Rattle.logbook.specs.Pages.{Book}
+use Rattle.fleet_model.specs.Seats.{numbered}
 
 -- the history has the batch more, and nothing else
 abbrev pub AddsBatch : Kept → Kept → Seated → List What → Type 0
-AddsBatch k k' p whats = k'.all ≡ longer_by k.all (made p.seat p.number whats)
+AddsBatch k k' p whats = k'.all ≡ longer_by k.all (numbered p.seat p.number whats)
 
 -- this list is the whole history, and is shown
 abbrev pub IsShownAll : Kept → Beginning → Type 0

@@ -1,5 +1,5 @@
 -- What a post tells: which list its receipt shows, and what a refusal leaves.
-use Rattle.std.specs.Prelude.{◌≡◌, ◌≢◌, ℕ, ◌+◌, ◌-◌, ◌<◌, ◌^◌, List, [], ◌∷◌, length, Bool, true}
+use Rattle.std.specs.Prelude.{◌≡◌, ◌≢◌, ℕ, ◌+◌, ◌≤◌, List, [], ◌∷◌, length, Bool, true}
 use Rattle.std.specs.Prelude.{false, ◌&&◌, ◌==◌, not, ◌++◌}
 use Rattle.std.specs.List.{list_any}
 use mathlib.Core.List.{IsPrefix}
@@ -7,14 +7,15 @@ use Rattle.agg_types.specs.declared.event.Event.{Event}
 use Rattle.agg_types.specs.declared.event.What.{What}
 use Rattle.agg_types.specs.declared.event.What.TheVariants.{Sit, Open, Put, Clear, AddFilter}
 use Rattle.agg_types.specs.declared.event.What.TheVariants.{Moment, Leave}
+use Rattle.agg_types.specs.declared.limits.TheConstants.{NUMBERS_END}
 use Rattle.fleet_model.specs.Laws.{opens_at}
 use Rattle.fleet_model.specs.Rows.{putter}
-use Rattle.fleet_model.specs.Seats.{is_number}
+use Rattle.fleet_model.specs.Seats.{is_number, numbered}
 use Rattle.fleet_model.specs.Sessions.{last_opener}
 use Rattle.hub.specs.declared.faults.PostFault.{PostFault}
 use Rattle.hub.specs.declared.faults.PostFault.TheVariants.{Replaced, NotNext, NoMemory, Pending}
 use Rattle.hub.specs.declared.faults.PostFault.TheVariants.{Spent}
-use Rattle.hub.specs.History.{AllCount, Beginning, longer_by, made, own}
+use Rattle.hub.specs.History.{AllCount, Beginning, longer_by, own}
 
 -- a seat, the number of its next event, and the list that it has seen
 pub record Seated : Type 0 where
@@ -46,7 +47,8 @@ is_replaced seat by events peer =
 pub record IsReplacedPut (p : Seated) (before : List Event) (first : List What) (put : What)
     (by : ℕ) : Type 0 where
   pub puts : is_put put ≡ true
-  pub replaced : is_replaced p.seat by (before ++ made p.seat p.number first) (putter put) ≡ true
+  pub replaced : is_replaced p.seat by (before ++ numbered p.seat p.number first) (putter put)
+      ≡ true
 
 -- some post of a batch is one, at its place
 pub record FindsReplaced (p : Seated) (before : List Event) (whats : List What) (by : ℕ)
@@ -67,7 +69,7 @@ pub record ShowsBatch (p : Seated) (whats : List What) (shown : Beginning) : Typ
   pub before : Beginning
   pub seen : Follows p.seen before
   pub owns : length (own p.seat before.events) ≡ p.number
-  pub posted : shown ≡ longer_by before (made p.seat p.number whats)
+  pub posted : shown ≡ longer_by before (numbered p.seat p.number whats)
   pub legal : AllCount shown.config shown.opening shown.events
   pub none_replaced : NoneReplaced p before.events whats
 
@@ -94,7 +96,7 @@ advanced p count = record p { number = p.number + count }
 
 -- the numbers of a seat don't go as far
 abbrev pub IsSpent : Seated → List What → Type 0
-IsSpent p whats = 2 ^ 62 - 1 < p.number + length whats
+IsSpent p whats = NUMBERS_END ≤ p.number + length whats
 
 -- the pass after a refusal, and what it tells
 abbrev pub PostRefused : Seated → Seated → List What → PostFault → Type 0
@@ -115,5 +117,5 @@ LeaveRefused p p' Spent = ⊥
 -- a seat that sat down: its own events are that alone, and its next number is 1
 pub record SitsDown (p : Seated) : Type 0 where
   pub number : p.number ≡ 1
-  pub own_is : own p.seat p.seen.events ≡ made p.seat 0 (Sit ∷ [])
+  pub own_is : own p.seat p.seen.events ≡ numbered p.seat 0 (Sit ∷ [])
   pub legal : AllCount p.seen.config p.seen.opening p.seen.events

@@ -1,10 +1,11 @@
 //! The hub: one lock, one history, and lenses that take no lock.
 
-ghost use Rattle.std.specs.Prelude.{◌≡◌, ◌<◌, ◌≤◌, ◌^◌, [], ◌∷◌, ◌↔◌, true, false, IfOk, IfSome};
+ghost use Rattle.std.specs.Prelude.{◌≡◌, ◌<◌, ◌≤◌, [], ◌∷◌, ◌↔◌, true, false, IfOk, IfSome};
 ghost use Rattle.std.specs.Prelude.{IsTrue, OnOk, MatchResult};
 ghost use Rattle.std.specs.List.{All};
 ghost use Rattle.agg_types.specs.Check.{config_faults};
 ghost use Rattle.agg_types.specs.declared.event.What.TheVariants.{Leave};
+ghost use Rattle.agg_types.specs.declared.limits.TheConstants.{LAST_MOMENT};
 ghost use Rattle.hub.specs.Hosting.{IsOpening};
 ghost use Rattle.hub.specs.Posts.{Follows, LeaveRefused, PostRefused, PostsAfter, ShowsBatch};
 ghost use Rattle.hub.specs.Posts.{SitsDown};
@@ -54,7 +55,7 @@ impl Opening {
     #[tactic(auto, unfolding(fleet_model::specs::Machine::opened))]
     pub fn new(alloc: Global, config: Config, moment: u64) -> Result<Opening, NoMemory>
         requires checked { config_faults config ≡ [] }
-        requires in_range { moment ≤ 2 ^ 62 }
+        requires in_range { moment ≤ LAST_MOMENT }
         ensures { IfOk result (IsOpening config moment) }
     {
         let first = Book::new(alloc, config.duplicate(alloc)?, moment)?;
@@ -147,8 +148,8 @@ impl<J: Naming, R: Wait + Drop> Hub<J, R> {
         }
     }
 
-    /// Takes a seat. Seats are numbered from 0, each number is given once, and at most 512 sit at a
-    /// time.
+    /// Takes a seat. Seats are numbered from 0, each number is given once, and at most
+    /// `MOST_SEATS` sit at a time.
     pub fn seat<W: Wait>(&self, rt: &W) -> Result<Pass, SeatFault>
         ensures { IfOk result (λ p. SitsDown p × Follows self.now p.seen) }
     {

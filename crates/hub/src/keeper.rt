@@ -6,9 +6,10 @@ ghost use Rattle.std.specs.BTreeMap.{is_at};
 ghost use Rattle.std.specs.List.{All};
 ghost use Rattle.std.specs.Map.{lookup};
 ghost use Rattle.std.specs.Ordering.{nat_cmp};
-ghost use Rattle.hub.specs.History.{AllCount, longer_by, made, own};
+ghost use Rattle.hub.specs.History.{AllCount, longer_by, own};
 ghost use Rattle.left_right.specs.Sides.{view};
 ghost use Rattle.fleet_model.specs.Machine.{opened};
+ghost use Rattle.fleet_model.specs.Seats.{numbered};
 ghost use Rattle.hub.specs.Copied.{whole};
 ghost use Rattle.hub.specs.Kept.{IsTold};
 ghost use Rattle.hub.specs.Keeping.{IsShownAll, KeepsAtErr, KeepsAtOk};
@@ -25,7 +26,7 @@ use crate::pass::Pass;
 use crate::receipt::Receipt;
 use crate::roll::Roll;
 use crate::store::hang;
-use agg_types::{NoMemory, What};
+use agg_types::{NUMBERS_END, NoMemory, What};
 use book::Book;
 use left_right::writer::Writer;
 use std::alloc::Global;
@@ -34,9 +35,6 @@ use std::marker::{Model, PhantomData};
 use std::sync::Wait;
 
 mod seating;
-
-/// The greatest number of an event.
-const LAST_NUMBER: u64 = (1 << 62) - 1;
 
 #[derive(Drop)]
 pub struct Keeper<J: Naming, R: Wait + Drop> {
@@ -156,11 +154,11 @@ impl<J: Naming, R: Wait + Drop> Keeper<J, R> {
         requires fits { All (MayPost self.all.config) whats.items }
         requires due { lookup (is_at (nat_cmp pass.old.seat)) self.roll.seats
             ≡ Some pass.old.number }
-        requires last { pass.old.number + vec_len whats < 2 ^ 62 }
+        requires last { pass.old.number + vec_len whats < NUMBERS_END }
         ensures shown { result.0.shown ≡ self.shown }
         ensures all { MatchResult result.1
             (λ _. result.0.all
-            ≡ longer_by self.all (made pass.old.seat pass.old.number whats.items))
+            ≡ longer_by self.all (numbered pass.old.seat pass.old.number whats.items))
             (λ back. (back ≡ whats) × (result.0.all ≡ self.all)) }
         ensures pass { MatchResult result.1 (λ _. pass.new ≡ advanced pass.old (vec_len whats))
             (λ _. pass.new ≡ pass.old) }
@@ -248,7 +246,7 @@ impl<J: Naming, R: Wait + Drop> Keeper<J, R> {
             };
             return (keeper, Err(PostFault::Replaced { by, shown }));
         }
-        if found > LAST_NUMBER || whats.len() as u64 > LAST_NUMBER - found {
+        if found >= NUMBERS_END || whats.len() as u64 >= NUMBERS_END - found {
             return (self, Err(PostFault::Spent));
         }
         self.put_in(rt, log, pass, whats)
@@ -270,7 +268,7 @@ impl<J: Naming, R: Wait + Drop> Keeper<J, R> {
         requires due { lookup (is_at (nat_cmp pass.old.seat)) self.roll.seats
             ≡ Some pass.old.number }
         requires none_replaced { NoneReplaced pass.old self.all.events whats.items }
-        requires last { pass.old.number + vec_len whats < 2 ^ 62 }
+        requires last { pass.old.number + vec_len whats < NUMBERS_END }
         ensures kept { MatchResult result.1 (KeepsAtOk self result.0 pass.old whats.items)
             (KeepsAtErr self result.0 pass.old whats.items) }
         ensures told { MatchResult result.1 (PostsAfter pass.old pass.new whats.items)

@@ -1,11 +1,13 @@
-ghost use Rattle.std.specs.Prelude.{◌≡◌, ◌≤◌, ◌<◌, ◌+◌, ◌^◌, length, Some, vec_len, MatchOption};
+ghost use Rattle.std.specs.Prelude.{◌≡◌, ◌≤◌, ◌<◌, ◌+◌, length, Some, vec_len, MatchOption};
 ghost use Rattle.std.specs.BTreeMap.{is_at};
 ghost use Rattle.std.specs.List.{All};
 ghost use Rattle.std.specs.Map.{lookup};
 ghost use Rattle.std.specs.Ordering.{nat_cmp};
 ghost use Rattle.std.specs.VecDeque.{deque_len, deque_capacity};
+ghost use Rattle.agg_types.specs.declared.limits.TheConstants.{NUMBERS_END};
+ghost use Rattle.fleet_model.specs.Seats.{numbered};
 ghost use Rattle.hub.specs.Copied.{Stores};
-ghost use Rattle.hub.specs.History.{longer_by, made, own};
+ghost use Rattle.hub.specs.History.{longer_by, own};
 ghost use Rattle.hub.specs.Posts.{FindsReplaced, NoneReplaced, advanced};
 ghost use Rattle.hub.specs.Roll.{IsCountOf, MayPost};
 ghost use Rattle.hub.specs.Sitting.{Recalls};
@@ -126,10 +128,10 @@ impl Pass {
         requires fits { All (MayPost front.old.config) whats.items }
         requires due { lookup (is_at (nat_cmp self.old.seat)) roll.old.seats
             ≡ Some self.old.number }
-        requires last { self.old.number + vec_len whats < 2 ^ 62 }
+        requires last { self.old.number + vec_len whats < NUMBERS_END }
         requires room { deque_len queue.old + vec_len whats ≤ deque_capacity queue.old }
         ensures front { front.new
-            ≡ longer_by front.old (made self.old.seat self.old.number whats.items) }
+            ≡ longer_by front.old (numbered self.old.seat self.old.number whats.items) }
         ensures stored { Stores queue.old.items front.old queue.new.items front.new }
         ensures counted { IsCountOf roll.new front.new }
         ensures pass { self.new ≡ advanced self.old (vec_len whats) }

@@ -1,23 +1,18 @@
 //! What the locked side of the history counts: the seats that sit, and who opened which peer last.
 
-ghost use Rattle.std.specs.Prelude.{◌≡◌, [], ◌≤◌, ◌<◌, ◌^◌, ◌+◌, ◌-◌, ◌∷◌, false, true, replicate};
+ghost use Rattle.std.specs.Prelude.{◌≡◌, [], ◌≤◌, ◌<◌, ◌+◌, ◌-◌, ◌∷◌, false, true, replicate};
 ghost use Rattle.std.specs.Prelude.{length, nat_lt, None, Some, slice_index_or, IfOk, OnOk, OnErr};
 ghost use Rattle.std.specs.BTreeMap.{insert_entry, is_at};
 ghost use Rattle.std.specs.Map.{lookup, remove_entry};
 ghost use Rattle.std.specs.Ordering.{nat_cmp};
-ghost use Rattle.fleet_model.specs.Seats.{is_sit, is_leave, most_seats};
+ghost use Rattle.agg_types.specs.declared.limits.TheConstants.{NUMBERS_END};
+ghost use Rattle.fleet_model.specs.Seats.{is_sit, is_leave};
 ghost use Rattle.hub.specs.Roll.{last_after};
 
-use agg_types::{Event, NoMemory, What};
+use agg_types::{Event, LAST_SEAT, MOST_SEATS, NoMemory, What};
 use std::alloc::Global;
 use std::collections::BTreeMap;
 use std::marker::Model;
-
-/// How many seats may sit at once.
-const MOST_SEATS: usize = 512;
-
-/// The greatest number of a seat.
-pub const LAST_SEAT: u64 = 1 << 62;
 
 #[derive(Drop)]
 pub struct Roll {
@@ -50,8 +45,8 @@ impl Roll {
 
     /// Whether another seat may sit down.
     pub fn has_free_seat(&self) -> bool
-        ensures seats { result ≡ true → nat_lt (length self.now.seats) most_seats ≡ true }
-        ensures number { result ≡ true → self.now.next_seat ≤ 2 ^ 62 }
+        ensures seats { result ≡ true → nat_lt (length self.now.seats) MOST_SEATS ≡ true }
+        ensures number { result ≡ true → self.now.next_seat ≤ LAST_SEAT }
     {
         self.seats.len() < MOST_SEATS && self.next_seat <= LAST_SEAT
     }
@@ -89,7 +84,7 @@ impl Roll {
 
     /// The next seat sits down. After NoMemory nothing has changed.
     pub fn sit(&mut self) -> Result<(), NoMemory>
-        requires { self.old.next_seat ≤ 2 ^ 62 }
+        requires { self.old.next_seat ≤ LAST_SEAT }
         ensures ok { OnOk result
             (self.new ≡ record {
               seats =
@@ -109,7 +104,7 @@ impl Roll {
     pub fn count(&mut self, event: &Event)
         requires due { lookup (is_at (nat_cmp event.now.seat)) self.old.seats
             ≡ Some event.now.seq }
-        requires small { event.now.seq < 2 ^ 62 }
+        requires small { event.now.seq < NUMBERS_END }
         ensures { self.new ≡
             record {
               seats = insert_entry nat_cmp self.old.seats event.now.seat (event.now.seq + 1);

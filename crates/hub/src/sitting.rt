@@ -1,7 +1,8 @@
 //! What a pass keeps of its own seat.
 
-ghost use Rattle.std.specs.Prelude.{◌≡◌, ◌<◌, ◌^◌, ◌+◌, false, replicate, IfOk};
+ghost use Rattle.std.specs.Prelude.{◌≡◌, ◌<◌, ◌+◌, false, replicate, IfOk};
 ghost use Rattle.std.specs.List.{list_any};
+ghost use Rattle.agg_types.specs.declared.limits.TheConstants.{NUMBERS_END};
 ghost use Rattle.fleet_model.specs.Sessions.{opens};
 ghost use Rattle.hub.specs.Sitting.{opened_after, replacer, replacer_at};
 
@@ -56,7 +57,7 @@ impl Sitting {
 
     /// Something happens at the seat, under its next number.
     pub fn make(&mut self, what: What) -> Event
-        requires { self.old.number < 2 ^ 62 }
+        requires { self.old.number < NUMBERS_END }
         ensures event { result
             ≡ record { seat = self.old.seat; seq = self.old.number; what = what } }
         ensures recalled { self.new ≡

@@ -1,14 +1,16 @@
 //! Events on their way into the history.
 
-ghost use Rattle.std.specs.Prelude.{◌≡◌, ◌<◌, ◌≤◌, ◌^◌, ◌+◌, ◌++◌, ◌∷◌, [], Some, true, vec_len};
+ghost use Rattle.std.specs.Prelude.{◌≡◌, ◌<◌, ◌≤◌, ◌+◌, ◌++◌, ◌∷◌, [], Some, true, vec_len};
 ghost use Rattle.std.specs.BTreeMap.{is_at};
 ghost use Rattle.std.specs.List.{All};
 ghost use Rattle.std.specs.Map.{lookup};
 ghost use Rattle.std.specs.Ordering.{nat_cmp};
 ghost use Rattle.std.specs.VecDeque.{deque_len, deque_capacity};
+ghost use Rattle.agg_types.specs.declared.limits.TheConstants.{NUMBERS_END};
 ghost use Rattle.fleet_model.specs.Machine.{counts_now};
+ghost use Rattle.fleet_model.specs.Seats.{numbered};
 ghost use Rattle.fleet_model.specs.State.{state_of};
-ghost use Rattle.hub.specs.History.{longer_by, made};
+ghost use Rattle.hub.specs.History.{longer_by};
 ghost use Rattle.hub.specs.Copied.{Stores};
 ghost use Rattle.hub.specs.Roll.{IsCountOf, MayPost};
 ghost use Rattle.hub.specs.Sitting.{Recalls};
@@ -66,10 +68,10 @@ pub fn store_all<R: Wait>(
     requires fits { All (MayPost front.old.config) whats.items }
     requires due { lookup (is_at (nat_cmp sitting.old.seat)) roll.old.seats
         ≡ Some sitting.old.number }
-    requires last { sitting.old.number + vec_len whats < 2 ^ 62 }
+    requires last { sitting.old.number + vec_len whats < NUMBERS_END }
     requires room { deque_len queue.old + vec_len whats ≤ deque_capacity queue.old }
     ensures front { front.new
-        ≡ longer_by front.old (made sitting.old.seat sitting.old.number whats.items) }
+        ≡ longer_by front.old (numbered sitting.old.seat sitting.old.number whats.items) }
     ensures stored { Stores queue.old.items front.old queue.new.items front.new }
     ensures counted { IsCountOf roll.new front.new }
     ensures recalled { Recalls sitting.new front.new }

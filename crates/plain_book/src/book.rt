@@ -1,16 +1,16 @@
-ghost use Rattle.std.specs.Prelude.{◌≡◌, ◌<◌, ◌≤◌, ◌^◌, ℕ, List, map, length, nat_lt, false, []};
+ghost use Rattle.std.specs.Prelude.{◌≡◌, ◌<◌, ◌≤◌, ℕ, List, map, length, nat_lt, false, []};
 ghost use Rattle.std.specs.Prelude.{◌∷◌, ◌++◌, IfOk, IsOk, OnOk, OnErr};
 ghost use Rattle.std.specs.List.{filter_map};
 ghost use Rattle.agg_types.specs.Check.{config_faults};
 ghost use Rattle.agg_types.specs.declared.config.Config.{Config};
 ghost use Rattle.agg_types.specs.declared.event.Event.{Event};
 ghost use Rattle.agg_types.specs.declared.event.What.TheVariants.{Leave};
+ghost use Rattle.agg_types.specs.declared.limits.TheConstants.{LAST_MOMENT, MOST_SEATS};
 ghost use Rattle.fleet_model.specs.Answers.{filter_of, keys_of, listed, set_at, summed};
 ghost use Rattle.fleet_model.specs.Machine.{after, counts_now, event_of, number_of, opened};
 ghost use Rattle.fleet_model.specs.Machine.{session_of};
 ghost use Rattle.fleet_model.specs.Next.{IsNextChange, IsNextChangeBy, table_flat_from};
 ghost use Rattle.fleet_model.specs.Ranking.{rank_of, ranked};
-ghost use Rattle.fleet_model.specs.Seats.{most_seats};
 ghost use Rattle.fleet_model.specs.Sound.{IsSound};
 ghost use Rattle.fleet_model.specs.State.{Stands};
 ghost use Rattle.book_frame.specs.Lent.{key_and_sums, shown_row, with_sums};
@@ -63,7 +63,7 @@ impl Book {
     #[tactic(auto, unfolding(fleet_model::specs::State::Stands))]
     pub fn new(alloc: Global, config: Config, moment: u64) -> Result<Book, NoMemory>
         requires checked { config_faults config ≡ [] }
-        requires in_range { moment ≤ 2 ^ 62 }
+        requires in_range { moment ≤ LAST_MOMENT }
         ensures opened { IfOk result (λ book. book ≡ opened config moment) }
         ensures stands { IfOk result (λ book. Stands book config moment []) }
         ensures sound { IfOk result IsSound }
@@ -105,7 +105,7 @@ impl Book {
 
     /// Whether fewer seats sit than may. Takes no memory.
     pub fn has_free_seat(&self) -> bool
-        ensures { result ≡ nat_lt (length self.now.seats) most_seats }
+        ensures { result ≡ nat_lt (length self.now.seats) MOST_SEATS }
     {
         has_free_seat(&self.machine.seats)
     }

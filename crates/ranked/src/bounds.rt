@@ -1,6 +1,7 @@
 ghost use Rattle.std.specs.Prelude.{◌≡◌, ◌≢◌, ◌≤◌, ◌+◌, ◌*◌, [], IfOk, OnOk, OnErr};
 ghost use Rattle.std.specs.Option.{IsSomeAnd};
 ghost use Rattle.std.specs.Map.{keys_of};
+ghost use Rattle.agg_types.specs.declared.limits.TheConstants.{LONGEST_RANK};
 ghost use Rattle.ranked.specs.Bounds.{AreAllBounded, AreOthersKept, IsByKey, IsListOf, bound_at};
 ghost use Rattle.ranked.specs.Bounds.{first_ranked, zeros_at};
 
@@ -90,7 +91,7 @@ impl Bounds {
         now: u64,
         values: &'a V,
     ) -> Result<Ranked<'a, V>, NoMemory>
-        requires short { rank.now.n ≤ 1000 }
+        requires short { rank.now.n ≤ LONGEST_RANK }
         requires bounds { AreAllBounded self.now
             (λ key. V.living values.now rank.now.table key now)
             (λ key. V.summed values.now rank.now.table key rank.now.col now) }

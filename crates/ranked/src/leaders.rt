@@ -1,5 +1,6 @@
 ghost use Rattle.std.specs.Prelude.{◌≡◌, ◌<◌, ◌≤◌, ℕ, [], length, IfOk, OnOk, OnErr};
 ghost use Rattle.std.specs.Map.{keys_of};
+ghost use Rattle.agg_types.specs.declared.limits.TheConstants.{LONGEST_RANK};
 ghost use Rattle.ranked.specs.Bounds.{AreAllBounded, IsBounded, IsByKey, IsListOf, bound_at};
 ghost use Rattle.ranked.specs.Bounds.{first_ranked};
 ghost use Rattle.ranked.specs.Leaders.{IsOneKeyOf, bounds_of};
@@ -67,7 +68,7 @@ impl Leaders {
         values: &'a V,
     ) -> Result<Ranked<'a, V>, NoMemory>
         requires there { list < length self.now }
-        requires short { rank.now.n ≤ 1000 }
+        requires short { rank.now.n ≤ LONGEST_RANK }
         requires bounds { AreAllBounded (bounds_of self.now list)
             (λ key. V.living values.now rank.now.table key now)
             (λ key. V.summed values.now rank.now.table key rank.now.col now) }

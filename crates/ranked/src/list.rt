@@ -2,6 +2,7 @@ ghost use Rattle.std.specs.Prelude.{◌≡◌, ◌≤◌, [], length, IfOk};
 ghost use Rattle.std.specs.Iterator.{at_most};
 ghost use Rattle.std.specs.Cmp.Lexicographic.{slice_cmp};
 ghost use Rattle.std.specs.Ordering.{nat_cmp};
+ghost use Rattle.agg_types.specs.declared.limits.TheConstants.{LONGEST_RANK};
 ghost use Rattle.expiry_wheel.specs.Entries.{IsInOrder};
 ghost use Rattle.ranked.specs.Walk.{AreBounds, GivesFirst, found};
 
@@ -62,7 +63,7 @@ impl<'a, V: Values> Ranked<'a, V> {
         now: u64,
         values: &'a V,
     ) -> Result<Ranked<'a, V>, NoMemory>
-        requires short { rank.now.n ≤ 1000 }
+        requires short { rank.now.n ≤ LONGEST_RANK }
         requires bounds { AreBounds (λ key. V.living values.now rank.now.table key now)
             (λ key. V.summed values.now rank.now.table key rank.now.col now) index.now }
         ensures list { IfOk result (λ list. list.left

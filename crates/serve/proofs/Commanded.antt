@@ -12,6 +12,7 @@ use Rattle.agg_types.specs.declared.config.Config.{Config}
 use Rattle.agg_types.specs.declared.event.Event.{Event}
 use Rattle.agg_types.specs.declared.event.What.{What}
 use Rattle.agg_types.specs.declared.event.What.TheVariants.{Sit}
+use Rattle.fleet_model.specs.Seats.{numbered}
 use Rattle.fleet_model.specs.State.{Stands, State}
 use Rattle.show_clear.specs.Change.{ChangeFits, asked_event}
 use Rattle.show_clear.specs.declared.command.Command.{Command}
@@ -19,7 +20,7 @@ use Rattle.show_clear.specs.declared.command.Change.TheVariants.{Clear, AddFilte
 use Rattle.show_clear.specs.declared.command.Command.TheVariants.{Ask, Change as Changes}
 use Rattle.hub.proofs.Fronts.{prefix_self, prefix_trans}
 use Rattle.hub.proofs.Rolling.{fits_at}
-use Rattle.hub.specs.History.{Beginning, made, own}
+use Rattle.hub.specs.History.{Beginning, own}
 use Rattle.hub.specs.Posts.{Follows}
 use Rattle.hub.specs.Roll.{MayPost}
 use Rattle.hub.specs.Views.{IsBookOf, Seeing}
@@ -106,7 +107,7 @@ own_on seat a b follows = (
 shows_on : (seat : ℕ) (whats : List What) (a b : Beginning) → ShowsTold seat whats a → Follows a b
     → ShowsTold seat whats b
 shows_on seat whats a b shows follows =
-    λ some. prefix_trans (made seat 0 (Sit ∷ whats)) (own seat a.events) (own seat b.events)
+    λ some. prefix_trans (numbered seat 0 (Sit ∷ whats)) (own seat a.events) (own seat b.events)
     (shows some) (own_on seat a b follows)
 
 -- what the last receipt shows is seen once it was learned

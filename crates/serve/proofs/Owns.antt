@@ -8,7 +8,8 @@ use mathlib.Core.List.{IsPrefix}
 use Rattle.agg_types.specs.declared.event.Event.{Event}
 use Rattle.agg_types.specs.declared.event.What.{What}
 use Rattle.agg_types.specs.declared.event.What.TheVariants.{Sit, Leave}
-use Rattle.hub.specs.History.{Beginning, longer_by, made, own}
+use Rattle.fleet_model.specs.Seats.{numbered}
+use Rattle.hub.specs.History.{Beginning, longer_by, own}
 use Rattle.hub.specs.declared.faults.PostFault.{PostFault}
 use Rattle.hub.specs.declared.faults.PostFault.TheVariants.{Replaced, NotNext, NoMemory, Pending}
 use Rattle.hub.specs.declared.faults.PostFault.TheVariants.{Spent}
@@ -25,34 +26,35 @@ own_cons seat e events b is true_is = ap (λ b. cond b (e ∷ own seat events) (
     (is ∙ true_is)
 
 -- what is made at a seat is its own
-pub own-made : (seat n : ℕ) (whats : List What) → own seat (made seat n whats) ≡ made seat n whats
+pub own-made : (seat n : ℕ) (whats : List What) → own seat (numbered seat n whats)
+    ≡ numbered seat n whats
 own-made seat n [] = refl
 own-made seat n (what ∷ whats) =
     let e : Event = record { seat = seat; seq = n; what = what } in
-    own_cons seat e (made seat (n + 1) whats) (seat == seat) refl (same_seat seat)
+    own_cons seat e (numbered seat (n + 1) whats) (seat == seat) refl (same_seat seat)
     ∙ ap (λ es. e ∷ es) (own-made seat (n + 1) whats)
 
-pub length-made : (seat n : ℕ) (whats : List What) → length (made seat n whats) ≡ length whats
+pub length-made : (seat n : ℕ) (whats : List What) → length (numbered seat n whats) ≡ length whats
 length-made seat n [] = refl
 length-made seat n (what ∷ whats) = omega (arith, length-made seat (n + 1) whats)
 
-pub made-append : (seat n : ℕ) (some more : List What) → made seat n (some ++ more)
-    ≡ made seat n some ++ made seat (n + length some) more
-made-append seat n [] more = ap (λ k. made seat k more) (omega arith)
+pub made-append : (seat n : ℕ) (some more : List What) → numbered seat n (some ++ more)
+    ≡ numbered seat n some ++ numbered seat (n + length some) more
+made-append seat n [] more = ap (λ k. numbered seat k more) (omega arith)
 made-append seat n (what ∷ some) more =
     let e : Event = record { seat = seat; seq = n; what = what } in
     ap (λ es. e ∷ es) (made-append seat (n + 1) some more
-    ∙ ap (λ k. made seat (n + 1) some ++ made seat k more) (omega arith))
+    ∙ ap (λ k. numbered seat (n + 1) some ++ numbered seat k more) (omega arith))
 
 -- what a seat told, and how many events more stand in a list that shows a batch, before the batch
 pub before_batch : (seat : ℕ) (whats : List What) (seen before : Beginning) (waiting : ℕ)
     → Tells seat whats seen → IsPrefix seen.events before.events → length (own seat before.events)
     ≡ 1 + length whats + waiting
     → (more : List Event) × (length more ≡ waiting)
-    × (own seat before.events ≡ made seat 0 (Sit ∷ whats) ++ more)
+    × (own seat before.events ≡ numbered seat 0 (Sit ∷ whats) ++ more)
 before_batch seat whats seen before waiting tells prefix count =
     let more : List Event = own seat prefix.0 in
-    let split : own seat before.events ≡ made seat 0 (Sit ∷ whats) ++ more =
+    let split : own seat before.events ≡ numbered seat 0 (Sit ∷ whats) ++ more =
     ap (own seat) (sym prefix.1) ∙ (filter-append (λ (e : Event). e.seat == seat)
     seen.events prefix.0
     ∙ ap (λ es. es ++ more) tells) in
@@ -60,7 +62,7 @@ before_batch seat whats seen before waiting tells prefix count =
       more,
       omega (
         arith,
-        length-append (made seat 0 (Sit ∷ whats)) more,
+        length-append (numbered seat 0 (Sit ∷ whats)) more,
         length-made seat 0 (Sit ∷ whats),
       ),
       split,
@@ -68,11 +70,11 @@ before_batch seat whats seen before waiting tells prefix count =
 
 -- the events of a list that shows a batch
 pub own-batch : (seat n : ℕ) (before shown : Beginning) (batch : List What)
-    → shown ≡ longer_by before (made seat n batch)
-    → own seat shown.events ≡ own seat before.events ++ made seat n batch
+    → shown ≡ longer_by before (numbered seat n batch)
+    → own seat shown.events ≡ own seat before.events ++ numbered seat n batch
 own-batch seat n before shown batch is =
     ap (λ (b : Beginning). own seat b.events) is
-    ∙ (filter-append (λ (e : Event). e.seat == seat) before.events (made seat n batch)
+    ∙ (filter-append (λ (e : Event). e.seat == seat) before.events (numbered seat n batch)
     ∙ ap (λ es. own seat before.events ++ es) (own-made seat n batch))
 
 nothing : (more : List Event) → length more ≡ 0 → more ≡ []
@@ -87,12 +89,12 @@ tells_batch p whats batch shown tells number shows =
     let b = before_batch p.seat whats p.seen shows.before 0 tells shows.seen.events (shows.owns
     ∙ omega arith) in
     let none : b.0 ≡ [] = nothing b.0 b.1 in
-    let before : own p.seat shows.before.events ≡ made p.seat 0 (Sit ∷ whats) =
-    b.2 ∙ (ap (λ es. made p.seat 0 (Sit ∷ whats) ++ es) none
-    ∙ append-nil (made p.seat 0 (Sit ∷ whats))) in
+    let before : own p.seat shows.before.events ≡ numbered p.seat 0 (Sit ∷ whats) =
+    b.2 ∙ (ap (λ es. numbered p.seat 0 (Sit ∷ whats) ++ es) none
+    ∙ append-nil (numbered p.seat 0 (Sit ∷ whats))) in
     own-batch p.seat p.number shows.before shown batch shows.posted
-    ∙ (ap (λ es. es ++ made p.seat p.number batch) before
-    ∙ (ap (λ k. made p.seat 0 (Sit ∷ whats) ++ made p.seat k batch) (number ∙ omega arith)
+    ∙ (ap (λ es. es ++ numbered p.seat p.number batch) before
+    ∙ (ap (λ k. numbered p.seat 0 (Sit ∷ whats) ++ numbered p.seat k batch) (number ∙ omega arith)
     ∙ sym (made-append p.seat 0 (Sit ∷ whats) batch)))
 
 -- a list that shows the leave of a pass
@@ -106,8 +108,9 @@ left_with p whats waiting shown tells number shows =
       more = b.0;
       count = b.1;
       events = own-batch p.seat p.number shows.before shown (Leave ∷ []) shows.posted
-          ∙ (ap (λ es. es ++ made p.seat p.number (Leave ∷ [])) b.2
-          ∙ ap (λ k. made p.seat 0 (Sit ∷ whats) ++ b.0 ++ made p.seat k (Leave ∷ [])) number);
+          ∙ (ap (λ es. es ++ numbered p.seat p.number (Leave ∷ [])) b.2
+          ∙ ap (λ k. numbered p.seat 0 (Sit ∷ whats) ++ b.0
+          ++ numbered p.seat k (Leave ∷ [])) number);
     }
 
 -- what a leave shows, if it shows something

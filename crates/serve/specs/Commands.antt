@@ -7,6 +7,7 @@ use Rattle.std.specs.Option.{option_to_list}
 use mathlib.Core.List.{IsPrefix}
 use Rattle.agg_types.specs.declared.event.What.{What}
 use Rattle.agg_types.specs.declared.event.What.TheVariants.{Sit}
+use Rattle.fleet_model.specs.Seats.{numbered}
 use Rattle.fleet_model.specs.State.{State}
 use Rattle.show_clear.specs.Answer.{IsAnswer}
 use Rattle.show_clear.specs.Change.{asked_event}
@@ -15,7 +16,7 @@ use Rattle.show_clear.specs.Refusal.{refusal_text}
 use Rattle.show_clear.specs.declared.command.Command.{Command}
 use Rattle.show_clear.specs.declared.fault.CommandFault.{CommandFault}
 use Rattle.show_clear.specs.declared.fault.CommandFault.TheVariants.{NoMemory}
-use Rattle.hub.specs.History.{Beginning, made, own}
+use Rattle.hub.specs.History.{Beginning, own}
 use Rattle.hub.specs.Posts.{Follows}
 use Rattle.hub.specs.Views.{IsBookOf}
 use Rattle.serve.specs.declared.served.Cause.{Cause}
@@ -63,7 +64,8 @@ pub record Reply : Type 0 where
 
 -- a list shows what a seat told, if it told anything
 abbrev pub ShowsTold : ℕ → List What → Beginning → Type 0
-ShowsTold seat whats list = whats ≢ [] → IsPrefix (made seat 0 (Sit ∷ whats)) (own seat list.events)
+ShowsTold seat whats list = whats ≢ []
+    → IsPrefix (numbered seat 0 (Sit ∷ whats)) (own seat list.events)
 
 -- a line is answered over the book of some beginning of the hub's history, which shows all that its
 -- seat told before

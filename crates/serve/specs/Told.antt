@@ -4,16 +4,17 @@ use Rattle.std.specs.Prelude.{Result, Ok, Err}
 use Rattle.agg_types.specs.declared.event.Event.{Event}
 use Rattle.agg_types.specs.declared.event.What.{What}
 use Rattle.agg_types.specs.declared.event.What.TheVariants.{Sit, Leave}
+use Rattle.fleet_model.specs.Seats.{numbered}
 use Rattle.hub.specs.declared.faults.PostFault.{PostFault}
 use Rattle.hub.specs.declared.faults.PostFault.TheVariants.{Replaced, NotNext, NoMemory, Pending}
 use Rattle.hub.specs.declared.faults.PostFault.TheVariants.{Spent}
-use Rattle.hub.specs.History.{Beginning, made, own}
+use Rattle.hub.specs.History.{Beginning, own}
 use Rattle.serve.specs.declared.desk.Desk.{Desk}
 use Rattle.serve.specs.declared.served.Served.{Served}
 
 -- a list's events of a seat are that it sat down and told this, and no others
 abbrev pub Tells : ℕ → List What → Beginning → Type 0
-Tells seat whats list = own seat list.events ≡ made seat 0 (Sit ∷ whats)
+Tells seat whats list = own seat list.events ≡ numbered seat 0 (Sit ∷ whats)
 
 -- the last receipt shows that all of this was told; without one nothing was
 abbrev pub TellsLast : ℕ → List What → Option Beginning → Type 0
@@ -45,8 +46,8 @@ TellsMore hub desk whats batch (Err fault) = HasTold hub desk whats (stored_of f
 pub record IsLeft (seat : ℕ) (whats : List What) (waiting : ℕ) (list : Beginning) : Type 0 where
   pub more : List Event
   pub count : length more ≡ waiting
-  pub events : own seat list.events ≡ made seat 0 (Sit ∷ whats) ++ more
-      ++ made seat (1 + length whats + waiting) (Leave ∷ [])
+  pub events : own seat list.events ≡ numbered seat 0 (Sit ∷ whats) ++ more
+      ++ numbered seat (1 + length whats + waiting) (Leave ∷ [])
 
 -- what a worker's receipts show of its seat
 pub record IsServed (seat : ℕ) (whats : List What) (waiting : ℕ) (served : Served) : Type 0 where

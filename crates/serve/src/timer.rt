@@ -8,16 +8,13 @@ use crate::clock::Clock;
 use crate::desk::Desk;
 use crate::gate::{Gate, Place};
 use crate::served::{Cause, Faulted, Served};
-use agg_types::What;
+use agg_types::{LAST_MOMENT, What};
 use hub::{Hub, Naming, Pass, PostFault};
 use std::alloc::Global;
 use std::sync::Wait;
 
 /// How many turns a timer makes at most.
 const MOST_TURNS: u64 = 1 << 40;
-
-/// The greatest moment that may be posted, in ms.
-const LAST_MOMENT: u64 = 1 << 62;
 
 /// Posts the clock's moment.
 fn post_moment<J: Naming, H: Wait + Drop, R: Wait, C: Clock>(
@@ -71,7 +68,7 @@ fn run<J: Naming, H: Wait + Drop, R: Wait, C: Clock, G: Gate>(
 
 /// Posts the clock's moments, one after each rest, with a pass that has posted nothing.
 ///
-/// A moment above 2^62 isn't posted. It ends when the gate says so; with Read after 2^40 turns;
+/// A moment above the last isn't posted. It ends when the gate says so; with Read after 2^40 turns;
 /// with Post at its first post that isn't Ok, and for want of memory of its own (of no events).
 pub fn run_timer<J: Naming, H: Wait + Drop, R: Wait, C: Clock, G: Gate>(
     rt: &R,

@@ -16,6 +16,7 @@ use Rattle.agg_types.specs.declared.config.Op.{Op}
 use Rattle.agg_types.specs.declared.config.Shape.{Shape}
 use Rattle.agg_types.specs.declared.event.Select.{Select}
 use Rattle.agg_types.specs.declared.event.Select.TheVariants.{All, One, Conds}
+use Rattle.agg_types.specs.declared.limits.TheConstants.{MOST_CONDS, MOST_FILTERS}
 use Rattle.fleet_model.specs.State.{State}
 use Rattle.key_text.specs.Read.{key_of}
 use Rattle.line_words.specs.Numbers.{number_of}
@@ -100,7 +101,7 @@ conds_of cols (suc left) (word ∷ ws) =
 -- one to four conditions
 abbrev pub some_conds : List (Col × ℕ) → List (List ℕ) → Read (List Cond)
 some_conds cols [] = Err Unknown
-some_conds cols (word ∷ ws) = conds_of cols 4 (word ∷ ws)
+some_conds cols (word ∷ ws) = conds_of cols MOST_CONDS (word ∷ ws)
 
 -- one key
 abbrev pub one_key : KeyKind → List (List ℕ) → Read Select
@@ -114,7 +115,7 @@ sel_of shape [] = Ok All
 sel_of shape (word ∷ ws) =
     if bytes_eq word (codes "key")
     then one_key shape.kind ws
-    else (conds_of shape.cols 4 (word ∷ ws) >>= λ conds. Ok (Conds conds))
+    else (conds_of shape.cols MOST_CONDS (word ∷ ws) >>= λ conds. Ok (Conds conds))
 
 -- the position of a table
 abbrev pub table_named : State → List ℕ → Read ℕ
@@ -170,7 +171,7 @@ abbrev pub new_name : State → List ℕ → Read (Unit {0})
 new_name state name =
     if not (is_name name) then Err BadName
     else if list_any (λ other. bytes_eq other.name name) state.config.filters then Err Exists
-    else if nat_lt (length state.config.filters) 32 then Ok tt
+    else if nat_lt (length state.config.filters) MOST_FILTERS then Ok tt
     else Err Full
 
 -- the filter of this name, from its table and conditions

@@ -86,7 +86,7 @@ pub(crate) fn read_conds(
     shape: &Shape,
     line: &[u8],
 ) -> Result<Items<Cond>, CommandFault>
-    ensures { Tells (conds_of shape.now.cols 4 (words line.now)) result }
+    ensures { Tells (conds_of shape.now.cols MOST_CONDS (words line.now)) result }
 {
     let mut conds = Vec::new(alloc);
     let mut rest = line;

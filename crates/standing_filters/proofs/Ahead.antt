@@ -14,6 +14,7 @@ use Rattle.std.specs.Cmp.Lexicographic.{slice_cmp}
 use Rattle.std.specs.List.{AllByRecursion, IsDistinct, list_any}
 use Rattle.std.specs.Ordering.{nat_cmp}
 use Rattle.agg_types.specs.declared.column.Col.{Col}
+use Rattle.agg_types.specs.declared.limits.TheConstants.{MOST_CONDS}
 use Rattle.crossing.specs.First.{IsFirstFrom}
 use Rattle.expiry_wheel.specs.Entries.{IsInOrder, first_due, without_due}
 use Rattle.standing_filters.specs.Plans.{Becomes, IsPlanOf, IsPlanned, IsUnplanned, IsWatch}
@@ -331,7 +332,7 @@ module _ (summed : ℕ → List ℕ → Col → ℕ → ℕ) (living : ℕ → L
       → ((e : ℕ × List ℕ) → has_plan new.due e ≡ (has_plan prepared.due e && ltb t e.0))
       → ((key : List ℕ) → verdict_at new.kept key ≡ verdict_after judged old.kept key) → IsWatch new
   watch_settled old prepared new is watch same ahead cut kept = record {
-    few = subst (λ f. Rattle.std.proofs.Common.length f.conds ≤ 4) (sym same) watch.few;
+    few = subst (λ f. Rattle.std.proofs.Common.length f.conds ≤ MOST_CONDS) (sym same) watch.few;
     planned = settled prepared.due new.due new.kept (subst (λ v. IsAhead v.kept judged prepared.due)
         (sym is) ahead) cut (subst (λ v. (key : List ℕ)
         → verdict_at new.kept key ≡ verdict_after judged v.kept key) (sym is) kept);

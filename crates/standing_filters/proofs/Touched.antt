@@ -11,6 +11,7 @@ use Rattle.std.specs.Ordering.{is_eq, nat_cmp}
 use Rattle.std.proofs.lemmas.Cmp.{nat_list_cmp_total, tied_itself}
 use Rattle.std.proofs.lemmas.Map.Lookups.{exact_bytes}
 use Rattle.agg_types.specs.declared.column.Col.{Col}
+use Rattle.agg_types.specs.declared.limits.TheConstants.{MOST_CONDS}
 use Rattle.standing_filters.specs.Plans.{AreWatches, Becomes, IsPlanned, IsUnplanned, IsWatch}
 use Rattle.standing_filters.specs.Plans.{Watching, change_of, kept_at, shown, with_room}
 use Rattle.standing_filters.specs.Plans.{without_key}
@@ -107,7 +108,7 @@ pub watch_forgotten : (key : List ℕ) (old new : Watching) → IsWatch old → 
     → Becomes key out old.kept new.kept → IsUnplanned key (change_of (kept_at old.kept key)) None
     old.due new.due → IsWatch new
 watch_forgotten key old new watch same becomes unplan = record {
-  few = subst (λ f. length f.conds ≤ 4) (sym same) watch.few;
+  few = subst (λ f. length f.conds ≤ MOST_CONDS) (sym same) watch.few;
   planned = forgotten old.due new.due old.kept new.kept key watch.planned unplan becomes;
 }
 
@@ -118,7 +119,7 @@ pub watch_committed : (key : List ℕ) (verdict : Verdict) (found : Option Verdi
     → IsUnplanned key (change_of found) verdict.next prepared.due new.due
     → Becomes key verdict old.kept new.kept → IsWatch new
 watch_committed key verdict found old prepared new watch same is plan unplan becomes = record {
-  few = subst (λ f. length f.conds ≤ 4) (sym same) watch.few;
+  few = subst (λ f. length f.conds ≤ MOST_CONDS) (sym same) watch.few;
   planned = committed old.due prepared.due new.due old.kept new.kept key verdict (change_of found)
       watch.planned (ap change_of is) plan unplan becomes;
 }
@@ -129,7 +130,7 @@ pub watch_entered : (key : List ℕ) (verdict : Verdict) (old new : Watching) �
     → IsPlanned key None verdict.next old.due new.due
     → Becomes key verdict old.kept new.kept → IsWatch new
 watch_entered key verdict old new watch same none plan becomes = record {
-  few = subst (λ f. length f.conds ≤ 4) (sym same) watch.few;
+  few = subst (λ f. length f.conds ≤ MOST_CONDS) (sym same) watch.few;
   planned = entered old.due new.due old.kept new.kept key verdict watch.planned none plan becomes;
 }
 
@@ -153,7 +154,7 @@ pub watch_backed_out : (key : List ℕ) (verdict : Verdict) (found : Option Verd
     → IsPlanned key (change_of found) verdict.next old.due prepared.due
     → IsUnplanned key verdict.next (change_of found) prepared.due new.due → IsWatch new
 watch_backed_out key verdict found old prepared new watch same kept is plan unplan = record {
-  few = subst (λ f. length f.conds ≤ 4) (sym same) watch.few;
+  few = subst (λ f. length f.conds ≤ MOST_CONDS) (sym same) watch.few;
   planned = λ e. backed_out old.due prepared.due new.due old.kept key verdict (change_of found)
       watch.planned (ap change_of is) plan unplan e
       ∙ ap (λ k. Rattle.standing_filters.specs.Plans.is_moment (verdict_at k e.1).next e.0)

@@ -7,6 +7,7 @@ use Rattle.std.specs.List.{AllByRecursion}
 use Rattle.std.specs.Map.{lookup, remove_entry}
 use Rattle.std.specs.Ordering.{nat_cmp}
 use Rattle.agg_types.specs.declared.config.Filter.{Filter}
+use Rattle.agg_types.specs.declared.limits.TheConstants.{MOST_CONDS}
 use Rattle.expiry_wheel.specs.Entries.{has_entry}
 use Rattle.standing_filters.specs.Verdicts.{out}
 use Rattle.standing_filters.specs.Watched.{Watched, verdict_at}
@@ -83,7 +84,7 @@ pub record IsMoved (key : List ℕ) (before after : Option ℕ) (old new : List 
 
 -- what holds of a standing filter between calls
 pub record IsWatch (w : Watching) : Type 0 where
-  pub few : length w.filter.conds ≤ 4
+  pub few : length w.filter.conds ≤ MOST_CONDS
   pub planned : IsPlanOf w.kept w.due
 
 -- what holds of each of them

@@ -1,6 +1,7 @@
 //! A filter that is added where keys have rows: each of them is judged, or there is no filter.
 
 ghost use Rattle.std.specs.Prelude.{◌≡◌, ◌≤◌, ◌+◌, ◌*◌, ℕ, List, length, IfOk, OnOk};
+ghost use Rattle.agg_types.specs.declared.limits.TheConstants.{MOST_CONDS};
 ghost use Rattle.crossing.specs.First.{IsFlatSoon};
 ghost use Rattle.standing_filters.specs.Plans.{IsWatch, shown};
 ghost use Rattle.standing_filters.specs.Watched.{IsAdded, IsTouched};
@@ -19,7 +20,7 @@ pub(crate) fn watch_keys<V: Values>(
     now: u64,
     meter: &mut Meter,
 ) -> Result<Watch, NoMemory>
-    requires few { length filter.now.conds ≤ 4 }
+    requires few { length filter.now.conds ≤ MOST_CONDS }
     ensures watch { IfOk result IsWatch }
     ensures added { IfOk result (λ w. IsAdded (V.summed values.now) (V.living values.now) now
         filter.now keys.now (shown w)) }

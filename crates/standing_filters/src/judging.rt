@@ -6,6 +6,7 @@ ghost use Rattle.crossing.specs.First.{IsFlatSoon};
 ghost use Rattle.crossing.specs.Parts.{AreFlatSoon, all_hold};
 ghost use Rattle.crossing.specs.Shown.{measured};
 ghost use Rattle.agg_types.specs.Op.{op_holds};
+ghost use Rattle.agg_types.specs.declared.limits.TheConstants.{MOST_CONDS};
 ghost use Rattle.standing_filters.specs.Verdicts.{IsVerdict, IsTold, meets_at, out};
 
 use agg_types::{Cond, Filter, Key, Op};
@@ -45,7 +46,7 @@ pub fn judge<V: Values>(
     now: u64,
     meter: &mut Meter,
 ) -> Verdict
-    requires few { length filter.now.conds ≤ 4 }
+    requires few { length filter.now.conds ≤ MOST_CONDS }
     ensures verdict { IsVerdict (V.summed values.now) (V.living values.now) filter.now now
         key.now result }
     ensures counted { IsFlatSoon now (V.flat values.now filter.now.table key.now)
@@ -72,7 +73,7 @@ fn judge_by<V: Values>(
     now: u64,
     meter: &mut Meter,
 ) -> Verdict
-    requires few { length conds.now ≤ 4 }
+    requires few { length conds.now ≤ MOST_CONDS }
     ensures told { IsTold (λ t. meets_at (V.summed values.now) (V.living values.now) table
         conds.now key.now t) now result }
     ensures counted { IsFlatSoon now (V.flat values.now table key.now)

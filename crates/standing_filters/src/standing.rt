@@ -7,6 +7,7 @@ ghost use Rattle.std.specs.List.Sorted.{IsStrictlySortedBy};
 ghost use Rattle.std.specs.BTreeMap.{is_at};
 ghost use Rattle.std.specs.Cmp.Lexicographic.{slice_cmp};
 ghost use Rattle.std.specs.Ordering.{nat_cmp};
+ghost use Rattle.agg_types.specs.declared.limits.TheConstants.{MOST_CONDS};
 ghost use Rattle.crossing.specs.First.{IsFlatSoon};
 ghost use Rattle.expiry_wheel.specs.Entries.{IsInOrder};
 ghost use Rattle.standing_filters.specs.Plans.{IsPlanOf};
@@ -50,7 +51,7 @@ impl Model for Standing {
 impl Standing {
     /// The standing filters of a configuration, none of which holds a key.
     pub fn new(alloc: Global, config: &Config) -> Result<Standing, NoMemory>
-        requires few { All (λ filter. length filter.conds ≤ 4) config.now.filters }
+        requires few { All (λ filter. length filter.conds ≤ MOST_CONDS) config.now.filters }
         ensures filters { IfOk result (λ standing. standing.filters
             ≡ map unheld config.now.filters) }
         ensures start { IfOk result (λ standing. standing.evals ≡ 0) }
@@ -127,7 +128,7 @@ impl Standing {
         values: &V,
         now: u64,
     ) -> Result<(), NoMemory>
-        requires few { length filter.now.conds ≤ 4 }
+        requires few { length filter.now.conds ≤ MOST_CONDS }
         ensures ok { OnOk result ((added : Watched)
             × (self.new.filters ≡ self.old.filters ++ added ∷ [])
             × IsAdded (V.summed values.now) (V.living values.now) now filter.now keys.now added) }
@@ -201,7 +202,7 @@ impl Standing {
 impl Standing {
     // Adds a filter that holds no key.
     fn push(&mut self, filter: &Filter) -> Result<(), NoMemory>
-        requires few { length filter.now.conds ≤ 4 }
+        requires few { length filter.now.conds ≤ MOST_CONDS }
         ensures ok { OnOk result (self.new.filters
             ≡ self.old.filters ++ unheld filter.now ∷ []) }
         ensures evals { self.new.evals ≡ self.old.evals }

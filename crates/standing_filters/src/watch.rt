@@ -8,6 +8,7 @@ ghost use Rattle.std.specs.List.Sorted.{IsStrictlySortedBy};
 ghost use Rattle.std.specs.BTreeMap.{insert_entry, is_at};
 ghost use Rattle.std.specs.Cmp.Lexicographic.{slice_cmp};
 ghost use Rattle.std.specs.Ordering.{nat_cmp};
+ghost use Rattle.agg_types.specs.declared.limits.TheConstants.{MOST_CONDS};
 ghost use Rattle.crossing.specs.First.{IsFlatSoon};
 ghost use Rattle.expiry_wheel.specs.Entries.{IsInOrder};
 ghost use Rattle.standing_filters.specs.Verdicts.{IsVerdict, out};
@@ -107,7 +108,7 @@ impl Watch {
         now: u64,
         meter: &mut Meter,
     ) -> Verdict
-        requires few { length self.now.filter.conds ≤ 4 }
+        requires few { length self.now.filter.conds ≤ MOST_CONDS }
         ensures verdict { IsVerdict (V.summed values.now) (V.living values.now) self.now.filter now
             key.now result }
         ensures counted { IsFlatSoon now (V.flat values.now self.now.filter.table key.now)
@@ -218,7 +219,7 @@ impl Watch {
         t: u64,
         meter: &mut Meter,
     ) -> Result<Vec<Judged>, NoMemory>
-        requires few { length self.now.filter.conds ≤ 4 }
+        requires few { length self.now.filter.conds ≤ MOST_CONDS }
         requires planned { IsPlanOf self.now.kept self.now.due }
         ensures judged { IfOk result (λ judged. AreJudged (V.summed values.now)
             (V.living values.now) t (shown self.now) judged.items) }

@@ -1,18 +1,19 @@
 //! Who sits down, and who leaves.
 
-ghost use Rattle.std.specs.Prelude.{◌≡◌, ◌<◌, ◌≤◌, ◌^◌, [], length, nat_lt, Some, true};
+ghost use Rattle.std.specs.Prelude.{◌≡◌, ◌<◌, ◌≤◌, [], length, nat_lt, Some, true};
 ghost use Rattle.std.specs.Prelude.{if◌then◌else◌, ◌∷◌, IfSome, MatchResult};
 ghost use Rattle.std.specs.BTreeMap.{is_at};
 ghost use Rattle.std.specs.Map.{lookup};
 ghost use Rattle.std.specs.Ordering.{nat_cmp};
 ghost use Rattle.agg_types.specs.declared.event.What.TheVariants.{Leave};
-ghost use Rattle.fleet_model.specs.Seats.{most_seats};
-ghost use Rattle.hub.specs.History.{longer_by, made, own};
+ghost use Rattle.agg_types.specs.declared.limits.TheConstants.{LAST_SEAT, MOST_SEATS};
+ghost use Rattle.fleet_model.specs.Seats.{numbered};
+ghost use Rattle.hub.specs.History.{longer_by, own};
 ghost use Rattle.hub.specs.Keeping.{KeepsAtErr, KeepsAtLeave, SitsDownIn};
 ghost use Rattle.hub.specs.Posts.{Follows, LeaveRefused, NoneReplaced, ShowsBatch};
 ghost use Rattle.hub.specs.Sitting.{sits_new};
 
-use super::{Keeper, LAST_NUMBER};
+use super::Keeper;
 use crate::faults::{PostFault, SeatFault};
 use crate::log::Log;
 use crate::naming::Naming;
@@ -20,7 +21,7 @@ use crate::pass::Pass;
 use crate::receipt::Receipt;
 use crate::sitting::Sitting;
 use crate::store::{hang, store};
-use agg_types::{Event, What};
+use agg_types::{Event, NUMBERS_END, What};
 use std::alloc::Global;
 use std::marker::PhantomData;
 use std::sync::Wait;
@@ -55,8 +56,8 @@ impl<J: Naming, R: Wait + Drop> Keeper<J, R> {
     ) -> (Keeper<J, R>, Result<Pass, SeatFault>)
         requires log { log.now ≡ J.book }
         requires sitting { sitting ≡ sits_new self.roll }
-        requires free { nat_lt (length self.roll.seats) most_seats ≡ true }
-        requires small { self.roll.next_seat ≤ 2 ^ 62 }
+        requires free { nat_lt (length self.roll.seats) MOST_SEATS ≡ true }
+        requires small { self.roll.next_seat ≤ LAST_SEAT }
         ensures shown { result.0.shown ≡ self.shown }
         ensures pass { MatchResult result.1 (SitsDownIn self result.0 J.book)
             (λ _. result.0.all ≡ self.all) }
@@ -111,10 +112,11 @@ impl<J: Naming, R: Wait + Drop> Keeper<J, R> {
     fn stand_up<W: Wait>(self, rt: &W, log: &Log, seat: u64, number: u64) -> (Keeper<J, R>, bool)
         requires log { log.now ≡ J.book }
         requires due { lookup (is_at (nat_cmp seat)) self.roll.seats ≡ Some number }
-        requires small { number < 2 ^ 62 }
+        requires small { number < NUMBERS_END }
         ensures shown { result.0.shown ≡ self.shown }
         ensures all { result.0.all
-            ≡ (if result.1 then longer_by self.all (made seat number (Leave ∷ [])) else self.all) }
+            ≡ (if result.1 then longer_by self.all (numbered seat number (Leave ∷ []))
+            else self.all) }
     {
         let Keeper {
             hand,
@@ -173,7 +175,7 @@ impl<J: Naming, R: Wait + Drop> Keeper<J, R> {
             };
             return (keeper, Err((pass, PostFault::NotNext { found, shown })));
         }
-        if found > LAST_NUMBER {
+        if found >= NUMBERS_END {
             hang(rt);
             unreachable!();
         }
@@ -193,7 +195,7 @@ impl<J: Naming, R: Wait + Drop> Keeper<J, R> {
         requires owns { length (own pass.seat self.all.events) ≡ pass.number }
         requires due { lookup (is_at (nat_cmp pass.seat)) self.roll.seats ≡ Some pass.number }
         requires none_replaced { NoneReplaced pass self.all.events (Leave ∷ []) }
-        requires small { pass.number < 2 ^ 62 }
+        requires small { pass.number < NUMBERS_END }
         ensures kept { MatchResult result.1 (KeepsAtLeave self result.0 pass)
             (λ refused. KeepsAtErr self result.0 pass (Leave ∷ []) refused.1) }
         ensures told { MatchResult result.1 (λ r. IfSome r (ShowsBatch pass (Leave ∷ [])))

@@ -1,5 +1,6 @@
 use Rattle.std.proofs.Common.{◌≡◌, ◌<◌, ◌≤◌, length, sym, ap, subst, arith}
 use Rattle.agg_types.specs.declared.config.Filter.{Filter}
+use Rattle.agg_types.specs.declared.limits.TheConstants.{MOST_CONDS}
 use Rattle.fleet_model.specs.Answers.{no_filter}
 use Rattle.fleet_model.specs.State.{State}
 use Rattle.fleet_model.proofs.Checked.{conds_few}
@@ -15,7 +16,7 @@ add_one-requires-clause-few c =
     let test : c.loop-position.position < c.len-position-end.result = c.loop-position-test.true in
     let inside : c.loop-position.position < length c.args.machine.now.config.filters =
     omega arith in
-    subst (λ (f : Filter). length f.conds ≤ 4) (sym c.filter_at.ensures)
+    subst (λ (f : Filter). length f.conds ≤ MOST_CONDS) (sym c.filter_at.ensures)
     (conds_few c.args.machine.now.config c.loop-position.position no_filter inside
     c.requires.sound.checked)
 

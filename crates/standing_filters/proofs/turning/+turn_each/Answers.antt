@@ -1,4 +1,5 @@
 use Rattle.std.proofs.Common.{◌≡◌, ◌≤◌, ℕ, List, ◌∷◌, length, map, refl, sym, ap, subst, ◌∙◌}
+use Rattle.agg_types.specs.declared.limits.TheConstants.{MOST_CONDS}
 use Rattle.standing_filters.specs.Plans.{AreWatches, IsPlanOf, IsWatch, Watching, shown}
 use Rattle.standing_filters.specs.Turns.{AreTurned, IsAhead, verdict_after}
 use Rattle.standing_filters.proofs.Ahead.{turned, watch_settled}
@@ -11,7 +12,7 @@ each_watch watches first rest is all = subst (λ l. AreWatches l) is all
 watch_same : (old new : Watching) → IsWatch old → new.filter ≡ old.filter → new.kept ≡ old.kept
     → IsPlanOf old.kept new.due → IsWatch new
 watch_same old new watch same kept planned = record {
-  few = subst (λ f. length f.conds ≤ 4) (sym same) watch.few;
+  few = subst (λ f. length f.conds ≤ MOST_CONDS) (sym same) watch.few;
   planned = subst (λ k. IsPlanOf k new.due) (sym kept) planned;
 }
 

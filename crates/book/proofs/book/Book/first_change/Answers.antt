@@ -1,5 +1,6 @@
 use Rattle.std.proofs.Common.{◌<◌, ◌≤◌, length, sym, subst}
 use Rattle.agg_types.specs.declared.config.Filter.{Filter}
+use Rattle.agg_types.specs.declared.limits.TheConstants.{MOST_CONDS}
 use Rattle.fleet_model.specs.Answers.{filter_of, no_filter}
 use Rattle.fleet_model.specs.State.{State}
 use Rattle.fleet_model.proofs.Checked.{conds_few}
@@ -10,7 +11,7 @@ pub first_change-requires-clause-few : goal.first_change-requires-clause-few
 first_change-requires-clause-few c =
     let inside = subst (λ (s : State). c.args.filter < length s.config.filters)
     (sym c.self.view_is) c.requires in
-    subst (λ (f : Filter). length f.conds ≤ 4) (sym c.filter_at-standing.ensures)
+    subst (λ (f : Filter). length f.conds ≤ MOST_CONDS) (sym c.filter_at-standing.ensures)
     (conds_few c.self.inside.machine.config c.args.filter no_filter inside
     c.self.invariant.sound.checked)
 

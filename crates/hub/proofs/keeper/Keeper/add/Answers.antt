@@ -1,6 +1,6 @@
 use Rattle.std.proofs.Common.{drop}
 use Rattle.left_right.specs.Sides.{view}
-use Rattle.hub.specs.History.{made}
+use Rattle.fleet_model.specs.Seats.{numbered}
 use Rattle.hub.proofs.Held.{held_longer}
 use Rattle.std.proofs.Common.{sym, subst}
 use Rattle.std.specs.List.{All}
@@ -15,7 +15,7 @@ invariant_of-keeper-2 g c =
     (drop writer.behind writer.log.items) c.self.inside.queue.items c.self.inside.front
     c.self.inside.roll c.self.invariant
     c.reserve.new.self.items c.store.new.queue.items
-    (made c.args.pass.now.seat c.args.pass.now.number c.args.whats.items) c.store.new.front
+    (numbered c.args.pass.now.seat c.args.pass.now.number c.args.whats.items) c.store.new.front
     c.store.new.roll
     c.reserve.ensures.items c.store.ensures.front c.store.ensures.stored c.store.ensures.counted
 

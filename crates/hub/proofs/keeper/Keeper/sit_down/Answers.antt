@@ -1,12 +1,12 @@
-use Rattle.std.proofs.Common.{◌≡◌, ◌≤◌, ◌^◌, ◌+◌, nat_lt, true, refl, sym, ap, ◌∙◌, subst, [], ◌∷◌}
+use Rattle.std.proofs.Common.{◌≡◌, ◌≤◌, ◌+◌, nat_lt, true, refl, sym, ap, ◌∙◌, subst, [], ◌∷◌}
 use Rattle.std.proofs.Common.{drop, length}
 use Rattle.left_right.specs.Sides.{view}
 use Rattle.std.specs.BTreeMap.{insert_entry}
 use Rattle.std.specs.Ordering.{nat_cmp}
 use Rattle.agg_types.specs.declared.event.What.TheVariants.{Sit}
+use Rattle.agg_types.specs.declared.limits.TheConstants.{LAST_SEAT, MOST_SEATS}
 use Rattle.fleet_model.specs.Machine.{counts_now}
-use Rattle.fleet_model.specs.Seats.{most_seats}
-use Rattle.hub.specs.History.{made}
+use Rattle.fleet_model.specs.Seats.{numbered}
 use Rattle.hub.specs.Kept.{Kept}
 use Rattle.hub.specs.Roll.{Counted, IsCountOf}
 use Rattle.hub.specs.Sitting.{Recalled, Recalls, sits_new}
@@ -20,11 +20,11 @@ pub store-requires-clause-counts : goal.store-requires-clause-counts
 store-requires-clause-counts g c =
     let front = c.self.inside.front in
     let roll = c.self.inside.roll in
-    let free : nat_lt (length roll.seats) most_seats ≡ true =
-    ap (λ (k : Kept). nat_lt (length k.roll.seats) most_seats) c.self.view_is
+    let free : nat_lt (length roll.seats) MOST_SEATS ≡ true =
+    ap (λ (k : Kept). nat_lt (length k.roll.seats) MOST_SEATS) c.self.view_is
     ∙ c.requires.free in
-    let small : roll.next_seat ≤ 2 ^ 62 =
-    subst (λ (k : Kept). k.roll.next_seat ≤ 2 ^ 62) (sym c.self.view_is) c.requires.small in
+    let small : roll.next_seat ≤ LAST_SEAT =
+    subst (λ (k : Kept). k.roll.next_seat ≤ LAST_SEAT) (sym c.self.view_is) c.requires.small in
     subst (λ s. counts_now (state_at front) (event_at s 0 Sit) ≡ true)
     (sym c.next_seat-seat.ensures) (sit_counts front roll c.self.invariant.counted free small)
 
@@ -45,11 +45,11 @@ pub returns-clause-pass : goal.returns-clause-pass
 returns-clause-pass g c =
     let front = c.self.inside.front in
     let roll = c.self.inside.roll in
-    let free : nat_lt (length roll.seats) most_seats ≡ true =
-    ap (λ (k : Kept). nat_lt (length k.roll.seats) most_seats) c.self.view_is
+    let free : nat_lt (length roll.seats) MOST_SEATS ≡ true =
+    ap (λ (k : Kept). nat_lt (length k.roll.seats) MOST_SEATS) c.self.view_is
     ∙ c.requires.free in
-    let small : roll.next_seat ≤ 2 ^ 62 =
-    subst (λ (k : Kept). k.roll.next_seat ≤ 2 ^ 62) (sym c.self.view_is) c.requires.small in
+    let small : roll.next_seat ≤ LAST_SEAT =
+    subst (λ (k : Kept). k.roll.next_seat ≤ LAST_SEAT) (sym c.self.view_is) c.requires.small in
     let sits : c.args.sitting ≡ sits_new roll = c.requires.sitting
     ∙ ap (λ (k : Kept). sits_new k.roll) (sym c.self.view_is) in
     let new : c.new-pass.result ≡ seated c.next_seat-seat.result 1 c.store.new.front =
@@ -69,11 +69,11 @@ invariant_of-keeper-2 g c =
     let writer = c.self.inside.hand.writer in
     let seat = c.next_seat-seat.result in
     let e = event_at seat 0 Sit in
-    let free : nat_lt (length roll.seats) most_seats ≡ true =
-    ap (λ (k : Kept). nat_lt (length k.roll.seats) most_seats) c.self.view_is
+    let free : nat_lt (length roll.seats) MOST_SEATS ≡ true =
+    ap (λ (k : Kept). nat_lt (length k.roll.seats) MOST_SEATS) c.self.view_is
     ∙ c.requires.free in
-    let small : roll.next_seat ≤ 2 ^ 62 =
-    subst (λ (k : Kept). k.roll.next_seat ≤ 2 ^ 62) (sym c.self.view_is) c.requires.small in
+    let small : roll.next_seat ≤ LAST_SEAT =
+    subst (λ (k : Kept). k.roll.next_seat ≤ LAST_SEAT) (sym c.self.view_is) c.requires.small in
     let count = sit_more front roll c.self.invariant.counted
     (sit_counts front roll c.self.invariant.counted free small) in
     let sat : c.sit.new.self ≡ record {
@@ -89,7 +89,7 @@ invariant_of-keeper-2 g c =
     (sym c.next_seat-seat.ensures) count' in
     held_longer g.J.Naming.book writer.desk.shown.value (view writer.desk.place)
     (drop writer.behind writer.log.items) c.self.inside.queue.items front roll c.self.invariant
-    c.reserve.new.self.items c.store.new.queue.items (made seat 0 (Sit ∷ [])) c.store.new.front
+    c.reserve.new.self.items c.store.new.queue.items (numbered seat 0 (Sit ∷ [])) c.store.new.front
     c.sit.new.self
     c.reserve.ensures.items c.store.ensures.front
     (stored_one c.reserve.new.self.items c.store.new.queue.items front c.store.new.front e

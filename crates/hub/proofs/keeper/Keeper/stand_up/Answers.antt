@@ -4,7 +4,7 @@ use Rattle.std.specs.BTreeMap.{is_at}
 use Rattle.std.specs.Map.{remove_entry}
 use Rattle.std.specs.Ordering.{nat_cmp}
 use Rattle.agg_types.specs.declared.event.What.TheVariants.{Leave}
-use Rattle.hub.specs.History.{made}
+use Rattle.fleet_model.specs.Seats.{numbered}
 use Rattle.hub.specs.Kept.{Kept}
 use Rattle.hub.specs.Roll.{Counted, IsCountOf}
 use Rattle.hub.proofs.Counting.{found}
@@ -37,7 +37,7 @@ invariant_of-keeper-2 g c =
     (leave_more front roll seat c.args.number c.self.invariant.counted counts) in
     held_longer g.J.Naming.book writer.desk.shown.value (view writer.desk.place)
     (drop writer.behind writer.log.items) c.self.inside.queue.items front roll c.self.invariant
-    c.reserve.new.self.items c.store.new.queue.items (made seat c.args.number (Leave ∷ []))
+    c.reserve.new.self.items c.store.new.queue.items (numbered seat c.args.number (Leave ∷ []))
     c.store.new.front c.leave.new.self
     c.reserve.ensures.items c.store.ensures.front
     (stored_one c.reserve.new.self.items c.store.new.queue.items front c.store.new.front e
