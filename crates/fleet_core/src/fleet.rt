@@ -56,8 +56,8 @@ impl Model for Fleet {
 }
 
 impl Fleet {
-    /// A fleet with no connections, at its opening moment, in ms, at most the last. The configuration
-    /// is one that `Config::check` accepts.
+    /// A fleet with no connections, at its opening moment, in ms, at most the last. The
+    /// configuration is one that `Config::check` accepts.
     pub fn new(alloc: Global, config: Config, moment: u64) -> Result<Fleet, NoMemory>
         requires checked { config_faults config ≡ [] }
         requires in_range { moment ≤ LAST_MOMENT }

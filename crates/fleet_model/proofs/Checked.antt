@@ -213,7 +213,8 @@ filters_few tables before (filter ∷ filters) (suc position) other within none 
 
 -- each filter has at most four conditions
 pub conds_few : (config : Config) (position : ℕ) (other : Filter) → position < length config.filters
-    → config_faults config ≡ [] → length (slice_index_or config.filters position other).conds ≤ MOST_CONDS
+    → config_faults config ≡ []
+    → length (slice_index_or config.filters position other).conds ≤ MOST_CONDS
 conds_few config position other within none =
     let to_filters = front_none _ (each (rank_faults config.tables) [] config.ranks) none in
     filters_few config.tables [] config.filters position other within

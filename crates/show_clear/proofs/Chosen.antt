@@ -35,7 +35,8 @@ unfolding summed
 shown_value state table key sums col is =
     let f : Col → ℕ = λ col. key_value state table key col state.moment in
     ap (λ (values : List ℕ). get_or values (place col) 0)
-    (sums_have (map f all_cols) state.moment (rows_of state table key) sums is) ∙ value_at_place f col
+    (sums_have (map f all_cols) state.moment (rows_of state table key) sums is)
+    ∙ value_at_place f col
 
 -- conditions hold of a row that is shown where the key meets them
 pub holds_as_met : (state : State) (table : ℕ) (key : List ℕ) (conds : List Cond) (sums : Summed)
