@@ -25,7 +25,8 @@ use Rattle.hub.specs.Posts.{Follows}
 use Rattle.hub.specs.Roll.{MayPost}
 use Rattle.hub.specs.Views.{IsBookOf, Seeing}
 use Rattle.hub.specs.declared.faults.PostFault.{PostFault}
-use Rattle.serve.proofs.Pieces.{kept_says, none_in_both}
+use Rattle.serve.proofs.Kept.{kept_says}
+use Rattle.serve.proofs.Pieces.{none_in_both}
 use Rattle.serve.proofs.Works.{wrote_more, wrote_none}
 use Rattle.serve.specs.Commands.{AllAnswered, EndsCommands, HasNoEnd, IsCommandedUntil}
 use Rattle.serve.specs.Commands.{IsCommandedWhole, IsReply, LastCutShort, LaterRefused, Replies}

@@ -5,3 +5,4 @@ pub mod Timed
 pub mod Sent
 pub mod Pieces
 pub mod Commanded
+pub mod Kept

@@ -4,18 +4,15 @@ use Rattle.std.proofs.Common.{length, get_or, take, drop, Some, None, zero, suc,
 use Rattle.std.proofs.Common.{inl, inr, add-one, arith, length-take-le}
 use Rattle.std.proofs.Math.Seq.{drop-cons}
 use Rattle.std.specs.List.{list_any, position}
-use Rattle.std.specs.Str.Lines.{strip_carriage_return}
 use Rattle.std.proofs.lemmas.Bool.{cases_lt, eqb-true}
 use Rattle.std.proofs.lemmas.Bool.Decides.{nat_tests}
 use Rattle.std.proofs.lemmas.List.{take-append-drop, get_or-take, length-drop}
 use Rattle.std.proofs.lemmas.List.Folds.{list_any_none, list_any-append}
 use Rattle.std.proofs.lemmas.List.Sums.{fails_before_first}
 use Rattle.std.proofs.lemmas.List.Quantifiers.{position-Some}
-use Rattle.fleet_model.specs.State.{State}
 use Rattle.line_words.proofs.Splitting.{position-is, position-none}
-use Rattle.show_clear.specs.Parse.{command_of}
+use Rattle.serve.proofs.Kept.{take_short}
 use Rattle.serve.specs.Commands.{HasNoEnd}
-use Rattle.serve.specs.Commanding.{kept_of}
 
 -- bytes among which LF stands nowhere
 pub none_at_all : (xs : List ℕ) → position (λ byte. eqb byte 10) xs ≡ None → HasNoEnd xs
@@ -47,21 +44,6 @@ pub none_in_both : (xs ys : List ℕ) → HasNoEnd xs → HasNoEnd ys → HasNoE
 none_in_both xs ys none_x none_y = list_any-append (λ byte. eqb byte 10) xs ys
     ∙ (ap (λ b. b || list_any (λ byte. eqb byte 10) ys) none_x ∙ none_y)
 
-take_short : {A : Type 0} (n : ℕ) (xs : List A) → length xs ≤ n → take n xs ≡ xs
-take_short zero [] le = refl
-take_short (suc n) [] le = refl
-take_short zero (x ∷ xs) le = absurd (omega arith)
-take_short (suc n) (x ∷ xs) le = ap (λ ys. x ∷ ys) (take_short n xs (omega arith))
-
-take_on : {A : Type 0} (n : ℕ) (xs ys : List A) → take n (xs ++ ys) ≡ take n xs
-    ++ take (n - length (take n xs)) ys
-take_on zero [] ys = refl
-take_on (suc n) [] ys = let e : suc n ≡ suc n - 0 = omega arith in ap (λ k. take k ys) e
-take_on zero (x ∷ xs) ys = refl
-take_on (suc n) (x ∷ xs) ys =
-    let e : n - length (take n xs) ≡ suc n - suc (length (take n xs)) = omega arith in
-    ap (λ zs. x ∷ zs) (take_on n xs ys ∙ ap (λ k. take n xs ++ take k ys) e)
-
 -- the same, where the bytes behind LF are counted
 pub parted_count : (xs : List ℕ) (i : ℕ) → position (λ byte. eqb byte 10) xs ≡ Some i
     → xs ≡ take i xs ++ 10 ∷ take (length xs - (i + 1)) (drop (i + 1) xs)
@@ -70,34 +52,6 @@ parted_count xs i at =
     let whole : take (length xs - (i + 1)) (drop (i + 1) xs) ≡ drop (i + 1) xs =
     take_short (length xs - (i + 1)) (drop (i + 1) xs) (omega (arith, long)) in
     parted xs i at ∙ ap (λ ys. take i xs ++ 10 ∷ ys) (sym whole)
-
--- what is kept of a line that goes on
-pub kept_on : (line more kept after : List ℕ) → kept ≡ kept_of line
-    → after ≡ kept ++ take (4098 - length kept) more → after ≡ kept_of (line ++ more)
-kept_on line more kept after is then =
-    then ∙ (ap (λ ks. ks ++ take (4098 - length ks) more) is ∙ sym (take_on 4098 line more))
-
-strip_long : (xs : List ℕ) → length xs ≤ length (strip_carriage_return xs) + 1
-strip_long xs = grind (arith, nat_tests, length-take-le)
-
-is_long : (line : List ℕ) (n : ℕ) → suc (suc n) ≤ length line
-    → ltb n (length (strip_carriage_return line)) ≡ true
-is_long line n long = grind (arith, nat_tests, strip_long line)
-
--- what a line says stands in what is kept of it
-pub kept_says : (book : State) (line : List ℕ) → command_of book (kept_of line)
-    ≡ command_of book line
-kept_says book line =
-    elim (cases_lt 4098 (length line)) [
-      | inl long ↦
-          let kept : ltb 4096 (length (strip_carriage_return (take 4098 line))) ≡ true =
-          is_long (take 4098 line) 4096 (let l = length-take-le 4098 line (omega arith) in
-          omega arith) in
-          let whole : ltb 4096 (length (strip_carriage_return line)) ≡ true =
-          is_long line 4096 (omega arith) in
-          rw (kept, whole) refl
-      | inr short ↦ ap (λ l. command_of book l) (take_short 4098 line (omega arith))
-    ]
 
 -- what parts a piece at its first LF
 pub ruleset parting = (none_at_all, none_before, parted)

@@ -1,5 +1,6 @@
 -- An admin at work.
-use Rattle.std.specs.Prelude.{◌≡◌, ℕ, List, [], ◌++◌, take, Option, Result, Ok, Err}
+use Rattle.std.specs.Prelude.{◌≡◌, ℕ, ◌==◌, not, List, [], ◌++◌, drop, find, take, Option, Result}
+use Rattle.std.specs.Prelude.{Ok, Err}
 use Rattle.std.specs.Io.KnownBytes.{Appends}
 use Rattle.std.specs.Option.{option_to_list}
 use Rattle.agg_types.specs.declared.event.What.{What}
@@ -15,9 +16,14 @@ use Rattle.serve.specs.Commands.{changes_in, lines_in, texts_in}
 use Rattle.serve.specs.Told.{HasTold, stored_of}
 use Rattle.serve.specs.Turns.{WroteFront}
 
--- what is kept of a line shows whether it is too long for a command
+-- the first byte that is no CR, if there is one
+abbrev pub text_byte : List ℕ → Option ℕ
+text_byte bytes = find (λ byte. not (byte == 13)) bytes
+
+-- what is kept of a line: its first 4,096 bytes, and the first behind them that is no CR, which
+-- shows that it is too long for a command
 abbrev pub kept_of : List ℕ → List ℕ
-kept_of line = take 4098 line
+kept_of line = take 4096 line ++ option_to_list (text_byte (drop 4096 line))
 
 -- this was told at a seat, and what its lens has seen shows it
 pub record HasLearned (hub : Beginning) (seat : ℕ) (worker : Worker) (whats : List What)

@@ -1,18 +1,19 @@
 //! The line that hasn't ended.
 
-ghost use Rattle.std.specs.Prelude.{◌≡◌, ◌<◌, ◌++◌, ◌-◌, [], ◌∷◌, length, take, IfSome, IfNone};
-ghost use Rattle.std.specs.Prelude.{OnOk, OnErr};
+ghost use Rattle.std.specs.Prelude.{◌≡◌, ◌<◌, ◌++◌, ℕ, List, [], ◌∷◌, length, take, drop};
+ghost use Rattle.std.specs.Prelude.{IfSome, IfNone, OnOk, OnErr};
+ghost use Rattle.serve.specs.Commanding.{kept_of, text_byte};
 ghost use Rattle.serve.specs.Commands.{HasNoEnd};
 
 use agg_types::NoMemory;
 use line_words::place_of;
 use std::alloc::Global;
 
-/// The most bytes of a line that are kept: a command line has 4,096 and may have a CR behind them,
-/// and one byte more shows that it is too long.
-const LONGEST_KEPT: usize = 4098;
+/// The most bytes of a command line, the CRs at its end left out.
+const LONGEST_LINE: usize = 4096;
 
-/// A line that hasn't ended, of which no more is kept than shows that it is too long.
+/// A line that hasn't ended, of which no more is kept than a command may have and one byte that shows
+/// that it is too long: CRs behind it aren't counted.
 #[derive(Drop)]
 pub struct Line {
     bytes: Vec<u8>,
@@ -37,13 +38,23 @@ impl Line {
 
     /// Adds bytes of the line. After NoMemory it is as it was.
     pub fn add(&mut self, bytes: &[u8]) -> Result<(), NoMemory>
-        ensures ok { OnOk result (self.new.bytes.items
-            ≡ self.old.bytes.items ++ take (4098 - length self.old.bytes.items) bytes.now) }
+        ensures ok { OnOk result ((line : List ℕ) → self.old.bytes.items ≡ kept_of line
+            → self.new.bytes.items ≡ kept_of (line ++ bytes.now)) }
         ensures err { OnErr result (self.new.bytes.items ≡ self.old.bytes.items) }
     {
-        let room = LONGEST_KEPT.saturating_sub(self.bytes.len());
-        let count = bytes.len().min(room);
-        self.bytes.extend_from_slice(&bytes[..count])?;
+        let len = self.bytes.len();
+        if len > LONGEST_LINE {
+            return Ok(());
+        }
+        let (front, behind) = parted_at(bytes, LONGEST_LINE - len);
+        self.bytes.extend_from_slice(front)?;
+        let Some(byte) = text_byte(behind) else {
+            return Ok(());
+        };
+        if self.bytes.push(byte).is_err() {
+            self.bytes.truncate(len);
+            return Err(NoMemory);
+        }
         Ok(())
     }
 
@@ -53,6 +64,26 @@ impl Line {
     {
         self.bytes.clear();
     }
+}
+
+// The first bytes, this many or all, and what stands behind them.
+#[tactic(auto, using(crate::proofs::Kept::parting_at))]
+fn parted_at(bytes: &[u8], count: usize) -> (&[u8], &[u8])
+    ensures front { result.0.now ≡ take count bytes.now }
+    ensures behind { result.1.now ≡ drop count bytes.now }
+{
+    if count < bytes.len() {
+        bytes.split_at(count)
+    } else {
+        (bytes, b"")
+    }
+}
+
+// The first byte that is no CR, if there is one.
+fn text_byte(bytes: &[u8]) -> Option<u8>
+    ensures { result ≡ text_byte bytes.now }
+{
+    bytes.iter().copied().find(|byte| *byte != b'\r')
 }
 
 /// The bytes before the first LF and those behind it, if there is one.
