@@ -5,7 +5,7 @@ use Rattle.std.specs.Prelude.{Option, None, Some, Result, Ok, Err}
 use Rattle.std.specs.Fmt.{decimal}
 use Rattle.std.specs.Str.{bytes_eq}
 use Rattle.agg_types.specs.declared.config.Config.{Config}
-use Rattle.agg_config.specs.Reading.{IsFirstFault, Write}
+use Rattle.agg_config.specs.Reading.{IsFirstFault, Write, cause_name}
 use Rattle.agg_config.specs.declared.causes.LineCause.TheVariants as cause
 use Rattle.agg_config.specs.declared.causes.LineFault.{LineFault}
 use Rattle.line_words.specs.Numbers.{number_of}
@@ -13,7 +13,6 @@ use Rattle.line_words.specs.Words.{lines_of, words}
 use Rattle.line_words.specs.declared.numbers.NumberFault.{NumberFault}
 use Rattle.replay.specs.Meaning.{only}
 use Rattle.replay.specs.Runs.{Prints}
-use Rattle.replay.specs.Texts.{fault_text}
 use Rattle.replay.specs.Writing.{Wrote, WroteFront}
 use Rattle.replay.specs.declared.ending.Ending.{Ending}
 use Rattle.replay.specs.declared.ending.Ending.TheVariants.{BadConfiguration, BadScript, Failed}
@@ -52,7 +51,7 @@ BadStart number text ending =
 abbrev pub BadLine : LineFault → List ℕ → Ending → Type 0
 BadLine fault text ending =
     (fault.cause ≢ cause.NoMemory)
-    × (text ≡ codes "config line " ++ decimal fault.line ++ codes ": " ++ fault_text fault.cause
+    × (text ≡ codes "config line " ++ decimal fault.line ++ codes ": " ++ cause_name fault.cause
     ++ codes "\n") × (ending ≡ BadConfiguration)
 
 -- the first fault of a configuration's lines, or what goes on with what they write

@@ -1,12 +1,6 @@
 -- What a step prints.
 use Rattle.std.specs.Prelude.{ℕ, List, [], ◌∷◌, ◌++◌, codes, Option, None, Some}
 use Rattle.std.specs.Fmt.{decimal}
-use Rattle.agg_config.specs.declared.causes.LineCause.{LineCause}
-use Rattle.agg_config.specs.declared.causes.LineCause.TheVariants as line
-use Rattle.agg_types.specs.declared.check.ConfigFault.{ConfigFault}
-use Rattle.agg_types.specs.declared.check.ConfigFault.TheVariants.{Duplicate, TooMany, UnknownTable}
-use Rattle.agg_types.specs.declared.check.ConfigFault.TheVariants.{UnknownColumn, BadPeriod}
-use Rattle.agg_types.specs.declared.check.ConfigFault.TheVariants.{BadSize, BadName}
 use Rattle.hex.specs.Hex.{encode_lower}
 use Rattle.peers_msg.specs.declared.fault.WireCause.{WireCause}
 use Rattle.peers_msg.specs.declared.fault.WireCause.TheVariants as wire
@@ -56,20 +50,3 @@ cause_text cause.TimedOut = codes " TimedOut"
 -- a session ended
 abbrev pub end_text : ℕ → SessionCause → List ℕ
 end_text conn cause = codes "end " ++ decimal conn ++ cause_text cause ++ codes "\n"
-
--- what is wrong with a configuration
-abbrev pub config_fault_text : ConfigFault → List ℕ
-config_fault_text Duplicate = codes "Duplicate"
-config_fault_text TooMany = codes "TooMany"
-config_fault_text UnknownTable = codes "UnknownTable"
-config_fault_text UnknownColumn = codes "UnknownColumn"
-config_fault_text BadPeriod = codes "BadPeriod"
-config_fault_text BadSize = codes "BadSize"
-config_fault_text BadName = codes "BadName"
-
--- what is wrong with a line of a configuration
-abbrev pub fault_text : LineCause → List ℕ
-fault_text line.Syntax = codes "Syntax"
-fault_text line.Number = codes "Number"
-fault_text (line.Check fault) = config_fault_text fault
-fault_text line.NoMemory = codes "NoMemory"

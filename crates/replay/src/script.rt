@@ -2,15 +2,14 @@
 
 ghost use Rattle.std.specs.Prelude.{◌≡◌, ◌++◌, codes, IfOk, OnOk, OnErr};
 ghost use Rattle.std.specs.Fmt.{decimal};
+ghost use Rattle.agg_config.specs.Reading.{cause_name};
 ghost use Rattle.agg_config.specs.declared.causes.LineFault.{LineFault};
 ghost use Rattle.replay.specs.Script.{BadLine, BadStart, OrNothing, ScriptPrints};
-ghost use Rattle.replay.specs.Texts.{fault_text};
 ghost use Rattle.replay.specs.Writing.{Wrote, WroteFront};
 
 use crate::ending::Ending;
 use crate::running::run;
 use crate::start::start_of;
-use crate::texts::fault_text;
 use crate::writing::write_text;
 use agg_config::{LineCause, LineFault, read};
 use agg_types::NoMemory;
@@ -87,12 +86,12 @@ fn bad_configuration<W: Write>(alloc: Global, fault: LineFault, out: &mut W) -> 
 
 fn append_fault(fault: LineFault, out: &mut Vec<u8>) -> Result<(), NoMemory>
     ensures { OnOk result (out.new.items ≡ out.old.items
-        ++ (codes "config line " ++ decimal fault.line ++ codes ": " ++ fault_text fault.cause
+        ++ (codes "config line " ++ decimal fault.line ++ codes ": " ++ cause_name fault.cause
         ++ codes "\n")) }
 {
     append_text(b"config line ", out)?;
     append_number(fault.line as u128, out)?;
     append_text(b": ", out)?;
-    append_text(fault_text(fault.cause), out)?;
+    append_text(fault.cause.name().as_bytes(), out)?;
     append_text(b"\n", out)
 }

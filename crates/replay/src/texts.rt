@@ -1,11 +1,10 @@
 //! What a step prints.
 
 ghost use Rattle.std.specs.Prelude.{◌≡◌, ◌++◌, OnOk};
-ghost use Rattle.replay.specs.Texts.{cause_text, config_fault_text, conn_text, end_text};
-ghost use Rattle.replay.specs.Texts.{fault_text, sent_text, status_text, wire_text};
+ghost use Rattle.replay.specs.Texts.{cause_text, conn_text, end_text, sent_text, status_text};
+ghost use Rattle.replay.specs.Texts.{wire_text};
 
-use agg_config::LineCause;
-use agg_types::{ConfigFault, NoMemory};
+use agg_types::NoMemory;
 use key_text::{append_number, append_text};
 use peers_msg::WireCause;
 use session_core::{SessionCause, Status};
@@ -85,31 +84,5 @@ fn wire_text(wire: WireCause) -> &'static [u8]
         WireCause::BadInteger => b"BadInteger",
         WireCause::BadField => b"BadField",
         WireCause::NoMemory => b"NoMemory",
-    }
-}
-
-/// What is wrong with a line of a configuration.
-pub fn fault_text(cause: LineCause) -> &'static [u8]
-    ensures { result.now ≡ fault_text cause }
-{
-    match cause {
-        LineCause::Syntax => b"Syntax",
-        LineCause::Number => b"Number",
-        LineCause::Check(fault) => config_fault_text(fault),
-        LineCause::NoMemory => b"NoMemory",
-    }
-}
-
-fn config_fault_text(fault: ConfigFault) -> &'static [u8]
-    ensures { result.now ≡ config_fault_text fault }
-{
-    match fault {
-        ConfigFault::Duplicate => b"Duplicate",
-        ConfigFault::TooMany => b"TooMany",
-        ConfigFault::UnknownTable => b"UnknownTable",
-        ConfigFault::UnknownColumn => b"UnknownColumn",
-        ConfigFault::BadPeriod => b"BadPeriod",
-        ConfigFault::BadSize => b"BadSize",
-        ConfigFault::BadName => b"BadName",
     }
 }

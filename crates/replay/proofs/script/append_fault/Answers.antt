@@ -7,7 +7,8 @@ returns c =
     on_ok c.append_text-4.result _ _
     (λ e. e ∙ rw (
       c.in_ok-append_text-3.ensures.ok,
-      c.fault_text.ensures,
+      c.as_bytes.ensures,
+      c.name.ensures,
       c.in_ok-append_text-2.ensures.ok,
       c.in_ok-append_number.ensures.ok,
       c.in_ok-append_text.ensures.ok,
