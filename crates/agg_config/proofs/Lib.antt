@@ -1,4 +1,5 @@
 pub mod Conditions
 pub mod Each
+pub mod Finished
 pub mod Lines
 pub mod Ordered

@@ -1,5 +1,5 @@
 -- The lines of a text, one behind the others.
-use Rattle.std.proofs.Common.{◌≡◌, ℕ, ◌+◌, ◌<◌, ◌≤◌, ◌||◌, List, [], ◌∷◌, ◌++◌, length, take, drop}
+use Rattle.std.proofs.Common.{◌≡◌, ℕ, ◌⊎◌, inr, true, ◌+◌, ◌<◌, ◌≤◌, ◌||◌, List, [], ◌∷◌, ◌++◌, length, take, drop}
 use Rattle.std.proofs.Common.{get_or, map, Option, Some, None, Ok, Err, Bool, ◌&&◌, refl, sym, ap}
 use Rattle.std.proofs.Common.{◌∙◌, arith, length-drop, drop-cons, add-one}
 use Rattle.std.specs.Prelude.{slice_get}
@@ -13,7 +13,7 @@ use Rattle.agg_config.specs.declared.causes.LineCause.TheVariants.{Syntax, Numbe
 use Rattle.agg_config.specs.Declarations.{declared}
 use Rattle.agg_config.specs.Reading.{AreSound, FailsFirst, FaultBehind, Meaning, behind, declaring}
 use Rattle.agg_config.specs.Reading.{faults_behind, is_me, is_named, line_fault, names, written}
-use Rattle.agg_config.specs.Reading.{wrong_check, wrong_word}
+use Rattle.agg_config.specs.Reading.{takes_memory, wrong_check, wrong_word}
 use Rattle.agg_types.specs.Check.{config_faults, fault_if}
 use Rattle.agg_types.specs.declared.check.ConfigFault.{ConfigFault}
 use Rattle.agg_types.specs.declared.check.ConfigFault.TheVariants.{Duplicate}
@@ -104,18 +104,19 @@ pub faulty : (lines : List (List ℕ)) (before : ℕ) (line : List ℕ) (cause :
     (place : Option Misread) → before < length lines → get_or lines before [] ≡ line
     → AreSound lines before → FailsFirst (record { cause = cause; place = place })
     (faults_behind (written (take before lines)) (is_named (take before lines)) (declared line))
-    → FaultBehind lines before cause place
+    → (cause ≡ NoMemory → takes_memory line ≡ true) → FaultBehind lines before cause place
 unfolding line_fault
-faulty lines before line Syntax None inside at sound fails =
+faulty lines before line Syntax None inside at sound fails lacks =
     absurd (syntax_has_word (written (take before lines)) (is_named (take before lines))
     (declared line) (fails (λ e. absurd cc)))
-faulty lines before line Syntax (Some misread) inside at sound fails =
+faulty lines before line Syntax (Some misread) inside at sound fails lacks =
     record { sound = sound; there = inside; first = rw at (fails (λ e. absurd cc)) }
-faulty lines before line Number place inside at sound fails =
+faulty lines before line Number place inside at sound fails lacks =
     record { sound = sound; there = inside; first = rw at (fails (λ e. absurd cc)) }
-faulty lines before line (Check fault) place inside at sound fails =
+faulty lines before line (Check fault) place inside at sound fails lacks =
     record { sound = sound; there = inside; first = rw at (fails (λ e. absurd cc)) }
-faulty lines before line NoMemory place inside at sound fails = (omega arith, sound)
+faulty lines before line NoMemory place inside at sound fails lacks =
+    (omega arith, sound, inr (rw at (lacks refl)))
 
 -- the first fault of a configuration stands first where others follow
 pub first_check : (faults others : List ConfigFault) (fault : ConfigFault)

@@ -1,5 +1,5 @@
 -- Reading the words of a line, from the front.
-use Rattle.std.specs.Prelude.{◌≡◌, List, [], ◌∷◌, Result, Ok, Err}
+use Rattle.std.specs.Prelude.{◌≡◌, List, [], ◌∷◌, Result, Ok, Err, IsOk}
 use Rattle.line_words.specs.Reader.{◌>>=◌}
 use Rattle.line_words.specs.declared.misread.Misread.{Misread}
 use Rattle.agg_config.specs.declared.causes.Unread.{Unread}
@@ -14,6 +14,12 @@ Fails (unread.Misread fault) read = read ≡ Err fault
 abbrev pub Gives : {X Y : Type 0} → (X → Y) → Result X Unread → Result Y Misread → Type 0
 Gives view (Ok x) read = read ≡ Ok (view x)
 Gives view (Err cause) read = Fails cause read
+
+-- the same, where memory is taken only for what was read to its end
+abbrev pub GivesWhole : {X Y : Type 0} → (X → Y) → Result X Unread → Result Y Misread → Type 0
+GivesWhole view (Ok x) read = read ≡ Ok (view x)
+GivesWhole view (Err unread.NoMemory) read = IsOk read
+GivesWhole view (Err (unread.Misread fault)) read = read ≡ Err fault
 
 -- what reading gives of each, in order; the first fault ends it
 abbrev pub read_each : {A B : Type 0} → (A → Result B Misread) → List A → Result (List B) Misread

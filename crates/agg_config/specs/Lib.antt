@@ -2,4 +2,5 @@ pub mod Columns
 pub mod Declarations
 pub mod Filters
 pub mod Front
+pub mod Lines
 pub mod Reading

@@ -1,8 +1,9 @@
 -- A text's configuration: what each line declares, behind the lines before it.
-use Rattle.std.specs.Prelude.{◌≡◌, ◌≢◌, ℕ, ◌+◌, ◌<◌, ◌≤◌, Bool, true, false, ◌&&◌, ◌||◌, not}
-use Rattle.std.specs.Prelude.{if◌then◌else◌, List, [], ◌∷◌}
+use Rattle.std.specs.Prelude.{◌≡◌, ◌≢◌, ◌⊎◌, ℕ, ◌+◌, ◌<◌, ◌≤◌, Bool, true, false, ◌&&◌, ◌||◌}
+use Rattle.std.specs.Prelude.{not, if◌then◌else◌, List, [], ◌∷◌}
 use Rattle.std.specs.Prelude.{◌++◌, length, take, map, fold, position, unwrap_or, slice_get}
 use Rattle.std.specs.Prelude.{slice_index_or, codes, Option, None, Some, Result, Ok, Err}
+use Rattle.std.specs.Fmt.{decimal}
 use Rattle.std.specs.List.{list_any}
 use Rattle.std.specs.Str.{bytes_eq}
 use Rattle.agg_types.specs.Check.{config_faults, fault_if}
@@ -15,6 +16,7 @@ use Rattle.agg_types.specs.declared.config.Rank as Ranks
 use Rattle.agg_types.specs.declared.config.Shape.{Shape}
 use Rattle.line_words.specs.declared.misread.Expected.{Expected}
 use Rattle.line_words.specs.declared.misread.Expected.TheVariants as expected
+use Rattle.line_words.specs.Words.{words}
 use Rattle.line_words.specs.declared.misread.Misread.{Misread}
 use Rattle.agg_config.specs.Declarations.{declared}
 use Rattle.agg_config.specs.declared.causes.LineCause.{LineCause}
@@ -60,6 +62,10 @@ cause_name Syntax = codes "Syntax"
 cause_name Number = codes "Number"
 cause_name (Check fault) = config_fault_name fault
 cause_name NoMemory = codes "NoMemory"
+
+-- what is printed of a fault
+abbrev pub fault_line : LineFault → List ℕ
+fault_line fault = codes "config line " ++ decimal fault.line ++ codes ": " ++ cause_name fault.cause
 
 -- a word that had to be a number and is none has a cause of its own
 abbrev pub is_number : Expected → Bool
@@ -165,10 +171,31 @@ pub record Nameless (lines : List (List ℕ)) (before : ℕ) : Type 0 where
   pub last : before ≡ length lines
   pub nameless : is_named lines ≡ false
 
+-- whether a line declares something
+abbrev pub declares : Meaning → Bool
+declares (Err misread) = false
+declares (Ok None) = false
+declares (Ok (Some declaration)) = true
+
+-- whether a line of these words has columns or conditions, which are kept as they are read
+abbrev pub has_list : List (List ℕ) → Bool
+has_list [] = false
+has_list (kind ∷ rest) = bytes_eq kind (codes "table") || bytes_eq kind (codes "filter")
+
+-- whether reading a line may take memory
+abbrev pub takes_memory : List ℕ → Bool
+takes_memory line = declares (meaning line) || has_list (words line)
+
+-- memory may be wanting at the line behind this many: before the first, or for what the line says
+abbrev pub MayLack : List (List ℕ) → ℕ → Type 0
+MayLack lines before =
+    (before ≡ 0) ⊎ (takes_memory (slice_index_or lines before []) ≡ true)
+
 -- what is wrong at the line behind this many; where memory was refused none of these has a fault,
 -- and Syntax with no word is told behind the last line only
 abbrev pub FaultBehind : List (List ℕ) → ℕ → LineCause → Option Misread → Type 0
-FaultBehind lines before NoMemory place = (before ≤ length lines) × AreSound lines before
+FaultBehind lines before NoMemory place =
+    (before ≤ length lines) × AreSound lines before × MayLack lines before
 FaultBehind lines before Syntax None = Nameless lines before
 FaultBehind lines before Syntax (Some misread) =
     FaultyLine lines before (record { cause = Syntax; place = Some misread })

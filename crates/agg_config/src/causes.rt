@@ -1,5 +1,5 @@
-ghost use Rattle.std.specs.Prelude.{◌≡◌, None};
-ghost use Rattle.agg_config.specs.Reading.{cause_name, cause_of, wrong_of};
+ghost use Rattle.std.specs.Prelude.{◌≡◌, None, Some};
+ghost use Rattle.agg_config.specs.Reading.{cause_name, cause_of, fault_line, wrong_of};
 ghost use Rattle.agg_config.specs.declared.causes.Unread.TheVariants.{NoMemory as Refused};
 ghost use Rattle.agg_config.specs.declared.causes.Unread.TheVariants.{Misread as Wrongly};
 ghost use Rattle.agg_config.specs.declared.causes.Wrong.{Wrong};
@@ -39,6 +39,8 @@ impl LineCause {
 }
 
 impl fmt::Display for LineCause {
+    ghost output = { λ cause. Some (cause_name cause) };
+
     fn fmt<W: fmt::Write>(&self, f: &mut fmt::Formatter<W>) -> fmt::Result {
         let name = self.name();
         write!(f, "{name}")
@@ -56,6 +58,17 @@ pub struct LineFault {
     /// The word that is wrong or missing, and what had to stand there. A line that goes against
     /// those before it has none, nor has a configuration without a `name` line.
     pub place: Option<Misread>,
+}
+
+/// What is printed of a fault, without an LF: `config line <n>: <name>`.
+impl fmt::Display for LineFault {
+    ghost output = { λ fault. Some (fault_line fault) };
+
+    fn fmt<W: fmt::Write>(&self, f: &mut fmt::Formatter<W>) -> fmt::Result {
+        let line = self.line;
+        let name = self.cause.name();
+        write!(f, "config line {line}: {name}")
+    }
 }
 
 /// What is wrong with a line, and with which word.

@@ -1,11 +1,13 @@
 //! What a line declares.
 
-ghost use Rattle.std.specs.Prelude.{◌≡◌};
+ghost use Rattle.std.specs.Prelude.{◌≡◌, ◌||◌, true, Err, is_ok};
 ghost use Rattle.line_words.specs.Reader.{Reads};
 ghost use Rattle.agg_config.specs.Declarations.{declared, filter_line, key_kind, length_of};
 ghost use Rattle.agg_config.specs.Declarations.{line_declaration, me_line, peer_line, rank_line};
 ghost use Rattle.agg_config.specs.Declarations.{shape, table_line};
-ghost use Rattle.agg_config.specs.Front.{Gives};
+ghost use Rattle.agg_config.specs.Front.{Gives, GivesWhole};
+ghost use Rattle.agg_config.specs.Reading.{has_list, takes_memory};
+ghost use Rattle.agg_config.specs.declared.causes.Unread.TheVariants.{NoMemory as Refused};
 
 use crate::Unread;
 use crate::columns::{Stored, in_order, known_periods, stored};
@@ -36,7 +38,8 @@ pub(crate) enum Declaration {
 /// What a line declares, or nothing where it is blank or a comment.
 #[tactic(auto, unfolding(crate::specs::Declarations::declared))]
 pub(crate) fn declared(alloc: Global, line: &[u8]) -> Result<Option<Declaration>, Unread>
-    ensures { Gives (λ x. x) result (declared line.now) }
+    ensures gives { Gives (λ x. x) result (declared line.now) }
+    ensures spare { result ≡ Err Refused → takes_memory line.now ≡ true }
 {
     if is_comment(line) {
         return Ok(None);
@@ -47,7 +50,9 @@ pub(crate) fn declared(alloc: Global, line: &[u8]) -> Result<Option<Declaration>
 
 #[tactic(auto, unfolding(crate::specs::Declarations::line_declaration))]
 fn line_declaration(alloc: Global, words: &mut Words<'_>) -> Result<Declaration, Unread>
-    ensures { Gives (λ x. x) result (line_declaration words.old) }
+    ensures gives { Gives (λ x. x) result (line_declaration words.old) }
+    ensures spare { result ≡ Err Refused → (is_ok (line_declaration words.old)
+        || has_list words.old.words) ≡ true }
 {
     let place = words.place();
     match words.word(Expected::Keyword)? {
@@ -62,7 +67,7 @@ fn line_declaration(alloc: Global, words: &mut Words<'_>) -> Result<Declaration,
 
 #[tactic(auto, unfolding(crate::specs::Declarations::me_line))]
 fn me_line(alloc: Global, words: &mut Words<'_>) -> Result<Declaration, Unread>
-    ensures { Gives (λ x. x) result (me_line words.old) }
+    ensures { GivesWhole (λ x. x) result (me_line words.old) }
 {
     let name = words.word(Expected::Name)?;
     words.end()?;
@@ -71,7 +76,7 @@ fn me_line(alloc: Global, words: &mut Words<'_>) -> Result<Declaration, Unread>
 
 #[tactic(auto, unfolding(crate::specs::Declarations::peer_line))]
 fn peer_line(alloc: Global, words: &mut Words<'_>) -> Result<Declaration, Unread>
-    ensures { Gives (λ x. x) result (peer_line words.old) }
+    ensures { GivesWhole (λ x. x) result (peer_line words.old) }
 {
     let name = words.word(Expected::Name)?;
     words.end()?;
@@ -165,7 +170,7 @@ fn filter_line(alloc: Global, words: &mut Words<'_>) -> Result<Declaration, Unre
 
 #[tactic(auto, unfolding(crate::specs::Declarations::rank_line))]
 fn rank_line(alloc: Global, words: &mut Words<'_>) -> Result<Declaration, Unread>
-    ensures { Gives (λ x. x) result (rank_line words.old) }
+    ensures { GivesWhole (λ x. x) result (rank_line words.old) }
 {
     let name = words.word(Expected::Name)?;
     let table = words.word(Expected::Name)?;

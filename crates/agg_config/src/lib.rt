@@ -2,10 +2,11 @@
 //! lines.
 //!
 //! For the programs, which read it before they serve or replay. `read` answers the configuration
-//! that the text writes, or the first faulty line with what is wrong with it, exactly; what each
-//! line means, and when it is faulty behind the lines before it, is said in specs/ of whole lists
-//! of words and lines. A fault has its line, its cause, and the word that is wrong or missing with
-//! what had to stand there. No clause says that there is memory.
+//! that the text writes, or the first faulty line with what is wrong with it, exactly; `Reader` does
+//! the same with lines that come one after the other. What each line means, and when it is faulty
+//! behind the lines before it, is said in specs/ of whole lists of words and lines. A fault has its
+//! line, its cause, and the word that is wrong or missing with what had to stand there; `LineFault`
+//! as text is the line that is printed of it. No clause says that there is memory.
 #![tactic(auto)]
 
 mod causes;
@@ -18,4 +19,4 @@ mod reader;
 pub(crate) use causes::Unread;
 pub use causes::{LineCause, LineFault};
 pub use laws::in_order_keeps;
-pub use reader::read;
+pub use reader::{Reader, read};

@@ -1,11 +1,13 @@
 //! The lines of a configuration, one after the other.
 
-ghost use Rattle.std.specs.Prelude.{◌≡◌, [], OnOk, IfOk, IfErr};
+ghost use Rattle.std.specs.Prelude.{◌≡◌, ◌≤◌, ◌<◌, ◌+◌, ◌^◌, ◌++◌, ℕ, true, List, [], ◌∷◌, None};
+ghost use Rattle.std.specs.Prelude.{OnOk, IfOk, IfErr};
 ghost use Rattle.agg_types.specs.Check.{config_faults};
 ghost use Rattle.line_words.specs.Words.{lines_of};
 ghost use Rattle.agg_config.specs.Reading.{FailsFirst, IsFirstFault, Passes, Write, declaring};
 ghost use Rattle.agg_config.specs.Reading.{faults_behind, is_me, meaning, opening, table_at};
-ghost use Rattle.agg_config.specs.Reading.{wrong_check};
+ghost use Rattle.agg_config.specs.Reading.{takes_memory, wrong_check};
+ghost use Rattle.agg_config.specs.declared.causes.LineCause.TheVariants.{NoMemory as RefusedLine};
 
 use crate::causes::Wrong;
 use crate::declarations::{Declaration, declared};
@@ -70,6 +72,8 @@ fn read_line(alloc: Global, config: &mut Config, named: &mut bool, line: &[u8]) 
     ensures ok { OnOk result (Passes config.old named.old (meaning line.now) config.new named.new) }
     ensures err { IfErr result (λ wrong. FailsFirst wrong
         (faults_behind config.old named.old (meaning line.now))) }
+    ensures spare { IfErr result (λ wrong. wrong.cause ≡ RefusedLine
+        → takes_memory line.now ≡ true) }
 {
     let Some(declaration) = declared(alloc, line)? else {
         return Ok(());
@@ -109,49 +113,106 @@ fn opening(alloc: Global) -> Result<Config, NoMemory>
     })
 }
 
+/// A configuration that is read line by line. It keeps what the lines write, or their first fault:
+/// a line behind that one takes no memory.
+#[derive(Drop)]
+pub struct Reader {
+    alloc: Global,
+    config: Config,
+    named: bool,
+    count: usize,
+    fault: Option<LineFault>,
+    ghost sound: { fault ≡ None → config_faults config ≡ [] },
+    ghost counted: { count ≤ 2 ^ 63 },
+}
+
+impl Reader {
+    ghost use Rattle.agg_config.specs.Lines.{Finishes, HasRead, lines_read};
+
+    /// A reader that has read no line.
+    pub fn new(alloc: Global) -> Result<Reader, NoMemory>
+        ensures none { IfOk result (λ reader. HasRead reader []) }
+        ensures count { IfOk result (λ reader. lines_read reader ≡ 0) }
+    {
+        Ok(Reader {
+            alloc,
+            config: opening(alloc)?,
+            named: false,
+            count: 0,
+            fault: None,
+        })
+    }
+
+    /// Reads the next line. Behind a faulty one nothing is read.
+    pub fn line(&mut self, line: &[u8])
+        requires { lines_read self.old < 2 ^ 63 }
+        ensures read { (lines : List (List ℕ)) → HasRead self.old lines
+            → HasRead self.new (lines ++ line.now ∷ []) }
+        ensures count { lines_read self.new ≤ lines_read self.old + 1 }
+    {
+        if self.fault.is_some() {
+            return;
+        }
+        match read_line(self.alloc, &mut self.config, &mut self.named, line) {
+            Ok(()) => self.count += 1,
+            Err(wrong) => {
+                self.fault = Some(LineFault {
+                    line: self.count + 1,
+                    cause: wrong.cause,
+                    place: wrong.place,
+                })
+            }
+        }
+    }
+
+    /// What the lines write, or their first fault. Without a `name` line that is Syntax, at the line
+    /// behind the last.
+    pub fn finish(self) -> Result<Config, LineFault>
+        ensures finished { (lines : List (List ℕ)) → HasRead self lines → Finishes lines result }
+        ensures sound { IfOk result (λ config. config_faults config ≡ []) }
+    {
+        let Reader {
+            config,
+            named,
+            count,
+            fault,
+            ..
+        } = self;
+        match fault {
+            Some(fault) => Err(fault),
+            None if named => Ok(config),
+            None => Err(LineFault {
+                line: count + 1,
+                cause: LineCause::Syntax,
+                place: None,
+            }),
+        }
+    }
+}
+
 /// The configuration that a text writes, or its first faulty line.
 ///
 /// Each line is judged behind the lines before it: Syntax comes before Number, and that before
 /// Check. A text without a `name` line has the fault Syntax at the line after its last. `NoMemory`
-/// is told at the line where a growth of memory was refused, and may come before any other fault.
-/// docs/CONFIGURATION.md has the lines; what they declare is HAProxy's `peers` section and its
-/// `stick-table` lines (Configuration Manual).
+/// is told at the line where an allocation failed, and may come before any other fault; a blank
+/// line takes no memory, nor does a comment. docs/CONFIGURATION.md has the lines; what they declare
+/// is HAProxy's `peers` section and its `stick-table` lines (Configuration Manual).
 pub fn read(alloc: Global, text: &[u8]) -> Result<Config, LineFault>
     ensures written { IfOk result (Write (lines_of text.now)) }
     ensures sound { IfOk result (λ config. config_faults config ≡ []) }
     ensures fault { IfErr result (IsFirstFault (lines_of text.now)) }
 {
-    let Ok(mut config) = opening(alloc) else {
+    let Ok(mut reader) = Reader::new(alloc) else {
         return Err(LineFault {
             line: 1,
             cause: LineCause::NoMemory,
             place: None,
         });
     };
-    let mut named = false;
-    let mut before = 0;
     let mut left = text;
     'lines: while let Some((line, rest)) = next_line(left) {
-        match read_line(alloc, &mut config, &mut named, line) {
-            Ok(()) => {}
-            Err(wrong) => {
-                return Err(LineFault {
-                    line: before + 1,
-                    cause: wrong.cause,
-                    place: wrong.place,
-                });
-            }
-        }
-        before += 1;
+        reader.line(line);
         left = rest;
     }
-    if named {
-        Ok(config)
-    } else {
-        Err(LineFault {
-            line: before + 1,
-            cause: LineCause::Syntax,
-            place: None,
-        })
-    }
+    reader.finish()
 }

@@ -1,18 +1,18 @@
-use Rattle.std.proofs.Common.{◌≡◌, ◌+◌, ◌≤◌, [], length, take, drop}
-use Rattle.agg_types.specs.Check.{config_faults}
+use Rattle.std.proofs.Common.{◌≡◌, ◌+◌, ◌≤◌, ◌++◌, List, ℕ, length}
 use Rattle.line_words.specs.Words.{lines_of}
-use Rattle.agg_config.specs.Reading.{AreSound, is_named, written}
+use Rattle.agg_config.specs.Lines.{HasRead, lines_read}
 use Rattle.agg_config.proofs.reader.read.Given as goal
+
+-- the lines so far were read, and the others are left
+pub record Parted (text left : List ℕ) (Has : List (List ℕ) → Type 0) : Type 0 where
+  pub before : List (List ℕ)
+  pub has : Has before
+  pub whole : before ++ lines_of left ≡ lines_of text
 
 abbrev pub invariant-lines : goal.invariant-lines
 invariant-lines l = record {
-  left : drop l.before (lines_of l.text) ≡ lines_of l.left;
-  within : l.before ≤ length (lines_of l.text);
-  room : l.before + length l.left ≤ length l.text;
-  sound : AreSound (lines_of l.text) l.before;
-  config : l.config ≡ written (take l.before (lines_of l.text));
-  named : l.named ≡ is_named (take l.before (lines_of l.text));
-  checked : config_faults l.config ≡ [];
+  parted : Parted l.text l.left (HasRead l.reader);
+  room : lines_read l.reader + length l.left ≤ length l.text;
 }
 
 abbrev pub decreases-lines : goal.decreases-lines
