@@ -7,7 +7,6 @@ use Rattle.std.proofs.lemmas.Bool.Decides.{nat_tests}
 use Rattle.std.specs.List.{list_all, position, position_or_len}
 use Rattle.std.specs.Prelude.{codes, drop, find, IfOk}
 use Rattle.std.specs.Str.{bytes_eq}
-use Rattle.std.specs.Str.Lines.{strip_carriage_return}
 use Rattle.agg_types.specs.Col.{all_cols, col_name}
 use Rattle.agg_types.specs.Fits.{at_table, conds_fit, filter_fits, fits, key_fits, select_fits}
 use Rattle.agg_types.specs.Fits.{stores}
@@ -32,7 +31,7 @@ use Rattle.show_clear.specs.Parse.{cond_of, conds_of, filter_added, filter_named
 use Rattle.show_clear.specs.Parse.{filter_shown, is_data, new_name, next_shown, one_key, or_fault}
 use Rattle.show_clear.specs.Parse.{rank_named, rank_shown, sel_of, shown, some_conds, stored_col}
 use Rattle.show_clear.specs.Parse.{table_and_sel, table_cleared, table_named, table_shown}
-use Rattle.show_clear.specs.Parse.{with_bound, with_fault, with_op, ◌>>=◌}
+use Rattle.show_clear.specs.Parse.{with_bound, with_fault, with_op, without_returns, ◌>>=◌}
 use Rattle.show_clear.specs.declared.command.Change.{Change}
 use Rattle.show_clear.specs.declared.command.Change.TheVariants.{Clear, AddFilter}
 use Rattle.show_clear.specs.declared.command.Command.{Command}
@@ -461,9 +460,9 @@ asked_good state (word ∷ ws) command h =
 command_good : (state : State) (line : List ℕ) (command : Command)
     → command_of state line ≡ Ok command → IsGood state command
 command_good state line command h =
-    either (ltb 4096 (length (strip_carriage_return line))) (Err Unknown)
-    (asked state (words (strip_carriage_return line))) command h (none_read Unknown command)
-    (asked_good state (words (strip_carriage_return line)) command)
+    either (ltb 4096 (length (without_returns line))) (Err Unknown)
+    (asked state (words (without_returns line))) command h (none_read Unknown command)
+    (asked_good state (words (without_returns line)) command)
 
 pub told_good : (state : State) (line : List ℕ) (told : Read Command)
     → Tells (command_of state line) told → IfOk told (IsGood state)

@@ -3,3 +3,4 @@ pub mod Fitting
 pub mod Lines
 pub mod Chosen
 pub mod Stands
+pub mod Returns

@@ -1,10 +1,9 @@
 -- What a line asks for, word by word from the left.
-use Rattle.std.specs.Prelude.{◌≡◌, ◌≢◌, ℕ, zero, suc, Bool, not, if◌then◌else◌, nat_eq, nat_le}
-use Rattle.std.specs.Prelude.{nat_lt, List, [], ◌∷◌, codes, length, drop, position, slice_index_or}
-use Rattle.std.specs.Prelude.{find, Option, None, Some, Result, Ok, Err}
-use Rattle.std.specs.List.{list_any, starts_with}
+use Rattle.std.specs.Prelude.{◌≡◌, ◌≢◌, ℕ, zero, suc, ◌==◌, Bool, not, if◌then◌else◌}
+use Rattle.std.specs.Prelude.{nat_eq, nat_le, nat_lt, List, [], ◌∷◌, codes, length, drop, position}
+use Rattle.std.specs.Prelude.{slice_index_or, find, Option, None, Some, Result, Ok, Err}
+use Rattle.std.specs.List.{list_all, list_any, starts_with}
 use Rattle.std.specs.Str.{bytes_eq}
-use Rattle.std.specs.Str.Lines.{strip_carriage_return}
 use Rattle.agg_types.specs.Col.{all_cols, col_name}
 use Rattle.agg_types.specs.Fits.{stores}
 use Rattle.agg_types.specs.Name.{is_name}
@@ -218,12 +217,18 @@ asked state (word ∷ ws) =
     else if bytes_eq word (codes "add") then (added state ws >>= λ change. Ok (Changes change))
     else Err Unknown
 
--- the command that a line of up to 4,096 bytes says. A CR at its end is no part of it.
+-- a line without the CRs at its end
+abbrev pub without_returns : List ℕ → List ℕ
+without_returns [] = []
+without_returns (byte ∷ bytes) =
+    if list_all (λ b. b == 13) (byte ∷ bytes) then [] else byte ∷ without_returns bytes
+
+-- the command that a line of up to 4,096 bytes says. The CRs at its end are no part of it.
 abbrev pub command_of : State → List ℕ → Read Command
 command_of state line =
-    if nat_lt 4096 (length (strip_carriage_return line))
+    if nat_lt 4096 (length (without_returns line))
     then Err Unknown
-    else asked state (words (strip_carriage_return line))
+    else asked state (words (without_returns line))
 
 -- a result is what is to be read, or says that a growth was refused
 abbrev pub Tells : {A : Type 0} → Read A → Read A → Type 0

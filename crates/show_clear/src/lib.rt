@@ -2,8 +2,10 @@
 //! admin connections.
 //!
 //! `parse` gives the command that a line says, a question or a change, or its first fault from the
-//! left; `answer` and `refusal` append their texts whole, or leave what was there. What lines and answers say stands in specs/Parse and specs/Answer, as functions of bytes
-//! and of the book's state. No clause says that a growth is refused only for want of memory.
+//! left; `answer` and `refusal` append their texts whole, or leave what was there. What lines and
+//! answers say stands in specs/Parse and specs/Answer, as functions of bytes and of the book's state.
+//! No clause says that an allocation fails only for want of memory; but a line of up to three words
+//! takes none.
 #![tactic(auto)]
 
 mod answers;

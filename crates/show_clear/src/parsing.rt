@@ -1,15 +1,15 @@
 //! Commands from their lines.
 
-ghost use Rattle.std.specs.Prelude.{◌≡◌, ◌<◌, length, IfOk};
-ghost use Rattle.std.specs.Str.Lines.{strip_carriage_return};
+ghost use Rattle.std.specs.Prelude.{◌≡◌, ◌≢◌, ◌<◌, ◌≤◌, length, IfOk, Err};
 ghost use Rattle.line_words.specs.Words.{words};
 ghost use Rattle.show_clear.specs.Parse.{Tells, added, asked, at_end, cleared, command_of};
 ghost use Rattle.show_clear.specs.Parse.{filter_added, filter_named, filter_on, filter_shown};
 ghost use Rattle.show_clear.specs.Parse.{new_name, next_shown, one_key, rank_named, rank_shown};
 ghost use Rattle.show_clear.specs.Parse.{sel_of, shown, table_and_sel, table_cleared, table_named};
-ghost use Rattle.show_clear.specs.Parse.{table_shown};
+ghost use Rattle.show_clear.specs.Parse.{table_shown, without_returns};
 ghost use Rattle.show_clear.specs.Answer.{NamesStand};
 ghost use Rattle.show_clear.specs.Change.{ChangeFits};
+ghost use Rattle.show_clear.specs.declared.fault.CommandFault.TheVariants.{NoMemory as Refused};
 
 use crate::answers::shape_of;
 use crate::conditions::{read_conds, read_some_conds};
@@ -21,41 +21,48 @@ use key_text::read_key;
 use line_words::next_word;
 use std::alloc::Global;
 
-/// The most bytes of a line, a CR at its end left out.
+/// The most bytes of a line, the CRs at its end left out.
 const LONGEST_LINE: usize = 4096;
 
 /// The command that a line says, over what stands in a book, or the first fault from the left. The
-/// line comes without its LF; a CR at its end is dropped. Words are separated by one or more
+/// line comes without its LF; CRs at its end are dropped. Words are separated by one or more
 /// spaces.
 pub fn parse(alloc: Global, book: &Book, line: &[u8]) -> Result<Command, CommandFault>
     ensures read { Tells (command_of book.now line.now) result }
     ensures stands { IfOk result (NamesStand book.now) }
     ensures fits { IfOk result (ChangeFits book.now) }
+
+    // A line of up to three words takes no memory.
+    ensures spare { result ≡ Err Refused → 4 ≤ length (words (without_returns line.now)) }
 {
     parse_line(alloc, book, line)
 }
 
 fn parse_line(alloc: Global, book: &Book, line: &[u8]) -> Result<Command, CommandFault>
-    ensures { Tells (command_of book.now line.now) result }
+    ensures read { Tells (command_of book.now line.now) result }
+    ensures spare { result ≡ Err Refused → 4 ≤ length (words (without_returns line.now)) }
 {
-    let line = without_return(line);
+    let line = without_returns(line);
     if line.len() > LONGEST_LINE {
         return Err(CommandFault::Unknown);
     }
     parse_words(alloc, book, line)
 }
 
-fn without_return(line: &[u8]) -> &[u8]
-    ensures { result.now ≡ strip_carriage_return line.now }
+// A line without the CRs at its end.
+fn without_returns(line: &[u8]) -> &[u8]
+    ensures { result.now ≡ without_returns line.now }
 {
-    match line {
-        [front @ .., b'\r'] => front,
-        _ => line,
+    let mut left = line;
+    while let Some(front) = left.strip_suffix(b"\r") {
+        left = front;
     }
+    left
 }
 
 fn parse_words(alloc: Global, book: &Book, line: &[u8]) -> Result<Command, CommandFault>
-    ensures { Tells (asked book.now (words line.now)) result }
+    ensures read { Tells (asked book.now (words line.now)) result }
+    ensures spare { result ≡ Err Refused → 4 ≤ length (words line.now) }
 {
     let Some((word, rest)) = next_word(line) else {
         return Err(CommandFault::Empty);
@@ -70,7 +77,8 @@ fn parse_words(alloc: Global, book: &Book, line: &[u8]) -> Result<Command, Comma
 
 // Behind `show`.
 fn parse_show(alloc: Global, book: &Book, line: &[u8]) -> Result<Question, CommandFault>
-    ensures { Tells (shown book.now (words line.now)) result }
+    ensures read { Tells (shown book.now (words line.now)) result }
+    ensures spare { result ≡ Err Refused → 3 ≤ length (words line.now) }
 {
     let (word, rest) = some_word(line)?;
     match word {
@@ -84,7 +92,8 @@ fn parse_show(alloc: Global, book: &Book, line: &[u8]) -> Result<Question, Comma
 
 // Behind `clear`.
 fn parse_clear(alloc: Global, book: &Book, line: &[u8]) -> Result<Change, CommandFault>
-    ensures { Tells (cleared book.now (words line.now)) result }
+    ensures read { Tells (cleared book.now (words line.now)) result }
+    ensures spare { result ≡ Err Refused → 3 ≤ length (words line.now) }
 {
     let (word, rest) = some_word(line)?;
     match word {
@@ -95,7 +104,8 @@ fn parse_clear(alloc: Global, book: &Book, line: &[u8]) -> Result<Change, Comman
 
 // Behind `add`.
 fn parse_add(alloc: Global, book: &Book, line: &[u8]) -> Result<Change, CommandFault>
-    ensures { Tells (added book.now (words line.now)) result }
+    ensures read { Tells (added book.now (words line.now)) result }
+    ensures spare { result ≡ Err Refused → 3 ≤ length (words line.now) }
 {
     let (word, rest) = some_word(line)?;
     match word {
@@ -108,6 +118,7 @@ fn parse_add(alloc: Global, book: &Book, line: &[u8]) -> Result<Change, CommandF
 fn table_named(book: &Book, name: &[u8]) -> Result<usize, CommandFault>
     ensures read { result ≡ table_named book.now name.now }
     ensures within { IfOk result (λ table. table < length book.now.config.tables) }
+    ensures spare { result ≢ Err Refused }
 {
     book.config()
         .tables
@@ -117,7 +128,8 @@ fn table_named(book: &Book, name: &[u8]) -> Result<usize, CommandFault>
 
 // The position of a standing filter.
 fn filter_named(book: &Book, name: &[u8]) -> Result<usize, CommandFault>
-    ensures { result ≡ filter_named book.now name.now }
+    ensures read { result ≡ filter_named book.now name.now }
+    ensures spare { result ≢ Err Refused }
 {
     book.config()
         .filters
@@ -127,7 +139,8 @@ fn filter_named(book: &Book, name: &[u8]) -> Result<usize, CommandFault>
 
 // The position of a ranked list.
 fn rank_named(book: &Book, name: &[u8]) -> Result<usize, CommandFault>
-    ensures { result ≡ rank_named book.now name.now }
+    ensures read { result ≡ rank_named book.now name.now }
+    ensures spare { result ≢ Err Refused }
 {
     book.config()
         .ranks
@@ -137,7 +150,8 @@ fn rank_named(book: &Book, name: &[u8]) -> Result<usize, CommandFault>
 
 // No further word may follow.
 fn at_end(line: &[u8]) -> Result<(), CommandFault>
-    ensures { result ≡ at_end (words line.now) }
+    ensures read { result ≡ at_end (words line.now) }
+    ensures spare { result ≢ Err Refused }
 {
     match next_word(line) {
         None => Ok(()),
@@ -152,7 +166,8 @@ fn table_and_sel(
     name: &[u8],
     line: &[u8],
 ) -> Result<(usize, Select), CommandFault>
-    ensures { Tells (table_and_sel book.now name.now (words line.now)) result }
+    ensures read { Tells (table_and_sel book.now name.now (words line.now)) result }
+    ensures spare { result ≡ Err Refused → 1 ≤ length (words line.now) }
 {
     let table = table_named(book, name)?;
     let sel = selector(alloc, shape_of(book, table), line)?;
@@ -161,7 +176,8 @@ fn table_and_sel(
 
 // A selector, to the end of the line.
 fn selector(alloc: Global, shape: &Shape, line: &[u8]) -> Result<Select, CommandFault>
-    ensures { Tells (sel_of shape.now (words line.now)) result }
+    ensures read { Tells (sel_of shape.now (words line.now)) result }
+    ensures spare { result ≡ Err Refused → 1 ≤ length (words line.now) }
 {
     let Some((word, rest)) = next_word(line) else {
         return Ok(Select::All);
@@ -185,7 +201,8 @@ fn one_key(alloc: Global, kind: KeyKind, line: &[u8]) -> Result<Select, CommandF
 
 // Behind `show table`.
 fn parse_show_table(alloc: Global, book: &Book, line: &[u8]) -> Result<Question, CommandFault>
-    ensures { Tells (table_shown book.now (words line.now)) result }
+    ensures read { Tells (table_shown book.now (words line.now)) result }
+    ensures spare { result ≡ Err Refused → 2 ≤ length (words line.now) }
 {
     let Some((name, rest)) = next_word(line) else {
         return Ok(Question::Tables);
@@ -196,7 +213,8 @@ fn parse_show_table(alloc: Global, book: &Book, line: &[u8]) -> Result<Question,
 
 // Behind `clear table`.
 fn parse_clear_table(alloc: Global, book: &Book, line: &[u8]) -> Result<Change, CommandFault>
-    ensures { Tells (table_cleared book.now (words line.now)) result }
+    ensures read { Tells (table_cleared book.now (words line.now)) result }
+    ensures spare { result ≡ Err Refused → 2 ≤ length (words line.now) }
 {
     let (name, rest) = some_word(line)?;
     let (table, sel) = table_and_sel(alloc, book, name, rest)?;
@@ -205,7 +223,8 @@ fn parse_clear_table(alloc: Global, book: &Book, line: &[u8]) -> Result<Change, 
 
 // Behind `show filter`.
 fn parse_show_filter(book: &Book, line: &[u8]) -> Result<Question, CommandFault>
-    ensures { Tells (filter_shown book.now (words line.now)) result }
+    ensures read { Tells (filter_shown book.now (words line.now)) result }
+    ensures spare { result ≢ Err Refused }
 {
     let (name, rest) = some_word(line)?;
     let filter = filter_named(book, name)?;
@@ -215,7 +234,8 @@ fn parse_show_filter(book: &Book, line: &[u8]) -> Result<Question, CommandFault>
 
 // Behind `show next`.
 fn parse_show_next(book: &Book, line: &[u8]) -> Result<Question, CommandFault>
-    ensures { Tells (next_shown book.now (words line.now)) result }
+    ensures read { Tells (next_shown book.now (words line.now)) result }
+    ensures spare { result ≢ Err Refused }
 {
     let (name, rest) = some_word(line)?;
     let filter = filter_named(book, name)?;
@@ -225,7 +245,8 @@ fn parse_show_next(book: &Book, line: &[u8]) -> Result<Question, CommandFault>
 
 // Behind `show rank`.
 fn parse_show_rank(book: &Book, line: &[u8]) -> Result<Question, CommandFault>
-    ensures { Tells (rank_shown book.now (words line.now)) result }
+    ensures read { Tells (rank_shown book.now (words line.now)) result }
+    ensures spare { result ≢ Err Refused }
 {
     let (name, rest) = some_word(line)?;
     let rank = rank_named(book, name)?;
@@ -235,7 +256,8 @@ fn parse_show_rank(book: &Book, line: &[u8]) -> Result<Question, CommandFault>
 
 // Behind `add filter`.
 fn parse_add_filter(alloc: Global, book: &Book, line: &[u8]) -> Result<Change, CommandFault>
-    ensures { Tells (filter_added book.now (words line.now)) result }
+    ensures read { Tells (filter_added book.now (words line.now)) result }
+    ensures spare { result ≡ Err Refused → 2 ≤ length (words line.now) }
 {
     let (name, rest) = some_word(line)?;
     check_new_name(book, name)?;
@@ -244,7 +266,8 @@ fn parse_add_filter(alloc: Global, book: &Book, line: &[u8]) -> Result<Change, C
 
 // Whether a filter of this name may be added.
 fn check_new_name(book: &Book, name: &[u8]) -> Result<(), CommandFault>
-    ensures { result ≡ new_name book.now name.now }
+    ensures read { result ≡ new_name book.now name.now }
+    ensures spare { result ≢ Err Refused }
 {
     let filters = &book.config().filters;
     if !is_name(name) {
@@ -262,7 +285,8 @@ fn check_new_name(book: &Book, name: &[u8]) -> Result<(), CommandFault>
 
 // The filter of this name, from its table and conditions.
 fn filter_on(alloc: Global, book: &Book, name: &[u8], line: &[u8]) -> Result<Filter, CommandFault>
-    ensures { Tells (filter_on book.now name.now (words line.now)) result }
+    ensures read { Tells (filter_on book.now name.now (words line.now)) result }
+    ensures spare { result ≡ Err Refused → 1 ≤ length (words line.now) }
 {
     let (word, rest) = some_word(line)?;
     let table = table_named(book, word)?;

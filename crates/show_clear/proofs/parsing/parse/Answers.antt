@@ -7,9 +7,9 @@ use Rattle.show_clear.proofs.parsing.parse.Goals as goal
 pub returns-clause-stands : goal.returns-clause-stands
 returns-clause-stands c = IfOk-weaker c.parse_line.result (IsGood c.args.book.now)
     (NamesStand c.args.book.now) (λ command good. good.stands)
-    (told_good c.args.book.now c.args.line.now c.parse_line.result c.parse_line.ensures)
+    (told_good c.args.book.now c.args.line.now c.parse_line.result c.parse_line.ensures.read)
 
 pub returns-clause-fits : goal.returns-clause-fits
 returns-clause-fits c = IfOk-weaker c.parse_line.result (IsGood c.args.book.now)
     (ChangeFits c.args.book.now) (λ command good. good.fits)
-    (told_good c.args.book.now c.args.line.now c.parse_line.result c.parse_line.ensures)
+    (told_good c.args.book.now c.args.line.now c.parse_line.result c.parse_line.ensures.read)
