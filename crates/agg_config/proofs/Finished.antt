@@ -75,8 +75,7 @@ pub read_wrong : (lines : List (List ℕ)) (line : List ℕ) (config : Config) (
 read_wrong lines line config named count wrong h fails lacks later =
     subst (λ all. IsFirstFault all
     (record { line = count + 1; cause = wrong.cause; place = wrong.place }))
-    (sym (append_assoc lines (line ∷ []) later))
-    (
+    (sym (append_assoc lines (line ∷ []) later)) (
       length lines,
       ap (λ n. n + 1) h.counted,
       faulty (lines ++ line ∷ later) (length lines) line wrong.cause wrong.place s.inside s.at
