@@ -87,8 +87,14 @@ pub const SESSIONS: [(&str, &[Step]); 16] = [
 /// A line of more than 4,096 bytes, that ends.
 const LONG: [u8; 5000] = [b'x'; 5000];
 
+/// What fills a line of `show table` up to 4,096 bytes.
+const SPACES: [u8; 4086] = [b' '; 4086];
+
+/// More CRs than a line may have bytes.
+const RETURNS: [u8; 5000] = [b'\r'; 5000];
+
 /// What an admin sends behind the sessions of both peers.
-pub const ADMINS: [(&str, &[Step]); 11] = [
+pub const ADMINS: [(&str, &[Step]); 15] = [
     (
         "two commands in one piece",
         &[Step::Bytes(b"show table\nshow table t\n")],
@@ -122,6 +128,35 @@ pub const ADMINS: [(&str, &[Step]); 11] = [
     ),
     ("no commands", &[Step::Bytes(b"\nx\n\r\nshow table x\n")]),
     ("a CR before its LF", &[Step::Bytes(b"show table\r\n")]),
+    (
+        "several CRs before its LF",
+        &[Step::Bytes(b"show table\r\r\r\n")],
+    ),
+    (
+        "4,096 bytes, and 5,000 CRs before its LF",
+        &[
+            Step::Bytes(b"show table"),
+            Step::Bytes(&SPACES),
+            Step::Bytes(&RETURNS),
+            Step::Bytes(b"\n"),
+        ],
+    ),
+    (
+        "4,097 bytes, and CRs before its LF",
+        &[
+            Step::Bytes(b"show table"),
+            Step::Bytes(&SPACES),
+            Step::Bytes(b" \r\r\n"),
+        ],
+    ),
+    (
+        "a byte behind 5,000 CRs",
+        &[
+            Step::Bytes(b"show table"),
+            Step::Bytes(&RETURNS),
+            Step::Bytes(b"\r \r\nshow table\n"),
+        ],
+    ),
     (
         "a long line",
         &[Step::Bytes(&LONG), Step::Bytes(b"\nshow table\n")],
