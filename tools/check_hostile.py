@@ -216,8 +216,10 @@ def surroundings(report, options):
     peers, admin = (f"127.0.0.1:{port}" for port in free_ports(2))
     taken = socket.create_server(("127.0.0.1", 0))
     used = f"127.0.0.1:{taken.getsockname()[1]}"
-    report.check("a port that is taken ends it with status 5", 1, lambda: "" if
-                 run(["--peers", used, "--admin", admin], text)[0] == 5 else "another status")
+    status, printed, told = run(["--peers", used, "--admin", admin], text)
+    report.check("a port that is taken is told on standard error with status 5", 1,
+                 lambda: "" if status == 5 and not printed and told.startswith(f"cannot listen at {used}: ".encode())
+                 else (status, printed, told))
     status, _, told = run(["--peers", "127.0.0.1", "--admin", admin], text)
     report.check("a bad address is told with status 2", 1,
                  lambda: "" if status == 2 and b"bad address" in told else (status, told))

@@ -1,5 +1,5 @@
--- The exit statuses of command lines that ask for no job.
-use Rattle.std.specs.Prelude.{◌≡◌, ◌≢◌, ℕ}
+-- The exit statuses and the texts of command lines that ask for no job.
+use Rattle.std.specs.Prelude.{◌≡◌, ◌≢◌, ℕ, List, [], codes, Option, None, Some}
 use Rattle.clap.specs.Values.{kind_of}
 use Rattle.clap.specs.declared.error.Error.{Error}
 use Rattle.clap.specs.declared.error.kind.ErrorKind.{ErrorKind}
@@ -17,6 +17,12 @@ abbrev pub status_of : Usage → ℕ
 status_of (Words error) = kind_status (kind_of error)
 status_of BadAddress = 2
 status_of NoMemory = 5
+
+-- what is printed of a command line that asks for no job. The texts of `Words` are clap's
+abbrev pub text_of : Usage → Option (List ℕ)
+text_of (Words error) = None
+text_of BadAddress = Some (codes "bad address\n")
+text_of NoMemory = Some []
 
 -- what is told of a refused growth
 abbrev pub IsWant : Usage → Type 0

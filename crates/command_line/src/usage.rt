@@ -1,9 +1,11 @@
-ghost use Rattle.std.specs.Prelude.{◌≡◌};
-ghost use Rattle.command_line.specs.Status.{IsUsageOf, IsWant, status_of};
+ghost use Rattle.std.specs.Prelude.{◌≡◌, ◌≢◌, IfSome, OnOk};
+ghost use Rattle.std.specs.Io.KnownBytes.{Appends, Keeps};
+ghost use Rattle.command_line.specs.Status.{IsUsageOf, IsWant, status_of, text_of};
 
 use agg_types::NoMemory;
 use clap::Error;
 use clap::error::ErrorKind;
+use std::io::Write;
 use std::{fmt, io};
 
 /// Why a command line asks for no job.
@@ -31,18 +33,28 @@ impl Usage {
         }
     }
 
-    /// Prints the text: help on standard output, what is wrong on standard error.
-    pub fn print<R: Print + Eprint>(&self, rt: &R) -> io::Result<()> {
+    /// Writes the text: help to standard output alone, what is wrong to standard error alone.
+    pub fn print<O: Write, E: Write>(&self, output: &mut O, errors: &mut E) -> io::Result<()>
+        ensures mistake { status_of self.now ≢ 0
+            → Keeps (O.contents output.old) (O.contents output.new) }
+        ensures help { status_of self.now ≡ 0
+            → Keeps (E.contents errors.old) (E.contents errors.new) }
+        ensures text { OnOk result (IfSome (text_of self.now)
+            (Appends (E.contents errors.old) (E.contents errors.new))) }
+    {
         if self.status() == 0 {
-            rt.print(self)
+            write!(output, "{self}")?;
+            output.flush()
         } else {
-            rt.eprint(self)
+            write!(errors, "{self}")
         }
     }
 }
 
 /// The text for who typed the line, with its LF; empty where a growth was refused.
 impl fmt::Display for Usage {
+    ghost output = { text_of };
+
     fn fmt<W: fmt::Write>(&self, f: &mut fmt::Formatter<W>) -> fmt::Result {
         match self {
             Usage::Words(error) => fmt::Display::fmt(error, f),

@@ -1,100 +1,83 @@
-//! What an operator reads: a line on standard error when a peer comes, and when it is refused, goes
-//! or is ended.
+//! What is told to an operator while the collector runs.
 
-use agg_types::{Config, Name};
-use hub::PostFault;
-use serve::{Cause, Gate, Gone, News, Place};
-use std::fmt;
-use std::net::SocketAddr;
+use crate::log::{Event, Line};
+use agg_types::Config;
+use serve::{Gate, Gone, News, Place};
+use std::time::{Clock, SystemTime, UNIX_EPOCH};
 
-/// The gate of the collector: it lets all pass, and writes the news.
+/// The gate of the collector: it lets all pass, and writes the news to standard error.
 #[derive(Drop)]
 pub struct Notes<'a, R> {
     pub rt: R,
     pub config: &'a Config,
 }
 
-impl<'a, R: Eprint> Notes<'a, R> {
+// The seconds since 1970. A clock that fails gives 0.
+fn seconds_now(rt: &impl Clock) -> u64 {
+    let Ok(now) = SystemTime::now(rt) else {
+        return 0;
+    };
+    match now.duration_since(UNIX_EPOCH) {
+        Ok(passed) => passed.as_secs(),
+        Err(_) => 0,
+    }
+}
+
+/// Writes the line of an event. A line that can't be written is lost.
+pub fn write_event<R: Eprint + Clock>(rt: &R, event: Event<'_>) {
+    let line = Line {
+        seconds: seconds_now(rt),
+        event,
+    };
+    let _ = eprintln!(rt; "{line}");
+}
+
+impl<'a, R> Notes<'a, R> {
     // A peer's name.
-    fn name(&self, peer: usize) -> &str {
+    fn name(&self, peer: usize) -> &[u8] {
         match self.config.peers.as_slice().get(peer) {
-            None => "?",
-            Some(name) => std::str::from_utf8(name.as_slice()).unwrap_or("?"),
+            None => b"?",
+            Some(name) => name.as_slice(),
         }
     }
 
-    // The connection of a peer whose hello was accepted is over.
-    fn gone(&self, peer: usize, updates: u64, cause: Option<&Cause>) {
-        let name = self.name(peer);
-        let _ = match cause {
-            None => eprintln!(self.rt; "peer {name} went after {updates} updates"),
-            Some(cause) => {
-                let cause = Told(cause);
-                eprintln!(self.rt; "peer {name} was ended after {updates} updates: {cause}")
-            }
+    // Tells of the connection of a session that is over.
+    fn gone(&self, gone: Gone<'_>)
+    where
+        R: Eprint + Clock,
+    {
+        let address = gone.sender;
+        let updates = gone.updates;
+        // made anew, to live as long as the name of a peer
+        let cause = match gone.cause {
+            None => None,
+            Some(cause) => Some(cause),
         };
-    }
-
-    // A connection ended of which no hello was accepted.
-    fn refused(&self, gone: Gone<'_>) {
-        let sender = Sender(gone.sender);
-        let _ = match (gone.cause, gone.name) {
-            (None, _) => eprintln!(self.rt; "a connection from {sender} went without a hello"),
-            (Some(cause), None) => {
-                let cause = Told(cause);
-                eprintln!(self.rt; "a connection from {sender} was ended: {cause}")
-            }
-            (Some(cause), Some(name)) => {
-                let cause = Told(cause);
-                let name = name.escape_ascii();
-                eprintln!(self.rt; "a connection from {sender} as {name} was ended: {cause}")
-            }
-        };
-    }
-
-    // A connection that isn't served.
-    fn turned_away(&self, place: Place, sender: Option<SocketAddr>) {
-        let sender = Sender(sender);
-        let _ = match place {
-            Place::Admin => {
-                eprintln!(self.rt; "an admin from {sender} was turned away: no seat, or no memory")
-            }
-            _ => eprintln!(self.rt; "a connection from {sender} was turned away: no thread"),
-        };
-    }
-}
-
-/// Where a connection comes from, in words.
-#[derive(Clone, Copy)]
-struct Sender(Option<SocketAddr>);
-
-impl fmt::Display for Sender {
-    fn fmt<W: fmt::Write>(&self, f: &mut fmt::Formatter<W>) -> fmt::Result {
-        match self.0 {
-            None => write!(f, "somewhere"),
-            Some(address) => write!(f, "{address}"),
+        if let Some(peer) = gone.peer {
+            let peer = self.name(peer);
+            let event = Event::PeerGone {
+                peer,
+                address,
+                updates,
+                cause,
+            };
+            write_event(&self.rt, event);
+        } else {
+            let name = match gone.name {
+                None => None,
+                Some(name) => Some(name),
+            };
+            let event = Event::StrangerGone {
+                name,
+                address,
+                cause,
+            };
+            write_event(&self.rt, event);
         }
     }
 }
 
-/// A cause, in words.
-#[derive(Clone, Copy)]
-struct Told<'a>(&'a Cause);
-
-impl<'a> fmt::Display for Told<'a> {
-    fn fmt<W: fmt::Write>(&self, f: &mut fmt::Formatter<W>) -> fmt::Result {
-        match self.0 {
-            Cause::Read => write!(f, "a read failed"),
-            Cause::Write => write!(f, "a write failed"),
-            Cause::Session(cause) => write!(f, "{cause}"),
-            Cause::Post(PostFault::NoMemory(_)) => write!(f, "out of memory"),
-            Cause::Post(_) => write!(f, "a post was refused"),
-            Cause::Look => write!(f, "no look"),
-        }
-    }
-}
-
-impl<'a, R: Eprint> Gate for Notes<'a, R> {
+impl<'a, R: Eprint + Clock> Gate for Notes<'a, R> {
     fn turn(&self, _place: Place) {}
 
     fn stop(&self) -> bool {
@@ -104,14 +87,14 @@ impl<'a, R: Eprint> Gate for Notes<'a, R> {
     fn tell(&self, place: Place, news: News<'_>) {
         match news {
             News::Came(peer) => {
-                let name = self.name(peer);
-                let _ = eprintln!(self.rt; "peer {name} came");
+                let peer = self.name(peer);
+                write_event(&self.rt, Event::PeerConnected { peer });
             }
-            News::Gone(gone) => match gone.peer {
-                Some(peer) => self.gone(peer, gone.updates, gone.cause),
-                None => self.refused(gone),
+            News::Gone(gone) => self.gone(gone),
+            News::TurnedAway(address) => match place {
+                Place::Admin => write_event(&self.rt, Event::AdminTurnedAway { address }),
+                _ => write_event(&self.rt, Event::PeerTurnedAway { address }),
             },
-            News::TurnedAway(sender) => self.turned_away(place, sender),
         }
     }
 }

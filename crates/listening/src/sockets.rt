@@ -6,7 +6,7 @@ use serve::{Caller, Came, Doors, ReadFailed, Source};
 use std::alloc::Global;
 use std::io;
 use std::io::{ErrorKind, Read, Write};
-use std::net::{Net, SocketAddr, TcpListener, TcpStream};
+use std::net::{SocketAddr, TcpListener, TcpStream};
 use std::sync::Arc;
 use std::time::{Clock, Duration, Instant};
 
@@ -143,29 +143,14 @@ fn passes(fault: &io::Error) -> bool {
 }
 
 impl<R> Sockets<R> {
-    /// Binds the address of the peers and that of the admins.
-    pub fn bind(
-        rt: &R,
-        alloc: Global,
-        peers: SocketAddr,
-        admins: SocketAddr,
-    ) -> io::Result<Sockets<R>>
-    where
-        R: Copy + Net<Listener = TcpListener, Stream = TcpStream>,
-    {
-        let peers = TcpListener::bind(rt, peers)?;
-        let admins = TcpListener::bind(rt, admins)?;
-        Ok(Sockets {
-            rt: *rt,
+    /// The doors of these two listeners.
+    pub fn new(rt: R, alloc: Global, peers: TcpListener, admins: TcpListener) -> Sockets<R> {
+        Sockets {
+            rt,
             alloc,
             peers,
             admins,
-        })
-    }
-
-    /// The addresses that were bound, of the peers and of the admins.
-    pub fn addresses(&self) -> io::Result<(SocketAddr, SocketAddr)> {
-        Ok((self.peers.local_addr()?, self.admins.local_addr()?))
+        }
     }
 }
 

@@ -5,6 +5,7 @@
 use command_line::{Job, Usage};
 use std::alloc::Global;
 use std::env::Env;
+use std::io;
 use std::process::ExitCode;
 
 fn main(rt: HostRuntime) -> anyhow::Result<ExitCode> {
@@ -18,7 +19,7 @@ fn main(rt: HostRuntime) -> anyhow::Result<ExitCode> {
     match command_line::read(rt.alloc(), words.as_slice()) {
         Ok(_) => Ok(ExitCode::SUCCESS),
         Err(usage) => {
-            usage.print(&rt)?;
+            usage.print(&mut io::writer(&rt), &mut rt.stderr())?;
             Ok(ExitCode::from(usage.status()))
         }
     }

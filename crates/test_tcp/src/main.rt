@@ -8,8 +8,10 @@
 
 use anyhow::{Result, anyhow};
 use std::alloc::Global;
-use std::io::{Read, Write};
+use std::io::{BufReader, Read, Write};
 use std::net::{Ipv4Addr, Net, SocketAddr, SocketAddrV4, TcpListener, TcpStream};
+use std::sync::Wait;
+use std::thread::Threads;
 use std::time::{Clock, Duration};
 use std::{io, thread};
 
@@ -92,11 +94,28 @@ fn ask(rt: &impl Print, alloc: Global, stream: &TcpStream, line: &[u8]) -> Resul
     Ok(())
 }
 
+/// Runs the program over `listen` at these addresses.
+fn run<R>(rt: &R, peers: SocketAddr, admin: SocketAddr) -> Result<u8>
+where
+    R: Threads + Wait + Copy + Send + Sync,
+    R: Input + Print + Eprint + AllocGlobal + Clock,
+    R: Net<Listener = TcpListener, Stream = TcpStream>,
+{
+    let peers = format!(in rt.alloc(); "--peers={peers}")?;
+    let admin = format!(in rt.alloc(); "--admin={admin}")?;
+    let words = ["aggregator", "listen", peers.as_str(), admin.as_str()];
+    let mut input = BufReader::new(rt.alloc(), rt.reader())?;
+    let mut output = io::writer(rt);
+    let mut errors = Vec::new(rt.alloc());
+    let status = listening::run_words(rt, &words, &mut input, &mut output, &mut errors);
+    Ok(status)
+}
+
 fn main(rt: HostRuntime) -> Result<()> {
     let peers = free_address(&rt)?;
     let admin = free_address(&rt)?;
     let _collector = thread::spawn(&rt, move || {
-        let _ = listening::listen(&rt, peers, admin);
+        let _ = run(&rt, peers, admin);
     })?;
     let peer = connect(&rt, peers)?;
     for (piece, count) in TALK {

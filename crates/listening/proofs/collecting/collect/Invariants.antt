@@ -1,4 +1,4 @@
-use Rattle.listening.proofs.collect.open.Given as goal
+use Rattle.listening.proofs.collecting.collect.Given as goal
 
 -- the log that was just opened
 abbrev pub ghosts-serve : goal.ghosts-serve

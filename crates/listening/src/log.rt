@@ -1,0 +1,178 @@
+//! The log: what an operator reads on standard error, a line an event.
+//!
+//! A line is the time in UTC to the second, a level, the event in words, and what it is about as
+//! `key=value`. A value that could be taken for anything else is quoted, and its bytes outside
+//! printable ASCII are escaped, so that a line break that a sender chose begins no line.
+
+use hub::PostFault;
+use jiff::Timestamp;
+use serve::Cause;
+use std::fmt;
+use std::net::{SocketAddr, SocketAddrV4};
+
+/// What happened.
+#[derive(Clone, Copy)]
+pub enum Event<'a> {
+    /// Proxies and operators may come, at these addresses.
+    Listening {
+        peers: SocketAddrV4,
+        admin: SocketAddrV4,
+    },
+    /// A peer's hello was accepted.
+    PeerConnected {
+        peer: &'a [u8],
+    },
+    /// The connection of a peer is over, after so many updates.
+    PeerGone {
+        peer: &'a [u8],
+        address: Option<SocketAddr>,
+        updates: u64,
+        cause: Option<&'a Cause>,
+    },
+    /// A connection is over of which no hello was accepted. Its sender chose the name.
+    StrangerGone {
+        name: Option<&'a [u8]>,
+        address: Option<SocketAddr>,
+        cause: Option<&'a Cause>,
+    },
+    /// A peer's connection was closed before it was served: no thread.
+    PeerTurnedAway {
+        address: Option<SocketAddr>,
+    },
+    /// An operator's connection was closed before it was served: no seat, or out of memory.
+    AdminTurnedAway {
+        address: Option<SocketAddr>,
+    },
+}
+
+impl<'a> Event<'a> {
+    // How much an operator has to care, and what happened.
+    fn words(&self) -> &'static str {
+        match self {
+            Event::Listening { .. } => "info listening",
+            Event::PeerConnected { .. } => "info peer connected",
+            Event::PeerGone { cause: None, .. } => "info peer disconnected",
+            Event::PeerGone { .. } => "warn peer ended",
+            Event::StrangerGone { cause: None, .. } => "info connection closed without a hello",
+            Event::StrangerGone { .. } => "warn connection ended",
+            Event::PeerTurnedAway { .. } => "error connection turned away",
+            Event::AdminTurnedAway { .. } => "warn admin turned away",
+        }
+    }
+}
+
+/// The line of an event at a time, in seconds since 1970, without its LF.
+#[derive(Clone, Copy)]
+pub(crate) struct Line<'a> {
+    pub seconds: u64,
+    pub event: Event<'a>,
+}
+
+impl<'a> fmt::Display for Line<'a> {
+    fn fmt<W: fmt::Write>(&self, f: &mut fmt::Formatter<W>) -> fmt::Result {
+        write_time(self.seconds, f)?;
+        write!(f, " {}", self.event.words())?;
+        match self.event {
+            Event::Listening { peers, admin } => write!(f, " peers={peers} admin={admin}"),
+            Event::PeerConnected { peer } => write!(f, " peer={}", Value(peer)),
+            Event::PeerGone {
+                peer,
+                address,
+                updates,
+                cause,
+            } => {
+                let from = From(address);
+                let why = Why(cause);
+                write!(f, " peer={}{from} updates={updates}{why}", Value(peer))
+            }
+            Event::StrangerGone {
+                name,
+                address,
+                cause,
+            } => write!(f, "{}{}{}", Named(name), From(address), Why(cause)),
+            Event::PeerTurnedAway { address } => {
+                write!(f, "{} reason=\"no thread\"", From(address))
+            }
+            Event::AdminTurnedAway { address } => {
+                write!(f, "{} reason=\"no seat, or out of memory\"", From(address))
+            }
+        }
+    }
+}
+
+// The time in UTC. A clock that is wrong by ages gives its seconds.
+fn write_time<W: fmt::Write>(seconds: u64, f: &mut fmt::Formatter<W>) -> fmt::Result {
+    if let Ok(seconds) = i64::try_from(seconds) {
+        if let Ok(time) = Timestamp::from_second(seconds) {
+            return write!(f, "{time}");
+        }
+    }
+    write!(f, "{seconds}")
+}
+
+// A value, quoted where that is needed.
+#[derive(Clone, Copy)]
+struct Value<'a>(&'a [u8]);
+
+impl<'a> Value<'a> {
+    fn is_plain(&self) -> bool {
+        let Value(bytes) = *self;
+        let is_plain = |byte: &u8| byte.is_ascii_graphic() && !b"\"'\\=".contains(byte);
+        !bytes.is_empty() && bytes.iter().all(is_plain)
+    }
+}
+
+impl<'a> fmt::Display for Value<'a> {
+    fn fmt<W: fmt::Write>(&self, f: &mut fmt::Formatter<W>) -> fmt::Result {
+        let text = self.0.escape_ascii();
+        if self.is_plain() {
+            write!(f, "{text}")
+        } else {
+            write!(f, "\"{text}\"")
+        }
+    }
+}
+
+// The name that a hello gave, if it was read so far.
+#[derive(Clone, Copy)]
+struct Named<'a>(Option<&'a [u8]>);
+
+impl<'a> fmt::Display for Named<'a> {
+    fn fmt<W: fmt::Write>(&self, f: &mut fmt::Formatter<W>) -> fmt::Result {
+        match self.0 {
+            None => Ok(()),
+            Some(name) => write!(f, " name={}", Value(name)),
+        }
+    }
+}
+
+// Where a connection comes from.
+#[derive(Clone, Copy)]
+struct From(Option<SocketAddr>);
+
+impl fmt::Display for From {
+    fn fmt<W: fmt::Write>(&self, f: &mut fmt::Formatter<W>) -> fmt::Result {
+        match self.0 {
+            None => Ok(()),
+            Some(address) => write!(f, " address={address}"),
+        }
+    }
+}
+
+// Why a connection ended, where it didn't end by itself.
+#[derive(Clone, Copy)]
+struct Why<'a>(Option<&'a Cause>);
+
+impl<'a> fmt::Display for Why<'a> {
+    fn fmt<W: fmt::Write>(&self, f: &mut fmt::Formatter<W>) -> fmt::Result {
+        match self.0 {
+            None => Ok(()),
+            Some(Cause::Read) => write!(f, " cause=\"read failed\""),
+            Some(Cause::Write) => write!(f, " cause=\"write failed\""),
+            Some(Cause::Session(cause)) => write!(f, " cause=\"{cause}\""),
+            Some(Cause::Post(PostFault::NoMemory(_))) => write!(f, " cause=\"out of memory\""),
+            Some(Cause::Post(_)) => write!(f, " cause=\"post refused\""),
+            Some(Cause::Look) => write!(f, " cause=\"no copy to read\""),
+        }
+    }
+}

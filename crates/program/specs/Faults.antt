@@ -1,0 +1,27 @@
+-- What is printed of a fault that leaves nothing to collect.
+use Rattle.std.specs.Prelude.{◌≡◌, ℕ, List, ◌++◌, codes}
+use Rattle.std.specs.Fmt.{decimal}
+use Rattle.std.specs.Net.Text.{socket_v4_text}
+use Rattle.agg_config.specs.Reading.{cause_name}
+use Rattle.agg_config.specs.declared.causes.LineFault.{LineFault}
+use Rattle.program.specs.declared.fault.Fault.{Fault}
+use Rattle.program.specs.declared.fault.Fault.TheVariants.{Unread, Address, Start, NoMemory}
+use Rattle.program.specs.declared.fault.Fault.TheVariants.{Closed}
+
+-- the line of a fault; a fault of the system has some reason, in the system's words
+abbrev pub IsTextOf : Fault → List ℕ → Type 0
+IsTextOf (Unread error) text =
+    (reason : List ℕ) × (text ≡ codes "cannot read the configuration: " ++ reason ++ codes "\n")
+IsTextOf (Address address error) text =
+    (reason : List ℕ) × (text
+    ≡ codes "cannot listen at " ++ (socket_v4_text address ++ (codes ": " ++ (reason ++ codes "\n"))))
+IsTextOf (Start error) text =
+    (reason : List ℕ) × (text ≡ codes "cannot start: " ++ reason ++ codes "\n")
+IsTextOf NoMemory text = text ≡ codes "out of memory\n"
+IsTextOf Closed text = text ≡ codes "both listeners have failed\n"
+
+-- the line of the first faulty line of a configuration
+abbrev pub line_text : LineFault → List ℕ
+line_text fault =
+    codes "config line " ++ (decimal fault.line ++ (codes ": " ++ (cause_name fault.cause
+    ++ codes "\n")))

@@ -1,0 +1,102 @@
+-- What the words of a command line do to the streams, and what is left to do.
+use Rattle.std.specs.Prelude.{◌≡◌, ◌≢◌, ◌⊎◌, ℕ, List, [], Option, IfSome}
+use Rattle.std.specs.Io.KnownBytes.{Appends, Keeps}
+use Rattle.std.specs.declared.net.socket_addr.SocketAddrV4.{SocketAddrV4}
+use Rattle.agg_types.specs.Check.{config_faults}
+use Rattle.agg_types.specs.declared.config.Config.{Config}
+use Rattle.agg_config.specs.Reading.{IsFirstFault, Write}
+use Rattle.agg_config.specs.declared.causes.LineCause.TheVariants as cause
+use Rattle.agg_config.specs.declared.causes.LineFault.{LineFault}
+use Rattle.line_words.specs.Words.{lines_of}
+use Rattle.clap.specs.Words.{Text}
+use Rattle.command_line.specs.Asked.{AsksFor, IsRefused}
+use Rattle.command_line.specs.Status.{status_of as usage_status, text_of as usage_text}
+use Rattle.command_line.specs.declared.job.Job.{Job}
+use Rattle.command_line.specs.declared.job.Job.TheVariants.{Replay, Listen}
+use Rattle.command_line.specs.declared.usage.Usage.{Usage}
+use Rattle.replay.specs.Script.{IsReplayed}
+use Rattle.replay.specs.Status.{status_of as ending_status}
+use Rattle.replay.specs.declared.ending.Ending.{Ending}
+use Rattle.program.specs.Faults.{IsTextOf, line_text}
+use Rattle.program.specs.declared.fault.Fault.{Fault}
+use Rattle.program.specs.declared.prepared.Prepared.{Prepared}
+use Rattle.program.specs.declared.prepared.Prepared.TheVariants.{Ended, Collect}
+
+-- the known bytes of standard output and of standard error, before a call and behind it
+pub record Streams : Type 0 where
+  pub output0 : Option (List ℕ)
+  pub output : Option (List ℕ)
+  pub errors0 : Option (List ℕ)
+  pub errors : Option (List ℕ)
+
+abbrev pub streams : (output0 output errors0 errors : Option (List ℕ)) → Streams
+streams output0 output errors0 errors =
+    record { output0 = output0; output = output; errors0 = errors0; errors = errors }
+
+-- a text was written to standard output, and nothing to standard error
+abbrev pub Prints : Streams → List ℕ → Type 0
+Prints s text = Appends s.output0 s.output text × Keeps s.errors0 s.errors
+
+-- a text was written to standard error, and nothing to standard output
+abbrev pub Complains : Streams → List ℕ → Type 0
+Complains s text = Keeps s.output0 s.output × Appends s.errors0 s.errors text
+
+-- why there is no job was told: help on standard output alone, a mistake on standard error alone
+pub record Tells (usage : Usage) (s : Streams) (prepared : Prepared) : Type 0 where
+  pub ended : prepared ≡ Ended (usage_status usage)
+  pub help : usage_status usage ≡ 0 → Keeps s.errors0 s.errors
+  pub mistake : usage_status usage ≢ 0 → Keeps s.output0 s.output
+  pub text : IfSome (usage_text usage) (Appends s.errors0 s.errors)
+
+-- the script on standard input was replayed, and the status is that of its ending
+pub record Replays (input : Option (List ℕ)) (s : Streams) (prepared : Prepared) : Type 0 where
+  pub ending : Ending
+  pub ended : prepared ≡ Ended (ending_status ending)
+  pub replayed : IfSome input (λ script. IsReplayed script s.output0 s.output ending)
+  pub silent : Keeps s.errors0 s.errors
+
+-- the configuration on standard input has no fault: by it is to be collected at these addresses
+pub record Collects (input : Option (List ℕ)) (peers admin : SocketAddrV4) (s : Streams)
+    (prepared : Prepared) : Type 0 where
+  pub config : Config
+  pub left : prepared
+      ≡ Collect (record { config = config; peers = peers; admin = admin })
+  pub written : IfSome input (λ text. Write (lines_of text) config)
+  pub faultless : config_faults config ≡ []
+  pub silent : Prints s []
+
+-- its first fault was told on standard output
+pub record IsFaulty (input : Option (List ℕ)) (s : Streams) (prepared : Prepared) : Type 0 where
+  pub fault : LineFault
+  pub ended : prepared ≡ Ended 3
+  pub first : IfSome input (λ text. IsFirstFault (lines_of text) fault)
+  pub faulty : fault.cause ≢ cause.NoMemory
+  pub told : Prints s (line_text fault)
+
+-- it wasn't read, or an allocation failed, which was told on standard error
+pub record Breaks (s : Streams) (prepared : Prepared) : Type 0 where
+  pub fault : Fault
+  pub text : List ℕ
+  pub ended : prepared ≡ Ended 5
+  pub is : IsTextOf fault text
+  pub told : Complains s text
+
+-- a job is done, as far as it goes before there is anything to collect
+abbrev pub Does : Option (List ℕ) → Job → Streams → Prepared → Type 0
+Does input Replay s prepared = Replays input s prepared
+Does input (Listen peers admin) s prepared =
+    Collects input peers admin s prepared ⊎ IsFaulty input s prepared ⊎ Breaks s prepared
+
+-- the words ask for a job, which is done; or for none, and why is told
+abbrev pub Prepares : List Text → Option (List ℕ) → Streams → Prepared → Type 0
+Prepares words input s prepared =
+    ((job : Job) × AsksFor words job × Does input job s prepared)
+    ⊎ ((usage : Usage) × IsRefused words usage × Tells usage s prepared)
+
+-- a text was begun on one of the streams, and nothing was written to the other
+abbrev pub IsCut : Streams → Type 0
+IsCut s = Keeps s.output0 s.output ⊎ Keeps s.errors0 s.errors
+
+-- an allocation or a write failed
+abbrev pub Fails : Streams → Prepared → Type 0
+Fails s prepared = (prepared ≡ Ended 5) × IsCut s

@@ -1,0 +1,54 @@
+//! Why nothing is collected, or no longer.
+
+ghost use Rattle.std.specs.Prelude.{◌≡◌, ℕ, List, IfOk, OnOk};
+ghost use Rattle.std.specs.Io.KnownBytes.{Appends};
+ghost use Rattle.program.specs.Faults.{IsTextOf};
+
+use std::alloc::Global;
+use std::io;
+use std::io::Write;
+use std::net::SocketAddrV4;
+
+/// The status of a fault of memory, reading, writing or sockets.
+pub const FAULT: u8 = 5;
+
+/// Why nothing is collected, or no longer.
+#[derive(Debug, Drop)]
+pub enum Fault {
+    /// The configuration can't be read.
+    Unread(io::Error),
+    /// Nobody can connect at this address.
+    Address(SocketAddrV4, io::Error),
+    /// The clock failed, or standard output.
+    Start(io::Error),
+    /// An allocation failed.
+    NoMemory,
+    /// Both listeners have failed.
+    Closed,
+}
+
+/// Tells a fault on standard error, in a line, and answers the exit status. A fault of the system
+/// stands there with the system's reason.
+pub fn tell<E: Write>(alloc: Global, fault: &Fault, errors: &mut E) -> io::Result<u8>
+    ensures status { IfOk result (λ status. status ≡ 5) }
+    ensures text { OnOk result ((text : List ℕ) × IsTextOf fault.now text
+        × Appends (E.contents errors.old) (E.contents errors.new) text) }
+{
+    match fault {
+        Fault::Unread(error) => {
+            let reason = format!(in alloc; "{error}")?;
+            writeln!(errors, "cannot read the configuration: {reason}")?;
+        }
+        Fault::Address(address, error) => {
+            let reason = format!(in alloc; "{error}")?;
+            writeln!(errors, "cannot listen at {address}: {reason}")?;
+        }
+        Fault::Start(error) => {
+            let reason = format!(in alloc; "{error}")?;
+            writeln!(errors, "cannot start: {reason}")?;
+        }
+        Fault::NoMemory => writeln!(errors, "out of memory")?,
+        Fault::Closed => writeln!(errors, "both listeners have failed")?,
+    }
+    Ok(FAULT)
+}

@@ -1,0 +1,19 @@
+//! What the words of a command line do to the streams of the program, and with which exit status.
+//!
+//! `listening::run` calls it over the handles of the machine, and test programs in memory.
+//! `prepare` does all that a command line asks for but collect: it prints help or a mistake,
+//! replays, or reads the configuration and prints its fault. What is left is a status, or what to
+//! collect by. `tell` prints why collecting didn't begin or ended. Their contracts say which bytes
+//! go to which stream and which status comes. The texts of help and of most mistakes are `clap`'s,
+//! and the reasons of the system are its own: no clause says them, and test_program prints some.
+#![tactic(auto)]
+
+mod fault;
+mod prepared;
+mod preparing;
+mod words;
+
+pub use fault::{FAULT, Fault, tell};
+pub use prepared::{Asked, Prepared};
+pub use preparing::prepare;
+pub use words::arguments;

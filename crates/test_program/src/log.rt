@@ -1,0 +1,135 @@
+//! Lines of the log.
+
+use crate::scene::Still;
+use agg_types::Config;
+use hub::PostFault;
+use listening::{Event, Notes, write_event};
+use serve::{Cause, Gate, Gone, News, Place};
+use session_core::{SessionCause, Status};
+use std::io;
+use std::net::{Ipv4Addr, SocketAddr, SocketAddrV4};
+
+/// Two peers, so that a line with the other's name shows.
+const CONFIGURATION: &[u8] = b"name agg\npeer lb1\npeer lb2\n";
+
+/// 2026-11-24 at 09:45:12 in UTC.
+const MORNING: u64 = 1_795_513_512;
+
+/// Moments around leap days, and one past the last year that is written in full.
+const MOMENTS: [u64; 6] = [
+    0,
+    951_782_399,
+    951_782_400,
+    4_107_542_399,
+    4_107_542_400,
+    999_999_999_999,
+];
+
+/// Names that a sender chose.
+const NAMES: [&[u8]; 8] = [
+    b"lb9",
+    b"",
+    b"a b",
+    b"a=b",
+    b"a\"b",
+    b"a'b",
+    b"a\\b",
+    b"a\nb\xff\x00",
+];
+
+const SESSION: Place = Place::Session(None);
+
+fn address(port: u16) -> SocketAddrV4 {
+    SocketAddrV4::new(Ipv4Addr::new(10, 0, 0, 1), port)
+}
+
+fn sender() -> Option<SocketAddr> {
+    Some(SocketAddr::V4(address(41234)))
+}
+
+/// Prints the lines of all that is told.
+pub fn show<R: Print + Copy + AllocGlobal>(rt: &R) -> io::Result<()> {
+    println!(rt; "== the log")?;
+    let Ok(config) = agg_config::read(rt.alloc(), CONFIGURATION) else {
+        return println!(rt; "no configuration");
+    };
+    let morning = Still {
+        rt: *rt,
+        seconds: Some(MORNING),
+    };
+    let peers = address(9000);
+    let admin = address(9001);
+    write_event(&morning, Event::Listening { peers, admin });
+    let notes = Notes {
+        rt: morning,
+        config: &config,
+    };
+    notes.tell(SESSION, News::Came(0));
+    notes.tell(SESSION, News::Came(1));
+    show_ends(rt, &notes);
+    notes.tell(SESSION, News::TurnedAway(sender()));
+    notes.tell(Place::Admin, News::TurnedAway(sender()));
+    notes.tell(SESSION, News::TurnedAway(None));
+    for name in NAMES {
+        show_stranger(&notes, Some(name), Some(&Cause::Read));
+    }
+    show_moments(rt, &config);
+    Ok(())
+}
+
+/// Connections that are over, by each cause, of a peer and of a stranger.
+fn show_ends<R: Print + AllocGlobal>(rt: &R, notes: &Notes<'_, Still<R>>) {
+    show_end(notes, None);
+    show_end(notes, Some(&Cause::Read));
+    show_end(notes, Some(&Cause::Write));
+    let refused = SessionCause::Refused(Status::RemoteName);
+    show_end(notes, Some(&Cause::Session(refused)));
+    show_end(notes, Some(&Cause::Session(SessionCause::TimedOut)));
+    let unposted = PostFault::NoMemory(Vec::new(rt.alloc()));
+    show_end(notes, Some(&Cause::Post(unposted)));
+    show_end(notes, Some(&Cause::Post(PostFault::Spent)));
+    show_end(notes, Some(&Cause::Look));
+}
+
+fn show_end<R: Print>(notes: &Notes<'_, Still<R>>, cause: Option<&Cause>) {
+    let gone = Gone {
+        sender: sender(),
+        peer: Some(1),
+        name: None,
+        updates: 812,
+        cause,
+    };
+    notes.tell(SESSION, News::Gone(gone));
+    show_stranger(notes, None, cause);
+}
+
+fn show_stranger<R: Print>(
+    notes: &Notes<'_, Still<R>>,
+    name: Option<&[u8]>,
+    cause: Option<&Cause>,
+) {
+    let gone = Gone {
+        sender: sender(),
+        peer: None,
+        name,
+        updates: 0,
+        cause,
+    };
+    notes.tell(SESSION, News::Gone(gone));
+}
+
+/// The same line at odd moments, and where the clock fails.
+fn show_moments<R: Print + Copy>(rt: &R, config: &Config) {
+    for moment in MOMENTS {
+        show_moment(rt, config, Some(moment));
+    }
+    show_moment(rt, config, None);
+}
+
+fn show_moment<R: Print + Copy>(rt: &R, config: &Config, seconds: Option<u64>) {
+    let notes = Notes {
+        rt: Still { rt: *rt, seconds },
+        config,
+    };
+    notes.tell(SESSION, News::Came(0));
+}

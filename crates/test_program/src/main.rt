@@ -1,0 +1,234 @@
+//! Runs the program in memory, and prints what it writes to each stream and its exit status; then
+//! lines of the log.
+//!
+//! What it writes to standard output is printed as it comes, what it writes to standard error
+//! behind that.
+#![tactic(auto)]
+
+mod log;
+mod scene;
+
+use program::{Asked, Prepared, prepare};
+use scene::{Scene, Torn};
+use std::io;
+use std::io::{Read, Write};
+use std::net::{Ipv4Addr, Net, SocketAddr, SocketAddrV4, TcpListener, TcpStream};
+use std::sync::Wait;
+use std::thread::Threads;
+use std::time::Clock;
+
+/// A configuration, and a script that begins with it.
+const CONFIGURATION: &[u8] = b"name agg\npeer lb1\ntable t type ip size 100 store gpc0\n";
+
+const SCRIPT: &[u8] =
+    b"name agg\npeer lb1\ntable t type ip size 100 store gpc0\nstart 0\nshow table\n";
+
+/// A configuration whose second line is faulty.
+const FAULTY: &[u8] = b"name agg\npeer\n";
+
+/// What `listen` needs, in either order.
+const LISTEN: &[&[u8]] = &[
+    b"listen",
+    b"--peers=192.0.2.1:1024",
+    b"--admin=192.0.2.2:1025",
+];
+
+const LISTEN_TURNED: &[&[u8]] = &[
+    b"listen",
+    b"--admin=192.0.2.2:1025",
+    b"--peers=192.0.2.1:1024",
+];
+
+/// Command lines with what stands on standard input.
+const RUNS: [(&[&[u8]], &[u8]); 12] = [
+    (&[b"--help"], b""),
+    (&[], b""),
+    (&[b"replay", b"now"], b""),
+    (&[b"listen", b"--peers=192.0.2.1:1024"], b""),
+    (
+        &[b"listen", b"--peers=192.0.2.1:1024", b"--admin=nowhere"],
+        b"",
+    ),
+    (&[b"replay"], SCRIPT),
+    (&[b"replay"], b"name agg\npeer\nstart 0\n"),
+    (&[b"replay"], b"name agg\nstart 0\nconnect now\n"),
+    (&[b"replay"], b"name agg\n"),
+    (LISTEN, FAULTY),
+    (LISTEN_TURNED, b"peer lb1\n"),
+    (&[b"replay", b"\xff"], b""),
+];
+
+fn main(rt: HostRuntime) -> io::Result<()> {
+    for (words, input) in RUNS {
+        show_run(&rt, words, input)?;
+    }
+    show_prepared(&rt)?;
+    show_torn(&rt)?;
+    show_addresses_in_use(&rt)?;
+    log::show(&rt)
+}
+
+/// Prints what was written to standard error, and the exit status.
+fn show_end(rt: &impl Print, errors: &[u8], status: u8) -> io::Result<()> {
+    println!(rt; "-- standard error")?;
+    io::writer(rt).write_all(errors)?;
+    println!(rt; "-- status {status}")
+}
+
+fn show_words(rt: &impl Print, words: &[&[u8]]) -> io::Result<()> {
+    print!(rt; "==")?;
+    for word in words {
+        print!(rt; " {}", word.escape_ascii())?;
+    }
+    println!(rt;)
+}
+
+/// Runs a command line on an input.
+fn show_run<R>(rt: &R, words: &'static [&'static [u8]], input: &'static [u8]) -> io::Result<()>
+where
+    R: Threads + Wait + Copy + Send + Sync,
+    R: Print + Eprint + AllocGlobal + Clock,
+    R: Net<Listener = TcpListener, Stream = TcpStream>,
+{
+    show_words(rt, words)?;
+    let scene = Scene {
+        rt: *rt,
+        words,
+        input,
+    };
+    let mut errors = Vec::new(rt.alloc());
+    let status = listening::run(rt, &(scene, rt.alloc()), &mut errors);
+    show_end(rt, errors.as_slice(), status)
+}
+
+/// Prints what a command line leaves to do.
+fn show_left(rt: &impl Print, errors: &[u8], left: Prepared) -> io::Result<()> {
+    match left {
+        Prepared::Ended(status) => show_end(rt, errors, status),
+        Prepared::Collect(asked) => {
+            println!(rt; "-- standard error")?;
+            io::writer(rt).write_all(errors)?;
+            let Asked {
+                config,
+                peers,
+                admin,
+            } = asked;
+            let count = config.peers.len();
+            println!(rt; "-- collects: {count} peers at {peers}, operators at {admin}")
+        }
+    }
+}
+
+/// Prints what a command line does to its streams and leaves to do.
+fn show_prepare<R, I, O>(rt: &R, words: &[&str], input: &mut I, output: &mut O) -> io::Result<()>
+where
+    R: Print + AllocGlobal,
+    I: Read,
+    O: Write,
+{
+    let mut errors = Vec::new(rt.alloc());
+    let left = prepare(rt.alloc(), words, input, output, &mut errors);
+    show_left(rt, errors.as_slice(), left)
+}
+
+/// Prints by what is collected where the configuration has no fault.
+fn show_prepared(rt: &(impl Print + AllocGlobal)) -> io::Result<()> {
+    for words in [LISTEN, LISTEN_TURNED] {
+        show_words(rt, words)?;
+        let mut line: Vec<&str> = Vec::new(rt.alloc());
+        line.push("aggregator")?;
+        for word in words {
+            line.push(std::str::from_utf8(word).unwrap_or("?"))?;
+        }
+        let mut input = CONFIGURATION;
+        show_prepare(rt, line.as_slice(), &mut input, &mut io::writer(rt))?;
+    }
+    Ok(())
+}
+
+/// Prints how it ends where a stream fails.
+fn show_torn(rt: &(impl Print + AllocGlobal)) -> io::Result<()> {
+    let listen = [
+        "aggregator",
+        "listen",
+        "--peers=192.0.2.1:1024",
+        "--admin=192.0.2.2:1025",
+    ];
+    let mut output = io::writer(rt);
+    let mut faulty = FAULTY;
+    println!(rt; "== replay: no input")?;
+    show_prepare(rt, &["aggregator", "replay"], &mut Torn, &mut output)?;
+    println!(rt; "== listen: no input")?;
+    show_prepare(rt, &listen, &mut Torn, &mut output)?;
+    println!(rt; "== listen: no output")?;
+    show_prepare(rt, &listen, &mut faulty, &mut Torn)?;
+    println!(rt; "== --help: no output")?;
+    show_prepare(rt, &["aggregator", "--help"], &mut faulty, &mut Torn)?;
+    println!(rt; "== nothing: no standard error")?;
+    let left = prepare(
+        rt.alloc(),
+        &["aggregator"],
+        &mut faulty,
+        &mut output,
+        &mut Torn,
+    );
+    show_left(rt, b"", left)
+}
+
+/// Listens at these addresses.
+fn listen<R, E>(rt: &R, peers: SocketAddrV4, admin: SocketAddrV4, errors: &mut E) -> io::Result<u8>
+where
+    R: Threads + Wait + Copy + Send + Sync,
+    R: Print + Eprint + AllocGlobal + Clock,
+    R: Net<Listener = TcpListener, Stream = TcpStream>,
+    E: Write,
+{
+    let peers = format!(in rt.alloc(); "--peers={peers}")?;
+    let admin = format!(in rt.alloc(); "--admin={admin}")?;
+    let words = ["aggregator", "listen", peers.as_str(), admin.as_str()];
+    let mut input = CONFIGURATION;
+    let mut output = io::writer(rt);
+    let status = listening::run_words(rt, &words, &mut input, &mut output, errors);
+    Ok(status)
+}
+
+/// Listens at these addresses, of which one is in use. Its port is printed as PORT.
+fn show_in_use<R>(rt: &R, peers: SocketAddrV4, admin: SocketAddrV4, port: u16) -> io::Result<()>
+where
+    R: Threads + Wait + Copy + Send + Sync,
+    R: Print + Eprint + AllocGlobal + Clock,
+    R: Net<Listener = TcpListener, Stream = TcpStream>,
+{
+    let mut errors = Vec::new(rt.alloc());
+    let status = listen(rt, peers, admin, &mut errors)?;
+    let port = format!(in rt.alloc(); ":{port}:")?;
+    let text = String::from_utf8_lossy(rt.alloc(), errors.as_slice())?;
+    let text = text.replace(rt.alloc(), port.as_str(), ":PORT:")?;
+    show_end(rt, text.as_bytes(), status)
+}
+
+/// Listens where proxies can't connect, and then where operators can't, since the address is in
+/// use.
+fn show_addresses_in_use<R>(rt: &R) -> io::Result<()>
+where
+    R: Threads + Wait + Copy + Send + Sync,
+    R: Print + Eprint + AllocGlobal + Clock,
+    R: Net<Listener = TcpListener, Stream = TcpStream>,
+{
+    let any = SocketAddrV4::new(Ipv4Addr::LOCALHOST, 0);
+    let other = SocketAddrV4::new(Ipv4Addr::new(127, 0, 0, 2), 0);
+    println!(rt; "== listen: the address of the proxies is in use")?;
+    let taken = TcpListener::bind(rt, SocketAddr::V4(any))?;
+    if let SocketAddr::V4(peers) = taken.local_addr()? {
+        show_in_use(rt, peers, other, peers.port())?;
+        println!(rt; "== listen: that, and no standard error")?;
+        let status = listen(rt, peers, other, &mut Torn)?;
+        show_end(rt, b"", status)?;
+    }
+    println!(rt; "== listen: the address of the operators is in use")?;
+    let taken = TcpListener::bind(rt, SocketAddr::V4(other))?;
+    if let SocketAddr::V4(admin) = taken.local_addr()? {
+        show_in_use(rt, any, admin, admin.port())?;
+    }
+    Ok(())
+}

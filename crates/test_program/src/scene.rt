@@ -1,0 +1,125 @@
+//! What the program is run on.
+
+ghost use Rattle.std.specs.Prelude.{None};
+
+use std::alloc::Allocator;
+use std::env::{Env, FillError};
+use std::fmt::Display;
+use std::io;
+use std::io::{BufRead, ErrorKind, Input, Lines, Read, Write};
+use std::time::{Clock, Duration};
+
+/// Arguments and an input in memory, and the standard output of another.
+#[derive(Drop)]
+pub struct Scene<R> {
+    pub rt: R,
+    pub words: &'static [&'static [u8]],
+    pub input: &'static [u8],
+}
+
+impl<R> Env for Scene<R> {
+    fn arg(&self, i: usize, buf: &mut [u8]) -> Result<usize, FillError> {
+        let word: &[u8] = match i.checked_sub(1) {
+            None => b"aggregator",
+            Some(at) => match self.words.get(at) {
+                None => return Err(FillError::NotPresent),
+                Some(word) => word,
+            },
+        };
+        let Some(room) = buf.get_mut(..word.len()) else {
+            return Err(FillError::TooLong);
+        };
+        room.copy_from_slice(word);
+        Ok(word.len())
+    }
+
+    fn var(&self, _name: &str, _buf: &mut [u8]) -> Result<usize, FillError> {
+        Err(FillError::NotPresent)
+    }
+
+    fn var_at(&self, _i: usize, _buf: &mut [u8]) -> Result<usize, FillError> {
+        Err(FillError::NotPresent)
+    }
+}
+
+impl<R> Input for Scene<R> {
+    type Reader = &'static [u8];
+
+    fn read_line<A: Allocator + Clone>(&self, buf: &mut String<A>) -> io::Result<usize> {
+        let mut input = self.input;
+        input.read_line(buf)
+    }
+
+    fn lines<A: Allocator>(&self, alloc: A) -> Lines<&'static [u8], A> {
+        self.input.lines(alloc)
+    }
+
+    fn reader(&self) -> &'static [u8] {
+        self.input
+    }
+}
+
+impl<R: Print> Print for Scene<R> {
+    fn print<D: Display + Drop>(&self, value: D) -> io::Result<()> {
+        self.rt.print(value)
+    }
+
+    fn println<D: Display + Drop>(&self, value: D) -> io::Result<()> {
+        self.rt.println(value)
+    }
+
+    fn write_all(&self, bytes: &[u8]) -> io::Result<()> {
+        self.rt.write_all(bytes)
+    }
+}
+
+/// A stream that can't be read, and takes nothing.
+#[derive(Drop)]
+pub struct Torn;
+
+impl Read for Torn {
+    fn read(&mut self, _buf: &mut [u8]) -> io::Result<usize> {
+        Err(io::Error::from(ErrorKind::BrokenPipe))
+    }
+}
+
+impl Write for Torn {
+    fn write(&mut self, _bytes: &[u8]) -> io::Result<usize> {
+        Err(io::Error::from(ErrorKind::BrokenPipe))
+    }
+
+    fn flush(&mut self) -> io::Result<()> {
+        Ok(())
+    }
+}
+
+/// A standard error that is another's standard output, and a clock that stands still.
+#[derive(Drop)]
+pub struct Still<R> {
+    pub rt: R,
+    /// The seconds since 1970. None where the clock fails.
+    pub seconds: Option<u64>,
+}
+
+impl<R: Print> Eprint for Still<R> {
+    fn eprint<D: Display + Drop>(&self, value: D) -> io::Result<()> {
+        self.rt.print(value)
+    }
+
+    fn eprintln<D: Display + Drop>(&self, value: D) -> io::Result<()> {
+        self.rt.println(value)
+    }
+}
+
+impl<R> Clock for Still<R> {
+    fn monotonic(&self) -> io::Result<Duration> {
+        self.since_1970()
+    }
+
+    fn since_1970(&self) -> io::Result<Duration> {
+        match self.seconds {
+            None => Err(io::Error::from(ErrorKind::Unsupported)),
+            Some(seconds) => Ok(Duration::from_secs(seconds)),
+        }
+    }
+}
