@@ -191,7 +191,7 @@ few_conds : (tables : List Shape) (before : List Filter) (filter : Filter)
 unfolding filter_faults
 few_conds tables before filter none =
     let counts = was_no_fault (nat_le MOST_FILTERS (length before)
-        || nat_lt MOST_CONDS (length filter.conds)) TooMany
+    || nat_lt MOST_CONDS (length filter.conds)) TooMany
     (front_none _ _ (front_none _ _ (front_none _ _ (front_none _ _ (front_none _ _ none))))) in
     let most : nat_lt MOST_CONDS (length filter.conds) ≡ false =
     second (nat_le MOST_FILTERS (length before)) (nat_lt MOST_CONDS (length filter.conds)) counts in

@@ -199,7 +199,7 @@ happened_more s events e Sit h next =
     let three = and_left ((e.seq == 0) && nat_le e.seat LAST_SEAT && nat_le s.next_seat e.seat)
     (nat_lt (length s.seats) MOST_SEATS) next in
     let two = and_left ((e.seq == 0) && nat_le e.seat LAST_SEAT)
-        (nat_le s.next_seat e.seat) three in
+    (nat_le s.next_seat e.seat) three in
     let above : nat_le s.next_seat e.seat ≡ true =
     and_right ((e.seq == 0) && nat_le e.seat LAST_SEAT) (nat_le s.next_seat e.seat) three in
     let zero_is : (e.seq == 0) ≡ true = and_left (e.seq == 0) (nat_le e.seat LAST_SEAT) two in

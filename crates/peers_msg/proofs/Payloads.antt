@@ -52,7 +52,7 @@ pub pair_shorter : (bytes : List ℕ) (x : (ℕ × ℕ) × List ℕ) → pair_at
 unfolding pair_at
 pair_shorter bytes x e =
     let a = bind_some (number_at bytes)
-        (λ id. number_at id.1 >>= λ period. cond (ltb LAST_TYPE id.0) None
+    (λ id. number_at id.1 >>= λ period. cond (ltb LAST_TYPE id.0) None
     (Some ((id.0, period.0), period.1))) x e in
     let b = bind_some (number_at a.0.1)
     (λ period. cond (ltb LAST_TYPE a.0.0) None (Some ((a.0.0, period.0), period.1))) x a.2 in

@@ -228,8 +228,13 @@ rest_frame (class ∷ kind ∷ bytes) (high, inr h) =
     ∙ ap (λ v. Ok (Some (v, length h.0))) h.4.1 in
     let d : drop (length h.0) bytes ≡ h.1 = ap (drop (length h.0)) h.3
     ∙ drop_at h.0 h.1 (length h.0) refl in
-    rw (le-ltb kind 128 high, n, d, le-ltb LONGEST_PAYLOAD h.2 h.5,
-    lt-ltb (length h.1) h.2 h.6) refl
+    rw (
+      le-ltb kind 128 high,
+      n,
+      d,
+      le-ltb LONGEST_PAYLOAD h.2 h.5,
+      lt-ltb (length h.1) h.2 h.6,
+    ) refl
 
 rest_first : (bytes : List ℕ) → IsRest bytes → first_of bytes ≡ Unfinished
 unfolding first_of
@@ -248,8 +253,11 @@ unfolding first_of frame_at
 fault_first TooLong [] fits h = absurd h
 fault_first TooLong (class ∷ []) fits h = absurd h
 fault_first TooLong (class ∷ kind ∷ bytes) fits h =
-    rw (le-ltb kind 128 h.0, is_found bytes h.1.0 h.1.1 h.1.2,
-    lt-ltb LONGEST_PAYLOAD h.1.0 h.1.3) refl
+    rw (
+      le-ltb kind 128 h.0,
+      is_found bytes h.1.0 h.1.1 h.1.2,
+      lt-ltb LONGEST_PAYLOAD h.1.0 h.1.3,
+    ) refl
 fault_first BadInteger [] fits h = absurd h
 fault_first BadInteger (class ∷ []) fits h = absurd h
 fault_first BadInteger (class ∷ kind ∷ bytes) fits h =

@@ -167,7 +167,7 @@ pair_is : (bytes : List ℕ) (x : (ℕ × ℕ) × List ℕ) → AreBytes bytes �
 unfolding pair_at
 pair_is bytes x fits e =
     let a = bind_some (number_at bytes)
-        (λ id. number_at id.1 >>= λ period. cond (ltb LAST_TYPE id.0) None
+    (λ id. number_at id.1 >>= λ period. cond (ltb LAST_TYPE id.0) None
     (Some ((id.0, period.0), period.1))) x e in
     let b = bind_some (number_at a.0.1)
     (λ period. cond (ltb LAST_TYPE a.0.0) None (Some ((a.0.0, period.0), period.1))) x a.2 in

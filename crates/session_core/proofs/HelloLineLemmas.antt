@@ -160,11 +160,17 @@ is_long_line bytes h =
     let len : length (front ++ more) ≡ length front + length more = length-append front more in
     rw h.2 (elim (lt_tells (lf_place (front ++ more)) (length (front ++ more))) [
       | inl p ↦
-          rw (p.0, lt-ltb LONGEST_HELLO_LINE (lf_place (front ++ more))
-          (omega (arith, past, h.4))) refl
+          rw (
+            p.0,
+            lt-ltb LONGEST_HELLO_LINE (lf_place (front ++ more))
+                (omega (arith, past, h.4)),
+          ) refl
       | inr p ↦
-          rw (p.0, lt-ltb LONGEST_HELLO_LINE (length (front ++ more))
-          (omega (arith, len, h.4))) refl
+          rw (
+            p.0,
+            lt-ltb LONGEST_HELLO_LINE (length (front ++ more))
+                (omega (arith, len, h.4)),
+          ) refl
     ])
 
 -- ---- the line at the front, and what follows it
