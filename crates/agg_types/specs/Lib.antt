@@ -7,4 +7,4 @@ pub mod Key
 pub mod Name
 pub mod Naming
 pub mod Op
-pub mod Place
+pub mod RowKey

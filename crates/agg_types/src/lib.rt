@@ -24,7 +24,7 @@ pub mod laws;
 pub mod limits;
 mod name;
 mod no_memory;
-mod place;
+mod row_key;
 mod short_key;
 
 pub use cells::Cells;
@@ -41,4 +41,4 @@ pub use limits::{
 };
 pub use name::{Name, is_name};
 pub use no_memory::NoMemory;
-pub use place::Place;
+pub use row_key::RowKey;

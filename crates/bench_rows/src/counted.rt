@@ -3,7 +3,7 @@ ghost use Rattle.std.specs.Prelude.{◌≡◌};
 use crate::measure::{print_memory, print_time, resident, time_used};
 use agg_types::{Key, NoMemory};
 use anyhow::Result;
-use peer_rows::{Cells, Held, Row, Rows};
+use peer_rows::{Held, Row, RowCells, Rows};
 use period_rate::Rate;
 use std::alloc::Global;
 
@@ -17,7 +17,7 @@ pub fn row(alloc: Global, id: u32, now: u64) -> Result<Row, NoMemory> {
     let rate = Rate::arrive(10_000, 3, 100, 5, now.min(1 << 40));
     let held = [Held::Count(u64::from(id)), Held::Count(7), Held::Rate(rate)];
     Ok(Row {
-        cells: Cells::copy(alloc, &held)?,
+        cells: RowCells::copy(alloc, &held)?,
         arrived: now,
         ends: Some(now.saturating_add(30_000)),
         planned: now.saturating_add(30_000),

@@ -13,7 +13,7 @@ use Rattle.agg_types.specs.declared.event.Select.TheVariants.{All, One, Conds}
 use Rattle.agg_types.specs.declared.event.What.{What}
 use Rattle.agg_types.specs.declared.event.What.TheVariants.{Sit, Open, Put, Clear, AddFilter}
 use Rattle.agg_types.specs.declared.event.What.TheVariants.{Moment, Leave}
-use Rattle.agg_types.specs.declared.place.Place.{Place}
+use Rattle.agg_types.specs.declared.row_key.RowKey.{RowKey}
 use Rattle.fleet_model.specs.Filters.{is_new}
 use Rattle.fleet_model.specs.Keys.{AreInOrder, Rows, holds, key_rows}
 use Rattle.fleet_model.specs.Machine.{after, counts_now, happened, session_of, with_put, with_row}
@@ -85,7 +85,7 @@ is_apart t table a b apart = ⊎_elim (other_table t table (same_key a b)) anoth
 turned : {X Y : Type 0} {a b : X} {c d : Y} → (a ≢ b) ⊎ (c ≢ d) → (b ≢ a) ⊎ (c ≢ d)
 turned apart = ⊎_elim (λ h. inl (λ e. h (sym e))) (λ h. inr h) apart
 
-put_apart : (state : State) (taken : Bool) (place : Place) (row : Arrival) → AreInOrder state.rows
+put_apart : (state : State) (taken : Bool) (place : RowKey) (row : Arrival) → AreInOrder state.rows
     → (t : ℕ) (other : List ℕ) → (t ≢ place.table) ⊎ (other ≢ place.key)
     → key_rows (cond taken (with_row state.moment state.rows place row) state.rows) t other
     ≡ key_rows state.rows t other
@@ -151,7 +151,7 @@ unfolding happened with_put
 done state e Sit sound is counts = record { config = refl; moment = refl; rows = refl }
 done state e (Open peer) sound is counts = record { config = refl; moment = refl; rows = refl }
 done state e (Put peer table key life cells) sound is counts =
-    let place : Place = record { table = table; key = key; peer = peer } in
+    let place : RowKey = record { table = table; key = key; peer = peer } in
     record {
       config = refl;
       moment = refl;

@@ -13,8 +13,8 @@ use Rattle.std.specs.declared.cmp.Ordering.{Ordering}
 use Rattle.std.specs.declared.cmp.Ordering.TheVariants.{Less, Equal, Greater}
 use Rattle.std.proofs.lemmas.Bool.Decides.{nat_tests}
 use Rattle.std.proofs.lemmas.Cmp.{nat_list_cmp_total}
-use Rattle.agg_types.specs.Place.{place_cmp}
-use Rattle.agg_types.specs.declared.place.Place.{Place}
+use Rattle.agg_types.specs.RowKey.{row_key_cmp}
+use Rattle.agg_types.specs.declared.row_key.RowKey.{RowKey}
 use Rattle.expiry_wheel.specs.Entries.{entry_cmp, with_entry, without_entry}
 use Rattle.fleet_model.specs.Seats.{is_number}
 use Rattle.fleet_model.specs.Values.{same_place}
@@ -28,7 +28,7 @@ use Rattle.book.specs.Shown.{as_arrival}
 use Rattle.book.specs.Store.{AreKept}
 use Rattle.book.proofs.Lists.{all-both, all-filter, all-insert_entry, all-map, all_found, any_more}
 use Rattle.book.proofs.Lists.{own-insert_key, remove-filter}
-use Rattle.fleet_model.proofs.InForce.{place_cmp_exact, place_cmp_total}
+use Rattle.fleet_model.proofs.InForce.{row_key_cmp_exact, row_key_cmp_total}
 use Rattle.book.proofs.Plans.{Entry, Plan, entry_exact, equal_from, own_place, rows-filter}
 use Rattle.book.proofs.Plans.{same_place_is, seen_earlier, seen_right, seen_row, unending_row}
 
@@ -63,8 +63,8 @@ any_weaker p q gives (x ∷ xs) found = by (p x) (q x) (gives x) (any_weaker p q
     by false false here more either = more either
 
 -- ---- an item is the one at its own moment and place
-item_is : (x k : Plan) → is_at (entry_cmp place_cmp x) k ≡ true → x ≡ k
-item_is x k is = entry_exact x k (equal_from (entry_cmp place_cmp x k) is)
+item_is : (x k : Plan) → is_at (entry_cmp row_key_cmp x) k ≡ true → x ≡ k
+item_is x k is = entry_exact x k (equal_from (entry_cmp row_key_cmp x k) is)
 
 clash : {C : Type 0} (b : Bool) → b ≡ true → b ≡ false → C
 clash true here there = cc
@@ -79,32 +79,32 @@ and_off true b off = off
 and_off false b off = refl
 
 -- ---- another place's rows are planned as before
-seen_apart : (items due : List Plan) (x : Plan) (place : Place) (life : Option ℕ) (arrived : ℕ)
+seen_apart : (items due : List Plan) (x : Plan) (place : RowKey) (life : Option ℕ) (arrived : ℕ)
     → same_place x.1 place ≡ false → is_seen (items ++ due) place life arrived ≡ true
-    → is_seen (items ++ without_entry place_cmp due x) place life arrived ≡ true
+    → is_seen (items ++ without_entry row_key_cmp due x) place life arrived ≡ true
 seen_apart items due x place None arrived apart seen = refl
 seen_apart items due x place (Some life) arrived apart seen =
-    any_more (is_by (arrived + life) place) items due (without_entry place_cmp due x)
-    (any-remove_key (is_by (arrived + life) place) (is_at (entry_cmp place_cmp x))
+    any_more (is_by (arrived + life) place) items due (without_entry row_key_cmp due x)
+    (any-remove_key (is_by (arrived + life) place) (is_at (entry_cmp row_key_cmp x))
     (λ k here. let same : x ≡ k = item_is x k here in
     and_off (nat_le k.0 (arrived + life)) (same_place k.1 place) (rw (← same) apart)) due)
     seen
 
 pub forgotten : (items due new : List Plan) (x : Plan) (e : Entry)
-    → new ≡ without_entry place_cmp due x → same_place x.1 e.0 ≡ false → is_planned (items ++ due) e
+    → new ≡ without_entry row_key_cmp due x → same_place x.1 e.0 ≡ false → is_planned (items ++ due) e
     ≡ true → is_planned (items ++ new) e ≡ true
 forgotten items due new x e is apart planned =
     rw is (seen_apart items due x e.0 (as_arrival e.1).life (as_arrival e.1).arrived apart planned)
 
 -- a plan at another moment stays
-pub own_kept : (due new : List Plan) (place : Place) (planned : ℕ) (end : Option ℕ)
-    → is_number end planned ≡ false → new ≡ without_entry place_cmp due (planned, place)
+pub own_kept : (due new : List Plan) (place : RowKey) (planned : ℕ) (end : Option ℕ)
+    → is_number end planned ≡ false → new ≡ without_entry row_key_cmp due (planned, place)
     → HasPlan due place end → HasPlan new place end
 own_kept due new place planned None apart is has = tt
 own_kept due new place planned (Some end) apart is has =
-    rw is (any-remove_key (is_at (entry_cmp place_cmp (end, place)))
-    (is_at (entry_cmp place_cmp (planned, place)))
-    (λ k here. never (is_at (entry_cmp place_cmp (end, place)) k) (λ own.
+    rw is (any-remove_key (is_at (entry_cmp row_key_cmp (end, place)))
+    (is_at (entry_cmp row_key_cmp (planned, place)))
+    (λ k here. never (is_at (entry_cmp row_key_cmp (end, place)) k) (λ own.
     let one : (planned, place) ≡ k = item_is (planned, place) k here in
     let two : (end, place) ≡ k = item_is (end, place) k own in
     let same : (end, place) ≡ (planned, place) = two ∙ sym one in
@@ -113,25 +113,25 @@ own_kept due new place planned (Some end) apart is has =
     clash (end == planned) equal apart)) due has)
 
 -- what was planned at a place is there
-pub own_planned : (end : ℕ) (place : Place) (due new : List Plan)
-    → new ≡ with_entry place_cmp due (end, place) → HasPlan new place (Some end)
+pub own_planned : (end : ℕ) (place : RowKey) (due new : List Plan)
+    → new ≡ with_entry row_key_cmp due (end, place) → HasPlan new place (Some end)
 own_planned end place due new is =
-    rw is (own-insert_key (entry_cmp place_cmp) entry_exact
-    (is_at (entry_cmp place_cmp (end, place))) due (end, place) here)
+    rw is (own-insert_key (entry_cmp row_key_cmp) entry_exact
+    (is_at (entry_cmp row_key_cmp (end, place))) due (end, place) here)
   where
-    here : is_at (entry_cmp place_cmp (end, place)) (end, place) ≡ true
+    here : is_at (entry_cmp row_key_cmp (end, place)) (end, place) ≡ true
     here = let moments : nat_cmp end end ≡ Equal = grind (arith, nat_tests) in
         rw moments (own_place place)
 
 -- a row whose end is planned is looked at by then
-pub planned_own : (items due : List Plan) (place : Place) (row : Row) (end : Option ℕ)
+pub planned_own : (items due : List Plan) (place : RowKey) (row : Row) (end : Option ℕ)
     → end ≡ option_map (λ life. row.arrived + life) (as_arrival row).life → HasPlan due place end
     → is_planned (items ++ due) (place, row) ≡ true
 planned_own items due place row end is has =
     seen_right items due place (as_arrival row).life row.arrived
     (of (as_arrival row).life end is has)
   where
-    by_then : (a : ℕ) (k : Plan) → is_at (entry_cmp place_cmp (a, place)) k ≡ true
+    by_then : (a : ℕ) (k : Plan) → is_at (entry_cmp row_key_cmp (a, place)) k ≡ true
         → is_by a place k ≡ true
     by_then a k own =
         let same : (a, place) ≡ k = item_is (a, place) k own in
@@ -144,87 +144,87 @@ planned_own items due place row end is has =
     of (Some n) None is has = cc
     of (Some n) (Some a) is has =
         let same : a ≡ row.arrived + n = cc in
-        rw (← same) (any_weaker (is_at (entry_cmp place_cmp (a, place))) (is_by a place)
+        rw (← same) (any_weaker (is_at (entry_cmp row_key_cmp (a, place))) (is_by a place)
         (by_then a) due has)
 
 -- ---- rows of which one is put or taken, and no other's plan goes
-abbrev Others : Place → List Plan → List Plan → Type 0
+abbrev Others : RowKey → List Plan → List Plan → Type 0
 Others place before items = (e : Entry) → same_place place e.0 ≡ false → is_planned before e ≡ true
     → is_planned items e ≡ true
 
-found_put : (es : List Entry) (place : Place) (row : Row)
-    → lookup (is_at (place_cmp place)) (insert_entry place_cmp es place row) ≡ Some row
+found_put : (es : List Entry) (place : RowKey) (row : Row)
+    → lookup (is_at (row_key_cmp place)) (insert_entry row_key_cmp es place row) ≡ Some row
 found_put [] place row = rw (own_place place) refl
-found_put (e ∷ es) place row = by (place_cmp place e.0) refl (found_put es place row)
+found_put (e ∷ es) place row = by (row_key_cmp place e.0) refl (found_put es place row)
   where
-    by : (r : Ordering) → place_cmp place e.0 ≡ r
-        → lookup (is_at (place_cmp place)) (insert_entry place_cmp es place row) ≡ Some row
-        → lookup (is_at (place_cmp place))
+    by : (r : Ordering) → row_key_cmp place e.0 ≡ r
+        → lookup (is_at (row_key_cmp place)) (insert_entry row_key_cmp es place row) ≡ Some row
+        → lookup (is_at (row_key_cmp place))
         (match_ordering r ((place, row) ∷ e ∷ es) ((e.0, row) ∷ es)
-        (e ∷ insert_entry place_cmp es place row)) ≡ Some row
+        (e ∷ insert_entry row_key_cmp es place row)) ≡ Some row
     by Less is more = rw (own_place place) refl
     by Equal is more = rw is refl
     by Greater is more = rw is more
 
 -- a row that is taken out again where none stood
-taken_back : (es : List Entry) (place : Place) (row : Row)
-    → lookup (is_at (place_cmp place)) es ≡ None
-    → remove_entry (is_at (place_cmp place)) (insert_entry place_cmp es place row) ≡ es
+taken_back : (es : List Entry) (place : RowKey) (row : Row)
+    → lookup (is_at (row_key_cmp place)) es ≡ None
+    → remove_entry (is_at (row_key_cmp place)) (insert_entry row_key_cmp es place row) ≡ es
 taken_back [] place row none = rw (own_place place) refl
 taken_back (e ∷ es) place row none =
-    by (place_cmp place e.0) refl none (taken_back es place row)
+    by (row_key_cmp place e.0) refl none (taken_back es place row)
   where
-    by : (r : Ordering) → place_cmp place e.0 ≡ r
-        → cond (is_eq r) (Some e.1) (lookup (is_at (place_cmp place)) es) ≡ None
-        → (lookup (is_at (place_cmp place)) es ≡ None
-        → remove_entry (is_at (place_cmp place)) (insert_entry place_cmp es place row) ≡ es)
-        → remove_entry (is_at (place_cmp place))
+    by : (r : Ordering) → row_key_cmp place e.0 ≡ r
+        → cond (is_eq r) (Some e.1) (lookup (is_at (row_key_cmp place)) es) ≡ None
+        → (lookup (is_at (row_key_cmp place)) es ≡ None
+        → remove_entry (is_at (row_key_cmp place)) (insert_entry row_key_cmp es place row) ≡ es)
+        → remove_entry (is_at (row_key_cmp place))
         (match_ordering r ((place, row) ∷ e ∷ es) ((e.0, row) ∷ es)
-        (e ∷ insert_entry place_cmp es place row)) ≡ e ∷ es
+        (e ∷ insert_entry row_key_cmp es place row)) ≡ e ∷ es
     by Less is gone more = rw (own_place place) refl
     by Equal is gone more = cc
     by Greater is gone more = rw is (ap (λ (rest : List Entry). e ∷ rest) (more gone))
 
-pub rows_taken_back : (rows put new : RowMap) (place : Place) (row : Row)
-    → put ≡ record rows { entries = insert_entry place_cmp rows.entries place row }
-    → new ≡ record put { entries = remove_entry (is_at (place_cmp place)) put.entries }
-    → lookup (is_at (place_cmp place)) rows.entries ≡ None → new ≡ rows
+pub rows_taken_back : (rows put new : RowMap) (place : RowKey) (row : Row)
+    → put ≡ record rows { entries = insert_entry row_key_cmp rows.entries place row }
+    → new ≡ record put { entries = remove_entry (is_at (row_key_cmp place)) put.entries }
+    → lookup (is_at (row_key_cmp place)) rows.entries ≡ None → new ≡ rows
 rows_taken_back rows put new place row is taken none =
     taken ∙ rw is (ap (λ (es : List Entry). record rows { entries = es })
     (taken_back rows.entries place row none))
 
-put_others : (before items : List Plan) (place : Place) (row : Row) (es new : List Entry)
-    → new ≡ insert_entry place_cmp es place row → AreInOrder new → Others place before items
+put_others : (before items : List Plan) (place : RowKey) (row : Row) (es new : List Entry)
+    → new ≡ insert_entry row_key_cmp es place row → AreInOrder new → Others place before items
     → is_planned items (place, row) ≡ true → AllByRecursion (λ e. is_planned before e ≡ true) es
     → AllByRecursion (λ e. is_planned items e ≡ true) new
 put_others before items place row es new is ordered others here planned =
-    all-both (λ e. lookup (is_at (place_cmp e.0)) new ≡ Some e.1) (λ e. same_place place e.0 ≡ false
+    all-both (λ e. lookup (is_at (row_key_cmp e.0)) new ≡ Some e.1) (λ e. same_place place e.0 ≡ false
     → is_planned items e ≡ true) (λ e. is_planned items e ≡ true)
     (λ e found was. by e found (same_place place e.0) refl was)
-    new (all_found place_cmp place_cmp_total new ordered)
-    (rw is (all-insert_entry place_cmp (λ e. same_place place e.0 ≡ false
+    new (all_found row_key_cmp row_key_cmp_total new ordered)
+    (rw is (all-insert_entry row_key_cmp (λ e. same_place place e.0 ≡ false
     → is_planned items e ≡ true) es place row
     (all-map (λ e. is_planned before e ≡ true) (λ e. same_place place e.0 ≡ false
     → is_planned items e ≡ true) (λ e was apart. others e apart was) es planned)
-    (λ q same apart. clash (is_eq (place_cmp place q)) (ap is_eq same) apart)
+    (λ q same apart. clash (is_eq (row_key_cmp place q)) (ap is_eq same) apart)
     (λ apart. here)))
   where
-    by : (e : Entry) → lookup (is_at (place_cmp e.0)) new ≡ Some e.1 → (b : Bool)
+    by : (e : Entry) → lookup (is_at (row_key_cmp e.0)) new ≡ Some e.1 → (b : Bool)
         → same_place place e.0 ≡ b → (same_place place e.0 ≡ false → is_planned items e ≡ true)
         → is_planned items e ≡ true
     by e found true at was =
         let same : place ≡ e.0 = same_place_is place e.0 at in
-        let own : lookup (is_at (place_cmp place)) new ≡ Some row =
+        let own : lookup (is_at (row_key_cmp place)) new ≡ Some row =
         rw is (found_put es place row) in
-        let own_at : lookup (is_at (place_cmp e.0)) new ≡ Some row = rw same at own in
+        let own_at : lookup (is_at (row_key_cmp e.0)) new ≡ Some row = rw same at own in
         let rows : row ≡ e.1 = cc in
         let now : is_planned items (e.0, row) ≡ true = rw same at here in
         rw rows at now
     by e found false at was = was at
 
 pub kept_replaced : (peers tables : ℕ) (rows new : RowMap) (before items : List Plan)
-    (place : Place) (row : Row) → AreRows peers tables rows → IsInside peers tables place
-    → new ≡ record rows { entries = insert_entry place_cmp rows.entries place row }
+    (place : RowKey) (row : Row) → AreRows peers tables rows → IsInside peers tables place
+    → new ≡ record rows { entries = insert_entry row_key_cmp rows.entries place row }
     → AreInOrder new.entries
     → ((e : Entry) → same_place place e.0 ≡ false → is_planned before e ≡ true
     → is_planned items e ≡ true) → is_planned items (place, row) ≡ true
@@ -237,8 +237,8 @@ kept_replaced peers tables rows new before items place row are inside is ordered
         of_peers = ap (λ (m : RowMap). m.peers) is ∙ are.of_peers;
         of_tables = ap (λ (m : RowMap). m.tables) is ∙ are.of_tables;
         ordered = ordered;
-        inside = rw is (all-insert_entry place_cmp (λ e. IsInside peers tables e.0) rows.entries
-            place row are.inside (λ q same. rw (← place_cmp_exact place q same) inside) inside);
+        inside = rw is (all-insert_entry row_key_cmp (λ e. IsInside peers tables e.0) rows.entries
+            place row are.inside (λ q same. rw (← row_key_cmp_exact place q same) inside) inside);
       };
       planned = put_others before items place row rows.entries new.entries
           (ap (λ (m : RowMap). m.entries) is) ordered others here planned;
@@ -248,18 +248,18 @@ off_not : (b : Bool) → not b ≡ true → b ≡ false
 off_not true is = cc
 off_not false is = refl
 
-pub kept_dropped : (peers tables : ℕ) (rows new : RowMap) (before items : List Plan) (place : Place)
-    → new ≡ record rows { entries = remove_entry (is_at (place_cmp place)) rows.entries }
+pub kept_dropped : (peers tables : ℕ) (rows new : RowMap) (before items : List Plan) (place : RowKey)
+    → new ≡ record rows { entries = remove_entry (is_at (row_key_cmp place)) rows.entries }
     → ((e : Entry) → same_place place e.0 ≡ false → is_planned before e ≡ true
     → is_planned items e ≡ true) → AreKept peers tables rows before
     → AreKept peers tables new items
 kept_dropped peers tables rows new before items place is others kept =
     let entries : new.entries ≡ filter (λ e. not (same_place place e.0)) rows.entries =
-    ap (λ (m : RowMap). m.entries) is ∙ remove-filter place_cmp place_cmp_total place rows.entries
+    ap (λ (m : RowMap). m.entries) is ∙ remove-filter row_key_cmp row_key_cmp_total place rows.entries
     kept.are.ordered in
     kept_but peers tables (λ e. not (same_place place e.0)) rows new before items (is
     ∙ ap (λ (es : List Entry). record rows { entries = es })
-    (remove-filter place_cmp place_cmp_total place rows.entries kept.are.ordered))
+    (remove-filter row_key_cmp row_key_cmp_total place rows.entries kept.are.ordered))
     (λ e stays was. others e (off_not (same_place place e.0) stays) was) kept
   where
     kept_but : (peers tables : ℕ) (p : Entry → Bool) (rows new : RowMap) (before items : List Plan)
@@ -291,26 +291,26 @@ kept_cleared peers tables table key rows new before items is others kept =
     }
 
 -- where no row stands at a place, the others are all
-pub kept_none : (peers tables : ℕ) (rows new : RowMap) (before items : List Plan) (place : Place)
-    → new ≡ rows → lookup (is_at (place_cmp place)) rows.entries ≡ None
+pub kept_none : (peers tables : ℕ) (rows new : RowMap) (before items : List Plan) (place : RowKey)
+    → new ≡ rows → lookup (is_at (row_key_cmp place)) rows.entries ≡ None
     → ((e : Entry) → same_place place e.0 ≡ false → is_planned before e ≡ true
     → is_planned items e ≡ true) → AreKept peers tables rows before
     → AreKept peers tables new items
 kept_none peers tables rows new before items place is none others kept =
     rw is (record {
       are = kept.are;
-      planned = all-both (λ e. lookup (is_at (place_cmp e.0)) rows.entries ≡ Some e.1)
+      planned = all-both (λ e. lookup (is_at (row_key_cmp e.0)) rows.entries ≡ Some e.1)
           (λ e. is_planned before e ≡ true) (λ e. is_planned items e ≡ true)
           (λ e found was. others e (never (same_place place e.0) (λ at. apart e found at)) was)
-          rows.entries (all_found place_cmp place_cmp_total rows.entries kept.are.ordered)
+          rows.entries (all_found row_key_cmp row_key_cmp_total rows.entries kept.are.ordered)
           kept.planned;
     })
   where
-    apart : (e : Entry) → lookup (is_at (place_cmp e.0)) rows.entries ≡ Some e.1
+    apart : (e : Entry) → lookup (is_at (row_key_cmp e.0)) rows.entries ≡ Some e.1
         → same_place place e.0 ≡ true → ⊥
     apart e found at =
         let same : place ≡ e.0 = same_place_is place e.0 at in
-        let gone : lookup (is_at (place_cmp e.0)) rows.entries ≡ None = rw same at none in
+        let gone : lookup (is_at (row_key_cmp e.0)) rows.entries ≡ None = rw same at none in
         cc
 
 pub none_of : {X : Type 0} (found : Option X) → (IsSome found → false ≡ true) → found ≡ None
@@ -323,13 +323,13 @@ over_later : (first end : ℕ) (life : Option ℕ) (arrived : ℕ) → first ≤
 over_later first end None arrived upto over = over
 over_later first end (Some life) arrived upto over = omega arith
 
-pub ends_of : (es : List Entry) (place : Place) (plan : Option PlanOf)
+pub ends_of : (es : List Entry) (place : RowKey) (plan : Option PlanOf)
     → IfSome plan (λ plan. EndsBy es place plan.end)
     → IfSome (option_map (λ (plan : PlanOf). plan.end) plan) (EndsBy es place)
 ends_of es place None ends = tt
 ends_of es place (Some plan) ends = ends
 
-stays_seen : (items : List Plan) (es : List Entry) (place : Place) (row : Row)
+stays_seen : (items : List Plan) (es : List Entry) (place : RowKey) (row : Row)
     (before end : Option ℕ) → IfSome before (EndsBy es place) → Stays before end
     → end ≡ option_map (λ life. row.arrived + life) (as_arrival row).life
     → AllByRecursion (λ e. is_planned items e ≡ true) es → is_planned items (place, row) ≡ true
@@ -346,9 +346,9 @@ stays_seen items es place row (Some first) (Some end) ends stays is planned =
     ) at)
 
 -- a row whose plan stays takes the place of one that ended no later
-pub kept_stays : (peers tables : ℕ) (rows new : RowMap) (items : List Plan) (place : Place)
+pub kept_stays : (peers tables : ℕ) (rows new : RowMap) (items : List Plan) (place : RowKey)
     (row : Row) (before end : Option ℕ) → AreRows peers tables rows → IsInside peers tables place
-    → new ≡ record rows { entries = insert_entry place_cmp rows.entries place row }
+    → new ≡ record rows { entries = insert_entry row_key_cmp rows.entries place row }
     → AreInOrder new.entries
     → IfSome before (EndsBy rows.entries place) → Stays before end
     → end ≡ option_map (λ life. row.arrived + life) (as_arrival row).life
@@ -360,27 +360,27 @@ kept_stays peers tables rows new items place row before end are inside is ordere
     at kept.planned) kept.planned
 
 -- ---- a key without rows
-own_key : (place : Place) → of_table_key place.table place.key place ≡ true
+own_key : (place : RowKey) → of_table_key place.table place.key place ≡ true
 own_key place =
     let tables : (place.table == place.table) ≡ true = grind (arith, nat_tests) in
     rw (tables, equal_itself nat_list_cmp_total place.key) refl
 
 -- no place of such a key is taken
-pub none_there : (place : Place) (es : List Entry)
+pub none_there : (place : RowKey) (es : List Entry)
     → map {B = ℕ × Row} (λ (e : Entry). (e.0.peer, e.1))
     (filter (λ e. of_table_key place.table place.key e.0) es) ≡ []
-    → lookup (is_at (place_cmp place)) es ≡ None
+    → lookup (is_at (row_key_cmp place)) es ≡ None
 none_there place [] none = refl
 none_there place (e ∷ es) none = by (of_table_key place.table place.key e.0) refl none
     (none_there place es)
   where
     at : (b : Bool) → same_place place e.0 ≡ b → of_table_key place.table place.key e.0 ≡ false
-        → lookup (is_at (place_cmp place)) es ≡ None
-        → cond b (Some e.1) (lookup (is_at (place_cmp place)) es) ≡ None
+        → lookup (is_at (row_key_cmp place)) es ≡ None
+        → cond b (Some e.1) (lookup (is_at (row_key_cmp place)) es) ≡ None
     at true is off more =
         let same : place ≡ e.0 = same_place_is place e.0 is in
         let own : of_table_key place.table place.key e.0 ≡ true =
-        subst (λ (p : Place). of_table_key place.table place.key p ≡ true) same
+        subst (λ (p : RowKey). of_table_key place.table place.key p ≡ true) same
         (own_key place) in
         let never : true ≡ false = sym own ∙ off in
         cc
@@ -392,8 +392,8 @@ none_there place (e ∷ es) none = by (of_table_key place.table place.key e.0) r
         (filter (λ f. of_table_key place.table place.key f.0) es)) ≡ []
         → (map {B = ℕ × Row} (λ (f : Entry). (f.0.peer, f.1))
         (filter (λ f. of_table_key place.table place.key f.0) es) ≡ []
-        → lookup (is_at (place_cmp place)) es ≡ None)
-        → cond (same_place place e.0) (Some e.1) (lookup (is_at (place_cmp place)) es) ≡ None
+        → lookup (is_at (row_key_cmp place)) es ≡ None)
+        → cond (same_place place e.0) (Some e.1) (lookup (is_at (row_key_cmp place)) es) ≡ None
     by true is none more = cc
     by false is none more = at (same_place place e.0) refl is (more none)
 

@@ -10,11 +10,11 @@ use Rattle.std.specs.Option.{IsSomeAnd}
 use Rattle.agg_types.specs.declared.config.Rank.{Rank}
 use Rattle.agg_types.specs.declared.config.Shape.{Shape}
 use Rattle.agg_types.specs.declared.column.Col.{Col}
-use Rattle.agg_types.specs.declared.place.Place.{Place}
+use Rattle.agg_types.specs.declared.row_key.RowKey.{RowKey}
 use Rattle.std.specs.BTreeMap.{insert_entry, is_at}
 use Rattle.std.specs.List.Sorted.{IsStrictlySortedBy}
 use Rattle.std.specs.Map.{keys_of, remove_entry}
-use Rattle.agg_types.specs.Place.{place_cmp}
+use Rattle.agg_types.specs.RowKey.{row_key_cmp}
 use Rattle.agg_types.specs.declared.event.Cell.{Cell}
 use Rattle.fleet_model.specs.Kept.{kept_cells}
 use Rattle.fleet_model.specs.Keys.{AreInOrder, Rows, key_rows, one_if, worth_of}
@@ -46,13 +46,13 @@ pub rank_is : (ranks : List Rank) (list : ℕ) (item : Rank) → item ≡ get_or
 rank_is ranks list item is inside = get_or_default ranks list no_rank item inside ∙ sym is
 
 -- ---- rows in order
-keys_shown : (es : List (Place × Row)) → keys_of (arrivals es) ≡ keys_of es
+keys_shown : (es : List (RowKey × Row)) → keys_of (arrivals es) ≡ keys_of es
 keys_shown [] = refl
 keys_shown (e ∷ es) = ap (λ places. e.0 ∷ places) (keys_shown es)
 
-pub ordered_shown : (es : List (Place × Row)) → IsStrictlySortedBy place_cmp (keys_of es)
+pub ordered_shown : (es : List (RowKey × Row)) → IsStrictlySortedBy row_key_cmp (keys_of es)
     → AreInOrder (arrivals es)
-ordered_shown es sorted = subst (IsStrictlySortedBy place_cmp) (sym (keys_shown es)) sorted
+ordered_shown es sorted = subst (IsStrictlySortedBy row_key_cmp) (sym (keys_shown es)) sorted
 
 -- ---- a row arrives
 value_sum : (cols : List (Col × ℕ)) (rows : Rows) (table : ℕ) (key : List ℕ) (col : Col) (t : ℕ)
@@ -60,7 +60,7 @@ value_sum : (cols : List (Col × ℕ)) (rows : Rows) (table : ℕ) (key : List �
 unfolding value
 value_sum cols rows table key col t = sym (value-rows cols rows table key col t)
 
-share_less : (cols : List (Col × ℕ)) (table : ℕ) (key : List ℕ) (col : Col) (t : ℕ) (row : Place
+share_less : (cols : List (Col × ℕ)) (table : ℕ) (key : List ℕ) (col : Col) (t : ℕ) (row : RowKey
     × Arrival) → share cols table key col t row ≤ column_worth col (t - row.1.arrived)
     cols row.1.cells
 unfolding share
@@ -71,26 +71,26 @@ share_less cols table key col t row = by (is_of table key t row)
     by true = omega arith
     by false = omega arith
 
-put_more : (cols : List (Col × ℕ)) (rows : Rows) (t : ℕ) (place : Place) (row : Arrival) (col : Col)
+put_more : (cols : List (Col × ℕ)) (rows : Rows) (t : ℕ) (place : RowKey) (row : Arrival) (col : Col)
     (live : Bool) → is_live t row ≡ live → AreInOrder rows
     → sum_by (share cols place.table place.key col t) (with_row t rows place row) ≤ sum_by
     (share cols place.table place.key col t) rows + column_worth col (t - row.arrived)
     cols row.cells
 put_more cols rows t place row col true live ordered =
-    let f : Place × Arrival → ℕ = share cols place.table place.key col t in
+    let f : RowKey × Arrival → ℕ = share cols place.table place.key col t in
     let own : f (place, row) ≤ column_worth col (t - row.arrived) cols row.cells =
     share_less cols place.table place.key col t (place, row) in
-    let sums : sum_by f (insert_entry place_cmp rows place row) + worth_at f rows place
+    let sums : sum_by f (insert_entry row_key_cmp rows place row) + worth_at f rows place
     ≡ sum_by f rows + f (place, row) = sum-insert f rows place row ordered in
     rw (with_living t rows place row live) (omega arith)
 put_more cols rows t place row col false ended ordered =
-    let f : Place × Arrival → ℕ = share cols place.table place.key col t in
-    let sums : sum_by f (remove_entry (is_at (place_cmp place)) rows) + worth_at f rows place
+    let f : RowKey × Arrival → ℕ = share cols place.table place.key col t in
+    let sums : sum_by f (remove_entry (is_at (row_key_cmp place)) rows) + worth_at f rows place
     ≡ sum_by f rows = sum-remove f rows place in
     rw (with_ended t rows place row ended) (omega arith)
 
 -- a key is worth at most what it was, and what its new row is worth as it arrives
-pub arriving_more : (cols : List (Col × ℕ)) (rows : Rows) (t : ℕ) (place : Place) (life : Option ℕ)
+pub arriving_more : (cols : List (Col × ℕ)) (rows : Rows) (t : ℕ) (place : RowKey) (life : Option ℕ)
     (cells : List Cell) (col : Col) → AreInOrder rows
     → worth_of cols (key_rows (with_row t rows place (put_arrival t life cols cells)) place.table
     place.key) col t
@@ -272,7 +272,7 @@ and_none true = refl
 and_none false = refl
 
 -- a row that arrives changes no other key's rows
-pub apart_rows : (rows : Rows) (t : ℕ) (place : Place) (row : Arrival) (table : ℕ) (other : List ℕ)
+pub apart_rows : (rows : Rows) (t : ℕ) (place : RowKey) (row : Arrival) (table : ℕ) (other : List ℕ)
     → AreInOrder rows → same_key place.key other ≡ false
     → key_rows (with_row t rows place row) table other ≡ key_rows rows table other
 apart_rows rows t place row table other ordered apart =
@@ -285,7 +285,7 @@ apart_rows rows t place row table other ordered apart =
     by false e = ap (λ (b : Bool). (place.table == table) && b) e ∙ and_none (place.table == table)
 
 -- nor any rows of another table
-pub elsewhere_rows : (rows : Rows) (t : ℕ) (place : Place) (row : Arrival) (rank item : Rank)
+pub elsewhere_rows : (rows : Rows) (t : ℕ) (place : RowKey) (row : Arrival) (rank item : Rank)
     (other : List ℕ) → AreInOrder rows → rank ≡ item → item.table ≢ place.table
     → key_rows (with_row t rows place row) rank.table other ≡ key_rows rows rank.table other
 elsewhere_rows rows t place row rank item other ordered is apart =

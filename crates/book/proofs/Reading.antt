@@ -28,9 +28,9 @@ use Rattle.std.proofs.lemmas.Map.Lookups.{exact_bytes}
 use Rattle.std.proofs.Math.Numerals.{add-one}
 use Rattle.std.proofs.lemmas.Cmp.{nat_list_cmp_total}
 use Rattle.peer_rows.proofs.Sorted.{equal_itself}
-use Rattle.agg_types.specs.Place.{place_cmp}
+use Rattle.agg_types.specs.RowKey.{row_key_cmp}
 use Rattle.agg_types.specs.declared.event.Cell.{Cell}
-use Rattle.agg_types.specs.declared.place.Place.{Place}
+use Rattle.agg_types.specs.declared.row_key.RowKey.{RowKey}
 use Rattle.agg_types.specs.Col.{all_cols}
 use Rattle.agg_types.specs.Op.{op_holds}
 use Rattle.agg_types.specs.declared.config.Cond.{Cond}
@@ -44,7 +44,7 @@ use Rattle.book.specs.Shown.{arrivals, as_arrival, of_peer, of_spot, found_worth
 use Rattle.book.proofs.Lists.{all-filter, all-map, map-filter, same_filters, sorted-filter}
 
 abbrev Entry : Type 0
-Entry = Place × Row
+Entry = RowKey × Row
 
 -- ---- one more item
 found_next : {X : Type 0} (xs : List X) (i : ℕ) (x : X) → slice_get xs i ≡ Some x
@@ -72,7 +72,7 @@ equal_from Less is = cc
 equal_from Equal is = refl
 equal_from Greater is = cc
 
-at_key : (table : ℕ) (key : List ℕ) (place : Place) → of_table_key table key place ≡ true
+at_key : (table : ℕ) (key : List ℕ) (place : RowKey) → of_table_key table key place ≡ true
     → record place { table = table; key = key } ≡ place
 at_key table key place is =
     let parts = and_parts (table == place.table) (same_key key place.key) is in
@@ -111,8 +111,8 @@ no_rows peers tables table key (e ∷ es) outside inside =
     rw other (no_rows peers tables table key es outside inside.1)
 
 -- ---- a key has at most one row of each peer
-peers_rise : (table : ℕ) (key : List ℕ) (p q : Place) → of_table_key table key p ≡ true
-    → of_table_key table key q ≡ true → place_cmp p q ≡ Less → p.peer < q.peer
+peers_rise : (table : ℕ) (key : List ℕ) (p q : RowKey) → of_table_key table key p ≡ true
+    → of_table_key table key q ≡ true → row_key_cmp p q ≡ Less → p.peer < q.peer
 peers_rise table key p q one two less =
     let ones = and_parts (table == p.table) (same_key key p.key) one in
     let twos = and_parts (table == q.table) (same_key key q.key) two in
@@ -135,7 +135,7 @@ peers_rise table key p q one two less =
     rising a b less = grind (arith, nat_tests)
 
 few_behind : (n table : ℕ) (key : List ℕ) (e : Entry) (es : List Entry)
-    → IsStrictlySortedBy place_cmp (keys_of (e ∷ es))
+    → IsStrictlySortedBy row_key_cmp (keys_of (e ∷ es))
     → AllByRecursion (λ e. of_table_key table key e.0 ≡ true) (e ∷ es)
     → AllByRecursion (λ e. e.0.peer < n) (e ∷ es) → e.0.peer + length (e ∷ es) ≤ n
 unfolding IsStrictlySortedBy
@@ -145,7 +145,7 @@ few_behind n table key e (f ∷ fs) s at inside =
     let up : e.0.peer < f.0.peer = peers_rise table key e.0 f.0 at.0 at.1.0 s.0.0 in
     omega arith
 
-few : (n table : ℕ) (key : List ℕ) (es : List Entry) → IsStrictlySortedBy place_cmp (keys_of es)
+few : (n table : ℕ) (key : List ℕ) (es : List Entry) → IsStrictlySortedBy row_key_cmp (keys_of es)
     → AllByRecursion (λ e. of_table_key table key e.0 ≡ true) es
     → AllByRecursion (λ e. e.0.peer < n) es → length es ≤ n
 few n table key [] s at inside = omega arith
@@ -165,7 +165,7 @@ pub few_peers : (peers tables : ℕ) (rows : RowMap) (table : ℕ) (key : List �
 few_peers peers tables rows table key are =
     let own : List Entry = filter (λ e. of_table_key table key e.0) rows.entries in
     rw map_length (few peers table key own
-    (sorted-filter place_cmp (λ e. of_table_key table key e.0) rows.entries are.ordered)
+    (sorted-filter row_key_cmp (λ e. of_table_key table key e.0) rows.entries are.ordered)
     (all-filter (λ e. Unit {0}) (λ e. of_table_key table key e.0 ≡ true)
     (λ e. of_table_key table key e.0) (λ e is any. is) rows.entries
     (all_of table key rows.entries))
@@ -173,7 +173,7 @@ few_peers peers tables rows table key are =
     (λ e. of_table_key table key e.0) (λ e is inside. inside.0) rows.entries are.inside))
 
 -- ---- the rows of a table
-at_table : (table : ℕ) (place : Place) → in_table table place ≡ true
+at_table : (table : ℕ) (place : RowKey) → in_table table place ≡ true
     → record place { table = table } ≡ place
 at_table table place is = λ i. record place { table = eqb-true table place.table is i }
 
@@ -214,7 +214,7 @@ each_filter p q same (x ∷ xs) =
     rw (same x) (ap (λ ys. cond (q x) (x ∷ ys) ys) (each_filter p q same xs))
 
 abbrev Shown : Type 0
-Shown = Place × Arrival
+Shown = RowKey × Arrival
 
 pub cleared_shown : (table : ℕ) (key : List ℕ) (es : List Entry)
     → arrivals (filter (λ e. not (of_table_key table key e.0)) es)
@@ -372,14 +372,14 @@ pub is_some-copied : {X : Type 0} (found : Option (Bor X))
 is_some-copied None = refl
 is_some-copied (Some x) = refl
 
-pub found_shown : (place : Place) (es : List Entry) → is_some (lookup (is_at (place_cmp place)) es)
+pub found_shown : (place : RowKey) (es : List Entry) → is_some (lookup (is_at (row_key_cmp place)) es)
     ≡ list_any (λ row. same_place place row.0) (arrivals es)
 found_shown place [] = refl
 found_shown place (e ∷ es) = by (same_place place e.0) (found_shown place es)
   where
-    by : (b : Bool) → is_some (lookup (is_at (place_cmp place)) es)
+    by : (b : Bool) → is_some (lookup (is_at (row_key_cmp place)) es)
         ≡ list_any (λ row. same_place place row.0) (arrivals es)
-        → is_some (cond b (Some e.1) (lookup (is_at (place_cmp place)) es))
+        → is_some (cond b (Some e.1) (lookup (is_at (row_key_cmp place)) es))
         ≡ (b || list_any (λ row. same_place place row.0) (arrivals es))
     by true more = refl
     by false more = more

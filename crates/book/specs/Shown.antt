@@ -5,7 +5,7 @@ use Rattle.std.specs.Option.{option_map}
 use Rattle.agg_types.specs.declared.column.Col.{Col}
 use Rattle.agg_types.specs.declared.event.Cell.{Cell}
 use Rattle.agg_types.specs.declared.event.Cell.TheVariants as cell
-use Rattle.agg_types.specs.declared.place.Place.{Place}
+use Rattle.agg_types.specs.declared.row_key.RowKey.{RowKey}
 use Rattle.fleet_model.specs.Keys.{row_worth}
 use Rattle.fleet_model.specs.declared.arrival.Arrival.{Arrival}
 use Rattle.peer_rows.specs.declared.row.Held.{Held}
@@ -28,15 +28,15 @@ as_arrival row =
       cells = map (cell_of row.arrived) row.cells;
     }
 
-abbrev pub shown : Place × Row → Place × Arrival
+abbrev pub shown : RowKey × Row → RowKey × Arrival
 shown entry = (entry.0, as_arrival entry.1)
 
 -- the rows in force that these stand for
-abbrev pub arrivals : List (Place × Row) → List (Place × Arrival)
+abbrev pub arrivals : List (RowKey × Row) → List (RowKey × Arrival)
 arrivals entries = map shown entries
 
 -- a peer's row of a key, as it stands at its place
-abbrev pub of_peer : ℕ → List ℕ → ℕ × Row → Place × Arrival
+abbrev pub of_peer : ℕ → List ℕ → ℕ × Row → RowKey × Arrival
 of_peer table key p = (record { table = table; key = key; peer = p.0 }, as_arrival p.1)
 
 -- what rows of one key, each with its peer, sum up to in a column at t
@@ -49,5 +49,5 @@ found_worth cols col t None = 0
 found_worth cols col t (Some rows) = rows_worth cols col t rows.now
 
 -- a row of a table, as it stands at its place
-abbrev pub of_spot : ℕ → Spot × Row → Place × Arrival
+abbrev pub of_spot : ℕ → Spot × Row → RowKey × Arrival
 of_spot table s = (record { table = table; key = s.0.0; peer = s.0.1 }, as_arrival s.1)

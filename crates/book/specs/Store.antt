@@ -14,7 +14,7 @@ use Rattle.agg_types.specs.declared.config.Config.{Config}
 use Rattle.agg_types.specs.declared.column.Col.{Col}
 use Rattle.agg_types.specs.declared.event.Cell.{Cell}
 use Rattle.agg_types.specs.declared.limits.TheConstants.{LAST_MOMENT}
-use Rattle.agg_types.specs.declared.place.Place.{Place}
+use Rattle.agg_types.specs.declared.row_key.RowKey.{RowKey}
 use Rattle.fleet_model.specs.Kept.{kept_cells}
 use Rattle.fleet_model.specs.declared.arrival.Arrival.{Arrival}
 use Rattle.peer_rows.specs.Rows.{RowMap}
@@ -24,10 +24,10 @@ use Rattle.book.specs.Planned.{ArePlanned, AreRows}
 pub record InForce : Type 0 where
   pub peers : ℕ
   pub tables : ℕ
-  pub rows : List (Place × Arrival)
+  pub rows : List (RowKey × Arrival)
 
 -- rows in order, each of which is looked at by its end
-pub record AreKept (peers tables : ℕ) (rows : RowMap) (items : List (ℕ × Place)) : Type 0 where
+pub record AreKept (peers tables : ℕ) (rows : RowMap) (items : List (ℕ × RowKey)) : Type 0 where
   pub are : AreRows peers tables rows
   pub planned : ArePlanned items rows.entries
 
@@ -36,12 +36,12 @@ abbrev pub put_arrival : ℕ → Option ℕ → List (Col × ℕ) → List Cell 
 put_arrival t life cols cells = record { arrived = t; life = life; cells = kept_cells cols cells }
 
 -- these are the rows of a key, each with its peer; there is none where none were found
-abbrev pub AreRowsOf : List (Place × Arrival) → ℕ → List ℕ → Option (List (ℕ × Row)) → Type 0
+abbrev pub AreRowsOf : List (RowKey × Arrival) → ℕ → List ℕ → Option (List (ℕ × Row)) → Type 0
 AreRowsOf rows table key found = MatchOption found (key_rows rows table key ≡ [])
     (λ rows_found. map (of_peer table key) rows_found ≡ key_rows rows table key)
 
 -- the same of rows that are lent
-abbrev pub AreFound : List (Place × Arrival) → ℕ → List ℕ → Option (Bor (List (ℕ × Row))) → Type 0
+abbrev pub AreFound : List (RowKey × Arrival) → ℕ → List ℕ → Option (Bor (List (ℕ × Row))) → Type 0
 AreFound rows table key found = AreRowsOf rows table key (option_map (λ lent. lent.now) found)
 
 -- rows of a configuration's peers and tables, at a moment that is small
@@ -52,11 +52,11 @@ pub record HasSizes (config : Config) (moment : ℕ) (rows : InForce) : Type 0 w
 
 -- a walk of a table's rows gives them all, by key, then by peer; there is none where there are no
 -- rows
-abbrev pub IsWalk : List (Place × Arrival) → ℕ → Option (List (Spot × Row)) → Type 0
+abbrev pub IsWalk : List (RowKey × Arrival) → ℕ → Option (List (Spot × Row)) → Type 0
 IsWalk rows table None = filter (λ row. row.0.table == table) rows ≡ []
 IsWalk rows table (Some walk) = map (of_spot table) walk ≡ filter (λ row. row.0.table == table) rows
 
 -- the keys of a table's rows, each once
-abbrev pub row_keys : List (Place × Arrival) → ℕ → List (List ℕ)
+abbrev pub row_keys : List (RowKey × Arrival) → ℕ → List (List ℕ)
 row_keys rows table =
     dedup same_key (map (λ row. row.0.key) (filter (λ row. row.0.table == table) rows))

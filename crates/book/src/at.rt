@@ -3,7 +3,7 @@
 ghost use Rattle.std.specs.Prelude.{◌≡◌, IfOk};
 ghost use Rattle.book.specs.Planned.{place_at};
 
-use agg_types::{Key, NoMemory, Place};
+use agg_types::{Key, NoMemory, RowKey};
 use peer_rows::Spot;
 use std::alloc::Global;
 
@@ -18,10 +18,10 @@ pub struct At<'a> {
 
 impl<'a> At<'a> {
     /// The place, with a key of its own.
-    pub fn place(&self, alloc: Global) -> Result<Place, NoMemory>
+    pub fn place(&self, alloc: Global) -> Result<RowKey, NoMemory>
         ensures { IfOk result (λ place. place ≡ place_at self.now) }
     {
-        Ok(Place {
+        Ok(RowKey {
             table: self.table,
             key: self.key.duplicate(alloc)?,
             peer: self.peer,

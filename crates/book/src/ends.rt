@@ -9,15 +9,15 @@ ghost use Rattle.std.specs.Prelude.{OnOk};
 ghost use Rattle.std.specs.BTreeMap.{is_at};
 ghost use Rattle.std.specs.Map.{lookup};
 ghost use Rattle.std.specs.Option.{option_copied};
-ghost use Rattle.agg_types.specs.Place.{place_cmp};
-ghost use Rattle.agg_types.specs.declared.place.Place.{Place};
+ghost use Rattle.agg_types.specs.RowKey.{row_key_cmp};
+ghost use Rattle.agg_types.specs.declared.row_key.RowKey.{RowKey};
 ghost use Rattle.fleet_model.specs.Values.{same_place};
 ghost use Rattle.peer_rows.specs.declared.row.Row.{Row};
 ghost use Rattle.book.specs.Planned.{AreAfter, AreLate, ArePlanned, AreRows, AreSeenLater};
 ghost use Rattle.book.specs.Planned.{IsInside, is_planned, lives_at};
 
 use crate::row::{copy_place, end_of, is_live};
-use agg_types::{NoMemory, Place};
+use agg_types::{NoMemory, RowKey};
 use expiry_wheel::{DueIndex, Wheel};
 use peer_rows::{Row, Rows};
 use std::alloc::Global;
@@ -32,8 +32,8 @@ pub struct Size {
 /// Sets aside what is due at a moment.
 pub fn set_aside(
     alloc: Global,
-    due: &mut Wheel<Place>,
-    late: &mut Vec<(u64, Place)>,
+    due: &mut Wheel<RowKey>,
+    late: &mut Vec<(u64, RowKey)>,
     t: u64,
 ) -> Result<(), NoMemory>
     ensures same { late.new.items ++ due.new ≡ late.old.items ++ due.old }
@@ -54,8 +54,8 @@ pub fn plan_again(
     alloc: Global,
     rows: &Rows,
     size: Size,
-    due: &mut Wheel<Place>,
-    late: &[(u64, Place)],
+    due: &mut Wheel<RowKey>,
+    late: &[(u64, RowKey)],
     t: u64,
 ) -> Result<(), NoMemory>
     requires rows { AreRows size.peers size.tables rows.now }
@@ -76,18 +76,18 @@ fn plan_one(
     alloc: Global,
     rows: &Rows,
     size: Size,
-    due: &mut Wheel<Place>,
-    place: &Place,
+    due: &mut Wheel<RowKey>,
+    place: &RowKey,
     t: u64,
 ) -> Result<(), NoMemory>
     requires rows { AreRows size.peers size.tables rows.now }
     requires past { AreAfter t due.old }
-    ensures more { (items : List (ℕ × Place)) (entry : Place × Row)
+    ensures more { (items : List (ℕ × RowKey)) (entry : RowKey × Row)
         → is_planned (items ++ due.old) entry ≡ true
         → is_planned (items ++ due.new) entry ≡ true }
     ensures past { AreAfter t due.new }
     ensures seen { OnOk result ((row : Row)
-        → lookup (is_at (place_cmp place.now)) rows.now.entries ≡ Some row
+        → lookup (is_at (row_key_cmp place.now)) rows.now.entries ≡ Some row
         → lives_at t (place.now, row) ≡ true → is_planned due.new (place.now, row) ≡ true) }
 {
     let Some(row) = row_at(rows, size, place) else {
@@ -103,7 +103,7 @@ fn plan_one(
 }
 
 /// Takes away what was set aside and has ended by a moment.
-pub fn end_late(rows: &mut Rows, size: Size, late: &[(u64, Place)], t: u64)
+pub fn end_late(rows: &mut Rows, size: Size, late: &[(u64, RowKey)], t: u64)
     requires rows { AreRows size.peers size.tables rows.old }
     requires late { AreLate t late.now rows.old.entries }
     ensures { rows.new ≡ record rows.old { entries = filter (lives_at t) rows.old.entries } }
@@ -114,7 +114,7 @@ pub fn end_late(rows: &mut Rows, size: Size, late: &[(u64, Place)], t: u64)
 }
 
 // Takes the row at a place away, if it has ended by a moment.
-fn end_one(rows: &mut Rows, size: Size, place: &Place, t: u64)
+fn end_one(rows: &mut Rows, size: Size, place: &RowKey, t: u64)
     requires rows { AreRows size.peers size.tables rows.old }
     ensures { rows.new ≡ record rows.old {
       entries = filter
@@ -130,9 +130,9 @@ fn end_one(rows: &mut Rows, size: Size, place: &Place, t: u64)
 }
 
 /// The row at a place, wherever that is.
-pub fn row_at<'a>(rows: &'a Rows, size: Size, place: &Place) -> Option<&'a Row>
+pub fn row_at<'a>(rows: &'a Rows, size: Size, place: &RowKey) -> Option<&'a Row>
     requires { AreRows size.peers size.tables rows.now }
-    ensures found { option_copied result ≡ lookup (is_at (place_cmp place.now)) rows.now.entries }
+    ensures found { option_copied result ≡ lookup (is_at (row_key_cmp place.now)) rows.now.entries }
     ensures inside { IfSome result (λ row. IsInside size.peers size.tables place.now) }
 {
     if place.peer < size.peers && place.table < size.tables {

@@ -18,7 +18,7 @@ ghost use Rattle.book.specs.Planned.{IsInside, IsShort, place_at};
 use crate::at::At;
 use crate::foreseen::live_rows;
 use crate::store::Store;
-use agg_types::{Cell, Config, Key, NoMemory, Place, Rank, Shape};
+use agg_types::{Cell, Config, Key, NoMemory, Rank, RowKey, Shape};
 use book_frame::standing::cols_of;
 use ranked::Leaders;
 
@@ -173,7 +173,7 @@ pub fn drop_ended(
     ranks: &[Rank],
     rows: &Store,
     t: u64,
-    ended: &[(u64, Place)],
+    ended: &[(u64, RowKey)],
 )
     requires { length ranks.now ≤ length leaders.old }
     ensures { StaysLed ranks.now rows.now.rows t leaders.old rows.now.rows t leaders.new }

@@ -8,9 +8,9 @@ ghost use Rattle.std.specs.Prelude.{IsSome, IfSome, IfOk, OnOk, OnErr, MatchOpti
 ghost use Rattle.std.specs.Option.{option_map};
 ghost use Rattle.std.specs.BTreeMap.{insert_entry, is_at};
 ghost use Rattle.std.specs.Map.{lookup, remove_entry};
-ghost use Rattle.agg_types.specs.Place.{place_cmp};
+ghost use Rattle.agg_types.specs.RowKey.{row_key_cmp};
 ghost use Rattle.agg_types.specs.declared.limits.TheConstants.{LAST_MOMENT};
-ghost use Rattle.agg_types.specs.declared.place.Place.{Place};
+ghost use Rattle.agg_types.specs.declared.row_key.RowKey.{RowKey};
 ghost use Rattle.fleet_model.specs.Kept.{kept_cell, kept_cells};
 ghost use Rattle.fleet_model.specs.Machine.{with_row};
 ghost use Rattle.peer_rows.specs.declared.row.Row.{Row};
@@ -24,10 +24,10 @@ ghost use Rattle.book.specs.Store.{AreKept, put_arrival};
 use crate::at::At;
 use crate::ends::Size;
 use crate::row::end_of;
-use agg_types::{Cell, Col, Key, NoMemory, Place};
+use agg_types::{Cell, Col, Key, NoMemory, RowKey};
 use book_frame::seats::is_number;
 use expiry_wheel::{DueIndex, Wheel};
-use peer_rows::{Cells, Held, Row, Rows, Spot};
+use peer_rows::{Held, Row, RowCells, Rows, Spot};
 use period_rate::Rate;
 use std::alloc::Global;
 use std::mem;
@@ -44,7 +44,7 @@ pub fn new_row(
     requires short { IsShort life }
     ensures { IfOk result (λ row. as_arrival row ≡ put_arrival t life cols.now cells.now) }
 {
-    let mut held = Cells::with_capacity(alloc, cells.len())?;
+    let mut held = RowCells::with_capacity(alloc, cells.len())?;
     hold(&mut held, t, cols, cells)?;
     Ok(Row {
         cells: held,
@@ -61,7 +61,7 @@ pub fn new_row(
 }
 
 // Puts cells that arrive at a moment behind others.
-fn hold(held: &mut Cells, t: u64, cols: &[(Col, u32)], cells: &[Cell]) -> Result<(), NoMemory>
+fn hold(held: &mut RowCells, t: u64, cols: &[(Col, u32)], cells: &[Cell]) -> Result<(), NoMemory>
     requires { t ≤ LAST_MOMENT }
     ensures { OnOk result (map (cell_of t) held.new
         ≡ map (cell_of t) held.old ++ kept_cells cols.now cells.now) }
@@ -147,11 +147,11 @@ fn stays(before: Option<Plan>, end: Option<u64>) -> Option<u64>
 // Plans the end of a row at a place, if it ends.
 fn plan_end(
     alloc: Global,
-    due: &mut Wheel<Place>,
+    due: &mut Wheel<RowKey>,
     at: At<'_>,
     end: Option<u64>,
 ) -> Result<(), NoMemory>
-    ensures more { (items : List (ℕ × Place)) (entry : Place × Row)
+    ensures more { (items : List (ℕ × RowKey)) (entry : RowKey × Row)
         → is_planned (items ++ due.old) entry ≡ true
         → is_planned (items ++ due.new) entry ≡ true }
     ensures own { OnOk result (HasPlan due.new (place_at at.entry) end) }
@@ -165,8 +165,8 @@ fn plan_end(
 }
 
 // Takes out what is planned for a place, unless it is planned at this end.
-fn forget(due: &mut Wheel<Place>, place: &Place, planned: Option<u64>, end: Option<u64>)
-    ensures others { (items : List (ℕ × Place)) (entry : Place × Row)
+fn forget(due: &mut Wheel<RowKey>, place: &RowKey, planned: Option<u64>, end: Option<u64>)
+    ensures others { (items : List (ℕ × RowKey)) (entry : RowKey × Row)
         → same_place place.now entry.0 ≡ false
         → is_planned (items ++ due.old) entry ≡ true
         → is_planned (items ++ due.new) entry ≡ true }
@@ -191,9 +191,9 @@ fn put_row(
     requires rows { AreRows size.peers size.tables rows.old }
     requires inside { IsInside size.peers size.tables (place_at at) }
     ensures ok { OnOk result (rows.new ≡ record rows.old
-        { entries = insert_entry place_cmp rows.old.entries (place_at at.entry) row.old }) }
+        { entries = insert_entry row_key_cmp rows.old.entries (place_at at.entry) row.old }) }
     ensures err { OnErr result (rows.new ≡ rows.old) }
-    ensures held { IsSome (lookup (is_at (place_cmp (place_at at.entry))) rows.old.entries)
+    ensures held { IsSome (lookup (is_at (row_key_cmp (place_at at.entry))) rows.old.entries)
         → IsOk result }
     ensures ordered { AreInOrder rows.new.entries }
 {
@@ -211,17 +211,17 @@ fn put_first(
     alloc: Global,
     rows: &mut Rows,
     size: Size,
-    due: &mut Wheel<Place>,
+    due: &mut Wheel<RowKey>,
     at: At<'_>,
     row: &mut Row,
 ) -> Result<Option<Spot>, NoMemory>
     requires rows { AreRows size.peers size.tables rows.old }
     requires inside { IsInside size.peers size.tables (place_at at) }
     ensures ok { IfOk result (λ held. MatchOption held (rows.new ≡ record rows.old
-        { entries = insert_entry place_cmp rows.old.entries (place_at at.entry) row.old })
+        { entries = insert_entry row_key_cmp rows.old.entries (place_at at.entry) row.old })
         (λ _. (rows.new ≡ rows.old) × (row.new ≡ row.old))) }
     ensures err { OnErr result (rows.new ≡ rows.old) }
-    ensures kept { (items : List (ℕ × Place))
+    ensures kept { (items : List (ℕ × RowKey))
         → AreKept size.peers size.tables rows.old (items ++ due.old)
         → AreKept size.peers size.tables rows.new (items ++ due.new) }
 {
@@ -241,17 +241,17 @@ fn plan_row(
     alloc: Global,
     rows: &mut Rows,
     size: Size,
-    due: &mut Wheel<Place>,
+    due: &mut Wheel<RowKey>,
     at: At<'_>,
     planned: Option<u64>,
     row: &mut Row,
 ) -> Result<(), NoMemory>
     requires rows { AreRows size.peers size.tables rows.old }
     requires inside { IsInside size.peers size.tables (place_at at) }
-    ensures ok { OnOk result (arrivals rows.new.entries ≡ insert_entry place_cmp
+    ensures ok { OnOk result (arrivals rows.new.entries ≡ insert_entry row_key_cmp
         (arrivals rows.old.entries) (place_at at.entry) (as_arrival row.old)) }
     ensures err { OnErr result (rows.new ≡ rows.old) }
-    ensures kept { (items : List (ℕ × Place))
+    ensures kept { (items : List (ℕ × RowKey))
         → AreKept size.peers size.tables rows.old (items ++ due.old)
         → AreKept size.peers size.tables rows.new (items ++ due.new) }
 {
@@ -273,17 +273,17 @@ pub fn set_row(
     alloc: Global,
     rows: &mut Rows,
     size: Size,
-    due: &mut Wheel<Place>,
+    due: &mut Wheel<RowKey>,
     at: At<'_>,
     t: u64,
     row: &mut Row,
 ) -> Result<(), NoMemory>
     requires rows { AreRows size.peers size.tables rows.old }
     requires inside { IsInside size.peers size.tables (place_at at) }
-    ensures ok { OnOk result (arrivals rows.new.entries ≡ insert_entry place_cmp
+    ensures ok { OnOk result (arrivals rows.new.entries ≡ insert_entry row_key_cmp
         (arrivals rows.old.entries) (place_at at.entry) (as_arrival row.old)) }
     ensures err { OnErr result (rows.new ≡ rows.old) }
-    ensures kept { (items : List (ℕ × Place))
+    ensures kept { (items : List (ℕ × RowKey))
         → AreKept size.peers size.tables rows.old (items ++ due.old)
         → AreKept size.peers size.tables rows.new (items ++ due.new) }
 {
@@ -308,17 +308,17 @@ fn set_held(
     alloc: Global,
     rows: &mut Rows,
     size: Size,
-    due: &mut Wheel<Place>,
+    due: &mut Wheel<RowKey>,
     at: At<'_>,
     t: u64,
     row: &mut Row,
 ) -> Result<(), NoMemory>
     requires rows { AreRows size.peers size.tables rows.old }
     requires inside { IsInside size.peers size.tables (place_at at) }
-    ensures ok { OnOk result (arrivals rows.new.entries ≡ insert_entry place_cmp
+    ensures ok { OnOk result (arrivals rows.new.entries ≡ insert_entry row_key_cmp
         (arrivals rows.old.entries) (place_at at.entry) (as_arrival row.old)) }
     ensures err { OnErr result (rows.new ≡ rows.old) }
-    ensures kept { (items : List (ℕ × Place))
+    ensures kept { (items : List (ℕ × RowKey))
         → AreKept size.peers size.tables rows.old (items ++ due.old)
         → AreKept size.peers size.tables rows.new (items ++ due.new) }
 {
@@ -338,16 +338,16 @@ pub fn drop_row(
     alloc: Global,
     rows: &mut Rows,
     size: Size,
-    due: &mut Wheel<Place>,
+    due: &mut Wheel<RowKey>,
     at: At<'_>,
     t: u64,
 ) -> Result<(), NoMemory>
     requires rows { AreRows size.peers size.tables rows.old }
     requires inside { IsInside size.peers size.tables (place_at at) }
     ensures ok { OnOk result (arrivals rows.new.entries
-        ≡ remove_entry (is_at (place_cmp (place_at at.entry))) (arrivals rows.old.entries)) }
+        ≡ remove_entry (is_at (row_key_cmp (place_at at.entry))) (arrivals rows.old.entries)) }
     ensures err { OnErr result (rows.new ≡ rows.old) }
-    ensures kept { (items : List (ℕ × Place))
+    ensures kept { (items : List (ℕ × RowKey))
         → AreKept size.peers size.tables rows.old (items ++ due.old)
         → AreKept size.peers size.tables rows.new (items ++ due.new) }
 {
@@ -358,15 +358,22 @@ pub fn drop_row(
 }
 
 /// Takes the rows of a key away, and what is planned for them.
-pub fn drop_key(rows: &mut Rows, size: Size, due: &mut Wheel<Place>, table: usize, key: Key, t: u64)
+pub fn drop_key(
+    rows: &mut Rows,
+    size: Size,
+    due: &mut Wheel<RowKey>,
+    table: usize,
+    key: Key,
+    t: u64,
+)
     requires rows { AreRows size.peers size.tables rows.old }
     requires inside { table < size.tables }
     ensures after { rows.new ≡ without_key rows.old table key }
-    ensures kept { (items : List (ℕ × Place))
+    ensures kept { (items : List (ℕ × RowKey))
         → AreKept size.peers size.tables rows.old (items ++ due.old)
         → AreKept size.peers size.tables rows.new (items ++ due.new) }
 {
-    let mut place = Place {
+    let mut place = RowKey {
         table,
         key,
         peer: 0,
@@ -376,10 +383,10 @@ pub fn drop_key(rows: &mut Rows, size: Size, due: &mut Wheel<Place>, table: usiz
 }
 
 // Takes out what is planned for a key's rows. The place is one of the key; its peer changes.
-fn forget_key(rows: &Rows, size: Size, due: &mut Wheel<Place>, place: &mut Place, t: u64)
+fn forget_key(rows: &Rows, size: Size, due: &mut Wheel<RowKey>, place: &mut RowKey, t: u64)
     requires rows { AreRows size.peers size.tables rows.now }
     requires inside { place.old.table < size.tables }
-    ensures others { (items : List (ℕ × Place)) (entry : Place × Row)
+    ensures others { (items : List (ℕ × RowKey)) (entry : RowKey × Row)
         → of_table_key place.old.table place.old.key entry.0 ≡ false
         → is_planned (items ++ due.old) entry ≡ true
         → is_planned (items ++ due.new) entry ≡ true }

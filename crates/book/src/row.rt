@@ -5,7 +5,7 @@ ghost use Rattle.std.specs.Option.{option_map};
 ghost use Rattle.fleet_model.specs.Moments.{is_live};
 ghost use Rattle.book.specs.Shown.{as_arrival, cell_of};
 
-use agg_types::{Cell, NoMemory, Place};
+use agg_types::{Cell, NoMemory, RowKey};
 use peer_rows::{Held, Row};
 use std::alloc::Global;
 
@@ -27,10 +27,10 @@ pub fn end_of(row: &Row) -> Option<u64>
 }
 
 /// An equal place.
-pub fn copy_place(alloc: Global, place: &Place) -> Result<Place, NoMemory>
+pub fn copy_place(alloc: Global, place: &RowKey) -> Result<RowKey, NoMemory>
     ensures { IfOk result (λ copied. copied ≡ place.now) }
 {
-    Ok(Place {
+    Ok(RowKey {
         table: place.table,
         key: place.key.duplicate(alloc)?,
         peer: place.peer,

@@ -20,7 +20,7 @@ use crate::at::At;
 use crate::ends::{Size, end_late, plan_again, set_aside};
 use crate::puts::{drop_key, drop_row, new_row, set_row};
 use crate::values::{arriving_worth, found_worth};
-use agg_types::{Cell, Col, Key, NoMemory, Place, Shape};
+use agg_types::{Cell, Col, Key, NoMemory, RowKey, Shape};
 use expiry_wheel::Wheel;
 use peer_rows::{ByKey, OfKey, Rows, Spot};
 use std::alloc::Global;
@@ -36,8 +36,8 @@ pub(crate) struct Store {
     alloc: Global,
     pub(crate) size: Size,
     pub(crate) rows: Rows,
-    due: Wheel<Place>,
-    late: Vec<(u64, Place)>,
+    due: Wheel<RowKey>,
+    late: Vec<(u64, RowKey)>,
 }
 
 impl Model for Store {
@@ -73,7 +73,7 @@ impl Store {
 
     /// Takes away the rows that have ended at a moment: what is due then is looked at, and no more.
     /// Answers what was.
-    pub(crate) fn end_rows(&mut self, t: u64) -> Result<Vec<(u64, Place)>, NoMemory>
+    pub(crate) fn end_rows(&mut self, t: u64) -> Result<Vec<(u64, RowKey)>, NoMemory>
         ensures ok { OnOk result (self.new
             ≡ record self.old { rows = filter (λ row. is_live t row.1) self.old.rows }) }
         ensures err { OnErr result (self.new ≡ self.old) }

@@ -12,7 +12,7 @@ ghost use Rattle.book.specs.Store.{AreFound};
 use crate::row::is_live;
 use crate::store::Store;
 use agg_types::{Cell, Col, Cond, Key};
-use peer_rows::{Cells, Held, OfKey, Row};
+use peer_rows::{Held, OfKey, Row, RowCells};
 use period_rate::Rate;
 
 // What a cell is worth so many ms after it arrived.
@@ -37,7 +37,7 @@ fn column_worth(
     arrived: u64,
     since: u64,
     cols: &[(Col, u32)],
-    cells: &Cells,
+    cells: &RowCells,
     position: usize,
 ) -> u64
     ensures { result

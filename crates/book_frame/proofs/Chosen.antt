@@ -8,7 +8,7 @@ use Rattle.std.specs.Str.{bytes_eq}
 use Rattle.std.proofs.lemmas.Bool.Decides.{Decides-at}
 use Rattle.std.proofs.lemmas.Map.Text.{is_eq-slice_cmp}
 use Rattle.std.proofs.lemmas.Slice.Eq.{bytes_eq-Decides}
-use Rattle.agg_types.specs.declared.place.Place.{Place}
+use Rattle.agg_types.specs.declared.row_key.RowKey.{RowKey}
 use Rattle.fleet_model.specs.declared.arrival.Arrival.{Arrival}
 use Rattle.fleet_model.specs.Values.{same_key}
 
@@ -131,7 +131,7 @@ same_key-decides a b = Decides-at (same_key a b) (bytes_eq a b) (is_eq-slice_cmp
     (bytes_eq-Decides a b)
 
 -- rows by place, taken away by the keys of those that meet a test, as keys
-pub filter-chosen_keys : (table : ℕ) (meets : List ℕ → Bool) (rows : List (Place × Arrival))
+pub filter-chosen_keys : (table : ℕ) (meets : List ℕ → Bool) (rows : List (RowKey × Arrival))
     (keys : List (List ℕ)) → keys ≡ map (λ row. row.0.key)
     (filter (λ row. (row.0.table == table) && meets row.0.key) rows)
     → filter (λ row. not ((row.0.table == table) && list_any (λ key. same_key key row.0.key) keys))

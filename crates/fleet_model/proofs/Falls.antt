@@ -16,7 +16,7 @@ use Rattle.agg_types.specs.declared.event.Cell.TheVariants.{Count, Rate}
 use Rattle.agg_types.specs.declared.event.Event.{Event}
 use Rattle.agg_types.specs.declared.event.What.{What}
 use Rattle.agg_types.specs.declared.event.What.TheVariants.{Moment}
-use Rattle.agg_types.specs.declared.place.Place.{Place}
+use Rattle.agg_types.specs.declared.row_key.RowKey.{RowKey}
 use Rattle.fleet_model.specs.Answers.{set_at}
 use Rattle.fleet_model.specs.Machine.{after, counts_now, happened}
 use Rattle.fleet_model.specs.Moments.{is_live, lives}
@@ -60,7 +60,7 @@ kept_falls true now false m n h le = omega arith
 kept_falls false now later m n h le = omega arith
 
 share_falls : (cols : List (Col × ℕ)) (table : ℕ) (key : List ℕ) (col : Col) (t u : ℕ) → t ≤ u
-    → (row : Place × Arrival) → share cols table key col u row ≤ share cols table key col t row
+    → (row : RowKey × Arrival) → share cols table key col u row ≤ share cols table key col t row
 unfolding share
 share_falls cols table key col t u h row =
     let since : t - row.1.arrived ≤ u - row.1.arrived = omega arith in
@@ -72,7 +72,7 @@ share_falls cols table key col t u h row =
     (column_falls col (t - row.1.arrived) (u - row.1.arrived) cols row.1.cells since)
 
 -- a value never rises by the clock alone
-pub value_falls : (cols : List (Col × ℕ)) (rows : List (Place × Arrival)) (table : ℕ) (key : List ℕ)
+pub value_falls : (cols : List (Col × ℕ)) (rows : List (RowKey × Arrival)) (table : ℕ) (key : List ℕ)
     (col : Col) (t u : ℕ) → t ≤ u → value cols rows table key col u ≤ value cols rows
     table key col t
 unfolding value
@@ -86,7 +86,7 @@ ended now true h e = sym (h refl) ∙ e
 ended now false h e = refl
 
 ended_share : (cols : List (Col × ℕ)) (table : ℕ) (key : List ℕ) (col : Col) (m t : ℕ) → m ≤ t
-    → (row : Place × Arrival) → is_live m row.1 ≡ false → share cols table key col t row ≡ 0
+    → (row : RowKey × Arrival) → is_live m row.1 ≡ false → share cols table key col t row ≡ 0
 unfolding share
 ended_share cols table key col m t h row e =
     ap (λ b. cond (((row.0.table == table) && same_key key row.0.key) && b)
@@ -99,7 +99,7 @@ ended_share cols table key col m t h row e =
     nothing true n = refl
     nothing false n = refl
 
-pub value-later : (cols : List (Col × ℕ)) (rows : List (Place × Arrival)) (table : ℕ) (key : List ℕ)
+pub value-later : (cols : List (Col × ℕ)) (rows : List (RowKey × Arrival)) (table : ℕ) (key : List ℕ)
     (col : Col) (m t : ℕ) → m ≤ t → value cols (filter (λ row. is_live m row.1) rows) table key col
     t ≡ value cols rows table key col t
 unfolding value
@@ -117,10 +117,10 @@ value-later cols (row ∷ rows) table key col m t h =
       | false ↦ λ e. let none = ended_share cols table key col m t h row e in omega arith
     ] refl
 
-abbrev in_table : ℕ → ℕ → Place × Arrival → Bool
+abbrev in_table : ℕ → ℕ → RowKey × Arrival → Bool
 in_table table t row = (row.0.table == table) && is_live t row.1
 
-both_gone : (its now later : Bool) (row : Place × Arrival) (xs ys : List (Place × Arrival))
+both_gone : (its now later : Bool) (row : RowKey × Arrival) (xs ys : List (RowKey × Arrival))
     → (later ≡ true → now ≡ true) → xs ≡ ys → cond now (cond (its && later) (row ∷ xs) xs) xs
     ≡ cond (its && later) (row ∷ ys) ys
 both_gone its true later row xs ys h e = ap (λ zs. cond (its && later) (row ∷ zs) zs) e
@@ -128,13 +128,13 @@ both_gone true false true row xs ys h e = let no = h refl in cc
 both_gone true false false row xs ys h e = e
 both_gone false false later row xs ys h e = e
 
-filter-cond : (p : Place × Arrival → Bool) (b : Bool) (row : Place × Arrival)
-    (rows : List (Place × Arrival)) → filter p (cond b (row ∷ rows) rows)
+filter-cond : (p : RowKey × Arrival → Bool) (b : Bool) (row : RowKey × Arrival)
+    (rows : List (RowKey × Arrival)) → filter p (cond b (row ∷ rows) rows)
     ≡ cond b (cond (p row) (row ∷ filter p rows) (filter p rows)) (filter p rows)
 filter-cond p true row rows = refl
 filter-cond p false row rows = refl
 
-same_rows : (table m t : ℕ) → m ≤ t → (rows : List (Place × Arrival))
+same_rows : (table m t : ℕ) → m ≤ t → (rows : List (RowKey × Arrival))
     → filter (in_table table t) (filter (λ row. is_live m row.1) rows)
     ≡ filter (in_table table t) rows
 same_rows table m t h [] = refl
@@ -145,14 +145,14 @@ same_rows table m t h (row ∷ rows) =
     (filter (in_table table t) rows) (lived_before row.1.life row.1.arrived m t h)
     (same_rows table m t h rows)
 
-pub live_keys-later : (rows : List (Place × Arrival)) (table m t : ℕ) → m ≤ t
+pub live_keys-later : (rows : List (RowKey × Arrival)) (table m t : ℕ) → m ≤ t
     → live_keys (filter (λ row. is_live m row.1) rows) table t ≡ live_keys rows table t
 unfolding live_keys
 live_keys-later rows table m t h =
-    ap (λ (rs : List (Place × Arrival)). dedup same_key (map (λ row. row.0.key) rs))
+    ap (λ (rs : List (RowKey × Arrival)). dedup same_key (map (λ row. row.0.key) rs))
     (same_rows table m t h rows)
 
-pub meets-later : (cols : List (Col × ℕ)) (rows : List (Place × Arrival)) (table : ℕ) (key : List ℕ)
+pub meets-later : (cols : List (Col × ℕ)) (rows : List (RowKey × Arrival)) (table : ℕ) (key : List ℕ)
     (m t : ℕ) → m ≤ t → (conds : List Cond) → meets cols (filter (λ row. is_live m row.1) rows)
     table key t conds ≡ meets cols rows table key t conds
 unfolding meets
@@ -161,7 +161,7 @@ meets-later cols rows table key m t h conds =
     cond.bound) conds
 
 set_at-later : (s : State) (told : ℕ) (filtering : Filter) (t : ℕ) → told ≤ t
-    → (rows : List (Place × Arrival)) → rows ≡ filter (λ row. is_live told row.1) s.rows
+    → (rows : List (RowKey × Arrival)) → rows ≡ filter (λ row. is_live told row.1) s.rows
     → filter (λ key. meets (cols_of s.config.tables filtering.table) rows filtering.table key t
     filtering.conds) (live_keys rows filtering.table t) ≡ set_at s filtering t
 unfolding set_at
@@ -208,7 +208,7 @@ values_stay s e told is cols table key col t now later =
     let h : max s.moment told ≤ t = omega arith in
     elim (counts_now s e) as (λ b. value cols (cond b (happened s e e.what) s).rows table key col t
     ≡ value cols s.rows table key col t) [
-      | true ↦ ap (λ (rows : List (Place × Arrival)). value cols rows table key col t)
+      | true ↦ ap (λ (rows : List (RowKey × Arrival)). value cols rows table key col t)
           (moved_rows s e e.what told is)
           ∙ value-later cols s.rows table key col (max s.moment told) t h
       | false ↦ refl

@@ -12,7 +12,7 @@ use Rattle.agg_types.specs.declared.config.Cond.{Cond}
 use Rattle.agg_types.specs.declared.config.Filter.{Filter}
 use Rattle.agg_types.specs.declared.event.Cell.{Cell}
 use Rattle.agg_types.specs.declared.event.Cell.TheVariants.{Count, Rate}
-use Rattle.agg_types.specs.declared.place.Place.{Place}
+use Rattle.agg_types.specs.declared.row_key.RowKey.{RowKey}
 use Rattle.fleet_model.specs.Answers.{set_at}
 use Rattle.fleet_model.specs.Moments.{is_live, lives}
 use Rattle.fleet_model.specs.Next.{flat_from, flat_moment, longest_period, table_flat_from}
@@ -55,7 +55,7 @@ module _ (cols : List (Col × ℕ)) (table t later : ℕ) (h : t ≤ later) wher
       → is_live later row ≡ is_live t row
   live_flat row flat = life_flat row.life row.arrived (longest_period cols) t later flat h
 
-  share_flat : (key : List ℕ) (col : Col) (row : Place × Arrival)
+  share_flat : (key : List ℕ) (col : Col) (row : RowKey × Arrival)
       → flat_from (longest_period cols) row.1 ≤ t → share cols table key col later row
       ≡ share cols table key col t row
   unfolding share
@@ -66,7 +66,7 @@ module _ (cols : List (Col × ℕ)) (table t later : ℕ) (h : t ≤ later) wher
       (column_flat col (t - row.1.arrived) (later - row.1.arrived) cols row.1.cells
       over since i) 0)
 
-  value_flat : (key : List ℕ) (col : Col) (rows : List (Place × Arrival))
+  value_flat : (key : List ℕ) (col : Col) (rows : List (RowKey × Arrival))
       → flat_moment (longest_period cols) rows ≤ t → value cols rows table key col later
       ≡ value cols rows table key col t
   unfolding value
@@ -78,7 +78,7 @@ module _ (cols : List (Col × ℕ)) (table t later : ℕ) (h : t ≤ later) wher
       ∙ (λ i. share_flat key col row own i + value_flat key col rows others i)
       ∙ sym (sum_by-cons (share cols table key col t) row rows)
 
-  meets_flat : (key : List ℕ) (rows : List (Place × Arrival)) (conds : List Cond)
+  meets_flat : (key : List ℕ) (rows : List (RowKey × Arrival)) (conds : List Cond)
       → flat_moment (longest_period cols) rows ≤ t → meets cols rows table key later conds
       ≡ meets cols rows table key t conds
   unfolding meets
@@ -86,7 +86,7 @@ module _ (cols : List (Col × ℕ)) (table t later : ℕ) (h : t ≤ later) wher
       λ i. list_all (λ cond. op_holds cond.op (value_flat key cond.col rows flat i) cond.bound)
       conds
 
-  rows_flat : (rows : List (Place × Arrival)) → flat_moment (longest_period cols) rows ≤ t
+  rows_flat : (rows : List (RowKey × Arrival)) → flat_moment (longest_period cols) rows ≤ t
       → filter (λ row. (row.0.table == table) && is_live later row.1) rows
       ≡ filter (λ row. (row.0.table == table) && is_live t row.1) rows
   rows_flat [] flat = refl
@@ -96,10 +96,10 @@ module _ (cols : List (Col × ℕ)) (table t later : ℕ) (h : t ≤ later) wher
       (λ i. cond ((row.0.table == table) && live_flat row.1 own i) (row ∷ rows_flat rows others i)
       (rows_flat rows others i))
 
-  keys_flat : (rows : List (Place × Arrival)) → flat_moment (longest_period cols) rows ≤ t
+  keys_flat : (rows : List (RowKey × Arrival)) → flat_moment (longest_period cols) rows ≤ t
       → live_keys rows table later ≡ live_keys rows table t
   unfolding live_keys
-  keys_flat rows flat = ap (λ (rs : List (Place × Arrival)). dedup same_key
+  keys_flat rows flat = ap (λ (rs : List (RowKey × Arrival)). dedup same_key
       (map (λ row. row.0.key) rs)) (rows_flat rows flat)
 
 -- from the moment from which the rows are flat a filter's set stays

@@ -18,8 +18,8 @@ use Rattle.std.specs.Option.{option_to_list}
 use Rattle.std.specs.Ordering.{is_eq, nat_cmp, ordering_then}
 use Rattle.std.specs.declared.cmp.Ordering.{Ordering}
 use Rattle.std.specs.declared.cmp.Ordering.TheVariants.{Less, Equal, Greater}
-use Rattle.agg_types.specs.Place.{place_cmp}
-use Rattle.agg_types.specs.declared.place.Place.{Place}
+use Rattle.agg_types.specs.RowKey.{row_key_cmp}
+use Rattle.agg_types.specs.declared.row_key.RowKey.{RowKey}
 use Rattle.fleet_model.proofs.Bools.{first_equal, second_equal}
 use Rattle.fleet_model.proofs.Entries.{absent, are_apart, gather, gather-filter, insert-others}
 use Rattle.fleet_model.proofs.Entries.{remove_is, sorted-gather}
@@ -28,15 +28,15 @@ use Rattle.fleet_model.specs.Moments.{is_live, lives}
 use Rattle.fleet_model.specs.Rows.{Judged, by_place, if_in_force, in_force, leaves_alone, puts_at}
 use Rattle.fleet_model.specs.declared.arrival.Arrival.{Arrival}
 
-pub place_cmp_total : IsTotalOrder place_cmp
-place_cmp_total =
-    then_total (on_total (λ (p : Place). p.table) nat_cmp_total)
-    (then_total (on_total (λ (p : Place). p.key) nat_list_cmp_total)
-    (on_total (λ (p : Place). p.peer) nat_cmp_total))
+pub row_key_cmp_total : IsTotalOrder row_key_cmp
+row_key_cmp_total =
+    then_total (on_total (λ (p : RowKey). p.table) nat_cmp_total)
+    (then_total (on_total (λ (p : RowKey). p.key) nat_list_cmp_total)
+    (on_total (λ (p : RowKey). p.peer) nat_cmp_total))
 
 -- only equal places tie
-pub place_cmp_exact : (p q : Place) → place_cmp p q ≡ Equal → p ≡ q
-place_cmp_exact p q e =
+pub row_key_cmp_exact : (p q : RowKey) → row_key_cmp p q ≡ Equal → p ≡ q
+row_key_cmp_exact p q e =
     let rest : ordering_then (slice_cmp nat_cmp p.key q.key) (nat_cmp p.peer q.peer) ≡ Equal =
     second_equal (nat_cmp p.table q.table) _ e in
     let tables : p.table ≡ q.table =
@@ -62,10 +62,10 @@ one_kept p r true false alone false ys o h = refl
 one_kept p r false false alone true ys o h = refl
 one_kept p r false false alone false ys o h = refl
 
-one_event : (t t' : ℕ) (p : Place × Arrival → Bool) (j : Judged)
-    → ((r : Place × Arrival) → (is_live t' r.1 && leaves_alone r.0 j) ≡ (is_live t r.1 && p r))
-    → (later : List Judged) (xs ys o : List (Place × Arrival)) → xs ≡ filter p ys ++ o
-    → (row : Option (Place × Arrival)) → cons_option (if_in_force t' (later ++ j ∷ []) row) xs
+one_event : (t t' : ℕ) (p : RowKey × Arrival → Bool) (j : Judged)
+    → ((r : RowKey × Arrival) → (is_live t' r.1 && leaves_alone r.0 j) ≡ (is_live t r.1 && p r))
+    → (later : List Judged) (xs ys o : List (RowKey × Arrival)) → xs ≡ filter p ys ++ o
+    → (row : Option (RowKey × Arrival)) → cons_option (if_in_force t' (later ++ j ∷ []) row) xs
     ≡ filter p (cons_option (if_in_force t later row) ys) ++ o
 unfolding if_in_force
 one_event t t' p j same later xs ys o e None = e
@@ -80,8 +80,8 @@ one_event t t' p j same later xs ys o e (Some r) =
 -- the rows in force after one more event: of those before, each of which it leaves alone and that
 -- still
 -- lives, and its own
-pub in_force-push : (t t' : ℕ) (p : Place × Arrival → Bool) (j : Judged)
-    → ((r : Place × Arrival) → (is_live t' r.1 && leaves_alone r.0 j) ≡ (is_live t r.1 && p r))
+pub in_force-push : (t t' : ℕ) (p : RowKey × Arrival → Bool) (j : Judged)
+    → ((r : RowKey × Arrival) → (is_live t' r.1 && leaves_alone r.0 j) ≡ (is_live t r.1 && p r))
     → (h : List Judged) → in_force t' (h ++ j ∷ []) ≡ filter p (in_force t h)
     ++ option_to_list (if_in_force t' [] j.row)
 unfolding in_force
@@ -94,11 +94,11 @@ in_force-push t t' p j same (k ∷ later) =
     one_event t t' p j same later (in_force t' (later ++ j ∷ [])) (in_force t later)
     (option_to_list (if_in_force t' [] j.row)) (in_force-push t t' p j same later) k.row
 
-abbrev elsewhere : Place → Place × Arrival → Bool
-elsewhere place row = not (is_eq (place_cmp place row.0))
+abbrev elsewhere : RowKey → RowKey × Arrival → Bool
+elsewhere place row = not (is_eq (row_key_cmp place row.0))
 
-left_elsewhere : (t : ℕ) (place : Place) (later : List Judged) (xs : List (Place × Arrival))
-    (o : Option (Place × Arrival)) → not (puts_at o place) ≡ true → list_all (elsewhere place) xs
+left_elsewhere : (t : ℕ) (place : RowKey) (later : List Judged) (xs : List (RowKey × Arrival))
+    (o : Option (RowKey × Arrival)) → not (puts_at o place) ≡ true → list_all (elsewhere place) xs
     ≡ true → list_all (elsewhere place) (cons_option (if_in_force t later o) xs) ≡ true
 unfolding if_in_force
 left_elsewhere t place later xs None h rest = rest
@@ -111,7 +111,7 @@ left_elsewhere t place later xs (Some r) h rest =
     ]
 
 -- events that leave a place alone leave no row there
-alone-elsewhere : (t : ℕ) (place : Place) (h : List Judged) → list_all (leaves_alone place) h ≡ true
+alone-elsewhere : (t : ℕ) (place : RowKey) (h : List Judged) → list_all (leaves_alone place) h ≡ true
     → list_all (elsewhere place) (in_force t h) ≡ true
 unfolding in_force
 alone-elsewhere t place [] e = refl
@@ -121,50 +121,50 @@ alone-elsewhere t place (j ∷ later) e =
     (and_parts (not (puts_at j.row place)) (not (j.clears place)) parts.0).0
     (alone-elsewhere t place later parts.1)
 
-one_apart : (t : ℕ) (later : List Judged) (o : Option (Place × Arrival))
-    → are_apart place_cmp (in_force t later) ≡ true
-    → are_apart place_cmp (cons_option (if_in_force t later o) (in_force t later)) ≡ true
+one_apart : (t : ℕ) (later : List Judged) (o : Option (RowKey × Arrival))
+    → are_apart row_key_cmp (in_force t later) ≡ true
+    → are_apart row_key_cmp (cons_option (if_in_force t later o) (in_force t later)) ≡ true
 unfolding if_in_force
 one_apart t later None rest = rest
 one_apart t later (Some r) rest =
     elim (list_all (leaves_alone r.0) later) as (λ b. list_all (leaves_alone r.0) later ≡ b
-    → are_apart place_cmp (cons_option (then_some (is_live t r.1 && b) r) (in_force t later))
+    → are_apart row_key_cmp (cons_option (then_some (is_live t r.1 && b) r) (in_force t later))
     ≡ true) [
       | true ↦ λ e. elim (is_live t r.1) as
-          (λ b. are_apart place_cmp (cons_option (then_some (b && true) r) (in_force t later))
+          (λ b. are_apart row_key_cmp (cons_option (then_some (b && true) r) (in_force t later))
           ≡ true) [ true ↦ and_from _ _ (alone-elsewhere t r.0 later e) rest | false ↦ rest ]
       | false ↦ λ e. elim (is_live t r.1) as
-          (λ b. are_apart place_cmp (cons_option (then_some (b && false) r) (in_force t later))
+          (λ b. are_apart row_key_cmp (cons_option (then_some (b && false) r) (in_force t later))
           ≡ true) [ true ↦ rest | false ↦ rest ]
     ] refl
 
 -- at most one row is in force at a place
-pub in_force-apart : (t : ℕ) (h : List Judged) → are_apart place_cmp (in_force t h) ≡ true
+pub in_force-apart : (t : ℕ) (h : List Judged) → are_apart row_key_cmp (in_force t h) ≡ true
 unfolding in_force
 in_force-apart t [] = refl
 in_force-apart t (j ∷ later) = one_apart t later j.row (in_force-apart t later)
 
-all_absent : (xs : List (Place × Arrival)) → list_all (absent place_cmp []) xs ≡ true
+all_absent : (xs : List (RowKey × Arrival)) → list_all (absent row_key_cmp []) xs ≡ true
 all_absent [] = refl
 all_absent (x ∷ xs) = all_absent xs
 
-pub by_place-sorted : (xs : List (Place × Arrival)) → T (is_sorted place_cmp (by_place xs))
+pub by_place-sorted : (xs : List (RowKey × Arrival)) → T (is_sorted row_key_cmp (by_place xs))
 unfolding by_place
-by_place-sorted xs = sorted-gather place_cmp place_cmp_total place_cmp_exact [] xs tt
+by_place-sorted xs = sorted-gather row_key_cmp row_key_cmp_total row_key_cmp_exact [] xs tt
 
 -- the same by place: a filter of the rows before, and its own row in its place
-rows-push : (t t' : ℕ) (p : Place × Arrival → Bool) (j : Judged)
-    → ((r : Place × Arrival) → (is_live t' r.1 && leaves_alone r.0 j) ≡ (is_live t r.1 && p r))
+rows-push : (t t' : ℕ) (p : RowKey × Arrival → Bool) (j : Judged)
+    → ((r : RowKey × Arrival) → (is_live t' r.1 && leaves_alone r.0 j) ≡ (is_live t r.1 && p r))
     → (h : List Judged) → by_place (in_force t' (h ++ j ∷ []))
-    ≡ gather place_cmp (filter p (by_place (in_force t h)))
+    ≡ gather row_key_cmp (filter p (by_place (in_force t h)))
     (option_to_list (if_in_force t' [] j.row))
 unfolding by_place
 rows-push t t' p j same h =
     ap by_place (in_force-push t t' p j same h)
-    ∙ fold-append (λ (es : List (Place × Arrival)) x. insert_entry place_cmp es x.0 x.1) []
+    ∙ fold-append (λ (es : List (RowKey × Arrival)) x. insert_entry row_key_cmp es x.0 x.1) []
     (filter p (in_force t h)) (option_to_list (if_in_force t' [] j.row))
-    ∙ ap (λ es. gather place_cmp es (option_to_list (if_in_force t' [] j.row)))
-    (gather-filter place_cmp place_cmp_total place_cmp_exact p [] (in_force t h) tt
+    ∙ ap (λ es. gather row_key_cmp es (option_to_list (if_in_force t' [] j.row)))
+    (gather-filter row_key_cmp row_key_cmp_total row_key_cmp_exact p [] (in_force t h) tt
     (in_force-apart t h) (all_absent (in_force t h)))
 
 filter_all : {X : Type 0} (xs : List X) → filter (λ _. true) xs ≡ xs
@@ -172,7 +172,7 @@ filter_all [] = refl
 filter_all (x ∷ xs) = ap (λ rest. x ∷ rest) (filter_all xs)
 
 abbrev pub Clears_none : Judged → Type 0
-Clears_none j = (place : Place) → j.clears place ≡ false
+Clears_none j = (place : RowKey) → j.clears place ≡ false
 
 -- an event that leaves no row and clears none
 pub rows-same : (t : ℕ) (j : Judged) → j.row ≡ None → Clears_none j → (h : List Judged)
@@ -181,7 +181,7 @@ unfolding if_in_force
 rows-same t j none clears h =
     rows-push t t (λ _. true) j (λ r i. is_live t r.1
     && (not (puts_at (none i) r.0) && not (clears r.0 i))) h
-    ∙ ap (λ o. gather place_cmp (filter (λ _. true) (by_place (in_force t h)))
+    ∙ ap (λ o. gather row_key_cmp (filter (λ _. true) (by_place (in_force t h)))
     (option_to_list (if_in_force t [] o))) none
     ∙ filter_all (by_place (in_force t h))
 
@@ -193,7 +193,7 @@ unfolding if_in_force
 rows-cleared t j none h =
     rows-push t t (λ r. not (j.clears r.0)) j (λ r i. is_live t r.1
     && (not (puts_at (none i) r.0) && not (j.clears r.0))) h
-    ∙ ap (λ o. gather place_cmp (filter (λ r. not (j.clears r.0)) (by_place (in_force t h)))
+    ∙ ap (λ o. gather row_key_cmp (filter (λ r. not (j.clears r.0)) (by_place (in_force t h)))
     (option_to_list (if_in_force t [] o))) none
 
 still_lives : (life : Option ℕ) (arrived t t' : ℕ) → t ≤ t' → (lives life arrived t' && true)
@@ -210,32 +210,32 @@ rows-later t t' le j none clears h =
     rows-push t t' (λ r. is_live t' r.1) j
     (λ r. ap (λ b. is_live t' r.1 && b) (λ i. not (puts_at (none i) r.0) && not (clears r.0 i))
     ∙ still_lives r.1.life r.1.arrived t t' le) h
-    ∙ ap (λ o. gather place_cmp (filter (λ r. is_live t' r.1) (by_place (in_force t h)))
+    ∙ ap (λ o. gather row_key_cmp (filter (λ r. is_live t' r.1) (by_place (in_force t h)))
     (option_to_list (if_in_force t' [] o))) none
 
 and_true : (a : Bool) → (a && true) ≡ a
 and_true true = refl
 and_true false = refl
 
-put_or_removed : (b : Bool) (row : Place × Arrival) (es : List (Place × Arrival))
-    → T (is_sorted place_cmp es) → gather place_cmp (filter (elsewhere row.0) es)
-    (option_to_list (then_some (b && true) row)) ≡ cond b (insert_entry place_cmp es row.0 row.1)
-    (remove_entry (is_at (place_cmp row.0)) es)
-put_or_removed true row es h = insert-others place_cmp place_cmp_total place_cmp_exact
+put_or_removed : (b : Bool) (row : RowKey × Arrival) (es : List (RowKey × Arrival))
+    → T (is_sorted row_key_cmp es) → gather row_key_cmp (filter (elsewhere row.0) es)
+    (option_to_list (then_some (b && true) row)) ≡ cond b (insert_entry row_key_cmp es row.0 row.1)
+    (remove_entry (is_at (row_key_cmp row.0)) es)
+put_or_removed true row es h = insert-others row_key_cmp row_key_cmp_total row_key_cmp_exact
     es row.0 row.1 h
-put_or_removed false row es h = sym (remove_is place_cmp place_cmp_total place_cmp_exact row.0 es h)
+put_or_removed false row es h = sym (remove_is row_key_cmp row_key_cmp_total row_key_cmp_exact row.0 es h)
 
 -- a Put that is taken
-pub rows-put : (t : ℕ) (j : Judged) (row : Place × Arrival) → j.row ≡ Some row → Clears_none j
+pub rows-put : (t : ℕ) (j : Judged) (row : RowKey × Arrival) → j.row ≡ Some row → Clears_none j
     → (h : List Judged) → by_place (in_force t (h ++ j ∷ []))
     ≡ with_row t (by_place (in_force t h)) row.0 row.1
 unfolding if_in_force with_row
 rows-put t j row put clears h =
     rows-push t t (elsewhere row.0) j
     (λ r. ap (λ b. is_live t r.1 && b) ((λ i. not (puts_at (put i) r.0) && not (clears r.0 i))
-    ∙ and_true (not (is_eq (place_cmp r.0 row.0)))
-    ∙ ap not ((eq_by_cmp_equiv place_cmp_total).symm r.0 row.0))) h
-    ∙ ap (λ o. gather place_cmp (filter (elsewhere row.0) (by_place (in_force t h)))
+    ∙ and_true (not (is_eq (row_key_cmp r.0 row.0)))
+    ∙ ap not ((eq_by_cmp_equiv row_key_cmp_total).symm r.0 row.0))) h
+    ∙ ap (λ o. gather row_key_cmp (filter (elsewhere row.0) (by_place (in_force t h)))
     (option_to_list (if_in_force t [] o))) put
     ∙ put_or_removed (is_live t row.1) row (by_place (in_force t h))
     (by_place-sorted (in_force t h))

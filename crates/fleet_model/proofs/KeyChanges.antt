@@ -17,7 +17,7 @@ use Rattle.agg_types.specs.declared.event.Cell.{Cell}
 use Rattle.agg_types.specs.declared.event.Cell.TheVariants.{Count, Rate}
 use Rattle.agg_types.specs.declared.event.Event.{Event}
 use Rattle.agg_types.specs.declared.event.What.TheVariants.{Moment}
-use Rattle.agg_types.specs.declared.place.Place.{Place}
+use Rattle.agg_types.specs.declared.row_key.RowKey.{RowKey}
 use Rattle.fleet_model.proofs.Falls.{live_keys-later, meets-later, moved_config, moved_rows}
 use Rattle.fleet_model.proofs.KeyRows.{held-keys, live-rows, meets-rows, only-keys}
 use Rattle.fleet_model.proofs.Sets.{live_keys-exact}
@@ -243,9 +243,9 @@ module _ (cols : List (Col × ℕ)) (t later : ℕ) (h : t ≤ later) where
   rows_worth_flat col (row ∷ rows) flat =
       let own : row_flat_from cols row.1 ≤ t = omega arith in
       let others : rows_flat_from cols rows ≤ t = omega arith in
-      sum_by-cons (λ (row : Place × Arrival). row_worth cols col later row.1) row rows
+      sum_by-cons (λ (row : RowKey × Arrival). row_worth cols col later row.1) row rows
       ∙ (λ i. worth_flat col row.1 own i + rows_worth_flat col rows others i)
-      ∙ sym (sum_by-cons (λ (row : Place × Arrival). row_worth cols col t row.1) row rows)
+      ∙ sym (sum_by-cons (λ (row : RowKey × Arrival). row_worth cols col t row.1) row rows)
 
   rows_live_flat : (rows : Rows) → rows_flat_from cols rows ≤ t
       → has_live rows later ≡ has_live rows t

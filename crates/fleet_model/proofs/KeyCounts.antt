@@ -16,8 +16,8 @@ use Rattle.std.specs.Option.{option_map_or}
 use Rattle.std.specs.Ordering.{is_eq, nat_cmp}
 use Rattle.std.specs.declared.cmp.Ordering.{Ordering}
 use Rattle.std.specs.declared.cmp.Ordering.TheVariants.{Less, Equal}
-use Rattle.agg_types.specs.Place.{place_cmp}
-use Rattle.agg_types.specs.declared.place.Place.{Place}
+use Rattle.agg_types.specs.RowKey.{row_key_cmp}
+use Rattle.agg_types.specs.declared.row_key.RowKey.{RowKey}
 use Rattle.fleet_model.proofs.Entries.{equal_from}
 use Rattle.fleet_model.proofs.Every.{sorted_from}
 use Rattle.fleet_model.proofs.KeyRows.{live-rows}
@@ -33,7 +33,7 @@ use Rattle.fleet_model.specs.Values.{live_keys, same_key}
 use Rattle.fleet_model.specs.declared.arrival.Arrival.{Arrival}
 
 -- ---- rows of a peer
-abbrev is_held : ℕ → ℕ → Place → Bool
+abbrev is_held : ℕ → ℕ → RowKey → Bool
 is_held table peer place = (place.table == table) && (place.peer == peer)
 
 worth_is : (its : Bool) (old : Option Arrival) → option_map_or (λ _. cond its 1 0) old 0
@@ -43,27 +43,27 @@ worth_is true (Some row) = refl
 worth_is false None = refl
 worth_is false (Some row) = refl
 
-pub held-taken : (rows : Rows) (place : Place) (table peer : ℕ)
-    → held_rows (remove_entry (is_at (place_cmp place)) rows) table peer + one_if
+pub held-taken : (rows : Rows) (place : RowKey) (table peer : ℕ)
+    → held_rows (remove_entry (is_at (row_key_cmp place)) rows) table peer + one_if
     (is_held table peer place && is_some (row_at rows place)) ≡ held_rows rows table peer
 held-taken rows place table peer =
-    let count : Place × Arrival → ℕ = λ row. cond (is_held table peer row.0) 1 0 in
-    ap (λ n. held_rows (remove_entry (is_at (place_cmp place)) rows) table peer + n)
+    let count : RowKey × Arrival → ℕ = λ row. cond (is_held table peer row.0) 1 0 in
+    ap (λ n. held_rows (remove_entry (is_at (row_key_cmp place)) rows) table peer + n)
     (sym (worth_is (is_held table peer place) (row_at rows place)))
     ∙ sum-remove count rows place
 
-pub held-put : (t : ℕ) (rows : Rows) (place : Place) (row : Arrival) (table peer : ℕ)
+pub held-put : (t : ℕ) (rows : Rows) (place : RowKey) (row : Arrival) (table peer : ℕ)
     → AreInOrder rows → held_rows (with_row t rows place row) table peer + one_if
     (is_held table peer place && is_some (row_at rows place)) ≡ held_rows rows table peer + one_if
     (is_held table peer place && is_live t row)
 unfolding with_row
 held-put t rows place row table peer h =
-    let count : Place × Arrival → ℕ = λ row. cond (is_held table peer row.0) 1 0 in
-    elim (is_live t row) as (λ b. held_rows (cond b (insert_entry place_cmp rows place row)
-    (remove_entry (is_at (place_cmp place)) rows)) table peer + one_if (is_held table peer place
+    let count : RowKey × Arrival → ℕ = λ row. cond (is_held table peer row.0) 1 0 in
+    elim (is_live t row) as (λ b. held_rows (cond b (insert_entry row_key_cmp rows place row)
+    (remove_entry (is_at (row_key_cmp place)) rows)) table peer + one_if (is_held table peer place
     && is_some (row_at rows place)) ≡ held_rows rows table peer + one_if
     (is_held table peer place && b)) [
-      | true ↦ ap (λ n. held_rows (insert_entry place_cmp rows place row) table peer + n)
+      | true ↦ ap (λ n. held_rows (insert_entry row_key_cmp rows place row) table peer + n)
           (sym (worth_is (is_held table peer place) (row_at rows place)))
           ∙ sum-insert count rows place row h
           ∙ ap (λ b. held_rows rows table peer + cond b 1 0)
@@ -117,8 +117,8 @@ pub keys-move : (rows others : Rows) (table : ℕ) (key : List ℕ) (t : ℕ) �
     ≡ length (live_keys rows table t) + one_if (has_live (key_rows others table key) t)
 keys-move rows others table key t g h alike =
     let other : List ℕ → Bool = λ k. not (same_key key k) in
-    let fewer = live_keys-sorted rows table t (sorted_from place_cmp rows g) in
-    let more = live_keys-sorted others table t (sorted_from place_cmp others h) in
+    let fewer = live_keys-sorted rows table t (sorted_from row_key_cmp rows g) in
+    let more = live_keys-sorted others table t (sorted_from row_key_cmp others h) in
     let same : filter other (live_keys others table t) ≡ filter other (live_keys rows table t) =
     same_members key_cmp nat_list_cmp_total exact_bytes _ _
     (IsStrictlySortedBy-filter key_cmp other (live_keys others table t) more)

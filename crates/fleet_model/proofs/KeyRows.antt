@@ -17,17 +17,17 @@ use Rattle.std.specs.declared.cmp.Ordering.{Ordering}
 use Rattle.std.specs.declared.cmp.Ordering.TheVariants.{Equal}
 use Rattle.agg_types.specs.Col.{all_cols}
 use Rattle.agg_types.specs.Op.{op_holds}
-use Rattle.agg_types.specs.Place.{place_cmp}
+use Rattle.agg_types.specs.RowKey.{row_key_cmp}
 use Rattle.agg_types.specs.declared.column.Col.{Col}
 use Rattle.agg_types.specs.declared.config.Cond.{Cond}
 use Rattle.agg_types.specs.declared.config.Filter.{Filter}
 use Rattle.agg_types.specs.declared.config.Shape.{Shape}
 use Rattle.agg_types.specs.declared.event.Select.{Select}
-use Rattle.agg_types.specs.declared.place.Place.{Place}
+use Rattle.agg_types.specs.declared.row_key.RowKey.{RowKey}
 use Rattle.fleet_model.proofs.Entries.{equal_from, keep, kept_here, lookup-filter, lookup-insert}
 use Rattle.fleet_model.proofs.Entries.{same_lookups, sorted-filter, sorted-insert}
 use Rattle.fleet_model.proofs.Every.{every-filter, sorted_from}
-use Rattle.fleet_model.proofs.InForce.{place_cmp_exact, place_cmp_total}
+use Rattle.fleet_model.proofs.InForce.{row_key_cmp_exact, row_key_cmp_total}
 use Rattle.fleet_model.proofs.Members.{same_members}
 use Rattle.fleet_model.proofs.Sets.{sets}
 use Rattle.fleet_model.specs.Answers.{rows_of, set_at, sum_up, summed}
@@ -145,40 +145,40 @@ filter-swap p q (x ∷ xs) =
     ] refl
 
 -- ---- what a Put, a Moment and a Clear do
-pub put-own : (t : ℕ) (rows : Rows) (place : Place) (row : Arrival) (table : ℕ) (key : List ℕ)
+pub put-own : (t : ℕ) (rows : Rows) (place : RowKey) (row : Arrival) (table : ℕ) (key : List ℕ)
     → AreInOrder rows → is_at_key table key place ≡ true
     → key_rows (with_row t rows place row) table key
     ≡ with_row t (key_rows rows table key) place row
 unfolding with_row
 put-own t rows place row table key h its =
-    elim (is_live t row) as (λ b. key_rows (cond b (insert_entry place_cmp rows place row)
-    (remove_entry (is_at (place_cmp place)) rows)) table key
-    ≡ cond b (insert_entry place_cmp (key_rows rows table key) place row)
-    (remove_entry (is_at (place_cmp place)) (key_rows rows table key))) [
-      | true ↦ chosen-insert place_cmp place_cmp_total place_cmp_exact (is_at_key table key) rows
-          place row (sorted_from place_cmp rows h)
-          ∙ ap (λ b. cond b (insert_entry place_cmp (key_rows rows table key) place row)
+    elim (is_live t row) as (λ b. key_rows (cond b (insert_entry row_key_cmp rows place row)
+    (remove_entry (is_at (row_key_cmp place)) rows)) table key
+    ≡ cond b (insert_entry row_key_cmp (key_rows rows table key) place row)
+    (remove_entry (is_at (row_key_cmp place)) (key_rows rows table key))) [
+      | true ↦ chosen-insert row_key_cmp row_key_cmp_total row_key_cmp_exact (is_at_key table key) rows
+          place row (sorted_from row_key_cmp rows h)
+          ∙ ap (λ b. cond b (insert_entry row_key_cmp (key_rows rows table key) place row)
           (key_rows rows table key)) its
-      | false ↦ chosen-remove place_cmp place_cmp_total place_cmp_exact
+      | false ↦ chosen-remove row_key_cmp row_key_cmp_total row_key_cmp_exact
           (is_at_key table key) rows place
-          ∙ ap (λ b. cond b (remove_entry (is_at (place_cmp place)) (key_rows rows table key))
+          ∙ ap (λ b. cond b (remove_entry (is_at (row_key_cmp place)) (key_rows rows table key))
           (key_rows rows table key)) its
     ]
 
-pub put-others : (t : ℕ) (rows : Rows) (place : Place) (row : Arrival) (table : ℕ) (key : List ℕ)
+pub put-others : (t : ℕ) (rows : Rows) (place : RowKey) (row : Arrival) (table : ℕ) (key : List ℕ)
     → AreInOrder rows → is_at_key table key place ≡ false
     → key_rows (with_row t rows place row) table key ≡ key_rows rows table key
 unfolding with_row
 put-others t rows place row table key h other =
-    elim (is_live t row) as (λ b. key_rows (cond b (insert_entry place_cmp rows place row)
-    (remove_entry (is_at (place_cmp place)) rows)) table key ≡ key_rows rows table key) [
-      | true ↦ chosen-insert place_cmp place_cmp_total place_cmp_exact (is_at_key table key) rows
-          place row (sorted_from place_cmp rows h)
-          ∙ ap (λ b. cond b (insert_entry place_cmp (key_rows rows table key) place row)
+    elim (is_live t row) as (λ b. key_rows (cond b (insert_entry row_key_cmp rows place row)
+    (remove_entry (is_at (row_key_cmp place)) rows)) table key ≡ key_rows rows table key) [
+      | true ↦ chosen-insert row_key_cmp row_key_cmp_total row_key_cmp_exact (is_at_key table key) rows
+          place row (sorted_from row_key_cmp rows h)
+          ∙ ap (λ b. cond b (insert_entry row_key_cmp (key_rows rows table key) place row)
           (key_rows rows table key)) other
-      | false ↦ chosen-remove place_cmp place_cmp_total place_cmp_exact
+      | false ↦ chosen-remove row_key_cmp row_key_cmp_total row_key_cmp_exact
           (is_at_key table key) rows place
-          ∙ ap (λ b. cond b (remove_entry (is_at (place_cmp place)) (key_rows rows table key))
+          ∙ ap (λ b. cond b (remove_entry (is_at (row_key_cmp place)) (key_rows rows table key))
           (key_rows rows table key)) other
     ]
 
@@ -229,16 +229,16 @@ clear-each gone (row ∷ rows) cleared table key =
     either false false false rest h = refl
 
 -- ---- rows that fail a test go one by one
-pub one-goes : (p : Place × Arrival → Bool) (rows : Rows) (place : Place) (row : Arrival)
+pub one-goes : (p : RowKey × Arrival → Bool) (rows : Rows) (place : RowKey) (row : Arrival)
     → row_at rows place ≡ Some row → p (place, row) ≡ false
-    → filter p (remove_entry (is_at (place_cmp place)) rows) ≡ filter p rows
+    → filter p (remove_entry (is_at (row_key_cmp place)) rows) ≡ filter p rows
 one-goes p [] place row there fails = refl
 one-goes p (e ∷ es) place row there fails =
-    elim (is_eq (place_cmp place e.0)) as (λ b. is_eq (place_cmp place e.0) ≡ b
+    elim (is_eq (row_key_cmp place e.0)) as (λ b. is_eq (row_key_cmp place e.0) ≡ b
     → cond b (Some e.1) (row_at es place) ≡ Some row
-    → filter p (cond b es (e ∷ remove_entry (is_at (place_cmp place)) es)) ≡ filter p (e ∷ es)) [
+    → filter p (cond b es (e ∷ remove_entry (is_at (row_key_cmp place)) es)) ≡ filter p (e ∷ es)) [
       | true ↦ λ here found.
-          let places : e.0 ≡ place = sym (place_cmp_exact place e.0 (equal_from _ here)) in
+          let places : e.0 ≡ place = sym (row_key_cmp_exact place e.0 (equal_from _ here)) in
           let own : p e ≡ false = (λ i. p (places i, own_row e.1 row found i)) ∙ fails in
           sym (ap (λ b. cond b (e ∷ filter p es) (filter p es)) own)
       | false ↦ λ other found. ap (λ rest. cond (p e) (e ∷ rest) rest)
@@ -255,7 +255,7 @@ all-stay p (x ∷ xs) h = ap (λ b. cond b (x ∷ filter p xs) (filter p xs)) h.
     ∙ ap (λ rest. x ∷ rest) (all-stay p xs h.1)
 
 -- ---- what is said of a key by its rows
-share_is : (cols : List (Col × ℕ)) (table : ℕ) (key : List ℕ) (col : Col) (t : ℕ) (row : Place
+share_is : (cols : List (Col × ℕ)) (table : ℕ) (key : List ℕ) (col : Col) (t : ℕ) (row : RowKey
     × Arrival) → share cols table key col t row ≡ cond (is_at_key table key row.0)
     (row_worth cols col t row.1) 0
 unfolding share
@@ -271,7 +271,7 @@ pub value-rows : (cols : List (Col × ℕ)) (rows : Rows) (table : ℕ) (key : L
 unfolding value
 value-rows cols [] table key col t = refl
 value-rows cols (row ∷ rows) table key col t =
-    let worth : Place × Arrival → ℕ = λ row. row_worth cols col t row.1 in
+    let worth : RowKey × Arrival → ℕ = λ row. row_worth cols col t row.1 in
     let rest : sum_by (share cols table key col t) rows ≡ sum_by worth (key_rows rows table key) =
     value-rows cols rows table key col t in
     sum_by-cons (share cols table key col t) row rows
@@ -280,7 +280,7 @@ value-rows cols (row ∷ rows) table key col t =
   where
     pushed : (b : Bool) (rest : Rows) → cond b (row_worth cols col t row.1) 0 + worth_of cols rest
         col t ≡ worth_of cols (cond b (row ∷ rest) rest) col t
-    pushed true rest = sym (sum_by-cons (λ (row : Place × Arrival). row_worth cols col t row.1) row
+    pushed true rest = sym (sum_by-cons (λ (row : RowKey × Arrival). row_worth cols col t row.1) row
         rest)
     pushed false rest = zero-add (worth_of cols rest col t)
 
@@ -317,7 +317,7 @@ of-rows state table key = both_tests state.rows
         ap (λ rest. cond (is_of table key state.moment row) (row ∷ rest) rest) (both_tests rows)
         ∙ pushed row (is_at_key table key row.0) (key_rows rows table key)
       where
-        pushed : (row : Place × Arrival) (its : Bool) (rest : Rows)
+        pushed : (row : RowKey × Arrival) (its : Bool) (rest : Rows)
             → cond (its && is_live state.moment row.1)
             (row ∷ filter (λ row. is_live state.moment row.1) rest)
             (filter (λ row. is_live state.moment row.1) rest)

@@ -13,10 +13,10 @@ use Rattle.std.specs.Map.{keys_of}
 use Rattle.std.specs.Ordering.{is_lt, match_ordering, nat_cmp}
 use Rattle.std.specs.declared.cmp.Ordering.{Ordering}
 use Rattle.std.specs.declared.cmp.Ordering.TheVariants.{Less, Equal, Greater}
-use Rattle.agg_types.specs.Place.{place_cmp}
+use Rattle.agg_types.specs.RowKey.{row_key_cmp}
 use Rattle.agg_types.specs.declared.config.Config.{Config}
 use Rattle.agg_types.specs.declared.event.Event.{Event}
-use Rattle.agg_types.specs.declared.place.Place.{Place}
+use Rattle.agg_types.specs.declared.row_key.RowKey.{RowKey}
 use Rattle.fleet_model.proofs.Bools.{first, less_from, second}
 use Rattle.fleet_model.proofs.Entries.{gather, same_lookups}
 use Rattle.fleet_model.proofs.InForce.{by_place-sorted}
@@ -84,7 +84,7 @@ ordered config opening events =
     let history = judged config opening events in
     let counted = counted_of history in
     record {
-      rows = sorted_keys place_cmp (by_place (in_force (now_of opening counted) history))
+      rows = sorted_keys row_key_cmp (by_place (in_force (now_of opening counted) history))
           (by_place-sorted (in_force (now_of opening counted) history));
       sessions = sorted_keys nat_cmp
           (known (session counted) (range_with_len 0 (length config.peers)))
@@ -94,31 +94,31 @@ ordered config opening events =
     }
 
 pub distinct : (state : State) → IsOrdered state → IsDistinct same_place (keys_of state.rows)
-distinct state h = IsDistinct-from_sorted place_cmp (keys_of state.rows) h.rows
+distinct state h = IsDistinct-from_sorted row_key_cmp (keys_of state.rows) h.rows
 
 -- ---- rows live
-abbrev Live : ℕ → List (Place × Arrival) → Type 0
+abbrev Live : ℕ → List (RowKey × Arrival) → Type 0
 Live t rows = AllByRecursion (λ row. is_live t row.1 ≡ true) rows
 
-pub live-insert : (t : ℕ) (es : List (Place × Arrival)) (place : Place) (arrival : Arrival)
-    → Live t es → is_live t arrival ≡ true → Live t (insert_entry place_cmp es place arrival)
+pub live-insert : (t : ℕ) (es : List (RowKey × Arrival)) (place : RowKey) (arrival : Arrival)
+    → Live t es → is_live t arrival ≡ true → Live t (insert_entry row_key_cmp es place arrival)
 live-insert t [] place arrival h live = (live, tt)
 live-insert t (e ∷ es) place arrival h live =
-    elim (place_cmp place e.0) as (λ r. Live t (match_ordering r ((place, arrival) ∷ e ∷ es)
-    ((e.0, arrival) ∷ es) (e ∷ insert_entry place_cmp es place arrival))) [
+    elim (row_key_cmp place e.0) as (λ r. Live t (match_ordering r ((place, arrival) ∷ e ∷ es)
+    ((e.0, arrival) ∷ es) (e ∷ insert_entry row_key_cmp es place arrival))) [
       | Less ↦ (live, h)
       | Equal ↦ (live, h.1)
       | Greater ↦ (h.0, live-insert t es place arrival h.1 live)
     ]
 
-live-gather : (t : ℕ) (es xs : List (Place × Arrival)) → Live t es → Live t xs
-    → Live t (gather place_cmp es xs)
+live-gather : (t : ℕ) (es xs : List (RowKey × Arrival)) → Live t es → Live t xs
+    → Live t (gather row_key_cmp es xs)
 live-gather t es [] h live = h
-live-gather t es (x ∷ xs) h live = live-gather t (insert_entry place_cmp es x.0 x.1) xs
+live-gather t es (x ∷ xs) h live = live-gather t (insert_entry row_key_cmp es x.0 x.1) xs
     (live-insert t es x.0 x.1 h live.0) live.1
 
-live-one : (t : ℕ) (later : List Judged) (xs : List (Place × Arrival))
-    (row : Option (Place × Arrival)) → Live t xs → Live t (cons_option (if_in_force t later row) xs)
+live-one : (t : ℕ) (later : List Judged) (xs : List (RowKey × Arrival))
+    (row : Option (RowKey × Arrival)) → Live t xs → Live t (cons_option (if_in_force t later row) xs)
 unfolding if_in_force
 live-one t later xs None h = h
 live-one t later xs (Some row) h =

@@ -14,16 +14,16 @@ use Rattle.std.specs.FinMap.Entries.{is_sorted}
 use Rattle.std.specs.List.{AllByRecursion}
 use Rattle.std.specs.Map.{lookup, remove_entry}
 use Rattle.std.specs.Ordering.{is_eq}
-use Rattle.agg_types.specs.Place.{place_cmp}
+use Rattle.agg_types.specs.RowKey.{row_key_cmp}
 use Rattle.agg_types.specs.declared.config.Config.{Config}
 use Rattle.agg_types.specs.declared.event.Event.{Event}
 use Rattle.agg_types.specs.declared.event.What.{What}
 use Rattle.agg_types.specs.declared.event.What.TheVariants.{Sit, Open, Put, Clear, AddFilter}
 use Rattle.agg_types.specs.declared.event.What.TheVariants.{Moment, Leave}
-use Rattle.agg_types.specs.declared.place.Place.{Place}
+use Rattle.agg_types.specs.declared.row_key.RowKey.{RowKey}
 use Rattle.fleet_model.proofs.Entries.{equal_from, keep, lookup-filter, lookup-insert, remove_is}
 use Rattle.fleet_model.proofs.Falls.{lived_before}
-use Rattle.fleet_model.proofs.InForce.{by_place-sorted, place_cmp_exact, place_cmp_total}
+use Rattle.fleet_model.proofs.InForce.{by_place-sorted, row_key_cmp_exact, row_key_cmp_total}
 use Rattle.fleet_model.proofs.Order.{live, no_events}
 use Rattle.fleet_model.proofs.Step.{one_more}
 use Rattle.fleet_model.specs.Laws.{AreLive, IsInForce, passes_by, put_by}
@@ -38,24 +38,24 @@ use Rattle.fleet_model.specs.Values.{same_place}
 use Rattle.fleet_model.specs.declared.arrival.Arrival.{Arrival}
 
 abbrev Rows : Type 0
-Rows = List (Place × Arrival)
+Rows = List (RowKey × Arrival)
 
-abbrev row_at : Place → Rows → Option Arrival
-row_at place rows = lookup (is_at (place_cmp place)) rows
+abbrev row_at : RowKey → Rows → Option Arrival
+row_at place rows = lookup (is_at (row_key_cmp place)) rows
 
 -- ---- one place after one event
 -- the row that is put there, if it lives; else the older one, if it isn't cleared and lives
-abbrev next_row : Option (Place × Arrival) → Bool → ℕ → Place → Option Arrival → Option Arrival
+abbrev next_row : Option (RowKey × Arrival) → Bool → ℕ → RowKey → Option Arrival → Option Arrival
 next_row None cleared t place old = cond cleared None (keep (is_live t) old)
 next_row (Some row) cleared t place old =
     cond (same_place place row.0) (keep (is_live t) (Some row.1))
     (cond cleared None (keep (is_live t) old))
 
-live_kept : (t : ℕ) (place : Place) (rows : Rows) → AllByRecursion (λ row. is_live t row.1 ≡ true)
+live_kept : (t : ℕ) (place : RowKey) (rows : Rows) → AllByRecursion (λ row. is_live t row.1 ≡ true)
     rows → keep (is_live t) (row_at place rows) ≡ row_at place rows
 live_kept t place [] h = refl
 live_kept t place (e ∷ es) h =
-    elim (is_eq (place_cmp place e.0)) as
+    elim (is_eq (row_key_cmp place e.0)) as
     (λ b. keep (is_live t) (cond b (Some e.1) (row_at place es))
     ≡ cond b (Some e.1) (row_at place es)) [
       | true ↦ ap (λ b. then_some b e.1) h.0
@@ -69,26 +69,26 @@ kept_unless true t (Some x) h = refl
 kept_unless false t None h = refl
 kept_unless false t (Some x) h = sym h
 
-put_row : (t : ℕ) (rows : Rows) (place q : Place) (row : Arrival) → T (is_sorted place_cmp rows)
+put_row : (t : ℕ) (rows : Rows) (place q : RowKey) (row : Arrival) → T (is_sorted row_key_cmp rows)
     → AllByRecursion (λ row. is_live t row.1 ≡ true) rows → row_at q (with_row t rows place row)
     ≡ next_row (Some (place, row)) false t q (row_at q rows)
 unfolding with_row
 put_row t rows place q row sorted lives =
-    elim (is_live t row) as (λ b. row_at q (cond b (insert_entry place_cmp rows place row)
-    (remove_entry (is_at (place_cmp place)) rows)) ≡ cond (same_place q place) (then_some b row)
+    elim (is_live t row) as (λ b. row_at q (cond b (insert_entry row_key_cmp rows place row)
+    (remove_entry (is_at (row_key_cmp place)) rows)) ≡ cond (same_place q place) (then_some b row)
     (keep (is_live t) (row_at q rows))) [
-      | true ↦ lookup-insert place_cmp place_cmp_total place_cmp_exact q rows place row
+      | true ↦ lookup-insert row_key_cmp row_key_cmp_total row_key_cmp_exact q rows place row
           ∙ ap (cond (same_place q place) (Some row)) (sym (live_kept t q rows lives))
-      | false ↦ ap (row_at q) (remove_is place_cmp place_cmp_total place_cmp_exact
+      | false ↦ ap (row_at q) (remove_is row_key_cmp row_key_cmp_total row_key_cmp_exact
           place rows sorted)
-          ∙ lookup-filter place_cmp place_cmp_total place_cmp_exact q
-          (λ row. not (is_eq (place_cmp place row.0))) rows sorted
+          ∙ lookup-filter row_key_cmp row_key_cmp_total row_key_cmp_exact q
+          (λ row. not (is_eq (row_key_cmp place row.0))) rows sorted
           ∙ ap (λ b. keep (λ _. not b) (row_at q rows))
-          ((eq_by_cmp_equiv place_cmp_total).symm place q)
+          ((eq_by_cmp_equiv row_key_cmp_total).symm place q)
           ∙ kept_unless (same_place q place) t (row_at q rows) (live_kept t q rows lives)
     ]
 
-happened_at : (s : State) (e : Event) (w : What) (q : Place) → T (is_sorted place_cmp s.rows)
+happened_at : (s : State) (e : Event) (w : What) (q : RowKey) → T (is_sorted row_key_cmp s.rows)
     → AreLive s → row_at q (happened s e w).rows
     ≡ next_row (row_of s.config (session_of s (putter w)) s.rows s.moment e w)
     (clears_at s.config s.rows s.moment w q) (happened s e w).moment q (row_at q s.rows)
@@ -96,7 +96,7 @@ unfolding happened row_of clears_at with_put
 happened_at s e Sit q sorted lives = sym (live_kept s.moment q s.rows lives)
 happened_at s e (Open peer) q sorted lives = sym (live_kept s.moment q s.rows lives)
 happened_at s e (Put peer table key life cells) q sorted lives =
-    let place : Place = record { table = table; key = key; peer = peer } in
+    let place : RowKey = record { table = table; key = key; peer = peer } in
     let arrival : Arrival = arrival_of s.config.tables table s.moment life cells in
     elim (is_number (session_of s peer) e.seat && has_room s.config.tables s.rows place) as
     (λ b. row_at q (cond b (with_row s.moment s.rows place arrival) s.rows)
@@ -105,17 +105,17 @@ happened_at s e (Put peer table key life cells) q sorted lives =
       | false ↦ sym (live_kept s.moment q s.rows lives)
     ]
 happened_at s e (Clear table sel) q sorted lives =
-    lookup-filter place_cmp place_cmp_total place_cmp_exact q
+    lookup-filter row_key_cmp row_key_cmp_total row_key_cmp_exact q
     (λ row. not (clears_at s.config s.rows s.moment (Clear table sel) row.0)) s.rows sorted
     ∙ kept_unless (clears_at s.config s.rows s.moment (Clear table sel) q) s.moment
     (row_at q s.rows) (live_kept s.moment q s.rows lives)
 happened_at s e (AddFilter added) q sorted lives = sym (live_kept s.moment q s.rows lives)
 happened_at s e (Moment told) q sorted lives =
-    lookup-filter place_cmp place_cmp_total place_cmp_exact q
+    lookup-filter row_key_cmp row_key_cmp_total row_key_cmp_exact q
     (λ row. is_live (max s.moment told) row.1) s.rows sorted
 happened_at s e Leave q sorted lives = sym (live_kept s.moment q s.rows lives)
 
-after_at : (s : State) (e : Event) (q : Place) → T (is_sorted place_cmp s.rows) → AreLive s
+after_at : (s : State) (e : Event) (q : RowKey) → T (is_sorted row_key_cmp s.rows) → AreLive s
     → row_at q (after s e).rows ≡ next_row (put_by s e) (counts_now s e && clears_at s.config s.rows
     s.moment e.what q) (after s e).moment q (row_at q s.rows)
 unfolding after
@@ -180,11 +180,11 @@ pub by_events : (P : List Event → Type 0) → P [] → ((events : List Event) 
 by_events P start step events = from P step [] events start
 
 rows_sorted : (config : Config) (opening : ℕ) (events : List Event)
-    → T (is_sorted place_cmp (state_of config opening events).rows)
+    → T (is_sorted row_key_cmp (state_of config opening events).rows)
 unfolding state_of rows_in
 rows_sorted config opening events = by_place-sorted _
 
-abbrev clears_in : State → Event → Place → Bool
+abbrev clears_in : State → Event → RowKey → Bool
 clears_in s e q = counts_now s e && clears_at s.config s.rows s.moment e.what q
 
 module _ (config : Config) (opening : ℕ) where
@@ -192,7 +192,7 @@ module _ (config : Config) (opening : ℕ) where
   left_by events = state_of config opening events
 
   -- what is found at a place after one more event
-  one_more_at : (events : List Event) (e : Event) (q : Place)
+  one_more_at : (events : List Event) (e : Event) (q : RowKey)
       → row_at q (left_by (events ++ e ∷ [])).rows ≡ next_row (put_by (left_by events) e)
       (clears_in (left_by events) e q) (left_by (events ++ e ∷ [])).moment q
       (row_at q (left_by events).rows)
@@ -211,7 +211,7 @@ module _ (config : Config) (opening : ℕ) where
 
   -- a row that is found after one more event was put by it, or was found before, and the event
   -- passed by
-  found_by : (events : List Event) (e : Event) (row : Place × Arrival)
+  found_by : (events : List Event) (e : Event) (row : RowKey × Arrival)
       → row_at row.0 (left_by (events ++ e ∷ [])).rows ≡ Some row.1
       → (put_by (left_by events) e ≡ Some row) ⊎ ((row_at row.0 (left_by events).rows ≡ Some row.1)
       × (passes_by (left_by events) e row.0 ≡ true))
@@ -230,7 +230,7 @@ module _ (config : Config) (opening : ℕ) where
       left true t o a e = absurd (none-some a e)
       left false t o a e = (kept t o a e, refl)
 
-      cases : (put : Option (Place × Arrival)) (cleared : Bool) (t : ℕ) (row : Place × Arrival)
+      cases : (put : Option (RowKey × Arrival)) (cleared : Bool) (t : ℕ) (row : RowKey × Arrival)
           (old : Option Arrival) → next_row put cleared t row.0 old ≡ Some row.1 → (put ≡ Some row)
           ⊎ ((old ≡ Some row.1) × ((not (puts_at put row.0) && not cleared) ≡ true))
       cases None cleared t row old e = inr (left cleared t old row.1 e)
@@ -240,18 +240,18 @@ module _ (config : Config) (opening : ℕ) where
           ≡ Some row.1 → (Some new ≡ Some row)
           ⊎ ((old ≡ Some row.1) × ((not b && not cleared) ≡ true))) [
             | true ↦ λ here e.
-                let place : row.0 ≡ new.0 = place_cmp_exact row.0 new.0 (equal_from _ here) in
+                let place : row.0 ≡ new.0 = row_key_cmp_exact row.0 new.0 (equal_from _ here) in
                 let arrival : new.1 ≡ row.1 = same_Some new.1 row.1 (kept t (Some new.1) row.1 e) in
                 inl (λ i. Some (sym place i, arrival i))
             | false ↦ λ there e. inr (left cleared t old row.1 e)
           ] refl e
 
-  nothing_found : (row : Place × Arrival) → row_at row.0 (left_by []).rows ≡ None
+  nothing_found : (row : RowKey × Arrival) → row_at row.0 (left_by []).rows ≡ None
   unfolding opened
   nothing_found row = ap (λ (s : State). row_at row.0 s.rows) (no_events config opening)
 
   -- what is found lives
-  found_live : (t : ℕ) (rows : Rows) (place : Place) (a : Arrival)
+  found_live : (t : ℕ) (rows : Rows) (place : RowKey) (a : Arrival)
       → AllByRecursion (λ row. is_live t row.1 ≡ true) rows → row_at place rows ≡ Some a
       → is_live t a ≡ true
   found_live t rows place a h e = kept_live (is_live t a) a (ap (keep (is_live t)) (sym e)
@@ -262,7 +262,7 @@ module _ (config : Config) (opening : ℕ) where
       kept_live false a e = cc
 
   -- an event more, behind those that passed by a row in force
-  passed_by_more : (events : List Event) (e : Event) (row : Place × Arrival)
+  passed_by_more : (events : List Event) (e : Event) (row : RowKey × Arrival)
       → IsInForce config opening events row → passes_by (left_by events) e row.0 ≡ true
       → is_live (left_by (events ++ e ∷ [])).moment row.1 ≡ true
       → IsInForce config opening (events ++ e ∷ []) row
@@ -284,10 +284,10 @@ module _ (config : Config) (opening : ℕ) where
             (split_cases was.later e some x rest is);
       }
 
-  pub in_force_from : (events : List Event) (row : Place × Arrival)
+  pub in_force_from : (events : List Event) (row : RowKey × Arrival)
       → row_at row.0 (left_by events).rows ≡ Some row.1 → IsInForce config opening events row
   in_force_from =
-      by_events (λ events. (row : Place × Arrival) → row_at row.0 (left_by events).rows ≡ Some row.1
+      by_events (λ events. (row : RowKey × Arrival) → row_at row.0 (left_by events).rows ≡ Some row.1
       → IsInForce config opening events row)
       (λ row h. absurd (none-some row.1 (sym (nothing_found row) ∙ h)))
       (λ events e was row h.
@@ -308,7 +308,7 @@ module _ (config : Config) (opening : ℕ) where
       (found_by events e row h))
 
   -- the events before the last one, where it isn't the one that put the row
-  passed_by_less : (events : List Event) (e : Event) (row : Place × Arrival)
+  passed_by_less : (events : List Event) (e : Event) (row : RowKey × Arrival)
       (now : IsInForce config opening (events ++ e ∷ []) row) (some : List Event)
       → events ≡ now.before ++ now.put ∷ some → IsInForce config opening events row
       × (passes_by (left_by events) e row.0 ≡ true)
@@ -334,16 +334,16 @@ module _ (config : Config) (opening : ℕ) where
             (now.passed_by some e [] later),
       )
 
-  next_put : (put : Option (Place × Arrival)) (cleared : Bool) (t : ℕ) (row : Place × Arrival)
+  next_put : (put : Option (RowKey × Arrival)) (cleared : Bool) (t : ℕ) (row : RowKey × Arrival)
       (old : Option Arrival) → put ≡ Some row → is_live t row.1 ≡ true
       → next_row put cleared t row.0 old ≡ Some row.1
   next_put put cleared t row old is lives =
       ap (λ o. next_row o cleared t row.0 old) is
       ∙ ap (λ o. cond (is_eq o) (keep (is_live t) (Some row.1))
-      (cond cleared None (keep (is_live t) old))) (tied_itself place_cmp_total row.0)
+      (cond cleared None (keep (is_live t) old))) (tied_itself row_key_cmp_total row.0)
       ∙ ap (λ b. then_some b row.1) lives
 
-  next_passed : (put : Option (Place × Arrival)) (cleared : Bool) (t : ℕ) (row : Place × Arrival)
+  next_passed : (put : Option (RowKey × Arrival)) (cleared : Bool) (t : ℕ) (row : RowKey × Arrival)
       (old : Option Arrival) → (not (puts_at put row.0) && not cleared) ≡ true → old ≡ Some row.1
       → is_live t row.1 ≡ true → next_row put cleared t row.0 old ≡ Some row.1
   next_passed None cleared t row old passes was lives =
@@ -357,10 +357,10 @@ module _ (config : Config) (opening : ℕ) where
       ∙ ap (keep (is_live t)) was
       ∙ ap (λ b. then_some b row.1) lives
 
-  pub shown_from : (events : List Event) (row : Place × Arrival)
+  pub shown_from : (events : List Event) (row : RowKey × Arrival)
       → IsInForce config opening events row → row_at row.0 (left_by events).rows ≡ Some row.1
   shown_from =
-      by_events (λ events. (row : Place × Arrival) → IsInForce config opening events row
+      by_events (λ events. (row : RowKey × Arrival) → IsInForce config opening events row
       → row_at row.0 (left_by events).rows ≡ Some row.1)
       (λ row now. absurd (nil_not_push now.before now.put now.later now.split))
       (λ events e was row now.

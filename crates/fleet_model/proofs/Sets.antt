@@ -12,9 +12,9 @@ use Rattle.std.specs.List.Sorted.{IsStrictlySortedBy}
 use Rattle.std.specs.Ordering.{is_gt, is_lt, nat_cmp, ordering_then}
 use Rattle.std.specs.declared.cmp.Ordering.{Ordering}
 use Rattle.std.specs.declared.cmp.Ordering.TheVariants.{Less, Equal, Greater}
-use Rattle.agg_types.specs.Place.{place_cmp}
+use Rattle.agg_types.specs.RowKey.{row_key_cmp}
 use Rattle.agg_types.specs.declared.config.Filter.{Filter}
-use Rattle.agg_types.specs.declared.place.Place.{Place}
+use Rattle.agg_types.specs.declared.row_key.RowKey.{RowKey}
 use Rattle.fleet_model.proofs.Bools.{first, second}
 use Rattle.fleet_model.proofs.Every.{sorted_from}
 use Rattle.fleet_model.proofs.Members.{Rises, UpFrom, among-dedup, among-filter, any-map}
@@ -29,7 +29,7 @@ use Rattle.fleet_model.specs.declared.arrival.Arrival.{Arrival}
 abbrev key_cmp : List ℕ → List ℕ → Ordering
 key_cmp = slice_cmp nat_cmp
 
-abbrev lives_in : ℕ → ℕ → Place × Arrival → Bool
+abbrev lives_in : ℕ → ℕ → RowKey × Arrival → Bool
 lives_in table t row = (row.0.table == table) && is_live t row.1
 
 not_above : (tables keys peers : Ordering) → tables ≡ Equal
@@ -43,8 +43,8 @@ not_above Greater keys peers e h = cc
 same_table : (a b : ℕ) → a ≡ b → nat_cmp a b ≡ Equal
 same_table a b e = subst (λ n. nat_cmp a n ≡ Equal) e (tied_itself nat_cmp_total a)
 
-keys_up : (table t : ℕ) (place : Place) → place.table ≡ table → (rows : List (Place × Arrival))
-    → T (below_all place_cmp place rows)
+keys_up : (table t : ℕ) (place : RowKey) → place.table ≡ table → (rows : List (RowKey × Arrival))
+    → T (below_all row_key_cmp place rows)
     → UpFrom key_cmp place.key (map (λ row. row.0.key) (filter (lives_in table t) rows))
 keys_up table t place here [] h = tt
 keys_up table t place here (row ∷ rows) h =
@@ -63,7 +63,7 @@ keys_up table t place here (row ∷ rows) h =
       | false ↦ λ other. rest
     ] refl
 
-keys_rise : (table t : ℕ) (rows : List (Place × Arrival)) → T (is_sorted place_cmp rows)
+keys_rise : (table t : ℕ) (rows : List (RowKey × Arrival)) → T (is_sorted row_key_cmp rows)
     → Rises key_cmp (map (λ row. row.0.key) (filter (lives_in table t) rows))
 keys_rise table t [] h = tt
 keys_rise table t (row ∷ rows) h =
@@ -88,7 +88,7 @@ one_row true false true rest = refl
 one_row true false false rest = refl
 one_row false lives same rest = refl
 
-rows_of_key : (table t : ℕ) (key : List ℕ) (rows : List (Place × Arrival))
+rows_of_key : (table t : ℕ) (key : List ℕ) (rows : List (RowKey × Arrival))
     → list_any (λ row. same_key key row.0.key) (filter (lives_in table t) rows)
     ≡ list_any (is_of table key t) rows
 rows_of_key table t key [] = refl
@@ -108,7 +108,7 @@ rows_of_key table t key (row ∷ rows) =
     pushed false = refl
 
 -- a key is among the live ones exactly where a row of it lives
-pub live_keys-exact : (rows : List (Place × Arrival)) (table t : ℕ) (key : List ℕ)
+pub live_keys-exact : (rows : List (RowKey × Arrival)) (table t : ℕ) (key : List ℕ)
     → is_key_among key (live_keys rows table t) ≡ has_live_row rows table key t
 unfolding live_keys
 live_keys-exact rows table t key =
@@ -117,7 +117,7 @@ live_keys-exact rows table t key =
     ∙ any-map (same_key key) (λ row. row.0.key) (filter (lives_in table t) rows)
     ∙ rows_of_key table t key rows
 
-pub live_keys-sorted : (rows : List (Place × Arrival)) (table t : ℕ) → T (is_sorted place_cmp rows)
+pub live_keys-sorted : (rows : List (RowKey × Arrival)) (table t : ℕ) → T (is_sorted row_key_cmp rows)
     → IsStrictlySortedBy key_cmp (live_keys rows table t)
 unfolding live_keys
 live_keys-sorted rows table t h = sorted-dedup key_cmp nat_list_cmp_total exact_bytes same_key
@@ -129,7 +129,7 @@ pub key_lists : (state : State) (table : ℕ) → IsOrdered state
 unfolding keys_of
 key_lists state table h = record {
   in_order = live_keys-sorted state.rows table state.moment
-      (sorted_from place_cmp state.rows h.rows);
+      (sorted_from row_key_cmp state.rows h.rows);
   exact = live_keys-exact state.rows table state.moment;
 }
 
@@ -142,7 +142,7 @@ sets state filtering t h =
     state.rows filtering.table key t filtering.conds in
     record {
       in_order = IsStrictlySortedBy-filter key_cmp holds (live_keys state.rows filtering.table t)
-          (live_keys-sorted state.rows filtering.table t (sorted_from place_cmp state.rows h.rows));
+          (live_keys-sorted state.rows filtering.table t (sorted_from row_key_cmp state.rows h.rows));
       exact = λ key. among-filter key_cmp nat_list_cmp_total exact_bytes key holds
           (live_keys state.rows filtering.table t)
           ∙ ap (λ b. b && holds key) (live_keys-exact state.rows filtering.table t key);

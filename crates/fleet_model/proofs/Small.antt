@@ -8,7 +8,7 @@ use Rattle.std.specs.List.{AllByRecursion}
 use Rattle.std.specs.Map.{remove_entry}
 use Rattle.std.specs.Option.{unwrap_or}
 use Rattle.agg_types.specs.Fits.{at_table, cells_fit, fits, key_fits, life_fits}
-use Rattle.agg_types.specs.Place.{place_cmp}
+use Rattle.agg_types.specs.RowKey.{row_key_cmp}
 use Rattle.agg_types.specs.declared.config.Config.{Config}
 use Rattle.agg_types.specs.declared.config.Shape.{Shape}
 use Rattle.agg_types.specs.declared.event.Cell.{Cell}
@@ -17,10 +17,10 @@ use Rattle.agg_types.specs.declared.event.What.{What}
 use Rattle.agg_types.specs.declared.event.What.TheVariants.{Sit, Open, Put, Clear, AddFilter}
 use Rattle.agg_types.specs.declared.event.What.TheVariants.{Moment, Leave}
 use Rattle.agg_types.specs.declared.limits.TheConstants.{LAST_MOMENT, MOST_SEATS}
-use Rattle.agg_types.specs.declared.place.Place.{Place}
+use Rattle.agg_types.specs.declared.row_key.RowKey.{RowKey}
 use Rattle.fleet_model.proofs.Checked.{periods_short}
 use Rattle.fleet_model.proofs.Every.{every-filter, every-insert, every-map, every-remove}
-use Rattle.fleet_model.proofs.InForce.{place_cmp_exact}
+use Rattle.fleet_model.proofs.InForce.{row_key_cmp_exact}
 use Rattle.fleet_model.proofs.Runs.{along}
 use Rattle.fleet_model.specs.Machine.{after, counts_now, happened, number_of, opened, session_of}
 use Rattle.fleet_model.specs.Machine.{with_put, with_row}
@@ -33,7 +33,7 @@ use Rattle.fleet_model.specs.State.{State, state_of}
 use Rattle.fleet_model.specs.Values.{cols_of}
 use Rattle.fleet_model.specs.declared.arrival.Arrival.{Arrival}
 
-abbrev IsSmall : Place × Arrival → Type 0
+abbrev IsSmall : RowKey × Arrival → Type 0
 IsSmall row = (row.1.arrived ≤ LAST_MOMENT) × (unwrap_or row.1.life 0 < 2 ^ 32)
 
 record Small (state : State) : Type 0 where
@@ -53,13 +53,13 @@ life_from config peer table key life cells fit =
     cells)) fit in
     (and_parts (nat_lt peer (length config.peers)) (life_fits life) front.0).1
 
-small_put : (taken live : Bool) (rows : List (Place × Arrival)) (place : Place) (row : Arrival)
+small_put : (taken live : Bool) (rows : List (RowKey × Arrival)) (place : RowKey) (row : Arrival)
     → AllByRecursion IsSmall rows → IsSmall (place, row)
-    → AllByRecursion IsSmall (cond taken (cond live (insert_entry place_cmp rows place row)
-    (remove_entry (is_at (place_cmp place)) rows)) rows)
-small_put true true rows place row h own = every-insert IsSmall place_cmp place_cmp_exact rows
+    → AllByRecursion IsSmall (cond taken (cond live (insert_entry row_key_cmp rows place row)
+    (remove_entry (is_at (row_key_cmp place)) rows)) rows)
+small_put true true rows place row h own = every-insert IsSmall row_key_cmp row_key_cmp_exact rows
     place row h own
-small_put true false rows place row h own = every-remove IsSmall (is_at (place_cmp place)) rows h
+small_put true false rows place row h own = every-remove IsSmall (is_at (row_key_cmp place)) rows h
 small_put false live rows place row h own = h
 
 small_happened : (state : State) (e : Event) (what : What) → fits state.config what ≡ true
@@ -68,7 +68,7 @@ unfolding happened with_put with_row
 small_happened state e Sit fit h = record { moment = h.moment; rows = h.rows }
 small_happened state e (Open peer) fit h = record { moment = h.moment; rows = h.rows }
 small_happened state e (Put peer table key life cells) fit h =
-    let place : Place = record { table = table; key = key; peer = peer } in
+    let place : RowKey = record { table = table; key = key; peer = peer } in
     let row : Arrival = arrival_of state.config.tables table state.moment life cells in
     record {
       moment = h.moment;
@@ -102,7 +102,7 @@ small_opened : (config : Config) (opening : ℕ) → opening ≤ LAST_MOMENT
 unfolding opened
 small_opened config opening small = record { moment = small; rows = tt }
 
-small_flat : (longest : ℕ) (rows : List (Place × Arrival)) → longest < 2 ^ 32
+small_flat : (longest : ℕ) (rows : List (RowKey × Arrival)) → longest < 2 ^ 32
     → AllByRecursion IsSmall rows → flat_moment longest rows < 2 ^ 64
 small_flat longest [] short h = omega arith
 small_flat longest (row ∷ rows) short h =
@@ -128,7 +128,7 @@ flat_in_time config opening events table small short =
     (subst (λ (tables : List Shape). longest_period (cols_of tables table) < 2 ^ 32)
     (sym (same_tables config opening events)) short) all.rows
 
-small_rows : (state : State) → IsSound state → (row : Place × Arrival)
+small_rows : (state : State) → IsSound state → (row : RowKey × Arrival)
     → IsSoundRow state.config state.moment row → IsSmall row
 small_rows state sound row own =
     let now : state.moment ≤ LAST_MOMENT = sound.in_range in

@@ -16,7 +16,7 @@ use Rattle.std.specs.Prelude.{slice_get}
 use Rattle.agg_types.specs.Check.{config_faults}
 use Rattle.agg_types.specs.Col.{is_rate}
 use Rattle.agg_types.specs.Fits.{at_table, cell_fits, cells_fit, fits, key_fits, life_fits}
-use Rattle.agg_types.specs.Place.{place_cmp}
+use Rattle.agg_types.specs.RowKey.{row_key_cmp}
 use Rattle.agg_types.specs.declared.column.Col.{Col}
 use Rattle.agg_types.specs.declared.config.Config.{Config}
 use Rattle.agg_types.specs.declared.config.Shape.{Shape}
@@ -27,13 +27,13 @@ use Rattle.agg_types.specs.declared.event.What.{What}
 use Rattle.agg_types.specs.declared.event.What.TheVariants.{Sit, Open, Put, Clear, AddFilter}
 use Rattle.agg_types.specs.declared.event.What.TheVariants.{Moment, Leave}
 use Rattle.agg_types.specs.declared.limits.TheConstants.{LAST_MOMENT, MOST_SEATS}
-use Rattle.agg_types.specs.declared.place.Place.{Place}
+use Rattle.agg_types.specs.declared.row_key.RowKey.{RowKey}
 use Rattle.fleet_model.proofs.Cells.{kept_twice}
 use Rattle.fleet_model.proofs.Checked.{checked-add}
 use Rattle.fleet_model.proofs.Every.{every-filter, every-insert, every-map, every-passes}
 use Rattle.fleet_model.proofs.Every.{every-remove, ordered-filter, ordered-insert, ordered-remove}
 use Rattle.fleet_model.proofs.Every.{sorted_from}
-use Rattle.fleet_model.proofs.InForce.{place_cmp_exact, place_cmp_total}
+use Rattle.fleet_model.proofs.InForce.{row_key_cmp_exact, row_key_cmp_total}
 use Rattle.fleet_model.proofs.Runs.{along}
 use Rattle.fleet_model.proofs.Sizes.{happened_within}
 use Rattle.fleet_model.specs.Filters.{is_new}
@@ -50,7 +50,7 @@ use Rattle.fleet_model.specs.Values.{cols_of}
 use Rattle.fleet_model.specs.declared.arrival.Arrival.{Arrival}
 
 abbrev Rows : Type 0
-Rows = List (Place × Arrival)
+Rows = List (RowKey × Arrival)
 
 -- ---- a row that is put
 cells_kept_fit : (cols : List (Col × ℕ)) (cells : List Cell) → cells_fit cols cells ≡ true
@@ -100,38 +100,38 @@ row_sound config t peer table key life cells h = record {
 
 -- ---- rows as they come and go
 record AreSound (config : Config) (t : ℕ) (rows : Rows) : Type 0 where
-  ordered : IsStrictlySortedBy place_cmp (keys_of rows)
+  ordered : IsStrictlySortedBy row_key_cmp (keys_of rows)
   live : AllByRecursion (λ row. is_live t row.1 ≡ true) rows
   each : AllByRecursion (IsSoundRow config t) rows
 
-sound-filter : (config : Config) (t : ℕ) (p : Place × Arrival → Bool) (rows : Rows)
+sound-filter : (config : Config) (t : ℕ) (p : RowKey × Arrival → Bool) (rows : Rows)
     → AreSound config t rows → AreSound config t (filter p rows)
 sound-filter config t p rows h = record {
-  ordered = ordered-filter place_cmp p rows h.ordered;
+  ordered = ordered-filter row_key_cmp p rows h.ordered;
   live = every-filter (λ row. is_live t row.1 ≡ true) p rows h.live;
   each = every-filter (IsSoundRow config t) p rows h.each;
 }
 
-sound-put : (config : Config) (t : ℕ) (taken : Bool) (rows : Rows) (place : Place) (row : Arrival)
+sound-put : (config : Config) (t : ℕ) (taken : Bool) (rows : Rows) (place : RowKey) (row : Arrival)
     → IsSoundRow config t (place, row) → AreSound config t rows
     → AreSound config t (cond taken (with_row t rows place row) rows)
 unfolding with_row
 sound-put config t false rows place row own h = h
 sound-put config t true rows place row own h =
     elim (is_live t row) as (λ b. is_live t row ≡ b
-    → AreSound config t (cond b (insert_entry place_cmp rows place row)
-    (remove_entry (is_at (place_cmp place)) rows))) [
+    → AreSound config t (cond b (insert_entry row_key_cmp rows place row)
+    (remove_entry (is_at (row_key_cmp place)) rows))) [
       | true ↦ λ live. record {
-        ordered = ordered-insert place_cmp place_cmp_total place_cmp_exact rows place row h.ordered;
-        live = every-insert (λ row. is_live t row.1 ≡ true) place_cmp place_cmp_exact rows place
+        ordered = ordered-insert row_key_cmp row_key_cmp_total row_key_cmp_exact rows place row h.ordered;
+        live = every-insert (λ row. is_live t row.1 ≡ true) row_key_cmp row_key_cmp_exact rows place
             row h.live live;
-        each = every-insert (IsSoundRow config t) place_cmp place_cmp_exact rows place
+        each = every-insert (IsSoundRow config t) row_key_cmp row_key_cmp_exact rows place
             row h.each own;
       }
       | false ↦ λ over. record {
-        ordered = ordered-remove place_cmp place_cmp_total place_cmp_exact rows place h.ordered;
-        live = every-remove (λ row. is_live t row.1 ≡ true) (is_at (place_cmp place)) rows h.live;
-        each = every-remove (IsSoundRow config t) (is_at (place_cmp place)) rows h.each;
+        ordered = ordered-remove row_key_cmp row_key_cmp_total row_key_cmp_exact rows place h.ordered;
+        live = every-remove (λ row. is_live t row.1 ≡ true) (is_at (row_key_cmp place)) rows h.live;
+        each = every-remove (IsSoundRow config t) (is_at (row_key_cmp place)) rows h.each;
       }
     ] refl
 
@@ -139,7 +139,7 @@ sound-put config t true rows place row own h =
 sound-moment : (config : Config) (t later : ℕ) (rows : Rows) → t ≤ later → AreSound config t rows
     → AreSound config later (filter (λ row. is_live later row.1) rows)
 sound-moment config t later rows h sound = record {
-  ordered = ordered-filter place_cmp (λ row. is_live later row.1) rows sound.ordered;
+  ordered = ordered-filter row_key_cmp (λ row. is_live later row.1) rows sound.ordered;
   live = every-passes (λ row. is_live later row.1) rows;
   each = every-filter (IsSoundRow config later) (λ row. is_live later row.1) rows
       (every-map (IsSoundRow config t) (IsSoundRow config later)
@@ -185,7 +185,7 @@ happened_sound s e (Open peer) fit h within =
     (numbers-insert s.sessions peer e.seat h.ordered.sessions)
     (numbers-insert s.seats e.seat (e.seq + 1) h.ordered.seats) within
 happened_sound s e (Put peer table key life cells) fit h within =
-    let place : Place = record { table = table; key = key; peer = peer } in
+    let place : RowKey = record { table = table; key = key; peer = peer } in
     sound_as (happened s e (Put peer table key life cells)) h.checked h.in_range
     (sound-put s.config s.moment (is_number (session_of s peer) e.seat && has_room s.config.tables
     s.rows place) s.rows place (arrival_of s.config.tables table s.moment life cells)
@@ -232,7 +232,7 @@ sound_after s e h =
           (and_parts (fits s.config e.what)
           (is_next e.what e.seat e.seq (nat_lt (length s.seats) MOST_SEATS) s.next_seat
           (number_of s e.seat)) counts).0 h
-          (happened_within s e e.what (sorted_from place_cmp s.rows h.ordered.rows) h.within_sizes)
+          (happened_within s e e.what (sorted_from row_key_cmp s.rows h.ordered.rows) h.within_sizes)
       | false ↦ λ not. h
     ] refl
 

@@ -17,7 +17,7 @@ use Rattle.agg_types.specs.declared.event.What.{What}
 use Rattle.agg_types.specs.declared.event.What.TheVariants.{Sit, Open, Put, Clear, AddFilter}
 use Rattle.agg_types.specs.declared.event.What.TheVariants.{Moment, Leave}
 use Rattle.agg_types.specs.declared.limits.TheConstants.{MOST_SEATS}
-use Rattle.agg_types.specs.declared.place.Place.{Place}
+use Rattle.agg_types.specs.declared.row_key.RowKey.{RowKey}
 use Rattle.fleet_model.proofs.InForce.{Clears_none, rows-cleared, rows-later, rows-put, rows-same}
 use Rattle.fleet_model.proofs.Seats.{SitFirst, SitFirst-push, above-sit, ever_sat}
 use Rattle.fleet_model.proofs.Seats.{ever_sat-from_number, ever_seen, found-seats, new_seat}
@@ -36,7 +36,7 @@ use Rattle.fleet_model.specs.Sessions.{opens, session, sessions_in}
 use Rattle.fleet_model.specs.State.{Stands, State, state_after, state_of, with_filters}
 use Rattle.fleet_model.specs.declared.arrival.Arrival.{Arrival}
 
-abbrev state : Config → ℕ → List (Place × Arrival) → List (ℕ × ℕ) → List (ℕ × ℕ) → ℕ → State
+abbrev state : Config → ℕ → List (RowKey × Arrival) → List (ℕ × ℕ) → List (ℕ × ℕ) → ℕ → State
 state c m r s b n = record {
   config = c;
   moment = m;
@@ -47,7 +47,7 @@ state c m r s b n = record {
   next_seat = n;
 }
 
-same_state : {c c' : Config} {m m' : ℕ} {r r' : List (Place × Arrival)} {s s' b b' : List (ℕ × ℕ)}
+same_state : {c c' : Config} {m m' : ℕ} {r r' : List (RowKey × Arrival)} {s s' b b' : List (ℕ × ℕ)}
     {n n' : ℕ} → c ≡ c' → m ≡ m' → r ≡ r' → s ≡ s' → b ≡ b' → n ≡ n'
     → state c m r s b n ≡ state c' m' r' s' b' n'
 same_state ec em er es eb en = λ i. record {
@@ -86,7 +86,7 @@ shorter config opening h counted =
     (by_place (in_force (now_of opening counted) h)) (sessions_in config counted)
     (seats_in counted) (above_all (seats_of counted))
 
-put_or_same : (t : ℕ) (j : Judged) (h : List Judged) (taken : Bool) (row : Place × Arrival)
+put_or_same : (t : ℕ) (j : Judged) (h : List Judged) (taken : Bool) (row : RowKey × Arrival)
     → j.row ≡ then_some taken row → Clears_none j → by_place (in_force t (h ++ j ∷ []))
     ≡ cond taken (with_row t (by_place (in_force t h)) row.0 row.1) (by_place (in_force t h))
 put_or_same t j h true row is clears = rows-put t j row is clears h
@@ -108,13 +108,13 @@ sits_down seat seq above small free e =
     let c = and_parts (seq == 0) small b.0 in
     record { at_zero = eqb-true seq 0 c.0; above_others = leb-true above seat b.1 }
 
-abbrev rows_before : ℕ → List Judged → List Event → List (Place × Arrival)
+abbrev rows_before : ℕ → List Judged → List Event → List (RowKey × Arrival)
 rows_before opening h counted = by_place (in_force (now_of opening counted) h)
 
 -- what it does to the configuration and the moment is the same for all kinds
 by_parts : (config : Config) (opening : ℕ) (h : List Judged) (counted : List Event) (e : Event)
     (j : Judged) (w : What) → e.what ≡ w
-    → {rows : List (Place × Arrival)} {sessions seats : List (ℕ × ℕ)} {next_seat : ℕ}
+    → {rows : List (RowKey × Arrival)} {sessions seats : List (ℕ × ℕ)} {next_seat : ℕ}
     → by_place (in_force (moment_after (now_of opening counted) w) (h ++ j ∷ [])) ≡ rows
     → sessions_in config (counted ++ e ∷ []) ≡ sessions → seats_in (counted ++ e ∷ []) ≡ seats
     → above_all (seats_of (counted ++ e ∷ [])) ≡ next_seat
@@ -132,7 +132,7 @@ by_parts config opening h counted e j w is rows sessions seats next_seat =
 by_kind : (config : Config) (opening : ℕ) (h : List Judged) (counted : List Event) (e : Event)
     (j : Judged) (w : What) → e.what ≡ w → j.row ≡ row_of config (session counted (putter w))
     (rows_before opening h counted) (now_of opening counted) e w
-    → ((place : Place) → j.clears place ≡ clears_at config (rows_before opening h counted)
+    → ((place : RowKey) → j.clears place ≡ clears_at config (rows_before opening h counted)
     (now_of opening counted) w place) → SitFirst counted → fits config w ≡ true
     → is_next w e.seat e.seq (nat_lt (length (seats_in counted)) MOST_SEATS)
     (above_all (seats_of counted)) (number counted e.seat) ≡ true
@@ -158,7 +158,7 @@ by_kind config opening h counted e j (Open peer) is row clears first fit next =
 by_kind config opening h counted e j (Put peer table key life cells) is row clears first fit next =
     let due = number_due (is_number (number counted e.seat) e.seq) _ next in
     let rows = rows_before opening h counted in
-    let place : Place = record { table = table; key = key; peer = peer } in
+    let place : RowKey = record { table = table; key = key; peer = peer } in
     let arrival : Arrival = arrival_of config.tables table (now_of opening counted) life cells in
     let in_range : peer < length config.peers =
     ltb-true peer (length config.peers) (and_parts (nat_lt peer (length config.peers)) _
@@ -240,7 +240,7 @@ judged_row config opening h e b does =
     (rows_before opening h (counted_of h)) (now_of opening (counted_of h)) e e.what)) does
 
 judged_clears : (config : Config) (opening : ℕ) (h : List Judged) (e : Event) (b : Bool)
-    → counts config (counted_of h) e ≡ b → (place : Place) → (judge config opening h e).clears place
+    → counts config (counted_of h) e ≡ b → (place : RowKey) → (judge config opening h e).clears place
     ≡ (b && clears_at config (rows_before opening h (counted_of h))
     (now_of opening (counted_of h)) e.what place)
 unfolding judge judge_at rows_in

@@ -7,7 +7,7 @@ use Rattle.std.proofs.lemmas.List.Elements.{All-from_recursion}
 use Rattle.std.proofs.lemmas.List.Sums.{sum_by-cons}
 use Rattle.std.specs.List.{AllByRecursion, count_by, filter, fold, list_any}
 use Rattle.agg_types.specs.Col.{all_cols}
-use Rattle.agg_types.specs.declared.place.Place.{Place}
+use Rattle.agg_types.specs.declared.row_key.RowKey.{RowKey}
 use Rattle.fleet_model.proofs.Members.{any-map}
 use Rattle.fleet_model.specs.Answers.{left_of, longer, rows_of, sum_up, summed}
 use Rattle.fleet_model.specs.Laws.{IsLongestLeft, IsSummedRow, IsWithin}
@@ -64,27 +64,27 @@ longest_one None = refl
 longest_one (Some a) = let le : a ≤ a = omega arith in
     ((le, tt), ap (λ t. t || false) (eq-eqb a a refl))
 
-longest_of : (t : ℕ) (a : Option ℕ) (rows : List (Place × Arrival))
+longest_of : (t : ℕ) (a : Option ℕ) (rows : List (RowKey × Arrival))
     → Longest (a ∷ map (λ row. left_of t row.1) rows)
     (fold (λ left other. longer left (left_of t other.1)) a rows)
 longest_of t a [] = longest_one a
 longest_of t a (row ∷ rows) = split_longest a (left_of t row.1) (map (λ row. left_of t row.1) rows)
     _ (longest_of t (longer a (left_of t row.1)) rows)
 
-within_rows : (t most : ℕ) (rows : List (Place × Arrival))
+within_rows : (t most : ℕ) (rows : List (RowKey × Arrival))
     → AllByRecursion (IsWithin most) (map (λ row. left_of t row.1) rows)
-    → AllByRecursion (λ (row : Place × Arrival). IsWithin most (left_of t row.1)) rows
+    → AllByRecursion (λ (row : RowKey × Arrival). IsWithin most (left_of t row.1)) rows
 within_rows t most [] h = tt
 within_rows t most (row ∷ rows) h = (h.0, within_rows t most rows h.1)
 
-of_rows : (t : ℕ) (rows : List (Place × Arrival)) (most : Option ℕ)
+of_rows : (t : ℕ) (rows : List (RowKey × Arrival)) (most : Option ℕ)
     → Longest (map (λ row. left_of t row.1) rows) most → IsLongestLeft t rows most
 of_rows t rows None h = sym (any-map (λ left. is_none left)
-    (λ (row : Place × Arrival). left_of t row.1) rows) ∙ h
+    (λ (row : RowKey × Arrival). left_of t row.1) rows) ∙ h
 of_rows t rows (Some most) h = (
-  All-from_recursion (λ (row : Place × Arrival). IsWithin most (left_of t row.1)) rows
+  All-from_recursion (λ (row : RowKey × Arrival). IsWithin most (left_of t row.1)) rows
       (within_rows t most rows h.0),
-  sym (any-map (λ left. is_number left most) (λ (row : Place × Arrival). left_of t row.1) rows)
+  sym (any-map (λ left. is_number left most) (λ (row : RowKey × Arrival). left_of t row.1) rows)
       ∙ h.1,
 )
 
@@ -109,7 +109,7 @@ count_filtered p (x ∷ xs) =
       | false ↦ λ none. omega arith
     ] whole
 
-summed_is : (state : State) (table : ℕ) (key : List ℕ) (rows : List (Place × Arrival))
+summed_is : (state : State) (table : ℕ) (key : List ℕ) (rows : List (RowKey × Arrival))
     → rows_of state table key ≡ rows
     → IsSummedRow state table key (sum_up
     (map (λ col. value (cols_of state.config.tables table) state.rows table key col state.moment)
@@ -122,7 +122,7 @@ summed_is state table key (row ∷ rows) e = (
   record {
     peers = let count = count_filtered (is_of table key state.moment) state.rows
         ∙ ap length e in omega arith;
-    left = subst (λ (rs : List (Place × Arrival)). IsLongestLeft state.moment rs
+    left = subst (λ (rs : List (RowKey × Arrival)). IsLongestLeft state.moment rs
         (fold (λ left other. longer left (left_of state.moment other.1))
         (left_of state.moment row.1) rows)) (sym e)
         (of_rows state.moment (row ∷ rows) _

@@ -9,7 +9,7 @@ use Rattle.agg_types.specs.declared.event.Event.{Event}
 use Rattle.agg_types.specs.declared.event.What.{What}
 use Rattle.agg_types.specs.declared.event.What.TheVariants.{Sit, Open, Put, Clear, AddFilter}
 use Rattle.agg_types.specs.declared.event.What.TheVariants.{Moment, Leave}
-use Rattle.agg_types.specs.declared.place.Place.{Place}
+use Rattle.agg_types.specs.declared.row_key.RowKey.{RowKey}
 use Rattle.fleet_model.proofs.Seats.{number_from}
 use Rattle.fleet_model.specs.Answers.{keys_of, rows_of, set_at, summed}
 use Rattle.fleet_model.specs.Laws.{AnswersAlike, AreLive, SaysNothing}
@@ -59,7 +59,7 @@ alike s later config moment rows =
       }) rank;
     }
 
-all_stay : (t : ℕ) (rows : List (Place × Arrival)) → AllByRecursion (λ row. is_live t row.1 ≡ true)
+all_stay : (t : ℕ) (rows : List (RowKey × Arrival)) → AllByRecursion (λ row. is_live t row.1 ≡ true)
     rows → filter (λ row. is_live t row.1) rows ≡ rows
 all_stay t [] h = refl
 all_stay t (row ∷ rows) h = ap (λ b. cond b (row ∷ filter (λ row. is_live t row.1) rows)
@@ -78,7 +78,7 @@ unfolding happened with_put
 says_nothing s e Sit lives h = absurd h
 says_nothing s e (Open peer) lives h = absurd h
 says_nothing s e (Put peer table key life cells) lives h =
-    let place : Place = record { table = table; key = key; peer = peer } in
+    let place : RowKey = record { table = table; key = key; peer = peer } in
     let arrival : Arrival = arrival_of s.config.tables table s.moment life cells in
     let no : (is_number (session_of s peer) e.seat && has_room s.config.tables s.rows place)
     ≡ false =

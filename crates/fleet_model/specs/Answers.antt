@@ -5,7 +5,7 @@ use Rattle.std.specs.Option.{option_map}
 use Rattle.agg_types.specs.Col.{all_cols}
 use Rattle.agg_types.specs.declared.column.Col.{Col}
 use Rattle.agg_types.specs.declared.config.Filter.{Filter}
-use Rattle.agg_types.specs.declared.place.Place.{Place}
+use Rattle.agg_types.specs.declared.row_key.RowKey.{RowKey}
 use Rattle.fleet_model.specs.declared.arrival.Arrival.{Arrival}
 use Rattle.fleet_model.specs.declared.summed.Summed.{Summed}
 use Rattle.fleet_model.specs.State.{State}
@@ -26,17 +26,17 @@ abbrev pub left_of : ℕ → Arrival → Option ℕ
 left_of t row = left_after row.life row.arrived t
 
 -- the rows of a key
-unfoldable pub rows_of : State → ℕ → List ℕ → List (Place × Arrival)
+unfoldable pub rows_of : State → ℕ → List ℕ → List (RowKey × Arrival)
 rows_of state table key = filter (is_of table key state.moment) state.rows
 
 -- how many rows there are, and the longest life left of them, if there are any
-abbrev pub tally : ℕ → List (Place × Arrival) → Option (ℕ × Option ℕ)
+abbrev pub tally : ℕ → List (RowKey × Arrival) → Option (ℕ × Option ℕ)
 tally t [] = None
 tally t (row ∷ rows) =
     Some (length rows + 1, fold (λ most r. longer most (left_of t r.1)) (left_of t row.1) rows)
 
 -- the rows of a key, if there are any, and the values that they sum up to
-abbrev pub sum_up : List ℕ → ℕ → List (Place × Arrival) → Option Summed
+abbrev pub sum_up : List ℕ → ℕ → List (RowKey × Arrival) → Option Summed
 sum_up values t rows =
     option_map (λ found. record { peers = found.0; left = found.1; values = values }) (tally t rows)
 

@@ -9,11 +9,11 @@ use Rattle.std.specs.Map.{keys_of, lookup}
 use Rattle.std.specs.Ordering.{nat_cmp}
 use Rattle.agg_types.specs.Col.{all_cols}
 use Rattle.agg_types.specs.Op.{op_holds}
-use Rattle.agg_types.specs.Place.{place_cmp}
+use Rattle.agg_types.specs.RowKey.{row_key_cmp}
 use Rattle.agg_types.specs.declared.column.Col.{Col}
 use Rattle.agg_types.specs.declared.config.Cond.{Cond}
 use Rattle.agg_types.specs.declared.config.Filter.{Filter}
-use Rattle.agg_types.specs.declared.place.Place.{Place}
+use Rattle.agg_types.specs.declared.row_key.RowKey.{RowKey}
 use Rattle.fleet_model.specs.Answers.{sum_up}
 use Rattle.fleet_model.specs.Laws.{is_key_among}
 use Rattle.fleet_model.specs.Moments.{is_live}
@@ -25,18 +25,18 @@ use Rattle.fleet_model.specs.declared.summed.Summed.{Summed}
 
 -- rows ascend strictly by place
 abbrev pub AreInOrder : Rows → Type 0
-AreInOrder rows = IsStrictlySortedBy place_cmp (keys_of rows)
+AreInOrder rows = IsStrictlySortedBy row_key_cmp (keys_of rows)
 
 -- each row lives at t
 abbrev pub AreLiveAt : ℕ → Rows → Type 0
 AreLiveAt t rows = AllByRecursion (λ row. is_live t row.1 ≡ true) rows
 
 -- the row at a place
-abbrev pub row_at : Rows → Place → Option Arrival
-row_at rows place = lookup (is_at (place_cmp place)) rows
+abbrev pub row_at : Rows → RowKey → Option Arrival
+row_at rows place = lookup (is_at (row_key_cmp place)) rows
 
 -- whether a place is one of a table's key
-abbrev pub is_at_key : ℕ → List ℕ → Place → Bool
+abbrev pub is_at_key : ℕ → List ℕ → RowKey → Bool
 is_at_key table key place = (place.table == table) && same_key key place.key
 
 -- the rows of a key, by peer

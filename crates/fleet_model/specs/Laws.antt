@@ -11,7 +11,7 @@ use Rattle.std.specs.Ordering.{nat_cmp}
 use Rattle.std.specs.declared.cmp.Ordering.TheVariants.{Less}
 use Rattle.agg_types.specs.Col.{all_cols}
 use Rattle.agg_types.specs.Op.{op_holds}
-use Rattle.agg_types.specs.Place.{place_cmp}
+use Rattle.agg_types.specs.RowKey.{row_key_cmp}
 use Rattle.agg_types.specs.declared.column.Col.{Col}
 use Rattle.agg_types.specs.declared.config.Config.{Config}
 use Rattle.agg_types.specs.declared.config.Filter.{Filter}
@@ -20,7 +20,7 @@ use Rattle.agg_types.specs.declared.event.Event.{Event}
 use Rattle.agg_types.specs.declared.event.What.{What}
 use Rattle.agg_types.specs.declared.event.What.TheVariants.{Sit, Open, Put, Clear, AddFilter}
 use Rattle.agg_types.specs.declared.event.What.TheVariants.{Moment, Leave}
-use Rattle.agg_types.specs.declared.place.Place.{Place}
+use Rattle.agg_types.specs.declared.row_key.RowKey.{RowKey}
 use Rattle.fleet_model.specs.Answers.{key_value, left_of, rows_of, set_at, summed}
 use Rattle.fleet_model.specs.Filters.{is_new}
 use Rattle.fleet_model.specs.Machine.{counts_now, session_of}
@@ -37,7 +37,7 @@ use Rattle.fleet_model.specs.declared.summed.Summed.{Summed}
 
 -- rows ascend strictly by place, sessions by peer, and seats by number
 pub record IsOrdered (state : State) : Type 0 where
-  pub rows : IsStrictlySortedBy place_cmp (keys_of state.rows)
+  pub rows : IsStrictlySortedBy row_key_cmp (keys_of state.rows)
   pub sessions : IsStrictlySortedBy nat_cmp (keys_of state.sessions)
   pub seats : IsStrictlySortedBy nat_cmp (keys_of state.seats)
 
@@ -66,7 +66,7 @@ abbrev pub SaysNothing : State → ℕ → What → Type 0
 SaysNothing state seat Sit = ⊥
 SaysNothing state seat (Open peer) = ⊥
 SaysNothing state seat (Put peer table key life cells) =
-    let place : Place = record { table = table; key = key; peer = peer } in
+    let place : RowKey = record { table = table; key = key; peer = peer } in
     (session_of state peer ≢ Some seat) ⊎ (has_room state.config.tables state.rows place ≡ false)
 SaysNothing state seat (Clear table sel) = ⊥
 SaysNothing state seat (AddFilter filter) = is_new state.config.filters filter ≡ false
@@ -78,7 +78,7 @@ abbrev pub opens_at : ℕ → ℕ → Event → Bool
 opens_at seat peer e = (e.seat == seat) && opens peer e.what
 
 -- some row of a key lives at t
-abbrev pub has_live_row : List (Place × Arrival) → ℕ → List ℕ → ℕ → Bool
+abbrev pub has_live_row : List (RowKey × Arrival) → ℕ → List ℕ → ℕ → Bool
 has_live_row rows table key t = list_any (is_of table key t) rows
 
 abbrev pub is_key_among : List ℕ → List (List ℕ) → Bool
@@ -125,7 +125,7 @@ IsWithin most None = ⊥
 IsWithin most (Some left) = left ≤ most
 
 -- none where some row never ends, else the most that a row has left
-abbrev pub IsLongestLeft : ℕ → List (Place × Arrival) → Option ℕ → Type 0
+abbrev pub IsLongestLeft : ℕ → List (RowKey × Arrival) → Option ℕ → Type 0
 IsLongestLeft t rows None = list_any (λ row. is_none (left_of t row.1)) rows ≡ true
 IsLongestLeft t rows (Some left) =
     All (λ row. IsWithin left (left_of t row.1)) rows
@@ -144,18 +144,18 @@ IsSummedRow state table key (Some sums) =
     (has_live_row state.rows table key state.moment ≡ true) × IsSumOf state table key sums
 
 -- what a row at a place adds to a sum, if there is one
-abbrev pub worth_at : (Place × Arrival → ℕ) → List (Place × Arrival) → Place → ℕ
+abbrev pub worth_at : (RowKey × Arrival → ℕ) → List (RowKey × Arrival) → RowKey → ℕ
 worth_at f rows place =
-    option_map_or (λ row. f (place, row)) (lookup (is_at (place_cmp place)) rows) 0
+    option_map_or (λ row. f (place, row)) (lookup (is_at (row_key_cmp place)) rows) 0
 
 -- the row that an event puts: that of a Put that counts, of its peer's session in force, with room
-abbrev pub put_by : State → Event → Option (Place × Arrival)
+abbrev pub put_by : State → Event → Option (RowKey × Arrival)
 put_by state e =
     if_counted (counts_now state e)
     (row_of state.config (session_of state (putter e.what)) state.rows state.moment e e.what)
 
 -- an event that neither puts a row at a place nor clears it
-abbrev pub passes_by : State → Event → Place → Bool
+abbrev pub passes_by : State → Event → RowKey → Bool
 passes_by state e place =
     not (puts_at (put_by state e) place)
     && not (counts_now state e && clears_at state.config state.rows state.moment e.what place)
@@ -163,7 +163,7 @@ passes_by state e place =
 -- a row is in force: some event put it, in what the events before left; it lives; and each later
 -- event, in what the events before that one left, passed by its place
 pub record IsInForce (config : Config) (opening : ℕ) (events : List Event)
-    (row : Place × Arrival) : Type 0 where
+    (row : RowKey × Arrival) : Type 0 where
   pub before : List Event
   pub put : Event
   pub later : List Event

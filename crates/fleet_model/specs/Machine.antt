@@ -5,14 +5,14 @@ use Rattle.std.specs.BTreeMap.{insert_entry, is_at}
 use Rattle.std.specs.Map.{lookup, remove_entry}
 use Rattle.std.specs.Ordering.{nat_cmp}
 use Rattle.agg_types.specs.Fits.{fits}
-use Rattle.agg_types.specs.Place.{place_cmp}
+use Rattle.agg_types.specs.RowKey.{row_key_cmp}
 use Rattle.agg_types.specs.declared.config.Config.{Config}
 use Rattle.agg_types.specs.declared.event.Event.{Event}
 use Rattle.agg_types.specs.declared.event.What.{What}
 use Rattle.agg_types.specs.declared.event.What.TheVariants.{Sit, Open, Put, Clear, AddFilter}
 use Rattle.agg_types.specs.declared.event.What.TheVariants.{Moment, Leave}
 use Rattle.agg_types.specs.declared.limits.TheConstants.{MOST_SEATS}
-use Rattle.agg_types.specs.declared.place.Place.{Place}
+use Rattle.agg_types.specs.declared.row_key.RowKey.{RowKey}
 use Rattle.fleet_model.specs.declared.arrival.Arrival.{Arrival}
 use Rattle.fleet_model.specs.Filters.{filters_after}
 use Rattle.fleet_model.specs.Moments.{is_live}
@@ -41,12 +41,12 @@ counts_now state e =
 
 -- the rows with another one at a place: in place of an older one, and gone at once if its life is
 -- over
-unfoldable pub with_row : ℕ → List (Place × Arrival) → Place → Arrival → List (Place × Arrival)
+unfoldable pub with_row : ℕ → List (RowKey × Arrival) → RowKey → Arrival → List (RowKey × Arrival)
 with_row t rows place row = if is_live t row
-    then insert_entry place_cmp rows place row else remove_entry (is_at (place_cmp place)) rows
+    then insert_entry row_key_cmp rows place row else remove_entry (is_at (row_key_cmp place)) rows
 
 -- the rows after a Put: it must be of the session in force, and have room
-unfoldable pub with_put : State → ℕ → Place → Arrival → List (Place × Arrival)
+unfoldable pub with_put : State → ℕ → RowKey → Arrival → List (RowKey × Arrival)
 with_put state seat place row =
     if is_number (session_of state place.peer) seat
     && has_room state.config.tables state.rows place

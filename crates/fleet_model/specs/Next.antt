@@ -5,7 +5,7 @@ use Rattle.std.specs.Option.{unwrap_or}
 use Rattle.agg_types.specs.declared.column.Col.{Col}
 use Rattle.agg_types.specs.declared.config.Filter.{Filter}
 use Rattle.fleet_model.specs.Answers.{set_at}
-use Rattle.agg_types.specs.declared.place.Place.{Place}
+use Rattle.agg_types.specs.declared.row_key.RowKey.{RowKey}
 use Rattle.fleet_model.specs.State.{State}
 use Rattle.fleet_model.specs.Values.{cols_of}
 use Rattle.fleet_model.specs.declared.arrival.Arrival.{Arrival}
@@ -42,7 +42,7 @@ abbrev pub flat_from : ℕ → Arrival → ℕ
 flat_from longest row = row.arrived + max (2 * longest + 1) (unwrap_or row.life 0)
 
 -- the moment from which it changes nothing of any row
-abbrev pub flat_moment : ℕ → List (Place × Arrival) → ℕ
+abbrev pub flat_moment : ℕ → List (RowKey × Arrival) → ℕ
 flat_moment longest [] = 0
 flat_moment longest (row ∷ rows) = max (flat_from longest row.1) (flat_moment longest rows)
 

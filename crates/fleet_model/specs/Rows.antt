@@ -6,7 +6,7 @@ use Rattle.std.specs.Bool.{then_some}
 use Rattle.std.specs.BTreeMap.{insert_entry}
 use Rattle.std.specs.List.{list_all, list_any, cons_option}
 use Rattle.std.specs.Option.{option_map_or}
-use Rattle.agg_types.specs.Place.{place_cmp}
+use Rattle.agg_types.specs.RowKey.{row_key_cmp}
 use Rattle.agg_types.specs.declared.config.Config.{Config}
 use Rattle.agg_types.specs.declared.config.Shape.{Shape}
 use Rattle.agg_types.specs.declared.event.Cell.{Cell}
@@ -14,7 +14,7 @@ use Rattle.agg_types.specs.declared.event.Event.{Event}
 use Rattle.agg_types.specs.declared.event.What.{What}
 use Rattle.agg_types.specs.declared.event.What.TheVariants.{Sit, Open, Put, Clear, AddFilter}
 use Rattle.agg_types.specs.declared.event.What.TheVariants.{Moment, Leave}
-use Rattle.agg_types.specs.declared.place.Place.{Place}
+use Rattle.agg_types.specs.declared.row_key.RowKey.{RowKey}
 use Rattle.fleet_model.specs.declared.arrival.Arrival.{Arrival}
 use Rattle.fleet_model.specs.Kept.{kept_cells}
 use Rattle.fleet_model.specs.Moments.{is_live, now_of}
@@ -24,7 +24,7 @@ use Rattle.fleet_model.specs.Values.{same_place, cols_of, selects}
 
 -- rows, each at its place
 abbrev pub Rows : Type 0
-Rows = List (Place × Arrival)
+Rows = List (RowKey × Arrival)
 
 -- an event, with what the list before it says of it
 pub record Judged : Type 0 where
@@ -32,9 +32,9 @@ pub record Judged : Type 0 where
   -- whether it counts
   pub counted : Bool
   -- the row that it leaves, if it is a Put that is taken
-  pub row : Option (Place × Arrival)
+  pub row : Option (RowKey × Arrival)
   -- whether it takes away the row at a place, as a Clear may
-  pub clears : Place → Bool
+  pub clears : RowKey → Bool
 
 -- the rows that a peer may hold of a table
 abbrev pub size_of : List Shape → ℕ → ℕ
@@ -46,7 +46,7 @@ held_rows rows table peer = count_by (λ row. (row.0.table == table) && (row.0.p
 
 -- a peer may put a row where it holds one, or while it holds fewer of the table than the table's
 -- size
-unfoldable pub has_room : List Shape → Rows → Place → Bool
+unfoldable pub has_room : List Shape → Rows → RowKey → Bool
 has_room tables rows place =
     list_any (λ row. same_place place row.0) rows
     || nat_lt (held_rows rows place.table place.peer) (size_of tables place.table)
@@ -57,11 +57,11 @@ arrival_of tables table t life cells =
     record { arrived = t; life = life; cells = kept_cells (cols_of tables table) cells }
 
 -- the row of a Put of the peer's session in force, if it has room
-unfoldable pub row_of : Config → Option ℕ → Rows → ℕ → Event → What → Option (Place × Arrival)
+unfoldable pub row_of : Config → Option ℕ → Rows → ℕ → Event → What → Option (RowKey × Arrival)
 row_of config seated rows t e Sit = None
 row_of config seated rows t e (Open peer) = None
 row_of config seated rows t e (Put peer table key life cells) =
-    let place : Place = record { table = table; key = key; peer = peer } in
+    let place : RowKey = record { table = table; key = key; peer = peer } in
     then_some (is_number seated e.seat && has_room config.tables rows place)
     (place, arrival_of config.tables table t life cells)
 row_of config seated rows t e (Clear table sel) = None
@@ -80,7 +80,7 @@ putter (Moment moment) = 0
 putter Leave = 0
 
 -- whether a Clear takes the row at a place
-unfoldable pub clears_at : Config → Rows → ℕ → What → Place → Bool
+unfoldable pub clears_at : Config → Rows → ℕ → What → RowKey → Bool
 clears_at config rows t Sit place = false
 clears_at config rows t (Open peer) place = false
 clears_at config rows t (Put peer table key life cells) place = false
@@ -90,7 +90,7 @@ clears_at config rows t (AddFilter filter) place = false
 clears_at config rows t (Moment moment) place = false
 clears_at config rows t Leave place = false
 
-abbrev pub if_counted : Bool → Option (Place × Arrival) → Option (Place × Arrival)
+abbrev pub if_counted : Bool → Option (RowKey × Arrival) → Option (RowKey × Arrival)
 if_counted true row = row
 if_counted false row = None
 
@@ -105,33 +105,33 @@ judge_at config counted rows t e =
       clears = λ place. does && clears_at config rows t e.what place;
     }
 
-abbrev pub puts_at : Option (Place × Arrival) → Place → Bool
+abbrev pub puts_at : Option (RowKey × Arrival) → RowKey → Bool
 puts_at None place = false
 puts_at (Some row) place = same_place place row.0
 
 -- an event that neither puts a row there nor clears it
-abbrev pub leaves_alone : Place → Judged → Bool
+abbrev pub leaves_alone : RowKey → Judged → Bool
 leaves_alone place judged = not (puts_at judged.row place) && not (judged.clears place)
 
 -- a row that lives at t, and that each later event leaves alone
-unfoldable pub if_in_force : ℕ → List Judged → Option (Place × Arrival) → Option (Place × Arrival)
+unfoldable pub if_in_force : ℕ → List Judged → Option (RowKey × Arrival) → Option (RowKey × Arrival)
 if_in_force t later None = None
 if_in_force t later (Some row) =
     then_some (is_live t row.1 && list_all (leaves_alone row.0) later) row
 
 -- the rows in force at t, in the order of their events
-unfoldable pub in_force : ℕ → List Judged → List (Place × Arrival)
+unfoldable pub in_force : ℕ → List Judged → List (RowKey × Arrival)
 in_force t [] = []
 in_force t (judged ∷ later) = cons_option (if_in_force t later judged.row) (in_force t later)
 
 -- the same rows in the order of their places
-unfoldable pub by_place : List (Place × Arrival) → List (Place × Arrival)
-by_place rows = fold (λ entries row. insert_entry place_cmp entries row.0 row.1) [] rows
+unfoldable pub by_place : List (RowKey × Arrival) → List (RowKey × Arrival)
+by_place rows = fold (λ entries row. insert_entry row_key_cmp entries row.0 row.1) [] rows
 
 -- the events that count
 unfoldable pub counted_of : List Judged → List Event
 counted_of history = map (λ judged. judged.event) (filter (λ judged. judged.counted) history)
 
 -- the rows in force after a history
-unfoldable pub rows_in : ℕ → List Judged → List (Place × Arrival)
+unfoldable pub rows_in : ℕ → List Judged → List (RowKey × Arrival)
 rows_in opening history = by_place (in_force (now_of opening (counted_of history)) history)

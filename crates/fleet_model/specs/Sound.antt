@@ -7,7 +7,7 @@ use Rattle.agg_types.specs.declared.config.Config.{Config}
 use Rattle.agg_types.specs.declared.event.What.{What}
 use Rattle.agg_types.specs.declared.event.What.TheVariants.{Put}
 use Rattle.agg_types.specs.declared.limits.TheConstants.{LAST_MOMENT}
-use Rattle.agg_types.specs.declared.place.Place.{Place}
+use Rattle.agg_types.specs.declared.row_key.RowKey.{RowKey}
 use Rattle.fleet_model.specs.Kept.{kept_cells}
 use Rattle.fleet_model.specs.Laws.{AreLive, IsOrdered, IsWithinSizes}
 use Rattle.fleet_model.specs.State.{State}
@@ -15,13 +15,13 @@ use Rattle.fleet_model.specs.Values.{cols_of}
 use Rattle.fleet_model.specs.declared.arrival.Arrival.{Arrival}
 
 -- what a peer would say to put a row
-abbrev pub put_of : Place × Arrival → What
+abbrev pub put_of : RowKey × Arrival → What
 put_of row = Put row.0.peer row.0.table row.0.key row.1.life row.1.cells
 
 -- a row fits the configuration: its peer and table are there, its key is of the table's kind, its
 -- life has 32 bits, and each column has its cell. The cells are as they are kept. It arrived at a
 -- moment up to this.
-pub record IsSoundRow (config : Config) (moment : ℕ) (row : Place × Arrival) : Type 0 where
+pub record IsSoundRow (config : Config) (moment : ℕ) (row : RowKey × Arrival) : Type 0 where
   pub fits : fits config (put_of row) ≡ true
   pub kept : kept_cells (cols_of config.tables row.0.table) row.1.cells ≡ row.1.cells
   pub arrived : row.1.arrived ≤ moment

@@ -2,7 +2,7 @@
 use Rattle.std.specs.Prelude.{◌≡◌, ℕ, List}
 use Rattle.agg_types.specs.declared.config.Config.{Config}
 use Rattle.agg_types.specs.declared.event.Event.{Event}
-use Rattle.agg_types.specs.declared.place.Place.{Place}
+use Rattle.agg_types.specs.declared.row_key.RowKey.{RowKey}
 use Rattle.fleet_model.specs.declared.arrival.Arrival.{Arrival}
 use Rattle.fleet_model.specs.Filters.{filters_in}
 use Rattle.fleet_model.specs.History.{judged}
@@ -17,7 +17,7 @@ pub record State : Type 0 where
   pub config : Config
   pub moment : ℕ
   -- the rows in force, by place
-  pub rows : List (Place × Arrival)
+  pub rows : List (RowKey × Arrival)
   -- the seat that is the session in force, by peer
   pub sessions : List (ℕ × ℕ)
   -- the number of its next event, by seat that sits

@@ -9,7 +9,7 @@ ghost use Rattle.std.specs.List.{AllByRecursion, IsDistinct, list_any};
 ghost use Rattle.std.specs.List.Sorted.{IsStrictlySortedBy};
 ghost use Rattle.std.specs.Map.{keys_of, lookup, remove_entry};
 ghost use Rattle.agg_types.specs.Check.{config_faults};
-ghost use Rattle.agg_types.specs.Place.{place_cmp};
+ghost use Rattle.agg_types.specs.RowKey.{row_key_cmp};
 ghost use Rattle.agg_types.specs.declared.column.Col.{Col};
 ghost use Rattle.agg_types.specs.declared.config.Config.{Config};
 ghost use Rattle.agg_types.specs.declared.config.Filter.{Filter};
@@ -18,7 +18,7 @@ ghost use Rattle.agg_types.specs.declared.event.Cell.{Cell};
 ghost use Rattle.agg_types.specs.declared.event.Event.{Event};
 ghost use Rattle.agg_types.specs.declared.event.What.TheVariants.{Open, Moment, Leave};
 ghost use Rattle.agg_types.specs.declared.limits.TheConstants.{LAST_MOMENT, MOST_FILTERS};
-ghost use Rattle.agg_types.specs.declared.place.Place.{Place};
+ghost use Rattle.agg_types.specs.declared.row_key.RowKey.{RowKey};
 ghost use Rattle.fleet_model.specs.Answers.{set_at, summed};
 ghost use Rattle.fleet_model.specs.Answers as answers;
 ghost use Rattle.fleet_model.specs.Filters.{added_by, first_named};
@@ -120,12 +120,12 @@ pub fn one_row_of_a_place()
 /// room at that event's place in the list; it lives at the last moment; and no later event put
 /// another row at its place or cleared it, each judged at its own place in the list.
 pub fn rows_in_force_are_exact()
-    ensures put { (config : Config) (opening : ℕ) (events : List Event) (row : Place × Arrival)
-        → lookup (is_at (place_cmp row.0)) (state_of config opening events).rows ≡ Some row.1
+    ensures put { (config : Config) (opening : ℕ) (events : List Event) (row : RowKey × Arrival)
+        → lookup (is_at (row_key_cmp row.0)) (state_of config opening events).rows ≡ Some row.1
         → IsInForce config opening events row }
-    ensures found { (config : Config) (opening : ℕ) (events : List Event) (row : Place × Arrival)
+    ensures found { (config : Config) (opening : ℕ) (events : List Event) (row : RowKey × Arrival)
         → IsInForce config opening events row
-        → lookup (is_at (place_cmp row.0)) (state_of config opening events).rows ≡ Some row.1 }
+        → lookup (is_at (row_key_cmp row.0)) (state_of config opening events).rows ≡ Some row.1 }
 {}
 
 /// Each row in force lives at the last moment.
@@ -276,15 +276,15 @@ pub fn next_change_is_one()
 /// A sum over rows in order as rows come and go: with one more, without one, and without those that
 /// fail a test. So running sums of a key's values need look at no other row.
 pub fn sums_follow_rows()
-    ensures put { (f : Place × Arrival → ℕ) (rows : List (Place × Arrival)) (place : Place)
-        (row : Arrival) → IsStrictlySortedBy place_cmp (keys_of rows)
-        → sum_by f (insert_entry place_cmp rows place row) + worth_at f rows place
+    ensures put { (f : RowKey × Arrival → ℕ) (rows : List (RowKey × Arrival)) (place : RowKey)
+        (row : Arrival) → IsStrictlySortedBy row_key_cmp (keys_of rows)
+        → sum_by f (insert_entry row_key_cmp rows place row) + worth_at f rows place
         ≡ sum_by f rows + f (place, row) }
-    ensures taken { (f : Place × Arrival → ℕ) (rows : List (Place × Arrival)) (place : Place)
-        → sum_by f (remove_entry (is_at (place_cmp place)) rows) + worth_at f rows place
+    ensures taken { (f : RowKey × Arrival → ℕ) (rows : List (RowKey × Arrival)) (place : RowKey)
+        → sum_by f (remove_entry (is_at (row_key_cmp place)) rows) + worth_at f rows place
         ≡ sum_by f rows }
-    ensures split { (f : Place × Arrival → ℕ) (p : Place × Arrival → Bool)
-        (rows : List (Place × Arrival))
+    ensures split { (f : RowKey × Arrival → ℕ) (p : RowKey × Arrival → Bool)
+        (rows : List (RowKey × Arrival))
         → sum_by f (filter p rows) + sum_by f (filter (λ row. not (p row)) rows) ≡ sum_by f rows }
 {}
 

@@ -5,7 +5,7 @@ ghost use Rattle.fleet_sums.specs.Totals.{totals_by};
 
 use crate::total::Total;
 use agg_types::NoMemory;
-use peer_rows::Cells;
+use peer_rows::RowCells;
 use std::alloc::Global;
 use std::marker::Model;
 
@@ -59,7 +59,7 @@ impl KeySums {
     }
 
     /// Adds a row.
-    pub(crate) fn add(&mut self, cells: &Cells)
+    pub(crate) fn add(&mut self, cells: &RowCells)
         requires width { length cells.now ≡ length self.old.totals }
         requires few { self.old.rows < 2 ^ 32 }
         ensures { self.new ≡ with_row self.old cells.now }
@@ -69,7 +69,7 @@ impl KeySums {
     }
 
     /// Takes a row away.
-    pub(crate) fn drop_row(&mut self, cells: &Cells)
+    pub(crate) fn drop_row(&mut self, cells: &RowCells)
         requires width { length cells.now ≡ length self.old.totals }
         requires some { 1 ≤ self.old.rows }
         requires enough { (col : ℕ) → counted_at cells.now col ≤ slice_index self.old.totals col }
@@ -82,7 +82,7 @@ impl KeySums {
     }
 
     /// Puts a row in the place of another.
-    pub(crate) fn replace_row(&mut self, old: &Cells, new: &Cells)
+    pub(crate) fn replace_row(&mut self, old: &RowCells, new: &RowCells)
         requires old_width { length old.now ≡ length self.old.totals }
         requires new_width { length new.now ≡ length self.old.totals }
         requires can { CanDrop self.old old.now }
@@ -103,7 +103,7 @@ fn no_totals(alloc: Global, width: usize) -> Result<Vec<Total>, NoMemory>
     Ok(totals)
 }
 
-fn add_counts(totals: &mut [Total], cells: &Cells)
+fn add_counts(totals: &mut [Total], cells: &RowCells)
     requires width { length cells.now ≡ length totals.old }
     requires room { (col : ℕ) → slice_index totals.old col + (2 ^ 64 - 1) < 2 ^ 96 }
     ensures sums { totals.new ≡ totals_by (λ t n. t + n) totals.old cells.now }
@@ -115,7 +115,7 @@ fn add_counts(totals: &mut [Total], cells: &Cells)
     }
 }
 
-fn take_counts(totals: &mut [Total], cells: &Cells)
+fn take_counts(totals: &mut [Total], cells: &RowCells)
     requires width { length cells.now ≡ length totals.old }
     requires enough { (col : ℕ) → counted_at cells.now col ≤ slice_index totals.old col }
     ensures { totals.new ≡ totals_by (λ t n. t - n) totals.old cells.now }
@@ -125,7 +125,7 @@ fn take_counts(totals: &mut [Total], cells: &Cells)
     }
 }
 
-fn replace_counts(totals: &mut [Total], old: &Cells, new: &Cells)
+fn replace_counts(totals: &mut [Total], old: &RowCells, new: &RowCells)
     requires old_width { length old.now ≡ length totals.old }
     requires new_width { length new.now ≡ length totals.old }
     requires enough { (col : ℕ) → counted_at old.now col ≤ slice_index totals.old col }

@@ -8,7 +8,7 @@ ghost use Rattle.std.specs.BTreeMap.{insert_entry, is_at, IsOrdered};
 use crate::Keys;
 use crate::key_sums::KeySums;
 use agg_types::{Key, NoMemory};
-use peer_rows::Cells;
+use peer_rows::RowCells;
 use std::alloc::Global;
 use std::collections::BTreeMap;
 use std::marker::Model;
@@ -48,7 +48,7 @@ impl Table {
     }
 
     /// Adds a row of a key.
-    pub(crate) fn add(&mut self, key: &Key, cells: &Cells) -> Result<(), NoMemory>
+    pub(crate) fn add(&mut self, key: &Key, cells: &RowCells) -> Result<(), NoMemory>
         requires width { length cells.now ≡ self.old.width }
         requires few { (sums_of_key self.old key.now).rows < 2 ^ 32 }
         ensures ok { OnOk result (self.new
@@ -71,7 +71,7 @@ impl Table {
     }
 
     /// Takes a row of a key away, and the key with its last row.
-    pub(crate) fn drop_row(&mut self, key: &Key, cells: &Cells)
+    pub(crate) fn drop_row(&mut self, key: &Key, cells: &RowCells)
         requires width { length cells.now ≡ self.old.width }
         requires there { IsSome (lookup (is_at (slice_cmp nat_cmp key.now)) self.old.entries) }
         requires can { CanDrop (sums_of_key self.old key.now) cells.now }
@@ -91,7 +91,7 @@ impl Table {
     }
 
     /// Puts a row of a key in the place of another.
-    pub(crate) fn replace_row(&mut self, key: &Key, old: &Cells, new: &Cells)
+    pub(crate) fn replace_row(&mut self, key: &Key, old: &RowCells, new: &RowCells)
         requires old_width { length old.now ≡ self.old.width }
         requires new_width { length new.now ≡ self.old.width }
         requires there { IsSome (lookup (is_at (slice_cmp nat_cmp key.now)) self.old.entries) }

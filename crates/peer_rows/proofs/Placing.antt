@@ -19,8 +19,8 @@ use Rattle.std.proofs.lemmas.Map.Lookups.{exact_unsigned}
 use Rattle.std.proofs.lemmas.List.{length-map}
 use Rattle.std.proofs.lemmas.List.Sums.{length-filter}
 use Rattle.std.proofs.lemmas.List.Kept.{IsStrictlySortedBy-filter}
-use Rattle.agg_types.specs.Place.{place_cmp}
-use Rattle.agg_types.specs.declared.place.Place.{Place}
+use Rattle.agg_types.specs.RowKey.{row_key_cmp}
+use Rattle.agg_types.specs.declared.row_key.RowKey.{RowKey}
 use Rattle.peer_rows.specs.declared.row.Row.{Row}
 use Rattle.peer_rows.specs.Spread.{spread}
 use Rattle.peer_rows.specs.Table.{Spot, spot_cmp, same_key, rows_of_peer, TableRows}
@@ -70,14 +70,14 @@ pub placed-empty : (n peers i : ℕ)
 placed-empty zero peers i = refl
 placed-empty (suc n) peers i = placed-empty n peers (i + 1)
 
-pub place_cmp_total : IsTotalOrder place_cmp
-place_cmp_total = then_total (on_total (λ (p : Place). p.table) nat_cmp_total)
-    (then_total (on_total (λ (p : Place). p.key) nat_list_cmp_total)
-    (on_total (λ (p : Place). p.peer) nat_cmp_total))
+pub row_key_cmp_total : IsTotalOrder row_key_cmp
+row_key_cmp_total = then_total (on_total (λ (p : RowKey). p.table) nat_cmp_total)
+    (then_total (on_total (λ (p : RowKey). p.key) nat_list_cmp_total)
+    (on_total (λ (p : RowKey). p.peer) nat_cmp_total))
 
 -- the tests of places, by their tables and spots
 at_splits : (table : ℕ) (s : Spot) (k : ℕ) (p : Spot)
-    → is_at (place_cmp (place table s)) (place k p)
+    → is_at (row_key_cmp (place table s)) (place k p)
     ≡ (is_at (nat_cmp table) k && is_at (spot_cmp s) p)
 at_splits table s k p = by (nat_cmp table k)
   where
@@ -106,7 +106,7 @@ all_pass : (rows : List (Spot × Row)) → map (λ r. r) (filter (λ r. true) ro
 all_pass [] = refl
 all_pass (r ∷ rows) = ap (λ rest. r ∷ rest) (all_pass rows)
 
-keys_of-filter : (test : Place → Bool) (es : List (Place × Row))
+keys_of-filter : (test : RowKey → Bool) (es : List (RowKey × Row))
     → keys_of (filter (λ e. test e.0) es) ≡ filter test (keys_of es)
 keys_of-filter test [] = refl
 keys_of-filter test (e ∷ es) = by (keys_of-filter test es) (test e.0)
@@ -126,26 +126,26 @@ module _ (ts : List TableRows) (i : ℕ) (table : TableRows) (found : slice_get 
   once = PassesOnce-sorted nat_cmp_total i (is_at (nat_cmp i)) (λ j. refl) (numbered 0 ts)
       (sorted-numbered ts 0)
 
-  pub lookup-placed : (key : List ℕ) (peer : ℕ) → lookup (is_at (place_cmp (place_of i key peer)))
+  pub lookup-placed : (key : List ℕ) (peer : ℕ) → lookup (is_at (row_key_cmp (place_of i key peer)))
       (placed ts) ≡ lookup (is_at (spot_cmp (key, peer))) table.entries
   lookup-placed key peer = lookup-spread place (is_at (nat_cmp i)) (is_at (spot_cmp (key, peer)))
-      (is_at (place_cmp (place_of i key peer))) (at_splits i (key, peer)) (numbered 0 ts) once
+      (is_at (row_key_cmp (place_of i key peer))) (at_splits i (key, peer)) (numbered 0 ts) once
       ∙ ap (λ o. option_and_then (λ rs. lookup (is_at (spot_cmp (key, peer))) rs) o) here
 
   pub placed-put : (key : List ℕ) (peer : ℕ) (row : Row) (new : TableRows)
       → new.entries ≡ insert_entry spot_cmp table.entries (key, peer) row
-      → placed (set ts i new) ≡ insert_entry place_cmp (placed ts) (place_of i key peer) row
+      → placed (set ts i new) ≡ insert_entry row_key_cmp (placed ts) (place_of i key peer) row
   placed-put key peer row new is =
       ap (λ es. spread place es) (numbered-set ts i i 0 new (omega arith))
-      ∙ rw is (insert_entry-spread place nat_cmp spot_cmp place_cmp (λ k j p q. refl) nat_cmp_total
+      ∙ rw is (insert_entry-spread place nat_cmp spot_cmp row_key_cmp (λ k j p q. refl) nat_cmp_total
       exact_unsigned (numbered 0 ts) i (key, peer) row table.entries (sorted-numbered ts 0) here)
 
   pub placed-take : (key : List ℕ) (peer : ℕ) (new : TableRows)
       → new.entries ≡ remove_entry (is_at (spot_cmp (key, peer))) table.entries
-      → placed (set ts i new) ≡ remove_entry (is_at (place_cmp (place_of i key peer))) (placed ts)
+      → placed (set ts i new) ≡ remove_entry (is_at (row_key_cmp (place_of i key peer))) (placed ts)
   placed-take key peer new is = ap (λ es. spread place es) (numbered-set ts i i 0 new (omega arith))
       ∙ rw is (remove_entry-spread place (is_at (nat_cmp i)) (is_at (spot_cmp (key, peer)))
-      (is_at (place_cmp (place_of i key peer))) (at_splits i (key, peer)) (numbered 0 ts)
+      (is_at (row_key_cmp (place_of i key peer))) (at_splits i (key, peer)) (numbered 0 ts)
       table.entries once here)
 
   pub placed-clear : (key : List ℕ) (new : TableRows)
@@ -158,12 +158,12 @@ module _ (ts : List TableRows) (i : ℕ) (table : TableRows) (found : slice_get 
   pub by_key-placed : map (λ e. ((e.0.key, e.0.peer), e.1))
       (filter (λ e. in_table i e.0) (placed ts)) ≡ table.entries
   by_key-placed = map-filter-spread place (is_at (nat_cmp i)) (λ s. true) (in_table i)
-      (table_splits i) (λ (e : Place × Row). ((e.0.key, e.0.peer), e.1)) (λ (e : Spot × Row). e)
+      (table_splits i) (λ (e : RowKey × Row). ((e.0.key, e.0.peer), e.1)) (λ (e : Spot × Row). e)
       (λ k p x passes. refl) (numbered 0 ts) table.entries once here ∙ all_pass table.entries
 
-  map_twice : (es : List (Place × Row))
+  map_twice : (es : List (RowKey × Row))
       → map (λ (s : Spot × Row). s.0.0)
-      (map {B = Spot × Row} (λ (e : Place × Row). ((e.0.key, e.0.peer), e.1)) es)
+      (map {B = Spot × Row} (λ (e : RowKey × Row). ((e.0.key, e.0.peer), e.1)) es)
       ≡ map (λ e. e.0.key) es
   map_twice [] = refl
   map_twice (e ∷ es) = ap (λ ks. e.0.key ∷ ks) (map_twice es)
@@ -177,15 +177,15 @@ module _ (ts : List TableRows) (i : ℕ) (table : TableRows) (found : slice_get 
       → map {B = ℕ × Row} (λ e. (e.0.peer, e.1)) (filter (λ e. of_table_key i key e.0) (placed ts))
       ≡ map {B = ℕ × Row} (λ e. (e.0.1, e.1)) (filter (λ e. same_key key e.0.0) table.entries)
   of_key-placed key = map-filter-spread place (is_at (nat_cmp i)) (λ s. same_key key s.0)
-      (of_table_key i key) (key_splits i key) (λ (e : Place × Row). (e.0.peer, e.1))
+      (of_table_key i key) (key_splits i key) (λ (e : RowKey × Row). (e.0.peer, e.1))
       (λ (e : Spot × Row). (e.0.1, e.1)) (λ k p x passes. refl) (numbered 0 ts)
       table.entries once here
 
   pub count-key-placed : (key : List ℕ) → count_by (λ e. of_table_key i key e.0) (placed ts)
       ≡ length (filter (λ e. same_key key e.0.0) table.entries)
-  count-key-placed key = sym (length-filter (λ (e : Place × Row). of_table_key i key e.0)
+  count-key-placed key = sym (length-filter (λ (e : RowKey × Row). of_table_key i key e.0)
       (placed ts))
-      ∙ sym (length-map {B = ℕ × Row} (filter (λ (e : Place × Row). of_table_key i key e.0)
+      ∙ sym (length-map {B = ℕ × Row} (filter (λ (e : RowKey × Row). of_table_key i key e.0)
       (placed ts)) (λ e. (e.0.peer, e.1)))
       ∙ ap length (of_key-placed key)
       ∙ length-map {B = ℕ × Row} (filter (λ (e : Spot × Row). same_key key e.0.0) table.entries)
@@ -193,12 +193,12 @@ module _ (ts : List TableRows) (i : ℕ) (table : TableRows) (found : slice_get 
 
   pub count-peer-placed : (peer : ℕ) → count_by (λ e. of_table_peer i peer e.0) (placed ts)
       ≡ rows_of_peer peer table.entries
-  count-peer-placed peer = sym (length-filter (λ (e : Place × Row). of_table_peer i peer e.0)
+  count-peer-placed peer = sym (length-filter (λ (e : RowKey × Row). of_table_peer i peer e.0)
       (placed ts))
-      ∙ sym (length-map {B = ℕ × Row} (filter (λ (e : Place × Row). of_table_peer i peer e.0)
+      ∙ sym (length-map {B = ℕ × Row} (filter (λ (e : RowKey × Row). of_table_peer i peer e.0)
       (placed ts)) (λ e. (e.0.peer, e.1)))
       ∙ ap length (map-filter-spread place (is_at (nat_cmp i)) (λ s. peer == s.1)
-      (of_table_peer i peer) (peer_splits i peer) (λ (e : Place × Row). (e.0.peer, e.1))
+      (of_table_peer i peer) (peer_splits i peer) (λ (e : RowKey × Row). (e.0.peer, e.1))
       (λ (e : Spot × Row). (e.0.1, e.1)) (λ k p x passes. refl) (numbered 0 ts)
       table.entries once here)
       ∙ length-map {B = ℕ × Row} (filter (λ (e : Spot × Row). peer == e.0.1) table.entries)
@@ -222,10 +222,10 @@ length-set (x ∷ ts) zero new = refl
 length-set (x ∷ ts) (suc i) new = omega (arith, length-set ts i new)
 
 -- all rows by the numbers of peers and tables and their entries
-abbrev pub row_map : ℕ → ℕ → List (Place × Row) → RowMap
+abbrev pub row_map : ℕ → ℕ → List (RowKey × Row) → RowMap
 row_map peers tables entries = record { peers = peers; tables = tables; entries = entries }
 
-pub same_map : (peers n m : ℕ) (es fs : List (Place × Row)) → n ≡ m → es ≡ fs
+pub same_map : (peers n m : ℕ) (es fs : List (RowKey × Row)) → n ≡ m → es ≡ fs
     → row_map peers n es ≡ row_map peers m fs
 same_map peers n m es fs e f = rw (e, f) refl
 
@@ -274,7 +274,7 @@ module _ (peers : ℕ) (ts : List TableRows) (i : ℕ) (new table : TableRows)
     agree = agreed;
     ordered =
         rw (placed-put ts i table found key peer row new is)
-        (sorted-insert_entry place_cmp place_cmp_total (placed ts) (place_of i key peer) row
+        (sorted-insert_entry row_key_cmp row_key_cmp_total (placed ts) (place_of i key peer) row
         are.ordered);
   }
 
@@ -285,7 +285,7 @@ module _ (peers : ℕ) (ts : List TableRows) (i : ℕ) (new table : TableRows)
     agree = agreed;
     ordered =
         rw (placed-take ts i table found key peer new is)
-        (sorted-remove_entry place_cmp (is_at (place_cmp (place_of i key peer))) (placed ts)
+        (sorted-remove_entry row_key_cmp (is_at (row_key_cmp (place_of i key peer))) (placed ts)
         are.ordered);
   }
 
@@ -298,7 +298,7 @@ module _ (peers : ℕ) (ts : List TableRows) (i : ℕ) (new table : TableRows)
           placed-clear ts i table found key new is,
           keys_of-filter (λ p. not (of_table_key i key p))
               (placed ts),
-        ) (IsStrictlySortedBy-filter place_cmp (λ p. not (of_table_key i key p))
+        ) (IsStrictlySortedBy-filter row_key_cmp (λ p. not (of_table_key i key p))
         (keys_of (placed ts)) are.ordered);
   }
 
@@ -332,7 +332,7 @@ module _ {A : Type 0} (ts : List TableRows) (i : ℕ) (new table : TableRows) (f
       → OnOk r (new ≡ record table {
         entries = insert_entry spot_cmp table.entries (key, peer) row;
       }) → OnOk r (row_map peers (length (set ts i new)) (placed (set ts i new))
-      ≡ row_map peers (length ts) (insert_entry place_cmp (placed ts) (place_of i key peer) row))
+      ≡ row_map peers (length ts) (insert_entry row_key_cmp (placed ts) (place_of i key peer) row))
   map_ok peers (Ok old) is = same_map peers _ _ _ _ (length-set ts i new)
       (placed-put ts i table found key peer row new (ap (λ (t : TableRows). t.entries) is))
   map_ok peers (Err refused) is = is
@@ -356,14 +356,14 @@ module _ (ts : List TableRows) (i : ℕ) (new table : TableRows) (found : slice_
   map_put : (peers : ℕ) → new ≡ record table {
     entries = insert_entry spot_cmp table.entries (key, peer) row;
   } → row_map peers (length (set ts i new)) (placed (set ts i new))
-      ≡ row_map peers (length ts) (insert_entry place_cmp (placed ts) (place_of i key peer) row)
+      ≡ row_map peers (length ts) (insert_entry row_key_cmp (placed ts) (place_of i key peer) row)
   map_put peers is = same_map peers _ _ _ _ (length-set ts i new)
       (placed-put ts i table found key peer row new (ap (λ (t : TableRows). t.entries) is))
 
   pub map_found : (peers : ℕ) (b : Bool) → new ≡ record table {
     entries = cond b (insert_entry spot_cmp table.entries (key, peer) row) table.entries;
   } → row_map peers (length (set ts i new)) (placed (set ts i new)) ≡ cond b
-      (row_map peers (length ts) (insert_entry place_cmp (placed ts) (place_of i key peer) row))
+      (row_map peers (length ts) (insert_entry row_key_cmp (placed ts) (place_of i key peer) row))
       (row_map peers (length ts) (placed ts))
   map_found peers true is = map_put peers is
   map_found peers false is = map_same peers is
@@ -384,7 +384,7 @@ module _ (ts : List TableRows) (i : ℕ) (new table : TableRows) (found : slice_
       }) (λ _. (new ≡ table) × (after ≡ row)))
       → IfOk r (λ held. MatchOption held (row_map peers (length (set ts i new))
       (placed (set ts i new))
-      ≡ row_map peers (length ts) (insert_entry place_cmp (placed ts) (place_of i key peer) row))
+      ≡ row_map peers (length ts) (insert_entry row_key_cmp (placed ts) (place_of i key peer) row))
       (λ _. (row_map peers (length (set ts i new)) (placed (set ts i new))
       ≡ row_map peers (length ts) (placed ts)) × (after ≡ row)))
   first_map after peers (Ok None) is = map_put peers is
@@ -408,6 +408,6 @@ pub map-put_ok : {A : Type 0} (peers : ℕ) (ts : List TableRows) (i : ℕ) (new
     (new ≡ record table { entries = insert_entry spot_cmp table.entries (key, peer) row }))
     (err : OnErr result (new ≡ table))
     → OnOk result (row_map peers (length (set ts i new)) (placed (set ts i new))
-    ≡ row_map peers (length ts) (insert_entry place_cmp (placed ts) (place_of i key peer) row))
+    ≡ row_map peers (length ts) (insert_entry row_key_cmp (placed ts) (place_of i key peer) row))
 map-put_ok peers ts i new table found key peer row result ok err =
     map_ok ts i new table found key peer row peers result ok

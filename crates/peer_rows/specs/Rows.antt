@@ -4,8 +4,8 @@ use Rattle.std.specs.Map.{keys_of, lookup, remove_entry}
 use Rattle.std.specs.BTreeMap.{insert_entry, is_at}
 use Rattle.std.specs.List.{AllByRecursion, dedup}
 use Rattle.std.specs.List.Sorted.{IsStrictlySortedBy}
-use Rattle.agg_types.specs.Place.{place_cmp}
-use Rattle.agg_types.specs.declared.place.Place.{Place}
+use Rattle.agg_types.specs.RowKey.{row_key_cmp}
+use Rattle.agg_types.specs.declared.row_key.RowKey.{RowKey}
 use Rattle.peer_rows.specs.Spread.{spread}
 use Rattle.peer_rows.specs.Table.{Spot, TableRows, same_key}
 use Rattle.peer_rows.specs.declared.row.Row.{Row}
@@ -14,38 +14,38 @@ use Rattle.peer_rows.specs.declared.row.Row.{Row}
 pub record RowMap : Type 0 where
   pub peers : ℕ
   pub tables : ℕ
-  pub entries : List (Place × Row)
+  pub entries : List (RowKey × Row)
 
 -- the place of a peer's row of a table and key
-abbrev pub place_of : ℕ → List ℕ → ℕ → Place
+abbrev pub place_of : ℕ → List ℕ → ℕ → RowKey
 place_of table key peer = record { table = table; key = key; peer = peer }
 
 -- whether a place is in a table
-abbrev pub in_table : ℕ → Place → Bool
+abbrev pub in_table : ℕ → RowKey → Bool
 in_table table p = table == p.table
 
 -- whether a place is one of a key of a table
-abbrev pub of_table_key : ℕ → List ℕ → Place → Bool
+abbrev pub of_table_key : ℕ → List ℕ → RowKey → Bool
 of_table_key table key p = (table == p.table) && same_key key p.key
 
 -- whether a place is one of a peer in a table
-abbrev pub of_table_peer : ℕ → ℕ → Place → Bool
+abbrev pub of_table_peer : ℕ → ℕ → RowKey → Bool
 of_table_peer table peer p = (table == p.table) && (peer == p.peer)
 
 -- the row of a peer, table and key
 abbrev pub row_at : RowMap → ℕ → ℕ → List ℕ → Option Row
-row_at rows peer table key = lookup (is_at (place_cmp (place_of table key peer))) rows.entries
+row_at rows peer table key = lookup (is_at (row_key_cmp (place_of table key peer))) rows.entries
 
 -- the rows with a row in the place of the one that stood there
 abbrev pub with_row : RowMap → ℕ → ℕ → List ℕ → Row → RowMap
 with_row rows peer table key row =
-    record rows { entries = insert_entry place_cmp rows.entries (place_of table key peer) row }
+    record rows { entries = insert_entry row_key_cmp rows.entries (place_of table key peer) row }
 
 -- the rows without that of a peer, table and key
 abbrev pub without_row : RowMap → ℕ → ℕ → List ℕ → RowMap
 without_row rows peer table key =
     record rows {
-      entries = remove_entry (is_at (place_cmp (place_of table key peer))) rows.entries;
+      entries = remove_entry (is_at (row_key_cmp (place_of table key peer))) rows.entries;
     }
 
 -- the rows without those of a table and key
@@ -69,10 +69,10 @@ used_in rows table =
     length (dedup same_key (map (λ e. e.0.key) (filter (λ e. in_table table e.0) rows.entries)))
 
 -- the rows stand in order, each place once
-abbrev pub AreInOrder : List (Place × Row) → Type 0
-AreInOrder entries = IsStrictlySortedBy place_cmp (keys_of entries)
+abbrev pub AreInOrder : List (RowKey × Row) → Type 0
+AreInOrder entries = IsStrictlySortedBy row_key_cmp (keys_of entries)
 
-abbrev pub place : ℕ → Spot → Place
+abbrev pub place : ℕ → Spot → RowKey
 place table s = place_of table s.0 s.1
 
 -- tables with their positions, from n on
@@ -81,7 +81,7 @@ numbered n [] = []
 numbered n (t ∷ ts) = (n, t.entries) ∷ numbered (n + 1) ts
 
 -- the rows of all tables
-abbrev pub placed : List TableRows → List (Place × Row)
+abbrev pub placed : List TableRows → List (RowKey × Row)
 placed tables = spread place (numbered 0 tables)
 
 -- each table counts the same peers, and the rows stand in order

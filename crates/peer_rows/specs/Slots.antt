@@ -6,27 +6,27 @@ use Rattle.std.specs.BTreeMap.{is_at}
 use Rattle.std.specs.List.{AllByRecursion}
 use Rattle.std.specs.List.Sorted.{IsStrictlySortedBy}
 use Rattle.peer_rows.specs.declared.row.Row.{Row}
-use Rattle.peer_rows.specs.declared.slots.Place.{Place}
-use Rattle.peer_rows.specs.declared.slots.Place.TheVariants.{Taken, Free}
+use Rattle.peer_rows.specs.declared.slots.SlotState.{SlotState}
+use Rattle.peer_rows.specs.declared.slots.SlotState.TheVariants.{Taken, Free}
 
 -- the key whose rows lie in a place
-abbrev pub key_in : Option Place → Option (List ℕ)
+abbrev pub key_in : Option SlotState → Option (List ℕ)
 key_in None = None
 key_in (Some (Taken slot)) = Some slot.key
 key_in (Some (Free next)) = None
 
 -- the rows that lie in a place
-abbrev pub rows_in_place : Option Place → List (ℕ × Row)
+abbrev pub rows_in_place : Option SlotState → List (ℕ × Row)
 rows_in_place None = []
 rows_in_place (Some (Taken slot)) = slot.rows
 rows_in_place (Some (Free next)) = []
 
 -- the key whose rows lie in the place of a number
-abbrev pub key_at : List Place → ℕ → Option (List ℕ)
+abbrev pub key_at : List SlotState → ℕ → Option (List ℕ)
 key_at places at = key_in (slice_get places at)
 
 -- the rows that lie in the place of a number
-abbrev pub rows_at : List Place → ℕ → List (ℕ × Row)
+abbrev pub rows_at : List SlotState → ℕ → List (ℕ × Row)
 rows_at places at = rows_in_place (slice_get places at)
 
 -- keys with the rows in their places

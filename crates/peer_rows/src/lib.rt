@@ -30,6 +30,6 @@ mod table;
 
 pub use by_key::ByKey;
 pub use of_key::OfKey;
-pub use row::{Cells, Held, Row};
+pub use row::{Held, Row, RowCells};
 pub use rows::Rows;
 pub use spot::Spot;

@@ -37,7 +37,7 @@ impl Held {
 /// Cells of up to ten words, a count of two and a rate of five, lie in the value itself and take no
 /// memory beside it; others lie in a block.
 #[derive(Debug, Drop)]
-pub struct Cells {
+pub struct RowCells {
     form: Form,
     alloc: Global,
 }
@@ -48,7 +48,7 @@ enum Form {
     Many(Vec<Packed>),
 }
 
-impl Model for Cells {
+impl Model for RowCells {
     ghost use Rattle.std.specs.Prelude.{List};
     ghost use Rattle.peer_rows.specs.declared.row.Held.{Held};
 
@@ -59,9 +59,9 @@ impl Model for Cells {
     ghost view = { λ cells. cells_in cells.form };
 }
 
-impl Cells {
+impl RowCells {
     /// No cells, with room for so many.
-    pub fn with_capacity(alloc: Global, cells: usize) -> Result<Cells, NoMemory>
+    pub fn with_capacity(alloc: Global, cells: usize) -> Result<RowCells, NoMemory>
         ensures { IfOk result (λ cells. cells ≡ []) }
     {
         let form = if cells <= FEW {
@@ -69,7 +69,7 @@ impl Cells {
         } else {
             Form::Many(Vec::with_capacity(alloc, cells)?)
         };
-        Ok(Cells { form, alloc })
+        Ok(RowCells { form, alloc })
     }
 
     /// Adds a cell behind the others. After `NoMemory` there are the same cells as before.
@@ -92,10 +92,10 @@ impl Cells {
     }
 
     /// A copy of these cells.
-    pub fn copy(alloc: Global, held: &[Held]) -> Result<Cells, NoMemory>
+    pub fn copy(alloc: Global, held: &[Held]) -> Result<RowCells, NoMemory>
         ensures { IfOk result (λ cells. cells ≡ held.now) }
     {
-        let mut cells = Cells::with_capacity(alloc, held.len())?;
+        let mut cells = RowCells::with_capacity(alloc, held.len())?;
         for cell in held {
             cells.push(*cell)?;
         }
@@ -158,7 +158,7 @@ fn spread(alloc: Global, few: &Few) -> Result<Vec<Packed>, NoMemory>
 /// ended, if it ends. Moments are in milliseconds.
 #[derive(Debug, Drop)]
 pub struct Row {
-    pub cells: Cells,
+    pub cells: RowCells,
     pub arrived: u64,
     pub ends: Option<u64>,
     /// The moment at which whoever keeps the row looks at it again; 0 where it never ends.
@@ -169,7 +169,7 @@ impl Row {
     /// A row without cells, which never ends, to be left where one is taken. Takes no memory.
     pub fn blank(alloc: Global) -> Row {
         Row {
-            cells: Cells {
+            cells: RowCells {
                 form: Form::Few(Few::new()),
                 alloc,
             },

@@ -23,7 +23,7 @@ pub(crate) struct Slot {
 
 /// Where the rows of a key lie, or may lie.
 #[derive(Debug, Drop)]
-pub(crate) enum Place {
+pub(crate) enum SlotState {
     Taken(Slot),
     // The number of a place that may be free too.
     Free(usize),
@@ -32,7 +32,7 @@ pub(crate) enum Place {
 /// The places of a table's keys.
 #[derive(Debug, Drop)]
 pub(crate) struct Slots {
-    places: Vec<Place>,
+    places: Vec<SlotState>,
     // The number of a place that may be free: the first of a chain.
     free: usize,
 }
@@ -63,8 +63,8 @@ impl Slots {
         ensures { option_copied result ≡ key_at self.now.places.items at }
     {
         match self.places.get(at)? {
-            Place::Taken(slot) => Some(&slot.key),
-            Place::Free(_) => None,
+            SlotState::Taken(slot) => Some(&slot.key),
+            SlotState::Free(_) => None,
         }
     }
 
@@ -84,7 +84,7 @@ impl Slots {
         ensures { result.now ≡ rows_at self.now.places.items at }
     {
         match self.places.get(at) {
-            Some(Place::Taken(slot)) => &slot.rows,
+            Some(SlotState::Taken(slot)) => &slot.rows,
             _ => unreachable!(),
         }
     }
@@ -96,11 +96,11 @@ impl Slots {
         ensures keys { (q : ℕ) → key_at self.new.places.items q ≡ key_at self.old.places.items q }
         ensures rows { (q : ℕ) → rows_at self.new.places.items q ≡ rows_at self.old.places.items q }
     {
-        if let Some(Place::Free(_)) = self.places.get(self.free) {
+        if let Some(SlotState::Free(_)) = self.places.get(self.free) {
             return Ok(self.free);
         }
         let at = self.places.len();
-        self.places.push(Place::Free(usize::MAX))?;
+        self.places.push(SlotState::Free(usize::MAX))?;
         self.free = at;
         Ok(at)
     }
@@ -115,10 +115,10 @@ impl Slots {
         ensures other_rows { (q : ℕ) → q ≢ at
             → rows_at self.new.places.items q ≡ rows_at self.old.places.items q }
     {
-        if let Place::Free(next) = &self.places[at] {
+        if let SlotState::Free(next) = &self.places[at] {
             self.free = *next;
         }
-        self.places[at] = Place::Taken(slot);
+        self.places[at] = SlotState::Taken(slot);
     }
 
     /// Takes the rows out of a place, which is free then.
@@ -132,11 +132,11 @@ impl Slots {
             → rows_at self.new.places.items q ≡ rows_at self.old.places.items q }
     {
         let next = self.free;
-        let place = mem::replace(self.places.get_mut(at)?, Place::Free(next));
+        let place = mem::replace(self.places.get_mut(at)?, SlotState::Free(next));
         self.free = at;
         match place {
-            Place::Taken(slot) => Some(slot.rows),
-            Place::Free(_) => None,
+            SlotState::Taken(slot) => Some(slot.rows),
+            SlotState::Free(_) => None,
         }
     }
 
@@ -157,8 +157,8 @@ impl Slots {
             → rows_at self.new.places.items q ≡ rows_at self.old.places.items q }
     {
         match &mut self.places[at] {
-            Place::Taken(slot) => slot.rows.put(peer, row),
-            Place::Free(_) => unreachable!(),
+            SlotState::Taken(slot) => slot.rows.put(peer, row),
+            SlotState::Free(_) => unreachable!(),
         }
     }
 
@@ -178,8 +178,8 @@ impl Slots {
             → rows_at self.new.places.items q ≡ rows_at self.old.places.items q }
     {
         match &mut self.places[at] {
-            Place::Taken(slot) => slot.rows.exchange(peer, row),
-            Place::Free(_) => unreachable!(),
+            SlotState::Taken(slot) => slot.rows.exchange(peer, row),
+            SlotState::Free(_) => unreachable!(),
         }
     }
 
@@ -196,8 +196,8 @@ impl Slots {
             → rows_at self.new.places.items q ≡ rows_at self.old.places.items q }
     {
         match &mut self.places[at] {
-            Place::Taken(slot) => slot.rows.take(peer),
-            Place::Free(_) => unreachable!(),
+            SlotState::Taken(slot) => slot.rows.take(peer),
+            SlotState::Free(_) => unreachable!(),
         }
     }
 }

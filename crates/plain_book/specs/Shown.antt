@@ -1,10 +1,10 @@
 -- What is shown of a key.
 use Rattle.std.specs.Prelude.{ℕ, List}
 use Rattle.agg_types.specs.declared.column.Col.{Col}
-use Rattle.agg_types.specs.declared.place.Place.{Place}
+use Rattle.agg_types.specs.declared.row_key.RowKey.{RowKey}
 use Rattle.fleet_model.specs.Values.{value}
 use Rattle.fleet_model.specs.declared.arrival.Arrival.{Arrival}
 
 -- a key with its value of a column
-abbrev pub value_of : List (Col × ℕ) → List (Place × Arrival) → ℕ → Col → ℕ → List ℕ → List ℕ × ℕ
+abbrev pub value_of : List (Col × ℕ) → List (RowKey × Arrival) → ℕ → Col → ℕ → List ℕ → List ℕ × ℕ
 value_of cols rows table col t key = (key, value cols rows table key col t)

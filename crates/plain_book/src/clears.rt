@@ -6,7 +6,7 @@ ghost use Rattle.fleet_model.specs.Values.{meets, same_key};
 
 use crate::rows::Rows;
 use crate::values::meets;
-use agg_types::{Col, Cond, Key, NoMemory, Place};
+use agg_types::{Col, Cond, Key, NoMemory, RowKey};
 use std::alloc::Global;
 
 /// Takes away the rows of each key of a table whose values meet the conditions, as they were
@@ -61,7 +61,7 @@ fn clear_keys(rows: &mut Rows, table: usize, keys: &[Key])
     rows.retain(|place, _| !is_among(place, table, keys));
 }
 
-fn is_among(place: &Place, table: usize, keys: &[Key]) -> bool
+fn is_among(place: &RowKey, table: usize, keys: &[Key]) -> bool
     ensures { result ≡ ((place.now.table == table)
         && list_any (λ key. same_key key place.now.key) keys.now) }
 {

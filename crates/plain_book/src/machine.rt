@@ -13,7 +13,7 @@ ghost use Rattle.book_frame.specs.Due.{IsDue};
 
 use crate::clears::clear_where;
 use crate::rows::{Rows, clear_key, clear_table, end_rows, has_room, put_row};
-use agg_types::{Cell, Cells, Col, Config, Items, NoMemory, Place, Select, Shape, What};
+use agg_types::{Cell, Cells, Col, Config, Items, NoMemory, RowKey, Select, Shape, What};
 use book_frame::seats;
 use book_frame::seats::{
     Seats, Sessions, count_up, end_sessions, is_number, open_session, sit_down, stand_up,
@@ -108,7 +108,7 @@ impl Machine {
                 cells,
             } => {
                 let tables = self.config.tables.as_slice();
-                let place = Place {
+                let place = RowKey {
                     table: *table,
                     key: key.duplicate(self.alloc)?,
                     peer: *peer,
@@ -202,7 +202,7 @@ fn put(
     session: Option<u64>,
     seat: u64,
     t: u64,
-    place: Place,
+    place: RowKey,
     row: Arrival,
 ) -> Result<(), NoMemory>
     ensures ok { OnOk result (rows.new.entries

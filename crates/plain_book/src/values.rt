@@ -5,7 +5,7 @@ ghost use Rattle.agg_types.specs.Col.{all_cols};
 ghost use Rattle.fleet_model.specs.Moments.{is_live};
 ghost use Rattle.fleet_model.specs.Values.{cell_worth, column_worth, is_of, meets, share, value};
 
-use agg_types::{Cell, Col, Cond, Key, Place};
+use agg_types::{Cell, Col, Cond, Key, RowKey};
 use fleet_model::Arrival;
 use period_rate::Rate;
 use std::collections::BTreeMap;
@@ -49,7 +49,7 @@ fn column_worth(col: Col, since: u64, cols: &[(Col, u32)], cells: &[Cell]) -> u6
 }
 
 /// Whether a row is one of a table's key, and lives at a moment.
-pub fn is_of(table: usize, key: &Key, t: u64, place: &Place, row: &Arrival) -> bool
+pub fn is_of(table: usize, key: &Key, t: u64, place: &RowKey, row: &Arrival) -> bool
     ensures { result ≡ is_of table key.now t (place.now, row.now) }
 {
     place.table == table && *key == place.key && is_live(t, row)
@@ -62,7 +62,7 @@ fn share(
     key: &Key,
     col: Col,
     t: u64,
-    place: &Place,
+    place: &RowKey,
     row: &Arrival,
 ) -> u64
     ensures { result ≡ share cols.now table key.now col t (place.now, row.now) }
@@ -83,7 +83,7 @@ fn share(
 #[tactic(auto, unfolding(fleet_model::specs::Values::value))]
 pub fn value(
     cols: &[(Col, u32)],
-    rows: &BTreeMap<Place, Arrival>,
+    rows: &BTreeMap<RowKey, Arrival>,
     table: usize,
     key: &Key,
     col: Col,
@@ -102,7 +102,7 @@ pub fn value(
 #[tactic(auto, unfolding(fleet_model::specs::Values::meets))]
 pub fn meets(
     cols: &[(Col, u32)],
-    rows: &BTreeMap<Place, Arrival>,
+    rows: &BTreeMap<RowKey, Arrival>,
     table: usize,
     key: &Key,
     t: u64,

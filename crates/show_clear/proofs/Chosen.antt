@@ -8,7 +8,7 @@ use Rattle.agg_types.specs.Op.{op_holds}
 use Rattle.agg_types.specs.declared.column.Col.{Col}
 use Rattle.agg_types.specs.declared.config.Cond.{Cond}
 use Rattle.agg_types.specs.declared.event.Select.TheVariants.{Conds}
-use Rattle.agg_types.specs.declared.place.Place.{Place}
+use Rattle.agg_types.specs.declared.row_key.RowKey.{RowKey}
 use Rattle.fleet_model.specs.Answers.{key_value, keys_of, listed, rows_of, sum_up, summed}
 use Rattle.fleet_model.specs.State.{State}
 use Rattle.fleet_model.specs.Values.{cols_of, meets, value}
@@ -22,7 +22,7 @@ summed_is : {x y : Summed} → Some x ≡ Some y → x ≡ y
 summed_is same = cc
 
 -- a summed row has the values that were summed up
-sums_have : (values : List ℕ) (t : ℕ) (rows : List (Place × Arrival)) (sums : Summed)
+sums_have : (values : List ℕ) (t : ℕ) (rows : List (RowKey × Arrival)) (sums : Summed)
     → sum_up values t rows ≡ Some sums → sums.values ≡ values
 sums_have values t [] sums is = absurd cc
 sums_have values t (row ∷ rows) sums is = ap (λ (s : Summed). s.values) (sym (summed_is is))

@@ -3,7 +3,7 @@ ghost use Rattle.std.specs.Prelude.{◌≡◌, ◌<◌};
 
 use agg_types::{Key, NoMemory};
 use anyhow::Result;
-use peer_rows::{Cells, Held, Row, Rows};
+use peer_rows::{Held, Row, RowCells, Rows};
 use period_rate::Rate;
 use std::alloc::Global;
 
@@ -32,7 +32,7 @@ fn row(alloc: Global, count: u64) -> Result<Row, NoMemory> {
         Held::Rate(Rate::arrive(1000, 0, 3, 1, 0)),
     ];
     Ok(Row {
-        cells: Cells::copy(alloc, &held)?,
+        cells: RowCells::copy(alloc, &held)?,
         arrived: 7,
         ends: None,
         planned: 0,

@@ -5,11 +5,11 @@ ghost use Rattle.std.specs.Prelude.{◌≡◌, ℕ, ◌+◌, ◌&&◌, ◌==◌,
 ghost use Rattle.std.specs.Prelude.{length};
 ghost use Rattle.std.specs.BTreeMap.{is_at};
 ghost use Rattle.std.specs.Map.{remove_entry};
-ghost use Rattle.agg_types.specs.Place.{place_cmp};
+ghost use Rattle.agg_types.specs.RowKey.{row_key_cmp};
 ghost use Rattle.agg_types.specs.declared.column.Col.{Col};
 ghost use Rattle.agg_types.specs.declared.config.Cond.{Cond};
 ghost use Rattle.agg_types.specs.declared.config.Filter.{Filter};
-ghost use Rattle.agg_types.specs.declared.place.Place.{Place};
+ghost use Rattle.agg_types.specs.declared.row_key.RowKey.{RowKey};
 ghost use Rattle.fleet_model.specs.Answers.{set_at, summed};
 ghost use Rattle.fleet_model.specs.Keys.{AreInOrder, AreKeysOf, AreLiveAt, Rows, has_live};
 ghost use Rattle.fleet_model.specs.Keys.{held_rows, holds, key_rows, meet_at, one_if, row_at};
@@ -50,14 +50,14 @@ pub fn a_set_is_the_keys_that_hold()
 /// A row that is put makes its peer's rows one more where the place was free, one less where it
 /// takes the older one away, and else changes no count; one that is taken out makes them one less.
 pub fn peers_rows_are_counted()
-    ensures put { (t : ℕ) (rows : Rows) (place : Place) (row : Arrival) (table peer : ℕ)
+    ensures put { (t : ℕ) (rows : Rows) (place : RowKey) (row : Arrival) (table peer : ℕ)
         → AreInOrder rows
         → held_rows (with_row t rows place row) table peer
         + one_if ((place.table == table) && (place.peer == peer) && is_some (row_at rows place))
         ≡ held_rows rows table peer
         + one_if ((place.table == table) && (place.peer == peer) && is_live t row) }
-    ensures taken { (rows : Rows) (place : Place) (table peer : ℕ)
-        → held_rows (remove_entry (is_at (place_cmp place)) rows) table peer
+    ensures taken { (rows : Rows) (place : RowKey) (table peer : ℕ)
+        → held_rows (remove_entry (is_at (row_key_cmp place)) rows) table peer
         + one_if ((place.table == table) && (place.peer == peer) && is_some (row_at rows place))
         ≡ held_rows rows table peer }
 {}

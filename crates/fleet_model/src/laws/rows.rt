@@ -6,8 +6,8 @@ ghost use Rattle.std.specs.Prelude.{List, Some, filter};
 ghost use Rattle.std.specs.BTreeMap.{is_at};
 ghost use Rattle.std.specs.List.{AllByRecursion};
 ghost use Rattle.std.specs.Map.{remove_entry};
-ghost use Rattle.agg_types.specs.Place.{place_cmp};
-ghost use Rattle.agg_types.specs.declared.place.Place.{Place};
+ghost use Rattle.agg_types.specs.RowKey.{row_key_cmp};
+ghost use Rattle.agg_types.specs.declared.row_key.RowKey.{RowKey};
 ghost use Rattle.fleet_model.specs.Keys.{AreInOrder, Rows, is_at_key, key_rows, row_at};
 ghost use Rattle.fleet_model.specs.Machine.{with_row};
 ghost use Rattle.fleet_model.specs.Moments.{is_live};
@@ -16,11 +16,11 @@ ghost use Rattle.fleet_model.specs.declared.arrival.Arrival.{Arrival};
 /// A row that is put, or takes an older one away as its life is over, does so among the rows of its
 /// key. No other key's rows change.
 pub fn a_put_is_of_its_key()
-    ensures own { (t : ℕ) (rows : Rows) (place : Place) (row : Arrival) (table : ℕ) (key : List ℕ)
+    ensures own { (t : ℕ) (rows : Rows) (place : RowKey) (row : Arrival) (table : ℕ) (key : List ℕ)
         → AreInOrder rows → is_at_key table key place ≡ true
         → key_rows (with_row t rows place row) table key
         ≡ with_row t (key_rows rows table key) place row }
-    ensures others { (t : ℕ) (rows : Rows) (place : Place) (row : Arrival) (table : ℕ)
+    ensures others { (t : ℕ) (rows : Rows) (place : RowKey) (row : Arrival) (table : ℕ)
         (key : List ℕ)
         → AreInOrder rows → is_at_key table key place ≡ false
         → key_rows (with_row t rows place row) table key ≡ key_rows rows table key }
@@ -43,9 +43,9 @@ pub fn a_clear_takes_whole_keys()
 /// Rows that fail a test can go one by one, in any order: each that goes changes nothing of what
 /// passes, and once all that are left pass, they are what passes.
 pub fn rows_go_one_by_one()
-    ensures one { (p : Place × Arrival → Bool) (rows : Rows) (place : Place) (row : Arrival)
+    ensures one { (p : RowKey × Arrival → Bool) (rows : Rows) (place : RowKey) (row : Arrival)
         → row_at rows place ≡ Some row → p (place, row) ≡ false
-        → filter p (remove_entry (is_at (place_cmp place)) rows) ≡ filter p rows }
-    ensures all { (p : Place × Arrival → Bool) (rows : Rows)
+        → filter p (remove_entry (is_at (row_key_cmp place)) rows) ≡ filter p rows }
+    ensures all { (p : RowKey × Arrival → Bool) (rows : Rows)
         → AllByRecursion (λ row. p row ≡ true) rows → filter p rows ≡ rows }
 {}

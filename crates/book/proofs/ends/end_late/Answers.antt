@@ -1,5 +1,5 @@
 use Rattle.std.proofs.Common.{◌≡◌, ◌∙◌, ◌∷◌, ◌+◌, drop, List, sym, ap, subst, refl}
-use Rattle.agg_types.specs.declared.place.Place.{Place}
+use Rattle.agg_types.specs.declared.row_key.RowKey.{RowKey}
 use Rattle.peer_rows.specs.Rows.{RowMap}
 use Rattle.peer_rows.specs.declared.row.Row.{Row}
 use Rattle.std.proofs.lemmas.List.{drop_more, at_drop_all}
@@ -19,7 +19,7 @@ loop-place-preserved c =
     record {
       rows = rows-filter c.args.size.peers c.args.size.tables _ c.loop-place.rows c.end_one.new.rows
           c.loop-place.invariant.rows new;
-      late = subst (λ (es : List (Place × Row)). AreLate c.args.t
+      late = subst (λ (es : List (RowKey × Row)). AreLate c.args.t
           (drop (c.loop-place.place-index + 1) c.args.late.now) es)
           (sym (ap (λ (rows : RowMap). rows.entries) new))
           (late_step c.args.t c.loop-place-item.result.1 c.loop-place-item.result

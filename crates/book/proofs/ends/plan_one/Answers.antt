@@ -1,7 +1,7 @@
 use Rattle.std.proofs.Common.{◌≡◌, ◌∙◌, ◌<◌, sym, ap, arith}
 use Rattle.std.specs.Option.{option_copied}
 use Rattle.std.proofs.lemmas.Bool.Decides.{nat_tests}
-use Rattle.agg_types.specs.Place.{place_cmp}
+use Rattle.agg_types.specs.RowKey.{row_key_cmp}
 use Rattle.expiry_wheel.specs.Entries.{with_entry}
 use Rattle.book.specs.Shown.{as_arrival}
 use Rattle.book.proofs.Plans.{after_more, planned_more, seen_own, some_is}
@@ -25,11 +25,11 @@ returns-in_ok-plan-clause-seen c = λ row found lives.
     let same : c.in-Some.row.now ≡ row =
     some_is c.in-Some.row.now row (sym (ap option_copied c.in-Some.is)
     ∙ c.row_at.ensures.found ∙ found) in
-    let put : c.plan.new.self ≡ with_entry place_cmp c.args.due.now (
+    let put : c.plan.new.self ≡ with_entry row_key_cmp c.args.due.now (
       c.in-Some-end_of.end,
       c.args.place.now,
     ) =
-    c.in_ok-plan.ensures.ok ∙ ap (λ p. with_entry place_cmp c.args.due.now (
+    c.in_ok-plan.ensures.ok ∙ ap (λ p. with_entry row_key_cmp c.args.due.now (
       c.in-Some-end_of.end,
       p,
     )) c.in_ok-copy_place.ensures in

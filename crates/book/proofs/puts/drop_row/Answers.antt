@@ -1,6 +1,6 @@
 use Rattle.std.proofs.Common.{◌∙◌, ◌++◌, ap}
 use Rattle.std.specs.BTreeMap.{is_at}
-use Rattle.agg_types.specs.Place.{place_cmp}
+use Rattle.agg_types.specs.RowKey.{row_key_cmp}
 use Rattle.peer_rows.specs.Rows.{RowMap}
 use Rattle.book.specs.Planned.{place_at}
 use Rattle.book.specs.Shown.{arrivals, as_arrival}
@@ -11,7 +11,7 @@ use Rattle.book.proofs.puts.drop_row.Goals as goal
 pub returns-clause-ok : goal.returns-clause-ok
 returns-clause-ok c =
     ap (λ (rows : RowMap). arrivals rows.entries) c.take_at.ensures.after
-    ∙ map-remove_entry place_cmp as_arrival (is_at (place_cmp (place_at c.args.at)))
+    ∙ map-remove_entry row_key_cmp as_arrival (is_at (row_key_cmp (place_at c.args.at)))
     c.args.rows.now.entries
 
 pub returns-clause-kept : goal.returns-clause-kept

@@ -1,5 +1,5 @@
 use Rattle.std.proofs.Common.{◌∙◌, ap}
-use Rattle.agg_types.specs.Place.{place_cmp}
+use Rattle.agg_types.specs.RowKey.{row_key_cmp}
 use Rattle.expiry_wheel.specs.Entries.{with_entry}
 use Rattle.book.specs.Planned.{place_at}
 use Rattle.book.proofs.Forgets.{own_planned}
@@ -14,5 +14,5 @@ returns-clause-more c = λ items entry planned.
 pub returns-clause-own : goal.returns-clause-own
 returns-clause-own c =
     rw c.in-Some.is (own_planned c.in-Some.end (place_at c.args.at) c.args.due.now c.plan.new.self
-    (c.in_ok-plan.ensures.ok ∙ ap (λ p. with_entry place_cmp c.args.due.now (c.in-Some.end, p))
+    (c.in_ok-plan.ensures.ok ∙ ap (λ p. with_entry row_key_cmp c.args.due.now (c.in-Some.end, p))
     c.in_ok-place.ensures))

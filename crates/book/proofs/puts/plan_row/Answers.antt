@@ -1,7 +1,7 @@
 use Rattle.std.proofs.Common.{◌≡◌, ◌∙◌, ◌++◌, None, ap}
 use Rattle.std.specs.BTreeMap.{is_at}
 use Rattle.std.specs.Map.{lookup}
-use Rattle.agg_types.specs.Place.{place_cmp}
+use Rattle.agg_types.specs.RowKey.{row_key_cmp}
 use Rattle.peer_rows.specs.Rows.{RowMap}
 use Rattle.book.specs.Planned.{place_at}
 use Rattle.book.specs.Shown.{arrivals, as_arrival}
@@ -11,8 +11,8 @@ use Rattle.book.proofs.puts.plan_row.Goals as goal
 
 pub returns-in-Err-clause-kept : goal.returns-in-Err-clause-kept
 returns-in-Err-clause-kept c = λ items kept.
-    let none : lookup (is_at (place_cmp (place_at c.args.at))) c.args.rows.now.entries ≡ None =
-    none_of (lookup (is_at (place_cmp (place_at c.args.at))) c.args.rows.now.entries)
+    let none : lookup (is_at (row_key_cmp (place_at c.args.at))) c.args.rows.now.entries ≡ None =
+    none_of (lookup (is_at (row_key_cmp (place_at c.args.at))) c.args.rows.now.entries)
     c.in-Err.ensures.held in
     kept_none c.args.size.peers c.args.size.tables c.args.rows.now c.put_row.new.rows
     (items ++ c.args.due.now) (items ++ c.forget.new.due) (place_at c.args.at)
@@ -23,7 +23,7 @@ returns-in-Err-clause-kept c = λ items kept.
 pub returns-clause-ok : goal.returns-clause-ok
 returns-clause-ok c =
     ap (λ (rows : RowMap). arrivals rows.entries) c.in_default.ensures.ok
-    ∙ map-insert_entry place_cmp as_arrival c.args.rows.now.entries (place_at c.args.at)
+    ∙ map-insert_entry row_key_cmp as_arrival c.args.rows.now.entries (place_at c.args.at)
     c.args.row.now
 
 pub returns-clause-kept : goal.returns-clause-kept

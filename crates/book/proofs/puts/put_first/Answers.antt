@@ -1,7 +1,7 @@
 use Rattle.std.proofs.Common.{◌≡◌, None, ◌++◌, subst, sym}
 use Rattle.std.specs.BTreeMap.{is_at}
 use Rattle.std.specs.Map.{lookup}
-use Rattle.agg_types.specs.Place.{place_cmp}
+use Rattle.agg_types.specs.RowKey.{row_key_cmp}
 use Rattle.peer_rows.specs.Rows.{RowMap}
 use Rattle.book.specs.Planned.{place_at}
 use Rattle.book.specs.Store.{AreKept}
@@ -10,7 +10,7 @@ use Rattle.book.proofs.puts.put_first.Goals as goal
 
 pub returns-in-Err-clause-err : goal.returns-in-Err-clause-err
 returns-in-Err-clause-err c =
-    let none : lookup (is_at (place_cmp (place_at c.args.at))) c.args.rows.now.entries ≡ None =
+    let none : lookup (is_at (row_key_cmp (place_at c.args.at))) c.args.rows.now.entries ≡ None =
     none_there (place_at c.args.at) c.args.rows.now.entries
     (rw c.in_default.is at c.in_ok-spot.ensures.new) in
     rows_taken_back c.args.rows.now c.insert_first.new.self c.take.new.self (place_at c.args.at)

@@ -1,6 +1,6 @@
 use Rattle.std.proofs.Common.{◌∙◌, ◌++◌, ap, refl, subst, sym}
 use Rattle.std.specs.Option.{option_map}
-use Rattle.agg_types.specs.Place.{place_cmp}
+use Rattle.agg_types.specs.RowKey.{row_key_cmp}
 use Rattle.peer_rows.specs.Rows.{RowMap}
 use Rattle.peer_rows.specs.declared.row.Row.{Row}
 use Rattle.book.specs.Planned.{place_at}
@@ -15,7 +15,7 @@ pub returns-in_ok-put_row-in-Some-clause-ok : goal.returns-in_ok-put_row-in-Some
 returns-in_ok-put_row-in-Some-clause-ok c =
     let row : Row = record c.args.row.now { planned = c.in-Some.planned } in
     ap (λ (rows : RowMap). arrivals rows.entries) c.in_ok-put_row-in-Some.ensures.ok
-    ∙ map-insert_entry place_cmp as_arrival c.args.rows.now.entries (place_at c.args.at) row
+    ∙ map-insert_entry row_key_cmp as_arrival c.args.rows.now.entries (place_at c.args.at) row
 
 pub returns-in_ok-put_row-in-Some-clause-kept : goal.returns-in_ok-put_row-in-Some-clause-kept
 returns-in_ok-put_row-in-Some-clause-kept c = λ items kept.

@@ -1,5 +1,5 @@
 use Rattle.std.proofs.Common.{◌∙◌, ap}
-use Rattle.agg_types.specs.Place.{place_cmp}
+use Rattle.agg_types.specs.RowKey.{row_key_cmp}
 use Rattle.peer_rows.specs.Rows.{RowMap}
 use Rattle.book.specs.Planned.{place_at}
 use Rattle.book.specs.Shown.{arrivals, as_arrival}
@@ -9,7 +9,7 @@ use Rattle.book.proofs.puts.set_row.Goals as goal
 pub returns-in-None-clause-ok : goal.returns-in-None-clause-ok
 returns-in-None-clause-ok c =
     ap (λ (rows : RowMap). arrivals rows.entries) (rw c.in-None.is at c.in_ok-put_first.ensures.ok)
-    ∙ map-insert_entry place_cmp as_arrival c.args.rows.now.entries (place_at c.args.at)
+    ∙ map-insert_entry row_key_cmp as_arrival c.args.rows.now.entries (place_at c.args.at)
     c.args.row.now
 
 pub returns-in-Some-clause-kept : goal.returns-in-Some-clause-kept

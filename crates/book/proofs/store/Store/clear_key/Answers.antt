@@ -1,6 +1,6 @@
 use Rattle.std.proofs.Common.{◌∙◌, ◌==◌, ◌&&◌, not, List, sym, ap, arith}
 use Rattle.std.specs.Prelude.{filter}
-use Rattle.agg_types.specs.declared.place.Place.{Place}
+use Rattle.agg_types.specs.declared.row_key.RowKey.{RowKey}
 use Rattle.fleet_model.specs.Values.{same_key}
 use Rattle.fleet_model.specs.declared.arrival.Arrival.{Arrival}
 use Rattle.peer_rows.specs.Rows.{RowMap}
@@ -20,7 +20,7 @@ returns-then-table-self c =
           c.self.inside.size.tables;
       rows = arrivals rows.entries;
     } in
-    let kept : List (Place × Arrival) → InForce =
+    let kept : List (RowKey × Arrival) → InForce =
     λ rows. record {
       peers = c.self.inside.size.peers;
       tables =
@@ -29,7 +29,7 @@ returns-then-table-self c =
     } in
     let left : InForce → InForce =
     λ s. record s {
-      rows = filter (λ (row : Place × Arrival). not ((row.0.table == c.args.table)
+      rows = filter (λ (row : RowKey × Arrival). not ((row.0.table == c.args.table)
           && same_key c.args.key row.0.key)) s.rows;
     } in
     ap made c.drop_key.ensures.after
@@ -38,7 +38,7 @@ returns-then-table-self c =
 
 pub returns-else-table-self : goal.returns-else-table-self
 returns-else-table-self c =
-    let kept : List (Place × Arrival) → InForce =
+    let kept : List (RowKey × Arrival) → InForce =
     λ rows. record {
       peers = c.self.inside.size.peers;
       tables =
@@ -47,7 +47,7 @@ returns-else-table-self c =
     } in
     let left : InForce → InForce =
     λ s. record s {
-      rows = filter (λ (row : Place × Arrival). not ((row.0.table == c.args.table)
+      rows = filter (λ (row : RowKey × Arrival). not ((row.0.table == c.args.table)
           && same_key c.args.key row.0.key)) s.rows;
     } in
     sym c.self.view_is ∙ ap kept (untouched c.self.inside.size.peers c.self.inside.size.tables

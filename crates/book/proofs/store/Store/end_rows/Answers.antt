@@ -1,6 +1,6 @@
 use Rattle.std.proofs.Common.{◌≡◌, ◌∙◌, ◌++◌, [], List, ℕ, sym, ap, subst}
 use Rattle.std.specs.Prelude.{filter}
-use Rattle.agg_types.specs.declared.place.Place.{Place}
+use Rattle.agg_types.specs.declared.row_key.RowKey.{RowKey}
 use Rattle.fleet_model.specs.Moments.{is_live}
 use Rattle.fleet_model.specs.declared.arrival.Arrival.{Arrival}
 use Rattle.peer_rows.specs.Rows.{RowMap}
@@ -15,7 +15,7 @@ pub end_late-requires-clause-late : goal.end_late-requires-clause-late
 end_late-requires-clause-late c =
     are_late c.args.t c.as_slice-2.result.now c.plan_again.new.due c.self.inside.rows.entries
     c.plan_again.ensures.past
-    (subst (λ (late : List (ℕ × Place)). ArePlanned (late ++ c.plan_again.new.due)
+    (subst (λ (late : List (ℕ × RowKey)). ArePlanned (late ++ c.plan_again.new.due)
     c.self.inside.rows.entries) (c.as_slice.ensures.value ∙ sym c.as_slice-2.ensures.value)
     c.plan_again.ensures.planned)
 
@@ -34,7 +34,7 @@ returns-clause-ok c =
           c.self.inside.size.tables;
       rows = arrivals rows.entries;
     } in
-    let kept : List (Place × Arrival) → InForce =
+    let kept : List (RowKey × Arrival) → InForce =
     λ rows. record {
       peers = c.self.inside.size.peers;
       tables =
@@ -43,9 +43,9 @@ returns-clause-ok c =
     } in
     let living : InForce → InForce =
     λ s. record s {
-      rows = filter (λ (row : Place × Arrival). is_live c.args.t row.1) s.rows;
+      rows = filter (λ (row : RowKey × Arrival). is_live c.args.t row.1) s.rows;
     } in
     ap made c.end_late.ensures
-    ∙ ap kept (map-filter shown (λ (row : Place × Arrival). is_live c.args.t row.1)
+    ∙ ap kept (map-filter shown (λ (row : RowKey × Arrival). is_live c.args.t row.1)
     c.self.inside.rows.entries)
     ∙ ap living c.self.view_is

@@ -1,6 +1,6 @@
 use Rattle.std.proofs.Common.{◌≡◌, ◌∙◌, List, not, true, false, sym, ap}
-use Rattle.agg_types.specs.declared.place.Place.{Place}
-use Rattle.agg_types.specs.Place.{place_cmp}
+use Rattle.agg_types.specs.declared.row_key.RowKey.{RowKey}
+use Rattle.agg_types.specs.RowKey.{row_key_cmp}
 use Rattle.std.specs.BTreeMap.{insert_entry}
 use Rattle.fleet_model.specs.Machine.{with_row}
 use Rattle.fleet_model.specs.Moments.{is_live}
@@ -25,7 +25,7 @@ returns-then-is_over-clause-ok c =
     let row = put_arrival c.args.t c.args.life c.args.cols.now c.args.cells.now in
     let over : is_live c.args.t row ≡ false =
     c.is_over.ensures c.args.t c.args.cols.now c.args.cells.now ∙ ap not c.if-is_over.true in
-    let kept : List (Place × Arrival) → InForce =
+    let kept : List (RowKey × Arrival) → InForce =
     λ rows. record {
       peers = c.self.inside.size.peers;
       tables =
@@ -43,7 +43,7 @@ returns-clause-ok c =
     let row = put_arrival c.args.t c.args.life c.args.cols.now c.args.cells.now in
     let live : is_live c.args.t row ≡ true =
     c.is_over.ensures c.args.t c.args.cols.now c.args.cells.now ∙ ap not c.if-is_over.false in
-    let kept : List (Place × Arrival) → InForce =
+    let kept : List (RowKey × Arrival) → InForce =
     λ rows. record {
       peers = c.self.inside.size.peers;
       tables =
@@ -52,7 +52,7 @@ returns-clause-ok c =
     } in
     let old = arrivals c.self.inside.rows.entries in
     ap kept (c.in_ok-set_row.ensures.ok
-    ∙ ap (insert_entry place_cmp old (place_at c.args.at)) c.in_ok-row.ensures
+    ∙ ap (insert_entry row_key_cmp old (place_at c.args.at)) c.in_ok-row.ensures
     ∙ sym (with_living c.args.t old (place_at c.args.at) row live))
     ∙ ap (λ (s : InForce). record s { rows = with_row c.args.t s.rows (place_at c.args.at) row })
     c.self.view_is

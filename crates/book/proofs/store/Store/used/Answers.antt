@@ -1,7 +1,7 @@
 use Rattle.std.proofs.Common.{◌∙◌, List, length, sym, ap, arith}
 use Rattle.std.specs.Prelude.{map}
 use Rattle.std.specs.List.{dedup}
-use Rattle.agg_types.specs.declared.place.Place.{Place}
+use Rattle.agg_types.specs.declared.row_key.RowKey.{RowKey}
 use Rattle.fleet_model.specs.Values.{same_key}
 use Rattle.fleet_model.specs.declared.arrival.Arrival.{Arrival}
 use Rattle.book.specs.Store.{InForce, row_keys}
@@ -16,7 +16,7 @@ returns-then-table-self c =
 
 pub returns-else-table-self : goal.returns-else-table-self
 returns-else-table-self c =
-    sym (ap (λ (rows : List (Place × Arrival)). length
+    sym (ap (λ (rows : List (RowKey × Arrival)). length
     (dedup same_key (map (λ row. row.0.key) rows)))
     (no_spots c.self.inside.size.peers c.self.inside.size.tables c.args.table
     c.self.inside.rows.entries (omega arith) c.self.invariant.are.inside))

@@ -1,6 +1,6 @@
 use Rattle.std.proofs.Common.{sym, ◌∙◌}
 use Rattle.peer_rows.proofs.Counting.{counted_at_held, counted_at_none}
-use Rattle.peer_rows.proofs.row.Cells.count.Goals as goal
+use Rattle.peer_rows.proofs.row.RowCells.count.Goals as goal
 
 pub returns-in-Some : goal.returns-in-Some
 returns-in-Some c = c.counted.ensures

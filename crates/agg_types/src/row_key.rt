@@ -5,7 +5,7 @@ use crate::Key;
 /// Places are ordered by table, then by key, then by peer, so that the rows of one key lie
 /// together.
 #[derive(Debug, Drop, PartialEq, Eq, PartialOrd, Ord)]
-pub struct Place {
+pub struct RowKey {
     pub table: usize,
     pub key: Key,
     pub peer: usize,

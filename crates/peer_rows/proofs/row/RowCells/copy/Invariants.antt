@@ -1,5 +1,5 @@
 use Rattle.std.proofs.Common.{◌≡◌, take}
-use Rattle.peer_rows.proofs.row.Cells.copy.Given as goal
+use Rattle.peer_rows.proofs.row.RowCells.copy.Given as goal
 
 -- the cells so far are copied
 abbrev pub invariant-loop-cell : goal.invariant-loop-cell
