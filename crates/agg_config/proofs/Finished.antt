@@ -4,7 +4,7 @@ use Rattle.std.proofs.Common.{get_or, Bool, Option, None, Some, Result, Ok, Err,
 use Rattle.std.proofs.Common.{subst, arith, append_assoc, append-nil, length-append}
 use Rattle.std.proofs.lemmas.List.{take-append-le, drop-append-le, take_all, get_or_append_left}
 use Rattle.agg_types.specs.declared.config.Config.{Config}
-use Rattle.agg_config.specs.Lines.{AreWritten, Finishes, Kept}
+use Rattle.agg_config.specs.Lines.{AreWritten, Finishes, ReadSoFar}
 use Rattle.agg_config.specs.Reading.{AreSound, FailsFirst, IsFirstFault, Passes, Write, behind}
 use Rattle.agg_config.specs.Reading.{faults_behind, is_named, line_fault, meaning, opening}
 use Rattle.agg_config.specs.Reading.{takes_memory, written}
@@ -96,21 +96,21 @@ read_on lines line fault has later =
 
 -- the same of what is kept
 pub kept_on : (config : Config) (named : Bool) (count : ℕ) (lines : List (List ℕ)) (line : List ℕ)
-    (fault : Option LineFault) → is_some fault ≡ true → Kept config named count lines fault
-    → Kept config named count (lines ++ line ∷ []) fault
+    (fault : Option LineFault) → is_some fault ≡ true → ReadSoFar config named count lines fault
+    → ReadSoFar config named count (lines ++ line ∷ []) fault
 kept_on config named count lines line None some has = absurd cc
 kept_on config named count lines line (Some fault) some has = read_on lines line fault has
 
 -- no fault so far
 pub kept_none : (config : Config) (named : Bool) (count : ℕ) (lines : List (List ℕ))
-    (fault : Option LineFault) → is_some fault ≡ false → Kept config named count lines fault
+    (fault : Option LineFault) → is_some fault ≡ false → ReadSoFar config named count lines fault
     → AreWritten lines config named count
 kept_none config named count lines None none has = has
 kept_none config named count lines (Some fault) none has = absurd cc
 
 pub none_kept : (config : Config) (named : Bool) (count : ℕ) (lines : List (List ℕ))
     (fault : Option LineFault) → is_some fault ≡ false → AreWritten lines config named count
-    → Kept config named count lines fault
+    → ReadSoFar config named count lines fault
 none_kept config named count lines None none has = has
 none_kept config named count lines (Some fault) none has = absurd cc
 

@@ -15,14 +15,14 @@ pub record AreWritten (lines : List (List ℕ)) (config : Config) (named : Bool)
   pub counted : count ≡ length lines
 
 -- what is kept of lines: what they write, or a fault that they have whatever lines follow them
-abbrev pub Kept : Config → Bool → ℕ → List (List ℕ) → Option LineFault → Type 0
-Kept config named count lines None = AreWritten lines config named count
-Kept config named count lines (Some fault) =
+abbrev pub ReadSoFar : Config → Bool → ℕ → List (List ℕ) → Option LineFault → Type 0
+ReadSoFar config named count lines None = AreWritten lines config named count
+ReadSoFar config named count lines (Some fault) =
     (later : List (List ℕ)) → IsFirstFault (lines ++ later) fault
 
 -- a reader has read these lines, one after the other
 abbrev pub HasRead : Reader → List (List ℕ) → Type 0
-HasRead reader lines = Kept reader.config reader.named reader.count lines reader.fault
+HasRead reader lines = ReadSoFar reader.config reader.named reader.count lines reader.fault
 
 -- how many lines a reader has read up to the first faulty one
 abbrev pub lines_read : Reader → ℕ

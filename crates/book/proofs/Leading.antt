@@ -16,11 +16,11 @@ use Rattle.std.specs.List.Sorted.{IsStrictlySortedBy}
 use Rattle.std.specs.Map.{keys_of, remove_entry}
 use Rattle.agg_types.specs.RowKey.{row_key_cmp}
 use Rattle.agg_types.specs.declared.event.Cell.{Cell}
-use Rattle.fleet_model.specs.Kept.{kept_cells}
+use Rattle.fleet_model.specs.Normalized.{normalized_cells}
 use Rattle.fleet_model.specs.Keys.{AreInOrder, Rows, key_rows, one_if, worth_of}
 use Rattle.fleet_model.specs.Laws.{worth_at}
 use Rattle.fleet_model.specs.Machine.{with_row}
-use Rattle.fleet_model.proofs.Cells.{column_kept}
+use Rattle.fleet_model.proofs.Cells.{column_normalized}
 use Rattle.fleet_model.proofs.Running.{sum-insert, sum-remove}
 use Rattle.peer_rows.specs.declared.row.Row.{Row}
 use Rattle.book.specs.Shown.{arrivals}
@@ -98,12 +98,12 @@ pub arriving_more : (cols : List (Col × ℕ)) (rows : Rows) (t : ℕ) (place : 
 arriving_more cols rows t place life cells col ordered =
     let row : Arrival = put_arrival t life cols cells in
     let now : t - t ≡ 0 = omega arith in
-    let kept : column_worth col (t - t) cols (kept_cells cols cells) ≡ column_worth col 0 cols cells
-    = ap (λ n. column_worth col n cols (kept_cells cols cells)) now
-    ∙ column_kept cols cells col 0 in
+    let kept : column_worth col (t - t) cols (normalized_cells cols cells) ≡ column_worth col 0 cols cells
+    = ap (λ n. column_worth col n cols (normalized_cells cols cells)) now
+    ∙ column_normalized cols cells col 0 in
     let more : sum_by (share cols place.table place.key col t) (with_row t rows place row) ≤ sum_by
     (share cols place.table place.key col t) rows + column_worth col (t - t) cols
-    (kept_cells cols cells) = put_more cols rows t place row col (is_live t row) refl ordered in
+    (normalized_cells cols cells) = put_more cols rows t place row col (is_live t row) refl ordered in
     let before : worth_of cols (key_rows rows place.table place.key) col t
     ≡ sum_by (share cols place.table place.key col t) rows =
     value_sum cols rows place.table place.key col t in

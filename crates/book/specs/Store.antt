@@ -15,7 +15,7 @@ use Rattle.agg_types.specs.declared.column.Col.{Col}
 use Rattle.agg_types.specs.declared.event.Cell.{Cell}
 use Rattle.agg_types.specs.declared.limits.TheConstants.{LAST_MOMENT}
 use Rattle.agg_types.specs.declared.row_key.RowKey.{RowKey}
-use Rattle.fleet_model.specs.Kept.{kept_cells}
+use Rattle.fleet_model.specs.Normalized.{normalized_cells}
 use Rattle.fleet_model.specs.declared.arrival.Arrival.{Arrival}
 use Rattle.peer_rows.specs.Rows.{RowMap}
 use Rattle.book.specs.Planned.{ArePlanned, AreRows}
@@ -33,7 +33,7 @@ pub record AreKept (peers tables : ℕ) (rows : RowMap) (items : List (ℕ × Ro
 
 -- a row as it arrives
 abbrev pub put_arrival : ℕ → Option ℕ → List (Col × ℕ) → List Cell → Arrival
-put_arrival t life cols cells = record { arrived = t; life = life; cells = kept_cells cols cells }
+put_arrival t life cols cells = record { arrived = t; life = life; cells = normalized_cells cols cells }
 
 -- these are the rows of a key, each with its peer; there is none where none were found
 abbrev pub AreRowsOf : List (RowKey × Arrival) → ℕ → List ℕ → Option (List (ℕ × Row)) → Type 0

@@ -11,7 +11,7 @@ ghost use Rattle.std.specs.Map.{lookup, remove_entry};
 ghost use Rattle.agg_types.specs.RowKey.{row_key_cmp};
 ghost use Rattle.agg_types.specs.declared.limits.TheConstants.{LAST_MOMENT};
 ghost use Rattle.agg_types.specs.declared.row_key.RowKey.{RowKey};
-ghost use Rattle.fleet_model.specs.Kept.{kept_cell, kept_cells};
+ghost use Rattle.fleet_model.specs.Normalized.{normalized_cell, normalized_cells};
 ghost use Rattle.fleet_model.specs.Machine.{with_row};
 ghost use Rattle.peer_rows.specs.declared.row.Row.{Row};
 ghost use Rattle.fleet_model.specs.Values.{same_place};
@@ -64,7 +64,7 @@ pub fn new_row(
 fn hold(held: &mut RowCells, t: u64, cols: &[(Col, u32)], cells: &[Cell]) -> Result<(), NoMemory>
     requires { t ≤ LAST_MOMENT }
     ensures { OnOk result (map (cell_of t) held.new
-        ≡ map (cell_of t) held.old ++ kept_cells cols.now cells.now) }
+        ≡ map (cell_of t) held.old ++ normalized_cells cols.now cells.now) }
 {
     match cols {
         [] => Ok(()),
@@ -81,7 +81,7 @@ fn hold(held: &mut RowCells, t: u64, cols: &[(Col, u32)], cells: &[Cell]) -> Res
 // A cell that arrives at a moment.
 fn hold_cell(t: u64, period: u32, cell: Cell) -> Held
     requires { t ≤ LAST_MOMENT }
-    ensures { cell_of t result ≡ kept_cell period cell }
+    ensures { cell_of t result ≡ normalized_cell period cell }
 {
     match cell {
         Cell::Count(count) => Held::Count(count),

@@ -28,7 +28,7 @@ use Rattle.agg_types.specs.declared.event.What.TheVariants.{Sit, Open, Put, Clea
 use Rattle.agg_types.specs.declared.event.What.TheVariants.{Moment, Leave}
 use Rattle.agg_types.specs.declared.limits.TheConstants.{LAST_MOMENT, MOST_SEATS}
 use Rattle.agg_types.specs.declared.row_key.RowKey.{RowKey}
-use Rattle.fleet_model.proofs.Cells.{kept_twice}
+use Rattle.fleet_model.proofs.Cells.{normalized_twice}
 use Rattle.fleet_model.proofs.Checked.{checked-add}
 use Rattle.fleet_model.proofs.Every.{every-filter, every-insert, every-map, every-passes}
 use Rattle.fleet_model.proofs.Every.{every-remove, ordered-filter, ordered-insert, ordered-remove}
@@ -37,7 +37,7 @@ use Rattle.fleet_model.proofs.InForce.{row_key_cmp_exact, row_key_cmp_total}
 use Rattle.fleet_model.proofs.Runs.{along}
 use Rattle.fleet_model.proofs.Sizes.{happened_within}
 use Rattle.fleet_model.specs.Filters.{is_new}
-use Rattle.fleet_model.specs.Kept.{kept_cells}
+use Rattle.fleet_model.specs.Normalized.{normalized_cells}
 use Rattle.fleet_model.specs.Laws.{AreLive, IsOrdered, IsWithinSizes}
 use Rattle.fleet_model.specs.Machine.{after, counts_now, happened, number_of, opened, session_of}
 use Rattle.fleet_model.specs.Machine.{with_event, with_put, with_row}
@@ -54,23 +54,23 @@ Rows = List (RowKey × Arrival)
 
 -- ---- a row that is put
 cells_kept_fit : (cols : List (Col × ℕ)) (cells : List Cell) → cells_fit cols cells ≡ true
-    → cells_fit cols (kept_cells cols cells) ≡ true
+    → cells_fit cols (normalized_cells cols cells) ≡ true
 cells_kept_fit [] [] h = refl
 cells_kept_fit [] (cell ∷ cells) h = cc
 cells_kept_fit (col ∷ cols) [] h = cc
 cells_kept_fit (col ∷ cols) (Count count ∷ cells) h =
     let parts = and_parts (cell_fits col.0 (Count count)) (cells_fit cols cells) h in
-    and_from (cell_fits col.0 (Count count)) (cells_fit cols (kept_cells cols cells)) parts.0
+    and_from (cell_fits col.0 (Count count)) (cells_fit cols (normalized_cells cols cells)) parts.0
     (cells_kept_fit cols cells parts.1)
 cells_kept_fit (col ∷ cols) (Rate elapsed cur prev ∷ cells) h =
     let parts = and_parts (is_rate col.0) (cells_fit cols cells) h in
-    and_from (is_rate col.0) (cells_fit cols (kept_cells cols cells)) parts.0
+    and_from (is_rate col.0) (cells_fit cols (normalized_cells cols cells)) parts.0
     (cells_kept_fit cols cells parts.1)
 
 shape_fits : (shape : Option Shape) (key : List ℕ) (cells : List Cell)
     → option_map_or (λ s. key_fits s.kind key && cells_fit s.cols cells) shape false ≡ true
     → option_map_or (λ s. key_fits s.kind key
-    && cells_fit s.cols (kept_cells (option_map_or (λ s. s.cols) shape []) cells))
+    && cells_fit s.cols (normalized_cells (option_map_or (λ s. s.cols) shape []) cells))
     shape false ≡ true
 shape_fits None key cells h = cc
 shape_fits (Some shape) key cells h =
@@ -79,7 +79,7 @@ shape_fits (Some shape) key cells h =
 
 put_fits : (config : Config) (t peer table : ℕ) (key : List ℕ) (life : Option ℕ) (cells : List Cell)
     → fits config (Put peer table key life cells) ≡ true
-    → fits config (Put peer table key life (kept_cells (cols_of config.tables table) cells)) ≡ true
+    → fits config (Put peer table key life (normalized_cells (cols_of config.tables table) cells)) ≡ true
 put_fits config t peer table key life cells h =
     let parts = and_parts (nat_lt peer (length config.peers) && life_fits life)
     (at_table config.tables table (λ shape. key_fits shape.kind key
@@ -94,7 +94,7 @@ row_sound : (config : Config) (t peer table : ℕ) (key : List ℕ) (life : Opti
     )
 row_sound config t peer table key life cells h = record {
   fits = put_fits config t peer table key life cells h;
-  kept = kept_twice (cols_of config.tables table) cells;
+  kept = normalized_twice (cols_of config.tables table) cells;
   arrived = omega arith;
 }
 

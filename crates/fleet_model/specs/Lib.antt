@@ -2,7 +2,7 @@ pub mod Seats
 pub mod Moments
 pub mod Sessions
 pub mod Filters
-pub mod Kept
+pub mod Normalized
 pub mod Rows
 pub mod Values
 pub mod History

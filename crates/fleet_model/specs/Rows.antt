@@ -16,7 +16,7 @@ use Rattle.agg_types.specs.declared.event.What.TheVariants.{Sit, Open, Put, Clea
 use Rattle.agg_types.specs.declared.event.What.TheVariants.{Moment, Leave}
 use Rattle.agg_types.specs.declared.row_key.RowKey.{RowKey}
 use Rattle.fleet_model.specs.declared.arrival.Arrival.{Arrival}
-use Rattle.fleet_model.specs.Kept.{kept_cells}
+use Rattle.fleet_model.specs.Normalized.{normalized_cells}
 use Rattle.fleet_model.specs.Moments.{is_live, now_of}
 use Rattle.fleet_model.specs.Seats.{counts, is_number}
 use Rattle.fleet_model.specs.Sessions.{session}
@@ -54,7 +54,7 @@ has_room tables rows place =
 -- the row of a Put that arrives at t
 abbrev pub arrival_of : List Shape → ℕ → ℕ → Option ℕ → List Cell → Arrival
 arrival_of tables table t life cells =
-    record { arrived = t; life = life; cells = kept_cells (cols_of tables table) cells }
+    record { arrived = t; life = life; cells = normalized_cells (cols_of tables table) cells }
 
 -- the row of a Put of the peer's session in force, if it has room
 unfoldable pub row_of : Config → Option ℕ → Rows → ℕ → Event → What → Option (RowKey × Arrival)

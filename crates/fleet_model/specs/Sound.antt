@@ -8,7 +8,7 @@ use Rattle.agg_types.specs.declared.event.What.{What}
 use Rattle.agg_types.specs.declared.event.What.TheVariants.{Put}
 use Rattle.agg_types.specs.declared.limits.TheConstants.{LAST_MOMENT}
 use Rattle.agg_types.specs.declared.row_key.RowKey.{RowKey}
-use Rattle.fleet_model.specs.Kept.{kept_cells}
+use Rattle.fleet_model.specs.Normalized.{normalized_cells}
 use Rattle.fleet_model.specs.Laws.{AreLive, IsOrdered, IsWithinSizes}
 use Rattle.fleet_model.specs.State.{State}
 use Rattle.fleet_model.specs.Values.{cols_of}
@@ -23,7 +23,7 @@ put_of row = Put row.0.peer row.0.table row.0.key row.1.life row.1.cells
 -- moment up to this.
 pub record IsSoundRow (config : Config) (moment : ℕ) (row : RowKey × Arrival) : Type 0 where
   pub fits : fits config (put_of row) ≡ true
-  pub kept : kept_cells (cols_of config.tables row.0.table) row.1.cells ≡ row.1.cells
+  pub kept : normalized_cells (cols_of config.tables row.0.table) row.1.cells ≡ row.1.cells
   pub arrived : row.1.arrived ≤ moment
 
 -- the configuration, with the filters that stand, has no fault; moments are up to the last; rows,

@@ -23,7 +23,7 @@ ghost use Rattle.fleet_model.specs.Answers.{set_at, summed};
 ghost use Rattle.fleet_model.specs.Answers as answers;
 ghost use Rattle.fleet_model.specs.Filters.{added_by, first_named};
 ghost use Rattle.fleet_model.specs.History.{judged};
-ghost use Rattle.fleet_model.specs.Kept.{GivesElapsedBack, kept_cells};
+ghost use Rattle.fleet_model.specs.Normalized.{GivesElapsedBack, normalized_cells};
 ghost use Rattle.fleet_model.specs.Laws.{AnswersAlike, AreLive, IsInForce, IsKeyList, IsOrdered};
 ghost use Rattle.fleet_model.specs.Laws.{IsRanking, IsRankingStart, IsSetAt, IsSummedRow};
 ghost use Rattle.fleet_model.specs.Laws.{IsWithinSizes, SaysNothing, opens_at, worth_at};
@@ -291,11 +291,11 @@ pub fn sums_follow_rows()
 /// What a row keeps of its cells says the same as they did at every later moment. It is one form:
 /// the elapsed time of a rate is at most two periods and 1 ms, so the moment from which the rate is
 /// 0 gives it back.
-pub fn kept_cells_say_the_same()
+pub fn normalized_cells_say_the_same()
     ensures worth { (cols : List (Col × ℕ)) (cells : List Cell) (col : Col) (since : ℕ)
-        → column_worth col since cols (kept_cells cols cells) ≡ column_worth col since cols cells }
+        → column_worth col since cols (normalized_cells cols cells) ≡ column_worth col since cols cells }
     ensures once { (cols : List (Col × ℕ)) (cells : List Cell)
-        → kept_cells cols (kept_cells cols cells) ≡ kept_cells cols cells }
+        → normalized_cells cols (normalized_cells cols cells) ≡ normalized_cells cols cells }
     ensures from_zero { (period elapsed cur prev t : ℕ)
         → GivesElapsedBack period elapsed cur prev t }
 {}

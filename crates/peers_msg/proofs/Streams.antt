@@ -8,7 +8,7 @@ use Rattle.peers_msg.specs.declared.fault.WireCause.TheVariants.{TooLong, BadInt
 use Rattle.peers_msg.specs.declared.fault.WireCause.TheVariants.{NoMemory}
 use Rattle.peers_msg.specs.declared.fault.WireFault.{WireFault}
 use Rattle.peers_msg.specs.Message.{Short, frame_at, Reading, with_front, reading_of}
-use Rattle.peers_msg.specs.Kept.{Kept, IsKept}
+use Rattle.peers_msg.specs.DecoderState.{DecoderState, IsKept}
 use Rattle.peers_msg.specs.Feed.{feed_of, fed, kept_after, kept_after_fault, Answers, FaultAnswers}
 use Rattle.peers_msg.specs.Feed.{GoesOn, FaultGoesOn}
 use Rattle.peers_msg.proofs.Appended.{reading_more}
@@ -32,40 +32,40 @@ answer_goes_on (Ok messages) earlier next h =
     (h.0, ap (λ (ms : List Message). earlier.messages ++ ms) (sym h.1))
 answer_goes_on (Err fault) earlier next h = fault_goes_on fault.cause fault.before earlier next h
 
-whole_stream : (old : Kept) (taken piece : List ℕ) → old ≡ feed_of taken
+whole_stream : (old : DecoderState) (taken piece : List ℕ) → old ≡ feed_of taken
     → reading_of (taken ++ piece) ≡ with_front (reading_of taken).messages (fed old piece)
 whole_stream old taken piece is = reading_more taken piece
-    ∙ ap (λ (kept : Kept). with_front (reading_of taken).messages (fed kept piece)) (sym is)
+    ∙ ap (λ (kept : DecoderState). with_front (reading_of taken).messages (fed kept piece)) (sym is)
 
-pub goes_on_stream : (result : Result (List Message) WireFault) (old : Kept) (piece : List ℕ)
+pub goes_on_stream : (result : Result (List Message) WireFault) (old : DecoderState) (piece : List ℕ)
     → Answers result (fed old piece) → (taken : List ℕ) → old ≡ feed_of taken
     → GoesOn result (reading_of taken) (reading_of (taken ++ piece))
 goes_on_stream result old piece h taken is =
     rw (whole_stream old taken piece is)
     (answer_goes_on result (reading_of taken) (fed old piece) h)
 
-kept_fault_same : (cause : WireCause) (old : Kept) (front : List Message) (next : Reading)
+kept_fault_same : (cause : WireCause) (old : DecoderState) (front : List Message) (next : Reading)
     → kept_after_fault cause old next ≡ kept_after_fault cause old (with_front front next)
 kept_fault_same TooLong old front next = refl
 kept_fault_same BadInteger old front next = refl
 kept_fault_same BadField old front next = refl
 kept_fault_same NoMemory old front next = refl
 
-kept_same : (result : Result (List Message) WireFault) (old : Kept) (front : List Message)
+kept_same : (result : Result (List Message) WireFault) (old : DecoderState) (front : List Message)
     (next : Reading) → kept_after result old next ≡ kept_after result old (with_front front next)
 kept_same (Ok messages) old front next = refl
 kept_same (Err fault) old front next = kept_fault_same fault.cause old front next
 
-pub stands_for_stream : (result : Result (List Message) WireFault) (old new : Kept) (piece : List ℕ)
+pub stands_for_stream : (result : Result (List Message) WireFault) (old new : DecoderState) (piece : List ℕ)
     → new ≡ kept_after result old (fed old piece) → (taken : List ℕ) → old ≡ feed_of taken
     → new ≡ kept_after result (feed_of taken) (reading_of (taken ++ piece))
 stands_for_stream result old new piece h taken is =
     h ∙ kept_same result old (reading_of taken).messages (fed old piece)
     ∙ ap (kept_after result old) (sym (whole_stream old taken piece is))
-    ∙ ap (λ (kept : Kept). kept_after result kept (reading_of (taken ++ piece))) is
+    ∙ ap (λ (kept : DecoderState). kept_after result kept (reading_of (taken ++ piece))) is
 
 -- bytes that are less than a message and hold no fault
-pub short_read : (old : Kept) (piece frozen growing : List ℕ) → old.fault ≡ None → frozen ≡ []
+pub short_read : (old : DecoderState) (piece frozen growing : List ℕ) → old.fault ≡ None → frozen ≡ []
     → growing ≡ old.rest ++ piece → frame_at growing ≡ Short
     → fed old piece ≡ record { messages = []; fault = None; rest = frozen ++ growing }
 short_read old piece frozen growing none empty is short =
@@ -88,7 +88,7 @@ faulty_stays rest piece BadInteger h = (λ e. absurd cc, rw h refl)
 faulty_stays rest piece BadField h = (λ e. absurd cc, rw h refl)
 faulty_stays rest piece NoMemory h = absurd h
 
-kept_stays : (rest piece : List ℕ) (fault : Option WireCause) (new : Kept) (cause : WireCause)
+kept_stays : (rest piece : List ℕ) (fault : Option WireCause) (new : DecoderState) (cause : WireCause)
     → IsKept rest fault → fault ≡ Some cause → new
     ≡ kept_after_fault cause (record { rest = rest; fault = fault })
     (fed (record { rest = rest; fault = fault }) piece) → (cause ≢ NoMemory)
@@ -98,7 +98,7 @@ kept_stays rest piece fault new cause h is after =
     let stays = faulty_stays rest piece cause kept in
     (stays.0, rw is (rw is at after ∙ stays.1))
 
-pub feed_stays : (old new : Kept) (piece : List ℕ) (result : Result (List Message) WireFault)
+pub feed_stays : (old new : DecoderState) (piece : List ℕ) (result : Result (List Message) WireFault)
     (cause : WireCause) → IsKept old.rest old.fault → old.fault ≡ Some cause → result
     ≡ Err (record { cause = cause; before = [] }) → new ≡ kept_after result old (fed old piece)
     → (cause ≢ NoMemory) × (new ≡ old) × (result ≡ Err (record { cause = cause; before = [] }))

@@ -7,14 +7,14 @@ use Rattle.peers_msg.specs.declared.fault.WireCause.TheVariants.{NoMemory}
 use Rattle.peers_msg.specs.declared.fault.WireFault.{WireFault}
 use Rattle.agg_types.specs.declared.no_memory.NoMemory.{NoMemory as Refused}
 use Rattle.peers_msg.specs.Message.{Reading, with_front, reading_of}
-use Rattle.peers_msg.specs.Kept.{Kept}
+use Rattle.peers_msg.specs.DecoderState.{DecoderState}
 
-abbrev pub kept_of : Reading → Kept
-kept_of reading = record { rest = reading.rest; fault = reading.fault }
+abbrev pub decoder_of : Reading → DecoderState
+decoder_of reading = record { rest = reading.rest; fault = reading.fault }
 
 -- what a feed keeps after these bytes
-abbrev pub feed_of : List ℕ → Kept
-feed_of taken = kept_of (reading_of taken)
+abbrev pub feed_of : List ℕ → DecoderState
+feed_of taken = decoder_of (reading_of taken)
 
 abbrev pub fed_after : Option WireCause → List ℕ → Reading
 fed_after None bytes = reading_of bytes
@@ -26,7 +26,7 @@ abbrev pub goes_on : Reading → List ℕ → Reading
 goes_on reading more = with_front reading.messages (fed_after reading.fault (reading.rest ++ more))
 
 -- what a piece gives, from what the feed keeps
-abbrev pub fed : Kept → List ℕ → Reading
+abbrev pub fed : DecoderState → List ℕ → Reading
 fed kept piece = fed_after kept.fault (kept.rest ++ piece)
 
 abbrev pub FaultAnswers : WireCause → List Message → Reading → Type 0
@@ -41,13 +41,13 @@ abbrev pub Answers : Result (List Message) WireFault → Reading → Type 0
 Answers (Ok messages) reading = (reading.fault ≡ None) × (messages ≡ reading.messages)
 Answers (Err fault) reading = FaultAnswers fault.cause fault.before reading
 
-abbrev pub kept_after_fault : WireCause → Kept → Reading → Kept
+abbrev pub kept_after_fault : WireCause → DecoderState → Reading → DecoderState
 kept_after_fault NoMemory old reading = old
-kept_after_fault cause old reading = kept_of reading
+kept_after_fault cause old reading = decoder_of reading
 
 -- what the reading leaves, or what was kept before where memory ran out
-abbrev pub kept_after : Result (List Message) WireFault → Kept → Reading → Kept
-kept_after (Ok messages) old reading = kept_of reading
+abbrev pub kept_after : Result (List Message) WireFault → DecoderState → Reading → DecoderState
+kept_after (Ok messages) old reading = decoder_of reading
 kept_after (Err fault) old reading = kept_after_fault fault.cause old reading
 
 abbrev pub FaultGoesOn : WireCause → List Message → Reading → Reading → Type 0
@@ -63,8 +63,8 @@ GoesOn (Err fault) old new = FaultGoesOn fault.cause fault.before old new
 
 -- What a piece gives was read, with the feed as it was; or there is no message and no fault, and
 -- the piece is taken. Want of memory leaves the feed as it was.
-abbrev pub HasRead : Result (Option Reading) Refused → Kept → Kept → Reading → Type 0
+abbrev pub HasRead : Result (Option Reading) Refused → DecoderState → DecoderState → Reading → Type 0
 HasRead (Ok (Some given)) old new reading = (given ≡ reading) × (new ≡ old)
 HasRead (Ok None) old new reading =
-    (reading ≡ record { messages = []; fault = None; rest = new.rest }) × (new ≡ kept_of reading)
+    (reading ≡ record { messages = []; fault = None; rest = new.rest }) × (new ≡ decoder_of reading)
 HasRead (Err refused) old new reading = new ≡ old

@@ -6,5 +6,5 @@ pub mod Gives
 pub mod Decoded
 pub mod Spelling
 pub mod Reads
-pub mod Kept
+pub mod DecoderState
 pub mod Feed

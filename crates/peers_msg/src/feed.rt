@@ -19,8 +19,8 @@ use std::marker::Model;
 /// stream. Contracts see these two.
 #[derive(Debug, Drop)]
 pub struct Feed {
-    /// Kept bytes that share memory with what was last read from them. There are none once that is
-    /// committed.
+    /// Bytes that are kept and share memory with what was last read from them. There are none once
+    /// that is committed.
     frozen: Bytes,
     /// The kept bytes behind those.
     growing: BytesMut,
@@ -30,9 +30,9 @@ pub struct Feed {
 
 impl Model for Feed {
     ghost use Rattle.std.specs.Prelude.{◌++◌};
-    ghost use Rattle.peers_msg.specs.Kept.{Kept, IsKept};
+    ghost use Rattle.peers_msg.specs.DecoderState.{DecoderState, IsKept};
 
-    ghost Value = { Kept };
+    ghost Value = { DecoderState };
 
     ghost view = { λ feed. record {
       rest = feed.frozen ++ feed.growing.items;
@@ -45,7 +45,7 @@ impl Model for Feed {
 impl Feed {
     ghost use Rattle.peers_msg.specs.Kinds.{longest_head};
     ghost use Rattle.peers_msg.specs.Message.{reading_of};
-    ghost use Rattle.peers_msg.specs.Feed.{feed_of, fed, kept_of, kept_after, Answers, GoesOn};
+    ghost use Rattle.peers_msg.specs.Feed.{feed_of, fed, decoder_of, kept_after, Answers, GoesOn};
     ghost use Rattle.peers_msg.specs.Feed.{HasRead};
 
     /// A feed that has taken no byte. Takes no memory.
@@ -122,7 +122,7 @@ impl Feed {
     /// Takes what was read, and hands its messages out. Takes no memory.
     pub fn commit(&mut self, given: Given) -> Items<Message>
         ensures messages { result ≡ given.messages }
-        ensures after { self.new ≡ kept_of given }
+        ensures after { self.new ≡ decoder_of given }
     {
         let (messages, fault, rest) = given.into_parts();
         self.frozen = Bytes::new();

@@ -3,7 +3,7 @@
 ghost use Rattle.std.specs.Prelude.{◌≡◌, ◌+◌, ◌<◌, [], length, None, Some};
 ghost use Rattle.agg_types.specs.declared.limits.TheConstants.{LONGEST_PAYLOAD};
 ghost use Rattle.peers_msg.specs.Decoded.{IsWireFault};
-ghost use Rattle.peers_msg.specs.Kept.{IsKept};
+ghost use Rattle.peers_msg.specs.DecoderState.{IsKept};
 ghost use Rattle.peers_msg.specs.Kinds.{longest_head};
 
 use crate::{Message, WireCause};
@@ -23,7 +23,7 @@ pub struct Given {
 
 impl Model for Given {
     ghost use Rattle.peers_msg.specs.Message.{Reading};
-    ghost use Rattle.peers_msg.specs.Kept.{IsKept};
+    ghost use Rattle.peers_msg.specs.DecoderState.{IsKept};
 
     ghost Value = { Reading };
 

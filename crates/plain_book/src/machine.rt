@@ -3,7 +3,7 @@
 ghost use Rattle.std.specs.Prelude.{◌≡◌, ◌++◌, ◌&&◌, ◌==◌, [], not};
 ghost use Rattle.std.specs.Prelude.{if◌then◌else◌, false, filter, IsTrue, IfOk, IsOk, OnOk, OnErr};
 ghost use Rattle.agg_types.specs.declared.event.What.TheVariants.{Leave};
-ghost use Rattle.fleet_model.specs.Kept.{kept_cell, kept_cells};
+ghost use Rattle.fleet_model.specs.Normalized.{normalized_cell, normalized_cells};
 ghost use Rattle.fleet_model.specs.Machine.{after, counts_now, event_of, number_of, opened};
 ghost use Rattle.fleet_model.specs.Machine.{with_row};
 ghost use Rattle.fleet_model.specs.Rows.{arrival_of, has_room};
@@ -232,12 +232,12 @@ fn arrival_of(
     Ok(Arrival {
         arrived,
         life,
-        cells: kept_cells(alloc, cols_of(tables, table), cells.as_slice())?,
+        cells: normalized_cells(alloc, cols_of(tables, table), cells.as_slice())?,
     })
 }
 
-fn kept_cells(alloc: Global, cols: &[(Col, u32)], cells: &[Cell]) -> Result<Items<Cell>, NoMemory>
-    ensures { IfOk result (λ kept. kept ≡ kept_cells cols.now cells.now) }
+fn normalized_cells(alloc: Global, cols: &[(Col, u32)], cells: &[Cell]) -> Result<Items<Cell>, NoMemory>
+    ensures { IfOk result (λ kept. kept ≡ normalized_cells cols.now cells.now) }
 {
     let mut kept = Vec::with_capacity(alloc, cells.len())?;
     keep_cells(&mut kept, cols, cells)?;
@@ -245,14 +245,14 @@ fn kept_cells(alloc: Global, cols: &[(Col, u32)], cells: &[Cell]) -> Result<Item
 }
 
 fn keep_cells(kept: &mut Vec<Cell>, cols: &[(Col, u32)], cells: &[Cell]) -> Result<(), NoMemory>
-    ensures { OnOk result (kept.new.items ≡ kept.old.items ++ kept_cells cols.now cells.now) }
+    ensures { OnOk result (kept.new.items ≡ kept.old.items ++ normalized_cells cols.now cells.now) }
 {
     match cols {
         [] => Ok(()),
         [col, cols @ ..] => match cells {
             [] => Ok(()),
             [cell, cells @ ..] => {
-                kept.push(kept_cell(col.1, *cell))?;
+                kept.push(normalized_cell(col.1, *cell))?;
                 keep_cells(kept, cols, cells)
             }
         },
@@ -260,8 +260,8 @@ fn keep_cells(kept: &mut Vec<Cell>, cols: &[(Col, u32)], cells: &[Cell]) -> Resu
 }
 
 /// A cell as it is kept: more than two periods are as good as any more.
-fn kept_cell(period: u32, cell: Cell) -> Cell
-    ensures { result ≡ kept_cell period cell }
+fn normalized_cell(period: u32, cell: Cell) -> Cell
+    ensures { result ≡ normalized_cell period cell }
 {
     match cell {
         Cell::Count(count) => Cell::Count(count),

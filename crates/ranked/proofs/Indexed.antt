@@ -24,14 +24,14 @@ use Rattle.ranked.specs.Walk.{AreBounds, bound_of}
 abbrev Index : Type 0
 Index = List (ℕ × List ℕ)
 
-abbrev Kept : Type 0
-Kept = List (List ℕ × ℕ)
+abbrev KeyBounds : Type 0
+KeyBounds = List (List ℕ × ℕ)
 
 pub exact_entry : (a b : ℕ × List ℕ) → entry_cmp (slice_cmp nat_cmp) a b ≡ Equal → a ≡ b
 exact_entry = exact_pairs nat_cmp (slice_cmp nat_cmp) exact_unsigned exact_bytes
 
 -- a key's zeros become these
-abbrev pub Becomes : Kept → Kept → List ℕ → Option ℕ → Type 0
+abbrev pub Becomes : KeyBounds → KeyBounds → List ℕ → Option ℕ → Type 0
 Becomes old new key zeros = (q : List ℕ) → zeros_at new q ≡ cond (is_at (slice_cmp nat_cmp key) q)
     zeros (zeros_at old q)
 
@@ -55,7 +55,7 @@ tells e zeros key =
     ∙ ap (λ b. b && is_eq (slice_cmp nat_cmp e.1 key)) (sym (unsigned_ties e.0 zeros))
     ∙ ap (λ b. (e.0 == zeros) && b) ((eq_by_cmp_equiv nat_list_cmp_total).symm e.1 key)
 
-same_at : (old : Kept) (key q : List ℕ) → is_at (slice_cmp nat_cmp key) q ≡ true
+same_at : (old : KeyBounds) (key q : List ℕ) → is_at (slice_cmp nat_cmp key) q ≡ true
     → zeros_at old q ≡ zeros_at old key
 same_at old key q same = ap (zeros_at old) (sym (exact_bytes key q (equal_from _ same)))
 
@@ -77,7 +77,7 @@ put_tells false at zeros kept none = by (at == zeros)
     by true = refl
     by false = refl
 
-pub put_indexed : (index : Index) (old new : Kept) (key : List ℕ) (zeros : ℕ) → IsIndexOf index old
+pub put_indexed : (index : Index) (old new : KeyBounds) (key : List ℕ) (zeros : ℕ) → IsIndexOf index old
     → zeros_at old key ≡ None → Becomes old new key (Some zeros)
     → IsIndexOf (with_entry (slice_cmp nat_cmp) index (zeros, key)) new
 put_indexed index old new key zeros indexed none becomes e =
@@ -95,7 +95,7 @@ back_tells true there none = sym (none refl)
 back_tells false true none = refl
 back_tells false false none = refl
 
-none_there : (e : ℕ × List ℕ) (old : Kept) (zeros : ℕ) (key : List ℕ) → zeros_at old key ≡ None
+none_there : (e : ℕ × List ℕ) (old : KeyBounds) (zeros : ℕ) (key : List ℕ) → zeros_at old key ≡ None
     → is_eq (entry_cmp (slice_cmp nat_cmp) e (zeros, key)) ≡ true
     → is_number (zeros_at old e.1) e.0 ≡ false
 none_there e old zeros key none here =
@@ -103,7 +103,7 @@ none_there e old zeros key none here =
     ap (λ (f : ℕ × List ℕ). is_number (zeros_at old f.1) f.0) is
     ∙ ap (λ kept. is_number kept zeros) none
 
-pub back_indexed : (index planned : Index) (old : Kept) (key : List ℕ) (zeros : ℕ)
+pub back_indexed : (index planned : Index) (old : KeyBounds) (key : List ℕ) (zeros : ℕ)
     → IsIndexOf index old → zeros_at old key ≡ None → planned ≡ with_entry (slice_cmp nat_cmp) index
     (zeros, key) → IsInOrder (slice_cmp nat_cmp) planned
     → IsIndexOf (without_entry (slice_cmp nat_cmp) planned (zeros, key)) old
@@ -146,7 +146,7 @@ both_tell false at before after kept other is = by (at == after) (at == before) 
     by false false true = refl
     by false false false = refl
 
-pub moved_indexed : (index planned : Index) (old new : Kept) (key : List ℕ) (before after : ℕ)
+pub moved_indexed : (index planned : Index) (old new : KeyBounds) (key : List ℕ) (before after : ℕ)
     → IsIndexOf index old → zeros_at old key ≡ Some before → before ≢ after
     → planned ≡ with_entry (slice_cmp nat_cmp) index (after, key)
     → IsInOrder (slice_cmp nat_cmp) planned → Becomes old new key (Some after)
@@ -182,7 +182,7 @@ none_tells false at zeros kept is = by (is_number kept at) (at == zeros)
     by false true = refl
     by false false = refl
 
-pub dropped_indexed : (index : Index) (old new : Kept) (key : List ℕ) (zeros : ℕ)
+pub dropped_indexed : (index : Index) (old new : KeyBounds) (key : List ℕ) (zeros : ℕ)
     → IsIndexOf index old → zeros_at old key ≡ Some zeros → IsInOrder (slice_cmp nat_cmp) index
     → Becomes old new key None → IsIndexOf (without_entry (slice_cmp nat_cmp) index (zeros, key))
     new
@@ -199,7 +199,7 @@ number_is : (kept : Option ℕ) (n : ℕ) → is_number kept n ≡ true → kept
 number_is None n e = cc
 number_is (Some m) n e = ap Some (eqb-true m n e)
 
-pub entries_kept : (index : Index) (kept : Kept) → IsIndexOf index kept
+pub entries_kept : (index : Index) (kept : KeyBounds) → IsIndexOf index kept
     → AllByRecursion (λ e. zeros_at kept e.1 ≡ Some e.0) index
 entries_kept index kept indexed =
     each_among (entry_cmp (slice_cmp nat_cmp))
@@ -207,7 +207,7 @@ entries_kept index kept indexed =
     ≡ Some e.0) index
     (λ e there. number_is (zeros_at kept e.1) e.0 (sym (indexed e) ∙ there))
 
-pub bounds_hold : (index : Index) (kept : Kept) (living value : List ℕ → ℕ) → IsIndexOf index kept
+pub bounds_hold : (index : Index) (kept : KeyBounds) (living value : List ℕ → ℕ) → IsIndexOf index kept
     → AreAllBounded kept living value → AreBounds living value index
 bounds_hold index kept living value indexed bounded =
     each_among (entry_cmp (slice_cmp nat_cmp))

@@ -2,9 +2,9 @@
 use Rattle.std.proofs.Common.{◌≡◌, ◌≢◌, ℕ, Bool, List, ◌++◌, Option, Some, None, Result, Ok}
 use Rattle.std.proofs.Common.{Err, IfErr, refl, ap, ◌∙◌}
 use Rattle.std.specs.Option.{option_map}
-use Rattle.peers_msg.specs.Kept.{Kept}
+use Rattle.peers_msg.specs.DecoderState.{DecoderState}
 use Rattle.peers_msg.specs.Message.{Reading, reading_of}
-use Rattle.peers_msg.specs.Feed.{fed, kept_of}
+use Rattle.peers_msg.specs.Feed.{fed, decoder_of}
 use Rattle.agg_types.specs.declared.config.Shape.{Shape}
 use Rattle.session_core.specs.declared.batch.SessionFault.{SessionFault}
 use Rattle.session_core.specs.declared.cause.End.{End}
@@ -29,7 +29,7 @@ use Rattle.session_core.specs.Tracked.{Tracked}
 abbrev pub EndsOver : StageOutcome → SessionCause → Type 0
 EndsOver x cause = option_map cause_of x.end ≡ Some cause → over_with x.stage ≡ Some cause
 
-run_over : (peer : ℕ) (kept : Kept) (run : Run) (end : Option End) (cause : SessionCause)
+run_over : (peer : ℕ) (kept : DecoderState) (run : Run) (end : Option End) (cause : SessionCause)
     → EndsOver (run_outcome peer kept run end) cause
 run_over peer kept run None cause is = absurd cc
 run_over peer kept run (Some end) cause is = is
@@ -38,7 +38,7 @@ messages_over : (tables : List Shape) (peer : ℕ) (track : Tracked) (reading : 
     (cause : SessionCause) → EndsOver (messages_outcome tables peer track reading) cause
 unfolding messages_outcome
 messages_over tables peer track reading cause is =
-    run_over peer (kept_of reading) (run tables peer track reading.messages)
+    run_over peer (decoder_of reading) (run tables peer track reading.messages)
     (end_of (run tables peer track reading.messages) reading) cause is
 
 hello_over : (tables : List Shape) (bytes : List ℕ) (hello : Result (Option (ℕ × List ℕ)) Status)

@@ -15,9 +15,9 @@ use Rattle.session_core.specs.declared.track.Entry.{Entry}
 use Rattle.session_core.specs.Run.{Run, run, settled, settled_entry, ack_of, acks_of}
 use Rattle.session_core.specs.Piece.{nothing, run_outcome, stage_at_end, end_reply, with_front}
 use Rattle.session_core.specs.Piece.{messages_outcome, accepted_outcome, welcome, untracked}
-use Rattle.peers_msg.specs.Kept.{Kept}
+use Rattle.peers_msg.specs.DecoderState.{DecoderState}
 use Rattle.peers_msg.specs.Message.{Reading, reading_of, reading_within}
-use Rattle.peers_msg.specs.Feed.{fed, feed_of, kept_of}
+use Rattle.peers_msg.specs.Feed.{fed, feed_of, decoder_of}
 
 pub feed_of_none : feed_of [] ≡ record { rest = []; fault = None }
 unfolding reading_of reading_within
@@ -25,7 +25,7 @@ feed_of_none = refl
 
 -- what is said behind the welcome
 pub opened_is : (tables : List Shape) (peer : ℕ) (rest : List ℕ) (facts : List What)
-    (replies : List ℕ) (feed : Kept) (track : Tracked) → facts ≡ Open peer ∷ [] → replies ≡ welcome
+    (replies : List ℕ) (feed : DecoderState) (track : Tracked) → facts ≡ Open peer ∷ [] → replies ≡ welcome
     → feed ≡ feed_of [] → track ≡ untracked
     → with_front facts replies (messages_outcome tables peer track (fed feed rest))
     ≡ accepted_outcome tables (peer, rest)
@@ -34,7 +34,7 @@ opened_is tables peer rest facts replies feed track facts_are replies_are feed_i
     rw (facts_are, replies_are, track_is, none) refl
 
 -- what an end adds is where the session stands then, and what is sent
-pub conversed_is : (peer : ℕ) (kept : Kept) (run : Run) (end : Option End)
+pub conversed_is : (peer : ℕ) (kept : DecoderState) (run : Run) (end : Option End)
     → run_outcome peer kept run end ≡ record {
       stage =
           stage_at_end (Talking (record {
@@ -80,7 +80,7 @@ pub quiet : (tables : List Shape) (peer : ℕ) (track : Tracked) (reading : Read
     → reading ≡ record { messages = []; fault = None; rest = rest }
     → settled track.entries ≡ track.entries → messages_outcome tables peer track reading
     ≡ record {
-      stage = Talking (record { peer = peer; feed = kept_of reading; track = track });
+      stage = Talking (record { peer = peer; feed = decoder_of reading; track = track });
       batch = nothing;
       end = None;
     }
@@ -88,9 +88,9 @@ unfolding messages_outcome run
 quiet tables peer track reading rest is none = rw (is, none, no_acks track.entries none) refl
 
 pub quiet_said : (tables : List Shape) (peer : ℕ) (track : Tracked) (reading : Reading)
-    (rest : List ℕ) (feed : Kept) (facts : List What) (replies : List ℕ) (split : ℕ)
+    (rest : List ℕ) (feed : DecoderState) (facts : List What) (replies : List ℕ) (split : ℕ)
     (batch : Batched) → reading ≡ record { messages = []; fault = None; rest = rest }
-    → settled track.entries ≡ track.entries → feed ≡ kept_of reading → split ≡ length replies
+    → settled track.entries ≡ track.entries → feed ≡ decoder_of reading → split ≡ length replies
     → batch ≡ record { facts = facts; replies = take split replies; acks = drop split replies }
     → (let x : StageOutcome = record {
       stage =

@@ -8,8 +8,8 @@ use Rattle.peers_msg.specs.declared.fault.WireCause.{WireCause}
 use Rattle.peers_msg.specs.declared.message.Message.{Message}
 use Rattle.peers_msg.specs.declared.message.Message.TheVariants.{Acked}
 use Rattle.peers_msg.specs.Spelling.{message_spelling}
-use Rattle.peers_msg.specs.Feed.{fed, kept_of, goes_on}
-use Rattle.peers_msg.specs.Kept.{Kept}
+use Rattle.peers_msg.specs.Feed.{fed, decoder_of, goes_on}
+use Rattle.peers_msg.specs.DecoderState.{DecoderState}
 use Rattle.peers_msg.specs.Message.{Reading, reading_of}
 use Rattle.peers_msg.proofs.Appended.{reading_more}
 use Rattle.agg_types.specs.declared.config.Shape.{Shape}
@@ -45,13 +45,13 @@ pub record Gives (setup : Setup) (old new : Talk) (taken : StageOutcome) (stage 
 
 -- ---- a piece of messages
 
-abbrev pub stage_for : List Shape → ℕ → Kept → Words → Option Ending → Stage
+abbrev pub stage_for : List Shape → ℕ → DecoderState → Words → Option Ending → Stage
 stage_for tables peer kept words None =
     Talking (record { peer = peer; feed = kept; track = track_for tables 0 words.past })
 stage_for tables peer kept words (Some end) = Over end (Some peer)
 
 -- what a piece of messages with these words gives
-abbrev pub piece_for : List Shape → ℕ → Kept → Words → Option Ending → StageOutcome
+abbrev pub piece_for : List Shape → ℕ → DecoderState → Words → Option Ending → StageOutcome
 piece_for tables peer kept words end =
     record {
       stage = stage_for tables peer kept words end;
@@ -81,7 +81,7 @@ acks_same : (tables : List Shape) (words : Words)
 acks_same tables words = acks_are tables (0 + words.count) words.past
     ∙ ap (λ n. acks_among tables n words.past) (zero-add words.count)
 
-conversed_is : (tables : List Shape) (peer : ℕ) (kept : Kept) (words : Words) (end : Option Ending)
+conversed_is : (tables : List Shape) (peer : ℕ) (kept : DecoderState) (words : Words) (end : Option Ending)
     → run_outcome peer kept (run_for tables 0 words) end ≡ piece_for tables peer kept words end
 conversed_is tables peer kept words None =
     taken_same None (ap (λ (t : Tracked). Talking (record { peer = peer; feed = kept; track = t }))
@@ -95,13 +95,13 @@ end_for words reading = first_end words.end (option_map (λ wire. Wire wire) rea
 
 talked_is : (tables : List Shape) (peer : ℕ) (past : List Message) (reading : Reading)
     → messages_outcome tables peer (track_for tables 0 past) reading ≡ piece_for tables peer
-    (kept_of reading) (words_of tables peer past reading.messages)
+    (decoder_of reading) (words_of tables peer past reading.messages)
     (end_for (words_of tables peer past reading.messages) reading)
 unfolding messages_outcome
 talked_is tables peer past reading =
-    ap (λ (r : Run). run_outcome peer (kept_of reading) r (end_of r reading))
+    ap (λ (r : Run). run_outcome peer (decoder_of reading) r (end_of r reading))
     (run_is tables peer 0 past reading.messages)
-    ∙ conversed_is tables peer (kept_of reading) (words_of tables peer past reading.messages)
+    ∙ conversed_is tables peer (decoder_of reading) (words_of tables peer past reading.messages)
     (end_for (words_of tables peer past reading.messages) reading)
 
 -- ---- the three states of a hello
@@ -128,7 +128,7 @@ refused_gives setup seated taken piece status =
     }
 
 stage_for_is : (tables : List Shape) (peer : ℕ) (reading : Reading) (end : Option Ending)
-    → stage_for tables peer (kept_of reading) (words_read tables peer reading) end
+    → stage_for tables peer (decoder_of reading) (words_read tables peer reading) end
     ≡ stage_at tables peer reading end
 stage_for_is tables peer reading None = refl
 stage_for_is tables peer reading (Some end) = refl
@@ -144,7 +144,7 @@ opened_gives : (setup : Setup) (hello : ℕ × List ℕ)
 opened_gives setup hello =
     let reading = reading_of hello.1 in
     let is : accepted_outcome setup.tables hello ≡ with_front (Open hello.0 ∷ []) welcome
-    (piece_for setup.tables hello.0 (kept_of reading) (words_read setup.tables hello.0 reading)
+    (piece_for setup.tables hello.0 (decoder_of reading) (words_read setup.tables hello.0 reading)
     (end_read setup.tables hello.0 reading)) =
     ap (with_front (Open hello.0 ∷ []) welcome) (talked_is setup.tables hello.0 [] reading) in
     rw is (record {
@@ -194,11 +194,11 @@ talk_is tables peer reading words end e f =
 
 stage_is_for : (tables : List Shape) (peer : ℕ) (reading : Reading) (words : Words)
     (end : Option Ending) → words_read tables peer reading ≡ words
-    → stage_at tables peer reading end ≡ stage_for tables peer (kept_of reading) words end
+    → stage_at tables peer reading end ≡ stage_for tables peer (decoder_of reading) words end
 stage_is_for tables peer reading words None e =
     ap (λ (w : Words). Talking (record {
       peer = peer;
-      feed = kept_of reading;
+      feed = decoder_of reading;
       track =
           track_for tables 0 w.past;
     })) e
@@ -218,7 +218,7 @@ acks_zero tables past n =
     acks_zero_ids past tables (followed_ids tables past) ∙ ap (λ k. acks_among tables k past) none
 
 -- a session that is over says nothing more
-over_gives : (setup : Setup) (seated : Bool) (piece : List ℕ) (peer : ℕ) (kept : Kept)
+over_gives : (setup : Setup) (seated : Bool) (piece : List ℕ) (peer : ℕ) (kept : DecoderState)
     (words : Words) (end : Ending) → Gives setup (accepted_talk peer words (Some end))
     (accepted_talk peer words (Some end)) (piece_of setup seated (Over end (Some peer)) piece)
     (stage_for setup.tables peer kept words (Some end))
@@ -238,13 +238,13 @@ replies_behind : (front first second last : List ℕ) → front ++ ((first ++ se
     ≡ (front ++ (first ++ [])) ++ (second ++ last)
 replies_behind front first second last = rw (append-nil first) (simp append_assoc)
 
-stage_behind : (tables : List Shape) (peer : ℕ) (kept : Kept) (first second : Words)
+stage_behind : (tables : List Shape) (peer : ℕ) (kept : DecoderState) (first second : Words)
     (end : Option Ending) → stage_for tables peer kept second end ≡ stage_for tables peer kept
     (words_behind first second) end
 stage_behind tables peer kept first second None = refl
 stage_behind tables peer kept first second (Some end) = refl
 
-more_gives : (setup : Setup) (peer : ℕ) (kept : Kept) (first second : Words) (end : Option Ending)
+more_gives : (setup : Setup) (peer : ℕ) (kept : DecoderState) (first second : Words) (end : Option Ending)
     → Gives setup (accepted_talk peer first None) (accepted_talk peer (words_behind first second)
     end) (piece_for setup.tables peer kept second end)
     (stage_for setup.tables peer kept (words_behind first second) end)
@@ -263,15 +263,15 @@ more_gives setup peer kept first second end =
 talking_piece : (setup : Setup) (seated : Bool) (piece : List ℕ) (peer : ℕ) (old : Reading)
     (words : Words) → words_read setup.tables peer old ≡ words
     → piece_of setup seated (stage_at setup.tables peer old None) piece ≡ piece_for setup.tables
-    peer (kept_of (fed (kept_of old) piece))
-    (words_of setup.tables peer words.past (fed (kept_of old) piece).messages)
-    (end_for (words_of setup.tables peer words.past (fed (kept_of old) piece).messages)
-    (fed (kept_of old) piece))
+    peer (decoder_of (fed (decoder_of old) piece))
+    (words_of setup.tables peer words.past (fed (decoder_of old) piece).messages)
+    (end_for (words_of setup.tables peer words.past (fed (decoder_of old) piece).messages)
+    (fed (decoder_of old) piece))
 unfolding piece_of
 talking_piece setup seated piece peer old words is =
     ap (λ (w : Words). messages_outcome setup.tables peer (track_for setup.tables 0 w.past)
-    (fed (kept_of old) piece)) is ∙ talked_is setup.tables peer words.past
-    (fed (kept_of old) piece)
+    (fed (decoder_of old) piece)) is ∙ talked_is setup.tables peer words.past
+    (fed (decoder_of old) piece)
 
 -- a reading that goes on, behind its end
 ended_gives : (setup : Setup) (seated : Bool) (piece : List ℕ) (peer : ℕ) (old new : Reading)
@@ -285,7 +285,7 @@ ended_gives setup seated piece peer old new end same was is =
     (talk_is setup.tables peer new (words_read setup.tables peer old) (Some end) same is)
     (ap (λ (e : Option Ending). piece_of setup seated (stage_at setup.tables peer old e) piece) was)
     (ap (stage_at setup.tables peer new) is)
-    (over_gives setup seated piece peer (kept_of new) (words_read setup.tables peer old) end)
+    (over_gives setup seated piece peer (decoder_of new) (words_read setup.tables peer old) end)
 
 -- and where it had none
 open_gives : (setup : Setup) (seated : Bool) (piece : List ℕ) (peer : ℕ) (ms : List Message)
@@ -307,7 +307,7 @@ open_gives setup seated piece peer ms None rest goes =
     let tables = setup.tables in
     let old : Reading = record { messages = ms; fault = None; rest = rest } in
     let new = goes_on old piece in
-    let second = fed (kept_of old) piece in
+    let second = fed (decoder_of old) piece in
     let words = words_of tables peer [] ms in
     let more = words_of tables peer words.past second.messages in
     let end = end_for more second in
@@ -322,7 +322,7 @@ open_gives setup seated piece peer ms None rest goes =
     ∙ talking_piece setup seated piece peer old words refl)
     (ap (stage_at tables peer new) is
     ∙ stage_is_for tables peer new (words_behind words more) end joined)
-    (more_gives setup peer (kept_of second) words more end)
+    (more_gives setup peer (decoder_of second) words more end)
 
 -- a reading that goes on
 reading_gives : (setup : Setup) (seated : Bool) (piece : List ℕ) (peer : ℕ) (ms : List Message)
@@ -340,7 +340,7 @@ reading_gives setup seated piece peer ms fault rest =
           let old : Reading = record { messages = ms; fault = fault; rest = rest } in
           let new = goes_on old piece in
           let same : words_read tables peer new ≡ words_read tables peer old =
-          words_end tables peer [] ms (fed (kept_of old) piece).messages over.0 over.1 in
+          words_end tables peer [] ms (fed (decoder_of old) piece).messages over.0 over.1 in
           ended_gives setup seated piece peer old new over.0 same
           (ap (λ (o : Option Ending). first_end o (option_map (λ wire. Wire wire) fault))
           over.1)

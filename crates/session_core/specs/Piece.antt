@@ -4,11 +4,11 @@ use Rattle.std.specs.Prelude.{Ok, Err}
 use Rattle.std.specs.Option.{option_map}
 use Rattle.peers_msg.specs.declared.fault.WireCause.TheVariants.{TooLong, BadInteger, BadField}
 use Rattle.peers_msg.specs.declared.fault.WireCause.TheVariants.{NoMemory}
-use Rattle.peers_msg.specs.Kept.{Kept}
+use Rattle.peers_msg.specs.DecoderState.{DecoderState}
 use Rattle.peers_msg.specs.Spelling.{message_spelling}
 use Rattle.peers_msg.specs.declared.message.Message.TheVariants as messages
 use Rattle.peers_msg.specs.Message.{Reading, reading_of}
-use Rattle.peers_msg.specs.Feed.{fed, kept_of}
+use Rattle.peers_msg.specs.Feed.{fed, decoder_of}
 use Rattle.agg_types.specs.declared.config.Config.{Config}
 use Rattle.agg_types.specs.declared.config.Shape.{Shape}
 use Rattle.agg_types.specs.declared.event.What.{What}
@@ -67,7 +67,7 @@ abbrev pub end_of : Run → Reading → Option End
 end_of run reading = first_end run.end (option_map (λ wire. ends.Wire wire) reading.fault)
 
 -- what a piece of messages gives, where it ends the session and where it doesn't
-abbrev pub run_outcome : ℕ → Kept → Run → Option End → StageOutcome
+abbrev pub run_outcome : ℕ → DecoderState → Run → Option End → StageOutcome
 run_outcome peer kept run None =
     record {
       stage = Talking (record {
@@ -91,7 +91,7 @@ run_outcome peer kept run (Some end) =
 
 unfoldable pub messages_outcome : List Shape → ℕ → Tracked → Reading → StageOutcome
 messages_outcome tables peer track reading =
-    run_outcome peer (kept_of reading) (run tables peer track reading.messages)
+    run_outcome peer (decoder_of reading) (run tables peer track reading.messages)
     (end_of (run tables peer track reading.messages) reading)
 
 -- behind what was said before it in the same piece

@@ -7,7 +7,7 @@ use Rattle.std.specs.Option.{option_map}
 use Rattle.peers_msg.specs.declared.fault.WireCause.TheVariants.{BadField}
 use Rattle.peers_msg.specs.declared.message.Message.{Message}
 use Rattle.peers_msg.specs.declared.message.Message.TheVariants as messages
-use Rattle.peers_msg.specs.Feed.{kept_of}
+use Rattle.peers_msg.specs.Feed.{decoder_of}
 use Rattle.peers_msg.specs.Message.{Reading, reading_of}
 use Rattle.peers_msg.specs.Spelling.{message_spelling}
 use Rattle.agg_types.specs.declared.config.Shape.{Shape}
@@ -189,7 +189,7 @@ abbrev pub stage_at : List Shape → ℕ → Reading → Option Ending → Stage
 stage_at tables peer reading None =
     Talking (record {
       peer = peer;
-      feed = kept_of reading;
+      feed = decoder_of reading;
       track = track_for tables 0 (words_read tables peer reading).past;
     })
 stage_at tables peer reading (Some end) = Over end (Some peer)

@@ -11,9 +11,9 @@
 #![tactic(auto)]
 
 mod batch;
+mod cached_plan;
 mod cause;
 mod hello;
-mod kept;
 pub mod laws;
 mod plan;
 mod run;

@@ -13,7 +13,7 @@ ghost use Rattle.session_core.specs.Tracked.{place, entry_of, IsStep, defined, s
 ghost use Rattle.session_core.specs.Tracked.{updated_under, step_of};
 
 use crate::cause::End;
-use crate::kept::{Kept, take_plan};
+use crate::cached_plan::{CachedPlan, take_plan};
 use crate::run::settle;
 use crate::undo::{Change, note, take_back};
 use crate::values::{TYPES, key_at, life_of, periods_of};
@@ -68,7 +68,7 @@ pub(crate) struct Track {
     entries: Vec<Entry>,
     current: Option<usize>,
     /// Plans that were made; which of them are kept is nothing that contracts see.
-    plans: Vec<Kept>,
+    plans: Vec<CachedPlan>,
 }
 
 impl std::marker::Model for Track {
@@ -126,7 +126,7 @@ fn tell_put(
     tables: &Declared<Shape>,
     peer: usize,
     followed: &Followed,
-    plan: &mut Option<Kept>,
+    plan: &mut Option<CachedPlan>,
     life: Option<u32>,
     bytes: &[u8],
     facts: &mut Vec<What>,
@@ -172,7 +172,7 @@ fn planned_cells(
     alloc: Global,
     followed: &Followed,
     cols: &[(Col, u32)],
-    plan: &mut Option<Kept>,
+    plan: &mut Option<CachedPlan>,
     values: &[u8],
     cells: &mut Cells,
 ) -> Result<bool, NoMemory>
@@ -187,7 +187,7 @@ fn planned_cells(
     if let Some(plan) = plan {
         return plan.read(alloc, values, cells);
     }
-    let mut made = Kept::new(alloc, followed.bits, &followed.periods, cols)?;
+    let mut made = CachedPlan::new(alloc, followed.bits, &followed.periods, cols)?;
     let whole = made.read(alloc, values, cells)?;
     *plan = Some(made);
     Ok(whole)
@@ -273,7 +273,7 @@ impl Track {
     }
 
     /// Takes out the plan of the table in force, if it is kept.
-    pub(crate) fn plan_now(&mut self, tables: &Declared<Shape>) -> Option<Kept>
+    pub(crate) fn plan_now(&mut self, tables: &Declared<Shape>) -> Option<CachedPlan>
         ensures plan { IfSome result (IsPlanNow tables.now self.old) }
         ensures same { self.new ≡ self.old }
     {
@@ -288,7 +288,7 @@ impl Track {
     }
 
     /// Keeps a plan for later. It goes where as many are kept already, or where memory is refused.
-    pub(crate) fn keep(&mut self, plan: Option<Kept>)
+    pub(crate) fn keep(&mut self, plan: Option<CachedPlan>)
         ensures { self.new ≡ self.old }
     {
         if let Some(plan) = plan
@@ -316,7 +316,7 @@ impl Track {
         alloc: Global,
         tables: &Declared<Shape>,
         peer: usize,
-        plan: &mut Option<Kept>,
+        plan: &mut Option<CachedPlan>,
         message: &Message,
         facts: &mut Vec<What>,
         changes: &mut Vec<Change>,
@@ -426,7 +426,7 @@ impl Track {
         alloc: Global,
         tables: &Declared<Shape>,
         peer: usize,
-        plan: &mut Option<Kept>,
+        plan: &mut Option<CachedPlan>,
         id: Option<u32>,
         life: Option<u32>,
         bytes: &[u8],

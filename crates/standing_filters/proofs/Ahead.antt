@@ -30,8 +30,8 @@ use Rattle.standing_filters.proofs.Planning.{is_that}
 use Rattle.standing_filters.proofs.Walking.{come_since, key_itself, member_due, moment_come}
 use Rattle.standing_filters.proofs.Walking.{one_key}
 
-abbrev Kept : Type 0
-Kept = List (List ℕ × Verdict)
+abbrev KeyVerdicts : Type 0
+KeyVerdicts = List (List ℕ × Verdict)
 
 abbrev Index : Type 0
 Index = List (ℕ × List ℕ)
@@ -72,13 +72,13 @@ none_next key [] t apart = refl
 none_next key (j ∷ judged) t apart =
     rw (flipped j.key key ∙ apart.0) (none_next key judged t apart.1)
 
-stands_here : (kept : Kept) (j : Judged) (e : ℕ × List ℕ) → (verdict_at kept j.key).next ≡ Some j.at
+stands_here : (kept : KeyVerdicts) (j : Judged) (e : ℕ × List ℕ) → (verdict_at kept j.key).next ≡ Some j.at
     → same_key j.key e.1 ≡ true → is_moment (verdict_at kept e.1).next e.0
     ≡ is_moment (Some j.at) e.0
 stands_here kept j e plan same = ap (λ k. is_moment (verdict_at kept k).next e.0)
     (sym (one_key j.key e.1 same)) ∙ ap (λ m. is_moment m e.0) plan
 
-pub ahead_more : (kept : Kept) (judged : List Judged) (j : Judged) (due new : Index)
+pub ahead_more : (kept : KeyVerdicts) (judged : List Judged) (j : Judged) (due new : Index)
     → (verdict_at kept j.key).next ≡ Some j.at → IsAhead kept judged due
     → IsPlanned j.key (Some j.at) j.verdict.next due new → IsAhead kept (judged ++ j ∷ []) new
 ahead_more kept judged j due new plan ahead planned e =
@@ -93,7 +93,7 @@ ahead_more kept judged j due new plan ahead planned e =
     (sym (list_any-append (λ j. same_key j.key e.1 && is_moment j.verdict.next e.0)
     judged (j ∷ [])))
 
-pub ahead_less : (kept : Kept) (judged : List Judged) (j : Judged) (due new : Index)
+pub ahead_less : (kept : KeyVerdicts) (judged : List Judged) (j : Judged) (due new : Index)
     → (verdict_at kept j.key).next ≡ Some j.at → AllByRecursion (λ y. same_key j.key y ≡ false)
     (keys_judged judged) → IsAhead kept (j ∷ judged) due
     → IsUnplanned j.key j.verdict.next (Some j.at) due new → IsAhead kept judged new
@@ -112,10 +112,10 @@ or_none : (b : Bool) → (b || false) ≡ b
 or_none true = refl
 or_none false = refl
 
-pub ahead_none : (kept : Kept) (due : Index) → IsAhead kept [] due → IsPlanOf kept due
+pub ahead_none : (kept : KeyVerdicts) (due : Index) → IsAhead kept [] due → IsPlanOf kept due
 ahead_none kept due ahead e = ahead e ∙ or_none (is_moment (verdict_at kept e.1).next e.0)
 
-pub none_ahead : (kept : Kept) (due : Index) → IsPlanOf kept due → IsAhead kept [] due
+pub none_ahead : (kept : KeyVerdicts) (due : Index) → IsPlanOf kept due → IsAhead kept [] due
 none_ahead kept due exact e = exact e ∙ sym (or_none (is_moment (verdict_at kept e.1).next e.0))
 
 all_taken : (P : List ℕ → Type 0) (n : ℕ) (keys : List (List ℕ)) → AllByRecursion P keys
@@ -146,11 +146,11 @@ plan_kept None t is = cc
 plan_kept (Some v) t is = refl
 
 -- a key whose verdict changes is kept
-pub planned_kept : (kept : Kept) (key : List ℕ) (t : ℕ) → (verdict_at kept key).next ≡ Some t
+pub planned_kept : (kept : KeyVerdicts) (key : List ℕ) (t : ℕ) → (verdict_at kept key).next ≡ Some t
     → IsSome (kept_at kept key)
 planned_kept kept key t is = plan_kept (kept_at kept key) t is
 
-pub plans_stay : (key : List ℕ) (verdict : Verdict) (kept new : Kept) (judged : List Judged)
+pub plans_stay : (key : List ℕ) (verdict : Verdict) (kept new : KeyVerdicts) (judged : List Judged)
     → Becomes key verdict kept new
     → AllByRecursion (λ y. same_key key y ≡ false) (keys_judged judged) → ArePlans kept judged
     → ArePlans new judged
@@ -161,21 +161,21 @@ plans_stay key verdict kept new (j ∷ judged) becomes apart plans = (
   plans_stay key verdict kept new judged becomes apart.1 plans.1,
 )
 
-after_same : (judged : List Judged) (kept new : Kept) (key : List ℕ)
+after_same : (judged : List Judged) (kept new : KeyVerdicts) (key : List ℕ)
     → verdict_at new key ≡ verdict_at kept key → verdict_after judged new key
     ≡ verdict_after judged kept key
 after_same [] kept new key same = same
 after_same (j ∷ judged) kept new key same =
     ap (λ v. cond (same_key j.key key) j.verdict v) (after_same judged kept new key same)
 
-after_none : (judged : List Judged) (kept : Kept) (key : List ℕ)
+after_none : (judged : List Judged) (kept : KeyVerdicts) (key : List ℕ)
     → AllByRecursion (λ y. same_key key y ≡ false) (keys_judged judged)
     → verdict_after judged kept key ≡ verdict_at kept key
 after_none [] kept key apart = refl
 after_none (j ∷ judged) kept key apart =
     rw (flipped j.key key ∙ apart.0) (after_none judged kept key apart.1)
 
-pub after_less : (judged : List Judged) (j : Judged) (kept new : Kept)
+pub after_less : (judged : List Judged) (j : Judged) (kept new : KeyVerdicts)
     → AllByRecursion (λ y. same_key j.key y ≡ false) (keys_judged judged)
     → Becomes j.key j.verdict kept new → (key : List ℕ) → verdict_after judged new key
     ≡ verdict_after (j ∷ judged) kept key
@@ -203,7 +203,7 @@ all_none : (key : List ℕ) (keys : List (List ℕ)) → AllByRecursion (λ y. s
 all_none key [] none = refl
 all_none key (k ∷ keys) none = rw none.0 (all_none key keys none.1)
 
-member_after : (Q : List ℕ → Verdict → Type 0) (judged : List Judged) (kept : Kept) (key : List ℕ)
+member_after : (Q : List ℕ → Verdict → Type 0) (judged : List Judged) (kept : KeyVerdicts) (key : List ℕ)
     → AllByRecursion (λ j. Q j.key j.verdict) judged → list_any (same_key key) (keys_judged judged)
     ≡ true → Q key (verdict_after judged kept key)
 member_after Q [] kept key all there = absurd (false≢true there)
@@ -218,7 +218,7 @@ member_after Q (j ∷ judged) kept key all there =
         (λ here. absurd (false≢true (sym other ∙ flipped j.key key ∙ here))) (λ later. later)
         (or_cases (same_key key j.key) (list_any (same_key key) (keys_judged judged)) there))
 
-next_is : (judged : List Judged) (kept : Kept) (e : ℕ × List ℕ)
+next_is : (judged : List Judged) (kept : KeyVerdicts) (e : ℕ × List ℕ)
     → IsDistinct same_key (keys_judged judged) → list_any (same_key e.1) (keys_judged judged) ≡ true
     → is_next_of judged e ≡ is_moment (verdict_after judged kept e.1).next e.0
 next_is [] kept e apart there = absurd (false≢true there)
@@ -298,7 +298,7 @@ module _ (summed : ℕ → List ℕ → Col → ℕ → ℕ) (living : ℕ → L
       (is_that (verdict_at w.kept e.1).next e.0 moment) come))))
       (cases_lt t e.0)
 
-  pub settled : (ahead after : Index) (new : Kept) → IsAhead w.kept judged ahead
+  pub settled : (ahead after : Index) (new : KeyVerdicts) → IsAhead w.kept judged ahead
       → ((e : ℕ × List ℕ) → has_plan after e ≡ (has_plan ahead e && ltb t e.0))
       → ((key : List ℕ) → verdict_at new key ≡ verdict_after judged w.kept key) → IsPlanOf new after
   settled ahead after new plans cut kept e =

@@ -24,10 +24,10 @@ use Rattle.standing_filters.specs.declared.judging.Verdict.{Verdict}
 use Rattle.standing_filters.proofs.Members.{equal_from, exact_entry}
 use Rattle.standing_filters.proofs.Planning.{is_that}
 
-abbrev Kept : Type 0
-Kept = List (List ℕ × Verdict)
+abbrev KeyVerdicts : Type 0
+KeyVerdicts = List (List ℕ × Verdict)
 
-all_held : (P : List ℕ → Type 0) (kept : Kept) → AllByRecursion P (keys_of kept)
+all_held : (P : List ℕ → Type 0) (kept : KeyVerdicts) → AllByRecursion P (keys_of kept)
     → AllByRecursion P (keys_held kept)
 all_held P [] h = tt
 all_held P (e ∷ kept) h = by e.1.holds h.0 (all_held P kept h.1)
@@ -49,7 +49,7 @@ sorted_none : IsStrictlySortedBy (slice_cmp nat_cmp) []
 unfolding IsStrictlySortedBy
 sorted_none = tt
 
-pub held_ordered : (kept : Kept) → IsStrictlySortedBy (slice_cmp nat_cmp) (keys_of kept)
+pub held_ordered : (kept : KeyVerdicts) → IsStrictlySortedBy (slice_cmp nat_cmp) (keys_of kept)
     → IsStrictlySortedBy (slice_cmp nat_cmp) (keys_held kept)
 held_ordered [] h = sorted_none
 held_ordered (e ∷ kept) h = by e.1.holds (all_held (λ y. slice_cmp nat_cmp e.0 y ≡ Less) kept
@@ -72,7 +72,7 @@ held_found : (found : Option Verdict) → is_some (option_filter (λ v. v.holds)
 held_found None = refl
 held_found (Some v) = holds_kept v v.holds refl
 
-pub held_exact : (kept : Kept) → IsStrictlySortedBy (slice_cmp nat_cmp) (keys_of kept)
+pub held_exact : (kept : KeyVerdicts) → IsStrictlySortedBy (slice_cmp nat_cmp) (keys_of kept)
     → (key : List ℕ) → list_any (is_at (slice_cmp nat_cmp key)) (keys_held kept)
     ≡ (verdict_at kept key).holds
 held_exact kept sorted key =
@@ -116,11 +116,11 @@ least e f entries ordered there =
     lower [] h = tt
     lower (x ∷ xs) h = (not_earlier e x h.0, lower xs h.1)
 
-pub stands : (kept : Kept) (due : List (ℕ × List ℕ)) → IsPlanOf kept due → (key : List ℕ) (u : ℕ)
+pub stands : (kept : KeyVerdicts) (due : List (ℕ × List ℕ)) → IsPlanOf kept due → (key : List ℕ) (u : ℕ)
     → (verdict_at kept key).next ≡ Some u → has_plan due (u, key) ≡ true
 stands kept due exact key u is = exact (u, key) ∙ ap (λ m. is_moment m u) is ∙ eq-eqb u u refl
 
-pub first_change : (kept : Kept) (due : List (ℕ × List ℕ)) → IsPlanOf kept due
+pub first_change : (kept : KeyVerdicts) (due : List (ℕ × List ℕ)) → IsPlanOf kept due
     → IsInOrder (slice_cmp nat_cmp) due → IsFirstChange kept (first_moment due)
 first_change kept [] exact ordered =
     λ key. never (verdict_at kept key).next (λ u is. false≢true (stands kept [] exact key u is))

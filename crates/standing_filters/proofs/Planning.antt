@@ -17,8 +17,8 @@ use Rattle.standing_filters.specs.Watched.{verdict_at}
 use Rattle.standing_filters.specs.declared.judging.Verdict.{Verdict}
 use Rattle.standing_filters.proofs.Members.{equal_from, has-with, has-without, out-put}
 
-abbrev Kept : Type 0
-Kept = List (List ℕ × Verdict)
+abbrev KeyVerdicts : Type 0
+KeyVerdicts = List (List ℕ × Verdict)
 
 abbrev Index : Type 0
 Index = List (ℕ × List ℕ)
@@ -72,14 +72,14 @@ unplanned_is due key at stays ordered differ e =
 same_key : (key q : List ℕ) → is_at (slice_cmp nat_cmp key) q ≡ true → key ≡ q
 same_key key q same = exact_bytes key q (equal_from _ same)
 
-change_at : (kept : Kept) (key : List ℕ) → (verdict_at kept key).next ≡ change_of (kept_at kept key)
+change_at : (kept : KeyVerdicts) (key : List ℕ) → (verdict_at kept key).next ≡ change_of (kept_at kept key)
 change_at kept key = by (kept_at kept key)
   where
     by : (found : Option Verdict) → (unwrap_or found out).next ≡ change_of found
     by None = refl
     by (Some verdict) = refl
 
-change_here : (kept : Kept) (key q : List ℕ) → is_at (slice_cmp nat_cmp key) q ≡ true
+change_here : (kept : KeyVerdicts) (key q : List ℕ) → is_at (slice_cmp nat_cmp key) q ≡ true
     → (verdict_at kept q).next ≡ change_of (kept_at kept key)
 change_here kept key q same = ap (λ k. (verdict_at kept k).next) (sym (same_key key q same))
     ∙ change_at kept key
@@ -99,7 +99,7 @@ turned false x y h is = by h
     by true = refl
     by false = refl
 
-become : (key : List ℕ) (verdict : Verdict) (kept new : Kept) → Becomes key verdict kept new
+become : (key : List ℕ) (verdict : Verdict) (kept new : KeyVerdicts) → Becomes key verdict kept new
     → (e : ℕ × List ℕ) → is_moment (verdict_at new e.1).next e.0
     ≡ cond (is_at (slice_cmp nat_cmp key) e.1) (is_moment verdict.next e.0)
     (is_moment (verdict_at kept e.1).next e.0)
@@ -111,7 +111,7 @@ become key verdict kept new becomes e = ap (λ v. is_moment v.next e.0) (becomes
     by true = refl
     by false = refl
 
-pub committed : (due planned after : Index) (kept new : Kept) (key : List ℕ) (verdict : Verdict)
+pub committed : (due planned after : Index) (kept new : KeyVerdicts) (key : List ℕ) (verdict : Verdict)
     (old : Option ℕ) → IsPlanOf kept due → old ≡ change_of (kept_at kept key)
     → IsPlanned key old verdict.next due planned → IsUnplanned key old verdict.next planned after
     → Becomes key verdict kept new → IsPlanOf new after
@@ -127,7 +127,7 @@ committed due planned after kept new key verdict old exact is plan unplan become
     ∙ sym (become key verdict kept new becomes e)
 
 -- a verdict on a key that had none: nothing is cancelled
-pub entered : (due after : Index) (kept new : Kept) (key : List ℕ) (verdict : Verdict)
+pub entered : (due after : Index) (kept new : KeyVerdicts) (key : List ℕ) (verdict : Verdict)
     → IsPlanOf kept due → kept_at kept key ≡ None → IsPlanned key None verdict.next due after
     → Becomes key verdict kept new → IsPlanOf new after
 entered due after kept new key verdict exact none plan becomes =
@@ -151,7 +151,7 @@ cut false y h is = by h
     by true = refl
     by false = refl
 
-pub forgotten : (due after : Index) (kept new : Kept) (key : List ℕ) → IsPlanOf kept due
+pub forgotten : (due after : Index) (kept new : KeyVerdicts) (key : List ℕ) → IsPlanOf kept due
     → IsUnplanned key (change_of (kept_at kept key)) None due after → Becomes key out kept new
     → IsPlanOf new after
 forgotten due after kept new key exact unplan becomes e =
@@ -178,7 +178,7 @@ back false x y h is = by h
     by true = refl
     by false = refl
 
-pub backed_out : (due planned after : Index) (kept : Kept) (key : List ℕ) (verdict : Verdict)
+pub backed_out : (due planned after : Index) (kept : KeyVerdicts) (key : List ℕ) (verdict : Verdict)
     (old : Option ℕ) → IsPlanOf kept due → old ≡ change_of (kept_at kept key)
     → IsPlanned key old verdict.next due planned → IsUnplanned key verdict.next old planned after
     → IsPlanOf kept after
@@ -194,7 +194,7 @@ backed_out due planned after kept key verdict old exact is plan unplan e =
 
 -- ---- room for a verdict
 
-pub room_same : (kept new : Kept) (key : List ℕ) → kept_at kept key ≡ None
+pub room_same : (kept new : KeyVerdicts) (key : List ℕ) → kept_at kept key ≡ None
     → ((q : List ℕ) → kept_at new q ≡ cond (is_at (slice_cmp nat_cmp key) q) (Some out)
     (kept_at kept q)) → (q : List ℕ) → verdict_at new q ≡ verdict_at kept q
 room_same kept new key none becomes q = ap (λ found. unwrap_or found out) (becomes q)
@@ -211,14 +211,14 @@ none_there None h = refl
 none_there (Some v) h = cc
 
 -- the room is given back
-pub room_back : (kept : Kept) (key : List ℕ) → kept_at kept key ≡ None
+pub room_back : (kept : KeyVerdicts) (key : List ℕ) → kept_at kept key ≡ None
     → without_key key (with_room key kept) ≡ kept
 room_back kept key none =
     ap (λ found. without_key key (cond (is_some found) kept
     (insert_entry (slice_cmp nat_cmp) kept key out))) none
     ∙ out-put nat_list_cmp_total key out kept none
 
-pub room_restored : (kept : Kept) (key : List ℕ) (found : Option Verdict) → found ≡ kept_at kept key
+pub room_restored : (kept : KeyVerdicts) (key : List ℕ) (found : Option Verdict) → found ≡ kept_at kept key
     → cond (is_some found) (with_room key kept) (without_key key (with_room key kept)) ≡ kept
 room_restored kept key None is = room_back kept key (sym is)
 room_restored kept key (Some v) is =

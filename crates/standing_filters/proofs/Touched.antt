@@ -22,15 +22,15 @@ use Rattle.standing_filters.proofs.Members.{equal_from}
 use Rattle.standing_filters.proofs.Planning.{backed_out, committed, entered, forgotten}
 use Rattle.standing_filters.proofs.Planning.{room_restored}
 
-abbrev Kept : Type 0
-Kept = List (List ℕ × Verdict)
+abbrev KeyVerdicts : Type 0
+KeyVerdicts = List (List ℕ × Verdict)
 
-becomes_here : (key : List ℕ) (verdict : Verdict) (old new : Kept) → Becomes key verdict old new
+becomes_here : (key : List ℕ) (verdict : Verdict) (old new : KeyVerdicts) → Becomes key verdict old new
     → verdict_at new key ≡ verdict
 becomes_here key verdict old new becomes = becomes key
     ∙ ap (λ r. cond (is_eq r) verdict (verdict_at old key)) (tied_itself nat_list_cmp_total key)
 
-stays_there : (key : List ℕ) (verdict : Verdict) (old new : Kept) → Becomes key verdict old new
+stays_there : (key : List ℕ) (verdict : Verdict) (old new : KeyVerdicts) → Becomes key verdict old new
     → (q : List ℕ) → q ≢ key → verdict_at new q ≡ verdict_at old q
 stays_there key verdict old new becomes q other = becomes q
     ∙ by (is_at (slice_cmp nat_cmp key) q) refl
@@ -54,7 +54,7 @@ touched summed living table key now old new verdict of same judged becomes = rec
 }
 
 -- a verdict that is kept already becomes itself
-pub becomes_itself : (key : List ℕ) (verdict : Verdict) (kept : Kept)
+pub becomes_itself : (key : List ℕ) (verdict : Verdict) (kept : KeyVerdicts)
     → kept_at kept key ≡ Some verdict → Becomes key verdict kept kept
 becomes_itself key verdict kept is q = by (is_at (slice_cmp nat_cmp key) q) refl
   where
@@ -98,7 +98,7 @@ others_untouched summed living table key now (w ∷ watches) none =
     )
 
 -- where the verdicts were made room for before
-pub becomes_after : (key : List ℕ) (verdict : Verdict) (old roomed new : Kept)
+pub becomes_after : (key : List ℕ) (verdict : Verdict) (old roomed new : KeyVerdicts)
     → ((q : List ℕ) → verdict_at roomed q ≡ verdict_at old q) → Becomes key verdict roomed new
     → Becomes key verdict old new
 becomes_after key verdict old roomed new same becomes q = becomes q

@@ -34,8 +34,8 @@ use Rattle.standing_filters.proofs.Held.{least, stands}
 use Rattle.standing_filters.proofs.Members.{equal_from, exact_entry}
 use Rattle.standing_filters.proofs.Planning.{is_that}
 
-abbrev Kept : Type 0
-Kept = List (List ℕ × Verdict)
+abbrev KeyVerdicts : Type 0
+KeyVerdicts = List (List ℕ × Verdict)
 
 abbrev Index : Type 0
 Index = List (ℕ × List ℕ)
@@ -131,7 +131,7 @@ some_inj : (a b : ℕ) → Some a ≡ Some b → a ≡ b
 some_inj a b same = ap (λ o. unwrap_or o 0) same
 
 -- another judged key of the same bytes would stand at the same moment
-apart_entries : (kept : Kept) (a b : Judged) → (verdict_at kept a.key).next ≡ Some a.at
+apart_entries : (kept : KeyVerdicts) (a b : Judged) → (verdict_at kept a.key).next ≡ Some a.at
     → (verdict_at kept b.key).next ≡ Some b.at → order (planned_at a) (planned_at b) ≡ Less
     → same_key a.key b.key ≡ false
 apart_entries kept a b here there less = false_from_ne_true _ (λ same.
@@ -142,7 +142,7 @@ apart_entries kept a b here there less = false_from_ne_true _ (λ same.
     false≢true (sym (ap is_eq less) ∙ ap (λ e. is_eq (order (planned_at a) e)) (sym entry)
     ∙ itself (planned_at a)))
 
-apart_from : (kept : Kept) (a : Judged) (judged : List Judged) → (verdict_at kept a.key).next
+apart_from : (kept : KeyVerdicts) (a : Judged) (judged : List Judged) → (verdict_at kept a.key).next
     ≡ Some a.at → AllByRecursion (λ e. order (planned_at a) e ≡ Less) (map planned_at judged)
     → ArePlans kept judged → AllByRecursion (λ key. same_key a.key key ≡ false) (keys_judged judged)
 apart_from kept a [] here above plans = tt
@@ -151,7 +151,7 @@ apart_from kept a (b ∷ judged) here above plans = (
   apart_from kept a judged here above.1 plans.1,
 )
 
-all_apart : (kept : Kept) (judged : List Judged) → ArePlans kept judged
+all_apart : (kept : KeyVerdicts) (judged : List Judged) → ArePlans kept judged
     → IsInOrder (slice_cmp nat_cmp) (map planned_at judged)
     → IsDistinct same_key (keys_judged judged)
 unfolding IsDistinct
@@ -172,7 +172,7 @@ entry_key (j ∷ judged) e there = ⊎_elim
     (entry_key judged e later))
     (or_cases (is_eq (order e (planned_at j))) (has_plan (map planned_at judged) e) there)
 
-plans_of : (kept : Kept) (judged : List Judged)
+plans_of : (kept : KeyVerdicts) (judged : List Judged)
     → AllByRecursion (λ e. (verdict_at kept e.1).next ≡ Some e.0) (map planned_at judged)
     → ArePlans kept judged
 plans_of kept [] h = tt
@@ -236,7 +236,7 @@ some_due : (t : ℕ) (found : Option Verdict) → is_due t (unwrap_or found out)
 some_due t None come = absurd (false≢true come)
 some_due t (Some v) come = (v, refl, come)
 
-due_member : (t : ℕ) (key : List ℕ) (v : Verdict) (kept : Kept) → kept_at kept key ≡ Some v
+due_member : (t : ℕ) (key : List ℕ) (v : Verdict) (kept : KeyVerdicts) → kept_at kept key ≡ Some v
     → is_due t v ≡ true → list_any (same_key key) (keys_of (filter (λ e. is_due t e.1) kept)) ≡ true
 due_member t key v [] found come = cc
 due_member t key v (e ∷ kept) found come = by (same_key key e.0) refl (is_due t e.1) refl found
@@ -258,7 +258,7 @@ due_member t key v (e ∷ kept) found come = by (same_key key e.0) refl (is_due 
         (keys_of (filter (λ e. is_due t e.1) kept))) (rest found)
     by false same false due found rest = rest found
 
-pub member_due : (t : ℕ) (kept : Kept) (judged : List Judged) → ArePlans kept judged
+pub member_due : (t : ℕ) (kept : KeyVerdicts) (judged : List Judged) → ArePlans kept judged
     → AllByRecursion (λ j. j.at ≤ t) judged → (key : List ℕ)
     → list_any (same_key key) (keys_judged judged) ≡ true → is_due t (verdict_at kept key) ≡ true
 member_due t kept [] plans come key there = absurd (false≢true there)

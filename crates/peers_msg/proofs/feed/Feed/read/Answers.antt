@@ -1,7 +1,7 @@
 use Rattle.std.proofs.Common.{◌≡◌, ◌++◌, ◌∙◌, ap, sym}
 use Rattle.peers_msg.specs.Message.{Short, frame_at, Reading}
-use Rattle.peers_msg.specs.Kept.{Kept}
-use Rattle.peers_msg.specs.Feed.{fed, kept_of}
+use Rattle.peers_msg.specs.DecoderState.{DecoderState}
+use Rattle.peers_msg.specs.Feed.{fed, decoder_of}
 use Rattle.peers_msg.proofs.Streams.{short_read, short_kept}
 use Rattle.peers_msg.proofs.feed.Feed.read.Goals as goal
 
@@ -16,17 +16,17 @@ pub returns-in-Short-clause-reading : goal.returns-in-Short-clause-reading
 returns-in-Short-clause-reading c =
     let short : frame_at c.join.new.growing.items ≡ Short = ap frame_at (sym c.as_slice.ensures)
     ∙ c.in-Short.ensures.exact in
-    let old : Kept = record {
+    let old : DecoderState = record {
       rest = c.self.inside.frozen ++ c.self.inside.growing.items;
       fault =
           c.self.inside.fault;
     } in
     let same : c.args.self.now ≡ old = sym c.self.view_is in
-    let read = ap (λ (kept : Kept). fed kept c.args.piece.now) same
+    let read = ap (λ (kept : DecoderState). fed kept c.args.piece.now) same
     ∙ short_read old c.args.piece.now c.join.new.frozen c.join.new.growing.items c.in_default.is
     c.in_ok-len.ensures.ok.0 c.in_ok-len.ensures.ok.1 short in (
       read,
-      ap (λ fault. let kept : Kept =
+      ap (λ fault. let kept : DecoderState =
           record { rest = c.join.new.frozen ++ c.join.new.growing.items; fault = fault } in
-          kept) c.in_default.is ∙ ap (λ (reading : Reading). kept_of reading) (sym read),
+          kept) c.in_default.is ∙ ap (λ (reading : Reading). decoder_of reading) (sym read),
     )

@@ -14,7 +14,7 @@ use std::marker::Model;
 /// A plan, with the data types, the periods and the columns that it was made of, in a block of
 /// their own, so that it is moved at little cost. Contracts see the plan.
 #[derive(Debug, Drop)]
-pub(crate) struct Kept {
+pub(crate) struct CachedPlan {
     made: Box<Made>,
 }
 
@@ -26,7 +26,7 @@ struct Made {
     plan: DecodePlan,
 }
 
-impl Model for Kept {
+impl Model for CachedPlan {
     ghost use Rattle.std.specs.Prelude.{box_value};
     ghost use Rattle.session_core.specs.declared.plan.DecodePlan.{DecodePlan};
 
@@ -46,14 +46,14 @@ impl Model for Made {
     ghost invariant = { λ made. IsPlan made.bits made.periods made.cols made.plan };
 }
 
-impl Kept {
+impl CachedPlan {
     /// The plan for updates with these data types and periods, under these columns.
     pub(crate) fn new(
         alloc: Global,
         bits: u64,
         periods: &[u64; TYPES],
         cols: &[(Col, u32)],
-    ) -> Result<Kept, NoMemory>
+    ) -> Result<CachedPlan, NoMemory>
         ensures { IfOk result (IsPlan bits periods.now cols.now) }
     {
         let made = Made {
@@ -62,7 +62,7 @@ impl Kept {
             cols: Items::copy(alloc, cols)?,
             plan: DecodePlan::new(alloc, bits, periods, cols)?,
         };
-        Ok(Kept {
+        Ok(CachedPlan {
             made: Box::new(alloc, made)?,
         })
     }
@@ -144,11 +144,11 @@ fn same_col(left: Col, right: Col) -> bool
 
 /// The plan of these, if it is among those kept; it is taken out.
 pub(crate) fn take_plan(
-    plans: &mut Vec<Kept>,
+    plans: &mut Vec<CachedPlan>,
     bits: u64,
     periods: &[u64; TYPES],
     cols: &[(Col, u32)],
-) -> Option<Kept>
+) -> Option<CachedPlan>
     ensures { IfSome result (IsPlan bits periods.now cols.now) }
 {
     for at in 0..plans.len() {

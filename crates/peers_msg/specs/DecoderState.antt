@@ -7,7 +7,7 @@ use Rattle.peers_msg.specs.declared.fault.WireCause.TheVariants.{NoMemory}
 use Rattle.peers_msg.specs.Kinds.{longest_head}
 
 -- the bytes that are no whole message yet, or the fault that ended the stream
-pub record Kept : Type 0 where
+pub record DecoderState : Type 0 where
   pub rest : List ℕ
   pub fault : Option WireCause
 
