@@ -4,7 +4,7 @@ use Rattle.std.proofs.Common.{append_assoc}
 use Rattle.std.proofs.lemmas.List.{append-nil}
 use Rattle.line_words.specs.Reader.{◌>>=◌}
 use Rattle.line_words.specs.declared.misread.Misread.{Misread}
-use Rattle.agg_config.specs.Front.{read_each}
+use Rattle.agg_config.specs.ReadResults.{read_each}
 
 -- what was read before stands in front of what is read
 abbrev pub with_front : {B : Type 0} → List B → Result (List B) Misread → Result (List B) Misread

@@ -11,7 +11,7 @@ use Rattle.agg_config.specs.Reading.{takes_memory, written}
 use Rattle.agg_config.specs.declared.causes.LineCause.TheVariants.{NoMemory}
 use Rattle.agg_config.specs.declared.causes.LineFault.{LineFault}
 use Rattle.agg_config.specs.declared.causes.Wrong.{Wrong}
-use Rattle.agg_config.proofs.Lines.{Stands, faulty, is_named-push, sound_more, stands, written-push}
+use Rattle.agg_config.proofs.Lines.{IsLineAt, faulty, is_named-push, sound_more, line_found, written-push}
 
 -- the first lines of a longer list
 front_is : (lines more : List (List ℕ)) → take (length lines) (lines ++ more) ≡ lines
@@ -48,8 +48,8 @@ pub read_more : (lines : List (List ℕ)) (line : List ℕ) (config after : Conf
     → Passes config named (meaning line) after told
     → AreWritten (lines ++ line ∷ []) after told (count + 1)
 read_more lines line config after named told count h passes =
-    let s : Stands (lines ++ line ∷ []) (length lines) line [] =
-    stands (lines ++ line ∷ []) (length lines) line [] (rest_is lines (line ∷ [])) in
+    let s : IsLineAt (lines ++ line ∷ []) (length lines) line [] =
+    line_found (lines ++ line ∷ []) (length lines) line [] (rest_is lines (line ∷ [])) in
     let front = front_is lines (line ∷ []) in
     let faultless : faults_behind (written (take (length lines) (lines ++ line ∷ [])))
     (is_named (take (length lines) (lines ++ line ∷ []))) (meaning line) ≡ [] =
@@ -83,8 +83,8 @@ read_wrong lines line config named count wrong h fails lacks later =
           (rw (front_is lines (line ∷ later), ← h.whole, ← h.told) fails) lacks,
     )
   where
-    s : Stands (lines ++ line ∷ later) (length lines) line later
-    s = stands (lines ++ line ∷ later) (length lines) line later (rest_is lines (line ∷ later))
+    s : IsLineAt (lines ++ line ∷ later) (length lines) line later
+    s = line_found (lines ++ line ∷ later) (length lines) line later (rest_is lines (line ∷ later))
 
 -- a line behind a faulty one
 pub read_on : (lines : List (List ℕ)) (line : List ℕ) (fault : LineFault)

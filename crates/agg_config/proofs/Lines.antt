@@ -21,16 +21,16 @@ use Rattle.agg_types.specs.declared.config.Config.{Config}
 use Rattle.line_words.specs.declared.misread.Misread.{Misread}
 
 -- where a line stands, by what is left
-pub record Stands (lines : List (List ℕ)) (before : ℕ) (line : List ℕ) (rest : List (List ℕ))
+pub record IsLineAt (lines : List (List ℕ)) (before : ℕ) (line : List ℕ) (rest : List (List ℕ))
     : Type 0 where
   pub inside : before < length lines
   pub at : get_or lines before [] ≡ line
   pub behind : drop (before + 1) lines ≡ rest
   pub front : take (before + 1) lines ≡ take before lines ++ line ∷ []
 
-pub stands : (lines : List (List ℕ)) (before : ℕ) (line : List ℕ) (rest : List (List ℕ))
-    → drop before lines ≡ line ∷ rest → Stands lines before line rest
-stands lines before line rest e =
+pub line_found : (lines : List (List ℕ)) (before : ℕ) (line : List ℕ) (rest : List (List ℕ))
+    → drop before lines ≡ line ∷ rest → IsLineAt lines before line rest
+line_found lines before line rest e =
     let inside : before < length lines = omega (arith, length-drop before lines, ap length e) in
     let split : get_or lines before [] ∷ drop (before + 1) lines ≡ line ∷ rest =
     rw add-one (sym (drop-cons lines before [] inside) ∙ e) in

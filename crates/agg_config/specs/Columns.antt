@@ -5,16 +5,16 @@ use Rattle.std.specs.Prelude.{Option, None, Some, Result, Ok, Err}
 use Rattle.std.specs.List.{flat_map}
 use Rattle.agg_types.specs.Col.{all_cols, is_rate, same_col}
 use Rattle.agg_types.specs.declared.column.Col.{Col}
-use Rattle.line_words.specs.Reader.{◌>>=◌, Left, column_named, end, keyword, numeral, told, word}
+use Rattle.line_words.specs.Reader.{◌>>=◌, Left, column_named, end, keyword, numeral, or_wrong, word}
 use Rattle.line_words.specs.Reader.{wrong}
 use Rattle.line_words.specs.Words.{parts}
 use Rattle.line_words.specs.declared.misread.Expected.TheVariants.{Columns}
 use Rattle.line_words.specs.declared.misread.Misread.{Misread}
-use Rattle.agg_config.specs.Front.{read_each}
+use Rattle.agg_config.specs.ReadResults.{read_each}
 
 -- the column of a name
 abbrev pub column_at : ℕ → List ℕ → Result Col Misread
-column_at place name = told place Columns (column_named name)
+column_at place name = or_wrong place Columns (column_named name)
 
 -- a period in ms, where the word is a number; one above 32 bits counts as the greatest
 abbrev pub period_of : ℕ → List ℕ → Result ℕ Misread

@@ -12,7 +12,7 @@ use Rattle.line_words.specs.declared.misread.Expected.TheVariants.{Name, Keyword
 use Rattle.line_words.specs.declared.misread.Misread.{Misread}
 use Rattle.agg_config.specs.Columns.{in_order, known_period, stored}
 use Rattle.agg_config.specs.Filters.{conditions, known_bound}
-use Rattle.agg_config.specs.Front.{read_each}
+use Rattle.agg_config.specs.ReadResults.{read_each}
 use Rattle.agg_config.specs.declared.declarations.Declaration.{Declaration}
 use Rattle.agg_config.specs.declared.declarations.Declaration.TheVariants.{Me, Peer, Table, Filter}
 use Rattle.agg_config.specs.declared.declarations.Declaration.TheVariants.{Rank}

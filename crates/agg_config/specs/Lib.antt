@@ -1,6 +1,6 @@
 pub mod Columns
 pub mod Declarations
 pub mod Filters
-pub mod Front
+pub mod ReadResults
 pub mod Lines
 pub mod Reading

@@ -5,7 +5,7 @@ ghost use Rattle.line_words.specs.Words.{parts};
 ghost use Rattle.agg_config.specs.Columns.{column_at, count_item, in_order, item, known_period};
 ghost use Rattle.agg_config.specs.Columns.{list_stored, of_column, ordered_by, period_of};
 ghost use Rattle.agg_config.specs.Columns.{rate_item, stored};
-ghost use Rattle.agg_config.specs.Front.{Gives, read_each};
+ghost use Rattle.agg_config.specs.ReadResults.{Gives, read_each};
 
 use crate::Unread;
 use agg_types::{Col, Items, NoMemory};

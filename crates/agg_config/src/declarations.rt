@@ -5,7 +5,7 @@ ghost use Rattle.line_words.specs.Reader.{Reads};
 ghost use Rattle.agg_config.specs.Declarations.{declared, filter_line, key_kind, length_of};
 ghost use Rattle.agg_config.specs.Declarations.{line_declaration, me_line, peer_line, rank_line};
 ghost use Rattle.agg_config.specs.Declarations.{shape, table_line};
-ghost use Rattle.agg_config.specs.Front.{Gives, GivesWhole};
+ghost use Rattle.agg_config.specs.ReadResults.{Gives, GivesWhole};
 ghost use Rattle.agg_config.specs.Reading.{has_list, takes_memory};
 ghost use Rattle.agg_config.specs.declared.causes.Unread.TheVariants.{NoMemory as Refused};
 

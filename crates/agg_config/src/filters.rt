@@ -3,7 +3,7 @@
 ghost use Rattle.std.specs.Prelude.{◌≡◌};
 ghost use Rattle.line_words.specs.Reader.{Reads};
 ghost use Rattle.agg_config.specs.Filters.{condition, conditions, known_bound};
-ghost use Rattle.agg_config.specs.Front.{Gives, read_each};
+ghost use Rattle.agg_config.specs.ReadResults.{Gives, read_each};
 
 use crate::Unread;
 use agg_types::{Col, Cond, MOST_CONDS, Op};

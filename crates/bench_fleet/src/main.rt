@@ -34,7 +34,7 @@ const PIECE_BYTES: usize = 16_384;
 const PAGE_BYTES: u64 = 4096;
 
 /// How many updates come between two moments, and how many ms lie between these.
-const UPDATES_A_TURN: u32 = 100_000;
+const UPDATES_A_ROUND: u32 = 100_000;
 
 const TURN_MS: u64 = 100;
 
@@ -107,7 +107,7 @@ impl Proxies {
     }
 
     /// Sends bytes, lets the clock go on if rows have lives, and gives how long that took, in µs.
-    fn turn(&mut self, rt: HostRuntime, bytes: &[u8], lives: bool) -> Result<u128> {
+    fn round(&mut self, rt: HostRuntime, bytes: &[u8], lives: bool) -> Result<u128> {
         let start = Instant::now(&rt)?;
         self.send(rt.alloc(), bytes)?;
         if lives {
@@ -126,11 +126,11 @@ impl Proxies {
         count: u32,
     ) -> Result<()> {
         let mut micros = 0u128;
-        for turn in 0..(count / UPDATES_A_TURN).saturating_add(1) {
-            let from = turn.saturating_mul(UPDATES_A_TURN);
-            let to = from.saturating_add(UPDATES_A_TURN).min(count);
+        for round in 0..(count / UPDATES_A_ROUND).saturating_add(1) {
+            let from = round.saturating_mul(UPDATES_A_ROUND);
+            let to = from.saturating_add(UPDATES_A_ROUND).min(count);
             let bytes = load.updates(rt.alloc(), order, from, to)?;
-            micros = micros.saturating_add(self.turn(rt, bytes.as_slice(), load.lives)?);
+            micros = micros.saturating_add(self.round(rt, bytes.as_slice(), load.lives)?);
         }
         let taken = u128::from(count) * u128::from(load.peers);
         tell_speed(rt, load.keys, what, taken, micros)

@@ -22,31 +22,31 @@ impl Alone {
     }
 
     // The seat's next event.
-    fn take(&mut self, what: &What) -> Result<(), NoMemory> {
-        self.book.take(0, self.next, what)?;
+    fn apply(&mut self, what: &What) -> Result<(), NoMemory> {
+        self.book.apply(0, self.next, what)?;
         self.next = self.next.saturating_add(1);
         Ok(())
     }
 
-    fn take_all(&mut self, whats: &[What]) -> Result<(), NoMemory> {
+    fn apply_all(&mut self, whats: &[What]) -> Result<(), NoMemory> {
         for what in whats {
-            self.take(what)?;
+            self.apply(what)?;
         }
         Ok(())
     }
 
-    fn take_share(&mut self, alloc: Global, share: Share) -> Result<(), NoMemory> {
+    fn apply_share(&mut self, alloc: Global, share: Share) -> Result<(), NoMemory> {
         for number in 0..share.batches() {
             let whats = share.batch(alloc, number)?;
-            self.take_all(whats.as_slice())?;
+            self.apply_all(whats.as_slice())?;
         }
         Ok(())
     }
 
-    // Takes what one pass would post, and says how long that took.
+    // Applies what one pass would post, and says how long that took.
     fn timed<R: Clock>(&mut self, rt: &R, alloc: Global, load: Load) -> Result<Speed> {
         let start = Instant::now(rt)?;
-        self.take_share(alloc, load.share(0))?;
+        self.apply_share(alloc, load.share(0))?;
         Ok(Speed {
             updates: load.updates,
             looks: 0,
@@ -56,8 +56,8 @@ impl Alone {
 
     // The seat sits down and speaks for the first proxy.
     fn open(&mut self) -> Result<(), NoMemory> {
-        self.take(&What::Sit)?;
-        self.take(&What::Open(0))
+        self.apply(&What::Sit)?;
+        self.apply(&What::Open(0))
     }
 
     /// Takes an update of each new key and then of held ones, and says how fast that was.

@@ -16,7 +16,7 @@ pub trait Crew {
     fn speak<W: Wait>(&self, rt: &W, load: Load, peer: u32) -> bool;
 
     /// Looks again and again until all passes have ended, and says how often.
-    fn watch<W: Wait>(&self, rt: &W, load: Load, told: &Told) -> u64;
+    fn watch<W: Wait>(&self, rt: &W, load: Load, tally: &Tally) -> u64;
 
     /// What is shown in the end, if a last seat could be taken and all is shown.
     fn shown<W: Wait>(&self, rt: &W) -> Option<Shown>;
@@ -24,7 +24,7 @@ pub trait Crew {
 
 /// What the threads of a run tell of themselves.
 #[derive(Drop)]
-pub struct Told {
+pub struct Tally {
     // Passes that have yet to end.
     left: AtomicU32,
     // Passes of which all was shown.
@@ -32,9 +32,9 @@ pub struct Told {
     looks: AtomicU64,
 }
 
-impl Told {
-    fn new(passes: u32) -> Told {
-        Told {
+impl Tally {
+    fn new(passes: u32) -> Tally {
+        Tally {
             left: AtomicU32::new(passes),
             shown: AtomicU32::new(0),
             looks: AtomicU64::new(0),
@@ -55,15 +55,15 @@ impl Told {
 }
 
 // A pass, in its thread.
-fn speak<W: Wait, C: Crew>(rt: &W, crew: &C, load: Load, told: &Told, peer: u32) {
+fn speak<W: Wait, C: Crew>(rt: &W, crew: &C, load: Load, tally: &Tally, peer: u32) {
     let shown = crew.speak(rt, load, peer);
-    told.end(shown);
+    tally.end(shown);
 }
 
 // A reader, in its thread.
-fn watch<W: Wait, C: Crew>(rt: &W, crew: &C, load: Load, told: &Told) {
-    let looks = crew.watch(rt, load, told);
-    told.looks.fetch_add(looks, Ordering::SeqCst);
+fn watch<W: Wait, C: Crew>(rt: &W, crew: &C, load: Load, tally: &Tally) {
+    let looks = crew.watch(rt, load, tally);
+    tally.looks.fetch_add(looks, Ordering::SeqCst);
 }
 
 // Runs each pass and each reader in a thread of its own, until the passes have ended.
@@ -71,9 +71,9 @@ fn at_once<R: Threads + Wait + Copy + Send + Sync, C: Crew + Sync>(
     rt: &R,
     crew: &C,
     load: Load,
-) -> Told {
-    let told = Told::new(load.passes);
-    let all = &told;
+) -> Tally {
+    let tally = Tally::new(load.passes);
+    let all = &tally;
     thread::scope(thread::scope_env(), rt, |scope| {
         for _ in 0..load.readers {
             if scope.spawn(move || watch(rt, crew, load, all)).is_err() {
@@ -89,7 +89,7 @@ fn at_once<R: Threads + Wait + Copy + Send + Sync, C: Crew + Sync>(
             }
         }
     });
-    told
+    tally
 }
 
 /// Lets the passes of a crew post all that they have to, beside its readers, and says how fast that
@@ -100,13 +100,13 @@ pub fn timed<R: Threads + Wait + Clock + Copy + Send + Sync, C: Crew + Sync>(
     load: Load,
 ) -> Result<Speed> {
     let start = Instant::now(rt)?;
-    let told = at_once(rt, crew, load);
+    let tally = at_once(rt, crew, load);
     let time = start.elapsed(rt)?;
-    let shown = told.shown.load(Ordering::SeqCst);
+    let shown = tally.shown.load(Ordering::SeqCst);
     ensure!(shown == load.passes, "a post was refused");
     Ok(Speed {
         updates: load.updates,
-        looks: told.looks.load(Ordering::SeqCst),
+        looks: tally.looks.load(Ordering::SeqCst),
         time,
     })
 }

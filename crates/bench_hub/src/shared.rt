@@ -2,7 +2,7 @@
 
 ghost use Rattle.std.specs.Prelude.{◌≡◌, IfSome};
 
-use crate::crew::{Crew, Told};
+use crate::crew::{Crew, Tally};
 use crate::load::{Load, Share};
 use crate::tell::Shown;
 use agg_types::What;
@@ -23,9 +23,9 @@ impl<J: Naming, H: Wait + Drop> Crew for Shared<'_, J, H> {
         post_share(rt, self.alloc, self.hub, load.share(peer)).is_some()
     }
 
-    fn watch<W: Wait>(&self, rt: &W, load: Load, told: &Told) -> u64 {
+    fn watch<W: Wait>(&self, rt: &W, load: Load, tally: &Tally) -> u64 {
         match self.hub.lens(rt) {
-            Ok(mut lens) => look_on(rt, self.alloc, &mut lens, load.keys, told),
+            Ok(mut lens) => look_on(rt, self.alloc, &mut lens, load.keys, tally),
             Err(_) => 0,
         }
     }
@@ -112,11 +112,11 @@ fn post_share<J: Naming, H: Wait + Drop, W: Wait>(
 }
 
 // Looks until all passes have ended, and says how often.
-fn look_on<W: Wait>(rt: &W, alloc: Global, lens: &mut Lens, keys: u32, told: &Told) -> u64 {
+fn look_on<W: Wait>(rt: &W, alloc: Global, lens: &mut Lens, keys: u32, tally: &Tally) -> u64 {
     let mut looks = 0u64;
     for _ in rt.forever() {
         let turn = u32::try_from(looks % u64::from(u32::MAX)).unwrap_or(0);
-        if told.is_over() || !look(alloc, lens, scattered(turn, keys)) {
+        if tally.is_over() || !look(alloc, lens, scattered(turn, keys)) {
             break;
         }
         looks = looks.saturating_add(1);

@@ -62,7 +62,7 @@ pub fn tell<R: Print + Eprint>(rt: &R, load: Load, measured: Measured) -> Result
 
 /// The program's resident memory, in bytes, or none where the system doesn't tell it.
 pub fn resident<R: Files + Alloc>(rt: &R) -> Option<u64> {
-    let told = fs::read_to_string(rt, "/proc/self/statm").ok()?;
-    let pages: u64 = told.as_str().split(' ').nth(1)?.parse().ok()?;
+    let text = fs::read_to_string(rt, "/proc/self/statm").ok()?;
+    let pages: u64 = text.as_str().split(' ').nth(1)?.parse().ok()?;
     Some(pages.saturating_mul(PAGE_BYTES))
 }

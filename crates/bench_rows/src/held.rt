@@ -19,16 +19,16 @@ fn scattered(alloc: Global, place: u32, number: u32) -> Result<Key, NoMemory> {
 
 /// The rows that one peer holds of one table.
 #[derive(Drop)]
-struct Held {
+struct PeerTable {
     rows: Rows,
     alloc: Global,
     ghost peers: { rows.peers ≡ 1 },
     ghost tables: { rows.tables ≡ 1 },
 }
 
-impl Held {
-    fn new(alloc: Global) -> Result<Held, NoMemory> {
-        Ok(Held {
+impl PeerTable {
+    fn new(alloc: Global) -> Result<PeerTable, NoMemory> {
+        Ok(PeerTable {
             rows: Rows::new(alloc, 1, 1)?,
             alloc,
         })
@@ -100,7 +100,7 @@ fn make_all(alloc: Global, number: u32, updates: u32) -> Result<u64, NoMemory> {
 
 /// Puts so many rows, and answers how long the longest put took.
 fn longest(rt: &HostRuntime, number: u32) -> Result<Duration> {
-    let mut held = Held::new(rt.alloc())?;
+    let mut held = PeerTable::new(rt.alloc())?;
     let mut longest = Duration::ZERO;
     let mut last = time_used(rt)?;
     for place in 0..number {
@@ -117,7 +117,7 @@ fn longest(rt: &HostRuntime, number: u32) -> Result<Duration> {
 pub fn run(rt: &HostRuntime, number: u32) -> Result<()> {
     let updates = number.saturating_mul(UPDATES);
     let before = resident(rt)?;
-    let mut held = Held::new(rt.alloc())?;
+    let mut held = PeerTable::new(rt.alloc())?;
     let start = time_used(rt)?;
     held.put_all(number)?;
     print_time(rt, "new keys put", start, number)?;

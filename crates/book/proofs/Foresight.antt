@@ -15,7 +15,7 @@ use Rattle.agg_types.specs.Op.{op_holds}
 use Rattle.agg_types.specs.declared.column.Col.{Col}
 use Rattle.agg_types.specs.declared.config.Filter.{Filter}
 use Rattle.crossing.specs.First.{IsFirstFrom}
-use Rattle.standing_filters.specs.Verdicts.{IsTold}
+use Rattle.standing_filters.specs.Verdicts.{Foretells}
 use Rattle.standing_filters.specs.declared.judging.Verdict.{Verdict}
 use Rattle.fleet_model.specs.Changes.{IsKeyChange, IsTurn, rows_flat_from}
 use Rattle.fleet_model.specs.Keys.{Rows, has_live, holds, is_at_key, key_rows, meet_at, one_if}
@@ -38,7 +38,7 @@ bool_same true false h = absurd (h (λ e. cc))
 bool_same false true h = absurd (h (λ e. cc))
 
 pub turn_from : (truth test : ℕ → Bool) (now : ℕ) (verdict : Verdict) → ((t : ℕ) → truth t ≡ test t)
-    → IsTold truth now verdict → IsTurn test now verdict.next
+    → Foretells truth now verdict → IsTurn test now verdict.next
 turn_from truth test now verdict same told = by verdict.next told.next
   where
     stays : (t : ℕ) → (truth t ≢ truth now → ⊥) → test t ≡ test now

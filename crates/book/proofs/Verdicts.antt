@@ -15,7 +15,7 @@ use Rattle.std.specs.List.{AllByRecursion, list_all, list_any}
 use Rattle.agg_types.specs.Op.{op_holds}
 use Rattle.agg_types.specs.declared.column.Col.{Col}
 use Rattle.agg_types.specs.declared.config.Cond.{Cond}
-use Rattle.standing_filters.specs.Verdicts.{IsTold}
+use Rattle.standing_filters.specs.Verdicts.{Foretells}
 use Rattle.standing_filters.specs.declared.judging.Verdict.{Verdict}
 use Rattle.agg_types.specs.declared.config.Config.{Config}
 use Rattle.agg_types.specs.declared.config.Filter.{Filter}
@@ -92,7 +92,7 @@ stays_kept state later (Some watched) stays held =
 
 -- ---- the rows of another table have
 told_by : List (Col × ℕ) → Rows → List Cond → ℕ → Verdict → Type 0
-told_by cols rows conds now verdict = IsTold (λ t. nat_lt 0 (living_within rows t)
+told_by cols rows conds now verdict = Foretells (λ t. nat_lt 0 (living_within rows t)
     && list_all (λ cond. op_holds cond.op (worth_within cols rows cond.col t) cond.bound) conds)
     now verdict
 

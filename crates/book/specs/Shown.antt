@@ -28,12 +28,12 @@ as_arrival row =
       cells = map (cell_of row.arrived) row.cells;
     }
 
-abbrev pub shown : RowKey × Row → RowKey × Arrival
-shown entry = (entry.0, as_arrival entry.1)
+abbrev pub view_of_row : RowKey × Row → RowKey × Arrival
+view_of_row entry = (entry.0, as_arrival entry.1)
 
 -- the rows in force that these stand for
 abbrev pub arrivals : List (RowKey × Row) → List (RowKey × Arrival)
-arrivals entries = map shown entries
+arrivals entries = map view_of_row entries
 
 -- a peer's row of a key, as it stands at its place
 abbrev pub of_peer : ℕ → List ℕ → ℕ × Row → RowKey × Arrival

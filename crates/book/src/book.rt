@@ -12,7 +12,7 @@ ghost use Rattle.fleet_model.specs.Machine.{session_of};
 ghost use Rattle.fleet_model.specs.Next.{IsNextChange, IsNextChangeBy};
 ghost use Rattle.fleet_model.specs.Ranking.{rank_of, ranked};
 ghost use Rattle.fleet_model.specs.Sound.{IsSound};
-ghost use Rattle.fleet_model.specs.State.{Stands};
+ghost use Rattle.fleet_model.specs.State.{IsStateOf};
 ghost use Rattle.book.specs.Foreseen.{IsFirstOf};
 ghost use Rattle.book_frame.specs.Lent.{key_and_sums, shown_row, with_sums};
 
@@ -67,12 +67,12 @@ impl Model for Book {
 impl Book {
     /// A book in which nothing has happened yet, at its opening moment, in ms, of a configuration
     /// that `Config::check` accepts.
-    #[tactic(auto, unfolding(fleet_model::specs::State::Stands))]
+    #[tactic(auto, unfolding(fleet_model::specs::State::IsStateOf))]
     pub fn new(alloc: Global, config: Config, moment: u64) -> Result<Book, NoMemory>
         requires checked { config_faults config ≡ [] }
         requires in_range { moment ≤ LAST_MOMENT }
         ensures opened { IfOk result (λ book. book ≡ opened config moment) }
-        ensures stands { IfOk result (λ book. Stands book config moment []) }
+        ensures stands { IfOk result (λ book. IsStateOf book config moment []) }
         ensures sound { IfOk result IsSound }
     {
         fleet_model::laws::nothing_happened();
@@ -88,8 +88,8 @@ impl Book {
     pub fn step(&mut self, event: &Event) -> Result<(), NoMemory>
         ensures ok { OnOk result (self.new ≡ after self.old event.now) }
         ensures stands { OnOk result ((config : Config) (opening : ℕ) (events : List Event)
-            → Stands self.old config opening events
-            → Stands self.new config opening (events ++ event.now ∷ [])) }
+            → IsStateOf self.old config opening events
+            → IsStateOf self.new config opening (events ++ event.now ∷ [])) }
         ensures err { OnErr result (self.new ≡ self.old) }
         ensures leaving { event.now.what ≡ Leave → IsOk result }
         ensures uncounted { counts_now self.old event.now ≡ false → IsOk result }
@@ -105,31 +105,31 @@ impl Book {
     pub fn step_at(&mut self, event: &Event, hint: Option<Spot>) -> Result<Option<Spot>, NoMemory>
         ensures ok { OnOk result (self.new ≡ after self.old event.now) }
         ensures stands { OnOk result ((config : Config) (opening : ℕ) (events : List Event)
-            → Stands self.old config opening events
-            → Stands self.new config opening (events ++ event.now ∷ [])) }
+            → IsStateOf self.old config opening events
+            → IsStateOf self.new config opening (events ++ event.now ∷ [])) }
         ensures err { OnErr result (self.new ≡ self.old) }
         ensures leaving { event.now.what ≡ Leave → IsOk result }
         ensures uncounted { counts_now self.old event.now ≡ false → IsOk result }
         ensures sound { IsSound self.new }
     {
-        fleet_model::laws::stands_after_one_more();
-        self.take_at(event.seat, event.seq, &event.what, hint)
+        fleet_model::laws::state_after_one_more();
+        self.apply_at(event.seat, event.seq, &event.what, hint)
     }
 
-    /// Takes one event by its parts, as `step` does.
-    pub fn take(&mut self, seat: u64, seq: u64, what: &What) -> Result<(), NoMemory>
+    /// Applies one event by its parts, as `step` does.
+    pub fn apply(&mut self, seat: u64, seq: u64, what: &What) -> Result<(), NoMemory>
         ensures ok { OnOk result (self.new ≡ after self.old (event_of seat seq what.now)) }
         ensures err { OnErr result (self.new ≡ self.old) }
         ensures leaving { what.now ≡ Leave → IsOk result }
         ensures uncounted { counts_now self.old (event_of seat seq what.now) ≡ false → IsOk result }
         ensures sound { IsSound self.new }
     {
-        self.take_at(seat, seq, what, None)?;
+        self.apply_at(seat, seq, what, None)?;
         Ok(())
     }
 
-    /// Takes one event by its parts, as `step_at` does.
-    pub fn take_at(
+    /// Applies one event by its parts, as `step_at` does.
+    pub fn apply_at(
         &mut self,
         seat: u64,
         seq: u64,

@@ -4,5 +4,5 @@ pub mod Lent
 pub mod Marks
 pub mod Merge
 pub mod Moments
-pub mod Planned
+pub mod DueEntry
 pub mod Slots

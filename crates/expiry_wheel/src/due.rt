@@ -10,7 +10,7 @@ use std::marker::Model;
 
 /// An entry that one of two indexes lends: its moment and its item.
 #[derive(Clone, Copy, Debug)]
-pub enum Planned<'a, T, U> {
+pub enum DueEntry<'a, T, U> {
     /// An entry of the first index.
     First(u64, &'a T),
     /// An entry of the second index.
@@ -60,23 +60,23 @@ impl<'a, T: Ord, U: Ord, A: DueIndex<T>, B: DueIndex<U>> Due<'a, T, U, A, B> {
 }
 
 impl<'a, T: Ord, U: Ord, A: DueIndex<T>, B: DueIndex<U>> Iterator for Due<'a, T, U, A, B> {
-    type Item = Planned<'a, T, U>;
+    type Item = DueEntry<'a, T, U>;
 
-    ghost use Rattle.expiry_wheel.specs.Planned.{entry_shown};
+    ghost use Rattle.expiry_wheel.specs.DueEntry.{view_of_entry};
 
-    ghost next_gives = { TakesFirst entry_shown };
+    ghost next_gives = { TakesFirst view_of_entry };
 
     ghost remaining = { λ s. at_most (length s) };
 
-    fn next(&mut self) -> Option<Planned<'a, T, U>> {
+    fn next(&mut self) -> Option<DueEntry<'a, T, U>> {
         if is_second_next(self.first, self.second) {
             let (at, item) = self.second?;
             self.second = self.seconds.after(Some((at, item)));
-            Some(Planned::Second(at, item))
+            Some(DueEntry::Second(at, item))
         } else {
             let (at, item) = self.first?;
             self.first = self.firsts.after(Some((at, item)));
-            Some(Planned::First(at, item))
+            Some(DueEntry::First(at, item))
         }
     }
 }

@@ -20,7 +20,7 @@ mod slots;
 mod together;
 mod wheel;
 
-pub use due::{Due, Planned};
+pub use due::{Due, DueEntry};
 pub use entries::Entries;
 pub use index::DueIndex;
 pub use ordered::OrderedDue;

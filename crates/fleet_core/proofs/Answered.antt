@@ -10,7 +10,7 @@ use Rattle.fleet_core.specs.declared.step.Step.{Step}
 use Rattle.fleet_core.specs.Adds.{Adds, Keeps}
 use Rattle.fleet_core.specs.Answers.{Answer, Answers}
 use Rattle.fleet_core.specs.Possible.{can_be, end_by, is_spent, sent_by, spends_at}
-use Rattle.fleet_core.specs.StandsFor.{Collected, StandsFor}
+use Rattle.fleet_core.specs.Represents.{Collected, Represents}
 
 -- a step that names an open connection, and whether numbers are spent for it
 pub record Finds (config : Config) (opening : ℕ) (past : List Step) (step : Step) (spent : Bool)
@@ -83,7 +83,7 @@ at_session cause out old new config opening past step finds adds ended sent =
 
 pub at_no_conn : (fleet : Collected) (config : Config) (opening : ℕ)
     (past : List Step) (step : Step)
-    → StandsFor fleet config opening past → can_be config opening past step ≡ false
+    → Represents fleet config opening past → can_be config opening past step ≡ false
     → Answers (Err NoConn) fleet fleet config opening past step
 at_no_conn fleet config opening past step h none =
     record {
@@ -99,7 +99,7 @@ at_no_conn fleet config opening past step h none =
     }
 
 pub at_spent : (fleet : Collected) (config : Config) (opening : ℕ) (past : List Step) (step : Step)
-    → StandsFor fleet config opening past → Finds config opening past step true
+    → Represents fleet config opening past → Finds config opening past step true
     → Answers (Err Spent) fleet fleet config opening past step
 at_spent fleet config opening past step h finds =
     record {

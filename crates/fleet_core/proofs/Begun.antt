@@ -8,20 +8,20 @@ use Rattle.agg_types.specs.declared.event.Event.{Event}
 use Rattle.agg_types.specs.declared.event.What.TheVariants.{Sit}
 use Rattle.fleet_model.proofs.Step.{one_more}
 use Rattle.fleet_model.specs.Machine.{after}
-use Rattle.fleet_model.specs.State.{Stands, State, state_of}
+use Rattle.fleet_model.specs.State.{IsStateOf, State, state_of}
 use Rattle.fleet_core.specs.Events.{events_of, talk_of}
 use Rattle.fleet_core.specs.Links.{Link, is_open, link_of, linked, open_link}
 use Rattle.fleet_core.specs.Possible.{are_possible}
 use Rattle.fleet_core.specs.Steps.{is_lost}
-use Rattle.fleet_core.specs.StandsFor.{Collected, StandsFor}
+use Rattle.fleet_core.specs.Represents.{Collected, Represents}
 use Rattle.fleet_core.proofs.Counts.{bool_tells}
 
 abbrev first : Event
 first = record { seat = 0; seq = 0; what = Sit }
 
-state_is : (state : State) (config : Config) (opening : ℕ) → Stands state config opening []
+state_is : (state : State) (config : Config) (opening : ℕ) → IsStateOf state config opening []
     → state ≡ state_of config opening []
-unfolding Stands
+unfolding IsStateOf
 state_is state config opening h = h
 
 no_links : (config : Config) (events : List Event) (conn : ℕ) → link_of config events [] conn ≡ None
@@ -45,8 +45,8 @@ no_links config events (suc conn) =
 
 pub opened_stands : (fleet : Collected) (book : State) (config : Config) (opening : ℕ)
     → fleet.book ≡ after book (record { seat = 0; seq = 0; what = Sit })
-    → Stands book config opening [] → fleet.waiting ≡ [] → fleet.links ≡ [] → fleet.connected ≡ 0
-    → fleet.next_seq ≡ 1 → StandsFor fleet config opening []
+    → IsStateOf book config opening [] → fleet.waiting ≡ [] → fleet.links ≡ [] → fleet.connected ≡ 0
+    → fleet.next_seq ≡ 1 → Represents fleet config opening []
 unfolding events_of are_possible
 opened_stands fleet book config opening taken stands waiting links connected front =
     record {

@@ -27,7 +27,7 @@ use Rattle.fleet_core.specs.Events.{talk_of, talk_with}
 use Rattle.fleet_core.specs.Feeding.{Feeds, FeedsAt, IsClosedIf, IsSet}
 use Rattle.fleet_core.specs.Links.{Link, as_link, found, is_open, link_of, linked, open_link}
 use Rattle.fleet_core.specs.Links.{next_seq_of}
-use Rattle.fleet_core.specs.StandsFor.{Collected, StandsFor}
+use Rattle.fleet_core.specs.Represents.{Collected, Represents}
 use Rattle.fleet_core.specs.Steps.{connects, is_lost, stream}
 use Rattle.fleet_core.specs.Waiting.{leave_if}
 use Rattle.fleet_core.proofs.Counts.{apart_from_lt, bool_tells, count-append, count-at_other}
@@ -106,7 +106,7 @@ open_then config events past conn is = rw is refl
 
 -- where the stream of an open connection stands, in the words of what its session is fed with
 pub here_stage : (f : Collected) (config : Config) (opening : ℕ) (past : List Step) (conn : ℕ)
-    (before : Connection) → StandsFor f config opening past
+    (before : Connection) → Represents f config opening past
     → as_link before ≡ open_link config (events_of config opening past) past conn
     → before.session.stage ≡ stage_of (setup_of f.book.config) before.session.seated
     (stream past conn)
@@ -291,7 +291,7 @@ pub record FedQueued (bytes : List ℕ) (end : Option SessionCause) (new : Colle
 
 pub heard : (f g : Collected) (config : Config) (opening : ℕ) (past : List Step) (conn : ℕ)
     (piece : List ℕ) (given : Outcome) (links : List (ℕ × Connection)) (before : Connection)
-    → StandsFor f config opening past → f.waiting ≡ [] → found f.links conn ≡ Some before
+    → Represents f config opening past → f.waiting ≡ [] → found f.links conn ≡ Some before
     → FeedsAt given f.links links conn before f.book.config (stream past conn) piece
     → IsClosedIf (is_some given.end) links g.links conn
     → g.book ≡ f.book → g.waiting ≡ option_map_or
@@ -405,7 +405,7 @@ lost_now config events past conn =
 
 pub closed_now : (f g : Collected) (config : Config) (opening : ℕ) (past : List Step) (conn : ℕ)
     (before : Connection)
-    → StandsFor f config opening past → f.waiting ≡ [] → found f.links conn ≡ Some before
+    → Represents f config opening past → f.waiting ≡ [] → found f.links conn ≡ Some before
     → IsSet f.links g.links conn None
     → g.book ≡ f.book → g.waiting ≡ option_map_or (λ seq. numbered conn seq (Leave ∷ []))
     before.next_seq [] → g.connected ≡ f.connected → g.next_seq ≡ f.next_seq

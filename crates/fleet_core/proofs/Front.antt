@@ -13,7 +13,7 @@ use Rattle.fleet_core.specs.declared.step.Step.TheVariants.{Moment}
 use Rattle.fleet_core.specs.Events.{added, at_front, count_of, events_of}
 use Rattle.fleet_core.specs.Links.{link_of, linked}
 use Rattle.fleet_core.specs.Possible.{is_possible}
-use Rattle.fleet_core.specs.StandsFor.{Collected, StandsFor}
+use Rattle.fleet_core.specs.Represents.{Collected, Represents}
 use Rattle.fleet_core.specs.Steps.{connects, is_connect, names, what_at}
 use Rattle.fleet_core.proofs.Counts.{apart_from_lt, count-append, count-other, count-own}
 use Rattle.fleet_core.proofs.Links.{link_kept, no_link}
@@ -55,7 +55,7 @@ front_quiet (AddFilter filter) what is = (refl, λ conn. refl)
 front_quiet (Moment moment) what is = (refl, λ conn. refl)
 
 pub front_done : (f g : Collected) (config : Config) (opening : ℕ) (past : List Step) (step : Step)
-    (what : What) → what_at step ≡ Some what → StandsFor f config opening past → f.waiting ≡ []
+    (what : What) → what_at step ≡ Some what → Represents f config opening past → f.waiting ≡ []
     → g.book ≡ f.book → g.waiting ≡ numbered 0 f.next_seq (what ∷ []) → g.links ≡ f.links
     → g.connected ≡ f.connected → g.next_seq ≡ f.next_seq + 1
     → is_possible config opening past step ≡ true

@@ -17,7 +17,7 @@ use Rattle.fleet_core.specs.Adds.{Adds, Keeps}
 use Rattle.fleet_core.specs.Events.{added_by, count_of, events_of}
 use Rattle.fleet_core.specs.Possible.{are_possible, is_possible}
 use Rattle.fleet_core.specs.Links.{link_of, linked}
-use Rattle.fleet_core.specs.StandsFor.{Collected, StandsFor}
+use Rattle.fleet_core.specs.Represents.{Collected, Represents}
 use Rattle.fleet_core.specs.Steps.{connects, names}
 use Rattle.fleet_core.specs.Waiting.{AreHandedOver, IsOneHandedOver, leave_if}
 use Rattle.fleet_core.proofs.Counts.{length_of_numbered}
@@ -33,8 +33,8 @@ more config opening events later =
 -- the book takes some of what waits: the fleet stands for the same steps
 pub settled : (f g : Collected) (config : Config) (opening : ℕ) (past : List Step)
     → AreHandedOver f.waiting f.book g.waiting g.book → g.links ≡ f.links
-    → g.connected ≡ f.connected → g.next_seq ≡ f.next_seq → StandsFor f config opening past
-    → StandsFor g config opening past
+    → g.connected ≡ f.connected → g.next_seq ≡ f.next_seq → Represents f config opening past
+    → Represents g config opening past
 settled f g config opening past are links connected front h =
     record {
       handed = h.handed ++ are.gone;
@@ -88,11 +88,11 @@ one_more_taken waiting book (e ∷ rest) later least last are one =
 -- a step was done where the book had taken all before it, and its own events wait
 pub record Queued (new : Collected) (config : Config) (opening : ℕ) (past : List Step) (step : Step)
     : Type 0 where
-  pub stands : StandsFor new config opening (step ∷ past)
+  pub stands : Represents new config opening (step ∷ past)
   pub own : new.waiting ≡ added_by config opening past step
 
 pub done : (f g : Collected) (config : Config) (opening : ℕ) (past : List Step) (step : Step)
-    → StandsFor f config opening past → f.waiting ≡ []
+    → Represents f config opening past → f.waiting ≡ []
     → g.book ≡ f.book → events_of config opening (step ∷ past) ≡ events_of config opening
     past ++ g.waiting
     → ((conn : ℕ) → linked g.links conn ≡ link_of config (events_of config opening (step ∷ past))
@@ -132,7 +132,7 @@ handed_on f g config opening past step are links connected front queued =
 -- `NoMemory` before anything is queued
 pub kept : (f g : Collected) (config : Config) (opening : ℕ) (past : List Step)
     → AreHandedOver f.waiting f.book g.waiting g.book → g.links ≡ f.links
-    → g.connected ≡ f.connected → g.next_seq ≡ f.next_seq → StandsFor f config opening past
+    → g.connected ≡ f.connected → g.next_seq ≡ f.next_seq → Represents f config opening past
     → Keeps f g config opening past
 kept f g config opening past are links connected front h =
     record { stands = settled f g config opening past are links connected front h; handed = are }

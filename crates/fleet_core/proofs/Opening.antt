@@ -22,7 +22,7 @@ use Rattle.fleet_core.specs.Events.{added, count_of, events_of, has_free_seat, t
 use Rattle.fleet_core.specs.Feeding.{IsSet}
 use Rattle.fleet_core.specs.Links.{Link, as_link, found, is_open, link_of, linked, open_link}
 use Rattle.fleet_core.specs.Possible.{can_be, is_possible, is_spent}
-use Rattle.fleet_core.specs.StandsFor.{Collected, StandsFor}
+use Rattle.fleet_core.specs.Represents.{Collected, Represents}
 use Rattle.fleet_core.specs.Steps.{connects, is_lost, names, stream}
 use Rattle.fleet_core.proofs.Counts.{apart_from_lt, bool_tells, count-append, count-other}
 use Rattle.fleet_core.proofs.Counts.{count-own, count-to_come, eq_self, not_le, none-lost}
@@ -63,7 +63,7 @@ came_too many other apart =
 
 -- the book has taken all events
 pub all_taken : (f : Collected) (config : Config) (opening : ℕ) (past : List Step)
-    → StandsFor f config opening past → f.waiting ≡ []
+    → Represents f config opening past → f.waiting ≡ []
     → f.book ≡ state_of config opening (events_of config opening past)
 all_taken f config opening past h none = h.book
     ∙ ap (state_of config opening) (sym (h.split ∙ ap (λ waiting. h.handed ++ waiting) none
@@ -126,7 +126,7 @@ new_link config events past seated connection count named stands is_seated_now s
 
 pub accepted : (f g : Collected) (config : Config) (opening : ℕ) (past : List Step) (seated : Bool)
     (connection : Connection)
-    → StandsFor f config opening past → f.waiting ≡ []
+    → Represents f config opening past → f.waiting ≡ []
     → seated ≡ nat_lt (length f.book.seats) MOST_SEATS
     → ((setup : Setup) → connection.session.stage ≡ stage_of setup seated [])
     → connection.session.seated ≡ seated → connection.next_seq ≡ then_some seated 1

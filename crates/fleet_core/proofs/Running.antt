@@ -21,7 +21,7 @@ use Rattle.fleet_core.specs.Answers.{Answers}
 use Rattle.fleet_core.specs.Possible.{can_be, does_fit, end_by, sent_by, spends_at}
 use Rattle.fleet_core.specs.Runs.{Goes, IsAdvanced, IsFault, done, fault_at, late_fault, run_answer}
 use Rattle.fleet_core.specs.Runs.{run_fault, sent_in, step_fault, then_done}
-use Rattle.fleet_core.specs.StandsFor.{Collected, StandsFor}
+use Rattle.fleet_core.specs.Represents.{Collected, Represents}
 use Rattle.fleet_core.specs.Steps.{conn_of}
 use Rattle.fleet_core.proofs.Answered.{same_replies}
 use Rattle.fleet_core.proofs.Counts.{bool_tells, not_le}
@@ -42,7 +42,7 @@ pub record Sent (replies : Replies) (new : Collected) (config : Config) (opening
     (past : List Step) (step : Step) : Type 0 where
   pub could_be : can_be config opening past step ≡ true
   pub unspent : spends_at config opening past step ≡ false
-  pub stands : StandsFor new config opening (step ∷ past)
+  pub stands : Represents new config opening (step ∷ past)
   pub is : replies ≡ sent_by config opening past step
 
 abbrev pub Tells : Result (Option Replies) RunFault → Collected → Collected → Config → ℕ → List Step
@@ -112,7 +112,7 @@ never_spends config opening past step closed = rw closed refl
 
 -- a step that was passed over
 pub passed_over : (old new : Collected) (replies : List Replies) (config : Config) (opening : ℕ)
-    (past : List Step) (step : Step) → StandsFor old config opening past → old.waiting ≡ []
+    (past : List Step) (step : Step) → Represents old config opening past → old.waiting ≡ []
     → replies ≡ sent_in config opening past → does_fit config step ≡ true
     → Tells (Ok None) old new config opening past step
     → IsAdvanced new replies config opening past step

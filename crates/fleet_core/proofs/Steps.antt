@@ -30,7 +30,7 @@ use Rattle.fleet_core.specs.Feeding.{FeedsAt, IsAfter, IsClosedIf, IsSet}
 use Rattle.fleet_core.specs.Links.{as_link, found, is_open, next_seq_at, next_seq_of, open_link}
 use Rattle.fleet_core.specs.Possible.{can_be, does_fit, end_by, is_full, is_possible, is_spent}
 use Rattle.fleet_core.specs.Possible.{sent_by}
-use Rattle.fleet_core.specs.StandsFor.{Collected, StandsFor}
+use Rattle.fleet_core.specs.Represents.{Collected, Represents}
 use Rattle.fleet_core.specs.Steps.{connects, stream, what_at}
 use Rattle.fleet_core.specs.Waiting.{AreHandedOver, leave_if}
 use Rattle.fleet_core.proofs.Answered.{Finds, at_ok, at_session}
@@ -64,7 +64,7 @@ fits_then config opening taken (AddFilter filter) = refl
 fits_then config opening taken (Moment moment) = refl
 
 pub fits_now : (fleet : Collected) (config : Config) (opening : ℕ) (past : List Step) (step : Step)
-    → StandsFor fleet config opening past → does_fit fleet.book.config step ≡ does_fit config step
+    → Represents fleet config opening past → does_fit fleet.book.config step ≡ does_fit config step
 fits_now fleet config opening past step h = ap (λ state. does_fit state.config step) h.book
     ∙ fits_then config opening h.handed step
 
@@ -93,7 +93,7 @@ front_tells config opening past (Moment moment) some =
 
 -- whether seat 0's numbers are spent
 pub front_finds : (f : Collected) (config : Config) (opening : ℕ) (past : List Step) (step : Step)
-    (spent : Bool) → IsSome (what_at step) → StandsFor f config opening past
+    (spent : Bool) → IsSome (what_at step) → Represents f config opening past
     → is_full f.next_seq 1 ≡ spent → Finds config opening past step spent
 front_finds f config opening past step spent some h is =
     let tells = front_tells config opening past step some in
@@ -105,7 +105,7 @@ front_finds f config opening past step spent some h is =
 
 pub front_taken : (f g : Collected) (config : Config) (opening : ℕ) (past : List Step) (step : Step)
     (what : Option What) (events : List Event) → what_at step ≡ what → IsSome what
-    → StandsFor f config opening past → f.waiting ≡ [] → is_full f.next_seq 1 ≡ false
+    → Represents f config opening past → f.waiting ≡ [] → is_full f.next_seq 1 ≡ false
     → does_fit config step ≡ true
     → events ≡ numbered 0 f.next_seq (option_to_list what ++ leave_if false)
     → AreHandedOver events f.book g.waiting g.book → g.links ≡ f.links → g.connected ≡ f.connected
@@ -130,7 +130,7 @@ front_taken f g config opening past step (Some what) events is some h none unspe
     }
 
 pub front_answers : (f g : Collected) (config : Config) (opening : ℕ) (past : List Step)
-    (step : Step) (replies : Replies) → IsSome (what_at step) → StandsFor f config opening past
+    (step : Step) (replies : Replies) → IsSome (what_at step) → Represents f config opening past
     → is_full f.next_seq 1 ≡ false → replies ≡ record { conn = 0; out = [] }
     → Adds g config opening past step → Answers (Ok replies) f g config opening past step
 front_answers f g config opening past step replies some h unspent silent adds =
@@ -152,7 +152,7 @@ pub record OpenAt (f : Collected) (config : Config) (opening : ℕ) (past : List
   pub number_told : next_seq ≡ next_seq_of conn (events_of config opening past)
 
 pub open_at : (f : Collected) (config : Config) (opening : ℕ) (past : List Step) (conn : ℕ)
-    (next_seq : Option ℕ) → StandsFor f config opening past
+    (next_seq : Option ℕ) → Represents f config opening past
     → next_seq_at f.links conn ≡ Some next_seq → OpenAt f config opening past conn next_seq
 open_at f config opening past conn next_seq h at = by (found f.links conn) refl at
   where
@@ -175,7 +175,7 @@ open_at f config opening past conn next_seq h at = by (found f.links conn) refl 
         }
 
 closed_at : (f : Collected) (config : Config) (opening : ℕ) (past : List Step) (conn : ℕ)
-    → StandsFor f config opening past → next_seq_at f.links conn ≡ None
+    → Represents f config opening past → next_seq_at f.links conn ≡ None
     → is_open config (events_of config opening past) past conn ≡ false
 closed_at f config opening past conn h at = is_closed config (events_of config opening past) past
     conn (sym (no_link_at (found f.links conn) at) ∙ h.links conn)
@@ -202,7 +202,7 @@ unfolding can_be
 bytes_can_be config opening past conn piece b is = is
 
 pub bytes_closed : (f : Collected) (config : Config) (opening : ℕ) (past : List Step) (conn : ℕ)
-    (piece : List ℕ) → StandsFor f config opening past → next_seq_at f.links conn ≡ None
+    (piece : List ℕ) → Represents f config opening past → next_seq_at f.links conn ≡ None
     → can_be config opening past (Bytes conn piece) ≡ false
 bytes_closed f config opening past conn piece h none =
     bytes_can_be config opening past conn piece false (closed_at f config opening past conn h none)
@@ -245,7 +245,7 @@ bytes_ended out end cause f g config opening past conn piece is finds fed =
 pub bytes_taken : (f g : Collected) (config : Config) (opening : ℕ) (past : List Step) (conn : ℕ)
     (piece : List ℕ) (next_seq : Option ℕ) (given : Outcome)
     (fed_links links : List (ℕ × Connection)) (events : List Event)
-    → StandsFor f config opening past → f.waiting ≡ [] → next_seq_at f.links conn ≡ Some next_seq
+    → Represents f config opening past → f.waiting ≡ [] → next_seq_at f.links conn ≡ Some next_seq
     → option_map_or (λ seq. is_full seq (length piece)) next_seq false ≡ false
     → ((before : Connection) (bytes : List ℕ) → found f.links conn ≡ Some before
     → IsAfter before f.book.config bytes
@@ -300,13 +300,13 @@ unfolding can_be
 lost_can_be config opening past conn b is = is
 
 pub lost_closed : (f : Collected) (config : Config) (opening : ℕ) (past : List Step) (conn : ℕ)
-    → StandsFor f config opening past → next_seq_at f.links conn ≡ None
+    → Represents f config opening past → next_seq_at f.links conn ≡ None
     → can_be config opening past (Lost conn) ≡ false
 lost_closed f config opening past conn h none =
     lost_can_be config opening past conn false (closed_at f config opening past conn h none)
 
 pub lost_finds : (f : Collected) (config : Config) (opening : ℕ) (past : List Step) (conn : ℕ)
-    (next_seq : Option ℕ) → StandsFor f config opening past
+    (next_seq : Option ℕ) → Represents f config opening past
     → next_seq_at f.links conn ≡ Some next_seq → Finds config opening past (Lost conn) false
 unfolding is_spent
 lost_finds f config opening past conn next_seq h at =
@@ -318,7 +318,7 @@ lost_finds f config opening past conn next_seq h at =
 
 pub lost_taken : (f g : Collected) (config : Config) (opening : ℕ) (past : List Step) (conn : ℕ)
     (next_seq : Option ℕ) (links : List (ℕ × Connection)) (events : List Event)
-    → StandsFor f config opening past → f.waiting ≡ [] → next_seq_at f.links conn ≡ Some next_seq
+    → Represents f config opening past → f.waiting ≡ [] → next_seq_at f.links conn ≡ Some next_seq
     → IsSet f.links links conn None
     → events ≡ option_map_or (λ seq. numbered conn seq (Leave ∷ [])) next_seq []
     → AreHandedOver events f.book g.waiting g.book → g.links ≡ links → g.connected ≡ f.connected
@@ -360,7 +360,7 @@ lost_answers f g config opening past conn replies finds silent adds =
 pub connect_taken : (f g : Collected) (config : Config) (opening : ℕ) (past : List Step)
     (seated : Bool) (connection : Connection) (links : List (ℕ × Connection)) (events : List Event)
     (facts : List What)
-    → StandsFor f config opening past → f.waiting ≡ [] → f.connected < LAST_SEAT
+    → Represents f config opening past → f.waiting ≡ [] → f.connected < LAST_SEAT
     → seated ≡ nat_lt (length f.book.seats) MOST_SEATS
     → ((setup : Setup) → connection.session.stage ≡ stage_of setup seated [])
     → connection.session.seated ≡ seated → connection.next_seq ≡ then_some seated 1
@@ -388,7 +388,7 @@ connect_taken f g config opening past seated connection links events facts h non
     }
 
 pub connect_finds : (f : Collected) (config : Config) (opening : ℕ) (past : List Step)
-    (spent : Bool) → StandsFor f config opening past → nat_le LAST_SEAT f.connected ≡ spent
+    (spent : Bool) → Represents f config opening past → nat_le LAST_SEAT f.connected ≡ spent
     → Finds config opening past Connect spent
 unfolding can_be is_spent
 connect_finds f config opening past spent h is =

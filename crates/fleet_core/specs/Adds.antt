@@ -6,19 +6,19 @@ use Rattle.fleet_core.specs.declared.step.Step.{Step}
 use Rattle.fleet_core.specs.declared.step.Step.TheVariants.{Bytes}
 use Rattle.fleet_core.specs.Events.{added_by}
 use Rattle.fleet_core.specs.Possible.{end_by, sent_by}
-use Rattle.fleet_core.specs.StandsFor.{Collected, StandsFor}
+use Rattle.fleet_core.specs.Represents.{Collected, Represents}
 use Rattle.fleet_core.specs.Waiting.{AreHandedOver, IsEndOf}
 
 -- the fleet stands for the steps with this one, whose events alone wait
 pub record Adds (new : Collected) (config : Config) (opening : ℕ) (past : List Step)
     (step : Step) : Type 0 where
-  pub stands : StandsFor new config opening (step ∷ past)
+  pub stands : Represents new config opening (step ∷ past)
   pub own : IsEndOf new.waiting (added_by config opening past step)
 
 -- it stands for the steps before; of what waited the book took some, in order
 pub record Keeps (old new : Collected) (config : Config) (opening : ℕ)
     (past : List Step) : Type 0 where
-  pub stands : StandsFor new config opening past
+  pub stands : Represents new config opening past
   pub handed : AreHandedOver old.waiting old.book new.waiting new.book
 
 -- a piece of a connection's stream was done, sent these bytes, and ended the stream or didn't

@@ -10,7 +10,7 @@ use Rattle.fleet_core.specs.declared.step.Replies.{Replies}
 use Rattle.fleet_core.specs.declared.step.Step.{Step}
 use Rattle.fleet_core.specs.Events.{added_by}
 use Rattle.fleet_core.specs.Possible.{can_be, end_by, sent_by, spends_at}
-use Rattle.fleet_core.specs.StandsFor.{Collected, StandsFor}
+use Rattle.fleet_core.specs.Represents.{Collected, Represents}
 use Rattle.fleet_core.specs.Waiting.{AreHandedOver, IsEndOf}
 
 abbrev pub Answer : Type 0
@@ -67,7 +67,7 @@ EndsBy (Err (Session cause out)) end = end ≡ Some cause
 -- all that a step answers and leaves
 pub record Answers (answer : Answer) (old new : Collected) (config : Config) (opening : ℕ)
     (past : List Step) (step : Step) : Type 0 where
-  pub stands : StandsFor new config opening (past_after answer past step)
+  pub stands : Represents new config opening (past_after answer past step)
   pub no_conn : (answer ≡ Err NoConn) ↔ (can_be config opening past step ≡ false)
   pub spent : (answer ≡ Err Spent) ↔ (spends_at config opening past step ≡ true)
   pub sent : Sends answer (sent_by config opening past step)

@@ -2,7 +2,7 @@ pub mod Steps
 pub mod Events
 pub mod Links
 pub mod Possible
-pub mod StandsFor
+pub mod Represents
 pub mod Waiting
 pub mod Answers
 pub mod Feeding

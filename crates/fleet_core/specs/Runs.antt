@@ -14,7 +14,7 @@ use Rattle.fleet_core.specs.declared.step.FleetFault.TheVariants.{NoConn, Spent,
 use Rattle.fleet_core.specs.declared.step.Replies.{Replies}
 use Rattle.fleet_core.specs.declared.step.Step.{Step}
 use Rattle.fleet_core.specs.Possible.{can_be, does_fit, sent_by, spends_at}
-use Rattle.fleet_core.specs.StandsFor.{Collected, StandsFor}
+use Rattle.fleet_core.specs.Represents.{Collected, Represents}
 use Rattle.fleet_core.specs.Steps.{conn_of}
 
 -- a step whose connection isn't open is passed over
@@ -60,7 +60,7 @@ run_fault config opening steps =
 -- the run did all steps whose connection was open, nothing waits, and each sent what it should; no
 -- fault stood in its way
 pub record IsRan (ran : Ran) (config : Config) (opening : ℕ) (steps : List Step) : Type 0 where
-  pub stands : StandsFor ran.fleet config opening (done config opening [] steps)
+  pub stands : Represents ran.fleet config opening (done config opening [] steps)
   pub waiting : ran.fleet.waiting ≡ []
   pub sent : ran.sent ≡ sent_in config opening (done config opening [] steps)
   pub no_fault : run_fault config opening steps ≡ None
@@ -86,7 +86,7 @@ run_answer (Err (Session cause out)) step = Ok (Some (record { conn = conn_of st
 -- a step more of a run, which has no fault
 pub record IsAdvanced (fleet : Collected) (replies : List Replies) (config : Config)
     (opening : ℕ) (past : List Step) (step : Step) : Type 0 where
-  pub stands : StandsFor fleet config opening (then_done config opening past step)
+  pub stands : Represents fleet config opening (then_done config opening past step)
   pub waiting : fleet.waiting ≡ []
   pub sent : replies ≡ sent_in config opening (then_done config opening past step)
   pub no_fault : fault_at config opening past step ≡ None

@@ -12,7 +12,7 @@ ghost use Rattle.fleet_core.specs.Events.{added_by};
 ghost use Rattle.fleet_core.specs.Adds.{Adds, IsFed, Keeps};
 ghost use Rattle.fleet_core.specs.Links.{next_seq_at};
 ghost use Rattle.fleet_core.specs.Possible.{can_be, does_fit, end_by, is_full, sent_by, spends_at};
-ghost use Rattle.fleet_core.specs.StandsFor.{ForEachPast, StandsFor};
+ghost use Rattle.fleet_core.specs.Represents.{ForEachPast, Represents};
 ghost use Rattle.fleet_core.specs.Steps.{connects, what_at};
 ghost use Rattle.fleet_core.specs.Waiting.{AreHandedOver, IsEndOf};
 
@@ -42,7 +42,7 @@ pub struct Fleet {
 }
 
 impl Model for Fleet {
-    ghost use Rattle.fleet_core.specs.StandsFor.{Collected};
+    ghost use Rattle.fleet_core.specs.Represents.{Collected};
 
     ghost Value = { Collected };
 
@@ -61,11 +61,11 @@ impl Fleet {
     pub fn new(alloc: Global, config: Config, moment: u64) -> Result<Fleet, NoMemory>
         requires checked { config_faults config ≡ [] }
         requires in_range { moment ≤ LAST_MOMENT }
-        ensures stands { IfOk result (λ fleet. StandsFor fleet config moment []) }
+        ensures stands { IfOk result (λ fleet. Represents fleet config moment []) }
         ensures waiting { IfOk result (λ fleet. fleet.waiting ≡ []) }
     {
         let mut book = Book::new(alloc, config, moment)?;
-        book.take(0, 0, &What::Sit)?;
+        book.apply(0, 0, &What::Sit)?;
         Ok(Fleet {
             alloc,
             book,
@@ -101,7 +101,7 @@ impl Fleet {
 
         // It stands for the steps before and, after Ok and Session, for this one.
         ensures stands { ForEachPast self.old (λ config opening past.
-            StandsFor self.new config opening (past_after result past step.now)) }
+            Represents self.new config opening (past_after result past step.now)) }
 
         // NoConn exactly where it names a connection that isn't open, Spent exactly where an open
         // one, or seat 0, has no numbers left for it. Nothing has changed then.
@@ -165,7 +165,7 @@ impl Fleet {
             (λ conn. (conn ≡ connects past + 1) × Adds self.new config opening past Connect)
             (λ _. Keeps self.old self.new config opening past)) }
     {
-        self.settle()?;
+        self.flush()?;
         let conn = self.connected + 1;
         let seated = self.book.has_free_seat();
         let facts = sit_if(self.alloc, seated)?;
@@ -212,7 +212,7 @@ impl Fleet {
             (λ _. Keeps self.old self.new config opening past)) }
     {
         let alloc = self.alloc;
-        self.settle()?;
+        self.flush()?;
         let Outcome { facts, out, end } = feed(
             &mut self.connections,
             conn,
@@ -248,7 +248,7 @@ impl Fleet {
             (λ _. Adds self.new config opening past (Lost conn))
             (λ _. Keeps self.old self.new config opening past)) }
     {
-        self.settle()?;
+        self.flush()?;
         let none = Items::from_vec(Vec::new(self.alloc));
         let events = Waiting::at_seat(self.alloc, conn, next_seq, none, true);
         close(&mut self.connections, conn);
@@ -282,7 +282,7 @@ impl Fleet {
             (λ _. Adds self.new config opening past step.now)
             (λ _. Keeps self.old self.new config opening past)) }
     {
-        self.settle()?;
+        self.flush()?;
         let facts = facts_of(self.alloc, step)?;
         let seq = self.next_seq;
         self.next_seq += 1;
@@ -291,7 +291,7 @@ impl Fleet {
     }
 
     // Hands what waits to the book.
-    fn settle(&mut self) -> Result<(), NoMemory>
+    fn flush(&mut self) -> Result<(), NoMemory>
         ensures ok { OnOk result (self.new.waiting ≡ []) }
         ensures handed { AreHandedOver self.old.waiting self.old.book self.new.waiting
             self.new.book }
@@ -299,7 +299,7 @@ impl Fleet {
         ensures connected { self.new.connected ≡ self.old.connected }
         ensures next_seq { self.new.next_seq ≡ self.old.next_seq }
     {
-        self.waiting.settle(&mut self.book)
+        self.waiting.flush(&mut self.book)
     }
 
     // Lets events wait, and hands over as many as there is memory for.
@@ -310,7 +310,7 @@ impl Fleet {
         ensures next_seq { self.new.next_seq ≡ self.old.next_seq }
     {
         self.waiting = events;
-        let _ = self.settle();
+        let _ = self.flush();
     }
 
     fn silent(&self, conn: u64) -> Replies

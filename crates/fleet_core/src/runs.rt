@@ -1,6 +1,6 @@
 ghost use Rattle.std.specs.Prelude.{◌≡◌, [], IfOk, IfErr};
 ghost use Rattle.fleet_core.specs.Runs.{Goes, IsFault, IsRan, run_answer, sent_in};
-ghost use Rattle.fleet_core.specs.StandsFor.{ForEachPast};
+ghost use Rattle.fleet_core.specs.Represents.{ForEachPast};
 
 use crate::{Fleet, FleetFault, Replies, Step};
 use agg_types::{Config, ConfigFault, Items, LAST_MOMENT, NoMemory};

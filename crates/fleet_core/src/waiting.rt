@@ -92,7 +92,7 @@ impl Waiting {
 
     /// Hands the events to the book, one after the other. After NoMemory those that it has not
     /// taken wait as before.
-    pub fn settle(&mut self, book: &mut Book) -> Result<(), NoMemory>
+    pub fn flush(&mut self, book: &mut Book) -> Result<(), NoMemory>
         ensures ok { OnOk result (self.new ≡ []) }
         ensures handed { AreHandedOver self.old book.old self.new book.new }
     {
@@ -110,13 +110,13 @@ impl Waiting {
     {
         match self.facts.as_slice().get(self.handed) {
             Some(what) => {
-                book.take(self.seat, self.seq, what)?;
+                book.apply(self.seat, self.seq, what)?;
                 self.handed += 1;
                 self.seq += 1;
             }
             None => {
                 if self.leaves {
-                    book.take(self.seat, self.seq, &What::Leave)?;
+                    book.apply(self.seat, self.seq, &What::Leave)?;
                     self.leaves = false;
                 }
             }

@@ -70,17 +70,17 @@ each-push faults before (y ∷ ys) x none new =
     (subst (λ zs. faults zs x ≡ []) (sym (append_assoc before (y ∷ []) ys)) new))
 
 -- ---- a filter that fits and is new has no fault
-record Stands (shape : Option Shape) (conds : List Cond) : Type 0 where
+record Acceptable (shape : Option Shape) (conds : List Cond) : Type 0 where
   there : is_none shape ≡ false
   stored : not (option_map_or (λ s. list_all (λ cond. stores s.cols cond.col) conds) shape false)
       ≡ false
   few : nat_lt 4 (length conds) ≡ false
   some : (length conds == 0) ≡ false
 
-stands_from : (shape : Option Shape) (conds : List Cond)
-    → option_map_or (λ s. conds_fit s.cols conds) shape false ≡ true → Stands shape conds
-stands_from None conds h = cc
-stands_from (Some shape) conds h =
+acceptable_from : (shape : Option Shape) (conds : List Cond)
+    → option_map_or (λ s. conds_fit s.cols conds) shape false ≡ true → Acceptable shape conds
+acceptable_from None conds h = cc
+acceptable_from (Some shape) conds h =
     let ends = and_parts (nat_le 1 (length conds) && nat_le (length conds) 4)
     (list_all (λ cond. stores shape.cols cond.col) conds) h in
     let counts = and_parts (nat_le 1 (length conds)) (nat_le (length conds) 4) ends.0 in
@@ -105,7 +105,7 @@ filter_sound tables filters added fit new =
     (not (list_any (λ other. bytes_eq other.name added.name) filters)) new in
     let room : nat_le MOST_FILTERS (length filters) ≡ false = let fewer = told.0 in
     grind (arith, nat_tests) in
-    let stands = stands_from (slice_get tables added.table) added.conds parts.1 in
+    let stands = acceptable_from (slice_get tables added.table) added.conds parts.1 in
     both_none _ _ (both_none _ _ (both_none _ _
     (both_none _ _ (both_none _ _ (no_fault _ TooMany (either_none _ _ room stands.few))
     (no_fault _ BadName (not_holds _ parts.0)))

@@ -33,7 +33,7 @@ use Rattle.fleet_model.specs.Rows.{in_force, judge_at, arrival_of, putter, row_o
 use Rattle.fleet_model.specs.Seats.{above_all, counts, is_leave, is_next, is_number, is_sit}
 use Rattle.fleet_model.specs.Seats.{number, seats_in, seats_of}
 use Rattle.fleet_model.specs.Sessions.{opens, session, sessions_in}
-use Rattle.fleet_model.specs.State.{Stands, State, state_after, state_of, with_filters}
+use Rattle.fleet_model.specs.State.{IsStateOf, State, state_after, state_of, with_filters}
 use Rattle.fleet_model.specs.declared.arrival.Arrival.{Arrival}
 
 abbrev state : Config → ℕ → List (RowKey × Arrival) → List (ℕ × ℕ) → List (ℕ × ℕ) → ℕ → State
@@ -361,8 +361,8 @@ one_more config opening events e =
     ap (λ h. state_after config opening h (counted_of h)) (judged-push config opening events e)
     ∙ history-push config opening (judged config opening events) e (sit_first config opening events)
 
-pub stands_more : (state : State) (config : Config) (opening : ℕ) (events : List Event) (e : Event)
-    → Stands state config opening events → Stands (after state e) config opening (events ++ e ∷ [])
-unfolding Stands
-stands_more state config opening events e stands = ap (λ s. after s e) stands
+pub state_more : (state : State) (config : Config) (opening : ℕ) (events : List Event) (e : Event)
+    → IsStateOf state config opening events → IsStateOf (after state e) config opening (events ++ e ∷ [])
+unfolding IsStateOf
+state_more state config opening events e stands = ap (λ s. after s e) stands
     ∙ sym (one_more config opening events e)

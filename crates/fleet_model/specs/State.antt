@@ -46,5 +46,5 @@ state_of config opening events =
     (counted_of (judged config opening events))
 
 -- a state is what these events leave
-unfoldable pub Stands : State → Config → ℕ → List Event → Type 0
-Stands state config opening events = state ≡ state_of config opening events
+unfoldable pub IsStateOf : State → Config → ℕ → List Event → Type 0
+IsStateOf state config opening events = state ≡ state_of config opening events

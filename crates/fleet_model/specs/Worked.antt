@@ -67,8 +67,8 @@ unfoldable pub left_by : Config → List (ℕ × What) → State
 left_by config happenings = state_of config 0 (in_turn happenings)
 
 -- the keys of the table, each with its summed row
-unfoldable pub shown : State → List (List ℕ × Option Summed)
-shown state = map (λ key. (key, summed state 0 key)) (keys_of state 0)
+unfoldable pub view_of_table : State → List (List ℕ × Option Summed)
+view_of_table state = map (λ key. (key, summed state 0 key)) (keys_of state 0)
 
 -- a summed row that has a value of one column alone
 unfoldable pub sums_to : Col → (peers : ℕ) → (left : Option ℕ) → (value : ℕ) → Option Summed

@@ -35,7 +35,7 @@ ghost use Rattle.fleet_model.specs.Rows.{counted_of};
 ghost use Rattle.fleet_model.specs.Seats.{counts, number};
 ghost use Rattle.fleet_model.specs.Sessions.{session};
 ghost use Rattle.fleet_model.specs.Sound.{IsSound};
-ghost use Rattle.fleet_model.specs.State.{Stands, State, state_of};
+ghost use Rattle.fleet_model.specs.State.{IsStateOf, State, state_of};
 ghost use Rattle.fleet_model.specs.Values.{cols_of, column_worth, same_place, value};
 ghost use Rattle.fleet_model.specs.declared.arrival.Arrival.{Arrival};
 
@@ -57,10 +57,10 @@ pub fn one_event_more()
 
 /// A state that a list of events leaves becomes, by one more event, the one that the longer list
 /// leaves.
-pub fn stands_after_one_more()
+pub fn state_after_one_more()
     ensures { (state : State) (config : Config) (opening : ℕ) (events : List Event) (e : Event)
-        → Stands state config opening events
-        → Stands (after state e) config opening (events ++ e ∷ []) }
+        → IsStateOf state config opening events
+        → IsStateOf (after state e) config opening (events ++ e ∷ []) }
 {}
 
 /// Recomputing from a whole list gives what the machine leaves that takes its events one by one.

@@ -11,7 +11,7 @@ ghost use Rattle.agg_types.specs.declared.event.What.TheVariants.{Moment, Leave}
 ghost use Rattle.fleet_model.specs.Answers.{filter_of, set_at};
 ghost use Rattle.fleet_model.specs.Machine.{session_of};
 ghost use Rattle.fleet_model.specs.Ranking.{ranked, ranking};
-ghost use Rattle.fleet_model.specs.Worked.{fleet_of, ip, filter_on, row, left_by, shown, sums_to};
+ghost use Rattle.fleet_model.specs.Worked.{fleet_of, ip, filter_on, row, left_by, view_of_table, sums_to};
 ghost use Rattle.fleet_model.specs.Worked.{joined, full_table, reconnected, lives_over};
 ghost use Rattle.fleet_model.specs.Worked.{cleared_on_sums, summed_rates, one_rate, slow_rate};
 ghost use Rattle.fleet_model.specs.Worked.{added_late, equal_keys, falling_keys, first_two};
@@ -19,11 +19,11 @@ ghost use Rattle.fleet_model.specs.Worked.{added_late, equal_keys, falling_keys,
 /// A table holds two rows of a peer. A third key isn't taken, until the row that lives 100 ms has
 /// ended.
 pub fn size_limit()
-    ensures full { shown (left_by (fleet_of 2 Gpc0 0 []) full_table)
+    ensures full { view_of_table (left_by (fleet_of 2 Gpc0 0 []) full_table)
         ≡ (ip 1, sums_to Gpc0 1 (Some 100) 1) ∷ (ip 2, sums_to Gpc0 1 (Some 60000) 2) ∷ [] }
-    ensures ended { shown (left_by (fleet_of 2 Gpc0 0 []) (full_table ++ (0, Moment 100) ∷ []))
+    ensures ended { view_of_table (left_by (fleet_of 2 Gpc0 0 []) (full_table ++ (0, Moment 100) ∷ []))
         ≡ (ip 2, sums_to Gpc0 1 (Some 59900) 2) ∷ [] }
-    ensures taken { shown
+    ensures taken { view_of_table
         (left_by (fleet_of 2 Gpc0 0 [])
         (full_table ++ (0, Moment 100) ∷ (1, row 0 3 (Some 60000) (Count 3)) ∷ []))
         ≡ (ip 2, sums_to Gpc0 1 (Some 59900) 2) ∷ (ip 3, sums_to Gpc0 1 (Some 60000) 3) ∷ [] }
@@ -32,55 +32,55 @@ pub fn size_limit()
 /// A peer that connects again is heard over its newer session: what the older one still says isn't
 /// taken. Rows of a lost session stay, and no older session comes back.
 pub fn reconnect()
-    ensures lost { shown
+    ensures lost { view_of_table
         (left_by (fleet_of 100 Gpc0 0 [])
         (joined 1 0 ++ (1, row 0 1 None (Count 5)) ∷ (1, Leave) ∷ []))
         ≡ (ip 1, sums_to Gpc0 1 None 5) ∷ [] }
-    ensures replaced { shown (left_by (fleet_of 100 Gpc0 0 []) reconnected)
+    ensures replaced { view_of_table (left_by (fleet_of 100 Gpc0 0 []) reconnected)
         ≡ (ip 1, sums_to Gpc0 1 None 7) ∷ [] }
     ensures newer { session_of (left_by (fleet_of 100 Gpc0 0 []) reconnected) 0 ≡ Some 3 }
     ensures gone { session_of (left_by (fleet_of 100 Gpc0 0 []) (reconnected ++ (3, Leave) ∷ [])) 0
         ≡ None }
-    ensures stay { shown (left_by (fleet_of 100 Gpc0 0 []) (reconnected ++ (3, Leave) ∷ []))
+    ensures stay { view_of_table (left_by (fleet_of 100 Gpc0 0 []) (reconnected ++ (3, Leave) ∷ []))
         ≡ (ip 1, sums_to Gpc0 1 None 7) ∷ [] }
 {}
 
 /// A row is there until the moment at which its life is over; a row of life 0 takes the older one
 /// away.
 pub fn lives()
-    ensures last { shown (left_by (fleet_of 100 Gpc0 0 []) (lives_over ++ (0, Moment 1499) ∷ []))
+    ensures last { view_of_table (left_by (fleet_of 100 Gpc0 0 []) (lives_over ++ (0, Moment 1499) ∷ []))
         ≡ (ip 1, sums_to Gpc0 1 (Some 1) 5) ∷ [] }
-    ensures over { shown (left_by (fleet_of 100 Gpc0 0 []) (lives_over ++ (0, Moment 1500) ∷ []))
+    ensures over { view_of_table (left_by (fleet_of 100 Gpc0 0 []) (lives_over ++ (0, Moment 1500) ∷ []))
         ≡ [] }
-    ensures away { shown
+    ensures away { view_of_table
         (left_by (fleet_of 100 Gpc0 0 []) (lives_over ++ (1, row 0 1 (Some 0) (Count 6)) ∷ []))
         ≡ [] }
 {}
 
 /// A clear judges a key by the fleet's sums, and takes the rows of all peers.
 pub fn clear_on_sums()
-    ensures sums { shown (left_by (fleet_of 100 Gpc0 0 []) cleared_on_sums)
+    ensures sums { view_of_table (left_by (fleet_of 100 Gpc0 0 []) cleared_on_sums)
         ≡ (ip 1, sums_to Gpc0 2 None 11) ∷ (ip 2, sums_to Gpc0 1 None 9) ∷ [] }
-    ensures cleared { shown
+    ensures cleared { view_of_table
         (left_by (fleet_of 100 Gpc0 0 [])
         (cleared_on_sums ++
         (0, Clear 0 (Conds ((record { col = Gpc0; op = Ge; bound = 10 }) ∷ []))) ∷ []))
         ≡ (ip 2, sums_to Gpc0 1 None 9) ∷ [] }
-    ensures all { shown
+    ensures all { view_of_table
         (left_by (fleet_of 100 Gpc0 0 []) (cleared_on_sums ++ (0, Clear 0 All) ∷ [])) ≡ [] }
 {}
 
 /// A key's rate is the sum of its peers' rates, each rounded down by itself.
 pub fn fleet_rate()
-    ensures at_0 { shown (left_by (fleet_of 100 HttpReqRate 1000 []) summed_rates)
+    ensures at_0 { view_of_table (left_by (fleet_of 100 HttpReqRate 1000 []) summed_rates)
         ≡ (ip 1, sums_to HttpReqRate 2 None 4) ∷ [] }
-    ensures at_1 { shown
+    ensures at_1 { view_of_table
         (left_by (fleet_of 100 HttpReqRate 1000 []) (summed_rates ++ (0, Moment 1) ∷ []))
         ≡ (ip 1, sums_to HttpReqRate 2 None 3) ∷ [] }
-    ensures at_166 { shown
+    ensures at_166 { view_of_table
         (left_by (fleet_of 100 HttpReqRate 1000 []) (summed_rates ++ (0, Moment 166) ∷ []))
         ≡ (ip 1, sums_to HttpReqRate 2 None 3) ∷ [] }
-    ensures at_167 { shown
+    ensures at_167 { view_of_table
         (left_by (fleet_of 100 HttpReqRate 1000 []) (summed_rates ++ (0, Moment 167) ∷ []))
         ≡ (ip 1, sums_to HttpReqRate 2 None 2) ∷ [] }
     ensures held { set_at (left_by (fleet_of 100 HttpReqRate 1000 []) summed_rates)

@@ -3,7 +3,7 @@ use Rattle.std.proofs.Common.{◌≡◌, ◌≢◌, ℕ, List, [], ◌∷◌, Op
 use Rattle.std.proofs.Common.{sym, ⊎_elim, set}
 use mathlib.Core.Option.{some}
 use lib.ListN.{get_elem?}
-use Rattle.fleet_model.specs.State.{Stands}
+use Rattle.fleet_model.specs.State.{IsStateOf}
 use Rattle.left_right.specs.Register.{Admits, Forks, Merges, Turns, TurnsAt}
 use Rattle.atomic_table.proofs.Lists.{at_set, at_snoc}
 use Rattle.hub.specs.History.{Beginning}
@@ -83,7 +83,7 @@ merges seat v other w x views h at apart there =
 
 -- a copy that has taken exactly a beginning is whole
 pub whole_is : (x : Copied) (b : Beginning) → x ≡ whole b → IsWhole x
-unfolding Stands
+unfolding IsStateOf
 whole_is x b is = subst IsWhole (sym is) refl
 
 -- what publishing owes, where the operations bring the copy to a beginning of its log

@@ -4,7 +4,7 @@ use mathlib.Core.Option.{some}
 use lib.ListN.{get_elem?}
 use Rattle.agg_types.specs.declared.event.Event.{Event}
 use Rattle.fleet_model.specs.Machine.{after}
-use Rattle.fleet_model.specs.State.{Stands, State, state_of}
+use Rattle.fleet_model.specs.State.{IsStateOf, State, state_of}
 use Rattle.hub.specs.History.{Beginning}
 
 -- a state, and the beginning whose events came with it
@@ -30,7 +30,7 @@ whole b = record { at = b; state = state_of b.config b.opening b.events }
 
 -- a copy is what recomputing from all its events gives
 abbrev pub IsWhole : Copied → Type 0
-IsWhole x = Stands x.state x.at.config x.at.opening x.at.events
+IsWhole x = IsStateOf x.state x.at.config x.at.opening x.at.events
 
 -- who was told of a log reads that log
 abbrev pub Fits : Copied → Option Beginning → Type 0

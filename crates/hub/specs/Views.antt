@@ -1,6 +1,6 @@
 -- What readers see.
 use Rattle.std.specs.Prelude.{◌≡◌, ◌⊎◌, Bool}
-use Rattle.fleet_model.specs.State.{Stands, State}
+use Rattle.fleet_model.specs.State.{IsStateOf, State}
 use Rattle.hub.specs.History.{Beginning}
 use Rattle.hub.specs.Posts.{Follows}
 
@@ -11,7 +11,7 @@ pub record Seeing : Type 0 where
 
 -- a book answers what recomputing from the whole list gives
 abbrev pub IsBookOf : State → Beginning → Type 0
-IsBookOf book b = Stands book b.config b.opening b.events
+IsBookOf book b = IsStateOf book b.config b.opening b.events
 
 -- of two lists of one history one begins the other, and the longer is what is seen then
 pub record Learns (before told later : Beginning) : Type 0 where

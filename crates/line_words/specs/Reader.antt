@@ -47,16 +47,16 @@ abbrev pub word : Expected → Left → Result (List ℕ × Left) Misread
 word expected left = word_at expected left.number left.words
 
 -- what a word says, which has to say something
-abbrev pub told : {A : Type 0} → ℕ → Expected → Option A → Result A Misread
-told number expected None = Err (wrong number expected)
-told number expected (Some x) = Ok x
+abbrev pub or_wrong : {A : Type 0} → ℕ → Expected → Option A → Result A Misread
+or_wrong number expected None = Err (wrong number expected)
+or_wrong number expected (Some x) = Ok x
 
 -- what the next word says, and what is left behind it
 abbrev pub said_by : {A : Type 0} →
     Expected → (List ℕ → Option A) → Left → Result (A × Left) Misread
 said_by expected says left = do
   found ← word expected left
-  x ← told left.number expected (says found.0)
+  x ← or_wrong left.number expected (says found.0)
   Ok (x, found.1)
 
 -- the next word is this one
@@ -74,7 +74,7 @@ end left = end_at left left.words
 
 -- the number that a word writes; one that writes none is a fault by itself
 abbrev pub numeral : ℕ → List ℕ → Result ℕ Misread
-numeral place found = told place Number (result_ok (number_of found))
+numeral place found = or_wrong place Number (result_ok (number_of found))
 
 abbrev pub number : Left → Result (Result ℕ Misread × Left) Misread
 number left = do
@@ -95,7 +95,7 @@ operator left = said_by Operator operator_of left
 abbrev pub data_column_named : ℕ → List ℕ → Result Col Misread
 data_column_named place found =
     if bytes_eq (take 5 found) (codes "data.")
-    then told place Column (column_named (drop 5 found)) else Err (wrong place Condition)
+    then or_wrong place Column (column_named (drop 5 found)) else Err (wrong place Condition)
 
 abbrev pub data_column : Left → Result (Col × Left) Misread
 data_column left = do

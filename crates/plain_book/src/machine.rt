@@ -236,7 +236,11 @@ fn arrival_of(
     })
 }
 
-fn normalized_cells(alloc: Global, cols: &[(Col, u32)], cells: &[Cell]) -> Result<Items<Cell>, NoMemory>
+fn normalized_cells(
+    alloc: Global,
+    cols: &[(Col, u32)],
+    cells: &[Cell],
+) -> Result<Items<Cell>, NoMemory>
     ensures { IfOk result (λ kept. kept ≡ normalized_cells cols.now cells.now) }
 {
     let mut kept = Vec::with_capacity(alloc, cells.len())?;

@@ -47,8 +47,8 @@ found living value room candidates entries =
     take room (put_all candidates (worth living value entries))
 
 -- a candidate that is lent
-abbrev pub shown : Bor (List ℕ) × ℕ → List ℕ × ℕ
-shown candidate = (candidate.0.now, candidate.1)
+abbrev pub view_of_candidate : Bor (List ℕ) × ℕ → List ℕ × ℕ
+view_of_candidate candidate = (candidate.0.now, candidate.1)
 
 -- each has a value of at most that of any before it
 abbrev pub AreFalling : List (List ℕ × ℕ) → Type 0
@@ -88,5 +88,5 @@ reach index value = count_by (λ e. nat_le value (bound_of e.0)) index
 -- with a bound of at least its value
 abbrev pub GivesFirst : RankedList → Option (Bor (List ℕ) × ℕ) → RankedList → Type 0
 GivesFirst old given new =
-    TakesFirst shown old.left given new.left × (new.index ≡ old.index)
+    TakesFirst view_of_candidate old.left given new.left × (new.index ≡ old.index)
     × IfSome given (λ item. new.walked ≤ reach old.index item.1)

@@ -5,14 +5,14 @@ ghost use Rattle.std.specs.Option.{option_map};
 ghost use Rattle.std.specs.Ordering.{is_lt};
 ghost use Rattle.expiry_wheel.specs.Lent.{lent_entry};
 ghost use Rattle.fleet_model.specs.Ranking.{put_in_order, rank_cmp};
-ghost use Rattle.ranked.specs.Walk.{is_settled, shown};
+ghost use Rattle.ranked.specs.Walk.{is_settled, view_of_candidate};
 
 use crate::slack::bound_of;
 use agg_types::Key;
 
 /// Whether a candidate stands before every key from an entry of the index on.
 pub(crate) fn is_settled(best: (&Key, u128), ahead: Option<(u64, &Key)>) -> bool
-    ensures { result ≡ is_settled (shown best.entry) (option_map lent_entry ahead.entry) }
+    ensures { result ≡ is_settled (view_of_candidate best.entry) (option_map lent_entry ahead.entry) }
 {
     match ahead {
         None => true,
@@ -23,9 +23,9 @@ pub(crate) fn is_settled(best: (&Key, u128), ahead: Option<(u64, &Key)>) -> bool
 /// Before how many candidates a key's place is.
 pub(crate) fn place_of(candidates: &[(&Key, u128)], key: (&Key, u128)) -> usize
     ensures within { result ≤ length candidates.now }
-    ensures place { put_in_order rank_cmp (shown key.entry) (map shown candidates.now)
-        ≡ map shown (take result candidates.now) ++ shown key.entry
-        ∷ map shown (drop result candidates.now) }
+    ensures place { put_in_order rank_cmp (view_of_candidate key.entry) (map view_of_candidate candidates.now)
+        ≡ map view_of_candidate (take result candidates.now) ++ view_of_candidate key.entry
+        ∷ map view_of_candidate (drop result candidates.now) }
 {
     for (place, other) in candidates.iter().enumerate() {
         if comes_before(key, *other) {
@@ -36,7 +36,7 @@ pub(crate) fn place_of(candidates: &[(&Key, u128)], key: (&Key, u128)) -> usize
 }
 
 fn comes_before(key: (&Key, u128), other: (&Key, u128)) -> bool
-    ensures { result ≡ is_lt (rank_cmp (shown key.entry) (shown other.entry)) }
+    ensures { result ≡ is_lt (rank_cmp (view_of_candidate key.entry) (view_of_candidate other.entry)) }
 {
     key.1 > other.1 || (key.1 == other.1 && *key.0 < *other.0)
 }

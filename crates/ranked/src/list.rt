@@ -6,7 +6,7 @@ ghost use Rattle.agg_types.specs.declared.limits.TheConstants.{LONGEST_RANK};
 ghost use Rattle.expiry_wheel.specs.Entries.{IsInOrder};
 ghost use Rattle.ranked.specs.Walk.{AreBounds, GivesFirst, found};
 
-use crate::walk::settle;
+use crate::walk::take_certain;
 use agg_types::{Col, Key, NoMemory, Rank};
 use crossing::Values;
 use expiry_wheel::{Entries, OrderedDue};
@@ -35,14 +35,14 @@ pub struct Ranked<'a, V: Values> {
 
 impl<'a, V: Values> Model for Ranked<'a, V> {
     ghost use Rattle.std.specs.Prelude.{List, ℕ, map, vec_len, vec_capacity, ◌≤◌, ◌<◌};
-    ghost use Rattle.ranked.specs.Walk.{AreBounds, IsWalk, RankedList, found, shown};
+    ghost use Rattle.ranked.specs.Walk.{AreBounds, IsWalk, RankedList, found, view_of_candidate};
 
     ghost Value = { RankedList };
 
     ghost view = { λ r. record {
       left = found (λ key. V.living r.values.now r.table key r.now)
           (λ key. V.summed r.values.now r.table key r.col r.now) r.left
-          (map shown r.candidates.items) r.ahead;
+          (map view_of_candidate r.candidates.items) r.ahead;
       walked = r.walked;
       index = r.index.now;
     } };
@@ -50,7 +50,7 @@ impl<'a, V: Values> Model for Ranked<'a, V> {
     ghost invariant = { λ r. AreBounds (λ key. V.living r.values.now r.table key r.now)
         (λ key. V.summed r.values.now r.table key r.col r.now) r.ahead
         × (vec_len r.candidates ≤ r.left) × (r.left < vec_capacity r.candidates)
-        × IsWalk r.index.now r.walked (map shown r.candidates.items) r.ahead };
+        × IsWalk r.index.now r.walked (map view_of_candidate r.candidates.items) r.ahead };
 }
 
 impl<'a, V: Values> Ranked<'a, V> {
@@ -107,7 +107,7 @@ impl<'a, V: Values> Iterator for Ranked<'a, V> {
         if self.left == 0 {
             return None;
         }
-        let walked = settle(
+        let walked = take_certain(
             &mut self.ahead,
             &mut self.candidates,
             self.left,

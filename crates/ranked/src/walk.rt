@@ -6,7 +6,7 @@ ghost use Rattle.expiry_wheel.specs.Items.{AreFromFirst, first_item, without_fir
 ghost use Rattle.fleet_model.specs.Ranking.{put_in_order, rank_cmp};
 ghost use Rattle.std.specs.Option.{option_map};
 ghost use Rattle.expiry_wheel.specs.Lent.{lent_entry};
-ghost use Rattle.ranked.specs.Walk.{AreBounds, WalksOn, found, is_done, shown};
+ghost use Rattle.ranked.specs.Walk.{AreBounds, WalksOn, found, is_done, view_of_candidate};
 
 use crate::candidates::{is_settled, place_of};
 use agg_types::{Col, Key};
@@ -17,8 +17,8 @@ use expiry_wheel::{Entries, OrderedDue};
 pub(crate) fn offer<'a>(candidates: &mut Vec<(&'a Key, u128)>, room: usize, key: (&'a Key, u128))
     requires kept { vec_len candidates.old ≤ room }
     requires space { room < vec_capacity candidates.old }
-    ensures offered { map shown candidates.new.items
-        ≡ take room (put_in_order rank_cmp (shown key.entry) (map shown candidates.old.items)) }
+    ensures offered { map view_of_candidate candidates.new.items
+        ≡ take room (put_in_order rank_cmp (view_of_candidate key.entry) (map view_of_candidate candidates.old.items)) }
     ensures kept { vec_len candidates.new ≤ room }
     ensures space { room < vec_capacity candidates.new }
 {
@@ -31,7 +31,7 @@ pub(crate) fn offer<'a>(candidates: &mut Vec<(&'a Key, u128)>, room: usize, key:
 
 // Whether a walk may stop.
 fn is_done(candidates: &[(&Key, u128)], next: Option<(u64, &Key)>) -> bool
-    ensures { result ≡ is_done (map shown candidates.now) (option_map lent_entry next.entry) }
+    ensures { result ≡ is_done (map view_of_candidate candidates.now) (option_map lent_entry next.entry) }
 {
     match candidates {
         [] => next.is_none(),
@@ -53,18 +53,18 @@ fn take_next<'a, V: Values>(
     requires space { room < vec_capacity candidates.old }
     requires bounds { AreBounds (λ key. V.living values.now table key now)
         (λ key. V.summed values.now table key col now) ahead.old }
-    requires undone { is_done (map shown candidates.old.items) (first_item ahead.old) ≡ false }
+    requires undone { is_done (map view_of_candidate candidates.old.items) (first_item ahead.old) ≡ false }
     ensures kept { vec_len candidates.new ≤ room }
     ensures space { room < vec_capacity candidates.new }
-    ensures walked { WalksOn (map shown candidates.old.items) ahead.old 1
-        (map shown candidates.new.items) ahead.new }
+    ensures walked { WalksOn (map view_of_candidate candidates.old.items) ahead.old 1
+        (map view_of_candidate candidates.new.items) ahead.new }
     ensures taken { ahead.new ≡ without_first ahead.old }
     ensures same { found (λ key. V.living values.now table key now)
         (λ key. V.summed values.now table key col now) room
-        (map shown candidates.new.items) ahead.new
+        (map view_of_candidate candidates.new.items) ahead.new
         ≡ found (λ key. V.living values.now table key now)
         (λ key. V.summed values.now table key col now) room
-        (map shown candidates.old.items) ahead.old }
+        (map view_of_candidate candidates.old.items) ahead.old }
 {
     if let Some((_, key)) = ahead.peek() {
         ahead.step();
@@ -75,7 +75,7 @@ fn take_next<'a, V: Values>(
 }
 
 /// Takes entries until the best candidate is settled or none is left, and answers how many.
-pub(crate) fn settle<'a, V: Values>(
+pub(crate) fn take_certain<'a, V: Values>(
     ahead: &mut Entries<'a, Key, OrderedDue<Key>>,
     candidates: &mut Vec<(&'a Key, u128)>,
     room: usize,
@@ -92,16 +92,16 @@ pub(crate) fn settle<'a, V: Values>(
     ensures space { room < vec_capacity candidates.new }
     ensures bounds { AreBounds (λ key. V.living values.now table key now)
         (λ key. V.summed values.now table key col now) ahead.new }
-    ensures walked { WalksOn (map shown candidates.old.items) ahead.old result
-        (map shown candidates.new.items) ahead.new }
-    ensures settled { is_done (map shown candidates.new.items) (first_item ahead.new) ≡ true }
+    ensures walked { WalksOn (map view_of_candidate candidates.old.items) ahead.old result
+        (map view_of_candidate candidates.new.items) ahead.new }
+    ensures settled { is_done (map view_of_candidate candidates.new.items) (first_item ahead.new) ≡ true }
     ensures first { AreFromFirst ahead.new }
     ensures same { found (λ key. V.living values.now table key now)
         (λ key. V.summed values.now table key col now) room
-        (map shown candidates.new.items) ahead.new
+        (map view_of_candidate candidates.new.items) ahead.new
         ≡ found (λ key. V.living values.now table key now)
         (λ key. V.summed values.now table key col now) room
-        (map shown candidates.old.items) ahead.old }
+        (map view_of_candidate candidates.old.items) ahead.old }
 {
     let mut walked = 0usize;
     'entries: while !is_done(candidates.as_slice(), ahead.peek()) {

@@ -6,7 +6,7 @@ use Rattle.std.specs.Fmt.{decimal}
 use Rattle.agg_types.specs.declared.config.Config.{Config}
 use Rattle.agg_types.specs.declared.no_memory.NoMemory as Refusal
 use Rattle.fleet_core.specs.Possible.{does_fit}
-use Rattle.fleet_core.specs.StandsFor.{Collected}
+use Rattle.fleet_core.specs.Represents.{Collected}
 use Rattle.fleet_core.specs.declared.step.Step.{Step}
 use Rattle.fleet_model.specs.State.{State}
 use Rattle.fleet_core.proofs.Opening.{all_taken}

@@ -13,7 +13,7 @@ use Rattle.std.proofs.lemmas.List.Quantifiers.{position-Some}
 use Rattle.std.proofs.lemmas.List.Splits.{length-slice_split, slice_split-cons_yes}
 use Rattle.std.proofs.lemmas.List.Sums.{position_or_len_is}
 use Rattle.std.proofs.Common.{below_more}
-use Rattle.agg_config.proofs.Lines.{Stands, stands}
+use Rattle.agg_config.proofs.Lines.{IsLineAt, line_found}
 use Rattle.line_words.specs.Words.{lines_of, words}
 use Rattle.line_words.proofs.Splitting.{lines_of_empty, lines_of_first, lines_of_last, parts_at}
 use Rattle.line_words.proofs.Splitting.{parts_none}
@@ -183,8 +183,8 @@ reached_more script at number line rest len h is other len_is =
     let f : FirstLine (drop at script) line rest len =
     subst (λ (n : ℕ). FirstLine (drop at script) line rest n) (sym len_is)
     (first_line (drop at script) line rest _ refl is) in
-    let s : Stands (lines_of script) h.before line rest =
-    stands (lines_of script) h.before line rest (sym h.left ∙ is) in
+    let s : IsLineAt (lines_of script) h.before line rest =
+    line_found (lines_of script) h.before line rest (sym h.left ∙ is) in
     let ended = not_at_end script at line rest is h.ended in
     record {
       before = h.before + 1;
@@ -224,8 +224,8 @@ pub cut_at : (script : List ℕ) (at number : ℕ) (line behind : List ℕ) (ope
     → IsCutAt (lines_of script) (position is_start (lines_of script)) (take at script) number
     opening behind
 cut_at script at number line behind opening h is starts says =
-    let s : Stands (lines_of script) h.before line (lines_of behind) =
-    stands (lines_of script) h.before line (lines_of behind) (sym h.left ∙ is) in
+    let s : IsLineAt (lines_of script) h.before line (lines_of behind) =
+    line_found (lines_of script) h.before line (lines_of behind) (sym h.left ∙ is) in
     let first : position_or_len is_start (lines_of script) ≡ h.before =
     position_or_len_is is_start (lines_of script) h.before [] h.inside h.none
     (λ inside. ap is_start s.at ∙ starts) in

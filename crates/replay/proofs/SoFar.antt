@@ -6,7 +6,7 @@ use Rattle.std.specs.Io.KnownBytes.{Appends}
 use Rattle.std.proofs.KnownBytes.{Appends-nil, Appends-trans}
 use Rattle.agg_types.specs.declared.config.Config.{Config}
 use Rattle.agg_types.specs.declared.no_memory.NoMemory as Refusal
-use Rattle.fleet_core.specs.StandsFor.{Collected, StandsFor}
+use Rattle.fleet_core.specs.Represents.{Collected, Represents}
 use Rattle.fleet_core.specs.declared.step.Step.{Step}
 use Rattle.replay.specs.Given.{Given, IsSettled}
 use Rattle.replay.specs.Runs.{LineDid, LineGives, Prints, Then}
@@ -32,7 +32,7 @@ pub record SoFar (config : Config) (opening : ℕ) (lines : List (List ℕ)) (nu
 
 -- before the first line
 pub so_far_none : (config : Config) (opening : ℕ) (lines : List (List ℕ)) (number : ℕ)
-    (before : Option (List ℕ)) (fleet : Collected) → StandsFor fleet config opening []
+    (before : Option (List ℕ)) (fleet : Collected) → Represents fleet config opening []
     → fleet.waiting ≡ []
     → SoFar config opening lines number before fleet lines number before
 so_far_none config opening lines number before fleet stands waiting =

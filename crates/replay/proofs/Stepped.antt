@@ -8,7 +8,7 @@ use Rattle.session_core.specs.declared.cause.SessionCause.{SessionCause}
 use Rattle.fleet_core.proofs.Running.{could, unspent}
 use Rattle.fleet_core.specs.Answers.{Answers}
 use Rattle.fleet_core.specs.Possible.{can_be, end_by, is_spent, sent_by, spends_at}
-use Rattle.fleet_core.specs.StandsFor.{Collected, StandsFor}
+use Rattle.fleet_core.specs.Represents.{Collected, Represents}
 use Rattle.fleet_core.specs.Steps.{conn_of}
 use Rattle.fleet_core.specs.declared.step.FleetFault.{FleetFault}
 use Rattle.fleet_core.specs.declared.step.FleetFault.TheVariants.{NoConn, Spent, NoMemory, Session}

@@ -4,7 +4,7 @@ use Rattle.std.specs.Prelude.{Some, Result, Ok, Err}
 use Rattle.agg_types.specs.declared.config.Config.{Config}
 use Rattle.session_core.specs.declared.cause.SessionCause.{SessionCause}
 use Rattle.fleet_core.specs.Possible.{can_be, end_by, is_spent, sent_by}
-use Rattle.fleet_core.specs.StandsFor.{Collected, StandsFor}
+use Rattle.fleet_core.specs.Represents.{Collected, Represents}
 use Rattle.fleet_core.specs.Steps.{conn_of}
 use Rattle.fleet_core.specs.declared.step.FleetFault.{FleetFault}
 use Rattle.fleet_core.specs.declared.step.FleetFault.TheVariants as fault
@@ -58,7 +58,7 @@ step_given config opening past step =
 -- the fleet stands for these steps, and its book has taken all their events
 pub record IsSettled (fleet : Collected) (config : Config) (opening : ℕ)
     (past : List Step) : Type 0 where
-  pub stands : StandsFor fleet config opening past
+  pub stands : Represents fleet config opening past
   pub waiting : fleet.waiting ≡ []
 
 -- a line did what is given: it left the fleet so, appended the text, and told the ending

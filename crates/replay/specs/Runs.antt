@@ -5,7 +5,7 @@ use Rattle.std.specs.Fmt.{decimal}
 use Rattle.agg_types.specs.declared.config.Config.{Config}
 use Rattle.fleet_model.specs.State.{State, state_of}
 use Rattle.fleet_core.specs.Events.{events_of}
-use Rattle.fleet_core.specs.StandsFor.{Collected}
+use Rattle.fleet_core.specs.Represents.{Collected}
 use Rattle.fleet_core.specs.declared.step.Step.{Step}
 use Rattle.fleet_core.specs.declared.step.Step.TheVariants as steps
 use Rattle.line_words.specs.Words.{words}

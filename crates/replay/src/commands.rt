@@ -7,7 +7,7 @@ ghost use Rattle.fleet_core.specs.declared.step.Step.{Step};
 ghost use Rattle.replay.specs.Given.{Did, IsSettled, step_given};
 ghost use Rattle.replay.specs.Runs.{AskOrRefusal, CommandGives, LineDid, step_of, change_given};
 ghost use Rattle.replay.specs.Runs.{state_after};
-ghost use Rattle.show_clear.specs.Answer.{NamesStand};
+ghost use Rattle.show_clear.specs.Answer.{NamesExist};
 ghost use Rattle.show_clear.specs.Change.{ChangeFits};
 ghost use Rattle.show_clear.specs.Parse.{command_of};
 
@@ -50,7 +50,7 @@ fn obey(
     command: Command,
     out: &mut Vec<u8>,
 ) -> Result<Option<Ending>, NoMemory>
-    requires stands { NamesStand fleet.old.book command }
+    requires stands { NamesExist fleet.old.book command }
     requires fits { ChangeFits fleet.old.book command }
     ensures { (config : Config) (opening : ℕ) (past : List Step)
         → IsSettled fleet.old config opening past

@@ -13,7 +13,7 @@ use Rattle.agg_types.specs.declared.event.Event.{Event}
 use Rattle.agg_types.specs.declared.event.What.{What}
 use Rattle.agg_types.specs.declared.event.What.TheVariants.{Sit}
 use Rattle.fleet_model.specs.Seats.{numbered}
-use Rattle.fleet_model.specs.State.{Stands, State}
+use Rattle.fleet_model.specs.State.{IsStateOf, State}
 use Rattle.show_clear.specs.Change.{ChangeFits, asked_event}
 use Rattle.show_clear.specs.declared.command.Command.{Command}
 use Rattle.show_clear.specs.declared.command.Change.TheVariants.{Clear, AddFilter}
@@ -61,7 +61,7 @@ asked_may_post book (Changes (AddFilter filter)) fit = record {
 
 may_post_at : (hub seen : Beginning) (book : State) (what : What) → Follows hub seen
     → IsBookOf book seen → MayPost book.config what → MayPost hub.config what
-unfolding Stands
+unfolding IsStateOf
 may_post_at hub seen book what follows stands may =
     let config : seen.config ≡ hub.config = ap (λ (b : Beginning). b.config) follows.same in
     let same : fits book.config what ≡ fits hub.config what =

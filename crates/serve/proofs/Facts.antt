@@ -20,7 +20,7 @@ use Rattle.session_core.specs.declared.stage.Stage.{Stage}
 use Rattle.session_core.specs.State.{FaultAnswers, SessionState}
 use Rattle.session_core.specs.Piece.{Setup, piece_of, setup_of}
 use Rattle.session_core.specs.Talk.{Grows, stage_of, talk}
-use Rattle.session_core.specs.TalkAnswers.{FaultAnswersTalk, Stands, is_open_or_put}
+use Rattle.session_core.specs.TalkAnswers.{FaultAnswersTalk, ContinuesTalk, is_open_or_put}
 
 may_post_one : (config : Config) (what : What) → fits config what ≡ true
     → is_open_or_put what ≡ true → MayPost config what
@@ -66,7 +66,7 @@ pub fact_may_post : (config0 config : Config) (seat0 seated : Bool) (taken piece
     (before after : Stage) (batch : Batched) (end : Option SessionCause)
     → config0 ≡ config → seat0 ≡ seated → before ≡ stage_of (setup_of config) seated taken
     → ((bytes : List ℕ) → before ≡ stage_of (setup_of config0) seat0 bytes
-    → Stands (setup_of config0) seat0 bytes piece batch end after)
+    → ContinuesTalk (setup_of config0) seat0 bytes piece batch end after)
     → ((bytes : List ℕ) → before ≡ stage_of (setup_of config0) seat0 bytes
     → list_all (fits config0) batch.facts ≡ true)
     → All (MayPost config) batch.facts
@@ -74,7 +74,7 @@ fact_may_post config0 config seat0 seated taken piece before after batch end sam
     same is f fit =
     let at : before ≡ stage_of (setup_of config0) seat0 taken =
     stage_at config0 config seat0 seated taken before same_config same is in
-    let stands : Stands (setup_of config0) seat0 taken piece batch end after = f taken at in
+    let stands : ContinuesTalk (setup_of config0) seat0 taken piece batch end after = f taken at in
     may_post_all config batch.facts
     (subst (λ (c : Config). list_all (fits c) batch.facts ≡ true) same_config (fit taken at))
     (grown_are (setup_of config0) seat0 taken piece batch stands.grows)

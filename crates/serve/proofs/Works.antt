@@ -13,7 +13,7 @@ use Rattle.agg_types.specs.declared.config.Config.{Config}
 use Rattle.session_core.specs.Batched.{Batched}
 use Rattle.session_core.specs.Piece.{Setup, piece_of, setup_of}
 use Rattle.session_core.specs.Talk.{Grows, Talk, acks_among, stage_of, talk}
-use Rattle.session_core.specs.TalkAnswers.{FaultAnswersTalk, Stands}
+use Rattle.session_core.specs.TalkAnswers.{FaultAnswersTalk, ContinuesTalk}
 use Rattle.session_core.specs.declared.stage.Stage.{Stage}
 use Rattle.hub.specs.History.{Beginning}
 use Rattle.serve.specs.declared.desk.Desk.{Desk}
@@ -92,7 +92,7 @@ took_it causes.NoMemory other = other refl
 pub fault_stands : (cause : SessionCause) (batch : Batched) (setup : Setup) (seated : Bool)
     (taken piece : List ℕ) (stage : Stage) → TookIt cause
     → FaultAnswersTalk cause batch setup seated taken piece stage
-    → Stands setup seated taken piece batch (Some cause) stage
+    → ContinuesTalk setup seated taken piece batch (Some cause) stage
 fault_stands (causes.Refused status) batch setup seated taken piece stage took is = is
 fault_stands (causes.Wire wire) batch setup seated taken piece stage took is = is
 fault_stands causes.PeerError batch setup seated taken piece stage took is = is
@@ -112,11 +112,11 @@ pub stands_at : (config0 config : Config) (seat0 seated : Bool) (taken piece : L
     (before after : Stage) (batch : Batched) (end : Option SessionCause)
     → config0 ≡ config → seat0 ≡ seated → before ≡ stage_of (setup_of config) seated taken
     → ((bytes : List ℕ) → before ≡ stage_of (setup_of config0) seat0 bytes
-    → Stands (setup_of config0) seat0 bytes piece batch end after)
-    → Stands (setup_of config) seated taken piece batch end after
+    → ContinuesTalk (setup_of config0) seat0 bytes piece batch end after)
+    → ContinuesTalk (setup_of config) seated taken piece batch end after
 stands_at config0 config seat0 seated taken piece before after batch end same_config same is f =
-    subst (λ c. Stands (setup_of c) seated taken piece batch end after) same_config
-    (subst (λ b. Stands (setup_of config0) b taken piece batch end after) same
+    subst (λ c. ContinuesTalk (setup_of c) seated taken piece batch end after) same_config
+    (subst (λ b. ContinuesTalk (setup_of config0) b taken piece batch end after) same
     (f taken (stage_at config0 config seat0 seated taken before same_config same is)))
 
 pub fault_at : (config0 config : Config) (seat0 seated : Bool) (taken piece : List ℕ)
@@ -222,7 +222,7 @@ pub settled : (hub : Beginning) (seated : Bool) (old new : Worker)
     (end : Option SessionCause)
     (result : Result (Unit {0}) Cause) → Appends given after piece
     → (w : Works hub seated old given0 given wrote0 wrote1)
-    → Stands (setup_of hub.config) seated (taken_in w.turns) piece batch end new.session.stage
+    → ContinuesTalk (setup_of hub.config) seated (taken_in w.turns) piece batch end new.session.stage
     → new.session.seated ≡ seated
     → SettlesTo hub new.desk (facts_in (setup_of hub.config) seated w.turns) batch
     wrote1 wrote2 result
@@ -516,7 +516,7 @@ ends_then : (hub : Beginning) (seated : Bool) (old new : Worker)
     (fault : SessionFault)
     (result : Result (Unit {0}) Cause) → TookIt fault.cause → Appends given after piece
     → (w : Works hub seated old given0 given wrote0 wrote1)
-    → Stands (setup_of hub.config) seated (taken_in w.turns) piece fault.batch (Some fault.cause)
+    → ContinuesTalk (setup_of hub.config) seated (taken_in w.turns) piece fault.batch (Some fault.cause)
     new.session.stage → new.session.seated ≡ seated
     → SettlesThen hub new.desk (facts_in (setup_of hub.config) seated w.turns) fault
     wrote1 wrote2 result

@@ -11,7 +11,7 @@ ghost use Rattle.hub.specs.Roll.{MayPost};
 ghost use Rattle.serve.specs.Commands.{AnswersWith, HasNoEnd, IsCommandedUntil, IsCommandedWhole};
 ghost use Rattle.serve.specs.Commands.{Replies};
 ghost use Rattle.serve.specs.Told.{stored_of};
-ghost use Rattle.show_clear.specs.Answer.{NamesStand};
+ghost use Rattle.show_clear.specs.Answer.{NamesExist};
 ghost use Rattle.show_clear.specs.Change.{asked_event};
 ghost use Rattle.show_clear.specs.Refusal.{refusal_text};
 
@@ -49,7 +49,7 @@ fn refused(alloc: Global) -> PostFault
 
 /// The answer to a command.
 fn obeyed(alloc: Global, book: &Book, command: Command) -> Result<Answered, NoMemory>
-    requires { NamesStand book.now command }
+    requires { NamesExist book.now command }
     ensures change { IfOk result (λ a. a.change ≡ asked_event command) }
     ensures text { IfOk result (λ a. AnswersWith book.now command a.text.items) }
 {

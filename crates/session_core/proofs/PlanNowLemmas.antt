@@ -13,7 +13,7 @@ use Rattle.agg_types.specs.declared.event.What.{What}
 use Rattle.peers_msg.specs.declared.fault.WireCause.TheVariants.{BadField}
 use Rattle.session_core.specs.declared.cause.End.TheVariants.{Wire}
 use Rattle.session_core.specs.declared.track.Heard.TheVariants as heard
-use Rattle.session_core.specs.Meaning.{IsTold}
+use Rattle.session_core.specs.Meaning.{AddsFact}
 use Rattle.session_core.specs.Tracked.{Tracked, IsStep, put_of, updated_by, updated_entry}
 use Rattle.session_core.specs.Tracked.{updated_under}
 use Rattle.session_core.proofs.FitLemmas.{some_same}
@@ -77,14 +77,14 @@ new_now inside current at new followed cur lt is =
 
 -- an update whose row was told, and one that can't be read
 pub told_step : (t : Tracked) (at : ℕ) (entry : Entry) (id : Option ℕ) (o : Option What)
-    (old new : List What) (track : Tracked) → IsTold true old new o
+    (old new : List What) (track : Tracked) → AddsFact true old new o
     → track ≡ track_of (slice_set t.entries at (updated_entry entry id)) t.current
     → IsStep track heard.Nothing old new (updated_by t at entry id o)
 told_step t at entry id None old new track is same = elim (true_false is.0) [ ]
 told_step t at entry id (Some put) old new track is same = (same, (refl, is.1))
 
 pub cut_step : (t : Tracked) (at : ℕ) (entry : Entry) (id : Option ℕ) (o : Option What)
-    (old new : List What) → IsTold false old new o
+    (old new : List What) → AddsFact false old new o
     → IsStep t (heard.End (Wire BadField)) old new (updated_by t at entry id o)
 cut_step t at entry id None old new is = (refl, (refl, is.1))
 cut_step t at entry id (Some put) old new is = elim (true_false (sym is.0)) [ ]

@@ -16,7 +16,7 @@ use Rattle.session_core.specs.Piece.{Setup, nothing, piece_of}
 use Rattle.session_core.specs.State.{Answers, Ends, FaultAnswers, SessionState}
 use Rattle.session_core.specs.Silence.{peer_of}
 use Rattle.session_core.specs.Talk.{end_read, stage_after, stage_at, stage_of, talk, talk_after}
-use Rattle.session_core.specs.TalkAnswers.{FaultAnswersTalk, OpensWith, Stands, AnswersTalk}
+use Rattle.session_core.specs.TalkAnswers.{FaultAnswersTalk, OpensWith, ContinuesTalk, AnswersTalk}
 use Rattle.session_core.proofs.FitLemmas.{some_same}
 use Rattle.session_core.proofs.MeaningLemmas.{none_some}
 use Rattle.session_core.proofs.PieceTalk.{Gives, piece_gives}
@@ -29,7 +29,7 @@ stands_for : (setup : Setup) (seated : Bool) (taken piece : List ℕ) (x : Stage
     (batch : Batched) (end : Option SessionCause) (stage : Stage)
     → Gives setup (talk setup seated taken) (talk setup seated (taken ++ piece)) x
     (stage_of setup seated (taken ++ piece)) → option_map cause_of x.end ≡ end → batch ≡ x.batch
-    → stage ≡ x.stage → Stands setup seated taken piece batch end stage
+    → stage ≡ x.stage → ContinuesTalk setup seated taken piece batch end stage
 stands_for setup seated taken piece x batch end stage gives is_end is_batch is_stage =
     record {
       grows = rw is_batch gives.grows;
@@ -40,7 +40,7 @@ stands_for setup seated taken piece x batch end stage gives is_end is_batch is_s
 ends_tell : (setup : Setup) (taken piece : List ℕ) (now : ℕ) (old new : SessionState)
     (cause : SessionCause) (batch : Batched) → old.stage ≡ stage_of setup old.seated taken
     → Ends cause batch old new piece now (piece_of setup old.seated old.stage piece)
-    → Stands setup old.seated taken piece batch (Some cause) new.stage
+    → ContinuesTalk setup old.seated taken piece batch (Some cause) new.stage
 ends_tell setup taken piece now old new cause batch stands h =
     let gives = piece_gives setup old.seated taken piece in
     let same = ap (λ (s : Stage). piece_of setup old.seated s piece) stands in

@@ -26,6 +26,6 @@ IsHeard said old new (Fact fact) = (said ≡ heard.Nothing) × (new ≡ old ++ f
 IsHeard said old new (End cause) = (said ≡ heard.End cause) × (new ≡ old)
 
 -- whether there was a fact, which is added to those before it
-abbrev pub IsTold : Bool → List What → List What → Option What → Type 0
-IsTold told old new None = (told ≡ false) × (new ≡ old)
-IsTold told old new (Some fact) = (told ≡ true) × (new ≡ old ++ fact ∷ [])
+abbrev pub AddsFact : Bool → List What → List What → Option What → Type 0
+AddsFact told old new None = (told ≡ false) × (new ≡ old)
+AddsFact told old new (Some fact) = (told ≡ true) × (new ≡ old ++ fact ∷ [])

@@ -19,7 +19,7 @@ use Rattle.session_core.specs.Talk.{Grows, stage_of, talk}
 
 -- the batch is what the talk has grown by, this is its end, and the session stands for all the
 -- bytes
-pub record Stands (setup : Setup) (seated : Bool) (taken piece : List ℕ) (batch : Batched)
+pub record ContinuesTalk (setup : Setup) (seated : Bool) (taken piece : List ℕ) (batch : Batched)
     (end : Option SessionCause) (stage : Stage) : Type 0 where
   pub grows : Grows setup (talk setup seated taken) (talk setup seated (taken ++ piece)) batch
   pub ends : option_map cause_of (talk setup seated (taken ++ piece)).end ≡ end
@@ -30,13 +30,13 @@ abbrev pub FaultAnswersTalk : SessionCause → Batched → Setup → Bool → Li
 FaultAnswersTalk cause.NoMemory batch setup seated taken piece stage =
     stage ≡ stage_of setup seated taken
 FaultAnswersTalk (cause.Refused status) batch setup seated taken piece stage =
-    Stands setup seated taken piece batch (Some (cause.Refused status)) stage
+    ContinuesTalk setup seated taken piece batch (Some (cause.Refused status)) stage
 FaultAnswersTalk (cause.Wire wire) batch setup seated taken piece stage =
-    Stands setup seated taken piece batch (Some (cause.Wire wire)) stage
+    ContinuesTalk setup seated taken piece batch (Some (cause.Wire wire)) stage
 FaultAnswersTalk cause.PeerError batch setup seated taken piece stage =
-    Stands setup seated taken piece batch (Some cause.PeerError) stage
+    ContinuesTalk setup seated taken piece batch (Some cause.PeerError) stage
 FaultAnswersTalk cause.TimedOut batch setup seated taken piece stage =
-    Stands setup seated taken piece batch (Some cause.TimedOut) stage
+    ContinuesTalk setup seated taken piece batch (Some cause.TimedOut) stage
 
 -- What a piece gives is what the talk has with it beyond the talk without it, and a fault is
 -- answered exactly where the talk has ended, with its cause. After `NoMemory` the session
@@ -44,7 +44,7 @@ FaultAnswersTalk cause.TimedOut batch setup seated taken piece stage =
 abbrev pub AnswersTalk : Result Batched SessionFault → Setup → Bool → List ℕ → List ℕ → Stage
     → Type 0
 AnswersTalk (Ok batch) setup seated taken piece stage =
-    Stands setup seated taken piece batch None stage
+    ContinuesTalk setup seated taken piece batch None stage
 AnswersTalk (Err fault) setup seated taken piece stage =
     FaultAnswersTalk fault.cause fault.batch setup seated taken piece stage
 

@@ -68,7 +68,7 @@ fn write_ack(entry: &Entry, out: &mut Vec<u8>) -> Result<(), NoMemory>
 }
 
 /// No entry has an update yet.
-pub(crate) fn settle(entries: &mut [Entry])
+pub(crate) fn clear_updated(entries: &mut [Entry])
     ensures { entries.new ≡ settled entries.old }
 {
     for entry in entries.iter_mut() {

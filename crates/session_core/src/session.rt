@@ -113,10 +113,10 @@ impl Session {
             → (cause ≢ SessionCause.NoMemory) × (self.new.stage ≡ self.old.stage)
             × (result ≡ Err (record { cause = cause; batch = nothing })) }
     {
-        self.take(config, piece, now)
+        self.feed_piece(config, piece, now)
     }
 
-    fn take(&mut self, config: &Config, piece: &[u8], now: u64) -> Result<Batch, SessionFault>
+    fn feed_piece(&mut self, config: &Config, piece: &[u8], now: u64) -> Result<Batch, SessionFault>
         ensures exact { Answers result self.old self.new piece.now now
             (piece_of (setup_of config.now) self.old.seated self.old.stage piece.now) }
         ensures over { (cause : SessionCause) → over_with self.old.stage ≡ Some cause

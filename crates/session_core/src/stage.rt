@@ -266,7 +266,7 @@ fn answer(
         &mut changes,
     ) {
         Ok((end, split)) => {
-            dialogue.track.settle();
+            dialogue.track.clear_updated();
             dialogue.feed.commit(given);
             Ok(Outcome {
                 batch: Batch::new(facts, out, split),

@@ -3,7 +3,7 @@
 ghost use Rattle.std.specs.Prelude.{◌≡◌, ◌≤◌, List, [], length, IfOk, IfSome, OnOk, true};
 ghost use Rattle.std.specs.Option.{option_map};
 ghost use Rattle.agg_types.specs.declared.event.What.{What};
-ghost use Rattle.session_core.specs.Meaning.{IsTold};
+ghost use Rattle.session_core.specs.Meaning.{AddsFact};
 ghost use Rattle.session_core.specs.Plan.{AreCells, IsPlan, IsPlanOf, IsPlanNow, followed_now};
 ghost use Rattle.session_core.specs.Run.{settled};
 ghost use Rattle.session_core.specs.Values.{cells_of, sents_at};
@@ -12,9 +12,9 @@ ghost use Rattle.session_core.specs.Tracked.{is_key_of, followed_at, followed_of
 ghost use Rattle.session_core.specs.Tracked.{place, entry_of, IsStep, defined, switched};
 ghost use Rattle.session_core.specs.Tracked.{updated_under, step_of};
 
-use crate::cause::End;
 use crate::cached_plan::{CachedPlan, take_plan};
-use crate::run::settle;
+use crate::cause::End;
+use crate::run::clear_updated;
 use crate::undo::{Change, note, take_back};
 use crate::values::{TYPES, key_at, life_of, periods_of};
 use agg_types::limits::MOST_FOLLOWED;
@@ -132,7 +132,7 @@ fn tell_put(
     facts: &mut Vec<What>,
 ) -> Result<bool, NoMemory>
     requires { IfSome plan.old (IsPlanOf tables.now followed.now) }
-    ensures put { IfOk result (λ told. IsTold told facts.old.items facts.new.items
+    ensures put { IfOk result (λ told. AddsFact told facts.old.items facts.new.items
         (put_of tables.now peer followed.now life bytes.now)) }
     ensures planned { OnOk result (IfSome plan.new (IsPlanOf tables.now followed.now)) }
 {
@@ -299,13 +299,13 @@ impl Track {
     }
 
     /// No entry has an update yet.
-    pub(crate) fn settle(&mut self)
+    pub(crate) fn clear_updated(&mut self)
         ensures { self.new ≡ record {
           entries = settled self.old.entries;
           current = self.old.current;
         } }
     {
-        settle(&mut self.entries);
+        clear_updated(&mut self.entries);
     }
 
     /// What a message does, with the plan of the table in force, where one was made. A fact is

@@ -24,7 +24,7 @@ use Rattle.key_text.specs.Read.{bytes_of, if_fits, key_of}
 use Rattle.line_words.specs.Numbers.{number_of}
 use Rattle.line_words.specs.Operators.{operator_of}
 use Rattle.line_words.specs.Words.{words}
-use Rattle.show_clear.specs.Answer.{AskedStands, ChangedStands, NamesStand, no_shape, shape_of}
+use Rattle.show_clear.specs.Answer.{AskedExists, ChangedExists, NamesExist, no_shape, shape_of}
 use Rattle.show_clear.specs.Change.{ChangeFits, event_of}
 use Rattle.show_clear.specs.Parse.{Read, Tells, added, asked, at_end, cleared, command_of, cond_col}
 use Rattle.show_clear.specs.Parse.{cond_of, conds_of, filter_added, filter_named, filter_on}
@@ -318,48 +318,48 @@ either true x y a h first second = first h
 either false x y a h first second = second h
 
 table_shown_good : (state : State) (ws : List (List ℕ)) (question : Question)
-    → table_shown state ws ≡ Ok question → AskedStands state question
+    → table_shown state ws ≡ Ok question → AskedExists state question
 table_shown_good state [] question h =
-    subst (AskedStands state) (ok_same Tables question h) tt
+    subst (AskedExists state) (ok_same Tables question h) tt
 table_shown_good state (name ∷ ws) question h =
     let read = bind_ok (table_and_sel state name ws) (λ found. Ok (Table found.0 found.1))
     question h in
-    subst (AskedStands state) (ok_same (Table read.0.0 read.0.1) question read.2)
+    subst (AskedExists state) (ok_same (Table read.0.0 read.0.1) question read.2)
     (table_and_sel_within state name ws read.0 read.1)
 
 -- what is read of a name that ends its line
 named_good : (state : State) (named : Read ℕ) (ws : List (List ℕ)) (make : ℕ → Question)
     (question : Question)
-    → ((place : ℕ) → named ≡ Ok place → AskedStands state (make place))
+    → ((place : ℕ) → named ≡ Ok place → AskedExists state (make place))
     → (named >>= λ place. at_end ws >>= λ _. Ok (make place)) ≡ Ok question
-    → AskedStands state question
+    → AskedExists state question
 named_good state named ws make question good h =
     let read = bind_ok named (λ place. at_end ws >>= λ _. Ok (make place)) question h in
     let more = bind_ok (at_end ws) (λ _. Ok (make read.0)) question read.2 in
-    subst (AskedStands state) (ok_same (make read.0) question more.2) (good read.0 read.1)
+    subst (AskedExists state) (ok_same (make read.0) question more.2) (good read.0 read.1)
 
 filter_shown_good : (state : State) (ws : List (List ℕ)) (question : Question)
-    → filter_shown state ws ≡ Ok question → AskedStands state question
+    → filter_shown state ws ≡ Ok question → AskedExists state question
 filter_shown_good state [] question h = none_read Unknown question h
 filter_shown_good state (name ∷ ws) question h =
     named_good state (filter_named state name) ws FilterKeys question
     (filter_within state name) h
 
 next_shown_good : (state : State) (ws : List (List ℕ)) (question : Question)
-    → next_shown state ws ≡ Ok question → AskedStands state question
+    → next_shown state ws ≡ Ok question → AskedExists state question
 next_shown_good state [] question h = none_read Unknown question h
 next_shown_good state (name ∷ ws) question h =
     named_good state (filter_named state name) ws NextChange question
     (filter_within state name) h
 
 rank_shown_good : (state : State) (ws : List (List ℕ)) (question : Question)
-    → rank_shown state ws ≡ Ok question → AskedStands state question
+    → rank_shown state ws ≡ Ok question → AskedExists state question
 rank_shown_good state [] question h = none_read Unknown question h
 rank_shown_good state (name ∷ ws) question h =
     named_good state (rank_named state name) ws Ranking question (rank_within state name) h
 
 shown_good : (state : State) (ws : List (List ℕ)) (question : Question)
-    → shown state ws ≡ Ok question → AskedStands state question
+    → shown state ws ≡ Ok question → AskedExists state question
 shown_good state [] question h = none_read Unknown question h
 shown_good state (word ∷ ws) question h =
     either (bytes_eq word (codes "table")) (table_shown state ws) _ question h
@@ -375,7 +375,7 @@ shown_good state (word ∷ ws) question h =
 
 -- a change names what stands, and fits
 pub record IsGoodChange (state : State) (change : Change) : Type 0 where
-  pub stands : ChangedStands state change
+  pub stands : ChangedExists state change
   pub fits : fits state.config (event_of change) ≡ true
 
 table_cleared_good : (state : State) (ws : List (List ℕ)) (change : Change)
@@ -420,11 +420,11 @@ added_good state (word ∷ ws) change h =
 
 -- a command names what stands, and what it changes fits
 pub record IsGood (state : State) (command : Command) : Type 0 where
-  pub stands : NamesStand state command
+  pub stands : NamesExist state command
   pub fits : ChangeFits state command
 
 asking_good : (state : State) (read : Read Question) (command : Command)
-    → ((question : Question) → read ≡ Ok question → AskedStands state question)
+    → ((question : Question) → read ≡ Ok question → AskedExists state question)
     → (read >>= λ question. Ok (Ask question)) ≡ Ok command → IsGood state command
 asking_good state read command good h =
     let asks = bind_ok read (λ question. Ok (Ask question)) command h in

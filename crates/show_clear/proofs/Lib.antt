@@ -2,5 +2,5 @@ pub mod CondLemmas
 pub mod Fitting
 pub mod Lines
 pub mod Chosen
-pub mod Stands
+pub mod Existing
 pub mod Returns

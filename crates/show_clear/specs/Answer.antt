@@ -151,20 +151,20 @@ abbrev pub AnswersQuestion : State → Question → List ℕ → List ℕ → Ty
 AnswersQuestion state question old new =
     (text : List ℕ) × (new ≡ old ++ text) × IsAnswerTo state question text
 
--- a question names what stands in a configuration
-abbrev pub AskedStands : State → Question → Type 0
-AskedStands state Tables = ⊤
-AskedStands state (Table table sel) = table < length state.config.tables
-AskedStands state (FilterKeys filter) = filter < length state.config.filters
-AskedStands state (Ranking rank) = rank < length state.config.ranks
-AskedStands state (NextChange filter) = filter < length state.config.filters
+-- a question names what is in a configuration
+abbrev pub AskedExists : State → Question → Type 0
+AskedExists state Tables = ⊤
+AskedExists state (Table table sel) = table < length state.config.tables
+AskedExists state (FilterKeys filter) = filter < length state.config.filters
+AskedExists state (Ranking rank) = rank < length state.config.ranks
+AskedExists state (NextChange filter) = filter < length state.config.filters
 
--- a change names what stands in a configuration
-abbrev pub ChangedStands : State → Change → Type 0
-ChangedStands state (Clear table sel) = table < length state.config.tables
-ChangedStands state (AddFilter filter) = ⊤
+-- a change names what is in a configuration
+abbrev pub ChangedExists : State → Change → Type 0
+ChangedExists state (Clear table sel) = table < length state.config.tables
+ChangedExists state (AddFilter filter) = ⊤
 
--- a command names what stands in a configuration
-abbrev pub NamesStand : State → Command → Type 0
-NamesStand state (Ask question) = AskedStands state question
-NamesStand state (Changes change) = ChangedStands state change
+-- a command names what is in a configuration
+abbrev pub NamesExist : State → Command → Type 0
+NamesExist state (Ask question) = AskedExists state question
+NamesExist state (Changes change) = ChangedExists state change

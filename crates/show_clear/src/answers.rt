@@ -4,8 +4,8 @@ ghost use Rattle.std.specs.Prelude.{◌≡◌, ◌++◌, ◌<◌, length, take, 
 ghost use Rattle.agg_types.specs.declared.event.Select.TheVariants.{One, Conds};
 ghost use Rattle.fleet_model.specs.Answers.{filter_of};
 ghost use Rattle.fleet_model.specs.Ranking.{rank_of};
-ghost use Rattle.show_clear.specs.Answer.{Answers, AnswersQuestion, AppendsNext, AskedStands};
-ghost use Rattle.show_clear.specs.Answer.{NamesStand, all_hold, filter_text};
+ghost use Rattle.show_clear.specs.Answer.{Answers, AnswersQuestion, AppendsNext, AskedExists};
+ghost use Rattle.show_clear.specs.Answer.{NamesExist, all_hold, filter_text};
 ghost use Rattle.show_clear.specs.Answer.{headings, rank_text, row_lines, rows_text, shape_of};
 ghost use Rattle.show_clear.specs.Answer.{table_text};
 
@@ -27,7 +27,7 @@ pub fn answer(
     command: &Command,
     out: &mut Vec<u8>,
 ) -> Result<(), NoMemory>
-    requires { NamesStand book.now command.now }
+    requires { NamesExist book.now command.now }
     ensures ok { OnOk result (Answers book.now command.now out.old.items out.new.items) }
     ensures err { OnErr result (out.new.items ≡ out.old.items) }
 {
@@ -45,7 +45,7 @@ fn append_answer(
     command: &Command,
     out: &mut Vec<u8>,
 ) -> Result<(), NoMemory>
-    requires { NamesStand book.now command.now }
+    requires { NamesExist book.now command.now }
     ensures ok { OnOk result (Answers book.now command.now out.old.items out.new.items) }
     ensures begins { take (length out.old.items) out.new.items ≡ out.old.items }
 {
@@ -61,7 +61,7 @@ fn append_asked(
     question: &Question,
     out: &mut Vec<u8>,
 ) -> Result<(), NoMemory>
-    requires { AskedStands book.now question.now }
+    requires { AskedExists book.now question.now }
     ensures ok { OnOk result
         (AnswersQuestion book.now question.now out.old.items out.new.items) }
     ensures begins { take (length out.old.items) out.new.items ≡ out.old.items }
@@ -179,7 +179,7 @@ fn all_hold(conds: &[Cond], sums: &Summed) -> bool
 }
 
 // A standing filter. Its table is there, as in every configuration that was checked.
-#[tactic(auto, using(crate::proofs::Stands::filters_stand))]
+#[tactic(auto, using(crate::proofs::Existing::filters_exist))]
 fn filter_at(book: &Book, filter: usize) -> &Filter
     requires { filter < length book.now.config.filters }
     ensures value { result.now ≡ filter_of book.now filter }
@@ -189,7 +189,7 @@ fn filter_at(book: &Book, filter: usize) -> &Filter
 }
 
 // A ranked list. Its table is there, as in every configuration that was checked.
-#[tactic(auto, using(crate::proofs::Stands::ranks_stand))]
+#[tactic(auto, using(crate::proofs::Existing::ranks_exist))]
 fn rank_at(book: &Book, rank: usize) -> &Rank
     requires { rank < length book.now.config.ranks }
     ensures value { result.now ≡ rank_of book.now rank }

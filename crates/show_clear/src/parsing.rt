@@ -7,7 +7,7 @@ ghost use Rattle.show_clear.specs.Parse.{filter_added, filter_named, filter_on, 
 ghost use Rattle.show_clear.specs.Parse.{new_name, next_shown, one_key, rank_named, rank_shown};
 ghost use Rattle.show_clear.specs.Parse.{sel_of, shown, table_and_sel, table_cleared, table_named};
 ghost use Rattle.show_clear.specs.Parse.{table_shown, without_returns};
-ghost use Rattle.show_clear.specs.Answer.{NamesStand};
+ghost use Rattle.show_clear.specs.Answer.{NamesExist};
 ghost use Rattle.show_clear.specs.Change.{ChangeFits};
 ghost use Rattle.show_clear.specs.declared.fault.CommandFault.TheVariants.{NoMemory as Refused};
 
@@ -29,7 +29,7 @@ const LONGEST_LINE: usize = 4096;
 /// spaces.
 pub fn parse(alloc: Global, book: &Book, line: &[u8]) -> Result<Command, CommandFault>
     ensures read { Tells (command_of book.now line.now) result }
-    ensures stands { IfOk result (NamesStand book.now) }
+    ensures stands { IfOk result (NamesExist book.now) }
     ensures fits { IfOk result (ChangeFits book.now) }
 
     // A line of up to three words takes no memory.

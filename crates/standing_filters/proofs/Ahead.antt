@@ -18,14 +18,14 @@ use Rattle.agg_types.specs.declared.limits.TheConstants.{MOST_CONDS}
 use Rattle.crossing.specs.First.{IsFirstFrom}
 use Rattle.expiry_wheel.specs.Entries.{IsInOrder, first_due, without_due}
 use Rattle.standing_filters.specs.Plans.{Becomes, IsPlanOf, IsPlanned, IsUnplanned, IsWatch}
-use Rattle.standing_filters.specs.Plans.{Watching, has_plan, is_moment, kept_at, shown}
+use Rattle.standing_filters.specs.Plans.{Watching, has_plan, is_moment, kept_at, view_of_watch}
 use Rattle.standing_filters.specs.Turns.{AreJudged, ArePlans, IsAhead, IsTurned, is_due, is_next_of}
 use Rattle.standing_filters.specs.Turns.{keys_judged, same_key, verdict_after}
-use Rattle.standing_filters.specs.Verdicts.{IsTold, IsVerdict, out}
+use Rattle.standing_filters.specs.Verdicts.{Foretells, IsVerdict, out}
 use Rattle.standing_filters.specs.Watched.{Watched, verdict_at}
 use Rattle.standing_filters.specs.declared.coming.Judged.{Judged}
 use Rattle.standing_filters.specs.declared.judging.Verdict.{Verdict}
-use Rattle.standing_filters.proofs.Held.{least}
+use Rattle.standing_filters.proofs.HeldKeys.{least}
 use Rattle.standing_filters.proofs.Planning.{is_that}
 use Rattle.standing_filters.proofs.Walking.{come_since, key_itself, member_due, moment_come}
 use Rattle.standing_filters.proofs.Walking.{one_key}
@@ -250,7 +250,7 @@ quiet : (o l : Bool) → (o ≡ true → l ≡ true) → ((o || false) && l) ≡
 quiet true l next = next refl
 quiet false l next = refl
 
-later_next : (truth : ℕ → Bool) (t u : ℕ) (v : Verdict) → IsTold truth t v → v.next ≡ Some u → t < u
+later_next : (truth : ℕ → Bool) (t u : ℕ) (v : Verdict) → Foretells truth t v → v.next ≡ Some u → t < u
 later_next truth t u v told is =
     let first = subst (λ o. IsFirstFrom (t + 1) (λ s. truth s ≡ truth t → ⊥) o) is told.next in
     let since : t + 1 ≤ u = first.since in
@@ -327,7 +327,7 @@ module _ (summed : ℕ → List ℕ → Col → ℕ → ℕ) (living : ℕ → L
           ∙ quiet (is_moment (verdict_at w.kept e.1).next e.0) (ltb t e.0) (yet e none)
           ∙ ap (λ v. is_moment v.next e.0) (sym (after_none judged w.kept e.1 apart))
 
-  pub watch_settled : (old prepared new : Watching) → w ≡ shown old → IsWatch old
+  pub watch_settled : (old prepared new : Watching) → w ≡ view_of_watch old → IsWatch old
       → new.filter ≡ old.filter → IsAhead old.kept judged prepared.due
       → ((e : ℕ × List ℕ) → has_plan new.due e ≡ (has_plan prepared.due e && ltb t e.0))
       → ((key : List ℕ) → verdict_at new.kept key ≡ verdict_after judged old.kept key) → IsWatch new

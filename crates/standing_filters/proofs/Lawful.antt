@@ -16,19 +16,19 @@ use Rattle.crossing.specs.First.{IsFirstAt, IsFirstFrom}
 use Rattle.standing_filters.specs.Laws.{AddGivesVerdicts, FirstChangeIsTheSets, MomentKeepsVerdicts}
 use Rattle.standing_filters.specs.Laws.{TouchKeepsVerdicts}
 use Rattle.standing_filters.specs.Turns.{has_come, is_due}
-use Rattle.standing_filters.specs.Verdicts.{IsTold, IsVerdict, holds_at, out}
+use Rattle.standing_filters.specs.Verdicts.{Foretells, IsVerdict, holds_at, out}
 use Rattle.standing_filters.specs.Watched.{is_among, verdict_at}
 use Rattle.standing_filters.specs.declared.judging.Verdict.{Verdict}
 use Rattle.standing_filters.proofs.Members.{equal_from}
 use Rattle.standing_filters.proofs.Told.{dead_never, told_same}
 use Rattle.standing_filters.proofs.Walking.{not_come}
 
-quiet : (truth : ℕ → Bool) (now : ℕ) (v : Verdict) → IsTold truth now v → v.next ≡ None
+quiet : (truth : ℕ → Bool) (now : ℕ) (v : Verdict) → Foretells truth now v → v.next ≡ None
     → IsFirstFrom (now + 1) (λ t. truth t ≢ truth now) None
 quiet truth now v told none = subst (λ o. IsFirstFrom (now + 1) (λ t. truth t ≢ truth now) o)
     none told.next
 
-early : (truth : ℕ → Bool) (now u : ℕ) (v : Verdict) → IsTold truth now v → v.next ≡ Some u
+early : (truth : ℕ → Bool) (now u : ℕ) (v : Verdict) → Foretells truth now v → v.next ≡ Some u
     → IsFirstAt (now + 1) (λ t. truth t ≢ truth now) u
 early truth now u v told some = subst (λ o. IsFirstFrom (now + 1) (λ t. truth t ≢ truth now) o)
     some told.next
@@ -113,7 +113,7 @@ apart false false = inl refl
 
 -- a truth that stays up to t is told at t as it was
 told_later : (truth : ℕ → Bool) (now t : ℕ) (v : Verdict) → now ≤ t → is_due t v ≡ false
-    → IsTold truth now v → IsTold truth t v
+    → Foretells truth now v → Foretells truth t v
 told_later truth now t v since quiet told = by v.next refl told.next
   where
     still : ((s : ℕ) → now + 1 ≤ s → s ≤ t → truth s ≢ truth now → ⊥) → truth t ≡ truth now
@@ -124,7 +124,7 @@ told_later truth now t v since quiet told = by v.next refl told.next
         (apart (truth t) (truth now))
 
     by : (o : Option ℕ) → v.next ≡ o → IsFirstFrom (now + 1) (λ s. truth s ≢ truth now) o
-        → IsTold truth t v
+        → Foretells truth t v
     by None is first =
         let same = still (λ s from upto differs. first s from differs) in
         record {
@@ -150,7 +150,7 @@ told_later truth now t v since quiet told = by v.next refl told.next
 -- ---- values that are the same from now on
 
 told_ahead : (truth other : ℕ → Bool) (now : ℕ) (v : Verdict)
-    → ((t : ℕ) → now ≤ t → other t ≡ truth t) → IsTold truth now v → IsTold other now v
+    → ((t : ℕ) → now ≤ t → other t ≡ truth t) → Foretells truth now v → Foretells other now v
 told_ahead truth other now v same told = by v.next refl told.next
   where
     here : other now ≡ truth now
@@ -160,7 +160,7 @@ told_ahead truth other now v same told = by v.next refl told.next
     later s since = same s (omega arith)
 
     by : (o : Option ℕ) → v.next ≡ o → IsFirstFrom (now + 1) (λ s. truth s ≢ truth now) o
-        → IsTold other now v
+        → Foretells other now v
     by None is first = record {
       holds = told.holds ∙ sym here;
       next = subst (λ o. IsFirstFrom (now + 1) (λ s. other s ≢ other now) o) (sym is)
@@ -190,7 +190,7 @@ moment_keeps_verdicts before after living lives now t old new since same verdict
 -- ---- an added filter
 
 none_told : (truth : ℕ → Bool) (now : ℕ) → ((t : ℕ) → now ≤ t → truth t ≡ false)
-    → IsTold truth now out
+    → Foretells truth now out
 none_told truth now never = record {
   holds = sym (never now (omega arith));
   next = λ s since differs. let from : now ≤ s = omega arith in let same : now ≤ now =

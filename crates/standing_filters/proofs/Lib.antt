@@ -1,4 +1,4 @@
-pub mod Held
+pub mod HeldKeys
 pub mod Lawful
 pub mod Members
 pub mod Planning

@@ -4,7 +4,7 @@ use Rattle.std.proofs.Common.{length, get_or, Option, None, Some, refl, sym, ap,
 use Rattle.std.specs.List.{list_all}
 use Rattle.agg_types.specs.declared.config.Cond.{Cond}
 use Rattle.crossing.specs.First.{IsFirstFrom}
-use Rattle.standing_filters.specs.Verdicts.{IsTold, out}
+use Rattle.standing_filters.specs.Verdicts.{Foretells, out}
 use Rattle.standing_filters.specs.declared.judging.Verdict.{Verdict}
 
 first_same : (from : ℕ) (p q : ℕ → Type 0) → ((t : ℕ) → p t → q t) → ((t : ℕ) → q t → p t)
@@ -18,7 +18,7 @@ first_same from p q there back (Some t) first = record {
 
 -- what is told of a truth is told of any that is the same
 pub told_same : (truth other : ℕ → Bool) (now : ℕ) (verdict : Verdict)
-    → ((t : ℕ) → other t ≡ truth t) → IsTold truth now verdict → IsTold other now verdict
+    → ((t : ℕ) → other t ≡ truth t) → Foretells truth now verdict → Foretells other now verdict
 told_same truth other now verdict same told = record {
   holds = told.holds ∙ sym (same now);
   next = first_same (now + 1) (λ t. truth t ≢ truth now) (λ t. other t ≢ other now)
@@ -28,7 +28,7 @@ told_same truth other now verdict same told = record {
 
 -- a truth that is false now and later
 pub told_out : (truth : ℕ → Bool) (now : ℕ) (verdict : Verdict)
-    → ((t : ℕ) → now ≤ t → truth t ≡ false) → IsTold truth now verdict → verdict ≡ out
+    → ((t : ℕ) → now ≤ t → truth t ≡ false) → Foretells truth now verdict → verdict ≡ out
 told_out truth now verdict never told = by verdict.next refl told.next
   where
     holds : verdict.holds ≡ false

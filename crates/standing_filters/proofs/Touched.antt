@@ -13,7 +13,7 @@ use Rattle.std.proofs.lemmas.Map.Lookups.{exact_bytes}
 use Rattle.agg_types.specs.declared.column.Col.{Col}
 use Rattle.agg_types.specs.declared.limits.TheConstants.{MOST_CONDS}
 use Rattle.standing_filters.specs.Plans.{AreWatches, Becomes, IsPlanned, IsUnplanned, IsWatch}
-use Rattle.standing_filters.specs.Plans.{Watching, change_of, kept_at, shown, with_room}
+use Rattle.standing_filters.specs.Plans.{Watching, change_of, kept_at, view_of_watch, with_room}
 use Rattle.standing_filters.specs.Plans.{without_key}
 use Rattle.standing_filters.specs.Verdicts.{IsVerdict, out}
 use Rattle.standing_filters.specs.Watched.{AreTouched, IsTouched, verdict_at}
@@ -44,7 +44,7 @@ pub touched : (summed : ℕ → List ℕ → Col → ℕ → ℕ) (living : ℕ 
     (key : List ℕ) (now : ℕ) (old new : Watching) (verdict : Verdict)
     → old.filter.table ≡ table → new.filter ≡ old.filter
     → IsVerdict summed living old.filter now key verdict → Becomes key verdict old.kept new.kept
-    → IsTouched summed living table key now (shown old) (shown new)
+    → IsTouched summed living table key now (view_of_watch old) (view_of_watch new)
 touched summed living table key now old new verdict of same judged becomes = record {
   filter = same;
   judged = λ _. subst (λ v. IsVerdict summed living old.filter now key v)
@@ -66,7 +66,7 @@ becomes_itself key verdict kept is q = by (is_at (slice_cmp nat_cmp key) q) refl
 
 pub untouched : (summed : ℕ → List ℕ → Col → ℕ → ℕ) (living : ℕ → List ℕ → ℕ → ℕ) (table : ℕ)
     (key : List ℕ) (now : ℕ) (w : Watching)
-    → w.filter.table ≢ table → IsTouched summed living table key now (shown w) (shown w)
+    → w.filter.table ≢ table → IsTouched summed living table key now (view_of_watch w) (view_of_watch w)
 untouched summed living table key now w apart = record {
   filter = refl;
   judged = λ of. absurd (apart of);
@@ -78,7 +78,7 @@ untouched summed living table key now w apart = record {
 pub others_untouched : (summed : ℕ → List ℕ → Col → ℕ → ℕ) (living : ℕ → List ℕ → ℕ → ℕ)
     (table : ℕ) (key : List ℕ) (now : ℕ) (watches : List Watching)
     → list_any (λ w. w.filter.table == table) watches ≡ false
-    → AreTouched summed living table key now (map shown watches) (map shown watches)
+    → AreTouched summed living table key now (map view_of_watch watches) (map view_of_watch watches)
 others_untouched summed living table key now [] none = tt
 others_untouched summed living table key now (w ∷ watches) none =
     by (w.filter.table == table) refl none
@@ -87,9 +87,9 @@ others_untouched summed living table key now (w ∷ watches) none =
     by : (b : Bool) → (w.filter.table == table) ≡ b
         → (b || list_any (λ w. w.filter.table == table) watches) ≡ false
         → (list_any (λ w. w.filter.table == table) watches ≡ false
-        → AreTouched summed living table key now (map shown watches) (map shown watches))
-        → AreTouched summed living table key now (map shown (w ∷ watches))
-        (map shown (w ∷ watches))
+        → AreTouched summed living table key now (map view_of_watch watches) (map view_of_watch watches))
+        → AreTouched summed living table key now (map view_of_watch (w ∷ watches))
+        (map view_of_watch (w ∷ watches))
     by true is any rest = cc
     by false is any rest = (
       untouched summed living table key now w
@@ -161,6 +161,6 @@ watch_backed_out key verdict found old prepared new watch same kept is plan unpl
       (sym kept);
 }
 
-pub shown_again : (old new : Watching) → new.filter ≡ old.filter → new.kept ≡ old.kept
-    → shown new ≡ shown old
-shown_again old new same kept = λ i. record { filter = same i; kept = kept i }
+pub view_stays : (old new : Watching) → new.filter ≡ old.filter → new.kept ≡ old.kept
+    → view_of_watch new ≡ view_of_watch old
+view_stays old new same kept = λ i. record { filter = same i; kept = kept i }

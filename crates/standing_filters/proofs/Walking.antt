@@ -30,7 +30,7 @@ use Rattle.standing_filters.specs.Verdicts.{IsVerdict, out}
 use Rattle.standing_filters.specs.Watched.{Watched, verdict_at}
 use Rattle.standing_filters.specs.declared.coming.Judged.{Judged}
 use Rattle.standing_filters.specs.declared.judging.Verdict.{Verdict}
-use Rattle.standing_filters.proofs.Held.{least, stands}
+use Rattle.standing_filters.proofs.HeldKeys.{least, stands}
 use Rattle.standing_filters.proofs.Members.{equal_from, exact_entry}
 use Rattle.standing_filters.proofs.Planning.{is_that}
 

@@ -20,8 +20,8 @@ pub record Watching : Type 0 where
   pub due : List (ℕ × List ℕ)
 
 -- the same without the index
-abbrev pub shown : Watching → Watched
-shown w = record { filter = w.filter; kept = w.kept }
+abbrev pub view_of_watch : Watching → Watched
+view_of_watch w = record { filter = w.filter; kept = w.kept }
 
 -- whether an index has a key at a moment
 abbrev pub has_plan : List (ℕ × List ℕ) → ℕ × List ℕ → Bool

@@ -9,7 +9,7 @@ use Rattle.crossing.specs.First.{IsFirstFrom}
 use Rattle.standing_filters.specs.declared.judging.Verdict.{Verdict}
 
 -- what a truth is now, and the first later moment at which it is another, or none
-pub record IsTold (truth : ℕ → Bool) (now : ℕ) (verdict : Verdict) : Type 0 where
+pub record Foretells (truth : ℕ → Bool) (now : ℕ) (verdict : Verdict) : Type 0 where
   pub holds : verdict.holds ≡ truth now
   pub next : IsFirstFrom (now + 1) (λ t. truth t ≢ truth now) verdict.next
 
@@ -28,7 +28,7 @@ holds_at summed living filter key t = meets_at summed living filter.table filter
 abbrev pub IsVerdict : (ℕ → List ℕ → Col → ℕ → ℕ) → (ℕ → List ℕ → ℕ → ℕ) → Filter → ℕ → List ℕ
     → Verdict → Type 0
 IsVerdict summed living filter now key verdict =
-    IsTold (λ t. holds_at summed living filter key t) now verdict
+    Foretells (λ t. holds_at summed living filter key t) now verdict
 
 -- that of a key that a filter doesn't hold, and never will by the clock alone
 abbrev pub out : Verdict

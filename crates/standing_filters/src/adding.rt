@@ -3,7 +3,7 @@
 ghost use Rattle.std.specs.Prelude.{◌≡◌, ◌≤◌, ◌+◌, ◌*◌, ℕ, List, length, IfOk, OnOk};
 ghost use Rattle.agg_types.specs.declared.limits.TheConstants.{MOST_CONDS};
 ghost use Rattle.crossing.specs.First.{IsFlatSoon};
-ghost use Rattle.standing_filters.specs.Plans.{IsWatch, shown};
+ghost use Rattle.standing_filters.specs.Plans.{IsWatch, view_of_watch};
 ghost use Rattle.standing_filters.specs.Watched.{IsAdded, IsTouched};
 
 use crate::watch::Watch;
@@ -23,7 +23,7 @@ pub(crate) fn watch_keys<V: Values>(
     requires few { length filter.now.conds ≤ MOST_CONDS }
     ensures watch { IfOk result IsWatch }
     ensures added { IfOk result (λ w. IsAdded (V.summed values.now) (V.living values.now) now
-        filter.now keys.now (shown w)) }
+        filter.now keys.now (view_of_watch w)) }
     ensures counted { OnOk result (((key : List ℕ)
         → IsFlatSoon now (V.flat values.now filter.now.table key))
         → meter.new.evals ≤ meter.old.evals + 505 * length keys.now) }
@@ -46,7 +46,7 @@ fn judge_one<V: Values>(
     requires { IsWatch watch.old }
     ensures stay { OnOk result (IsWatch watch.new) }
     ensures touched { OnOk result (IsTouched (V.summed values.now) (V.living values.now)
-        watch.old.filter.table key.now now (shown watch.old) (shown watch.new)) }
+        watch.old.filter.table key.now now (view_of_watch watch.old) (view_of_watch watch.new)) }
     ensures counted { IsFlatSoon now (V.flat values.now watch.old.filter.table key.now)
         → meter.new.evals ≤ meter.old.evals + 505 }
 {

@@ -7,7 +7,7 @@ ghost use Rattle.crossing.specs.Parts.{AreFlatSoon, all_hold};
 ghost use Rattle.crossing.specs.Shown.{measured};
 ghost use Rattle.agg_types.specs.Op.{op_holds};
 ghost use Rattle.agg_types.specs.declared.limits.TheConstants.{MOST_CONDS};
-ghost use Rattle.standing_filters.specs.Verdicts.{IsVerdict, IsTold, meets_at, out};
+ghost use Rattle.standing_filters.specs.Verdicts.{IsVerdict, Foretells, meets_at, out};
 
 use agg_types::{Cond, Filter, Key, Op};
 use crossing::{Falls, Measured, Meter, Of, Part, Values, next_change_from};
@@ -74,7 +74,7 @@ fn judge_by<V: Values>(
     meter: &mut Meter,
 ) -> Verdict
     requires few { length conds.now ≤ MOST_CONDS }
-    ensures told { IsTold (λ t. meets_at (V.summed values.now) (V.living values.now) table
+    ensures told { Foretells (λ t. meets_at (V.summed values.now) (V.living values.now) table
         conds.now key.now t) now result }
     ensures counted { IsFlatSoon now (V.flat values.now table key.now)
         → meter.new.evals ≤ meter.old.evals + 505 }
@@ -153,7 +153,7 @@ fn part_of<'a, V: Values>(cond: &Cond, table: usize, key: &'a Key, values: &'a V
 
 // Whether conditions hold together, and when that changes.
 fn tell<F: Falls>(parts: &[Part<F>], now: u64, meter: &mut Meter) -> Verdict
-    ensures told { IsTold (all_hold F.value parts.now) now result }
+    ensures told { Foretells (all_hold F.value parts.now) now result }
     ensures counted { length parts.now ≤ 5 → AreFlatSoon F.flat now parts.now
         → meter.new.evals ≤ meter.old.evals + 505 }
 {

@@ -38,12 +38,12 @@ pub struct Standing {
 
 impl Model for Standing {
     ghost use Rattle.std.specs.Prelude.{map};
-    ghost use Rattle.standing_filters.specs.Plans.{AreWatches, shown};
+    ghost use Rattle.standing_filters.specs.Plans.{AreWatches, view_of_watch};
     ghost use Rattle.standing_filters.specs.Watched.{AllWatched};
 
     ghost Value = { AllWatched };
 
-    ghost view = { λ s. record { filters = map shown s.watches.items; evals = s.evals } };
+    ghost view = { λ s. record { filters = map view_of_watch s.watches.items; evals = s.evals } };
 
     ghost invariant = { λ s. AreWatches s.watches.items };
 }

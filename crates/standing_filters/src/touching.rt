@@ -3,7 +3,7 @@
 ghost use Rattle.std.specs.Prelude.{◌≡◌, ◌≤◌, ◌+◌, ◌*◌, ◌==◌, length, map, IsOk, OnOk, OnErr};
 ghost use Rattle.std.specs.List.{list_any};
 ghost use Rattle.crossing.specs.First.{IsFlatSoon};
-ghost use Rattle.standing_filters.specs.Plans.{AreWatches, shown};
+ghost use Rattle.standing_filters.specs.Plans.{AreWatches, view_of_watch};
 ghost use Rattle.standing_filters.specs.Watched.{AreTouched};
 
 use crate::watch::Watch;
@@ -23,8 +23,8 @@ pub(crate) fn touch_each<V: Values>(
     requires { AreWatches watches.old }
     ensures stay { AreWatches watches.new }
     ensures ok { OnOk result (AreTouched (V.summed values.now) (V.living values.now) table key.now
-        now (map shown watches.old) (map shown watches.new)) }
-    ensures err { OnErr result (map shown watches.new ≡ map shown watches.old) }
+        now (map view_of_watch watches.old) (map view_of_watch watches.new)) }
+    ensures err { OnErr result (map view_of_watch watches.new ≡ map view_of_watch watches.old) }
     ensures dead { V.living values.now table key.now now ≡ 0 → IsOk result }
     ensures counted { IsFlatSoon now (V.flat values.now table key.now)
         → meter.new.evals ≤ meter.old.evals + 505 * length watches.old }

@@ -3,7 +3,7 @@
 ghost use Rattle.std.specs.Prelude.{◌≡◌, ◌≤◌, ◌+◌, ◌*◌, ℕ, List, length, map, IsOk, OnOk, OnErr};
 ghost use Rattle.std.specs.List.{AllByRecursion};
 ghost use Rattle.crossing.specs.First.{IsFlatSoon};
-ghost use Rattle.standing_filters.specs.Plans.{AreWatches, shown};
+ghost use Rattle.standing_filters.specs.Plans.{AreWatches, view_of_watch};
 ghost use Rattle.standing_filters.specs.Turns.{AreTurned, IsQuiet, pairs_due};
 
 use crate::watch::Watch;
@@ -21,13 +21,13 @@ pub(crate) fn turn_each<V: Values>(
     requires { AreWatches watches.old }
     ensures stay { AreWatches watches.new }
     ensures ok { OnOk result (AreTurned (V.summed values.now) (V.living values.now) t
-        (map shown watches.old) (map shown watches.new)) }
-    ensures err { OnErr result (map shown watches.new ≡ map shown watches.old) }
-    ensures quiet { AllByRecursion (IsQuiet t) (map shown watches.old)
+        (map view_of_watch watches.old) (map view_of_watch watches.new)) }
+    ensures err { OnErr result (map view_of_watch watches.new ≡ map view_of_watch watches.old) }
+    ensures quiet { AllByRecursion (IsQuiet t) (map view_of_watch watches.old)
         → IsOk result × (meter.new.evals ≡ meter.old.evals) }
     ensures counted { OnOk result (((table : ℕ) (key : List ℕ)
         → IsFlatSoon t (V.flat values.now table key))
-        → meter.new.evals ≤ meter.old.evals + 505 * pairs_due t (map shown watches.old)) }
+        → meter.new.evals ≤ meter.old.evals + 505 * pairs_due t (map view_of_watch watches.old)) }
 {
     let Some((first, rest)) = watches.split_first_mut() else {
         return Ok(());
@@ -38,6 +38,6 @@ pub(crate) fn turn_each<V: Values>(
         first.back_out_all(judged.as_slice());
         return Err(refused);
     }
-    first.settle(judged.as_slice(), t);
+    first.commit_all(judged.as_slice(), t);
     Ok(())
 }

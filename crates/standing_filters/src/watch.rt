@@ -15,7 +15,7 @@ ghost use Rattle.standing_filters.specs.Verdicts.{IsVerdict, out};
 ghost use Rattle.standing_filters.specs.Watched.{IsFirstChange, keys_held, verdict_at};
 ghost use Rattle.standing_filters.specs.Plans.{Becomes, IsPlanOf, IsPlanned, IsUnplanned, IsWatch};
 ghost use Rattle.standing_filters.specs.Plans.{Watching};
-ghost use Rattle.standing_filters.specs.Plans.{change_of, has_plan, kept_at, shown, with_room};
+ghost use Rattle.standing_filters.specs.Plans.{change_of, has_plan, kept_at, view_of_watch, with_room};
 ghost use Rattle.standing_filters.specs.Plans.{without_key};
 ghost use Rattle.standing_filters.specs.Turns.{AreJudged, ArePlans, IsAhead, IsQuiet, count_due};
 ghost use Rattle.standing_filters.specs.Turns.{keys_judged, same_key, verdict_after};
@@ -222,9 +222,9 @@ impl Watch {
         requires few { length self.now.filter.conds ≤ MOST_CONDS }
         requires planned { IsPlanOf self.now.kept self.now.due }
         ensures judged { IfOk result (λ judged. AreJudged (V.summed values.now)
-            (V.living values.now) t (shown self.now) judged.items) }
-        ensures quiet { IsQuiet t (shown self.now) → IsOkAnd result (λ judged. judged.items ≡ []) }
-        ensures unread { IsQuiet t (shown self.now) → meter.new.evals ≡ meter.old.evals }
+            (V.living values.now) t (view_of_watch self.now) judged.items) }
+        ensures quiet { IsQuiet t (view_of_watch self.now) → IsOkAnd result (λ judged. judged.items ≡ []) }
+        ensures unread { IsQuiet t (view_of_watch self.now) → meter.new.evals ≡ meter.old.evals }
         ensures counted { OnOk result (((table : ℕ) (key : List ℕ)
             → IsFlatSoon t (V.flat values.now table key))
             → meter.new.evals ≤ meter.old.evals + 505 * count_due t self.now.kept) }
@@ -277,7 +277,7 @@ impl Watch {
     }
 
     /// Keeps the verdicts of judged keys, whose changes up to a moment have come.
-    pub(crate) fn settle(&mut self, judged: &[Judged], t: u64)
+    pub(crate) fn commit_all(&mut self, judged: &[Judged], t: u64)
         requires plans { ArePlans self.old.kept judged.now }
         requires apart { IsDistinct same_key (keys_judged judged.now) }
         ensures filter { self.new.filter ≡ self.old.filter }

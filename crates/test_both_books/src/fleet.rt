@@ -94,12 +94,12 @@ impl Pair {
         let seat = seat_of(deed);
         let what = made(alloc, deed)?;
         let seq = self.plain.next_seq(seat).unwrap_or(0);
-        if self.fast.take(seat, seq, &what).is_err() {
+        if self.fast.apply(seat, seq, &what).is_err() {
             self.differ = self.differ.saturating_add(self.differences(alloc)?.0);
-            self.fast.take(seat, seq, &what)?;
+            self.fast.apply(seat, seq, &what)?;
         }
-        if self.plain.take(seat, seq, &what).is_err() {
-            self.plain.take(seat, seq, &what)?;
+        if self.plain.apply(seat, seq, &what).is_err() {
+            self.plain.apply(seat, seq, &what)?;
         }
         self.events = self.events.saturating_add(1);
         Ok(())

@@ -4,7 +4,7 @@
 //! each in turn.
 
 ghost use Rattle.std.specs.Prelude.{IfOk};
-ghost use Rattle.show_clear.specs.Answer.{NamesStand};
+ghost use Rattle.show_clear.specs.Answer.{NamesExist};
 
 use agg_types::What;
 use anyhow::{Result, ensure};
@@ -15,7 +15,7 @@ use std::alloc::Global;
 /// What a line asks for, or its first fault, which isn't want of memory unless two growths were
 /// refused.
 pub fn parsed(alloc: Global, book: &Book, line: &[u8]) -> Result<Command, CommandFault>
-    ensures { IfOk result (NamesStand book.now) }
+    ensures { IfOk result (NamesExist book.now) }
 {
     match parse(alloc, book, line) {
         Err(CommandFault::NoMemory) => parse(alloc, book, line),
@@ -31,7 +31,7 @@ pub fn answered(
     before: &[u8],
     out: &mut Vec<u8>,
 ) -> Result<()>
-    requires { NamesStand book.now command.now }
+    requires { NamesExist book.now command.now }
 {
     if answer(alloc, book, command, out).is_err() {
         ensure!(out.as_slice() == before, "a refused answer left something");
@@ -51,8 +51,8 @@ pub fn refused(fault: &CommandFault, before: &[u8], out: &mut Vec<u8>) -> Result
 
 /// Does what a command asks for, as the next event of a seat.
 pub fn taken(book: &mut Book, seat: u64, seq: u64, what: &What) -> Result<()> {
-    if book.take(seat, seq, what).is_err() {
-        book.take(seat, seq, what)?;
+    if book.apply(seat, seq, what).is_err() {
+        book.apply(seat, seq, what)?;
     }
     Ok(())
 }

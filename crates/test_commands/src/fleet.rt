@@ -55,7 +55,7 @@ fn put(alloc: Global, row: Row) -> Result<What, NoMemory> {
 fn put_rows(alloc: Global, book: &mut Book, rows: &[Row], first: u64) -> Result<u64> {
     let mut seq = first;
     for row in rows {
-        book.take(SEAT, seq, &put(alloc, *row)?)?;
+        book.apply(SEAT, seq, &put(alloc, *row)?)?;
         seq = seq.saturating_add(1);
     }
     Ok(seq)
@@ -65,9 +65,9 @@ fn put_rows(alloc: Global, book: &mut Book, rows: &[Row], first: u64) -> Result<
 fn connected(alloc: Global, text: &[u8]) -> Result<Book> {
     let config = config(alloc, text)?;
     let mut book = Book::new(alloc, config, 0)?;
-    book.take(SEAT, 0, &What::Sit)?;
-    book.take(SEAT, 1, &What::Open(0))?;
-    book.take(SEAT, 2, &What::Open(1))?;
+    book.apply(SEAT, 0, &What::Sit)?;
+    book.apply(SEAT, 1, &What::Open(0))?;
+    book.apply(SEAT, 2, &What::Open(1))?;
     Ok(book)
 }
 

@@ -41,11 +41,11 @@ fn events(alloc: Global) -> Result<Vec<What>, NoMemory> {
     Ok(whats)
 }
 
-/// `Book::take` applies the next event of a seat.
+/// `Book::apply` applies the next event of a seat.
 fn happen(alloc: Global, book: &mut Book) -> Result<(), NoMemory> {
     for what in events(alloc)? {
         let seq = book.next_seq(0).unwrap_or(0);
-        book.take(0, seq, &what)?;
+        book.apply(0, seq, &what)?;
     }
     Ok(())
 }
@@ -128,7 +128,7 @@ pub fn show(rt: &impl Print, alloc: Global) -> Result<()> {
     ask(rt, alloc, &book, b"show table t data.gpc0 gt 3")?;
     ask(rt, alloc, &book, b"show table u")?;
     let seq = book.next_seq(0).unwrap_or(0);
-    book.take(0, seq, &What::Moment(1000))?;
+    book.apply(0, seq, &What::Moment(1000))?;
     held(rt, alloc, &book)?;
     plans(rt, alloc)
 }

@@ -12,7 +12,7 @@ use test_support::{alone, put};
 
 /// What threads tell of themselves.
 #[derive(Drop)]
-struct Told {
+struct Tally {
     // Sessions that ended well.
     ended: AtomicU64,
     // What a session's own lens showed, once it learned what it posted.
@@ -40,16 +40,16 @@ fn speak_up<J: Naming, H: Wait + Drop, W: Wait>(
     rt: &W,
     alloc: Global,
     hub: &Hub<J, H>,
-    told: &Told,
+    tally: &Tally,
     peer: usize,
     count: u64,
 ) {
     if let Ok(sum) = speak(rt, alloc, hub, peer, count)
         && sum >= count
     {
-        told.shown.fetch_add(1, Ordering::SeqCst);
+        tally.shown.fetch_add(1, Ordering::SeqCst);
     }
-    told.ended.fetch_add(1, Ordering::SeqCst);
+    tally.ended.fetch_add(1, Ordering::SeqCst);
 }
 
 /// Looks until both sessions have ended, and counts the looks that show less than one before.
@@ -57,15 +57,15 @@ fn watch<J: Naming, H: Wait + Drop, W: Wait>(
     rt: &W,
     alloc: Global,
     hub: &Hub<J, H>,
-    told: &Told,
+    tally: &Tally,
 ) -> Result<()> {
     let mut lens = lens(rt, hub)?;
     let mut most = 0;
     for _ in rt.forever() {
-        let last = told.ended.load(Ordering::SeqCst) >= 2;
+        let last = tally.ended.load(Ordering::SeqCst) >= 2;
         let sum = seen(alloc, &mut lens)?;
         if sum < most {
-            told.less.fetch_add(1, Ordering::SeqCst);
+            tally.less.fetch_add(1, Ordering::SeqCst);
         }
         most = sum;
         if last {
@@ -74,7 +74,7 @@ fn watch<J: Naming, H: Wait + Drop, W: Wait>(
         thread::yield_now();
     }
     if most != 12 {
-        told.less.fetch_add(1, Ordering::SeqCst);
+        tally.less.fetch_add(1, Ordering::SeqCst);
     }
     Ok(())
 }
@@ -86,12 +86,12 @@ pub fn at_once<
     H: Wait + Drop + Send,
     R: Threads + Wait + Copy + Send + Sync,
 >(rt: &R, alloc: Global, hub: &Hub<J, H>) -> (u64, u64) {
-    let told = Told {
+    let tally = Tally {
         ended: AtomicU64::new(0),
         shown: AtomicU64::new(0),
         less: AtomicU64::new(0),
     };
-    let all = &told;
+    let all = &tally;
     thread::scope(thread::scope_env(), rt, |scope| {
         let watching = scope.spawn(move || {
             if watch(rt, alloc, hub, all).is_err() {
@@ -105,7 +105,7 @@ pub fn at_once<
         }
     });
     (
-        told.shown.load(Ordering::SeqCst),
-        told.less.load(Ordering::SeqCst),
+        tally.shown.load(Ordering::SeqCst),
+        tally.less.load(Ordering::SeqCst),
     )
 }

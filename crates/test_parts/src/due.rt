@@ -1,6 +1,6 @@
 use agg_types::NoMemory;
 use anyhow::{Result, anyhow};
-use expiry_wheel::{Due, DueIndex, OrderedDue, Planned, Wheel};
+use expiry_wheel::{Due, DueEntry, DueIndex, OrderedDue, Wheel};
 use std::alloc::Global;
 use std::io::Print;
 
@@ -221,8 +221,8 @@ fn merged(rt: &impl Print, alloc: Global) -> Result<()> {
     }
     for entry in Due::new(&firsts, &seconds) {
         match entry {
-            Planned::First(at, item) => println!(rt; "first's {item} at {at}")?,
-            Planned::Second(at, item) => println!(rt; "second's {item} at {at}")?,
+            DueEntry::First(at, item) => println!(rt; "first's {item} at {at}")?,
+            DueEntry::Second(at, item) => println!(rt; "second's {item} at {at}")?,
         }
     }
     Ok(())

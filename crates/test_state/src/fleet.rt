@@ -28,7 +28,7 @@ pub fn fleet(alloc: Global, run: &Run) -> Result<Book> {
 /// What happens at a seat, under the seat's next number.
 pub fn happen(book: &mut Book, seat: u64, what: &What) -> Result<(), NoMemory> {
     let seq = book.next_seq(seat).unwrap_or(0);
-    book.take(seat, seq, what)
+    book.apply(seat, seq, what)
 }
 
 /// A peer's row, put by the seat that speaks for it.

@@ -1,7 +1,7 @@
 use Rattle.std.proofs.Common.{◌≡◌, length}
 use Rattle.line_words.specs.Words.{parts}
 use Rattle.agg_config.specs.Columns.{item}
-use Rattle.agg_config.specs.Front.{read_each}
+use Rattle.agg_config.specs.ReadResults.{read_each}
 use Rattle.agg_config.proofs.Each.{with_front}
 use Rattle.agg_config.proofs.columns.items.Given as goal
 

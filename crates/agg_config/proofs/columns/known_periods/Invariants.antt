@@ -1,6 +1,6 @@
 use Rattle.std.proofs.Common.{◌≡◌, drop}
 use Rattle.agg_config.specs.Columns.{known_period}
-use Rattle.agg_config.specs.Front.{read_each}
+use Rattle.agg_config.specs.ReadResults.{read_each}
 use Rattle.agg_config.proofs.Each.{with_front}
 use Rattle.agg_config.proofs.columns.known_periods.Given as goal
 

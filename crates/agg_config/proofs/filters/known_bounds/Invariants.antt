@@ -1,6 +1,6 @@
 use Rattle.std.proofs.Common.{◌≡◌, drop}
 use Rattle.agg_config.specs.Filters.{known_bound}
-use Rattle.agg_config.specs.Front.{read_each}
+use Rattle.agg_config.specs.ReadResults.{read_each}
 use Rattle.agg_config.proofs.Each.{with_front}
 use Rattle.agg_config.proofs.filters.known_bounds.Given as goal
 

@@ -11,12 +11,12 @@ use Rattle.fleet_model.specs.State.{state_of}
 use Rattle.fleet_model.specs.Values.{cell_worth, live_keys, meets, share, value}
 use Rattle.fleet_model.specs.Worked.{cleared_on_sums, filter_on, fleet_of, full_table, ip, joined}
 use Rattle.fleet_model.specs.Worked.{left_by, lives_over, in_turn, sums_to, one_rate, reconnected}
-use Rattle.fleet_model.specs.Worked.{row, shown, summed_rates}
+use Rattle.fleet_model.specs.Worked.{row, view_of_table, summed_rates}
 use Rattle.period_rate.specs.Share.{once_ended, rate, while_running}
 use Rattle.fleet_model.proofs.worked.passing_set.Goals as goal
 
 pub returns : goal.returns
-unfolding fleet_of ip filter_on row in_turn left_by shown sums_to joined full_table reconnected
+unfolding fleet_of ip filter_on row in_turn left_by view_of_table sums_to joined full_table reconnected
     lives_over cleared_on_sums summed_rates one_rate keys_of rows_of set_at summed filters_in judge
     judged now_of by_place clears_at counted_of has_room if_in_force in_force judge_at row_of
     rows_in counts known number seats_in seats_of sits session sessions_in state_of cell_worth

@@ -2,7 +2,7 @@ use Rattle.std.proofs.Common.{ℕ, ◌+◌, ◌<◌, ◌≡◌, List, ◌∷◌,
 use Rattle.std.specs.Option.{option_map}
 use Rattle.expiry_wheel.specs.Items.{AreFromFirst, without_first}
 use Rattle.expiry_wheel.specs.Lent.{lent_entry}
-use Rattle.ranked.specs.Walk.{AreBounds, IsWalk, found, is_done, shown}
+use Rattle.ranked.specs.Walk.{AreBounds, IsWalk, found, is_done, view_of_candidate}
 use Rattle.expiry_wheel.proofs.Left.{first_and_rest}
 use Rattle.ranked.proofs.Reached.{never_undone, walk_offered, walk_passed}
 use Rattle.ranked.proofs.Walking.{taken_live}
@@ -14,8 +14,8 @@ returns-then-live-gt0-clause-same g c =
     key c.args.now in
     let value : List ℕ → ℕ = λ key. g.V.Values.summed c.args.values.now c.args.table key
     c.args.col c.args.now in
-    let old = map shown c.args.candidates.now.items in
-    let new = map shown c.offer.new.candidates.items in
+    let old = map view_of_candidate c.args.candidates.now.items in
+    let new = map view_of_candidate c.offer.new.candidates.items in
     let all = first_and_rest c.args.ahead.now (c.in-Some.field-0-0, c.in-Some.key.now)
     c.in-Some.ensures.next in
     ap (λ l. found living value c.args.room new l) c.step.ensures
@@ -30,8 +30,8 @@ returns-then-live-gt0-clause-walked g c index walked h =
     key c.args.now in
     let value : List ℕ → ℕ = λ key. g.V.Values.summed c.args.values.now c.args.table key
     c.args.col c.args.now in
-    let old = map shown c.args.candidates.now.items in
-    let new = map shown c.offer.new.candidates.items in
+    let old = map view_of_candidate c.args.candidates.now.items in
+    let new = map view_of_candidate c.offer.new.candidates.items in
     let e : ℕ × List ℕ = (c.in-Some.field-0-0, c.in-Some.key.now) in
     let rest = without_first c.args.ahead.now in
     let all : c.args.ahead.now ≡ e ∷ rest =
@@ -48,7 +48,7 @@ returns-then-live-gt0-clause-walked g c index walked h =
 
 pub returns-else-live-gt0-clause-walked : goal.returns-else-live-gt0-clause-walked
 returns-else-live-gt0-clause-walked g c index walked h =
-    let old = map shown c.args.candidates.now.items in
+    let old = map view_of_candidate c.args.candidates.now.items in
     let e : ℕ × List ℕ = (c.in-Some.field-0-0, c.in-Some.key.now) in
     let rest = without_first c.args.ahead.now in
     let all : c.args.ahead.now ≡ e ∷ rest =
@@ -61,6 +61,6 @@ returns-else-live-gt0-clause-walked g c index walked h =
 
 pub returns-in_default-clause-walked : goal.returns-in_default-clause-walked
 returns-in_default-clause-walked g c index walked h =
-    absurd (never_undone (map shown c.args.candidates.now.items)
-    (subst (λ o. is_done (map shown c.args.candidates.now.items) o ≡ false) (sym c.peek.ensures.next
+    absurd (never_undone (map view_of_candidate c.args.candidates.now.items)
+    (subst (λ o. is_done (map view_of_candidate c.args.candidates.now.items) o ≡ false) (sym c.peek.ensures.next
     ∙ ap (option_map lent_entry) c.in_default.is) c.requires.undone))

@@ -4,7 +4,7 @@ use Rattle.session_core.proofs.UndoLemmas.{restored}
 use Rattle.session_core.proofs.stage.answer.Goals as goal
 
 pub returns-in-Ok-clause-settled : goal.returns-in-Ok-clause-settled
-returns-in-Ok-clause-settled c = rw c.settle.ensures (settled_twice _)
+returns-in-Ok-clause-settled c = rw c.clear_updated.ensures (settled_twice _)
 
 pub returns-in-Err-clause-err : goal.returns-in-Err-clause-err
 returns-in-Err-clause-err c =

@@ -1,12 +1,12 @@
 use Rattle.std.proofs.lemmas.Result.{IfOk-weaker}
-use Rattle.show_clear.specs.Answer.{NamesStand}
+use Rattle.show_clear.specs.Answer.{NamesExist}
 use Rattle.show_clear.specs.Change.{ChangeFits}
 use Rattle.show_clear.proofs.Fitting.{IsGood, told_good}
 use Rattle.show_clear.proofs.parsing.parse.Goals as goal
 
 pub returns-clause-stands : goal.returns-clause-stands
 returns-clause-stands c = IfOk-weaker c.parse_line.result (IsGood c.args.book.now)
-    (NamesStand c.args.book.now) (λ command good. good.stands)
+    (NamesExist c.args.book.now) (λ command good. good.stands)
     (told_good c.args.book.now c.args.line.now c.parse_line.result c.parse_line.ensures.read)
 
 pub returns-clause-fits : goal.returns-clause-fits

@@ -1,7 +1,7 @@
 use Rattle.std.proofs.Common.{◌≡◌, ◌+◌, ◌∷◌, ◌++◌, [], take, ap, sym, subst, ◌∙◌, arith}
 use Rattle.std.proofs.lemmas.List.{take_more}
 use Rattle.crossing.specs.First.{IsFlatSoon}
-use Rattle.standing_filters.specs.Plans.{shown}
+use Rattle.standing_filters.specs.Plans.{view_of_watch}
 use Rattle.standing_filters.specs.Watched.{IsAdded}
 use Rattle.standing_filters.proofs.Added.{added_more}
 use Rattle.standing_filters.proofs.adding.watch_keys.Goals as goal
@@ -19,9 +19,9 @@ loop-key-preserved g c =
     ∙ ap (λ item. take at keys ++ item ∷ []) (sym c.key-item.is) in
     record {
       watch = c.in_ok-judge_one.ensures.stay;
-      added = subst (λ l. IsAdded summed living c.args.now filter l (shown c.judge_one.new.watch))
+      added = subst (λ l. IsAdded summed living c.args.now filter l (view_of_watch c.judge_one.new.watch))
           (sym taken) (added_more summed living c.args.now filter (take at keys) c.key-item.result
-          (shown old) (shown c.judge_one.new.watch) c.loop-key.invariant.added
+          (view_of_watch old) (view_of_watch c.judge_one.new.watch) c.loop-key.invariant.added
           c.in_ok-judge_one.ensures.touched);
       counted = λ flat.
           let before = c.loop-key.invariant.counted flat in

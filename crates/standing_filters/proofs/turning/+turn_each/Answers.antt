@@ -1,6 +1,6 @@
 use Rattle.std.proofs.Common.{◌≡◌, ◌≤◌, ℕ, List, ◌∷◌, length, map, refl, sym, ap, subst, ◌∙◌}
 use Rattle.agg_types.specs.declared.limits.TheConstants.{MOST_CONDS}
-use Rattle.standing_filters.specs.Plans.{AreWatches, IsPlanOf, IsWatch, Watching, shown}
+use Rattle.standing_filters.specs.Plans.{AreWatches, IsPlanOf, IsWatch, Watching, view_of_watch}
 use Rattle.standing_filters.specs.Turns.{AreTurned, IsAhead, verdict_after}
 use Rattle.standing_filters.proofs.Ahead.{turned, watch_settled}
 use Rattle.standing_filters.proofs.turning.+turn_each.Goals as goal
@@ -36,13 +36,13 @@ returns-clause-stay g t c =
     let ahead : IsAhead first.kept judged prepared.due =
     subst (λ l. IsAhead first.kept l prepared.due) c.as_slice.ensures.value
     c.in_ok-prepare_all.ensures.ahead in
-    let kept = λ (key : List ℕ). c.settle.ensures.kept key
+    let kept = λ (key : List ℕ). c.commit_all.ensures.kept key
     ∙ ap (λ l. verdict_after l prepared.kept key) c.as_slice-2.ensures.value
     ∙ ap (λ k. verdict_after judged k key) c.in_ok-prepare_all.ensures.kept in (
       watch_settled (g.V.Values.summed c.args.values.now) (g.V.Values.living c.args.values.now)
-          c.args.t (shown first) judged c.in_ok-judged.ensures.judged first prepared
-          c.settle.new.self refl all.0 (c.settle.ensures.filter
-          ∙ c.in_ok-prepare_all.ensures.filter) ahead c.settle.ensures.due kept,
+          c.args.t (view_of_watch first) judged c.in_ok-judged.ensures.judged first prepared
+          c.commit_all.new.self refl all.0 (c.commit_all.ensures.filter
+          ∙ c.in_ok-prepare_all.ensures.filter) ahead c.commit_all.ensures.due kept,
       c.in_default-turn_each.ensures.stay,
     )
 
@@ -53,14 +53,14 @@ returns-clause-ok g t c =
     let first = c.in-Some.first.now in
     let judged = c.in_ok-judged.judged.items in
     let prepared = c.prepare_all.new.self in
-    let kept = λ (key : List ℕ). c.settle.ensures.kept key
+    let kept = λ (key : List ℕ). c.commit_all.ensures.kept key
     ∙ ap (λ l. verdict_after l prepared.kept key) c.as_slice-2.ensures.value
     ∙ ap (λ k. verdict_after judged k key) c.in_ok-prepare_all.ensures.kept in
-    subst (λ (l : List Watching). AreTurned summed living c.args.t (map shown l)
-    (shown c.settle.new.self ∷ map shown c.turn_each.new.watches))
+    subst (λ (l : List Watching). AreTurned summed living c.args.t (map view_of_watch l)
+    (view_of_watch c.commit_all.new.self ∷ map view_of_watch c.turn_each.new.watches))
     (sym c.in-Some.ensures.cases.0) (
-      turned summed living c.args.t (shown first) judged c.in_ok-judged.ensures.judged
-          (shown c.settle.new.self) (c.settle.ensures.filter ∙ c.in_ok-prepare_all.ensures.filter)
+      turned summed living c.args.t (view_of_watch first) judged c.in_ok-judged.ensures.judged
+          (view_of_watch c.commit_all.new.self) (c.commit_all.ensures.filter ∙ c.in_ok-prepare_all.ensures.filter)
           kept,
       c.in_default-turn_each.ensures.ok,
     )

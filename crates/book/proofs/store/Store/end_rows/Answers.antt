@@ -5,7 +5,7 @@ use Rattle.fleet_model.specs.Moments.{is_live}
 use Rattle.fleet_model.specs.declared.arrival.Arrival.{Arrival}
 use Rattle.peer_rows.specs.Rows.{RowMap}
 use Rattle.book.specs.Planned.{ArePlanned}
-use Rattle.book.specs.Shown.{arrivals, shown}
+use Rattle.book.specs.Shown.{arrivals, view_of_row}
 use Rattle.book.specs.Store.{InForce}
 use Rattle.book.proofs.Lists.{map-filter}
 use Rattle.book.proofs.Plans.{are_late, kept_living}
@@ -46,6 +46,6 @@ returns-clause-ok c =
       rows = filter (λ (row : RowKey × Arrival). is_live c.args.t row.1) s.rows;
     } in
     ap made c.end_late.ensures
-    ∙ ap kept (map-filter shown (λ (row : RowKey × Arrival). is_live c.args.t row.1)
+    ∙ ap kept (map-filter view_of_row (λ (row : RowKey × Arrival). is_live c.args.t row.1)
     c.self.inside.rows.entries)
     ∙ ap living c.self.view_is

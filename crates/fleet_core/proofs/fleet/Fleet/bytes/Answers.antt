@@ -1,6 +1,6 @@
 use Rattle.std.proofs.Common.{sym, ap, refl, ◌∙◌}
 use Rattle.fleet_core.specs.Links.{next_seq_at}
-use Rattle.fleet_core.specs.StandsFor.{Collected}
+use Rattle.fleet_core.specs.Represents.{Collected}
 use Rattle.fleet_core.proofs.Answered.{at_no_conn, at_no_memory, at_spent}
 use Rattle.fleet_core.proofs.Steps.{bytes_closed, bytes_ended, bytes_finds, bytes_ok, open_at}
 use Rattle.fleet_core.proofs.fleet.Fleet.bytes.Goals as goal

@@ -3,31 +3,31 @@ use Rattle.fleet_core.proofs.HandingOver.{kept, settled}
 use Rattle.fleet_core.proofs.Steps.{bytes_taken, left_early}
 use Rattle.fleet_core.proofs.fleet.Fleet.feed_open.Goals as goal
 
-pub returns-in_err-settle : goal.returns-in_err-settle
-returns-in_err-settle c = λ config opening past h.
+pub returns-in_err-flush : goal.returns-in_err-flush
+returns-in_err-flush c = λ config opening past h.
     left_early _ _ _ c.from_residual.result c.from_residual.ensures.1
-    (kept c.args.self.now c.settle.new.self config opening past c.settle.ensures.handed
-    c.settle.ensures.links c.settle.ensures.connected c.settle.ensures.next_seq h)
+    (kept c.args.self.now c.flush.new.self config opening past c.flush.ensures.handed
+    c.flush.ensures.links c.flush.ensures.connected c.flush.ensures.next_seq h)
 
 pub returns-in_err-facts : goal.returns-in_err-facts
 returns-in_err-facts c = λ config opening past h.
     left_early _ _ _ c.from_residual-in_err-facts.result c.from_residual-in_err-facts.ensures.1
     (kept c.args.self.now _ config opening past
     (rw (sym (ap (λ f. f.book) c.self-2.view_is), sym (ap (λ f. f.waiting) c.self-2.view_is))
-    at c.settle.ensures.handed)
-    (c.in_err-facts.ensures.err ∙ ap (λ f. f.links) c.self-2.view_is ∙ c.settle.ensures.links)
-    (ap (λ f. f.connected) c.self-2.view_is ∙ c.settle.ensures.connected)
-    (ap (λ f. f.next_seq) c.self-2.view_is ∙ c.settle.ensures.next_seq) h)
+    at c.flush.ensures.handed)
+    (c.in_err-facts.ensures.err ∙ ap (λ f. f.links) c.self-2.view_is ∙ c.flush.ensures.links)
+    (ap (λ f. f.connected) c.self-2.view_is ∙ c.flush.ensures.connected)
+    (ap (λ f. f.next_seq) c.self-2.view_is ∙ c.flush.ensures.next_seq) h)
 
 pub returns : goal.returns
 returns c = λ config opening past h.
-    bytes_taken c.settle.new.self c.queue.new.self config opening past c.args.conn c.args.piece.now
+    bytes_taken c.flush.new.self c.queue.new.self config opening past c.args.conn c.args.piece.now
     c.args.next_seq c.in_ok-facts.field-0 c.feed.new.connections.entries _
     c.at_seat-events.result
-    (settled c.args.self.now c.settle.new.self config opening past c.settle.ensures.handed
-    c.settle.ensures.links c.settle.ensures.connected c.settle.ensures.next_seq h)
-    c.in_ok-settle.ensures.ok
-    (rw (sym c.settle.ensures.links) at c.requires.open)
+    (settled c.args.self.now c.flush.new.self config opening past c.flush.ensures.handed
+    c.flush.ensures.links c.flush.ensures.connected c.flush.ensures.next_seq h)
+    c.in_ok-flush.ensures.ok
+    (rw (sym c.flush.ensures.links) at c.requires.open)
     c.requires.unspent
     (rw (
       c.config.ensures.value,

@@ -1,6 +1,6 @@
 use Rattle.std.proofs.Common.{sym, ap, ◌∙◌}
 use Rattle.fleet_core.specs.Links.{next_seq_at}
-use Rattle.fleet_core.specs.StandsFor.{Collected}
+use Rattle.fleet_core.specs.Represents.{Collected}
 use Rattle.fleet_core.proofs.Answered.{at_no_conn, at_no_memory}
 use Rattle.fleet_core.proofs.Steps.{lost_answers, lost_closed, lost_finds}
 use Rattle.fleet_core.proofs.fleet.Fleet.lose.Goals as goal

@@ -3,7 +3,7 @@ use Rattle.std.proofs.lemmas.Bool.{eqb-true}
 use Rattle.std.proofs.lemmas.List.{length-map}
 use Rattle.std.specs.Prelude.{remove}
 use Rattle.expiry_wheel.proofs.Left.{shorter}
-use Rattle.ranked.specs.Walk.{IsWalk, found, shown}
+use Rattle.ranked.specs.Walk.{IsWalk, found, view_of_candidate}
 use Rattle.ranked.proofs.Reached.{walk_reach}
 use Rattle.ranked.proofs.Walking.{gives_first, gives_none, not_zero, removed_first}
 use Rattle.ranked.proofs.list.RankedIterator.next.Goals as goal
@@ -13,31 +13,31 @@ returns-clause-steps g c =
     let r = c.self.inside in
     let living : List ℕ → ℕ = λ key. g.V.Values.living r.values.now r.table key r.now in
     let value : List ℕ → ℕ = λ key. g.V.Values.summed r.values.now r.table key r.col r.now in
-    let kept = c.settle-walked.new.candidates.items in
+    let kept = c.take_certain-walked.new.candidates.items in
     let some : 0 < length kept = subst (λ l. 0 < length l) c.as_slice.ensures.value
     (not_zero (length c.as_slice.result.now) (sym c.is_empty.ensures ∙ c.if-is_empty.false)) in
     let left : 0 < r.left = omega (arith, c.if-self-eq0.false) in
     let all = removed_first kept c.remove.result some c.remove.ensures.value in
-    let walk : IsWalk r.index.now (r.walked + c.settle-walked.result) (map shown kept)
-    c.settle-walked.new.ahead = c.settle-walked.ensures.walked r.index.now r.walked
+    let walk : IsWalk r.index.now (r.walked + c.take_certain-walked.result) (map view_of_candidate kept)
+    c.take_certain-walked.new.ahead = c.take_certain-walked.ensures.walked r.index.now r.walked
     c.self.invariant.3 in
-    let given : IsWalk r.index.now (r.walked + c.settle-walked.result)
-    (shown c.remove.result ∷ map shown (remove kept 0)) c.settle-walked.new.ahead =
-    subst (λ l. IsWalk r.index.now (r.walked + c.settle-walked.result) (map shown l)
-    c.settle-walked.new.ahead) all walk in (
-      ap (λ v. v.left) (sym c.self.view_is) ∙ sym c.settle-walked.ensures.same
-          ∙ gives_first living value r.left (map shown kept) (map shown (remove kept 0))
-          (shown c.remove.result) c.settle-walked.new.ahead (ap (λ l. map shown l) all) left
-          c.settle-walked.ensures.settled c.settle-walked.ensures.bounds
-          c.settle-walked.ensures.first
-          ∙ ap (λ l. shown c.remove.result ∷ found living value (r.left - 1) (map shown l)
-          c.settle-walked.new.ahead) (sym c.remove.ensures.items),
+    let given : IsWalk r.index.now (r.walked + c.take_certain-walked.result)
+    (view_of_candidate c.remove.result ∷ map view_of_candidate (remove kept 0)) c.take_certain-walked.new.ahead =
+    subst (λ l. IsWalk r.index.now (r.walked + c.take_certain-walked.result) (map view_of_candidate l)
+    c.take_certain-walked.new.ahead) all walk in (
+      ap (λ v. v.left) (sym c.self.view_is) ∙ sym c.take_certain-walked.ensures.same
+          ∙ gives_first living value r.left (map view_of_candidate kept) (map view_of_candidate (remove kept 0))
+          (view_of_candidate c.remove.result) c.take_certain-walked.new.ahead (ap (λ l. map view_of_candidate l) all) left
+          c.take_certain-walked.ensures.settled c.take_certain-walked.ensures.bounds
+          c.take_certain-walked.ensures.first
+          ∙ ap (λ l. view_of_candidate c.remove.result ∷ found living value (r.left - 1) (map view_of_candidate l)
+          c.take_certain-walked.new.ahead) (sym c.remove.ensures.items),
       ap (λ v. v.index) c.self.view_is,
       rw (← c.self.view_is) (omega (
         arith,
-        walk_reach r.index.now c.settle-walked.new.ahead
-            (shown c.remove.result) (map shown (remove kept 0))
-            (r.walked + c.settle-walked.result) given,
+        walk_reach r.index.now c.take_certain-walked.new.ahead
+            (view_of_candidate c.remove.result) (map view_of_candidate (remove kept 0))
+            (r.walked + c.take_certain-walked.result) given,
       )),
     )
 
@@ -53,12 +53,12 @@ returns-then-is_empty-clause-steps g c =
     let r = c.self.inside in
     let living : List ℕ → ℕ = λ key. g.V.Values.living r.values.now r.table key r.now in
     let value : List ℕ → ℕ = λ key. g.V.Values.summed r.values.now r.table key r.col r.now in
-    let none = gives_none living value r.left (map shown c.settle-walked.new.candidates.items)
-    c.settle-walked.new.ahead (length-map c.settle-walked.new.candidates.items shown
+    let none = gives_none living value r.left (map view_of_candidate c.take_certain-walked.new.candidates.items)
+    c.take_certain-walked.new.ahead (length-map c.take_certain-walked.new.candidates.items view_of_candidate
     ∙ ap length (sym c.as_slice.ensures.value)
     ∙ eqb-true (length c.as_slice.result.now) 0 (sym c.is_empty.ensures ∙ c.if-is_empty.true))
-    c.settle-walked.ensures.settled in (
-      (ap (λ v. v.left) (sym c.self.view_is) ∙ sym c.settle-walked.ensures.same ∙ none, none),
+    c.take_certain-walked.ensures.settled in (
+      (ap (λ v. v.left) (sym c.self.view_is) ∙ sym c.take_certain-walked.ensures.same ∙ none, none),
       ap (λ v. v.index) c.self.view_is,
       tt,
     )

@@ -1,7 +1,7 @@
 use Rattle.std.proofs.Common.{◌≡◌, None, ap, sym, subst, ◌∙◌}
 use Rattle.session_core.specs.Piece.{setup_of}
 use Rattle.session_core.specs.State.{SessionState}
-use Rattle.session_core.specs.TalkAnswers.{FaultAnswersTalk, Stands}
+use Rattle.session_core.specs.TalkAnswers.{FaultAnswersTalk, ContinuesTalk}
 use Rattle.serve.proofs.Facts.{fact_may_post, fault_may_post}
 use Rattle.serve.proofs.Works.{ended_by, fault_at, seat_kept, settled, stands_at}
 use Rattle.serve.specs.Turns.{facts_in, taken_in}
@@ -31,7 +31,7 @@ returns-in-Ok-clause-takes g c =
     λ seated given0 given after wrote0 gives w.
     let hub = c.args.hub.now in
     let new = c.settle.new.self in
-    let stands : Stands (setup_of hub.config) seated (taken_in w.turns) c.args.piece.now
+    let stands : ContinuesTalk (setup_of hub.config) seated (taken_in w.turns) c.args.piece.now
     c.in-Ok.batch None c.feed.new.self.stage =
     stands_at c.config.result.now hub.config c.args.self.now.session.seated seated
     (taken_in w.turns) c.args.piece.now c.args.self.now.session.stage c.feed.new.self.stage
@@ -44,7 +44,7 @@ returns-in-Ok-clause-takes g c =
     (g.W.Write.contents c.args.writer.now) (g.W.Write.contents c.settle.new.writer)
     c.args.piece.now c.in-Ok.batch None
     c.settle.result gives w
-    (subst (λ stage. Stands (setup_of hub.config) seated (taken_in w.turns) c.args.piece.now
+    (subst (λ stage. ContinuesTalk (setup_of hub.config) seated (taken_in w.turns) c.args.piece.now
     c.in-Ok.batch None stage) (sym
     (ap (λ (s : SessionState). s.stage) c.settle.ensures.session)) stands)
     same (c.settle.ensures.told (facts_in (setup_of hub.config) seated w.turns) w.work.told)

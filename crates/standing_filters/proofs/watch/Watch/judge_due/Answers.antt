@@ -6,7 +6,7 @@ use Rattle.std.specs.Ordering.{nat_cmp}
 use Rattle.expiry_wheel.proofs.Lists.{all-append}
 use Rattle.expiry_wheel.specs.Entries.{IsInOrder}
 use Rattle.expiry_wheel.specs.Merge.{entries_until}
-use Rattle.standing_filters.specs.Plans.{Watching, shown}
+use Rattle.standing_filters.specs.Plans.{Watching, view_of_watch}
 use Rattle.standing_filters.specs.Turns.{AreJudged, planned_at}
 use Rattle.standing_filters.specs.Verdicts.{IsVerdict}
 use Rattle.standing_filters.specs.declared.coming.Judged.{Judged}
@@ -16,14 +16,14 @@ use Rattle.standing_filters.proofs.watch.Watch.judge_due.Goals as goal
 
 pub returns-in_err-duplicate-clause-quiet : goal.returns-in_err-duplicate-clause-quiet
 returns-in_err-duplicate-clause-quiet g c = λ quiet.
-    absurd (nothing_comes c.args.t (shown c.args.self.now) c.args.self.now.due
+    absurd (nothing_comes c.args.t (view_of_watch c.args.self.now) c.args.self.now.due
     c.loop-at.judged.items (c.in-Some.at, c.in-Some.key.now) c.next.new.self c.requires.planned
     quiet (ap (λ l. map planned_at c.loop-at.judged.items ++ l) (sym c.in-Some.ensures.steps)
     ∙ c.loop-at.invariant.entries))
 
 pub returns-in_err-duplicate-clause-unread : goal.returns-in_err-duplicate-clause-unread
 returns-in_err-duplicate-clause-unread g c = λ quiet.
-    absurd (nothing_comes c.args.t (shown c.args.self.now) c.args.self.now.due
+    absurd (nothing_comes c.args.t (view_of_watch c.args.self.now) c.args.self.now.due
     c.loop-at.judged.items (c.in-Some.at, c.in-Some.key.now) c.next.new.self c.requires.planned
     quiet (ap (λ l. map planned_at c.loop-at.judged.items ++ l) (sym c.in-Some.ensures.steps)
     ∙ c.loop-at.invariant.entries))
@@ -68,20 +68,20 @@ loop-at-preserved g c =
           let longer : length c.push.new.self.items ≡ length judged + 1 = ap length pushed
           ∙ one_more judged j in
           omega arith;
-      quiet = λ quiet. absurd (nothing_comes c.args.t (shown c.args.self.now) c.args.self.now.due
+      quiet = λ quiet. absurd (nothing_comes c.args.t (view_of_watch c.args.self.now) c.args.self.now.due
           judged entry c.next.new.self c.requires.planned quiet next);
     }
 
 pub returns-in_err-push-clause-quiet : goal.returns-in_err-push-clause-quiet
 returns-in_err-push-clause-quiet g c = λ quiet.
-    absurd (nothing_comes c.args.t (shown c.args.self.now) c.args.self.now.due
+    absurd (nothing_comes c.args.t (view_of_watch c.args.self.now) c.args.self.now.due
     c.loop-at.judged.items (c.in-Some.at, c.in-Some.key.now) c.next.new.self c.requires.planned
     quiet (ap (λ l. map planned_at c.loop-at.judged.items ++ l) (sym c.in-Some.ensures.steps)
     ∙ c.loop-at.invariant.entries))
 
 pub returns-in_err-push-clause-unread : goal.returns-in_err-push-clause-unread
 returns-in_err-push-clause-unread g c = λ quiet.
-    absurd (nothing_comes c.args.t (shown c.args.self.now) c.args.self.now.due
+    absurd (nothing_comes c.args.t (view_of_watch c.args.self.now) c.args.self.now.due
     c.loop-at.judged.items (c.in-Some.at, c.in-Some.key.now) c.next.new.self c.requires.planned
     quiet (ap (λ l. map planned_at c.loop-at.judged.items ++ l) (sym c.in-Some.ensures.steps)
     ∙ c.loop-at.invariant.entries))
@@ -94,7 +94,7 @@ returns-clause-judged g c =
     ∙ ap (λ l. map planned_at judged ++ l) (sym c.in-None.ensures.steps.0)
     ∙ c.loop-at.invariant.entries in
     all_judged (g.V.Values.summed c.args.values.now) (g.V.Values.living c.args.values.now) c.args.t
-    (shown c.args.self.now) c.args.self.now.due judged c.requires.planned
+    (view_of_watch c.args.self.now) c.args.self.now.due judged c.requires.planned
     (subst (λ (w : Watching). IsInOrder (slice_cmp nat_cmp) w.due) c.self.view_is
     c.new-at-items.ensures.ordered) all c.loop-at.invariant.verdicts
 
@@ -107,10 +107,10 @@ returns-clause-unread g c = λ quiet. (c.loop-at.invariant.quiet quiet).1
 pub returns-clause-counted : goal.returns-clause-counted
 returns-clause-counted g c = λ flat.
     let judged : AreJudged (g.V.Values.summed c.args.values.now)
-    (g.V.Values.living c.args.values.now) c.args.t (shown c.args.self.now)
+    (g.V.Values.living c.args.values.now) c.args.t (view_of_watch c.args.self.now)
     c.loop-at.judged.items = returns-clause-judged g c in
     let few = no_more_than_due (g.V.Values.summed c.args.values.now)
-    (g.V.Values.living c.args.values.now) c.args.t (shown c.args.self.now)
+    (g.V.Values.living c.args.values.now) c.args.t (view_of_watch c.args.self.now)
     c.loop-at.judged.items judged in
     let read = c.loop-at.invariant.read flat in
     omega arith

@@ -2,7 +2,7 @@ use Rattle.std.proofs.Common.{◌≡◌, ◌≤◌, ◌+◌, ◌*◌, ◌++◌, 
 use Rattle.std.specs.List.{AllByRecursion}
 use Rattle.crossing.specs.First.{IsFlatSoon}
 use Rattle.expiry_wheel.specs.Merge.{entries_until}
-use Rattle.standing_filters.specs.Plans.{shown}
+use Rattle.standing_filters.specs.Plans.{view_of_watch}
 use Rattle.standing_filters.specs.Turns.{IsQuiet, planned_at}
 use Rattle.standing_filters.specs.Verdicts.{IsVerdict}
 use Rattle.standing_filters.proofs.watch.Watch.judge_due.Given as goal
@@ -14,5 +14,5 @@ invariant-loop-at g l = record {
       (g.V.Values.living l.values) l.self.filter l.t j.key j.verdict) l.judged.items;
   read : ((table : ℕ) (key : List ℕ) → IsFlatSoon l.t (g.V.Values.flat l.values table key))
       → l.meter.evals ≤ l.fn.meter.evals + 505 * length l.judged.items;
-  quiet : IsQuiet l.t (shown l.self) → (l.judged.items ≡ []) × (l.meter.evals ≡ l.fn.meter.evals);
+  quiet : IsQuiet l.t (view_of_watch l.self) → (l.judged.items ≡ []) × (l.meter.evals ≡ l.fn.meter.evals);
 }

@@ -6,7 +6,7 @@ use Rattle.std.specs.List.Sorted.{IsStrictlySortedBy}
 use Rattle.std.specs.Ordering.{nat_cmp}
 use Rattle.standing_filters.specs.Plans.{Watching}
 use Rattle.standing_filters.specs.Watched.{keys_held, verdict_at}
-use Rattle.standing_filters.proofs.Held.{held_exact, held_ordered}
+use Rattle.standing_filters.proofs.HeldKeys.{held_exact, held_ordered}
 use Rattle.standing_filters.proofs.watch.Watch.keys.Goals as goal
 
 pub returns-clause-ordered : goal.returns-clause-ordered

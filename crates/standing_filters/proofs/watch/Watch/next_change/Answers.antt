@@ -2,7 +2,7 @@ use Rattle.std.proofs.Common.{ℕ, Option, sym, subst}
 use Rattle.expiry_wheel.specs.Entries.{first_moment}
 use Rattle.standing_filters.specs.Plans.{IsPlanOf, Watching}
 use Rattle.standing_filters.specs.Watched.{IsFirstChange}
-use Rattle.standing_filters.proofs.Held.{first_change}
+use Rattle.standing_filters.proofs.HeldKeys.{first_change}
 use Rattle.standing_filters.proofs.watch.Watch.next_change.Goals as goal
 
 pub returns : goal.returns

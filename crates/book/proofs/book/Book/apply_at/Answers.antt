@@ -5,7 +5,7 @@ use Rattle.fleet_model.specs.Sound.{IsSound}
 use Rattle.fleet_model.specs.State.{State}
 use Rattle.book.specs.Held.{Follows}
 use Rattle.book.proofs.Following.{follows}
-use Rattle.book.proofs.book.Book.take_at.Goals as goal
+use Rattle.book.proofs.book.Book.apply_at.Goals as goal
 
 pub invariant_of-self-2 : goal.invariant_of-self-2
 invariant_of-self-2 c =

@@ -5,7 +5,7 @@ use Rattle.std.proofs.lemmas.Map.Keys.{IsDistinct-head, IsDistinct-tail}
 use Rattle.standing_filters.specs.Plans.{has_plan}
 use Rattle.standing_filters.specs.Turns.{ArePlans, keys_judged, same_key, verdict_after}
 use Rattle.standing_filters.proofs.Ahead.{after_less, planned_kept, plans_stay}
-use Rattle.standing_filters.proofs.watch.Watch.settle.Goals as goal
+use Rattle.standing_filters.proofs.watch.Watch.commit_all.Goals as goal
 
 pub loop-key-preserved : goal.loop-key-preserved
 loop-key-preserved c =

@@ -2,7 +2,7 @@ use Rattle.std.proofs.Common.{◌≡◌, ◌&&◌, ℕ, List, drop, ltb}
 use Rattle.std.specs.List.{IsDistinct}
 use Rattle.standing_filters.specs.Plans.{has_plan}
 use Rattle.standing_filters.specs.Turns.{ArePlans, keys_judged, same_key, verdict_after}
-use Rattle.standing_filters.proofs.watch.Watch.settle.Given as goal
+use Rattle.standing_filters.proofs.watch.Watch.commit_all.Given as goal
 
 abbrev pub invariant-loop-key : goal.invariant-loop-key
 invariant-loop-key l = record {

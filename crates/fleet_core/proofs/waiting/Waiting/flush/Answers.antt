@@ -1,5 +1,5 @@
 use Rattle.fleet_core.proofs.HandingOver.{one_less, one_more_taken}
-use Rattle.fleet_core.proofs.waiting.Waiting.settle.Goals as goal
+use Rattle.fleet_core.proofs.waiting.Waiting.flush.Goals as goal
 
 pub loop-preserved : goal.loop-preserved
 loop-preserved c =

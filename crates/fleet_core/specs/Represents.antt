@@ -23,7 +23,7 @@ pub record Collected : Type 0 where
 -- The fleet stands for these steps, newest first, each of which could be done: its book is what
 -- recomputing gives from all their events but the last, which wait, and of each connection it
 -- keeps what their steps say.
-pub record StandsFor (fleet : Collected) (config : Config) (opening : ℕ)
+pub record Represents (fleet : Collected) (config : Config) (opening : ℕ)
     (past : List Step) : Type 0 where
   pub handed : List Event
   pub split : events_of config opening past ≡ handed ++ fleet.waiting
@@ -40,4 +40,4 @@ pub record StandsFor (fleet : Collected) (config : Config) (opening : ℕ)
 abbrev pub ForEachPast : Collected → (Config → ℕ → List Step → Type 0) → Type 0
 ForEachPast fleet Fact =
     (config : Config) (opening : ℕ) (past : List Step)
-    → StandsFor fleet config opening past → Fact config opening past
+    → Represents fleet config opening past → Fact config opening past

@@ -35,10 +35,10 @@ in_range (x ∷ xs) (suc i) fault h =
     let more = in_range xs i fault h in
     omega arith
 
-filter_stands : (tables : List Shape) (before : List Filter) (filter : Filter)
+filter_exists : (tables : List Shape) (before : List Filter) (filter : Filter)
     → filter_faults tables before filter ≡ [] → filter.table < length tables
 unfolding filter_faults
-filter_stands tables before filter h =
+filter_exists tables before filter h =
     let a = fault_if (leb 32 (length before) || ltb 4 (length filter.conds)) TooMany in
     let b = fault_if (not (is_name filter.name)) BadName in
     let c = fault_if (list_any (λ other. bytes_eq other.name filter.name) before) Duplicate in
@@ -50,10 +50,10 @@ filter_stands tables before filter h =
     (back_none (a ++ b ++ c) d (front_none (a ++ b ++ c ++ d) e
     (front_none (a ++ b ++ c ++ d ++ e) f h)))
 
-rank_stands : (tables : List Shape) (before : List Rank) (rank : Rank)
+rank_exists : (tables : List Shape) (before : List Rank) (rank : Rank)
     → rank_faults tables before rank ≡ [] → rank.table < length tables
 unfolding rank_faults
-rank_stands tables before rank h =
+rank_exists tables before rank h =
     let a = fault_if (leb 16 (length before)) TooMany in
     let b = fault_if (not (is_name rank.name)) BadName in
     let c = fault_if (list_any (λ other. bytes_eq other.name rank.name) before) Duplicate in
@@ -70,7 +70,7 @@ each_filter : (tables : List Shape) (before filters : List Filter) (i : ℕ) (d 
     → (get_or filters i d).table < length tables
 each_filter tables before [] i d h lt = absurd (omega arith)
 each_filter tables before (filter ∷ filters) zero d h lt =
-    filter_stands tables before filter (front_none (filter_faults tables before filter)
+    filter_exists tables before filter (front_none (filter_faults tables before filter)
     (each (filter_faults tables) (before ++ filter ∷ []) filters) h)
 each_filter tables before (filter ∷ filters) (suc i) d h lt =
     each_filter tables (before ++ filter ∷ []) filters i d
@@ -82,16 +82,16 @@ each_rank : (tables : List Shape) (before ranks : List Rank) (i : ℕ) (d : Rank
     → (get_or ranks i d).table < length tables
 each_rank tables before [] i d h lt = absurd (omega arith)
 each_rank tables before (rank ∷ ranks) zero d h lt =
-    rank_stands tables before rank (front_none (rank_faults tables before rank)
+    rank_exists tables before rank (front_none (rank_faults tables before rank)
     (each (rank_faults tables) (before ++ rank ∷ []) ranks) h)
 each_rank tables before (rank ∷ ranks) (suc i) d h lt =
     each_rank tables (before ++ rank ∷ []) ranks i d (back_none (rank_faults tables before rank)
     (each (rank_faults tables) (before ++ rank ∷ []) ranks) h) (omega arith)
 
 -- the table of a standing filter is there
-pub filters_stand : (config : Config) (i : ℕ) (d : Filter) → config_faults config ≡ []
+pub filters_exist : (config : Config) (i : ℕ) (d : Filter) → config_faults config ≡ []
     → i < length config.filters → (get_or config.filters i d).table < length config.tables
-filters_stand config i d h lt =
+filters_exist config i d h lt =
     let a = fault_if (not (is_name config.me)) BadName in
     let b = each peer_faults [] config.peers in
     let c = each table_faults [] config.tables in
@@ -101,9 +101,9 @@ filters_stand config i d h lt =
     (back_none (a ++ b ++ c) d1 (front_none (a ++ b ++ c ++ d1) e h)) lt
 
 -- the table of a ranked list is there
-pub ranks_stand : (config : Config) (i : ℕ) (d : Rank) → config_faults config ≡ []
+pub ranks_exist : (config : Config) (i : ℕ) (d : Rank) → config_faults config ≡ []
     → i < length config.ranks → (get_or config.ranks i d).table < length config.tables
-ranks_stand config i d h lt =
+ranks_exist config i d h lt =
     let a = fault_if (not (is_name config.me)) BadName in
     let b = each peer_faults [] config.peers in
     let c = each table_faults [] config.tables in

@@ -4,7 +4,7 @@ use Rattle.std.proofs.Math.Seq.{map-set_same}
 use Rattle.std.proofs.lemmas.List.{take_more_set, take_all, map-append}
 use Rattle.session_core.specs.declared.track.Entry.{Entry}
 use Rattle.session_core.specs.Run.{settled, settled_entry}
-use Rattle.session_core.proofs.run.settle.Goals as goal
+use Rattle.session_core.proofs.run.clear_updated.Goals as goal
 
 settled_more : (front : List Entry) (entry : Entry) → front ≡ map settled_entry front
     → front ++ settled_entry entry ∷ [] ≡ map settled_entry (front ++ settled_entry entry ∷ [])

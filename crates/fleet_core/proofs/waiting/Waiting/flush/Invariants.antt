@@ -1,6 +1,6 @@
 use Rattle.std.proofs.Common.{◌≡◌, ◌+◌, length}
 use Rattle.fleet_core.specs.Waiting.{AreHandedOver}
-use Rattle.fleet_core.proofs.waiting.Waiting.settle.Given as goal
+use Rattle.fleet_core.proofs.waiting.Waiting.flush.Given as goal
 
 -- the book has taken the first of what waited, and the others are as many as turns are left
 abbrev pub invariant-loop : goal.invariant-loop

@@ -1,6 +1,6 @@
 use Rattle.std.proofs.Common.{◌≡◌, take, map}
 use Rattle.session_core.specs.Run.{settled_entry}
-use Rattle.session_core.proofs.run.settle.Given as goal
+use Rattle.session_core.proofs.run.clear_updated.Given as goal
 
 abbrev pub invariant-loop-entry : goal.invariant-loop-entry
 invariant-loop-entry l =

@@ -1,7 +1,7 @@
 use Rattle.std.proofs.Common.{ℕ, List, ◌≡◌, ◌<◌, ◌≤◌, length, map, vec_len}
 use Rattle.std.specs.Prelude.{vec_capacity}
-use Rattle.ranked.specs.Walk.{AreBounds, WalksOn, found, shown}
-use Rattle.ranked.proofs.walk.settle.Given as goal
+use Rattle.ranked.specs.Walk.{AreBounds, WalksOn, found, view_of_candidate}
+use Rattle.ranked.proofs.walk.take_certain.Given as goal
 
 abbrev pub invariant-entries : goal.invariant-entries
 invariant-entries g l =
@@ -11,10 +11,10 @@ invariant-entries g l =
       kept : vec_len l.candidates ≤ l.room;
       space : l.room < vec_capacity l.candidates;
       bounds : AreBounds living value l.ahead;
-      walked : WalksOn (map shown l.fn.candidates.items) l.fn.ahead l.walked
-          (map shown l.candidates.items) l.ahead;
-      same : found living value l.room (map shown l.candidates.items) l.ahead
-          ≡ found living value l.room (map shown l.fn.candidates.items) l.fn.ahead;
+      walked : WalksOn (map view_of_candidate l.fn.candidates.items) l.fn.ahead l.walked
+          (map view_of_candidate l.candidates.items) l.ahead;
+      same : found living value l.room (map view_of_candidate l.candidates.items) l.ahead
+          ≡ found living value l.room (map view_of_candidate l.fn.candidates.items) l.fn.ahead;
     }
 
 abbrev pub decreases-entries : goal.decreases-entries
