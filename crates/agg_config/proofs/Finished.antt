@@ -1,6 +1,8 @@
 -- Lines that are read one after the other.
-use Rattle.std.proofs.Common.{◌≡◌, ℕ, ◌+◌, ◌<◌, true, false, List, [], ◌∷◌, ◌++◌, length, take, drop}
-use Rattle.std.proofs.Common.{get_or, Bool, Option, None, Some, Result, Ok, Err, IfOk, IfErr, is_some, refl, sym, ap, ◌∙◌}
+use Rattle.std.proofs.Common.{◌≡◌, ℕ, ◌+◌, ◌<◌, true, false, List, [], ◌∷◌, ◌++◌, length, take}
+use Rattle.std.proofs.Common.{drop}
+use Rattle.std.proofs.Common.{get_or, Bool, Option, None, Some, Result, Ok, Err, IfOk, IfErr}
+use Rattle.std.proofs.Common.{is_some, refl, sym, ap, ◌∙◌}
 use Rattle.std.proofs.Common.{subst, arith, append_assoc, append-nil, length-append}
 use Rattle.std.proofs.lemmas.List.{take-append-le, drop-append-le, take_all, get_or_append_left}
 use Rattle.agg_types.specs.declared.config.Config.{Config}
@@ -11,7 +13,8 @@ use Rattle.agg_config.specs.Reading.{takes_memory, written}
 use Rattle.agg_config.specs.declared.causes.LineCause.TheVariants.{NoMemory}
 use Rattle.agg_config.specs.declared.causes.LineFault.{LineFault}
 use Rattle.agg_config.specs.declared.causes.Wrong.{Wrong}
-use Rattle.agg_config.proofs.Lines.{IsLineAt, faulty, is_named-push, sound_more, line_found, written-push}
+use Rattle.agg_config.proofs.Lines.{IsLineAt, faulty, is_named-push, sound_more, line_found}
+use Rattle.agg_config.proofs.Lines.{written-push}
 
 -- the first lines of a longer list
 front_is : (lines more : List (List ℕ)) → take (length lines) (lines ++ more) ≡ lines
@@ -56,7 +59,8 @@ read_more lines line config after named told count h passes =
     rw (front, ← h.whole, ← h.told) passes.faultless in
     let sound = sound_more (lines ++ line ∷ []) (length lines) line s.at
     (sound_front lines (line ∷ []) h.sound) faultless in
-    let count_is : length (lines ++ line ∷ []) ≡ length lines + 1 = length-append lines (line ∷ []) in
+    let count_is : length (lines ++ line ∷ []) ≡ length lines + 1 =
+    length-append lines (line ∷ []) in
     record {
       sound = subst (λ n. AreSound (lines ++ line ∷ []) n) (sym count_is) sound;
       whole = passes.whole ∙ (ap (λ c. behind c (meaning line)) h.whole

@@ -5,7 +5,8 @@ use Rattle.std.specs.Prelude.{Option, None, Some, Result, Ok, Err}
 use Rattle.std.specs.List.{flat_map}
 use Rattle.agg_types.specs.Col.{all_cols, is_rate, same_col}
 use Rattle.agg_types.specs.declared.column.Col.{Col}
-use Rattle.line_words.specs.Reader.{◌>>=◌, Left, column_named, end, keyword, numeral, or_wrong, word}
+use Rattle.line_words.specs.Reader.{◌>>=◌, Left, column_named, end, keyword, numeral, or_wrong}
+use Rattle.line_words.specs.Reader.{word}
 use Rattle.line_words.specs.Reader.{wrong}
 use Rattle.line_words.specs.Words.{parts}
 use Rattle.line_words.specs.declared.misread.Expected.TheVariants.{Columns}

@@ -5,12 +5,12 @@ use Rattle.line_words.specs.declared.misread.Misread.{Misread}
 use Rattle.agg_config.specs.declared.causes.Unread.{Unread}
 use Rattle.agg_config.specs.declared.causes.Unread.TheVariants as unread
 
--- what reading fails with, unless memory was refused
+-- what reading fails with, unless an allocation failed
 abbrev pub Fails : {Y : Type 0} → Unread → Result Y Misread → Type 0
 Fails unread.NoMemory read = Unit {0}
 Fails (unread.Misread fault) read = read ≡ Err fault
 
--- what was returned is what reading gives, unless memory was refused
+-- what was returned is what reading gives, unless an allocation failed
 abbrev pub Gives : {X Y : Type 0} → (X → Y) → Result X Unread → Result Y Misread → Type 0
 Gives view (Ok x) read = read ≡ Ok (view x)
 Gives view (Err cause) read = Fails cause read

@@ -65,7 +65,8 @@ cause_name NoMemory = codes "NoMemory"
 
 -- what is printed of a fault
 abbrev pub fault_line : LineFault → List ℕ
-fault_line fault = codes "config line " ++ decimal fault.line ++ codes ": " ++ cause_name fault.cause
+fault_line fault =
+    codes "config line " ++ decimal fault.line ++ codes ": " ++ cause_name fault.cause
 
 -- a word that had to be a number and is none has a cause of its own
 abbrev pub is_number : Expected → Bool
@@ -140,7 +141,7 @@ pub record Passes (config : Config) (named : Bool) (line : Meaning) (after : Con
   pub whole : after ≡ behind config line
   pub told : named_after ≡ (named || names line)
 
--- it is the first of these faults, unless memory was refused
+-- it is the first of these faults, unless an allocation failed
 abbrev pub FailsFirst : Wrong → List Wrong → Type 0
 FailsFirst wrong faults = wrong.cause ≢ NoMemory → slice_get faults 0 ≡ Some wrong
 
@@ -186,12 +187,12 @@ has_list (kind ∷ rest) = bytes_eq kind (codes "table") || bytes_eq kind (codes
 abbrev pub takes_memory : List ℕ → Bool
 takes_memory line = declares (meaning line) || has_list (words line)
 
--- memory may be wanting at the line behind this many: before the first, or for what the line says
+-- an allocation may fail at the line behind this many: before the first, or for what the line says
 abbrev pub MayLack : List (List ℕ) → ℕ → Type 0
 MayLack lines before =
     (before ≡ 0) ⊎ (takes_memory (slice_index_or lines before []) ≡ true)
 
--- what is wrong at the line behind this many; where memory was refused none of these has a fault,
+-- what is wrong at the line behind this many; where an allocation failed none of these has a fault,
 -- and Syntax with no word is told behind the last line only
 abbrev pub FaultBehind : List (List ℕ) → ℕ → LineCause → Option Misread → Type 0
 FaultBehind lines before NoMemory place =

@@ -2,11 +2,11 @@
 //! lines.
 //!
 //! For the programs, which read it before they serve or replay. `read` answers the configuration
-//! that the text writes, or the first faulty line with what is wrong with it, exactly; `Reader` does
-//! the same with lines that come one after the other. What each line means, and when it is faulty
-//! behind the lines before it, is said in specs/ of whole lists of words and lines. A fault has its
-//! line, its cause, and the word that is wrong or missing with what had to stand there; `LineFault`
-//! as text is the line that is printed of it. No clause says that there is memory.
+//! that the text writes, or the first faulty line with what is wrong with it, exactly; `Reader`
+//! does the same with lines that come one after the other. What each line means, and when it is
+//! faulty behind the lines before it, is said in specs/ of whole lists of words and lines. A fault
+//! has its line, its cause, and the word that is wrong or missing with what had to stand there;
+//! `LineFault` as text is the line that is printed of it. No clause says that there is memory.
 #![tactic(auto)]
 
 mod causes;

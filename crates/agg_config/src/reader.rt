@@ -165,8 +165,8 @@ impl Reader {
         }
     }
 
-    /// What the lines write, or their first fault. Without a `name` line that is Syntax, at the line
-    /// behind the last.
+    /// What the lines write, or their first fault. Without a `name` line that is Syntax, at the
+    /// line behind the last.
     pub fn finish(self) -> Result<Config, LineFault>
         ensures finished { (lines : List (List ℕ)) → HasRead self lines → Finishes lines result }
         ensures sound { IfOk result (λ config. config_faults config ≡ []) }

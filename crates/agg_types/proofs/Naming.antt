@@ -1,6 +1,7 @@
 -- The first places of names: what one more entry, or one more noted name, makes of a look-up.
 use Rattle.std.proofs.Common.{◌≡◌, ℕ, zero, suc, ◌+◌, ◌<◌, Bool, true, false, cond, List, [], ◌∷◌}
-use Rattle.std.proofs.Common.{◌++◌, ◌||◌, length, take, position, Option, Some, None, IfSome, refl, sym}
+use Rattle.std.proofs.Common.{◌++◌, ◌||◌, length, take, position, Option, Some, None, IfSome, refl}
+use Rattle.std.proofs.Common.{sym}
 use Rattle.std.proofs.Common.{ap, ap₂, ◌∙◌, arith, subst, is_some, nat_eq, nat_lt, true≢false}
 use Rattle.std.proofs.lemmas.Bool.Decides.{nat_tests}
 use Rattle.std.proofs.lemmas.Cmp.{nat_list_eq_equiv}

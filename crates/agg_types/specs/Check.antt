@@ -78,7 +78,8 @@ table_faults before shape =
 -- the faults of a filter, which are told by those before it
 unfoldable pub filter_faults : List Shape → List Filter → Filter → List ConfigFault
 filter_faults tables before filter =
-    fault_if (nat_le MOST_FILTERS (length before) || nat_lt MOST_CONDS (length filter.conds)) TooMany
+    fault_if (nat_le MOST_FILTERS (length before) || nat_lt MOST_CONDS (length filter.conds))
+    TooMany
     ++ fault_if (not (is_name filter.name)) BadName
     ++ fault_if (list_any (λ other. bytes_eq other.name filter.name) before) Duplicate
     ++ fault_if (is_none (slice_get tables filter.table)) UnknownTable

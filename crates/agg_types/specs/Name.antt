@@ -8,4 +8,5 @@ is_printable byte = nat_le 33 byte && nat_le byte 126
 
 -- whether bytes may be a name: 1 to 128 of them, each printable and no space
 abbrev pub is_name : List ℕ → Bool
-is_name bytes = nat_le 1 (length bytes) && nat_le (length bytes) LONGEST_NAME && list_all is_printable bytes
+is_name bytes =
+    nat_le 1 (length bytes) && nat_le (length bytes) LONGEST_NAME && list_all is_printable bytes

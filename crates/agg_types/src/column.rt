@@ -8,8 +8,8 @@ pub const COLUMNS: usize = 17;
 /// The greatest number of a column's data type in the peers protocol.
 pub const LAST_TYPE: u64 = 18;
 
-/// A column of stick tables that can be added up over a fleet: the stored data types of
-/// HAProxy's Configuration Manual ("stick-table", `store`), save those that are no sums.
+/// A column of stick tables that can be added up over a fleet: the stored data types of HAProxy's
+/// Configuration Manual ("stick-table", `store`), save those that are no sums.
 ///
 /// A rate is told by its period, in ms. Columns are ordered by the number that the peers protocol
 /// gives their data type.

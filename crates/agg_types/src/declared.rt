@@ -28,8 +28,8 @@ pub trait Named: Drop {
 
 /// The declarations of one kind, in their order, found by name at one look-up of a hash table.
 ///
-/// Contracts see the list alone. A name may stand twice, until `Config::check` refuses it: it
-/// names the first then.
+/// Contracts see the list alone. A name may stand twice, until `Config::check` refuses it: it names
+/// the first then.
 #[derive(Debug, Drop)]
 pub struct Declared<T: Named> {
     entries: Vec<T>,
@@ -91,7 +91,8 @@ impl<T: Named> Declared<T> {
 
     /// Whether one of the first declarations, as many as told, has a name.
     pub fn has_before(&self, before: usize, name: &[u8]) -> bool
-        ensures { result ≡ list_any (λ entry. bytes_eq (T.name_of entry) name.now) (take before self.now) }
+        ensures { result
+            ≡ list_any (λ entry. bytes_eq (T.name_of entry) name.now) (take before self.now) }
     {
         match self.position(name) {
             Some(first) => first < before,

@@ -1,14 +1,13 @@
 //! Measures how fast a fleet takes the updates of its proxies, and what a key costs in memory.
 //!
-//! `bench_fleet <keys> <updates> [lives] [four] [texts] [rare] [every] [rank]` lets one proxy
-//! send one update of each key, then so many more over the keys in turn, and then so many over
-//! keys drawn from a fixed generator, each of an address, two counts and a rate, in pieces of 16
-//! KB. The keys come in a scattered order. With `lives` rows live for ten minutes, and the clock
-//! goes on by 100 ms after each 100,000 updates. With `four` four proxies send the same, in turn
-//! by 100,000; with `texts` keys are texts of 20 bytes. With `rare` a filter stands that holds
-//! one key in a thousand, with `every` one that holds them all, and with `rank` a list of the ten
-//! keys with the greatest rates. At last the rows, some keys, the filters and the list are asked
-//! for.
+//! `bench_fleet <keys> <updates> [lives] [four] [texts] [rare] [every] [rank]` lets one proxy send
+//! one update of each key, then so many more over the keys in turn, and then so many over keys
+//! drawn from a fixed generator, each of an address, two counts and a rate, in pieces of 16 KB. The
+//! keys come in a scattered order. With `lives` rows live for ten minutes, and the clock goes on by
+//! 100 ms after each 100,000 updates. With `four` four proxies send the same, in turn by 100,000;
+//! with `texts` keys are texts of 20 bytes. With `rare` a filter stands that holds one key in a
+//! thousand, with `every` one that holds them all, and with `rank` a list of the ten keys with the
+//! greatest rates. At last the rows, some keys, the filters and the list are asked for.
 //!
 //! What was done goes to standard output; how fast, with the resident memory that a key costs where
 //! the system tells it, to standard error.

@@ -91,8 +91,8 @@ seen_apart items due x place (Some life) arrived apart seen =
     seen
 
 pub forgotten : (items due new : List Plan) (x : Plan) (e : Entry)
-    → new ≡ without_entry row_key_cmp due x → same_place x.1 e.0 ≡ false → is_planned (items ++ due) e
-    ≡ true → is_planned (items ++ new) e ≡ true
+    → new ≡ without_entry row_key_cmp due x → same_place x.1 e.0 ≡ false → is_planned (items ++ due)
+    e ≡ true → is_planned (items ++ new) e ≡ true
 forgotten items due new x e is apart planned =
     rw is (seen_apart items due x e.0 (as_arrival e.1).life (as_arrival e.1).arrived apart planned)
 
@@ -198,8 +198,8 @@ put_others : (before items : List Plan) (place : RowKey) (row : Row) (es new : L
     → is_planned items (place, row) ≡ true → AllByRecursion (λ e. is_planned before e ≡ true) es
     → AllByRecursion (λ e. is_planned items e ≡ true) new
 put_others before items place row es new is ordered others here planned =
-    all-both (λ e. lookup (is_at (row_key_cmp e.0)) new ≡ Some e.1) (λ e. same_place place e.0 ≡ false
-    → is_planned items e ≡ true) (λ e. is_planned items e ≡ true)
+    all-both (λ e. lookup (is_at (row_key_cmp e.0)) new ≡ Some e.1) (λ e. same_place place e.0
+    ≡ false → is_planned items e ≡ true) (λ e. is_planned items e ≡ true)
     (λ e found was. by e found (same_place place e.0) refl was)
     new (all_found row_key_cmp row_key_cmp_total new ordered)
     (rw is (all-insert_entry row_key_cmp (λ e. same_place place e.0 ≡ false
@@ -248,15 +248,16 @@ off_not : (b : Bool) → not b ≡ true → b ≡ false
 off_not true is = cc
 off_not false is = refl
 
-pub kept_dropped : (peers tables : ℕ) (rows new : RowMap) (before items : List Plan) (place : RowKey)
+pub kept_dropped : (peers tables : ℕ) (rows new : RowMap) (before items : List Plan)
+    (place : RowKey)
     → new ≡ record rows { entries = remove_entry (is_at (row_key_cmp place)) rows.entries }
     → ((e : Entry) → same_place place e.0 ≡ false → is_planned before e ≡ true
     → is_planned items e ≡ true) → AreKept peers tables rows before
     → AreKept peers tables new items
 kept_dropped peers tables rows new before items place is others kept =
     let entries : new.entries ≡ filter (λ e. not (same_place place e.0)) rows.entries =
-    ap (λ (m : RowMap). m.entries) is ∙ remove-filter row_key_cmp row_key_cmp_total place rows.entries
-    kept.are.ordered in
+    ap (λ (m : RowMap). m.entries) is ∙ remove-filter row_key_cmp row_key_cmp_total place
+    rows.entries kept.are.ordered in
     kept_but peers tables (λ e. not (same_place place e.0)) rows new before items (is
     ∙ ap (λ (es : List Entry). record rows { entries = es })
     (remove-filter row_key_cmp row_key_cmp_total place rows.entries kept.are.ordered))

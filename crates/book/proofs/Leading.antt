@@ -71,8 +71,8 @@ share_less cols table key col t row = by (is_of table key t row)
     by true = omega arith
     by false = omega arith
 
-put_more : (cols : List (Col × ℕ)) (rows : Rows) (t : ℕ) (place : RowKey) (row : Arrival) (col : Col)
-    (live : Bool) → is_live t row ≡ live → AreInOrder rows
+put_more : (cols : List (Col × ℕ)) (rows : Rows) (t : ℕ) (place : RowKey) (row : Arrival)
+    (col : Col) (live : Bool) → is_live t row ≡ live → AreInOrder rows
     → sum_by (share cols place.table place.key col t) (with_row t rows place row) ≤ sum_by
     (share cols place.table place.key col t) rows + column_worth col (t - row.arrived)
     cols row.cells
@@ -98,12 +98,13 @@ pub arriving_more : (cols : List (Col × ℕ)) (rows : Rows) (t : ℕ) (place : 
 arriving_more cols rows t place life cells col ordered =
     let row : Arrival = put_arrival t life cols cells in
     let now : t - t ≡ 0 = omega arith in
-    let kept : column_worth col (t - t) cols (normalized_cells cols cells) ≡ column_worth col 0 cols cells
-    = ap (λ n. column_worth col n cols (normalized_cells cols cells)) now
+    let kept : column_worth col (t - t) cols (normalized_cells cols cells) ≡ column_worth col 0 cols
+    cells = ap (λ n. column_worth col n cols (normalized_cells cols cells)) now
     ∙ column_normalized cols cells col 0 in
     let more : sum_by (share cols place.table place.key col t) (with_row t rows place row) ≤ sum_by
     (share cols place.table place.key col t) rows + column_worth col (t - t) cols
-    (normalized_cells cols cells) = put_more cols rows t place row col (is_live t row) refl ordered in
+    (normalized_cells cols cells) = put_more cols rows t place row col (is_live t row) refl
+    ordered in
     let before : worth_of cols (key_rows rows place.table place.key) col t
     ≡ sum_by (share cols place.table place.key col t) rows =
     value_sum cols rows place.table place.key col t in

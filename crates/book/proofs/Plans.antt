@@ -102,7 +102,8 @@ pub all_stay : (place : RowKey) (t : ℕ) (es : List Entry) → AreInOrder es
     → lives_at t (place, row) ≡ true)
     → es ≡ filter (λ e. not (same_place place e.0 && not (lives_at t e))) es
 all_stay place t es s lives =
-    sym (filter-all (stays place t) es (all-map (λ e. lookup (is_at (row_key_cmp e.0)) es ≡ Some e.1)
+    sym (filter-all (stays place t) es
+    (all-map (λ e. lookup (is_at (row_key_cmp e.0)) es ≡ Some e.1)
     (λ e. stays place t e ≡ true) (λ e found. by e found (same_place place e.0) refl) es
     (all_found row_key_cmp row_key_cmp_total es s)))
   where
@@ -185,7 +186,8 @@ late_step t place item items left es at split late =
 pub entry_exact : (x y : Plan) → entry_cmp row_key_cmp x y ≡ Equal → x ≡ y
 entry_exact x y is = by (nat_cmp x.0 y.0) refl is
   where
-    by : (r : Ordering) → nat_cmp x.0 y.0 ≡ r → ordering_then r (row_key_cmp x.1 y.1) ≡ Equal → x ≡ y
+    by : (r : Ordering) → nat_cmp x.0 y.0 ≡ r → ordering_then r (row_key_cmp x.1 y.1) ≡ Equal → x
+        ≡ y
     by Less first both = cc
     by Equal first both =
         let at : x.0 ≡ y.0 = exact_unsigned x.0 y.0 first in
@@ -244,8 +246,8 @@ pub later_step : (t : ℕ) (place : RowKey) (item : Plan) (items left due new : 
     (es : List Entry) → AreInOrder es → item.1 ≡ place → left ≡ item ∷ items
     → ((ps : List Plan) (e : Entry) → is_planned (ps ++ due) e ≡ true
     → is_planned (ps ++ new) e ≡ true)
-    → ((row : Row) → lookup (is_at (row_key_cmp place)) es ≡ Some row → lives_at t (place, row) ≡ true
-    → is_planned new (place, row) ≡ true)
+    → ((row : Row) → lookup (is_at (row_key_cmp place)) es ≡ Some row → lives_at t (place, row)
+    ≡ true → is_planned new (place, row) ≡ true)
     → AllByRecursion (λ e. lives_at t e ≡ true → is_planned (left ++ due) e ≡ true) es
     → AllByRecursion (λ e. lives_at t e ≡ true → is_planned (items ++ new) e ≡ true) es
 later_step t place item items left due new es s at split more seen later =

@@ -40,7 +40,8 @@ use Rattle.fleet_model.specs.declared.arrival.Arrival.{Arrival}
 use Rattle.peer_rows.specs.Rows.{RowMap, in_table, of_table_key, peers_of}
 use Rattle.peer_rows.specs.declared.row.Row.{Row}
 use Rattle.book.specs.Planned.{AreRows, IsInside}
-use Rattle.book.specs.Shown.{arrivals, as_arrival, of_peer, of_spot, found_worth, rows_worth, view_of_row}
+use Rattle.book.specs.Shown.{arrivals, as_arrival, of_peer, of_spot, found_worth, rows_worth}
+use Rattle.book.specs.Shown.{view_of_row}
 use Rattle.book.proofs.Lists.{all-filter, all-map, map-filter, same_filters, sorted-filter}
 
 abbrev Entry : Type 0
@@ -97,7 +98,8 @@ peers_shown table key (e ∷ es) =
         → map (of_peer table key) (map (λ e. (e.0.peer, e.1))
         (cond b (e ∷ filter (λ e. of_table_key table key e.0) es)
         (filter (λ e. of_table_key table key e.0) es)))
-        ≡ cond b (view_of_row e ∷ key_rows (arrivals es) table key) (key_rows (arrivals es) table key)
+        ≡ cond b (view_of_row e ∷ key_rows (arrivals es) table key)
+        (key_rows (arrivals es) table key)
     by true is more = λ i. (at_key table key e.0 is i, as_arrival e.1) ∷ more i
     by false is more = more
 
@@ -223,7 +225,8 @@ cleared_shown table key es =
     ap arrivals (each_filter (λ (e : Entry). not (of_table_key table key e.0))
     (λ e. not ((e.0.table == table) && same_key key e.0.key))
     (λ e. ap (λ b. not (b && same_key key e.0.key)) (eq_turned table e.0.table)) es)
-    ∙ map-filter view_of_row (λ (row : Shown). not ((row.0.table == table) && same_key key row.0.key)) es
+    ∙ map-filter view_of_row (λ (row : Shown). not ((row.0.table == table) && same_key key
+    row.0.key)) es
 
 pub untouched : (peers tables table : ℕ) (key : List ℕ) (es : List Entry) → tables ≤ table
     → AllByRecursion (λ e. IsInside peers tables e.0) es
@@ -233,7 +236,8 @@ untouched peers tables table key [] outside inside = refl
 untouched peers tables table key (e ∷ es) outside inside =
     let in_range : e.0.table < tables = inside.0.1 in
     let other : (e.0.table == table) ≡ false = grind (arith, nat_tests) in
-    rw other (ap (λ rows. view_of_row e ∷ rows) (untouched peers tables table key es outside inside.1))
+    rw other (ap (λ rows. view_of_row e ∷ rows) (untouched peers tables table key es outside
+    inside.1))
 
 and_false : (b : Bool) → not (b && false) ≡ true
 and_false true = refl
@@ -372,8 +376,8 @@ pub is_some-copied : {X : Type 0} (found : Option (Bor X))
 is_some-copied None = refl
 is_some-copied (Some x) = refl
 
-pub found_shown : (place : RowKey) (es : List Entry) → is_some (lookup (is_at (row_key_cmp place)) es)
-    ≡ list_any (λ row. same_place place row.0) (arrivals es)
+pub found_shown : (place : RowKey) (es : List Entry) → is_some (lookup (is_at (row_key_cmp place))
+    es) ≡ list_any (λ row. same_place place row.0) (arrivals es)
 found_shown place [] = refl
 found_shown place (e ∷ es) = by (same_place place e.0) (found_shown place es)
   where

@@ -33,7 +33,8 @@ pub record AreKept (peers tables : ℕ) (rows : RowMap) (items : List (ℕ × Ro
 
 -- a row as it arrives
 abbrev pub put_arrival : ℕ → Option ℕ → List (Col × ℕ) → List Cell → Arrival
-put_arrival t life cols cells = record { arrived = t; life = life; cells = normalized_cells cols cells }
+put_arrival t life cols cells =
+    record { arrived = t; life = life; cells = normalized_cells cols cells }
 
 -- these are the rows of a key, each with its peer; there is none where none were found
 abbrev pub AreRowsOf : List (RowKey × Arrival) → ℕ → List ℕ → Option (List (ℕ × Row)) → Type 0

@@ -238,7 +238,7 @@ impl Book {
     }
 
     /// The keys that a standing filter holds, in order, by the verdicts that are kept; where these
-    /// were given up for want of memory, each key of its table is judged.
+    /// were given up because an allocation failed, each key of its table is judged.
     pub fn filter_keys(&self, alloc: Global, filter: usize) -> Result<Vec<&Key>, NoMemory>
         requires { filter < length self.now.config.filters }
         ensures { IfOk result
@@ -305,8 +305,8 @@ impl Book {
 
     /// The first moment above the book's, in ms, at which a filter holds other keys than now, if
     /// only the clock goes on; none where it always holds the same. It is that of the first verdict
-    /// that changes; where verdicts were given up for want of memory, each key of its table is
-    /// judged once.
+    /// that changes; where verdicts were given up because an allocation failed, each key of its
+    /// table is judged once.
     pub fn next_change(&self, alloc: Global, filter: usize) -> Result<Option<u64>, NoMemory>
         requires { filter < length self.now.config.filters }
         ensures { IfOk result (IsNextChange self.now (filter_of self.now filter)) }

@@ -1,7 +1,7 @@
 //! The ends of rows as time goes on.
 //!
 //! A row is looked at at a planned moment that is at most its end. What comes due is looked at in
-//! three steps, so that a refused growth leaves all rows: it is set aside, then what lives on is
+//! three steps, so that a failed allocation leaves all rows: it is set aside, then what lives on is
 //! planned again, and then what has ended goes.
 
 ghost use Rattle.std.specs.Prelude.{◌≡◌, ◌<◌, ◌&&◌, true, not, ℕ, List, ◌++◌, Some, filter, IfSome};

@@ -2,8 +2,8 @@
 //! least its value in each list of its table.
 //!
 //! A bound is made before its row is put, of at least what the key is worth before and after, so
-//! that a refused growth leaves bounds that hold. A key whose last row goes takes its bounds with
-//! it.
+//! that a failed allocation leaves bounds that hold. A key whose last row goes takes its bounds
+//! with it.
 
 ghost use Rattle.std.specs.Prelude.{◌≡◌, ◌<◌, ◌≤◌, ℕ, List, Option, length, filter, OnOk};
 ghost use Rattle.std.specs.Prelude.{OnErr};

@@ -86,8 +86,10 @@ goes_on word held waiting position is_trailing h (subcommand name) bad = absurd 
 goes_on word held waiting position is_trailing h value _ = tt
 
 -- what a word names: one of the three names, or none
-named : (P : Option Text → Type 0) (a b c : Bool) → P (Some (codes "replay")) → P (Some (codes "listen")) → P (Some (codes "help")) → P None
-    → P (option_map (λ (s : Text × List Text). s.0) (cond a (Some (codes "replay", [])) (cond b (Some (codes "listen", [])) (cond c (Some (codes "help", [])) None))))
+named : (P : Option Text → Type 0) (a b c : Bool) → P (Some (codes "replay"))
+    → P (Some (codes "listen")) → P (Some (codes "help")) → P None
+    → P (option_map (λ (s : Text × List Text). s.0) (cond a (Some (codes "replay", []))
+    (cond b (Some (codes "listen", [])) (cond c (Some (codes "help", [])) None))))
 named P true b c replay listen help none = replay
 named P false true c replay listen help none = listen
 named P false false true replay listen help none = help
@@ -129,8 +131,13 @@ no_name word held waiting position = go (bytes_eq word (45 ∷ 45 ∷ []))
     go false = goes_on word held waiting position false _ _
         (other_names_none top.rules waiting word (long_of word) held)
 
-by_name : (word : Text) (held : Held) (position : ℕ) (a b c : Bool) → word_wrong (option_map (λ (s : Text × List Text). s.0) (cond a (Some (codes "replay", [])) (cond b (Some (codes "listen", [])) (cond c (Some (codes "help", [])) None)))) word held idle position ≡ []
-    → StopsWell (after_word (option_map (λ (s : Text × List Text). s.0) (cond a (Some (codes "replay", [])) (cond b (Some (codes "listen", [])) (cond c (Some (codes "help", [])) None)))) word held idle position).stopped
+by_name : (word : Text) (held : Held) (position : ℕ) (a b c : Bool) → word_wrong
+    (option_map (λ (s : Text × List Text). s.0) (cond a (Some (codes "replay", []))
+    (cond b (Some (codes "listen", [])) (cond c (Some (codes "help", [])) None)))) word held idle
+    position ≡ []
+    → StopsWell (after_word (option_map (λ (s : Text × List Text). s.0)
+    (cond a (Some (codes "replay", [])) (cond b (Some (codes "listen", []))
+    (cond c (Some (codes "help", [])) None)))) word held idle position).stopped
 by_name word held position true b c e = inl refl
 by_name word held position false true c e = inr refl
 by_name word held position false false true e = absurd (cc)
@@ -140,7 +147,8 @@ one_word : (word : Text) (held : Held) (waiting : Waiting) (position : ℕ)
     → word_wrong (subcommand_met names waiting word) word held waiting position ≡ []
     → StopsWell (after_word (subcommand_met names waiting word) word held waiting position).stopped
 one_word word held idle position e =
-    by_name word held position (answers_to word (codes "replay", [])) (answers_to word (codes "listen", [])) (answers_to word (codes "help", [])) e
+    by_name word held position (answers_to word (codes "replay", []))
+    (answers_to word (codes "listen", [])) (answers_to word (codes "help", [])) e
 one_word word held (waits_for id) position e = no_name word held (waits_for id) position
 one_word word held positional position e = no_name word held positional position
 

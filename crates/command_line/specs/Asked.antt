@@ -65,7 +65,7 @@ SaysNoAddress (Some command) = (command.0 ≡ codes "listen")
     × ((address_in (codes "peers") command.1 ≡ None)
     ⊎ (address_in (codes "admin") command.1 ≡ None))
 
--- why a command that clap takes is no job: an option says no address, or a growth was refused
+-- why a command that clap takes is no job: an option says no address, or an allocation failed
 abbrev pub IsNoJob : Option (Text × List Row) → Usage → Type 0
 IsNoJob command (Words error) = ⊥
 IsNoJob command BadAddress = SaysNoAddress command

@@ -15,13 +15,13 @@ pub enum Usage {
     Words(Error),
     /// `--peers` or `--admin` names no address.
     BadAddress,
-    /// A growth was refused.
+    /// An allocation failed.
     NoMemory,
 }
 
 impl Usage {
-    /// The exit status: 0 where help was asked for, 2 for a bad command line, and 5 where a growth
-    /// was refused.
+    /// The exit status: 0 where help was asked for, 2 for a bad command line, and 5 where an
+    /// allocation failed.
     pub fn status(&self) -> u8
         ensures { result ≡ status_of self.now }
     {
@@ -51,7 +51,7 @@ impl Usage {
     }
 }
 
-/// The text for who typed the line, with its LF; empty where a growth was refused.
+/// The text for who typed the line, with its LF; empty where an allocation failed.
 impl fmt::Display for Usage {
     ghost output = { text_of };
 

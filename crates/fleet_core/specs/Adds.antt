@@ -1,4 +1,4 @@
--- What a step leaves that is done, or for which memory is wanted.
+-- What a step leaves that is done, or for which an allocation fails.
 use Rattle.std.specs.Prelude.{◌≡◌, ℕ, List, ◌∷◌, Option}
 use Rattle.agg_types.specs.declared.config.Config.{Config}
 use Rattle.session_core.specs.declared.cause.SessionCause.{SessionCause}

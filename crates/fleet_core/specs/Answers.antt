@@ -40,7 +40,7 @@ IfRefused (Err Spent) Fact = Fact
 IfRefused (Err NoMemory) Fact = ⊤
 IfRefused (Err (Session cause out)) Fact = ⊤
 
--- a fact where memory is wanted
+-- a fact where an allocation fails
 abbrev pub IfNoMemory : Answer → Type 0 → Type 0
 IfNoMemory (Ok replies) Fact = ⊤
 IfNoMemory (Err NoConn) Fact = ⊤

@@ -21,8 +21,8 @@ pub record Collected : Type 0 where
   pub next_seq : ℕ
 
 -- The fleet stands for these steps, newest first, each of which could be done: its book is what
--- recomputing gives from all their events but the last, which wait, and of each connection it
--- keeps what their steps say.
+-- recomputing gives from all their events but the last, which wait, and of each connection it keeps
+-- what their steps say.
 pub record Represents (fleet : Collected) (config : Config) (opening : ℕ)
     (past : List Step) : Type 0 where
   pub handed : List Event

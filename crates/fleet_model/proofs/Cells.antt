@@ -21,8 +21,8 @@ rate_kept period cur prev elapsed since = elim (cases_lt elapsed (2 * period + 1
       ∙ sym (rate_ends period prev cur (elapsed + since) (omega arith))
 ]
 
-pub cell_normalized : (period since : ℕ) (cell : Cell) → cell_worth period since (normalized_cell period cell)
-    ≡ cell_worth period since cell
+pub cell_normalized : (period since : ℕ) (cell : Cell) → cell_worth period since
+    (normalized_cell period cell) ≡ cell_worth period since cell
 unfolding cell_worth
 cell_normalized period since (Count count) = refl
 cell_normalized period since (Rate elapsed cur prev) = rate_kept period cur prev elapsed since
@@ -47,7 +47,8 @@ normalized_twice (stored ∷ cols) [] = refl
 normalized_twice (stored ∷ cols) (cell ∷ cells) =
     λ i. cell_twice stored.1 cell i ∷ normalized_twice cols cells i
 
-pub normalized_from_zero : (period elapsed cur prev t : ℕ) → normalized_cell period (Rate elapsed cur prev)
+pub normalized_from_zero : (period elapsed cur prev t : ℕ) → normalized_cell period
+    (Rate elapsed cur prev)
     ≡ Rate (t + 2 * period + 1 - zero_moment (arrived period (min elapsed (2 * period + 1)) cur
     prev t)) cur prev
 normalized_from_zero period elapsed cur prev t = ap (λ kept. Rate kept cur prev) (omega arith)

@@ -1,6 +1,5 @@
 -- Lists of entries in the order of their keys: what a look-up finds after each change, and that
--- equal
--- look-ups make equal lists.
+-- equal look-ups make equal lists.
 use Rattle.std.proofs.Common.{◌≡◌, Bool, true, false, cond, not, ◌&&◌, List, [], ◌∷◌, Option, None}
 use Rattle.std.proofs.Common.{Some, T, is_some, refl, sym, ap, ◌∙◌, subst}
 use Rattle.std.proofs.lemmas.Bool.{and_parts, and_from}

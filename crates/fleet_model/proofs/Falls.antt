@@ -72,8 +72,8 @@ share_falls cols table key col t u h row =
     (column_falls col (t - row.1.arrived) (u - row.1.arrived) cols row.1.cells since)
 
 -- a value never rises by the clock alone
-pub value_falls : (cols : List (Col × ℕ)) (rows : List (RowKey × Arrival)) (table : ℕ) (key : List ℕ)
-    (col : Col) (t u : ℕ) → t ≤ u → value cols rows table key col u ≤ value cols rows
+pub value_falls : (cols : List (Col × ℕ)) (rows : List (RowKey × Arrival)) (table : ℕ)
+    (key : List ℕ) (col : Col) (t u : ℕ) → t ≤ u → value cols rows table key col u ≤ value cols rows
     table key col t
 unfolding value
 value_falls cols rows table key col t u h =
@@ -99,7 +99,8 @@ ended_share cols table key col m t h row e =
     nothing true n = refl
     nothing false n = refl
 
-pub value-later : (cols : List (Col × ℕ)) (rows : List (RowKey × Arrival)) (table : ℕ) (key : List ℕ)
+pub value-later : (cols : List (Col × ℕ)) (rows : List (RowKey × Arrival)) (table : ℕ)
+    (key : List ℕ)
     (col : Col) (m t : ℕ) → m ≤ t → value cols (filter (λ row. is_live m row.1) rows) table key col
     t ≡ value cols rows table key col t
 unfolding value
@@ -152,7 +153,8 @@ live_keys-later rows table m t h =
     ap (λ (rs : List (RowKey × Arrival)). dedup same_key (map (λ row. row.0.key) rs))
     (same_rows table m t h rows)
 
-pub meets-later : (cols : List (Col × ℕ)) (rows : List (RowKey × Arrival)) (table : ℕ) (key : List ℕ)
+pub meets-later : (cols : List (Col × ℕ)) (rows : List (RowKey × Arrival)) (table : ℕ)
+    (key : List ℕ)
     (m t : ℕ) → m ≤ t → (conds : List Cond) → meets cols (filter (λ row. is_live m row.1) rows)
     table key t conds ≡ meets cols rows table key t conds
 unfolding meets

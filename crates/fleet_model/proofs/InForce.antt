@@ -78,8 +78,7 @@ one_event t t' p j same later xs ys o e (Some r) =
     (is_live t r.1) ys o (same r)
 
 -- the rows in force after one more event: of those before, each of which it leaves alone and that
--- still
--- lives, and its own
+-- still lives, and its own
 pub in_force-push : (t t' : ℕ) (p : RowKey × Arrival → Bool) (j : Judged)
     → ((r : RowKey × Arrival) → (is_live t' r.1 && leaves_alone r.0 j) ≡ (is_live t r.1 && p r))
     → (h : List Judged) → in_force t' (h ++ j ∷ []) ≡ filter p (in_force t h)
@@ -111,8 +110,8 @@ left_elsewhere t place later xs (Some r) h rest =
     ]
 
 -- events that leave a place alone leave no row there
-alone-elsewhere : (t : ℕ) (place : RowKey) (h : List Judged) → list_all (leaves_alone place) h ≡ true
-    → list_all (elsewhere place) (in_force t h) ≡ true
+alone-elsewhere : (t : ℕ) (place : RowKey) (h : List Judged) → list_all (leaves_alone place) h
+    ≡ true → list_all (elsewhere place) (in_force t h) ≡ true
 unfolding in_force
 alone-elsewhere t place [] e = refl
 alone-elsewhere t place (j ∷ later) e =
@@ -223,7 +222,8 @@ put_or_removed : (b : Bool) (row : RowKey × Arrival) (es : List (RowKey × Arri
     (remove_entry (is_at (row_key_cmp row.0)) es)
 put_or_removed true row es h = insert-others row_key_cmp row_key_cmp_total row_key_cmp_exact
     es row.0 row.1 h
-put_or_removed false row es h = sym (remove_is row_key_cmp row_key_cmp_total row_key_cmp_exact row.0 es h)
+put_or_removed false row es h = sym (remove_is row_key_cmp row_key_cmp_total row_key_cmp_exact row.0
+    es h)
 
 -- a Put that is taken
 pub rows-put : (t : ℕ) (j : Judged) (row : RowKey × Arrival) → j.row ≡ Some row → Clears_none j

@@ -155,8 +155,8 @@ put-own t rows place row table key h its =
     (remove_entry (is_at (row_key_cmp place)) rows)) table key
     ≡ cond b (insert_entry row_key_cmp (key_rows rows table key) place row)
     (remove_entry (is_at (row_key_cmp place)) (key_rows rows table key))) [
-      | true ↦ chosen-insert row_key_cmp row_key_cmp_total row_key_cmp_exact (is_at_key table key) rows
-          place row (sorted_from row_key_cmp rows h)
+      | true ↦ chosen-insert row_key_cmp row_key_cmp_total row_key_cmp_exact (is_at_key table key)
+          rows place row (sorted_from row_key_cmp rows h)
           ∙ ap (λ b. cond b (insert_entry row_key_cmp (key_rows rows table key) place row)
           (key_rows rows table key)) its
       | false ↦ chosen-remove row_key_cmp row_key_cmp_total row_key_cmp_exact
@@ -172,8 +172,8 @@ unfolding with_row
 put-others t rows place row table key h other =
     elim (is_live t row) as (λ b. key_rows (cond b (insert_entry row_key_cmp rows place row)
     (remove_entry (is_at (row_key_cmp place)) rows)) table key ≡ key_rows rows table key) [
-      | true ↦ chosen-insert row_key_cmp row_key_cmp_total row_key_cmp_exact (is_at_key table key) rows
-          place row (sorted_from row_key_cmp rows h)
+      | true ↦ chosen-insert row_key_cmp row_key_cmp_total row_key_cmp_exact (is_at_key table key)
+          rows place row (sorted_from row_key_cmp rows h)
           ∙ ap (λ b. cond b (insert_entry row_key_cmp (key_rows rows table key) place row)
           (key_rows rows table key)) other
       | false ↦ chosen-remove row_key_cmp row_key_cmp_total row_key_cmp_exact

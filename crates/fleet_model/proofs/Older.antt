@@ -94,8 +94,7 @@ opened_by s e peer does is =
     ∙ eq-eqb peer peer refl)
 
 -- a session in force is that of the last Open that counted: once another seat opened the peer, an
--- older one
--- stays out
+-- older one stays out
 pub older_out : (config : Config) (opening : ℕ) (events : List Event) (e : Event)
     (later : List Event) (peer seat : ℕ) → counts_now (state_of config opening events) e ≡ true
     → e.what ≡ Open peer → e.seat ≢ seat → list_any (opens_at seat peer) later ≡ false

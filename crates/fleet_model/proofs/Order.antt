@@ -118,7 +118,8 @@ live-gather t es (x ∷ xs) h live = live-gather t (insert_entry row_key_cmp es 
     (live-insert t es x.0 x.1 h live.0) live.1
 
 live-one : (t : ℕ) (later : List Judged) (xs : List (RowKey × Arrival))
-    (row : Option (RowKey × Arrival)) → Live t xs → Live t (cons_option (if_in_force t later row) xs)
+    (row : Option (RowKey × Arrival)) → Live t xs → Live t (cons_option (if_in_force t later row)
+    xs)
 unfolding if_in_force
 live-one t later xs None h = h
 live-one t later xs (Some row) h =

@@ -287,8 +287,8 @@ module _ (config : Config) (opening : ℕ) where
   pub in_force_from : (events : List Event) (row : RowKey × Arrival)
       → row_at row.0 (left_by events).rows ≡ Some row.1 → IsInForce config opening events row
   in_force_from =
-      by_events (λ events. (row : RowKey × Arrival) → row_at row.0 (left_by events).rows ≡ Some row.1
-      → IsInForce config opening events row)
+      by_events (λ events. (row : RowKey × Arrival) → row_at row.0 (left_by events).rows
+      ≡ Some row.1 → IsInForce config opening events row)
       (λ row h. absurd (none-some row.1 (sym (nothing_found row) ∙ h)))
       (λ events e was row h.
       let lives : is_live (left_by (events ++ e ∷ [])).moment row.1 ≡ true =

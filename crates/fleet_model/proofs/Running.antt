@@ -30,8 +30,8 @@ not_found place x (e ∷ es) less h =
 
 -- a sum after a row came, in place of an older one or not
 pub sum-insert : (f : RowKey × Arrival → ℕ) (rows : Rows) (place : RowKey) (row : Arrival)
-    → IsStrictlySortedBy row_key_cmp (keys_of rows) → sum_by f (insert_entry row_key_cmp rows place row)
-    + worth_at f rows place ≡ sum_by f rows + f (place, row)
+    → IsStrictlySortedBy row_key_cmp (keys_of rows) → sum_by f (insert_entry row_key_cmp rows place
+    row) + worth_at f rows place ≡ sum_by f rows + f (place, row)
 unfolding IsStrictlySortedBy
 sum-insert f [] place row h = let one = sum_by-cons f (place, row) [] in omega arith
 sum-insert f (e ∷ es) place row h =
@@ -61,7 +61,8 @@ sum-insert f (e ∷ es) place row h =
 
 -- a sum after the row of a place went, if there was one
 pub sum-remove : (f : RowKey × Arrival → ℕ) (rows : Rows) (place : RowKey)
-    → sum_by f (remove_entry (is_at (row_key_cmp place)) rows) + worth_at f rows place ≡ sum_by f rows
+    → sum_by f (remove_entry (is_at (row_key_cmp place)) rows) + worth_at f rows place
+    ≡ sum_by f rows
 sum-remove f [] place = refl
 sum-remove f (e ∷ es) place =
     let whole = sum_by-cons f e es in

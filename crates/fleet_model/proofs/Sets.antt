@@ -117,8 +117,8 @@ live_keys-exact rows table t key =
     ∙ any-map (same_key key) (λ row. row.0.key) (filter (lives_in table t) rows)
     ∙ rows_of_key table t key rows
 
-pub live_keys-sorted : (rows : List (RowKey × Arrival)) (table t : ℕ) → T (is_sorted row_key_cmp rows)
-    → IsStrictlySortedBy key_cmp (live_keys rows table t)
+pub live_keys-sorted : (rows : List (RowKey × Arrival)) (table t : ℕ)
+    → T (is_sorted row_key_cmp rows) → IsStrictlySortedBy key_cmp (live_keys rows table t)
 unfolding live_keys
 live_keys-sorted rows table t h = sorted-dedup key_cmp nat_list_cmp_total exact_bytes same_key
     (λ x y. refl) (map (λ row. row.0.key) (filter (lives_in table t) rows))
@@ -142,7 +142,8 @@ sets state filtering t h =
     state.rows filtering.table key t filtering.conds in
     record {
       in_order = IsStrictlySortedBy-filter key_cmp holds (live_keys state.rows filtering.table t)
-          (live_keys-sorted state.rows filtering.table t (sorted_from row_key_cmp state.rows h.rows));
+          (live_keys-sorted state.rows filtering.table t (sorted_from row_key_cmp state.rows
+          h.rows));
       exact = λ key. among-filter key_cmp nat_list_cmp_total exact_bytes key holds
           (live_keys state.rows filtering.table t)
           ∙ ap (λ b. b && holds key) (live_keys-exact state.rows filtering.table t key);

@@ -84,7 +84,8 @@ none_above place x (e ∷ es) less h =
 -- no row more where the place has one
 count-replace : (q : RowKey → Bool) (rows : Rows) (place : RowKey) (arrival : Arrival)
     → T (is_sorted row_key_cmp rows) → list_any (λ r. is_eq (row_key_cmp place r.0)) rows ≡ true
-    → count_by (λ r. q r.0) (insert_entry row_key_cmp rows place arrival) ≡ count_by (λ r. q r.0) rows
+    → count_by (λ r. q r.0) (insert_entry row_key_cmp rows place arrival) ≡ count_by (λ r. q r.0)
+    rows
 count-replace q [] place arrival h there = absurd (subst T (sym there) tt)
 count-replace q (e ∷ es) place arrival h there =
     let whole = count-cons (λ (r : RowKey × Arrival). q r.0) e es in
@@ -161,8 +162,8 @@ row_within t size_at rows place arrival h room table peer within =
           (λ (r : RowKey × Arrival). (r.0.table == table) && (r.0.peer == peer)) rows =
           subst (λ (rs : Rows). count_by (λ (r : RowKey × Arrival). (r.0.table == table)
           && (r.0.peer == peer)) rs ≤ count_by (λ (r : RowKey × Arrival). (r.0.table == table)
-          && (r.0.peer == peer)) rows) (sym (remove_is row_key_cmp row_key_cmp_total row_key_cmp_exact
-          place rows h))
+          && (r.0.peer == peer)) rows) (sym (remove_is row_key_cmp row_key_cmp_total
+          row_key_cmp_exact place rows h))
           (count-filter (λ (r : RowKey × Arrival). (r.0.table == table) && (r.0.peer == peer))
           (λ r. not (is_eq (row_key_cmp place r.0))) rows) in
           omega arith

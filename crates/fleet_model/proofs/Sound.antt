@@ -79,7 +79,8 @@ shape_fits (Some shape) key cells h =
 
 put_fits : (config : Config) (t peer table : ℕ) (key : List ℕ) (life : Option ℕ) (cells : List Cell)
     → fits config (Put peer table key life cells) ≡ true
-    → fits config (Put peer table key life (normalized_cells (cols_of config.tables table) cells)) ≡ true
+    → fits config (Put peer table key life (normalized_cells (cols_of config.tables table) cells))
+    ≡ true
 put_fits config t peer table key life cells h =
     let parts = and_parts (nat_lt peer (length config.peers) && life_fits life)
     (at_table config.tables table (λ shape. key_fits shape.kind key
@@ -122,14 +123,16 @@ sound-put config t true rows place row own h =
     → AreSound config t (cond b (insert_entry row_key_cmp rows place row)
     (remove_entry (is_at (row_key_cmp place)) rows))) [
       | true ↦ λ live. record {
-        ordered = ordered-insert row_key_cmp row_key_cmp_total row_key_cmp_exact rows place row h.ordered;
+        ordered = ordered-insert row_key_cmp row_key_cmp_total row_key_cmp_exact rows place row
+            h.ordered;
         live = every-insert (λ row. is_live t row.1 ≡ true) row_key_cmp row_key_cmp_exact rows place
             row h.live live;
         each = every-insert (IsSoundRow config t) row_key_cmp row_key_cmp_exact rows place
             row h.each own;
       }
       | false ↦ λ over. record {
-        ordered = ordered-remove row_key_cmp row_key_cmp_total row_key_cmp_exact rows place h.ordered;
+        ordered = ordered-remove row_key_cmp row_key_cmp_total row_key_cmp_exact rows place
+            h.ordered;
         live = every-remove (λ row. is_live t row.1 ≡ true) (is_at (row_key_cmp place)) rows h.live;
         each = every-remove (IsSoundRow config t) (is_at (row_key_cmp place)) rows h.each;
       }
@@ -232,7 +235,8 @@ sound_after s e h =
           (and_parts (fits s.config e.what)
           (is_next e.what e.seat e.seq (nat_lt (length s.seats) MOST_SEATS) s.next_seat
           (number_of s e.seat)) counts).0 h
-          (happened_within s e e.what (sorted_from row_key_cmp s.rows h.ordered.rows) h.within_sizes)
+          (happened_within s e e.what (sorted_from row_key_cmp s.rows h.ordered.rows)
+          h.within_sizes)
       | false ↦ λ not. h
     ] refl
 

@@ -240,8 +240,8 @@ judged_row config opening h e b does =
     (rows_before opening h (counted_of h)) (now_of opening (counted_of h)) e e.what)) does
 
 judged_clears : (config : Config) (opening : ℕ) (h : List Judged) (e : Event) (b : Bool)
-    → counts config (counted_of h) e ≡ b → (place : RowKey) → (judge config opening h e).clears place
-    ≡ (b && clears_at config (rows_before opening h (counted_of h))
+    → counts config (counted_of h) e ≡ b → (place : RowKey) → (judge config opening h e).clears
+    place ≡ (b && clears_at config (rows_before opening h (counted_of h))
     (now_of opening (counted_of h)) e.what place)
 unfolding judge judge_at rows_in
 judged_clears config opening h e b does place =
@@ -362,7 +362,8 @@ one_more config opening events e =
     ∙ history-push config opening (judged config opening events) e (sit_first config opening events)
 
 pub state_more : (state : State) (config : Config) (opening : ℕ) (events : List Event) (e : Event)
-    → IsStateOf state config opening events → IsStateOf (after state e) config opening (events ++ e ∷ [])
+    → IsStateOf state config opening events → IsStateOf (after state e) config opening
+    (events ++ e ∷ [])
 unfolding IsStateOf
 state_more state config opening events e stands = ap (λ s. after s e) stands
     ∙ sym (one_more config opening events e)

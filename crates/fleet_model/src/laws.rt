@@ -293,7 +293,8 @@ pub fn sums_follow_rows()
 /// 0 gives it back.
 pub fn normalized_cells_say_the_same()
     ensures worth { (cols : List (Col × ℕ)) (cells : List Cell) (col : Col) (since : ℕ)
-        → column_worth col since cols (normalized_cells cols cells) ≡ column_worth col since cols cells }
+        → column_worth col since cols (normalized_cells cols cells)
+        ≡ column_worth col since cols cells }
     ensures once { (cols : List (Col × ℕ)) (cells : List Cell)
         → normalized_cells cols (normalized_cells cols cells) ≡ normalized_cells cols cells }
     ensures from_zero { (period elapsed cur prev t : ℕ)

@@ -6,8 +6,7 @@
 //! list gives; what holds of every state of a checked configuration; that rows, sums, sets and
 //! ranked lists are what their words say; and what an event does to the rows of one key, for a book
 //! that keeps less than the list. No clause says that these are the right rules: docs/MODEL.md says
-//! them in words, and
-//! `worked` shows them on small runs.
+//! them in words, and `worked` shows them on small runs.
 #![tactic(auto)]
 
 mod arrival;

@@ -11,7 +11,8 @@ ghost use Rattle.agg_types.specs.declared.event.What.TheVariants.{Moment, Leave}
 ghost use Rattle.fleet_model.specs.Answers.{filter_of, set_at};
 ghost use Rattle.fleet_model.specs.Machine.{session_of};
 ghost use Rattle.fleet_model.specs.Ranking.{ranked, ranking};
-ghost use Rattle.fleet_model.specs.Worked.{fleet_of, ip, filter_on, row, left_by, view_of_table, sums_to};
+ghost use Rattle.fleet_model.specs.Worked.{fleet_of, ip, filter_on, row, left_by, view_of_table};
+ghost use Rattle.fleet_model.specs.Worked.{sums_to};
 ghost use Rattle.fleet_model.specs.Worked.{joined, full_table, reconnected, lives_over};
 ghost use Rattle.fleet_model.specs.Worked.{cleared_on_sums, summed_rates, one_rate, slow_rate};
 ghost use Rattle.fleet_model.specs.Worked.{added_late, equal_keys, falling_keys, first_two};
@@ -21,7 +22,8 @@ ghost use Rattle.fleet_model.specs.Worked.{added_late, equal_keys, falling_keys,
 pub fn size_limit()
     ensures full { view_of_table (left_by (fleet_of 2 Gpc0 0 []) full_table)
         ≡ (ip 1, sums_to Gpc0 1 (Some 100) 1) ∷ (ip 2, sums_to Gpc0 1 (Some 60000) 2) ∷ [] }
-    ensures ended { view_of_table (left_by (fleet_of 2 Gpc0 0 []) (full_table ++ (0, Moment 100) ∷ []))
+    ensures ended { view_of_table
+        (left_by (fleet_of 2 Gpc0 0 []) (full_table ++ (0, Moment 100) ∷ []))
         ≡ (ip 2, sums_to Gpc0 1 (Some 59900) 2) ∷ [] }
     ensures taken { view_of_table
         (left_by (fleet_of 2 Gpc0 0 [])
@@ -48,9 +50,11 @@ pub fn reconnect()
 /// A row is there until the moment at which its life is over; a row of life 0 takes the older one
 /// away.
 pub fn lives()
-    ensures last { view_of_table (left_by (fleet_of 100 Gpc0 0 []) (lives_over ++ (0, Moment 1499) ∷ []))
+    ensures last { view_of_table
+        (left_by (fleet_of 100 Gpc0 0 []) (lives_over ++ (0, Moment 1499) ∷ []))
         ≡ (ip 1, sums_to Gpc0 1 (Some 1) 5) ∷ [] }
-    ensures over { view_of_table (left_by (fleet_of 100 Gpc0 0 []) (lives_over ++ (0, Moment 1500) ∷ []))
+    ensures over { view_of_table
+        (left_by (fleet_of 100 Gpc0 0 []) (lives_over ++ (0, Moment 1500) ∷ []))
         ≡ [] }
     ensures away { view_of_table
         (left_by (fleet_of 100 Gpc0 0 []) (lives_over ++ (1, row 0 1 (Some 0) (Count 6)) ∷ []))

@@ -12,8 +12,7 @@ pub enum PostFault {
     NotNext { found: u64, shown: Receipt },
     /// Nothing was stored, and the batch comes back.
     NoMemory(Vec<What>),
-    /// The batch stands in the history, and is shown before any later event.
-    /// The pass has advanced.
+    /// The batch stands in the history, and is shown before any later event. The pass has advanced.
     Pending,
     /// The seat's numbers don't go as far. Nothing was stored.
     Spent,

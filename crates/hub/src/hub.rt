@@ -148,8 +148,8 @@ impl<J: Naming, R: Wait + Drop> Hub<J, R> {
         }
     }
 
-    /// Takes a seat. Seats are numbered from 0, each number is given once, and at most
-    /// `MOST_SEATS` sit at a time.
+    /// Takes a seat. Seats are numbered from 0, each number is given once, and at most `MOST_SEATS`
+    /// sit at a time.
     pub fn seat<W: Wait>(&self, rt: &W) -> Result<Pass, SeatFault>
         ensures { IfOk result (λ p. SitsDown p × Follows self.now p.seen) }
     {

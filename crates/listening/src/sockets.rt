@@ -121,7 +121,7 @@ pub struct Sockets<R> {
 }
 
 /// Whether an accept may do better later: the caller is gone, the call was interrupted, or
-/// descriptors, buffers or memory are wanting.
+/// descriptors, buffers or memory are lacking.
 fn passes(fault: &io::Error) -> bool {
     match fault.kind() {
         ErrorKind::ConnectionAborted

@@ -137,7 +137,8 @@ module _ (ts : List TableRows) (i : ℕ) (table : TableRows) (found : slice_get 
       → placed (set ts i new) ≡ insert_entry row_key_cmp (placed ts) (place_of i key peer) row
   placed-put key peer row new is =
       ap (λ es. spread place es) (numbered-set ts i i 0 new (omega arith))
-      ∙ rw is (insert_entry-spread place nat_cmp spot_cmp row_key_cmp (λ k j p q. refl) nat_cmp_total
+      ∙ rw is (insert_entry-spread place nat_cmp spot_cmp row_key_cmp (λ k j p q. refl)
+      nat_cmp_total
       exact_unsigned (numbered 0 ts) i (key, peer) row table.entries (sorted-numbered ts 0) here)
 
   pub placed-take : (key : List ℕ) (peer : ℕ) (new : TableRows)

@@ -119,7 +119,8 @@ first_said_by : (bytes : List ℕ) (class kind : ℕ) (payload rest text : List 
     → bytes ≡ text ++ rest → Frames text class kind payload → (o : Option Message)
     → message_of class kind payload ≡ o → FirstSaid bytes (whole_or_bad o rest)
 first_said_by bytes class kind payload rest text fits e frames None is =
-    let payload_fits = payload_bytes text rest payload class kind frames (subst AreBytes e fits) in (
+    let payload_fits = payload_bytes text rest payload class kind frames
+    (subst AreBytes e fits) in (
       text,
       rest,
       class,
@@ -131,7 +132,8 @@ first_said_by bytes class kind payload rest text fits e frames None is =
           ∙ says_message class kind payload message payload_fits said),
     )
 first_said_by bytes class kind payload rest text fits e frames (Some message) is =
-    let payload_fits = payload_bytes text rest payload class kind frames (subst AreBytes e fits) in (
+    let payload_fits = payload_bytes text rest payload class kind frames
+    (subst AreBytes e fits) in (
       text,
       e,
       (

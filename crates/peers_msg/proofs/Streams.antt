@@ -37,8 +37,8 @@ whole_stream : (old : DecoderState) (taken piece : List ℕ) → old ≡ feed_of
 whole_stream old taken piece is = reading_more taken piece
     ∙ ap (λ (kept : DecoderState). with_front (reading_of taken).messages (fed kept piece)) (sym is)
 
-pub goes_on_stream : (result : Result (List Message) WireFault) (old : DecoderState) (piece : List ℕ)
-    → Answers result (fed old piece) → (taken : List ℕ) → old ≡ feed_of taken
+pub goes_on_stream : (result : Result (List Message) WireFault) (old : DecoderState)
+    (piece : List ℕ) → Answers result (fed old piece) → (taken : List ℕ) → old ≡ feed_of taken
     → GoesOn result (reading_of taken) (reading_of (taken ++ piece))
 goes_on_stream result old piece h taken is =
     rw (whole_stream old taken piece is)
@@ -56,7 +56,8 @@ kept_same : (result : Result (List Message) WireFault) (old : DecoderState) (fro
 kept_same (Ok messages) old front next = refl
 kept_same (Err fault) old front next = kept_fault_same fault.cause old front next
 
-pub stands_for_stream : (result : Result (List Message) WireFault) (old new : DecoderState) (piece : List ℕ)
+pub stands_for_stream : (result : Result (List Message) WireFault) (old new : DecoderState)
+    (piece : List ℕ)
     → new ≡ kept_after result old (fed old piece) → (taken : List ℕ) → old ≡ feed_of taken
     → new ≡ kept_after result (feed_of taken) (reading_of (taken ++ piece))
 stands_for_stream result old new piece h taken is =
@@ -65,8 +66,8 @@ stands_for_stream result old new piece h taken is =
     ∙ ap (λ (kept : DecoderState). kept_after result kept (reading_of (taken ++ piece))) is
 
 -- bytes that are less than a message and hold no fault
-pub short_read : (old : DecoderState) (piece frozen growing : List ℕ) → old.fault ≡ None → frozen ≡ []
-    → growing ≡ old.rest ++ piece → frame_at growing ≡ Short
+pub short_read : (old : DecoderState) (piece frozen growing : List ℕ) → old.fault ≡ None → frozen
+    ≡ [] → growing ≡ old.rest ++ piece → frame_at growing ≡ Short
     → fed old piece ≡ record { messages = []; fault = None; rest = frozen ++ growing }
 short_read old piece frozen growing none empty is short =
     rw (none, empty, ← is) (reading_short growing short)
@@ -88,8 +89,8 @@ faulty_stays rest piece BadInteger h = (λ e. absurd cc, rw h refl)
 faulty_stays rest piece BadField h = (λ e. absurd cc, rw h refl)
 faulty_stays rest piece NoMemory h = absurd h
 
-kept_stays : (rest piece : List ℕ) (fault : Option WireCause) (new : DecoderState) (cause : WireCause)
-    → IsKept rest fault → fault ≡ Some cause → new
+kept_stays : (rest piece : List ℕ) (fault : Option WireCause) (new : DecoderState)
+    (cause : WireCause) → IsKept rest fault → fault ≡ Some cause → new
     ≡ kept_after_fault cause (record { rest = rest; fault = fault })
     (fed (record { rest = rest; fault = fault }) piece) → (cause ≢ NoMemory)
     × (new ≡ record { rest = rest; fault = fault })
@@ -98,7 +99,8 @@ kept_stays rest piece fault new cause h is after =
     let stays = faulty_stays rest piece cause kept in
     (stays.0, rw is (rw is at after ∙ stays.1))
 
-pub feed_stays : (old new : DecoderState) (piece : List ℕ) (result : Result (List Message) WireFault)
+pub feed_stays : (old new : DecoderState) (piece : List ℕ)
+    (result : Result (List Message) WireFault)
     (cause : WireCause) → IsKept old.rest old.fault → old.fault ≡ Some cause → result
     ≡ Err (record { cause = cause; before = [] }) → new ≡ kept_after result old (fed old piece)
     → (cause ≢ NoMemory) × (new ≡ old) × (result ≡ Err (record { cause = cause; before = [] }))

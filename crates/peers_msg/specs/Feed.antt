@@ -62,8 +62,9 @@ GoesOn (Ok messages) old new = (new.fault ≡ None) × (new.messages ≡ old.mes
 GoesOn (Err fault) old new = FaultGoesOn fault.cause fault.before old new
 
 -- What a piece gives was read, with the feed as it was; or there is no message and no fault, and
--- the piece is taken. Want of memory leaves the feed as it was.
-abbrev pub HasRead : Result (Option Reading) Refused → DecoderState → DecoderState → Reading → Type 0
+-- the piece is taken. Out of memory, the feed stays as it was.
+abbrev pub HasRead : Result (Option Reading) Refused → DecoderState → DecoderState → Reading
+    → Type 0
 HasRead (Ok (Some given)) old new reading = (given ≡ reading) × (new ≡ old)
 HasRead (Ok None) old new reading =
     (reading ≡ record { messages = []; fault = None; rest = new.rest }) × (new ≡ decoder_of reading)

@@ -1,4 +1,4 @@
--- What readers return, against what is read. Want of memory may come in place of an answer.
+-- What readers return, against what is read. Out of memory may come in place of an answer.
 use Rattle.std.specs.Prelude.{◌≡◌, ℕ, List, Option, Some, None, Result, Ok, Err}
 use Rattle.peers_msg.specs.declared.fault.WireCause.{WireCause}
 use Rattle.peers_msg.specs.declared.fault.WireCause.TheVariants.{TooLong, BadInteger, BadField}

@@ -14,7 +14,8 @@ IsTextOf (Unread error) text =
     (reason : List ℕ) × (text ≡ codes "cannot read the configuration: " ++ reason ++ codes "\n")
 IsTextOf (Address address error) text =
     (reason : List ℕ) × (text
-    ≡ codes "cannot listen at " ++ (socket_v4_text address ++ (codes ": " ++ (reason ++ codes "\n"))))
+    ≡ codes "cannot listen at " ++ (socket_v4_text address
+    ++ (codes ": " ++ (reason ++ codes "\n"))))
 IsTextOf (Start error) text =
     (reason : List ℕ) × (text ≡ codes "cannot start: " ++ reason ++ codes "\n")
 IsTextOf NoMemory text = text ≡ codes "out of memory\n"

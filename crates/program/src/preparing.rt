@@ -20,8 +20,8 @@ use std::net::SocketAddrV4;
 /// The status of a faulty configuration.
 const BAD_CONFIGURATION: u8 = 3;
 
-/// Does what the words of a command line ask for, the first of them the program's name, up to
-/// where proxies would be listened to. Where an allocation or a write failed the status is 5.
+/// Does what the words of a command line ask for, the first of them the program's name, up to where
+/// proxies would be listened to. Where an allocation or a write failed the status is 5.
 pub fn prepare<S: AsStr, I: Read, O: Write, E: Write>(
     alloc: Global,
     words: &[S],

@@ -77,8 +77,8 @@ put_tells false at zeros kept none = by (at == zeros)
     by true = refl
     by false = refl
 
-pub put_indexed : (index : Index) (old new : KeyBounds) (key : List ℕ) (zeros : ℕ) → IsIndexOf index old
-    → zeros_at old key ≡ None → Becomes old new key (Some zeros)
+pub put_indexed : (index : Index) (old new : KeyBounds) (key : List ℕ) (zeros : ℕ) → IsIndexOf index
+    old → zeros_at old key ≡ None → Becomes old new key (Some zeros)
     → IsIndexOf (with_entry (slice_cmp nat_cmp) index (zeros, key)) new
 put_indexed index old new key zeros indexed none becomes e =
     has_with index e (zeros, key)
@@ -207,8 +207,8 @@ entries_kept index kept indexed =
     ≡ Some e.0) index
     (λ e there. number_is (zeros_at kept e.1) e.0 (sym (indexed e) ∙ there))
 
-pub bounds_hold : (index : Index) (kept : KeyBounds) (living value : List ℕ → ℕ) → IsIndexOf index kept
-    → AreAllBounded kept living value → AreBounds living value index
+pub bounds_hold : (index : Index) (kept : KeyBounds) (living value : List ℕ → ℕ) → IsIndexOf index
+    kept → AreAllBounded kept living value → AreBounds living value index
 bounds_hold index kept living value indexed bounded =
     each_among (entry_cmp (slice_cmp nat_cmp))
     (entries_total (slice_cmp nat_cmp) nat_list_cmp_total) exact_entry (λ e. 0 < living e.1

@@ -12,7 +12,8 @@ use agg_types::Key;
 
 /// Whether a candidate stands before every key from an entry of the index on.
 pub(crate) fn is_settled(best: (&Key, u128), ahead: Option<(u64, &Key)>) -> bool
-    ensures { result ≡ is_settled (view_of_candidate best.entry) (option_map lent_entry ahead.entry) }
+    ensures { result
+        ≡ is_settled (view_of_candidate best.entry) (option_map lent_entry ahead.entry) }
 {
     match ahead {
         None => true,
@@ -23,7 +24,8 @@ pub(crate) fn is_settled(best: (&Key, u128), ahead: Option<(u64, &Key)>) -> bool
 /// Before how many candidates a key's place is.
 pub(crate) fn place_of(candidates: &[(&Key, u128)], key: (&Key, u128)) -> usize
     ensures within { result ≤ length candidates.now }
-    ensures place { put_in_order rank_cmp (view_of_candidate key.entry) (map view_of_candidate candidates.now)
+    ensures place { put_in_order rank_cmp (view_of_candidate key.entry)
+        (map view_of_candidate candidates.now)
         ≡ map view_of_candidate (take result candidates.now) ++ view_of_candidate key.entry
         ∷ map view_of_candidate (drop result candidates.now) }
 {
@@ -36,7 +38,8 @@ pub(crate) fn place_of(candidates: &[(&Key, u128)], key: (&Key, u128)) -> usize
 }
 
 fn comes_before(key: (&Key, u128), other: (&Key, u128)) -> bool
-    ensures { result ≡ is_lt (rank_cmp (view_of_candidate key.entry) (view_of_candidate other.entry)) }
+    ensures { result
+        ≡ is_lt (rank_cmp (view_of_candidate key.entry) (view_of_candidate other.entry)) }
 {
     key.1 > other.1 || (key.1 == other.1 && *key.0 < *other.0)
 }

@@ -18,7 +18,8 @@ pub(crate) fn offer<'a>(candidates: &mut Vec<(&'a Key, u128)>, room: usize, key:
     requires kept { vec_len candidates.old ≤ room }
     requires space { room < vec_capacity candidates.old }
     ensures offered { map view_of_candidate candidates.new.items
-        ≡ take room (put_in_order rank_cmp (view_of_candidate key.entry) (map view_of_candidate candidates.old.items)) }
+        ≡ take room (put_in_order rank_cmp (view_of_candidate key.entry)
+        (map view_of_candidate candidates.old.items)) }
     ensures kept { vec_len candidates.new ≤ room }
     ensures space { room < vec_capacity candidates.new }
 {
@@ -31,7 +32,8 @@ pub(crate) fn offer<'a>(candidates: &mut Vec<(&'a Key, u128)>, room: usize, key:
 
 // Whether a walk may stop.
 fn is_done(candidates: &[(&Key, u128)], next: Option<(u64, &Key)>) -> bool
-    ensures { result ≡ is_done (map view_of_candidate candidates.now) (option_map lent_entry next.entry) }
+    ensures { result
+        ≡ is_done (map view_of_candidate candidates.now) (option_map lent_entry next.entry) }
 {
     match candidates {
         [] => next.is_none(),
@@ -53,7 +55,8 @@ fn take_next<'a, V: Values>(
     requires space { room < vec_capacity candidates.old }
     requires bounds { AreBounds (λ key. V.living values.now table key now)
         (λ key. V.summed values.now table key col now) ahead.old }
-    requires undone { is_done (map view_of_candidate candidates.old.items) (first_item ahead.old) ≡ false }
+    requires undone { is_done (map view_of_candidate candidates.old.items) (first_item ahead.old)
+        ≡ false }
     ensures kept { vec_len candidates.new ≤ room }
     ensures space { room < vec_capacity candidates.new }
     ensures walked { WalksOn (map view_of_candidate candidates.old.items) ahead.old 1
@@ -94,7 +97,8 @@ pub(crate) fn take_certain<'a, V: Values>(
         (λ key. V.summed values.now table key col now) ahead.new }
     ensures walked { WalksOn (map view_of_candidate candidates.old.items) ahead.old result
         (map view_of_candidate candidates.new.items) ahead.new }
-    ensures settled { is_done (map view_of_candidate candidates.new.items) (first_item ahead.new) ≡ true }
+    ensures settled { is_done (map view_of_candidate candidates.new.items) (first_item ahead.new)
+        ≡ true }
     ensures first { AreFromFirst ahead.new }
     ensures same { found (λ key. V.living values.now table key now)
         (λ key. V.summed values.now table key col now) room

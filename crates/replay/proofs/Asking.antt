@@ -139,7 +139,9 @@ pub bad_did : (r : Result (Option Ending) Refusal.NoMemory) (Gives : Given → T
     (fleet : Collected) (config : Config) (opening : ℕ) (past : List Step) (number : ℕ)
     (fault before after : List ℕ) → Gives (bad_line past number fault)
     → IsSettled fleet config opening past
-    → OnOk r (after ≡ before ++ (codes "script line " ++ decimal number ++ fault)) → IfOk r (λ ending. ending ≡ Some BadScript) → IfOk r (LineDid Gives fleet config opening before after)
+    → OnOk r (after ≡ before ++ (codes "script line " ++ decimal number ++ fault))
+    → IfOk r (λ ending. ending ≡ Some BadScript) → IfOk r (LineDid Gives fleet config opening before
+    after)
 bad_did (Ok ending) Gives fleet config opening past number fault before after gives
     settled text ended =
     record {

@@ -162,29 +162,39 @@ ran_to config opening lines number before old new all line left next middle afte
     (sym ends_so ∙ d.did.ended) (refl, refl))))
     wrote
 
--- a line for which memory was wanted
-lacks : (config : Config) (opening : ℕ) (all : List (List ℕ)) (line : List ℕ) (left : List (List ℕ)) (past : List Step) (next : ℕ) → all ≡ line ∷ left → Prints config opening all past next (codes "fault NoMemory\n") Failed
-lacks config opening all line left past next is = subst (λ (ls : List (List ℕ)). Prints config opening ls past next (codes "fault NoMemory\n") Failed) (sym is) (inl (refl, refl))
+-- a line for which an allocation failed
+lacks : (config : Config) (opening : ℕ) (all : List (List ℕ)) (line : List ℕ) (left : List (List ℕ))
+    (past : List Step) (next : ℕ) → all ≡ line ∷ left → Prints config opening all past next
+    (codes "fault NoMemory\n") Failed
+lacks config opening all line left past next is =
+    subst (λ (ls : List (List ℕ)). Prints config opening ls past next (codes "fault NoMemory\n")
+    Failed) (sym is) (inl (refl, refl))
 
 pub ran_out : (config : Config) (opening : ℕ) (lines : List (List ℕ)) (number : ℕ)
     (before : Option (List ℕ)) (fleet : Collected) (all : List (List ℕ)) (line : List ℕ)
     (left : List (List ℕ)) (next : ℕ) (middle after : Option (List ℕ))
     → SoFar config opening lines number before fleet all next middle → all ≡ line ∷ left
-    → Appends middle after (codes "fault NoMemory\n") → Wrote (RunPrints config opening lines number) before after Failed
+    → Appends middle after (codes "fault NoMemory\n")
+    → Wrote (RunPrints config opening lines number) before after Failed
 ran_out config opening lines number before fleet all line left next middle after h is wrote =
-    ends config opening lines number before fleet all next middle after (codes "fault NoMemory\n") Failed h (λ past settled. lacks config opening all line left past next is) wrote
+    ends config opening lines number before fleet all next middle after (codes "fault NoMemory\n")
+    Failed h (λ past settled. lacks config opening all line left past next is) wrote
 
 -- a write of that failed
 pub broke_out : (config : Config) (opening : ℕ) (lines : List (List ℕ)) (number : ℕ)
     (before : Option (List ℕ)) (fleet : Collected) (all : List (List ℕ)) (line : List ℕ)
     (left : List (List ℕ)) (next : ℕ) (middle after : Option (List ℕ))
     → SoFar config opening lines number before fleet all next middle → all ≡ line ∷ left
-    → AppendsFront middle after (codes "fault NoMemory\n") → WroteFront (RunPrints config opening lines number) before after
+    → AppendsFront middle after (codes "fault NoMemory\n") → WroteFront
+    (RunPrints config opening lines number) before after
 broke_out config opening lines number before fleet all line left next middle after h is wrote =
-    breaks config opening lines number before fleet all next middle after (codes "fault NoMemory\n") [] Failed h
-    (subst (λ (t : List ℕ). Prints config opening all h.past next t Failed) (sym (append-nil (codes "fault NoMemory\n"))) (lacks config opening all line left h.past next is)) wrote
+    breaks config opening lines number before fleet all next middle after (codes "fault NoMemory\n")
+    [] Failed h
+    (subst (λ (t : List ℕ). Prints config opening all h.past next t Failed)
+    (sym (append-nil (codes "fault NoMemory\n"))) (lacks config opening all line left h.past next
+    is)) wrote
 
--- what may follow a line: nothing where it ends the replay, and else the want of memory at the next
+-- what may follow a line: nothing where it ends the replay, and else NoMemory at the next
 record Follows (config : Config) (opening : ℕ) (left : List (List ℕ)) (past : List Step) (next : ℕ)
     (last : Option Ending) : Type 0 where
   pub more : List ℕ
@@ -199,7 +209,8 @@ follows config opening [] past next None = record {
   behind =
       (refl, refl);
 }
-follows config opening (line ∷ left) past next None = record { more = codes "fault NoMemory\n"; ending = Failed; behind = inl (refl, refl) }
+follows config opening (line ∷ left) past next None =
+    record { more = codes "fault NoMemory\n"; ending = Failed; behind = inl (refl, refl) }
 follows config opening left past next (Some ending) = record {
   more = [];
   ending = ending;

@@ -42,10 +42,14 @@ given_done config opening past step could unspent =
     numbers true b is none = none
     numbers false b is none = cc
 
-given_closed : (config : Config) (opening : ℕ) (past : List Step) (step : Step) → can_be config opening past step ≡ false → step_given config opening past step ≡ record { past = past; text = codes "fault NoConn\n"; ending = None }
+given_closed : (config : Config) (opening : ℕ) (past : List Step) (step : Step)
+    → can_be config opening past step ≡ false → step_given config opening past step
+    ≡ record { past = past; text = codes "fault NoConn\n"; ending = None }
 given_closed config opening past step closed = rw closed refl
 
-given_spent : (config : Config) (opening : ℕ) (past : List Step) (step : Step) → spends_at config opening past step ≡ true → step_given config opening past step ≡ record { past = past; text = codes "fault Spent\n"; ending = Some Failed }
+given_spent : (config : Config) (opening : ℕ) (past : List Step) (step : Step)
+    → spends_at config opening past step ≡ true → step_given config opening past step
+    ≡ record { past = past; text = codes "fault Spent\n"; ending = Some Failed }
 given_spent config opening past step spends = let both =
     and_parts (can_be config opening past step) (is_spent config opening past step) spends in
     rw (both.0, both.1) refl

@@ -68,7 +68,7 @@ pub record Did (given : Given) (fleet : Collected) (config : Config) (opening : 
   pub text : after ≡ before ++ given.text
   pub ended : ending ≡ given.ending
 
--- what is printed of what a fleet answers, but for want of memory
+-- what is printed of what a fleet answers, other than NoMemory
 abbrev pub answer_text : Step → Result Replies FleetFault → List ℕ
 answer_text step (Ok replies) = done_text step replies None
 answer_text step (Err fault.NoConn) = codes "fault NoConn\n"
@@ -77,7 +77,7 @@ answer_text step (Err fault.NoMemory) = []
 answer_text step (Err (fault.Session cause out)) =
     sent_text (conn_of step) out ++ end_text (conn_of step) cause
 
--- how a replay ends by what a fleet answers, but for want of memory
+-- how a replay ends by what a fleet answers, other than NoMemory
 abbrev pub answer_ending : Result Replies FleetFault → Option Ending
 answer_ending (Ok replies) = None
 answer_ending (Err fault.NoConn) = None

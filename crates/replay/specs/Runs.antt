@@ -69,7 +69,7 @@ AskGives config opening past (Ok command) given =
     CommandGives config opening past command given
 AskGives config opening past (Err fault) given = given ≡ printing past (refusal_text fault)
 
--- the same, where a growth of memory may be refused as the command is read
+-- the same, where an allocation may fail as the command is read
 abbrev pub AskOrRefusal : Config → ℕ → List Step → Read Command → Given → Type 0
 AskOrRefusal config opening past read given =
     AskGives config opening past read given
@@ -105,7 +105,7 @@ Then None More text ending = More text ending
 Then (Some last) More text ending = (text ≡ []) × (ending ≡ last)
 
 -- what lines print, the first of which has this number, and how the replay ends: each line's text,
--- one behind the other, up to one that ends the replay or for which memory is wanted
+-- one behind the other, up to one that ends the replay or for which an allocation fails
 abbrev pub Prints : Config → ℕ → List (List ℕ) → List Step → ℕ → List ℕ → Ending → Type 0
 Prints config opening [] past number text ending = (text ≡ []) × (ending ≡ Done)
 Prints config opening (line ∷ lines) past number text ending =

@@ -38,7 +38,7 @@ abbrev pub opening_of : List (List ℕ) → Option ℕ
 opening_of [] = None
 opening_of (first ∷ words) = opening_with (only words)
 
--- what is printed, or nothing where memory was wanted before the fleet was open
+-- what is printed, or nothing where an allocation failed before the fleet was open
 abbrev pub OrNothing : (List ℕ → Ending → Type 0) → List ℕ → Ending → Type 0
 OrNothing Says text ending = Says text ending ⊎ ((text ≡ []) × (ending ≡ Failed))
 

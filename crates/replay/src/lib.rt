@@ -3,9 +3,10 @@
 //! `aggregator replay` and the programs of its rows call it. `replay` writes what specs/Script says
 //! that a script prints: its first line `start` is looked for, its configuration is read, and then
 //! each line is done. The lines' texts stand one behind the other, each that of the fleet's answers
-//! after the steps before it (specs/Runs), up to a line that ends the replay or wants memory. Where
-//! a write fails, a beginning of that was written. `replay_from` does the same with what a reader
-//! has. No clause says that a growth is refused only for want of memory.
+//! after the steps before it (specs/Runs), up to a line that ends the replay or for which an
+//! allocation fails. Where a write fails, a beginning of that was written. `replay_from` does the
+//! same with what a reader has. No clause says that an allocation fails only where there is no
+//! memory.
 #![tactic(auto)]
 
 mod commands;

@@ -26,8 +26,8 @@ use std::io;
 use std::io::Write;
 
 /// Opens a fleet and does what the lines of a text say, the first of which has this number: writes
-/// what each prints, and tells how the replay ends. Where the opening lacks memory, nothing is
-/// written.
+/// what each prints, and tells how the replay ends. Where an allocation of the opening fails,
+/// nothing is written.
 pub fn run<W: Write>(
     alloc: Global,
     config: Config,

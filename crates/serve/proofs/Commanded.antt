@@ -370,7 +370,7 @@ stops_unkept hub seat old new rest given0 given wrote0 wrote fault desk none w =
     (subst (λ (n : ℕ). HasTold hub new.desk (changes_in w.replies) n) (sym none) told)
     (wrote_none wrote)
 
--- bytes couldn't be kept, for want of memory
+-- bytes couldn't be kept: an allocation failed
 pub stops_keeping : (hub : Beginning) (seat : ℕ) (old new : Worker) (rest line : List ℕ)
     (given0 given wrote0 wrote : Option (List ℕ)) (cause : Cause)
     → new.desk ≡ old.desk → KeepsTo new line (Err cause)

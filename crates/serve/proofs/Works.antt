@@ -194,7 +194,7 @@ works_same hub seated worker given0 given after wrote0 wrote none w = record {
   took = w.took;
 }
 
--- for want of memory nothing of a piece is taken
+-- out of memory, nothing of a piece is taken
 pub stops_for_memory : (hub : Beginning) (seated : Bool) (old new : Worker)
     (given0 given after wrote0 wrote : Option (List ℕ)) (piece : List ℕ)
     → Appends given after piece → new.desk ≡ old.desk
@@ -222,8 +222,8 @@ pub settled : (hub : Beginning) (seated : Bool) (old new : Worker)
     (end : Option SessionCause)
     (result : Result (Unit {0}) Cause) → Appends given after piece
     → (w : Works hub seated old given0 given wrote0 wrote1)
-    → ContinuesTalk (setup_of hub.config) seated (taken_in w.turns) piece batch end new.session.stage
-    → new.session.seated ≡ seated
+    → ContinuesTalk (setup_of hub.config) seated (taken_in w.turns) piece batch end
+    new.session.stage → new.session.seated ≡ seated
     → SettlesTo hub new.desk (facts_in (setup_of hub.config) seated w.turns) batch
     wrote1 wrote2 result
     → WorksOn hub seated new given0 after wrote0 wrote2 result
@@ -510,14 +510,14 @@ works_still hub seated old new given0 given wrote0 wrote same stage desk w =
       took = w.took;
     }
 
--- a session whose last batch was settled, for a cause other than want of memory
+-- a session whose last batch was settled, for a cause other than out of memory
 ends_then : (hub : Beginning) (seated : Bool) (old new : Worker)
     (given0 given after wrote0 wrote1 wrote2 : Option (List ℕ)) (piece : List ℕ)
     (fault : SessionFault)
     (result : Result (Unit {0}) Cause) → TookIt fault.cause → Appends given after piece
     → (w : Works hub seated old given0 given wrote0 wrote1)
-    → ContinuesTalk (setup_of hub.config) seated (taken_in w.turns) piece fault.batch (Some fault.cause)
-    new.session.stage → new.session.seated ≡ seated
+    → ContinuesTalk (setup_of hub.config) seated (taken_in w.turns) piece fault.batch
+    (Some fault.cause) new.session.stage → new.session.seated ≡ seated
     → SettlesThen hub new.desk (facts_in (setup_of hub.config) seated w.turns) fault
     wrote1 wrote2 result
     → WorksOn hub seated new given0 after wrote0 wrote2 result

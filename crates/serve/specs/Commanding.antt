@@ -43,7 +43,7 @@ pub record HasPaused (hub : Beginning) (worker : Worker) (whats : List What) (fa
   pub told : HasTold hub worker.desk whats 0
   pub none : stored_of fault 1 ≡ 0
 
--- a line is answered; else no copy could be entered, or memory was wanting
+-- a line is answered; else no copy could be entered, or an allocation failed
 abbrev pub LooksTo : Beginning → ℕ → Worker → List What → List ℕ → Result Answered Cause → Type 0
 LooksTo hub seat worker whats line (Ok answered) =
     HasLearned hub seat worker whats
@@ -87,7 +87,7 @@ ObeysTo hub seat worker whats line before after (Err (Post fault)) =
 ObeysTo hub seat worker whats line before after (Err Look) =
     HasTold hub worker.desk whats 0 × Appends before after []
 
--- bytes were kept, or memory was wanting
+-- bytes were kept, or an allocation failed
 abbrev pub KeepsTo : Worker → List ℕ → Result (Unit {0}) Cause → Type 0
 KeepsTo worker line (Ok done) = worker.line.bytes.items ≡ kept_of line
 KeepsTo worker line (Err Read) = ⊥

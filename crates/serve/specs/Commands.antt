@@ -43,8 +43,8 @@ pub record IsObeyed (book : State) (line : List ℕ) (change : Option What) (tex
   pub asks : change ≡ asked_event command
   pub answers : AnswersWith book command text
 
--- a line is refused and asks for no change: the text tells its first fault, or that it couldn't be
--- read for want of memory, and an empty line
+-- a line is refused and asks for no change: the text tells its first fault, or that an allocation
+-- failed as it was read, and an empty line
 pub record IsRefusedLine (book : State) (line : List ℕ) (change : Option What) (text : List ℕ)
     : Type 0 where
   pub fault : CommandFault

@@ -83,7 +83,7 @@ pub record IsRefused (setup : Setup) (seated : Bool) (Told : List What → ℕ �
       (stored (length (talk setup seated bytes).facts - length (facts_in setup seated turns)))
   pub answered : written ≡ answers_in setup seated turns
 
--- how a session ends by its stream, by silence or for want of memory
+-- how a session ends by its stream, by silence or out of memory
 abbrev pub EndsBySession : Setup → Bool → (List What → ℕ → Type 0) → List ℕ → List ℕ → SessionCause
     → Type 0
 EndsBySession setup seated Told bytes written (causes.Refused status) =

@@ -95,7 +95,7 @@ SettlesThen hub desk whats fault before after (Err (Post post)) =
     SettlesTo hub desk whats fault.batch before after (Err (Post post))
 SettlesThen hub desk whats fault before after (Err Look) = ⊥
 
--- for want of memory nothing is told nor written
+-- out of memory, nothing is posted nor written
 pub record EndsForMemory (old new : Option Desk) (before after : Option (List ℕ))
     (result : Result (Unit {0}) Cause) : Type 0 where
   pub is : result ≡ Err (Session causes.NoMemory)

@@ -40,7 +40,7 @@ struct Answered {
     text: Vec<u8>,
 }
 
-/// A growth of one's own that was refused.
+/// An allocation of one's own that failed.
 fn refused(alloc: Global) -> PostFault
     ensures { stored_of result 1 ≡ 0 }
 {

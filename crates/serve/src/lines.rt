@@ -12,8 +12,8 @@ use std::alloc::Global;
 /// The most bytes of a command line, the CRs at its end left out.
 const LONGEST_LINE: usize = 4096;
 
-/// A line that hasn't ended, of which no more is kept than a command may have and one byte that shows
-/// that it is too long: CRs behind it aren't counted.
+/// A line that hasn't ended, of which no more is kept than a command may have and one byte that
+/// shows that it is too long: CRs behind it aren't counted.
 #[derive(Drop)]
 pub struct Line {
     bytes: Vec<u8>,

@@ -20,10 +20,11 @@ pub enum Cause {
     Read,
     /// A write failed.
     Write,
-    /// The session's stream ended it, it was silent for too long, or a growth of its own was
-    /// refused.
+    /// The session's stream ended it, it was silent for too long, or an allocation of its own
+    /// failed.
     Session(SessionCause),
-    /// A post was refused, or a growth of an admin's or a timer's own (no memory for no events).
+    /// A post was refused, or an allocation of an admin's or a timer's own failed (no memory for no
+    /// events).
     Post(PostFault),
     /// No copy of the book could be entered.
     Look,

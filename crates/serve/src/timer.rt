@@ -69,7 +69,8 @@ fn run<J: Naming, H: Wait + Drop, R: Wait, C: Clock, G: Gate>(
 /// Posts the clock's moments, one after each rest, with a pass that has posted nothing.
 ///
 /// A moment above the last isn't posted. It ends when the gate says so; with Read after 2^40 turns;
-/// with Post at its first post that isn't Ok, and for want of memory of its own (of no events).
+/// with Post at its first post that isn't Ok, and where an allocation of its own fails (of no
+/// events).
 pub fn run_timer<J: Naming, H: Wait + Drop, R: Wait, C: Clock, G: Gate>(
     rt: &R,
     alloc: Global,

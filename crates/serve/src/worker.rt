@@ -157,7 +157,8 @@ impl Worker {
         }
     }
 
-    // Ends with a fault: what its batch has is posted and written first, unless memory was wanting.
+    // Ends with a fault: what its batch has is posted and written first, unless an allocation
+    // failed.
     fn end<J: Naming, H: Wait + Drop, R: Wait, W: Write>(
         &mut self,
         rt: &R,

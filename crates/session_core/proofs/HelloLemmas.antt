@@ -63,7 +63,8 @@ long_longer a b le =
     let len : length a ≤ length (a ++ b) = omega (arith, length-append a b) in
     elim (lt_tells LONGEST_HELLO_LINE (length a)) [
       | inl p ↦
-          rw p.0 (elim (lt_tells (position_or_len (λ byte. byte == 10) (a ++ b)) (length (a ++ b))) [
+          rw p.0 (elim (lt_tells (position_or_len (λ byte. byte == 10) (a ++ b))
+          (length (a ++ b))) [
             | inl q ↦ rw (
               q.0,
               lt-ltb LONGEST_HELLO_LINE (position_or_len (λ byte. byte == 10) (a ++ b))

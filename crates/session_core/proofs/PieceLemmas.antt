@@ -25,8 +25,8 @@ feed_of_none = refl
 
 -- what is said behind the welcome
 pub opened_is : (tables : List Shape) (peer : ℕ) (rest : List ℕ) (facts : List What)
-    (replies : List ℕ) (feed : DecoderState) (track : Tracked) → facts ≡ Open peer ∷ [] → replies ≡ welcome
-    → feed ≡ feed_of [] → track ≡ untracked
+    (replies : List ℕ) (feed : DecoderState) (track : Tracked) → facts ≡ Open peer ∷ [] → replies
+    ≡ welcome → feed ≡ feed_of [] → track ≡ untracked
     → with_front facts replies (messages_outcome tables peer track (fed feed rest))
     ≡ accepted_outcome tables (peer, rest)
 opened_is tables peer rest facts replies feed track facts_are replies_are feed_is track_is =

@@ -81,7 +81,8 @@ acks_same : (tables : List Shape) (words : Words)
 acks_same tables words = acks_are tables (0 + words.count) words.past
     ∙ ap (λ n. acks_among tables n words.past) (zero-add words.count)
 
-conversed_is : (tables : List Shape) (peer : ℕ) (kept : DecoderState) (words : Words) (end : Option Ending)
+conversed_is : (tables : List Shape) (peer : ℕ) (kept : DecoderState) (words : Words)
+    (end : Option Ending)
     → run_outcome peer kept (run_for tables 0 words) end ≡ piece_for tables peer kept words end
 conversed_is tables peer kept words None =
     taken_same None (ap (λ (t : Tracked). Talking (record { peer = peer; feed = kept; track = t }))
@@ -244,7 +245,8 @@ stage_behind : (tables : List Shape) (peer : ℕ) (kept : DecoderState) (first s
 stage_behind tables peer kept first second None = refl
 stage_behind tables peer kept first second (Some end) = refl
 
-more_gives : (setup : Setup) (peer : ℕ) (kept : DecoderState) (first second : Words) (end : Option Ending)
+more_gives : (setup : Setup) (peer : ℕ) (kept : DecoderState) (first second : Words)
+    (end : Option Ending)
     → Gives setup (accepted_talk peer first None) (accepted_talk peer (words_behind first second)
     end) (piece_for setup.tables peer kept second end)
     (stage_for setup.tables peer kept (words_behind first second) end)

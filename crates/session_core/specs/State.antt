@@ -64,8 +64,8 @@ FaultAnswers cause.PeerError batch old new piece now taken =
 FaultAnswers cause.TimedOut batch old new piece now taken =
     Ends cause.TimedOut batch old new piece now taken
 
--- what a piece gives, with a fault exactly where it ends the session; `NoMemory` leaves all
--- as it was
+-- what a piece gives, with a fault exactly where it ends the session; `NoMemory` leaves all as it
+-- was
 abbrev pub Answers : Result Batched SessionFault → SessionState → SessionState → List ℕ → ℕ
     → StageOutcome → Type 0
 Answers (Ok batch) old new piece now taken =

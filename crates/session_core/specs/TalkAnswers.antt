@@ -39,8 +39,8 @@ FaultAnswersTalk cause.TimedOut batch setup seated taken piece stage =
     ContinuesTalk setup seated taken piece batch (Some cause.TimedOut) stage
 
 -- What a piece gives is what the talk has with it beyond the talk without it, and a fault is
--- answered exactly where the talk has ended, with its cause. After `NoMemory` the session
--- stands for the bytes before the piece.
+-- answered exactly where the talk has ended, with its cause. After `NoMemory` the session stands
+-- for the bytes before the piece.
 abbrev pub AnswersTalk : Result Batched SessionFault → Setup → Bool → List ℕ → List ℕ → Stage
     → Type 0
 AnswersTalk (Ok batch) setup seated taken piece stage =

@@ -287,7 +287,8 @@ impl Track {
         )
     }
 
-    /// Keeps a plan for later. It goes where as many are kept already, or where memory is refused.
+    /// Keeps a plan for later. It goes where as many are kept already, or where an allocation
+    /// fails.
     pub(crate) fn keep(&mut self, plan: Option<CachedPlan>)
         ensures { self.new ≡ self.old }
     {

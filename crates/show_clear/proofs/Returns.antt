@@ -20,7 +20,8 @@ returns_behind [] [] all = refl
 returns_behind [] (byte ∷ rest) all = ap (λ b. left_by b byte rest) all
 returns_behind (byte ∷ front) rest all =
     let both : are_returns (byte ∷ (front ++ rest)) ≡ are_returns (byte ∷ front) =
-    list_all-append (λ b. eqb b 13) (byte ∷ front) rest ∙ rw all (and_true (are_returns (byte ∷ front))) in
+    list_all-append (λ b. eqb b 13) (byte ∷ front) rest
+    ∙ rw all (and_true (are_returns (byte ∷ front))) in
     ap (λ b. left_by b byte (front ++ rest)) both
     ∙ ap (λ bytes. cond (are_returns (byte ∷ front)) [] (byte ∷ bytes))
     (returns_behind front rest all)

@@ -230,7 +230,7 @@ command_of state line =
     then Err Unknown
     else asked state (words (without_returns line))
 
--- a result is what is to be read, or says that a growth was refused
+-- a result is what is to be read, or says that an allocation failed
 abbrev pub Tells : {A : Type 0} → Read A → Read A → Type 0
 Tells expected (Ok x) = expected ≡ Ok x
 Tells expected (Err fault) = fault ≢ NoMemory → expected ≡ Err fault

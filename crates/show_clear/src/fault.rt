@@ -2,7 +2,7 @@
 
 ghost use Rattle.std.specs.Prelude.{◌≡◌, ◌++◌, length, take, OnOk, OnErr};
 ghost use Rattle.show_clear.specs.Refusal.{fault_name, fault_number, refusal_text};
-ghost use Rattle.show_clear.specs.declared.fault.CommandFault.TheVariants.{NoMemory as RefusedGrowth};
+ghost use Rattle.show_clear.specs.declared.fault.CommandFault.TheVariants.{NoMemory as OutOfMemory};
 
 use crate::pieces::{append_counted, append_labelled};
 use agg_types::NoMemory;
@@ -31,7 +31,7 @@ pub enum CommandFault {
     BadKey,
     /// A fifth condition.
     TooMany,
-    /// A growth of memory was refused.
+    /// An allocation failed.
     NoMemory,
     /// It can't name a standing filter: it has more than 128 bytes, or one outside 33 to 126.
     BadName,
@@ -87,7 +87,7 @@ impl fmt::Display for CommandFault {
 impl Error for CommandFault {}
 
 impl From<NoMemory> for CommandFault {
-    ghost from_gives = { λ _ fault. fault ≡ RefusedGrowth };
+    ghost from_gives = { λ _ fault. fault ≡ OutOfMemory };
 
     fn from(_refused: NoMemory) -> CommandFault {
         CommandFault::NoMemory
@@ -95,7 +95,7 @@ impl From<NoMemory> for CommandFault {
 }
 
 impl From<AllocError> for CommandFault {
-    ghost from_gives = { λ _ fault. fault ≡ RefusedGrowth };
+    ghost from_gives = { λ _ fault. fault ≡ OutOfMemory };
 
     fn from(_refused: AllocError) -> CommandFault {
         CommandFault::NoMemory
@@ -103,7 +103,7 @@ impl From<AllocError> for CommandFault {
 }
 
 impl<T: Drop> From<AllocFailed<T>> for CommandFault {
-    ghost from_gives = { λ _ fault. fault ≡ RefusedGrowth };
+    ghost from_gives = { λ _ fault. fault ≡ OutOfMemory };
 
     fn from(_refused: AllocFailed<T>) -> CommandFault {
         CommandFault::NoMemory

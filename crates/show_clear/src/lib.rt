@@ -3,9 +3,9 @@
 //!
 //! `parse` gives the command that a line says, a question or a change, or its first fault from the
 //! left; `answer` and `refusal` append their texts whole, or leave what was there. What lines and
-//! answers say stands in specs/Parse and specs/Answer, as functions of bytes and of the book's state.
-//! No clause says that an allocation fails only for want of memory; but a line of up to three words
-//! takes none.
+//! answers say stands in specs/Parse and specs/Answer, as functions of bytes and of the book's
+//! state. No clause says that an allocation fails only where there is no memory; but a line of up
+//! to three words takes none.
 #![tactic(auto)]
 
 mod answers;

@@ -72,8 +72,8 @@ none_next key [] t apart = refl
 none_next key (j ∷ judged) t apart =
     rw (flipped j.key key ∙ apart.0) (none_next key judged t apart.1)
 
-stands_here : (kept : KeyVerdicts) (j : Judged) (e : ℕ × List ℕ) → (verdict_at kept j.key).next ≡ Some j.at
-    → same_key j.key e.1 ≡ true → is_moment (verdict_at kept e.1).next e.0
+stands_here : (kept : KeyVerdicts) (j : Judged) (e : ℕ × List ℕ) → (verdict_at kept j.key).next
+    ≡ Some j.at → same_key j.key e.1 ≡ true → is_moment (verdict_at kept e.1).next e.0
     ≡ is_moment (Some j.at) e.0
 stands_here kept j e plan same = ap (λ k. is_moment (verdict_at kept k).next e.0)
     (sym (one_key j.key e.1 same)) ∙ ap (λ m. is_moment m e.0) plan
@@ -203,7 +203,8 @@ all_none : (key : List ℕ) (keys : List (List ℕ)) → AllByRecursion (λ y. s
 all_none key [] none = refl
 all_none key (k ∷ keys) none = rw none.0 (all_none key keys none.1)
 
-member_after : (Q : List ℕ → Verdict → Type 0) (judged : List Judged) (kept : KeyVerdicts) (key : List ℕ)
+member_after : (Q : List ℕ → Verdict → Type 0) (judged : List Judged) (kept : KeyVerdicts)
+    (key : List ℕ)
     → AllByRecursion (λ j. Q j.key j.verdict) judged → list_any (same_key key) (keys_judged judged)
     ≡ true → Q key (verdict_after judged kept key)
 member_after Q [] kept key all there = absurd (false≢true there)
@@ -250,7 +251,8 @@ quiet : (o l : Bool) → (o ≡ true → l ≡ true) → ((o || false) && l) ≡
 quiet true l next = next refl
 quiet false l next = refl
 
-later_next : (truth : ℕ → Bool) (t u : ℕ) (v : Verdict) → Foretells truth t v → v.next ≡ Some u → t < u
+later_next : (truth : ℕ → Bool) (t u : ℕ) (v : Verdict) → Foretells truth t v → v.next ≡ Some u → t
+    < u
 later_next truth t u v told is =
     let first = subst (λ o. IsFirstFrom (t + 1) (λ s. truth s ≡ truth t → ⊥) o) is told.next in
     let since : t + 1 ≤ u = first.since in

@@ -116,8 +116,8 @@ least e f entries ordered there =
     lower [] h = tt
     lower (x ∷ xs) h = (not_earlier e x h.0, lower xs h.1)
 
-pub stands : (kept : KeyVerdicts) (due : List (ℕ × List ℕ)) → IsPlanOf kept due → (key : List ℕ) (u : ℕ)
-    → (verdict_at kept key).next ≡ Some u → has_plan due (u, key) ≡ true
+pub stands : (kept : KeyVerdicts) (due : List (ℕ × List ℕ)) → IsPlanOf kept due → (key : List ℕ)
+    (u : ℕ) → (verdict_at kept key).next ≡ Some u → has_plan due (u, key) ≡ true
 stands kept due exact key u is = exact (u, key) ∙ ap (λ m. is_moment m u) is ∙ eq-eqb u u refl
 
 pub first_change : (kept : KeyVerdicts) (due : List (ℕ × List ℕ)) → IsPlanOf kept due

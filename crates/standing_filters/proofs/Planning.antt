@@ -72,7 +72,8 @@ unplanned_is due key at stays ordered differ e =
 same_key : (key q : List ℕ) → is_at (slice_cmp nat_cmp key) q ≡ true → key ≡ q
 same_key key q same = exact_bytes key q (equal_from _ same)
 
-change_at : (kept : KeyVerdicts) (key : List ℕ) → (verdict_at kept key).next ≡ change_of (kept_at kept key)
+change_at : (kept : KeyVerdicts) (key : List ℕ) → (verdict_at kept key).next ≡ change_of
+    (kept_at kept key)
 change_at kept key = by (kept_at kept key)
   where
     by : (found : Option Verdict) → (unwrap_or found out).next ≡ change_of found
@@ -111,8 +112,8 @@ become key verdict kept new becomes e = ap (λ v. is_moment v.next e.0) (becomes
     by true = refl
     by false = refl
 
-pub committed : (due planned after : Index) (kept new : KeyVerdicts) (key : List ℕ) (verdict : Verdict)
-    (old : Option ℕ) → IsPlanOf kept due → old ≡ change_of (kept_at kept key)
+pub committed : (due planned after : Index) (kept new : KeyVerdicts) (key : List ℕ)
+    (verdict : Verdict) (old : Option ℕ) → IsPlanOf kept due → old ≡ change_of (kept_at kept key)
     → IsPlanned key old verdict.next due planned → IsUnplanned key old verdict.next planned after
     → Becomes key verdict kept new → IsPlanOf new after
 committed due planned after kept new key verdict old exact is plan unplan becomes e =
@@ -218,7 +219,8 @@ room_back kept key none =
     (insert_entry (slice_cmp nat_cmp) kept key out))) none
     ∙ out-put nat_list_cmp_total key out kept none
 
-pub room_restored : (kept : KeyVerdicts) (key : List ℕ) (found : Option Verdict) → found ≡ kept_at kept key
+pub room_restored : (kept : KeyVerdicts) (key : List ℕ) (found : Option Verdict) → found
+    ≡ kept_at kept key
     → cond (is_some found) (with_room key kept) (without_key key (with_room key kept)) ≡ kept
 room_restored kept key None is = room_back kept key (sym is)
 room_restored kept key (Some v) is =

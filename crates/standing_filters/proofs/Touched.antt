@@ -25,13 +25,13 @@ use Rattle.standing_filters.proofs.Planning.{room_restored}
 abbrev KeyVerdicts : Type 0
 KeyVerdicts = List (List ℕ × Verdict)
 
-becomes_here : (key : List ℕ) (verdict : Verdict) (old new : KeyVerdicts) → Becomes key verdict old new
-    → verdict_at new key ≡ verdict
+becomes_here : (key : List ℕ) (verdict : Verdict) (old new : KeyVerdicts) → Becomes key verdict old
+    new → verdict_at new key ≡ verdict
 becomes_here key verdict old new becomes = becomes key
     ∙ ap (λ r. cond (is_eq r) verdict (verdict_at old key)) (tied_itself nat_list_cmp_total key)
 
-stays_there : (key : List ℕ) (verdict : Verdict) (old new : KeyVerdicts) → Becomes key verdict old new
-    → (q : List ℕ) → q ≢ key → verdict_at new q ≡ verdict_at old q
+stays_there : (key : List ℕ) (verdict : Verdict) (old new : KeyVerdicts) → Becomes key verdict old
+    new → (q : List ℕ) → q ≢ key → verdict_at new q ≡ verdict_at old q
 stays_there key verdict old new becomes q other = becomes q
     ∙ by (is_at (slice_cmp nat_cmp key) q) refl
   where
@@ -66,7 +66,8 @@ becomes_itself key verdict kept is q = by (is_at (slice_cmp nat_cmp key) q) refl
 
 pub untouched : (summed : ℕ → List ℕ → Col → ℕ → ℕ) (living : ℕ → List ℕ → ℕ → ℕ) (table : ℕ)
     (key : List ℕ) (now : ℕ) (w : Watching)
-    → w.filter.table ≢ table → IsTouched summed living table key now (view_of_watch w) (view_of_watch w)
+    → w.filter.table ≢ table → IsTouched summed living table key now (view_of_watch w)
+    (view_of_watch w)
 untouched summed living table key now w apart = record {
   filter = refl;
   judged = λ of. absurd (apart of);
@@ -87,7 +88,8 @@ others_untouched summed living table key now (w ∷ watches) none =
     by : (b : Bool) → (w.filter.table == table) ≡ b
         → (b || list_any (λ w. w.filter.table == table) watches) ≡ false
         → (list_any (λ w. w.filter.table == table) watches ≡ false
-        → AreTouched summed living table key now (map view_of_watch watches) (map view_of_watch watches))
+        → AreTouched summed living table key now (map view_of_watch watches)
+        (map view_of_watch watches))
         → AreTouched summed living table key now (map view_of_watch (w ∷ watches))
         (map view_of_watch (w ∷ watches))
     by true is any rest = cc

@@ -10,8 +10,8 @@ use crate::watch::Watch;
 use agg_types::{Key, NoMemory};
 use crossing::{Meter, Values};
 
-/// Judges a key by each filter of its table at a moment. After `NoMemory` no verdict has changed.
-/// A key that has no live row takes no memory.
+/// Judges a key by each filter of its table at a moment. After `NoMemory` no verdict has changed. A
+/// key that has no live row takes no memory.
 pub(crate) fn touch_each<V: Values>(
     watches: &mut [Watch],
     table: usize,

@@ -15,7 +15,8 @@ ghost use Rattle.standing_filters.specs.Verdicts.{IsVerdict, out};
 ghost use Rattle.standing_filters.specs.Watched.{IsFirstChange, keys_held, verdict_at};
 ghost use Rattle.standing_filters.specs.Plans.{Becomes, IsPlanOf, IsPlanned, IsUnplanned, IsWatch};
 ghost use Rattle.standing_filters.specs.Plans.{Watching};
-ghost use Rattle.standing_filters.specs.Plans.{change_of, has_plan, kept_at, view_of_watch, with_room};
+ghost use Rattle.standing_filters.specs.Plans.{change_of, has_plan, kept_at, view_of_watch};
+ghost use Rattle.standing_filters.specs.Plans.{with_room};
 ghost use Rattle.standing_filters.specs.Plans.{without_key};
 ghost use Rattle.standing_filters.specs.Turns.{AreJudged, ArePlans, IsAhead, IsQuiet, count_due};
 ghost use Rattle.standing_filters.specs.Turns.{keys_judged, same_key, verdict_after};
@@ -223,7 +224,8 @@ impl Watch {
         requires planned { IsPlanOf self.now.kept self.now.due }
         ensures judged { IfOk result (λ judged. AreJudged (V.summed values.now)
             (V.living values.now) t (view_of_watch self.now) judged.items) }
-        ensures quiet { IsQuiet t (view_of_watch self.now) → IsOkAnd result (λ judged. judged.items ≡ []) }
+        ensures quiet { IsQuiet t (view_of_watch self.now)
+            → IsOkAnd result (λ judged. judged.items ≡ []) }
         ensures unread { IsQuiet t (view_of_watch self.now) → meter.new.evals ≡ meter.old.evals }
         ensures counted { OnOk result (((table : ℕ) (key : List ℕ)
             → IsFlatSoon t (V.flat values.now table key))

@@ -39,7 +39,7 @@ rank counts addresses gpc0 3
 rank rates strings http_req_rate 3
 ";
 
-// What happens, made once more where a growth was refused.
+// What happens, made once more where an allocation failed.
 fn made(alloc: Global, deed: Deed) -> Result<What, NoMemory> {
     match what(alloc, deed) {
         Err(NoMemory) => what(alloc, deed),
@@ -87,8 +87,8 @@ impl Pair {
         self.fast.moment()
     }
 
-    /// Lets something happen to both, under the next number of its seat, and once more where a
-    /// growth was refused. The first has to answer then what the second does, to which it hasn't
+    /// Lets something happen to both, under the next number of its seat, and once more where an
+    /// allocation failed. The first has to answer then what the second does, to which it hasn't
     /// happened yet.
     pub fn happen(&mut self, alloc: Global, deed: Deed) -> Result<()> {
         let seat = seat_of(deed);
@@ -114,7 +114,7 @@ impl Pair {
         }
     }
 
-    /// Compares all that both answer, once more where a growth was refused.
+    /// Compares all that both answer, once more where an allocation failed.
     pub fn compare(&mut self, alloc: Global) -> Result<()> {
         let (found, seen) = match self.differences(alloc) {
             Err(NoMemory) => self.differences(alloc)?,

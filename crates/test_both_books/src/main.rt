@@ -3,9 +3,9 @@
 //! next changes, sessions and seats. Prints how many events there were, and how many answers
 //! differ.
 //!
-//! An event for which a growth of memory was refused has to leave each answer as it was, and then
-//! happens once more. `test_both_books again` compares at the end of a run and where a growth was
-//! refused: `tools/refuse_growths.py` refuses each of its growths in turn.
+//! An event for which an allocation failed has to leave each answer as it was, and then happens
+//! once more. `test_both_books again` compares at the end of a run and where an allocation failed:
+//! `tools/refuse_growths.py` lets each of its allocations fail in turn.
 #![tactic(auto)]
 
 mod answers;
@@ -60,7 +60,7 @@ fn tell(rt: &impl Print, name: &str, pair: &Pair) -> Result<()> {
     Ok(())
 }
 
-/// Two books to which nothing has happened, made once more where a growth was refused.
+/// Two books to which nothing has happened, made once more where an allocation failed.
 fn opened(alloc: Global, way: Way) -> Result<Pair> {
     match Pair::new(alloc, way.near) {
         Err(_) => Pair::new(alloc, way.near),
@@ -121,7 +121,7 @@ fn crowd(rt: &impl Print, alloc: Global) -> Result<()> {
     tell(rt, "crowd", &pair)
 }
 
-/// The runs of which each growth is refused in turn.
+/// The runs of which each allocation fails in turn.
 fn runs_again(rt: &impl Print, alloc: Global) -> Result<()> {
     play(rt, alloc, "reconnect", SELDOM, worked::RECONNECT)?;
     play(rt, alloc, "size limit", SELDOM, worked::SIZE_LIMIT)?;

@@ -42,7 +42,7 @@ fn print_row(rt: &(impl Print + AllocGlobal), line: &str) -> anyhow::Result<()> 
     Ok(())
 }
 
-// Reads a line, once more where a growth was refused.
+// Reads a line, once more where an allocation failed.
 fn read(alloc: Global, words: &[&str]) -> Result<Job, Usage> {
     match command_line::read(alloc, words) {
         Err(Usage::NoMemory) => command_line::read(alloc, words),

@@ -1,7 +1,7 @@
-//! Calls that are made once more where a growth of memory was refused.
+//! Calls that are made once more where an allocation failed.
 //!
-//! So what is printed is the same whichever growth is refused: `tools/refuse_growths.py` refuses
-//! each in turn.
+//! So what is printed is the same whichever allocation fails: `tools/refuse_growths.py` lets each
+//! fail in turn.
 
 ghost use Rattle.std.specs.Prelude.{IfOk};
 ghost use Rattle.show_clear.specs.Answer.{NamesExist};
@@ -12,8 +12,8 @@ use book::Book;
 use show_clear::{Command, CommandFault, answer, parse, refusal};
 use std::alloc::Global;
 
-/// What a line asks for, or its first fault, which isn't want of memory unless two growths were
-/// refused.
+/// What a line asks for, or its first fault, which isn't out of memory unless two allocations
+/// failed.
 pub fn parsed(alloc: Global, book: &Book, line: &[u8]) -> Result<Command, CommandFault>
     ensures { IfOk result (NamesExist book.now) }
 {
@@ -23,7 +23,7 @@ pub fn parsed(alloc: Global, book: &Book, line: &[u8]) -> Result<Command, Comman
     }
 }
 
-/// Appends an answer behind these bytes, which a refused growth has to leave as they are.
+/// Appends an answer behind these bytes, which a failed allocation has to leave as they are.
 pub fn answered(
     alloc: Global,
     book: &Book,
@@ -40,7 +40,7 @@ pub fn answered(
     Ok(())
 }
 
-/// Appends a refusal behind these bytes, which a refused growth has to leave as they are.
+/// Appends a refusal behind these bytes, which a failed allocation has to leave as they are.
 pub fn refused(fault: &CommandFault, before: &[u8], out: &mut Vec<u8>) -> Result<()> {
     if refusal(fault, out).is_err() {
         ensure!(out.as_slice() == before, "a refused refusal left something");

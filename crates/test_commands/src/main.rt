@@ -24,7 +24,7 @@ fn main(rt: HostRuntime) -> Result<()> {
     ask_all(rt.alloc(), &mut book, seq, commands.as_slice(), &mut writer)
 }
 
-// The fleet, opened once more where a growth was refused.
+// The fleet, opened once more where an allocation failed.
 fn opened(alloc: Global, text: &[u8]) -> Result<(Book, u64)> {
     match fleet::opened(alloc, text) {
         Err(_) => fleet::opened(alloc, text),

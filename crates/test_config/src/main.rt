@@ -45,8 +45,8 @@ fn print_row<W: Write>(alloc: Global, title: &[u8], text: &[u8], out: &mut W) ->
     }
 }
 
-// Reads a configuration, once more where a growth of memory was refused: so what is printed is the
-// same whichever growth is refused.
+// Reads a configuration, once more where an allocation failed: so what is printed is the same
+// whichever allocation fails.
 fn read(alloc: Global, text: &[u8]) -> Result<Config, LineFault> {
     match agg_config::read(alloc, text) {
         Err(

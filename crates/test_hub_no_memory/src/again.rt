@@ -1,4 +1,4 @@
-//! Calls of a hub that are made once more where a growth of memory was refused.
+//! Calls of a hub that are made once more where an allocation failed.
 //!
 //! What they leave is looked at first: after NoMemory nothing was stored, and what is pending isn't
 //! shown yet.

@@ -90,7 +90,7 @@ impl Batch {
         }
     }
 
-    /// Its events, made once more where a growth was refused.
+    /// Its events, made once more where an allocation failed.
     pub fn made(self, alloc: Global) -> Result<Vec<What>, NoMemory> {
         match self.make(alloc) {
             Err(NoMemory) => self.make(alloc),

@@ -1,8 +1,8 @@
-//! Posts, seats, lenses and leaves of a hub in one thread, each made once more where a growth of
-//! memory was refused.
+//! Posts, seats, lenses and leaves of a hub in one thread, each made once more where an allocation
+//! failed.
 //!
-//! So what is printed is the same whichever growth is refused: `tools/refuse_growths.py` refuses
-//! each in turn.
+//! So what is printed is the same whichever allocation fails: `tools/refuse_growths.py` lets each
+//! fail in turn.
 #![tactic(auto)]
 
 ghost use Rattle.std.specs.Prelude.{◌≡◌, IfOk};
@@ -142,7 +142,7 @@ fn opened<J: Naming, R: Print + Wait>(rt: &R, alloc: Global, opening: Opening) -
     }
 }
 
-/// The fleet, opened once more where a growth was refused.
+/// The fleet, opened once more where an allocation failed.
 fn fleet_opened(alloc: Global) -> Result<Opening> {
     match opening(alloc) {
         Err(_) => opening(alloc),

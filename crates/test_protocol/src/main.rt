@@ -3,9 +3,8 @@
 //!
 //! `read HEX` and `write NUMBER`: an encoded integer. `messages SIZE HEX`: what a feed makes of the
 //! bytes in pieces of this size. `again HEX`: its messages, written. `define`: a definition,
-//! written.
-//! `accept seated` or `accept unseated`: a new session at 0. `feed NOW HEX` and `idle NOW`: what it
-//! gives then, in ms.
+//! written. `accept seated` or `accept unseated`: a new session at 0. `feed NOW HEX` and `idle
+//! NOW`: what it gives then, in ms.
 #![tactic(auto)]
 
 ghost use Rattle.std.specs.Prelude.{◌<◌};

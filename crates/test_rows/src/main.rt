@@ -1,6 +1,6 @@
 //! Puts, replaces, takes and clears the rows of two peers, works rows into sums, and prints what
-//! rows and sums then answer. Where memory is refused once, nothing may have changed, and the same
-//! call is made again.
+//! rows and sums then answer. Where an allocation fails once, nothing may have changed, and the
+//! same call is made again.
 #![tactic(auto)]
 
 mod rows;

@@ -74,7 +74,7 @@ impl Fleet {
         let before = (self.rows.count(peer, 0), self.rows.used(0));
         let first = self.try_put(peer, last, count);
         if first.is_err() && before != (self.rows.count(peer, 0), self.rows.used(0)) {
-            println!(rt; "changed where memory was refused")?;
+            println!(rt; "changed where an allocation failed")?;
         }
         let stood = match first {
             Ok(stood) => stood,

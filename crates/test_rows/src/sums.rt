@@ -57,7 +57,7 @@ impl Summed {
         let keys = self.sums.keys(0).count();
         let first = self.try_add(last, count);
         if first.is_err() && keys != self.sums.keys(0).count() {
-            println!(rt; "changed where memory was refused")?;
+            println!(rt; "changed where an allocation failed")?;
         }
         let added = match first {
             Ok(added) => added,

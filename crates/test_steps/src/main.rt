@@ -1,8 +1,8 @@
 //! Lets two proxies call a fleet, break off and call again, beside a clock and a clear, and prints
 //! what each step sends and what the fleet then holds.
 //!
-//! A step for which a growth of memory was refused is made once more: `tools/refuse_growths.py`
-//! refuses each growth in turn, and what is printed has to stay the same.
+//! A step for which an allocation failed is made once more: `tools/refuse_growths.py` lets each
+//! allocation fail in turn, and what is printed has to stay the same.
 #![tactic(auto)]
 
 mod deeds;
@@ -61,7 +61,7 @@ const DEEDS: [Deed; 17] = [
     Deed::Moment(1000),
 ];
 
-/// Does a step, once more where a growth was refused.
+/// Does a step, once more where an allocation failed.
 fn step_again(
     alloc: Global,
     fleet: &mut Fleet,
@@ -78,7 +78,7 @@ fn step_once(alloc: Global, fleet: &mut Fleet, step: &Step) -> Result<Result<Rep
     Ok(fleet.step(step))
 }
 
-/// Whether a step may come, asked once more where a growth was refused.
+/// Whether a step may come, asked once more where an allocation failed.
 fn fits(alloc: Global, book: &Book, step: &Step) -> Result<bool, NoMemory>
     ensures { IfOk result (λ fits. fits ≡ does_fit book.now.config step.now) }
 {
@@ -131,7 +131,7 @@ fn print_held(rt: &impl Print, alloc: Global, book: &Book) -> Result<()> {
     Ok(())
 }
 
-/// A fleet to which nothing has happened, made once more where a growth was refused.
+/// A fleet to which nothing has happened, made once more where an allocation failed.
 fn opened(alloc: Global) -> Result<Fleet> {
     let config = match config(alloc, TWO_PROXIES) {
         Err(_) => config(alloc, TWO_PROXIES)?,
@@ -140,7 +140,7 @@ fn opened(alloc: Global) -> Result<Fleet> {
     Ok(Fleet::new(alloc, config, 0)?)
 }
 
-/// The step of a deed, made once more where a growth was refused.
+/// The step of a deed, made once more where an allocation failed.
 fn made(alloc: Global, deed: Deed) -> Result<Step, NoMemory> {
     match step(alloc, deed) {
         Err(NoMemory) => step(alloc, deed),

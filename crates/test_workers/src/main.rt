@@ -2,8 +2,8 @@
 //!
 //! Each scene is over a hub of its own. A line has the bytes that a worker wrote; `over`, what the
 //! row of 10.0.0.1 was in the fleet as each write was made; why the worker ended; and how many
-//! events the history has up to the last that it told (`last`), and up to its leave (`left`).
-//! The last lines are of two peers, one that nobody knows, an admin and a timer at once, each in a
+//! events the history has up to the last that it told (`last`), and up to its leave (`left`). The
+//! last lines are of two peers, one that nobody knows, an admin and a timer at once, each in a
 //! thread of its own, which go one at a time in a fixed order: one thread for all would wait for
 //! ever. The first time all say what they have, the second time a gate closes before they have.
 #![tactic(auto)]

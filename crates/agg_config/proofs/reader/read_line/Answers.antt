@@ -3,5 +3,9 @@ use Rattle.agg_config.proofs.reader.read_line.Goals as goal
 
 pub returns-in-Err-clause-err : goal.returns-in-Err-clause-err
 returns-in-Err-clause-err c =
-    rw (c.wrong_check.ensures, c.in_ok-declaration.ensures.gives, c.in-Some.is, ← c.in_ok-declare.ensures)
-    (λ _. first_check _ _ c.in-Err.fault c.in-Err.ensures)
+    rw (
+      c.wrong_check.ensures,
+      c.in_ok-declaration.ensures.gives,
+      c.in-Some.is,
+      ← c.in_ok-declare.ensures,
+    ) (λ _. first_check _ _ c.in-Err.fault c.in-Err.ensures)

@@ -23,7 +23,8 @@ returns-then-not-is_live c =
     ≡ Some c.in-Some.row.now = sym c.row_at.ensures.found ∙ ap option_copied c.in-Some.is in
     let ended : lives_at c.args.t (c.args.place.now, c.in-Some.row.now) ≡ false =
     sym c.is_live.ensures ∙ c.if-not-is_live.true in
-    c.take.ensures.after ∙ ap (λ (es : List (RowKey × Row)). record c.args.rows.now { entries = es })
+    c.take.ensures.after
+    ∙ ap (λ (es : List (RowKey × Row)). record c.args.rows.now { entries = es })
     (one_goes c.args.place.now c.args.t c.in-Some.row.now c.args.rows.now.entries
     c.requires.rows.ordered found ended)
 

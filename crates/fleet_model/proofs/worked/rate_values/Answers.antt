@@ -16,9 +16,9 @@ use Rattle.period_rate.specs.Share.{once_ended, rate, while_running}
 use Rattle.fleet_model.proofs.worked.rate_values.Goals as goal
 
 pub returns : goal.returns
-unfolding slow_rate fleet_of ip filter_on row in_turn left_by view_of_table sums_to joined full_table
-    reconnected lives_over cleared_on_sums summed_rates one_rate keys_of rows_of set_at summed
-    filters_in judge judged now_of by_place clears_at counted_of has_room if_in_force in_force
-    judge_at row_of rows_in counts known number seats_in seats_of sits session sessions_in state_of
-    cell_worth live_keys meets share value rate while_running once_ended
+unfolding slow_rate fleet_of ip filter_on row in_turn left_by view_of_table sums_to joined
+    full_table reconnected lives_over cleared_on_sums summed_rates one_rate keys_of rows_of set_at
+    summed filters_in judge judged now_of by_place clears_at counted_of has_room if_in_force
+    in_force judge_at row_of rows_in counts known number seats_in seats_of sits session sessions_in
+    state_of cell_worth live_keys meets share value rate while_running once_ended
 returns c = record { held = refl; dropped = refl }

@@ -7,5 +7,5 @@ use Rattle.ranked.proofs.candidates.place_of.Given as goal
 abbrev pub invariant-loop-place : goal.invariant-loop-place
 invariant-loop-place l =
     put_in_order rank_cmp (view_of_candidate l.key) (map view_of_candidate l.candidates)
-    ≡ map view_of_candidate (take l.place l.candidates) ++ put_in_order rank_cmp (view_of_candidate l.key)
-    (map view_of_candidate (drop l.place l.candidates))
+    ≡ map view_of_candidate (take l.place l.candidates) ++ put_in_order rank_cmp
+    (view_of_candidate l.key) (map view_of_candidate (drop l.place l.candidates))

@@ -62,5 +62,5 @@ returns-else-live-gt0-clause-walked g c index walked h =
 pub returns-in_default-clause-walked : goal.returns-in_default-clause-walked
 returns-in_default-clause-walked g c index walked h =
     absurd (never_undone (map view_of_candidate c.args.candidates.now.items)
-    (subst (λ o. is_done (map view_of_candidate c.args.candidates.now.items) o ≡ false) (sym c.peek.ensures.next
-    ∙ ap (option_map lent_entry) c.in_default.is) c.requires.undone))
+    (subst (λ o. is_done (map view_of_candidate c.args.candidates.now.items) o ≡ false)
+    (sym c.peek.ensures.next ∙ ap (option_map lent_entry) c.in_default.is) c.requires.undone))

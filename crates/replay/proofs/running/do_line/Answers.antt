@@ -25,14 +25,22 @@ returns-in-Does c = λ config opening past settled.
 
 pub returns-in-BadStep : goal.returns-in-BadStep
 returns-in-BadStep c = λ config opening past settled.
-    bad_did c.append_bad.result (LineGives config opening past c.args.number c.args.line.now) c.args.fleet.now config opening past c.args.number (codes ": step\n") c.args.out.now.items c.append_bad.new.out.items
-    (subst (λ (m : Meaning). MeaningGives m config opening past c.args.number c.args.line.now (bad_line past c.args.number (codes ": step\n"))) (sym c.in-BadStep.is ∙ c.in_ok-meaning_of.ensures.exact) refl)
+    bad_did c.append_bad.result (LineGives config opening past c.args.number c.args.line.now)
+    c.args.fleet.now config opening past c.args.number (codes ": step\n") c.args.out.now.items
+    c.append_bad.new.out.items
+    (subst (λ (m : Meaning). MeaningGives m config opening past c.args.number c.args.line.now
+    (bad_line past c.args.number (codes ": step\n")))
+    (sym c.in-BadStep.is ∙ c.in_ok-meaning_of.ensures.exact) refl)
     settled c.append_bad.ensures.text c.append_bad.ensures.ended
 
 pub returns-in-BadHex : goal.returns-in-BadHex
 returns-in-BadHex c = λ config opening past settled.
-    bad_did c.append_bad-in-BadHex.result (LineGives config opening past c.args.number c.args.line.now) c.args.fleet.now config opening past c.args.number (codes ": hex\n") c.args.out.now.items c.append_bad-in-BadHex.new.out.items
-    (subst (λ (m : Meaning). MeaningGives m config opening past c.args.number c.args.line.now (bad_line past c.args.number (codes ": hex\n"))) (sym c.in-BadHex.is ∙ c.in_ok-meaning_of.ensures.exact) refl)
+    bad_did c.append_bad-in-BadHex.result (LineGives config opening past c.args.number
+    c.args.line.now) c.args.fleet.now config opening past c.args.number (codes ": hex\n")
+    c.args.out.now.items c.append_bad-in-BadHex.new.out.items
+    (subst (λ (m : Meaning). MeaningGives m config opening past c.args.number c.args.line.now
+    (bad_line past c.args.number (codes ": hex\n")))
+    (sym c.in-BadHex.is ∙ c.in_ok-meaning_of.ensures.exact) refl)
     settled c.append_bad-in-BadHex.ensures.text c.append_bad-in-BadHex.ensures.ended
 
 pub returns-in-Asks : goal.returns-in-Asks

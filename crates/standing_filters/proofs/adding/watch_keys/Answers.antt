@@ -19,7 +19,8 @@ loop-key-preserved g c =
     ∙ ap (λ item. take at keys ++ item ∷ []) (sym c.key-item.is) in
     record {
       watch = c.in_ok-judge_one.ensures.stay;
-      added = subst (λ l. IsAdded summed living c.args.now filter l (view_of_watch c.judge_one.new.watch))
+      added = subst (λ l. IsAdded summed living c.args.now filter l
+          (view_of_watch c.judge_one.new.watch))
           (sym taken) (added_more summed living c.args.now filter (take at keys) c.key-item.result
           (view_of_watch old) (view_of_watch c.judge_one.new.watch) c.loop-key.invariant.added
           c.in_ok-judge_one.ensures.touched);

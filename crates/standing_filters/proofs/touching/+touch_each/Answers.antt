@@ -15,9 +15,10 @@ first_watch : (watches : List Watching) (first : Watching) (rest : List Watching
 first_watch watches first rest is all = (subst (λ l. AreWatches l) is all).0
 
 both : (first : Watched) (rest olds : List Watched) (watches : List Watching) (old : Watching)
-    (others : List Watching) → watches ≡ old ∷ others → first ≡ view_of_watch old → rest ≡ map view_of_watch others
-    → (first ∷ rest) ≡ map view_of_watch watches
-both first rest olds watches old others is one all = (λ i. one i ∷ all i) ∙ ap (map view_of_watch) (sym is)
+    (others : List Watching) → watches ≡ old ∷ others → first ≡ view_of_watch old → rest
+    ≡ map view_of_watch others → (first ∷ rest) ≡ map view_of_watch watches
+both first rest olds watches old others is one all = (λ i. one i ∷ all i) ∙ ap (map view_of_watch)
+    (sym is)
 
 pub returns-then-not-is_any_of-clause-ok : goal.returns-then-not-is_any_of-clause-ok
 returns-then-not-is_any_of-clause-ok g t c =
@@ -28,7 +29,8 @@ returns-then-not-is_any_of-clause-ok g t c =
     ∙ c.if-not-is_of.false) in
     on_ok_weaker c.change.result (λ becomes. subst (λ (l : List Watching). AreTouched summed living
     c.args.table c.args.key.now c.args.now (map view_of_watch l)
-    (view_of_watch c.change.new.self ∷ map view_of_watch c.in-Some.rest.now)) (sym c.in-Some.ensures.cases.0) (
+    (view_of_watch c.change.new.self ∷ map view_of_watch c.in-Some.rest.now))
+    (sym c.in-Some.ensures.cases.0) (
       touched summed living c.args.table c.args.key.now c.args.now first c.change.new.self
           c.judge-verdict.result of c.change.ensures.filter c.judge-verdict.ensures.verdict becomes,
       others_untouched summed living c.args.table c.args.key.now c.args.now c.in-Some.rest.now
@@ -55,8 +57,8 @@ returns-then-is_out-clause-ok g t c =
     let judged = subst (λ (v : Verdict). IsVerdict summed living first.filter c.args.now
     c.args.key.now v) verdict_is c.judge-verdict.ensures.verdict in
     subst (λ (l : List Watching). AreTouched summed living c.args.table c.args.key.now c.args.now
-    (map view_of_watch l) (view_of_watch c.forget.new.self ∷ map view_of_watch c.touch_each-then-is_out.new.watches))
-    (sym c.in-Some.ensures.cases.0) (
+    (map view_of_watch l) (view_of_watch c.forget.new.self ∷ map view_of_watch
+    c.touch_each-then-is_out.new.watches)) (sym c.in-Some.ensures.cases.0) (
       touched summed living c.args.table c.args.key.now c.args.now first c.forget.new.self out of
           c.forget.ensures.filter judged c.forget.ensures.kept,
       c.in_ok-touch_each.ensures.ok,
@@ -114,8 +116,8 @@ returns-clause-ok g t c =
     c.commit.new.self.kept c.in_ok-old.ensures.same
     (c.commit.ensures.kept c.in_ok-old.ensures.there) in
     subst (λ (l : List Watching). AreTouched summed living c.args.table c.args.key.now c.args.now
-    (map view_of_watch l) (view_of_watch c.commit.new.self ∷ map view_of_watch c.touch_each-2.new.watches))
-    (sym c.in-Some.ensures.cases.0) (
+    (map view_of_watch l) (view_of_watch c.commit.new.self ∷ map view_of_watch
+    c.touch_each-2.new.watches)) (sym c.in-Some.ensures.cases.0) (
       touched summed living c.args.table c.args.key.now c.args.now first c.commit.new.self
           c.judge-verdict.result of (c.commit.ensures.filter ∙ c.in_ok-old.ensures.filter)
           c.judge-verdict.ensures.verdict becomes,

@@ -60,7 +60,7 @@ returns-clause-ok g t c =
     (view_of_watch c.commit_all.new.self ∷ map view_of_watch c.turn_each.new.watches))
     (sym c.in-Some.ensures.cases.0) (
       turned summed living c.args.t (view_of_watch first) judged c.in_ok-judged.ensures.judged
-          (view_of_watch c.commit_all.new.self) (c.commit_all.ensures.filter ∙ c.in_ok-prepare_all.ensures.filter)
-          kept,
+          (view_of_watch c.commit_all.new.self) (c.commit_all.ensures.filter
+          ∙ c.in_ok-prepare_all.ensures.filter) kept,
       c.in_default-turn_each.ensures.ok,
     )

@@ -18,20 +18,24 @@ returns-clause-steps g c =
     (not_zero (length c.as_slice.result.now) (sym c.is_empty.ensures ∙ c.if-is_empty.false)) in
     let left : 0 < r.left = omega (arith, c.if-self-eq0.false) in
     let all = removed_first kept c.remove.result some c.remove.ensures.value in
-    let walk : IsWalk r.index.now (r.walked + c.take_certain-walked.result) (map view_of_candidate kept)
+    let walk : IsWalk r.index.now (r.walked + c.take_certain-walked.result)
+    (map view_of_candidate kept)
     c.take_certain-walked.new.ahead = c.take_certain-walked.ensures.walked r.index.now r.walked
     c.self.invariant.3 in
     let given : IsWalk r.index.now (r.walked + c.take_certain-walked.result)
-    (view_of_candidate c.remove.result ∷ map view_of_candidate (remove kept 0)) c.take_certain-walked.new.ahead =
-    subst (λ l. IsWalk r.index.now (r.walked + c.take_certain-walked.result) (map view_of_candidate l)
-    c.take_certain-walked.new.ahead) all walk in (
+    (view_of_candidate c.remove.result ∷ map view_of_candidate (remove kept 0))
+    c.take_certain-walked.new.ahead =
+    subst (λ l. IsWalk r.index.now (r.walked + c.take_certain-walked.result)
+    (map view_of_candidate l) c.take_certain-walked.new.ahead) all walk in (
       ap (λ v. v.left) (sym c.self.view_is) ∙ sym c.take_certain-walked.ensures.same
-          ∙ gives_first living value r.left (map view_of_candidate kept) (map view_of_candidate (remove kept 0))
-          (view_of_candidate c.remove.result) c.take_certain-walked.new.ahead (ap (λ l. map view_of_candidate l) all) left
+          ∙ gives_first living value r.left (map view_of_candidate kept)
+          (map view_of_candidate (remove kept 0))
+          (view_of_candidate c.remove.result) c.take_certain-walked.new.ahead
+          (ap (λ l. map view_of_candidate l) all) left
           c.take_certain-walked.ensures.settled c.take_certain-walked.ensures.bounds
           c.take_certain-walked.ensures.first
-          ∙ ap (λ l. view_of_candidate c.remove.result ∷ found living value (r.left - 1) (map view_of_candidate l)
-          c.take_certain-walked.new.ahead) (sym c.remove.ensures.items),
+          ∙ ap (λ l. view_of_candidate c.remove.result ∷ found living value (r.left - 1)
+          (map view_of_candidate l) c.take_certain-walked.new.ahead) (sym c.remove.ensures.items),
       ap (λ v. v.index) c.self.view_is,
       rw (← c.self.view_is) (omega (
         arith,
@@ -53,9 +57,10 @@ returns-then-is_empty-clause-steps g c =
     let r = c.self.inside in
     let living : List ℕ → ℕ = λ key. g.V.Values.living r.values.now r.table key r.now in
     let value : List ℕ → ℕ = λ key. g.V.Values.summed r.values.now r.table key r.col r.now in
-    let none = gives_none living value r.left (map view_of_candidate c.take_certain-walked.new.candidates.items)
-    c.take_certain-walked.new.ahead (length-map c.take_certain-walked.new.candidates.items view_of_candidate
-    ∙ ap length (sym c.as_slice.ensures.value)
+    let none = gives_none living value r.left
+    (map view_of_candidate c.take_certain-walked.new.candidates.items)
+    c.take_certain-walked.new.ahead (length-map c.take_certain-walked.new.candidates.items
+    view_of_candidate ∙ ap length (sym c.as_slice.ensures.value)
     ∙ eqb-true (length c.as_slice.result.now) 0 (sym c.is_empty.ensures ∙ c.if-is_empty.true))
     c.take_certain-walked.ensures.settled in (
       (ap (λ v. v.left) (sym c.self.view_is) ∙ sym c.take_certain-walked.ensures.same ∙ none, none),

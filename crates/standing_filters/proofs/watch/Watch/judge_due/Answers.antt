@@ -68,8 +68,8 @@ loop-at-preserved g c =
           let longer : length c.push.new.self.items ≡ length judged + 1 = ap length pushed
           ∙ one_more judged j in
           omega arith;
-      quiet = λ quiet. absurd (nothing_comes c.args.t (view_of_watch c.args.self.now) c.args.self.now.due
-          judged entry c.next.new.self c.requires.planned quiet next);
+      quiet = λ quiet. absurd (nothing_comes c.args.t (view_of_watch c.args.self.now)
+          c.args.self.now.due judged entry c.next.new.self c.requires.planned quiet next);
     }
 
 pub returns-in_err-push-clause-quiet : goal.returns-in_err-push-clause-quiet

@@ -14,5 +14,6 @@ invariant-loop-at g l = record {
       (g.V.Values.living l.values) l.self.filter l.t j.key j.verdict) l.judged.items;
   read : ((table : ℕ) (key : List ℕ) → IsFlatSoon l.t (g.V.Values.flat l.values table key))
       → l.meter.evals ≤ l.fn.meter.evals + 505 * length l.judged.items;
-  quiet : IsQuiet l.t (view_of_watch l.self) → (l.judged.items ≡ []) × (l.meter.evals ≡ l.fn.meter.evals);
+  quiet : IsQuiet l.t (view_of_watch l.self) → (l.judged.items ≡ [])
+      × (l.meter.evals ≡ l.fn.meter.evals);
 }
