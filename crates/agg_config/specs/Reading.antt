@@ -193,7 +193,7 @@ MayLack lines before =
     (before ≡ 0) ⊎ (takes_memory (slice_index_or lines before []) ≡ true)
 
 -- what is wrong at the line behind this many; where an allocation failed none of these has a fault,
--- and Syntax with no word is told behind the last line only
+-- and Syntax with no word is reported behind the last line only
 abbrev pub FaultBehind : List (List ℕ) → ℕ → LineCause → Option Misread → Type 0
 FaultBehind lines before NoMemory place =
     (before ≤ length lines) × AreSound lines before × MayLack lines before

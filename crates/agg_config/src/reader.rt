@@ -194,7 +194,7 @@ impl Reader {
 ///
 /// Each line is judged behind the lines before it: Syntax comes before Number, and that before
 /// Check. A text without a `name` line has the fault Syntax at the line after its last. `NoMemory`
-/// is told at the line where an allocation failed, and may come before any other fault; a blank
+/// is reported at the line where an allocation failed, and may come before any other fault; a blank
 /// line takes no memory, nor does a comment. docs/CONFIGURATION.md has the lines; what they declare
 /// is HAProxy's `peers` section and its `stick-table` lines (Configuration Manual).
 pub fn read(alloc: Global, text: &[u8]) -> Result<Config, LineFault>

@@ -25,14 +25,14 @@ use Rattle.agg_types.specs.declared.check.ConfigFault.TheVariants.{BadSize, BadN
 abbrev pub fault_if : Bool → ConfigFault → List ConfigFault
 fault_if there fault = if there then fault ∷ [] else []
 
--- the faults of each entry, which are told by the entries before it
+-- the faults of each entry, which follow from the entries before it
 abbrev pub each : {A : Type 0} → (List A → A → List ConfigFault) → List A → List A
     → List ConfigFault
 each faults before [] = []
 each faults before (entry ∷ entries) = faults before entry
     ++ each faults (before ++ entry ∷ []) entries
 
--- the faults of a peer, which are told by those before it
+-- the faults of a peer, which follow from those before it
 unfoldable pub peer_faults : List (List ℕ) → List ℕ → List ConfigFault
 peer_faults before name =
     fault_if (nat_le MOST_PEERS (length before)) TooMany
@@ -57,7 +57,7 @@ period_fits col = if is_rate col.0 then nat_le 1 col.1 && nat_lt col.1 PERIOD_EN
 abbrev pub is_within : ℕ → ℕ → Bool
 is_within number most = nat_le 1 number && nat_le number most
 
--- a length that keys may have, where it is told
+-- a length that keys may have, where it is given
 abbrev pub len_fits : KeyKind → Bool
 len_fits (Str len) = is_within len LONGEST_KEY
 len_fits (Binary len) = is_within len LONGEST_KEY
@@ -65,7 +65,7 @@ len_fits Integer = true
 len_fits Ip = true
 len_fits Ipv6 = true
 
--- the faults of a table, which are told by those before it
+-- the faults of a table, which follow from those before it
 unfoldable pub table_faults : List Shape → Shape → List ConfigFault
 table_faults before shape =
     fault_if (nat_le MOST_TABLES (length before)) TooMany
@@ -75,7 +75,7 @@ table_faults before shape =
     ++ fault_if (not (list_all period_fits shape.cols)) BadPeriod
     ++ fault_if (not (is_within shape.size LARGEST_SIZE && len_fits shape.kind)) BadSize
 
--- the faults of a filter, which are told by those before it
+-- the faults of a filter, which follow from those before it
 unfoldable pub filter_faults : List Shape → List Filter → Filter → List ConfigFault
 filter_faults tables before filter =
     fault_if (nat_le MOST_FILTERS (length before) || nat_lt MOST_CONDS (length filter.conds))
@@ -87,7 +87,7 @@ filter_faults tables before filter =
     (λ shape. list_all (λ cond. stores shape.cols cond.col) filter.conds))) UnknownColumn
     ++ fault_if (length filter.conds == 0) BadSize
 
--- the faults of a ranked list, which are told by those before it
+-- the faults of a ranked list, which follow from those before it
 unfoldable pub rank_faults : List Shape → List Rank → Rank → List ConfigFault
 rank_faults tables before rank =
     fault_if (nat_le MOST_RANKS (length before)) TooMany

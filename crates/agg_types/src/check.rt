@@ -86,7 +86,7 @@ trait Checked: Named {
     ghost use Rattle.agg_types.specs.declared.check.ConfigFault.{ConfigFault};
     ghost use Rattle.agg_types.specs.declared.config.Shape.{Shape};
 
-    // The faults of an entry, which are told by the tables and by the entries before it.
+    // The faults of an entry, which follow from the tables and the entries before it.
     ghost faults: { List Shape → List Self → Self → List ConfigFault };
 
     // The first fault of an entry, where `named` says whether one before it has its name.

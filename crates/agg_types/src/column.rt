@@ -11,8 +11,8 @@ pub const LAST_TYPE: u64 = 18;
 /// A column of stick tables that can be added up over a fleet: the stored data types of HAProxy's
 /// Configuration Manual ("stick-table", `store`), save those that are no sums.
 ///
-/// A rate is told by its period, in ms. Columns are ordered by the number that the peers protocol
-/// gives their data type.
+/// A rate is named with its period, in ms. Columns are ordered by the number that the peers
+/// protocol gives their data type.
 #[derive(Clone, Copy, Debug, PartialEq, Eq, PartialOrd, Ord)]
 pub enum Col {
     /// First general purpose counter.

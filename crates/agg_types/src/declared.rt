@@ -89,7 +89,7 @@ impl<T: Named> Declared<T> {
         self.firsts.contains_key(name)
     }
 
-    /// Whether one of the first declarations, as many as told, has a name.
+    /// Whether one of the first declarations, as many as given, has a name.
     pub fn has_before(&self, before: usize, name: &[u8]) -> bool
         ensures { result
             ≡ list_any (λ entry. bytes_eq (T.name_of entry) name.now) (take before self.now) }

@@ -19,7 +19,7 @@ pub fn columns_are_counted()
     ensures numbers { (col : Col) → col_id col ≤ LAST_TYPE }
 {}
 
-/// Of what is told of all columns, in their order, that of a column stands at its place.
+/// Of a list with one value for each column, in their order, that of a column is at its place.
 pub fn values_stand_at_their_columns()
     ensures { (f : Col → ℕ) (col : Col) → slice_index (map f all_cols) (place col) ≡ f col }
 {}

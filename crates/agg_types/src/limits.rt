@@ -1,4 +1,4 @@
-//! The limits of the product, each told once: code and definitions cite them by these names.
+//! The limits of the product, each written once: code and definitions cite them by these names.
 
 /// The most peers of a fleet.
 pub const MOST_PEERS: usize = 256;

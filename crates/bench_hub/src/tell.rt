@@ -1,4 +1,4 @@
-//! What is told of a run.
+//! What is printed of a run.
 
 use crate::load::Load;
 use anyhow::Result;

@@ -24,11 +24,11 @@ text_of (Words error) = None
 text_of BadAddress = Some (codes "bad address\n")
 text_of NoMemory = Some []
 
--- what is told of a failed allocation
+-- what is reported of a failed allocation
 abbrev pub IsWant : Usage → Type 0
 IsWant usage = usage ≡ NoMemory
 
--- what is told of an error of clap: that an allocation failed, or the error
+-- what is reported of an error of clap: that an allocation failed, or the error
 abbrev pub IsUsageOf : Error → Usage → Type 0
 IsUsageOf error (Words told) = (told ≡ error) × (kind_of error ≢ kind.OutOfMemory)
 IsUsageOf error BadAddress = ⊥

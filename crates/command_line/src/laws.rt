@@ -10,7 +10,7 @@ pub fn shown_lines()
     ensures joined { TakesJoined }
 {}
 
-/// Help is shown where it is asked for, and the common mistakes are told as what they are.
+/// Help is shown where it is asked for, and the common mistakes are reported as what they are.
 pub fn refused_lines()
     ensures help { (self : List ℕ) → ShowsHelp self }
     ensures mistakes { (self text : List ℕ) → Refuses self text }

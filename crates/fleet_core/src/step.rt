@@ -93,7 +93,7 @@ pub enum FleetFault {
     /// An allocation failed. The step isn't done; events that waited may have been taken.
     #[error("out of memory")]
     NoMemory,
-    /// The step is done and the connection is closed. What it told before is stored, and these
+    /// The step is done and the connection is closed. What it posted before is stored, and these
     /// bytes are still to be sent to it.
     #[error("{cause}")]
     Session { cause: SessionCause, out: Items<u8> },

@@ -6,7 +6,7 @@ use Rattle.agg_types.specs.declared.event.What.TheVariants.{Sit, Open, Put, Clea
 use Rattle.agg_types.specs.declared.event.What.TheVariants.{Moment, Leave}
 use Rattle.fleet_model.specs.declared.arrival.Arrival.{Arrival}
 
--- the moment after something happened: a later one that it tells, else the same
+-- the moment after something happened: a later one that it says, else the same
 abbrev pub moment_after : ℕ → What → ℕ
 moment_after now Sit = now
 moment_after now (Open peer) = now

@@ -183,7 +183,7 @@ pub fn values_never_rise()
         → value cols state.rows table key col later ≤ value cols state.rows table key col t }
 {}
 
-/// Sets and values at a moment to come are the same before and after an earlier moment is told:
+/// Sets and values at a moment to come are the same before and after an earlier moment has come:
 /// what is foreseen by the clock alone comes true.
 pub fn the_clock_alone()
     ensures sets { (state : State) (e : Event) (told : ℕ) → e.what ≡ Moment told

@@ -94,7 +94,7 @@ pub fn fleet_rate()
 {}
 
 /// A key passes through a filter's set while its rate falls, also between two moments that are
-/// told.
+/// counted.
 pub fn passing_set()
     ensures before { set_at (left_by (fleet_of 100 HttpReqRate 1000 []) one_rate)
         (filter_on HttpReqRate Eq 2) 0 ≡ [] }

@@ -23,7 +23,7 @@ pub enum NumberFault {
 }
 
 /// The number that a word of 1 to 20 decimal digits writes, up to 2^64 - 1. Leading zeros are read,
-/// a sign isn't. Of several faults the first in the order of `NumberFault` is told.
+/// a sign isn't. Of several faults the first in the order of `NumberFault` is reported.
 #[tactic(auto, unfolding(crate::specs::Numbers::number_of))]
 pub fn number(word: &[u8]) -> Result<u64, NumberFault>
     ensures { result ≡ number_of word.now }

@@ -54,7 +54,7 @@ impl<'a> Words<'a> {
         next_word(self.line).is_none()
     }
 
-    /// The next word. Where the line ends before it, `expected` is told.
+    /// The next word. Where the line ends before it, `expected` is reported.
     pub fn word(&mut self, expected: Expected) -> Result<&'a [u8], Misread>
         ensures { Reads (λ found. found.now) (word expected self.old) result self.new }
     {

@@ -41,7 +41,7 @@ Prints s text = Appends s.output0 s.output text × Keeps s.errors0 s.errors
 abbrev pub Complains : Streams → List ℕ → Type 0
 Complains s text = Keeps s.output0 s.output × Appends s.errors0 s.errors text
 
--- why there is no job was told: help on standard output alone, a mistake on standard error alone
+-- why there is no job was printed: help on standard output alone, a mistake on standard error alone
 pub record Tells (usage : Usage) (s : Streams) (prepared : Prepared) : Type 0 where
   pub ended : prepared ≡ Ended (usage_status usage)
   pub help : usage_status usage ≡ 0 → Keeps s.errors0 s.errors
@@ -65,7 +65,7 @@ pub record Collects (input : Option (List ℕ)) (peers admin : SocketAddrV4) (s 
   pub faultless : config_faults config ≡ []
   pub silent : Prints s []
 
--- its first fault was told on standard output
+-- its first fault was printed on standard output
 pub record IsFaulty (input : Option (List ℕ)) (s : Streams) (prepared : Prepared) : Type 0 where
   pub fault : LineFault
   pub ended : prepared ≡ Ended 3
@@ -73,7 +73,7 @@ pub record IsFaulty (input : Option (List ℕ)) (s : Streams) (prepared : Prepar
   pub faulty : fault.cause ≢ cause.NoMemory
   pub told : Prints s (line_text fault)
 
--- it wasn't read, or an allocation failed, which was told on standard error
+-- it wasn't read, or an allocation failed, which was printed on standard error
 pub record Breaks (s : Streams) (prepared : Prepared) : Type 0 where
   pub fault : Fault
   pub text : List ℕ
@@ -87,7 +87,7 @@ Does input Replay s prepared = Replays input s prepared
 Does input (Listen peers admin) s prepared =
     Collects input peers admin s prepared ⊎ IsFaulty input s prepared ⊎ Breaks s prepared
 
--- the words ask for a job, which is done; or for none, and why is told
+-- the words ask for a job, which is done; or for none, and why is printed
 abbrev pub Prepares : List Text → Option (List ℕ) → Streams → Prepared → Type 0
 Prepares words input s prepared =
     ((job : Job) × AsksFor words job × Does input job s prepared)

@@ -85,7 +85,7 @@ fn tell_usage<O: Write, E: Write>(
     Ok(Prepared::Ended(usage.status()))
 }
 
-// Reads the configuration on standard input, and tells what is wrong with it.
+// Reads the configuration on standard input, and reports what is wrong with it.
 fn listen<I: Read, O: Write, E: Write>(
     alloc: Global,
     input: &mut I,
@@ -118,7 +118,7 @@ fn listen<I: Read, O: Write, E: Write>(
     }
 }
 
-// Ends by a fault, which is told.
+// Ends by a fault, which is reported.
 fn end<E: Write>(alloc: Global, fault: &Fault, errors: &mut E) -> io::Result<Prepared>
     ensures { IfOk result (λ prepared. (known : Option (List ℕ))
         → Breaks (streams known known (E.contents errors.old) (E.contents errors.new)) prepared) }

@@ -61,7 +61,7 @@ pub record IsSettled (fleet : Collected) (config : Config) (opening : ℕ)
   pub stands : Represents fleet config opening past
   pub waiting : fleet.waiting ≡ []
 
--- a line did what is given: it left the fleet so, appended the text, and told the ending
+-- a line did what is given: it left the fleet so, appended the text, and gave the ending
 pub record Did (given : Given) (fleet : Collected) (config : Config) (opening : ℕ)
     (before after : List ℕ) (ending : Option Ending) : Type 0 where
   pub settled : IsSettled fleet config opening given.past

@@ -1,4 +1,4 @@
--- The exit status by which a replay tells how it ended.
+-- The exit status of each way in which a replay ends.
 use Rattle.std.specs.Prelude.{ℕ}
 use Rattle.replay.specs.declared.ending.Ending.{Ending}
 use Rattle.replay.specs.declared.ending.Ending.TheVariants.{Done, BadConfiguration, BadScript}

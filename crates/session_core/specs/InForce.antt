@@ -1,4 +1,4 @@
--- Which table an update is under, and its id, told by the messages before it. Lists of messages are
+-- Which table an update is under, and its id, as the messages before it say. Lists of messages are
 -- newest first here: what stands last counts.
 use Rattle.std.specs.Prelude.{ℕ, zero, suc, ◌+◌, ◌%◌, ◌^◌, ◌++◌, option_to_list, Bool, false}
 use Rattle.std.specs.Prelude.{nat_lt, ◌==◌, ◌&&◌, ◌||◌, is_some, if◌then◌else◌, List, [], ◌∷◌}

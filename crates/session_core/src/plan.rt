@@ -15,8 +15,8 @@ use std::alloc::Global;
 /// kept room and copied out in one block.
 const FEW: usize = 4;
 
-/// Where a column's integers are among those of an update. Three kinds are told apart by branches,
-/// which are foreseen; four took a table of jumps, and a third of the time of a long row.
+/// Where a column's integers are among those of an update. Three kinds are distinguished by
+/// branches, which are foreseen; four took a table of jumps, and a third of the time of a long row.
 #[derive(Clone, Copy, Debug)]
 pub(crate) enum Source {
     /// This cell stands for a column that isn't sent, or whose rate has another period.

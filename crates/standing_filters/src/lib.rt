@@ -14,7 +14,7 @@
 //! verdict then, however many changes were passed, and `add` adds a last filter. Each changes
 //! nothing where it runs out of memory. `keys` lends the keys whose verdict is that they are held,
 //! `planned` the moments at which verdicts change, each with its key, and `next_change` is the
-//! least of them. That a key which can't come into a set again is told by one value of each
+//! least of them. That a key which can't come into a set again is known by one value of each
 //! condition is meant for speed, and no clause says so; nor that a verdict is searched for once
 //! where a filter is the last of its table.
 #![tactic(auto)]
