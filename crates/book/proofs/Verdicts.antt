@@ -39,7 +39,7 @@ use Rattle.standing_filters.specs.Laws.{IsChanged, MomentKeepsVerdicts, TouchKee
 use Rattle.standing_filters.specs.Turns.{AreTurned}
 use Rattle.standing_filters.specs.Verdicts.{holds_at}
 use Rattle.standing_filters.specs.Watched.{AllWatched, AreTouched, IsAdded, IsFirstChange, Watched}
-use Rattle.standing_filters.specs.Watched.{is_among, kept_of, unheld, verdict_at}
+use Rattle.standing_filters.specs.Watched.{is_among, verdicts_of, unheld, verdict_at}
 use Rattle.standing_filters.specs.Watched.{no_filter as nothing}
 use Rattle.crossing.specs.First.{IsFirstFrom}
 use Rattle.book.specs.Flatness.{living_falls}
@@ -324,7 +324,7 @@ judged_at state watched position held inside =
 
 pub kept_set : (state : State) (watched : AllWatched) (position : ℕ) (keys : List (List ℕ))
     → IsSound state → AreAll state watched.filters → position < length state.config.filters
-    → AreKeysOf (λ key. (verdict_at (kept_of watched position) key).holds) keys
+    → AreKeysOf (λ key. (verdict_at (verdicts_of watched position) key).holds) keys
     → keys ≡ set_at state (filter_of state position) state.moment
 unfolding watch_at
 kept_set state watched position keys sound held inside are =
@@ -372,7 +372,7 @@ next_from state filtering (Some t) sound first =
 
 pub kept_next : FirstChangeIsTheSets → (state : State) (watched : AllWatched) (position : ℕ)
     (next : Option ℕ) → IsSound state → AreAll state watched.filters
-    → position < length state.config.filters → IsFirstChange (kept_of watched position) next
+    → position < length state.config.filters → IsFirstChange (verdicts_of watched position) next
     → IsNextChange state (filter_of state position) next
 unfolding watch_at
 kept_next law state watched position next sound held inside first =

@@ -11,7 +11,7 @@ ghost use Rattle.agg_types.specs.declared.limits.TheConstants.{MOST_CONDS};
 ghost use Rattle.fleet_model.specs.Keys.{AreKeysOf};
 ghost use Rattle.fleet_model.specs.Sound.{IsSound};
 ghost use Rattle.fleet_model.specs.State.{State};
-ghost use Rattle.standing_filters.specs.Watched.{kept_of, verdict_at};
+ghost use Rattle.standing_filters.specs.Watched.{verdicts_of, verdict_at};
 ghost use Rattle.book.specs.Held.{AreAll, AreFirst, AreHeld, ChangesKey, ChangesTable, Follows};
 ghost use Rattle.book.specs.Held.{GoesOn, HasMore, IsOneMore};
 
@@ -201,7 +201,7 @@ pub(crate) fn held_keys(
 ) -> Result<Vec<&Key>, NoMemory>
     requires { filter < length standing.now.filters }
     ensures { IfOk result (λ keys.
-        AreKeysOf (λ key. (verdict_at (kept_of standing.now filter) key).holds)
+        AreKeysOf (λ key. (verdict_at (verdicts_of standing.now filter) key).holds)
         (map (λ key. key.now) keys.items)) }
 {
     collect(alloc, standing.keys(filter))

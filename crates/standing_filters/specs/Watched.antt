@@ -39,8 +39,8 @@ abbrev pub no_filter : Filter
 no_filter = record { name = []; table = 0; conds = [] }
 
 -- the verdicts of the filter at a position
-abbrev pub kept_of : AllWatched → ℕ → List (List ℕ × Verdict)
-kept_of standing position = (slice_index_or standing.filters position (unheld no_filter)).kept
+abbrev pub verdicts_of : AllWatched → ℕ → List (List ℕ × Verdict)
+verdicts_of standing position = (slice_index_or standing.filters position (unheld no_filter)).kept
 
 -- the first moment at which the verdict on some key changes, or none where none ever does
 abbrev pub IsFirstChange : List (List ℕ × Verdict) → Option ℕ → Type 0

@@ -13,7 +13,7 @@ ghost use Rattle.expiry_wheel.specs.Entries.{IsInOrder};
 ghost use Rattle.standing_filters.specs.Plans.{IsPlanOf};
 ghost use Rattle.standing_filters.specs.Turns.{AreTurned, IsQuiet, pairs_due};
 ghost use Rattle.standing_filters.specs.Watched.{AreTouched, IsAdded, IsFirstChange, Watched};
-ghost use Rattle.standing_filters.specs.Watched.{kept_of, keys_held, unheld, verdict_at};
+ghost use Rattle.standing_filters.specs.Watched.{verdicts_of, keys_held, unheld, verdict_at};
 
 use crate::adding::watch_keys;
 use crate::keys::Keys;
@@ -147,12 +147,12 @@ impl Standing {
     /// The keys that a filter holds, in order.
     pub fn keys(&self, filter: usize) -> Keys<'_>
         requires { filter < length self.now.filters }
-        ensures held { result ≡ keys_held (kept_of self.now filter) }
+        ensures held { result ≡ keys_held (verdicts_of self.now filter) }
         ensures ordered { IsStrictlySortedBy (slice_cmp nat_cmp)
-            (keys_held (kept_of self.now filter)) }
+            (keys_held (verdicts_of self.now filter)) }
         ensures exact { (key : List ℕ)
-            → list_any (is_at (slice_cmp nat_cmp key)) (keys_held (kept_of self.now filter))
-            ≡ (verdict_at (kept_of self.now filter) key).holds }
+            → list_any (is_at (slice_cmp nat_cmp key)) (keys_held (verdicts_of self.now filter))
+            ≡ (verdict_at (verdicts_of self.now filter) key).holds }
     {
         self.watches[filter].keys()
     }
@@ -161,7 +161,7 @@ impl Standing {
     /// only the clock goes on; none where it never does.
     pub fn next_change(&self, filter: usize) -> Option<u64>
         requires { filter < length self.now.filters }
-        ensures { IsFirstChange (kept_of self.now filter) result }
+        ensures { IsFirstChange (verdicts_of self.now filter) result }
     {
         self.watches[filter].next_change()
     }
@@ -170,7 +170,7 @@ impl Standing {
     /// key or no longer holds one, by moment, then by key.
     pub fn planned(&self, filter: usize) -> Entries<'_, Key, Wheel<Key>>
         requires { filter < length self.now.filters }
-        ensures exact { IsPlanOf (kept_of self.now filter) result }
+        ensures exact { IsPlanOf (verdicts_of self.now filter) result }
         ensures ordered { IsInOrder (slice_cmp nat_cmp) result }
     {
         self.watches[filter].planned()
