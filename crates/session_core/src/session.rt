@@ -33,7 +33,7 @@ pub enum Idle {
 /// One connection of a peer, from its first byte on.
 ///
 /// It stands for the bytes that it has taken. Moments are in ms.
-#[derive(Debug, Drop)]
+#[derive(Debug)]
 pub struct Session {
     seated: bool,
     stage: Stage,
@@ -41,6 +41,20 @@ pub struct Session {
     last_output: u64,
     late: bool,
     alloc: Global,
+}
+
+// By hand, so that a crate that drops a session proves nothing of its parts.
+impl Drop for Session {
+    fn drop(self) {
+        let Session {
+            seated: _,
+            stage: _,
+            last_input: _,
+            last_output: _,
+            late: _,
+            alloc: _,
+        } = self;
+    }
 }
 
 impl Model for Session {
