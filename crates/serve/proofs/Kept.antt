@@ -12,6 +12,7 @@ use Rattle.std.proofs.lemmas.Bool.Decides.{nat_tests}
 use Rattle.std.proofs.lemmas.List.{take-append-drop, take-append-le, drop-append-le, length-drop}
 use Rattle.std.proofs.lemmas.List.{length-append}
 use Rattle.std.proofs.lemmas.List.Folds.{find-append}
+use Rattle.agg_types.specs.declared.limits.TheConstants.{LONGEST_COMMAND_LINE as longest}
 use Rattle.fleet_model.specs.State.{State}
 use Rattle.show_clear.proofs.Returns.{are_returns, returns_before, returns_behind}
 use Rattle.line_words.specs.Words.{words}
@@ -46,8 +47,8 @@ not_empty : (xs : List ℕ) → are_returns xs ≡ false → 1 ≤ length (witho
 not_empty [] some = absurd cc
 not_empty (x ∷ xs) some = rw some (omega arith)
 
-too_long : (front rest : List ℕ) → length front ≡ 4096 → are_returns rest ≡ false
-    → ltb 4096 (length (without_returns (front ++ rest))) ≡ true
+too_long : (front rest : List ℕ) → length front ≡ longest → are_returns rest ≡ false
+    → ltb longest (length (without_returns (front ++ rest))) ≡ true
 too_long front rest long some =
     let left = not_empty rest some in
     let whole : length (without_returns (front ++ rest)) ≡ length front
@@ -63,32 +64,34 @@ some_there (x ∷ xs) some = omega arith
 same_text : (book : State) (a b : List ℕ) → without_returns a ≡ without_returns b
     → command_of book a ≡ command_of book b
 same_text book a b same =
-    ap (λ (text : List ℕ). if nat_lt 4096 (length text) then Err Unknown else asked book
+    ap (λ (text : List ℕ). if nat_lt longest (length text) then Err Unknown else asked book
     (words text)) same
 
 -- what a line says stands in what is kept of it
 pub kept_says : (book : State) (line : List ℕ) → command_of book (kept_of line)
     ≡ command_of book line
-kept_says book line = by (text_byte (drop 4096 line)) refl
+kept_says book line = by (text_byte (drop longest line)) refl
   where
-    by : (found : Option ℕ) → text_byte (drop 4096 line) ≡ found
-        → command_of book (take 4096 line ++ option_to_list found) ≡ command_of book line
+    by : (found : Option ℕ) → text_byte (drop longest line) ≡ found
+        → command_of book (take longest line ++ option_to_list found) ≡ command_of book line
     by None none =
-        ap (λ l. command_of book l) (append-nil (take 4096 line))
-        ∙ same_text book (take 4096 line) line
-        (sym (returns_behind (take 4096 line) (drop 4096 line) (only_returns (drop 4096 line) none))
-        ∙ ap without_returns (take-append-drop 4096 line))
+        ap (λ l. command_of book l) (append-nil (take longest line))
+        ∙ same_text book (take longest line) line
+        (sym (returns_behind (take longest line) (drop longest line)
+        (only_returns (drop longest line) none))
+        ∙ ap without_returns (take-append-drop longest line))
     by (Some byte) some =
-        let facts = some_left (drop 4096 line) byte some in
-        let there = some_there (drop 4096 line) facts.0 in
-        let behind = length-drop 4096 line in
-        let full : length (take 4096 line) ≡ 4096 =
-        length-take-le 4096 line (omega (arith, there, behind)) in
-        let kept : ltb 4096 (length (without_returns (take 4096 line ++ byte ∷ []))) ≡ true =
-        too_long (take 4096 line) (byte ∷ []) full (rw facts.1 refl) in
-        let whole : ltb 4096 (length (without_returns line)) ≡ true =
-        subst (λ (l : List ℕ). ltb 4096 (length (without_returns l)) ≡ true)
-        (take-append-drop 4096 line) (too_long (take 4096 line) (drop 4096 line) full facts.0) in
+        let facts = some_left (drop longest line) byte some in
+        let there = some_there (drop longest line) facts.0 in
+        let behind = length-drop longest line in
+        let full : length (take longest line) ≡ longest =
+        length-take-le longest line (omega (arith, there, behind)) in
+        let kept : ltb longest (length (without_returns (take longest line ++ byte ∷ []))) ≡ true =
+        too_long (take longest line) (byte ∷ []) full (rw facts.1 refl) in
+        let whole : ltb longest (length (without_returns line)) ≡ true =
+        subst (λ (l : List ℕ). ltb longest (length (without_returns l)) ≡ true)
+        (take-append-drop longest line)
+        (too_long (take longest line) (drop longest line) full facts.0) in
         rw (kept, whole) refl
 
 -- ---- what is kept of a line that goes on
@@ -106,13 +109,14 @@ drop_short zero (x ∷ xs) le = absurd (omega arith)
 drop_short (suc n) (x ∷ xs) le = drop_short n xs (omega arith)
 
 -- a short line is kept whole
-kept_short : (line : List ℕ) → length line ≤ 4096 → kept_of line ≡ line
+kept_short : (line : List ℕ) → length line ≤ longest → kept_of line ≡ line
 kept_short line short =
-    ap (λ behind. take 4096 line ++ option_to_list (text_byte behind)) (drop_short 4096 line short)
-    ∙ (append-nil (take 4096 line) ∙ take_short 4096 line short)
+    ap (λ behind. take longest line ++ option_to_list (text_byte behind))
+    (drop_short longest line short)
+    ∙ (append-nil (take longest line) ∙ take_short longest line short)
 
 -- bytes behind a short line
-short_on : (line more : List ℕ) (room : ℕ) → length line + room ≡ 4096
+short_on : (line more : List ℕ) (room : ℕ) → length line + room ≡ longest
     → (line ++ take room more) ++ option_to_list (text_byte (drop room more))
     ≡ kept_of (line ++ more)
 short_on line more room is =
@@ -123,72 +127,76 @@ short_on line more room is =
     (drop-append-add line more room)))
 
 -- bytes behind a long one
-long_on : (line more : List ℕ) (found : Option ℕ) → 4096 ≤ length line
-    → text_byte (drop 4096 line) ≡ found → kept_of (line ++ more)
-    ≡ take 4096 line ++ option_to_list (option_or found (text_byte more))
+long_on : (line more : List ℕ) (found : Option ℕ) → longest ≤ length line
+    → text_byte (drop longest line) ≡ found → kept_of (line ++ more)
+    ≡ take longest line ++ option_to_list (option_or found (text_byte more))
 long_on line more found long is =
-    ap (λ ks. ks ++ option_to_list (text_byte (drop 4096 (line ++ more))))
-    (take-append-le 4096 line more long)
-    ∙ ap (λ (o : Option ℕ). take 4096 line ++ option_to_list o)
-    (ap text_byte (drop-append-le 4096 line more long)
-    ∙ (find-append (λ byte. not (eqb byte 13)) (drop 4096 line) more
+    ap (λ ks. ks ++ option_to_list (text_byte (drop longest (line ++ more))))
+    (take-append-le longest line more long)
+    ∙ ap (λ (o : Option ℕ). take longest line ++ option_to_list o)
+    (ap text_byte (drop-append-le longest line more long)
+    ∙ (find-append (λ byte. not (eqb byte 13)) (drop longest line) more
     ∙ ap (λ o. option_or o (text_byte more)) is))
 
 -- a line that is known to be too long
-pub kept_full : (line more kept : List ℕ) → kept ≡ kept_of line → 4096 < length kept
+pub kept_full : (line more kept : List ℕ) → kept ≡ kept_of line → longest < length kept
     → kept ≡ kept_of (line ++ more)
 kept_full line more kept is full =
-    elim (cases_lt 4096 (length line)) [
-      | inl long ↦ by (text_byte (drop 4096 line)) refl (omega arith)
+    elim (cases_lt longest (length line)) [
+      | inl long ↦ by (text_byte (drop longest line)) refl (omega arith)
       | inr short ↦
           let same = ap length (is ∙ kept_short line (omega arith)) in absurd (omega arith)
     ]
   where
-    by : (found : Option ℕ) → text_byte (drop 4096 line) ≡ found → 4096 ≤ length line
+    by : (found : Option ℕ) → text_byte (drop longest line) ≡ found → longest ≤ length line
         → kept ≡ kept_of (line ++ more)
     by None none long =
-        let alone : kept ≡ take 4096 line = is ∙ (ap (λ o. take 4096 line ++ option_to_list o) none
-        ∙ append-nil (take 4096 line)) in
-        let many = ap length alone ∙ length-take-le 4096 line long in absurd (omega arith)
+        let alone : kept ≡ take longest line = is
+        ∙ (ap (λ o. take longest line ++ option_to_list o) none
+        ∙ append-nil (take longest line)) in
+        let many = ap length alone ∙ length-take-le longest line long in absurd (omega arith)
     by (Some byte) some long =
-        is ∙ (ap (λ o. take 4096 line ++ option_to_list o) some
+        is ∙ (ap (λ o. take longest line ++ option_to_list o) some
         ∙ sym (long_on line more (Some byte) long some))
 
 -- one that isn't
-pub kept_on : (line more kept : List ℕ) (room : ℕ) → kept ≡ kept_of line → length kept + room ≡ 4096
+pub kept_on : (line more kept : List ℕ) (room : ℕ) → kept ≡ kept_of line
+    → length kept + room ≡ longest
     → (kept ++ take room more) ++ option_to_list (text_byte (drop room more))
     ≡ kept_of (line ++ more)
 kept_on line more kept room is free =
-    elim (cases_lt 4096 (length line)) [
-      | inl long ↦ by (text_byte (drop 4096 line)) refl (omega arith)
+    elim (cases_lt longest (length line)) [
+      | inl long ↦ by (text_byte (drop longest line)) refl (omega arith)
       | inr short ↦
           let same = is ∙ kept_short line (omega arith) in
-          let room_is : length line + room ≡ 4096 = ap (λ l. length l + room) (sym same) ∙ free in
+          let room_is : length line + room ≡ longest = ap (λ l. length l + room) (sym same)
+          ∙ free in
           ap (λ ks. (ks ++ take room more) ++ option_to_list (text_byte (drop room more))) same
           ∙ short_on line more room room_is
     ]
   where
-    by : (found : Option ℕ) → text_byte (drop 4096 line) ≡ found → 4096 ≤ length line
+    by : (found : Option ℕ) → text_byte (drop longest line) ≡ found → longest ≤ length line
         → (kept ++ take room more) ++ option_to_list (text_byte (drop room more))
         ≡ kept_of (line ++ more)
     by None none long =
-        let alone : kept ≡ take 4096 line = is ∙ (ap (λ o. take 4096 line ++ option_to_list o) none
-        ∙ append-nil (take 4096 line)) in
-        let many = ap length alone ∙ length-take-le 4096 line long in
+        let alone : kept ≡ take longest line = is
+        ∙ (ap (λ o. take longest line ++ option_to_list o) none
+        ∙ append-nil (take longest line)) in
+        let many = ap length alone ∙ length-take-le longest line long in
         let full : room ≡ 0 = omega (arith, many, free) in
         ap (λ n. (kept ++ take n more) ++ option_to_list (text_byte (drop n more))) full
         ∙ (ap (λ ks. ks ++ option_to_list (text_byte more)) (append-nil kept ∙ alone)
         ∙ sym (long_on line more None long none))
     by (Some byte) some long =
-        let more_kept : kept ≡ take 4096 line ++ byte ∷ [] =
-        is ∙ ap (λ o. take 4096 line ++ option_to_list o) some in
-        let many = ap length more_kept ∙ (length-append (take 4096 line) (byte ∷ [])
-        ∙ ap (λ n. n + 1) (length-take-le 4096 line long)) in
+        let more_kept : kept ≡ take longest line ++ byte ∷ [] =
+        is ∙ ap (λ o. take longest line ++ option_to_list o) some in
+        let many = ap length more_kept ∙ (length-append (take longest line) (byte ∷ [])
+        ∙ ap (λ n. n + 1) (length-take-le longest line long)) in
         absurd (omega arith)
 
 -- no byte behind what is kept shows that the line is too long
 pub kept_whole : (line more kept front behind after : List ℕ) (room : ℕ) → kept ≡ kept_of line
-    → length kept + room ≡ 4096 → front ≡ take room more → behind ≡ drop room more
+    → length kept + room ≡ longest → front ≡ take room more → behind ≡ drop room more
     → None ≡ text_byte behind → after ≡ kept ++ front → after ≡ kept_of (line ++ more)
 kept_whole line more kept front behind after room is free in_front at_end none grown =
     grown ∙ (ap (λ ks. kept ++ ks) in_front ∙ (sym (append-nil (kept ++ take room more))
@@ -197,7 +205,7 @@ kept_whole line more kept front behind after room is free in_front at_end none g
 
 -- one does
 pub kept_marked : (line more kept front behind middle after : List ℕ) (room byte : ℕ)
-    → kept ≡ kept_of line → length kept + room ≡ 4096 → front ≡ take room more
+    → kept ≡ kept_of line → length kept + room ≡ longest → front ≡ take room more
     → behind ≡ drop room more → Some byte ≡ text_byte behind → middle ≡ kept ++ front
     → after ≡ middle ++ byte ∷ [] → after ≡ kept_of (line ++ more)
 kept_marked line more kept front behind middle after room byte is free in_front at_end some grown

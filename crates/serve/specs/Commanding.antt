@@ -4,6 +4,7 @@ use Rattle.std.specs.Prelude.{Ok, Err}
 use Rattle.std.specs.Io.KnownBytes.{Appends}
 use Rattle.std.specs.Option.{option_to_list}
 use Rattle.agg_types.specs.declared.event.What.{What}
+use Rattle.agg_types.specs.declared.limits.TheConstants.{LONGEST_COMMAND_LINE}
 use Rattle.hub.specs.declared.faults.PostFault.{PostFault}
 use Rattle.hub.specs.History.{Beginning}
 use Rattle.hub.specs.Posts.{Follows}
@@ -20,10 +21,11 @@ use Rattle.serve.specs.Turns.{WroteFront}
 abbrev pub text_byte : List ℕ → Option ℕ
 text_byte bytes = find (λ byte. not (byte == 13)) bytes
 
--- what is kept of a line: its first 4,096 bytes, and the first behind them that is no CR, which
--- shows that it is too long for a command
+-- what is kept of a line: as many bytes as a command may have, and the first behind them that is
+-- no CR, which shows that it is too long
 abbrev pub kept_of : List ℕ → List ℕ
-kept_of line = take 4096 line ++ option_to_list (text_byte (drop 4096 line))
+kept_of line =
+    take LONGEST_COMMAND_LINE line ++ option_to_list (text_byte (drop LONGEST_COMMAND_LINE line))
 
 -- this was told at a seat, and what its lens has seen shows it
 pub record HasLearned (hub : Beginning) (seat : ℕ) (worker : Worker) (whats : List What)

@@ -6,11 +6,9 @@ ghost use Rattle.serve.specs.Commanding.{kept_of, text_byte};
 ghost use Rattle.serve.specs.Commands.{HasNoEnd};
 
 use agg_types::NoMemory;
+use agg_types::limits::LONGEST_COMMAND_LINE;
 use line_words::place_of;
 use std::alloc::Global;
-
-/// The most bytes of a command line, the CRs at its end left out.
-const LONGEST_LINE: usize = 4096;
 
 /// A line that hasn't ended, of which no more is kept than a command may have and one byte that
 /// shows that it is too long: CRs behind it aren't counted.
@@ -43,10 +41,10 @@ impl Line {
         ensures err { OnErr result (self.new.bytes.items ≡ self.old.bytes.items) }
     {
         let len = self.bytes.len();
-        if len > LONGEST_LINE {
+        if len > LONGEST_COMMAND_LINE {
             return Ok(());
         }
-        let (front, behind) = parted_at(bytes, LONGEST_LINE - len);
+        let (front, behind) = parted_at(bytes, LONGEST_COMMAND_LINE - len);
         self.bytes.extend_from_slice(front)?;
         let Some(byte) = text_byte(behind) else {
             return Ok(());

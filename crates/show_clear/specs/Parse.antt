@@ -15,6 +15,7 @@ use Rattle.agg_types.specs.declared.config.Op.{Op}
 use Rattle.agg_types.specs.declared.config.Shape.{Shape}
 use Rattle.agg_types.specs.declared.event.Select.{Select}
 use Rattle.agg_types.specs.declared.event.Select.TheVariants.{All, One, Conds}
+use Rattle.agg_types.specs.declared.limits.TheConstants.{LONGEST_COMMAND_LINE}
 use Rattle.agg_types.specs.declared.limits.TheConstants.{MOST_CONDS, MOST_FILTERS}
 use Rattle.fleet_model.specs.State.{State}
 use Rattle.key_text.specs.Read.{key_of}
@@ -223,10 +224,10 @@ without_returns [] = []
 without_returns (byte ∷ bytes) =
     if list_all (λ b. b == 13) (byte ∷ bytes) then [] else byte ∷ without_returns bytes
 
--- the command that a line of up to 4,096 bytes says. The CRs at its end are no part of it.
+-- the command that a line says, which isn't too long. The CRs at its end are no part of it.
 abbrev pub command_of : State → List ℕ → Read Command
 command_of state line =
-    if nat_lt 4096 (length (without_returns line))
+    if nat_lt LONGEST_COMMAND_LINE (length (without_returns line))
     then Err Unknown
     else asked state (words (without_returns line))
 

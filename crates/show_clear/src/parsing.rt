@@ -16,13 +16,11 @@ use crate::conditions::{read_conds, read_some_conds};
 use crate::fleet::Book;
 use crate::word::some_word;
 use crate::{Change, Command, CommandFault, Question};
+use agg_types::limits::LONGEST_COMMAND_LINE;
 use agg_types::{Filter, KeyKind, MOST_FILTERS, Name, Select, Shape, is_name};
 use key_text::read_key;
 use line_words::next_word;
 use std::alloc::Global;
-
-/// The most bytes of a line, the CRs at its end left out.
-const LONGEST_LINE: usize = 4096;
 
 /// The command that a line says, over what stands in a book, or the first fault from the left. The
 /// line comes without its LF; CRs at its end are dropped. Words are separated by one or more
@@ -43,7 +41,7 @@ fn parse_line(alloc: Global, book: &Book, line: &[u8]) -> Result<Command, Comman
     ensures spare { result ≡ Err Refused → 4 ≤ length (words (without_returns line.now)) }
 {
     let line = without_returns(line);
-    if line.len() > LONGEST_LINE {
+    if line.len() > LONGEST_COMMAND_LINE {
         return Err(CommandFault::Unknown);
     }
     parse_words(alloc, book, line)
