@@ -6,6 +6,7 @@
     time_receiver.py --to 127.0.0.1:10000 --keys 100000 --updates 1000000
     time_receiver.py --collector ../crates/aggregator/out/aggregator --ask "show table t key 10.0.0.7"
     time_receiver.py --collector ../crates/aggregator/out/aggregator --senders 2 --ask "show table t" --pause 0
+    time_receiver.py --collector ../crates/aggregator/out/aggregator --peers 64 --keys 10000 --filter all --rank
 
 It speaks as the peer `lb1` to the receiver `agg`, defines a table `t` of addresses with gpc0, conn_cnt and
 http_req_rate(10s), and sends one update of each key, in a scattered order, and then the asked number of
@@ -13,7 +14,11 @@ updates over the keys in that order again. Each is timed from its first byte to 
 last update. With `--collector` or `--haproxy` it starts that program as the receiver, on free ports, and says
 how much resident memory a key took; `--threads` is HAProxy's `nbthread`. `--random` draws the keys of the
 updates instead, the same in every run. `--senders 4` pushes as four peers at once, each with the same keys, and
-prints what all of them bring. The bytes are prepared before the clock starts.
+prints what all of them bring. `--peers 64` pushes as 64 peers with the same keys that one sender feeds in turn, 16 KB
+at a time, so that the sender takes one processor however many they are. The bytes are prepared before the clock starts.
+
+`--filter few` lets the collector keep a filter on a rate that one key in a thousand meets, `--filter all` one that
+every key meets and whose change moves with each update; `--rank` lets it keep a ranked list of ten.
 
 With `--ask`, each of some rounds behind those pushes as many updates, without ids, twice: alone, and beside an
 admin. The admin asks this over and over, with a pause of 0.1 s or `--pause` between an answer and the next
@@ -41,7 +46,15 @@ SCATTER = 2147483647
 COLLECTOR_CONFIG = """name agg
 {peers}
 table t type ip size 1000000 store gpc0,conn_cnt,http_req_rate(10000)
-"""
+{more}"""
+
+FILTERS = {
+    "few": "filter few t data.http_req_rate gt 100000\n",
+    "all": "filter all t data.http_req_rate gt 0\n",
+}
+RANK = "rank ten t gpc0 10\n"
+BUSY = 200000
+TURN = 16384
 
 CONFIG = """global
     nbthread {threads}
@@ -69,13 +82,18 @@ def definition(expiry):
     return message(DEFINE, head + put_int(expiry) + put_int(10) + put_int(10000))
 
 
-def updates(first, numbers):
-    """The bytes of updates of these key numbers, with ids from `first` on; without ids where there is no first."""
+def updates(first, numbers, busy=False):
+    """The bytes of updates of these key numbers, with ids from `first` on; without ids where there is no first.
+
+    Where some are `busy`, each thousandth key has a rate above all others.
+    """
     out = bytearray()
     values = put_int(7) + put_int(9)
     rates = [values + put_int(elapsed) + put_int(40) + put_int(30) for elapsed in range(240)]
+    high = values + put_int(0) + put_int(BUSY) + put_int(BUSY)
     for place, number in enumerate(numbers):
-        row = struct.pack(">I", 0x0A000000 + number) + rates[place % 240]
+        rate = high if busy and number % 1000 == 0 else rates[place % 240]
+        row = struct.pack(">I", 0x0A000000 + number) + rate
         if first is None:
             out += message(INCREMENTAL, row)
         else:
@@ -115,13 +133,53 @@ class Peer:
             if writable:
                 sent += self.socket.send(view[sent:sent + 262144])
             if readable:
-                more = self.socket.recv(262144)
-                if not more:
-                    sys.exit(f"the receiver closed: {sent} of {len(view)} bytes sent")
-                self.unread += more
-                found, end = acknowledged(self.unread)
-                self.unread = self.unread[end:]
-                done = found or done
+                done = self.read() or done
+        return time.perf_counter() - start
+
+    def read(self):
+        """The last update id that what has come acknowledges, 0 where it acknowledges none."""
+        more = self.socket.recv(262144)
+        if not more:
+            sys.exit("the receiver closed")
+        self.unread += more
+        found, end = acknowledged(self.unread)
+        self.unread = self.unread[end:]
+        return found
+
+    def takes(self, last):
+        """Whether what has come acknowledges this update."""
+        return self.read() == last
+
+
+class InTurn:
+    """Peers with the same rows, which one sender feeds in turn."""
+
+    def __init__(self, address, senders, receiver):
+        self.peers = [Peer(address, sender, receiver) for sender in senders]
+
+    def push(self, data, last):
+        """Sends all peers' bytes, and waits for their acknowledgements of `last`; the seconds that it took."""
+        view = memoryview(data)
+        poll = select.epoll()
+        left = {}
+        for peer in self.peers:
+            peer.socket.setblocking(False)
+            left[peer.socket.fileno()] = [peer, 0]
+            poll.register(peer.socket, select.EPOLLIN | select.EPOLLOUT)
+        start = time.perf_counter()
+        while left:
+            ready = poll.poll(20)
+            if not ready:
+                sys.exit(f"nothing for 20 s: {len(left)} of {len(self.peers)} peers aren't acknowledged")
+            for number, events in ready:
+                peer, sent = left[number]
+                if events & select.EPOLLOUT:
+                    left[number][1] = sent = sent + peer.socket.send(view[sent:sent + TURN])
+                    if sent == len(view):
+                        poll.modify(number, select.EPOLLIN)
+                if events & ~select.EPOLLOUT and peer.takes(last):
+                    poll.unregister(number)
+                    del left[number]
         return time.perf_counter() - start
 
 
@@ -153,7 +211,7 @@ def start_haproxy(program, threads, folder, senders=("lb1",)):
     return process, ("127.0.0.1", port), lambda question: ask_proxy(f"{folder}/stats", question, timeout=60)
 
 
-def start_collector(program, senders, folder):
+def start_collector(program, senders, folder, more=""):
     """Starts the collector as the receiver; its process, its peers' address and what asks it."""
     probes = [socket.create_server(("127.0.0.1", 0)) for _ in range(2)]
     peers, admin = [probe.getsockname() for probe in probes]
@@ -161,7 +219,7 @@ def start_collector(program, senders, folder):
         probe.close()
     names = "\n".join(f"peer {name}" for name in senders)
     config = pathlib.Path(folder) / "collector.conf"
-    config.write_text(COLLECTOR_CONFIG.format(peers=names))
+    config.write_text(COLLECTOR_CONFIG.format(peers=names, more=more))
     with open(config, "rb") as text:
         words = [program, "listen", "--peers", "%s:%d" % peers, "--admin", "%s:%d" % admin]
         process = subprocess.Popen(words, stdin=text, stdout=subprocess.PIPE, stderr=subprocess.DEVNULL)
@@ -173,19 +231,20 @@ def start_collector(program, senders, folder):
 def streams(options):
     """The bytes of each push: they make each key known, update the keys, and again in each round."""
     scattered = [(place * SCATTER) % options.keys for place in range(options.keys)]
-    first = definition(options.expiry) + updates(1, scattered)
+    busy = options.filter == "few"
+    first = definition(options.expiry) + updates(1, scattered, busy)
     if options.random:
         draw = random.Random(1)
         again = [draw.randrange(options.keys) for _ in range(options.updates)]
     else:
         again = [scattered[place % options.keys] for place in range(options.updates)]
-    rounds = [updates(None, again)] * (2 * options.rounds) if options.ask else []
-    return [first, updates(options.keys + 1, again)] + rounds
+    rounds = [updates(None, again, busy)] * (2 * options.rounds) if options.ask else []
+    return [first, updates(options.keys + 1, again, busy)] + rounds
 
 
 def push_as(address, options, sender, data, turns, told):
     """One peer's pushes, each once all peers are ready."""
-    peer = Peer(address, sender, options.receiver)
+    peer = InTurn(address, sender, options.receiver) if options.peers else Peer(address, sender, options.receiver)
     for turn, bytes_of in enumerate(data):
         turns.wait()
         took = peer.push(bytes_of, options.keys + turn * options.updates)
@@ -220,12 +279,12 @@ def tell_push(what, total, took):
     print(f"{total} {what}: {took:.2f} us each, {1 / took:.2f} million a second")
 
 
-def push_all(count, turns, told):
+def push_all(count, peers, turns, told):
     """Lets all peers push; the µs that an update took."""
     turns.wait()
     took = max(told.get() for _ in range(turns.parties - 1))
     turns.wait()
-    return took / (count * (turns.parties - 1)) * 1e6
+    return took / (count * peers) * 1e6
 
 
 def push_asked(options, asked, turns, told):
@@ -233,7 +292,7 @@ def push_asked(options, asked, turns, told):
     done, answers = multiprocessing.Event(), multiprocessing.Queue()
     admin = multiprocessing.Process(target=ask_on, args=(asked, options, done, answers))
     admin.start()
-    took = push_all(options.updates, turns, told)
+    took = push_all(options.updates, len(names(options)), turns, told)
     done.set()
     waited = answers.get()
     admin.join()
@@ -242,12 +301,12 @@ def push_asked(options, asked, turns, told):
 
 def measure_asked(options, asked, turns, told):
     """Rounds of pushes, alone and beside an admin."""
-    total = options.updates * (turns.parties - 1)
+    total = options.updates * len(names(options))
     at_rest = [timed(asked, options.ask) for _ in range(5)]
     tell_answers(f"at rest, {at_rest[-1][1]} bytes", [took for took, _ in at_rest])
     alone, beside, waited = [], [], []
     for _ in range(options.rounds):
-        alone.append(push_all(options.updates, turns, told))
+        alone.append(push_all(options.updates, len(names(options)), turns, told))
         took, answers = push_asked(options, asked, turns, told)
         beside.append(took)
         waited += answers
@@ -263,15 +322,17 @@ def measure(address, options, pid, asked=None):
     data = streams(options)
     before = resident(pid) if pid else 0
     senders = names(options)
-    turns, told = multiprocessing.Barrier(len(senders) + 1), multiprocessing.Queue()
+    pushers = [senders] if options.peers else senders
+    turns, told = multiprocessing.Barrier(len(pushers) + 1), multiprocessing.Queue()
     peers = [multiprocessing.Process(target=push_as, args=(address, options, name, data, turns, told))
-             for name in senders]
+             for name in pushers]
     for peer in peers:
         peer.start()
-    tell_push("new keys", options.keys * len(senders), push_all(options.keys, turns, told))
+    tell_push("new rows", options.keys * len(senders), push_all(options.keys, len(senders), turns, told))
     if pid:
         print(f"resident: {(resident(pid) - before) / options.keys:.0f} bytes a key")
-    tell_push("updates of held keys", options.updates * len(senders), push_all(options.updates, turns, told))
+    held = options.updates * len(senders)
+    tell_push("updates of held rows", held, push_all(options.updates, len(names(options)), turns, told))
     if options.ask:
         measure_asked(options, asked, turns, told)
     for peer in peers:
@@ -280,7 +341,13 @@ def measure(address, options, pid, asked=None):
 
 def names(options):
     """The peers' names."""
-    return [f"lb{number + 1}" for number in range(options.senders)] if options.senders > 1 else [options.sender]
+    count = options.peers or options.senders
+    return [f"lb{number + 1}" for number in range(count)] if count > 1 else [options.sender]
+
+
+def declared(options):
+    """The filter and the ranked list that the collector is to keep, as lines of its configuration."""
+    return FILTERS.get(options.filter, "") + (RANK if options.rank else "")
 
 
 def main():
@@ -294,6 +361,9 @@ def main():
     words.add_argument("--expiry", type=int, default=600000)
     words.add_argument("--random", action="store_true")
     words.add_argument("--senders", type=int, default=1, help="how many peers push at once")
+    words.add_argument("--peers", type=int, default=0, help="how many peers one sender feeds in turn")
+    words.add_argument("--filter", choices=FILTERS, help="which keys a filter of the collector holds")
+    words.add_argument("--rank", action="store_true", help="let the collector keep a ranked list")
     words.add_argument("--ask", help="what an admin asks while the updates are pushed once more")
     words.add_argument("--rounds", type=int, default=5, help="how often they are pushed alone and beside an admin")
     words.add_argument("--pause", type=float, default=0.1, help="how long the admin rests, in seconds")
@@ -311,7 +381,7 @@ def main():
         words.error("--collector, --haproxy or --to is needed")
     with tempfile.TemporaryDirectory() as folder:
         if options.collector:
-            process, address, asked = start_collector(options.collector, names(options), folder)
+            process, address, asked = start_collector(options.collector, names(options), folder, declared(options))
         else:
             process, address, asked = start_haproxy(options.haproxy, options.threads, folder, names(options))
         try:
