@@ -4,7 +4,7 @@ use Rattle.std.proofs.Common.{drop}
 use Rattle.std.proofs.Common.{get_or, Bool, Option, None, Some, Result, Ok, Err, IfOk, IfErr}
 use Rattle.std.proofs.Common.{is_some, refl, sym, ap, ◌∙◌}
 use Rattle.std.proofs.Common.{subst, arith, append_assoc, append-nil, length-append}
-use Rattle.std.proofs.lemmas.List.{take-append-le, drop-append-le, take_all, get_or_append_left}
+use Rattle.std.proofs.lemmas.List.{take-append-le, get_or_append_left}
 use Rattle.agg_types.specs.declared.config.Config.{Config}
 use Rattle.agg_config.specs.Lines.{AreWritten, Finishes, ReadSoFar}
 use Rattle.agg_config.specs.Reading.{AreSound, FailsFirst, IsFirstFault, Passes, Write, behind}

@@ -3,3 +3,7 @@ pub mod Each
 pub mod Finished
 pub mod Lines
 pub mod Ordered
+pub mod ColumnsBack
+pub mod LinesBack
+pub mod TextBack
+pub mod ConfigBack

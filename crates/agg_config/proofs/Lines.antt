@@ -1,5 +1,5 @@
 -- The lines of a text, one behind the others.
-use Rattle.std.proofs.Common.{◌≡◌, ℕ, ◌⊎◌, inr, true, ◌+◌, ◌<◌, ◌≤◌, ◌||◌, List, [], ◌∷◌, ◌++◌}
+use Rattle.std.proofs.Common.{◌≡◌, ℕ, inr, true, ◌+◌, ◌<◌, ◌≤◌, ◌||◌, List, [], ◌∷◌, ◌++◌}
 use Rattle.std.proofs.Common.{length, take, drop}
 use Rattle.std.proofs.Common.{get_or, map, Option, Some, None, Ok, Err, Bool, ◌&&◌, refl, sym, ap}
 use Rattle.std.proofs.Common.{◌∙◌, arith, length-drop, drop-cons, add-one}

@@ -4,3 +4,4 @@ pub mod Filters
 pub mod ReadResults
 pub mod Lines
 pub mod Reading
+pub mod Written

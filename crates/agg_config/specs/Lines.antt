@@ -1,5 +1,5 @@
 -- A configuration that is read line by line.
-use Rattle.std.specs.Prelude.{◌≡◌, ℕ, Bool, List, [], ◌++◌, length, Option, None, Some, Result, Ok}
+use Rattle.std.specs.Prelude.{◌≡◌, ℕ, Bool, List, ◌++◌, length, Option, None, Some, Result, Ok}
 use Rattle.std.specs.Prelude.{Err}
 use Rattle.agg_types.specs.declared.config.Config.{Config}
 use Rattle.agg_config.specs.Reading.{AreSound, IsFirstFault, Write, is_named, written}

@@ -18,5 +18,5 @@ mod reader;
 
 pub(crate) use causes::Unread;
 pub use causes::{LineCause, LineFault};
-pub use laws::in_order_keeps;
+pub use laws::{in_order_keeps, written_configuration_is_read, written_line_is_read};
 pub use reader::{Reader, read};

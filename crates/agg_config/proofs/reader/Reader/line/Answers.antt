@@ -1,4 +1,4 @@
-use Rattle.std.proofs.Common.{ℕ, ◌+◌, List, [], ◌∷◌, ◌++◌, sym, ◌∙◌}
+use Rattle.std.proofs.Common.{◌+◌, [], ◌∷◌, ◌++◌, sym, ◌∙◌}
 use Rattle.agg_config.proofs.Finished.{kept_none, kept_on, none_kept, read_more, read_wrong}
 use Rattle.agg_config.proofs.reader.Reader.line.Goals as goal
 

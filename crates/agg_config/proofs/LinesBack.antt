@@ -1,0 +1,300 @@
+-- What a line declares is read back from the line that is written of it.
+use Rattle.std.proofs.Common.{◌&&◌}
+use Rattle.std.proofs.Common.{◌≡◌, ℕ, zero, suc, ◌+◌, ◌^◌, ◌<◌, ◌≤◌, true, false, eqb, leb}
+use Rattle.std.proofs.Common.{ltb, List, [], ◌∷◌, ◌++◌, length, map, Some, Result, Ok}
+use Rattle.std.proofs.Common.{codes, refl, arith}
+use Rattle.std.proofs.lemmas.Bool.{leb-true, ltb-true, ne_eqb}
+use Rattle.std.specs.Fmt.{decimal}
+use Rattle.std.specs.List.{flat_map, join_with_byte, list_all}
+use Rattle.agg_types.specs.Check.{ascends, is_within, len_fits, period_fits}
+use Rattle.agg_types.specs.Col.{col_id, col_name}
+use Rattle.agg_types.specs.Name.{is_name}
+use Rattle.agg_types.specs.declared.column.Col.{Col}
+use Rattle.agg_types.specs.declared.config.Cond.{Cond}
+use Rattle.agg_types.specs.declared.config.Op.{Op}
+use Rattle.agg_types.specs.declared.config.KeyKind.{KeyKind}
+use Rattle.agg_types.specs.declared.config.KeyKind.TheVariants.{Integer, Ip, Ipv6, Str, Binary}
+use Rattle.agg_types.specs.declared.config.Shape.{Shape}
+use Rattle.agg_types.specs.declared.limits.TheConstants.{LARGEST_SIZE, LONGEST_KEY, LONGEST_RANK}
+use Rattle.agg_types.specs.declared.limits.TheConstants.{MOST_CONDS}
+use Rattle.line_words.specs.Operators.{operator_word}
+use Rattle.line_words.specs.Words.{are_comment}
+use Rattle.line_words.specs.declared.misread.Misread.{Misread}
+use Rattle.agg_config.specs.Declarations.{declared, filter_line, key_kind, length_of}
+use Rattle.agg_config.specs.Declarations.{line_declaration, me_line, peer_line, rank_line, shape}
+use Rattle.agg_config.specs.Declarations.{table_line}
+use Rattle.agg_config.specs.Filters.{condition, conditions, known_bound}
+use Rattle.agg_config.specs.ReadResults.{read_each}
+use Rattle.agg_config.specs.Written.{condition_words, declaration_line, have_bounds, is_valid}
+use Rattle.agg_config.specs.Written.{is_valid_table, words_of}
+use Rattle.agg_config.specs.declared.declarations.Declaration.{Declaration}
+use Rattle.agg_config.specs.declared.declarations.Declaration.TheVariants.{Me, Peer, Table, Filter}
+use Rattle.agg_config.specs.declared.declarations.Declaration.TheVariants.{Rank}
+use Rattle.agg_config.proofs.ColumnsBack.{in_order_same, periods_back, store_are_words}
+use Rattle.agg_config.proofs.ColumnsBack.{stored_back}
+use Rattle.line_words.proofs.NamesBack.{column_back, column_is_word, data_back, data_is_word}
+use Rattle.line_words.proofs.NamesBack.{operator_back, operator_is_word}
+use Rattle.line_words.proofs.WordsBack.{both, is_word, name_is_word, number_back, number_is_word}
+use Rattle.line_words.proofs.WordsBack.{words_back}
+
+-- a line of words that declare something
+declared_of : (texts : List (List ℕ)) (declaration : Declaration)
+    → list_all is_word texts ≡ true → are_comment texts ≡ false
+    → line_declaration (record { number = 1; words = texts }) ≡ Ok declaration
+    → declared (join_with_byte 32 texts) ≡ Ok (Some declaration)
+unfolding declared
+declared_of texts declaration all says read = rw (words_back texts all, says, read) refl
+
+within_most : (n most : ℕ) → is_within n most ≡ true → n ≤ most
+within_most n most h = leb-true n most (both (leb 1 n) (leb n most) h).1
+
+within_least : (n most : ℕ) → is_within n most ≡ true → 1 ≤ n
+within_least n most h = leb-true 1 n (both (leb 1 n) (leb n most) h).0
+
+-- ---- names
+
+me_read : (name : List ℕ)
+    → line_declaration (record { number = 1; words = words_of (Me name) }) ≡ Ok (Me name)
+unfolding line_declaration me_line
+me_read name = refl
+
+peer_read : (name : List ℕ)
+    → line_declaration (record { number = 1; words = words_of (Peer name) }) ≡ Ok (Peer name)
+unfolding line_declaration peer_line
+peer_read name = refl
+
+-- ---- ranked lists
+
+rank_read : (name table : List ℕ) (col : Col) (n : ℕ) → n < 2 ^ 64
+    → line_declaration (record { number = 1; words = words_of (Rank name table col n) })
+    ≡ Ok (Rank name table col n)
+unfolding line_declaration rank_line
+rank_read name table col n fits = rw (column_back col, number_back n fits) refl
+
+rank_words : (name table : List ℕ) (col : Col) (n : ℕ) → is_name name ≡ true
+    → is_name table ≡ true → n < 2 ^ 64
+    → list_all is_word (words_of (Rank name table col n)) ≡ true
+rank_words name table col n is_one is_its fits =
+    rw (
+      name_is_word name is_one,
+      name_is_word table is_its,
+      column_is_word col,
+      number_is_word n fits,
+    ) refl
+
+-- ---- filters
+
+-- a condition as it is read
+abbrev as_read : Cond → Col × Op × Result ℕ Misread
+as_read cond = (cond.col, cond.op, Ok cond.bound)
+
+bound_fits : (cond : Cond) (conds : List Cond) → have_bounds (cond ∷ conds) ≡ true
+    → (cond.bound < 2 ^ 64) × (have_bounds conds ≡ true)
+bound_fits cond conds all =
+    let h = both (ltb cond.bound (2 ^ 64)) (have_bounds conds) all in
+    (ltb-true cond.bound (2 ^ 64) h.0, h.1)
+
+some_words : (first : List ℕ) (more : List (List ℕ)) → eqb (length (first ∷ more)) 0 ≡ false
+some_words first more = ne_eqb _ 0 (λ z. omega (arith, z))
+
+conditions_back : (most number : ℕ) (conds : List Cond) → length conds ≤ most
+    → have_bounds conds ≡ true
+    → conditions most (record { number = number; words = flat_map condition_words conds })
+    ≡ Ok (map as_read conds)
+unfolding conditions condition
+conditions_back zero number [] few all = refl
+conditions_back zero number (cond ∷ conds) few all = absurd (omega (arith, few))
+conditions_back (suc most) number [] few all = refl
+conditions_back (suc most) number (cond ∷ conds) few all =
+    let h = bound_fits cond conds all in
+    rw (
+      some_words (codes "data." ++ col_name cond.col) (operator_word cond.op
+          ∷ decimal cond.bound ∷ flat_map condition_words conds),
+      data_back number cond.col,
+      operator_back cond.op,
+      number_back cond.bound h.0,
+      conditions_back most (number + 1 + 1 + 1) conds (omega (arith, few)) h.1,
+    ) refl
+
+bounds_back : (conds : List Cond) → read_each known_bound (map as_read conds) ≡ Ok conds
+bounds_back [] = refl
+bounds_back (cond ∷ conds) = rw (bounds_back conds) refl
+
+condition_list : (conds : List Cond) → have_bounds conds ≡ true
+    → list_all is_word (flat_map condition_words conds) ≡ true
+condition_list [] all = refl
+condition_list (cond ∷ conds) all =
+    let h = bound_fits cond conds all in
+    rw (
+      data_is_word cond.col,
+      operator_is_word cond.op,
+      number_is_word cond.bound h.0,
+      condition_list conds h.1,
+    ) refl
+
+some_conditions : (conds : List Cond) → 1 ≤ length conds
+    → eqb (length (map as_read conds)) 0 ≡ false
+some_conditions [] some = absurd (omega (arith, some))
+some_conditions (cond ∷ conds) some = ne_eqb _ 0 (λ z. omega (arith, z))
+
+filter_read : (name table : List ℕ) (conds : List Cond) → 1 ≤ length conds → length conds ≤ 4
+    → have_bounds conds ≡ true
+    → line_declaration (record { number = 1; words = words_of (Filter name table conds) })
+    ≡ Ok (Filter name table conds)
+unfolding line_declaration filter_line
+filter_read name table conds some few all =
+    rw (conditions_back 4 4 conds few all, some_conditions conds some, bounds_back conds) refl
+
+filter_words : (name table : List ℕ) (conds : List Cond) → is_name name ≡ true
+    → is_name table ≡ true → have_bounds conds ≡ true
+    → list_all is_word (words_of (Filter name table conds)) ≡ true
+filter_words name table conds is_one is_its all =
+    rw (name_is_word name is_one, name_is_word table is_its, condition_list conds all) refl
+
+-- ---- tables
+
+length_fits : (n : ℕ) → is_within n LONGEST_KEY ≡ true → n < 2 ^ 64
+length_fits n h = omega (arith, within_most n LONGEST_KEY h)
+
+table_read : (name : List ℕ) (kind : KeyKind) (size : ℕ) (cols : List (Col × ℕ))
+    → len_fits kind ≡ true → size < 2 ^ 64 → list_all period_fits cols ≡ true
+    → ascends (map (λ col. col_id col.0) cols) ≡ true
+    → line_declaration (record {
+      number = 1;
+      words = words_of
+          (Table (record { name = name; kind = kind; size = size; cols = cols }));
+    })
+    ≡ Ok (Table (record { name = name; kind = kind; size = size; cols = cols }))
+unfolding line_declaration table_line key_kind length_of shape
+table_read name Integer size cols len fits periods ascend =
+    rw (
+      number_back size fits,
+      stored_back 7 cols periods,
+      periods_back cols,
+      in_order_same cols ascend,
+    ) refl
+table_read name Ip size cols len fits periods ascend =
+    rw (
+      number_back size fits,
+      stored_back 7 cols periods,
+      periods_back cols,
+      in_order_same cols ascend,
+    ) refl
+table_read name Ipv6 size cols len fits periods ascend =
+    rw (
+      number_back size fits,
+      stored_back 7 cols periods,
+      periods_back cols,
+      in_order_same cols ascend,
+    ) refl
+table_read name (Str n) size cols len fits periods ascend =
+    rw (
+      number_back n (length_fits n len),
+      number_back size fits,
+      stored_back 9 cols periods,
+      periods_back cols,
+      in_order_same cols ascend,
+    ) refl
+table_read name (Binary n) size cols len fits periods ascend =
+    rw (
+      number_back n (length_fits n len),
+      number_back size fits,
+      stored_back 9 cols periods,
+      periods_back cols,
+      in_order_same cols ascend,
+    ) refl
+
+table_words : (name : List ℕ) (kind : KeyKind) (size : ℕ) (cols : List (Col × ℕ))
+    → is_name name ≡ true → len_fits kind ≡ true → size < 2 ^ 64
+    → list_all period_fits cols ≡ true → list_all is_word (words_of
+    (Table (record { name = name; kind = kind; size = size; cols = cols }))) ≡ true
+table_words name Integer size cols is len fits periods =
+    rw (name_is_word name is, number_is_word size fits, store_are_words cols periods) refl
+table_words name Ip size cols is len fits periods =
+    rw (name_is_word name is, number_is_word size fits, store_are_words cols periods) refl
+table_words name Ipv6 size cols is len fits periods =
+    rw (name_is_word name is, number_is_word size fits, store_are_words cols periods) refl
+table_words name (Str n) size cols is len fits periods =
+    rw (
+      name_is_word name is,
+      number_is_word n (length_fits n len),
+      number_is_word size fits,
+      store_are_words cols periods,
+    ) refl
+table_words name (Binary n) size cols is len fits periods =
+    rw (
+      name_is_word name is,
+      number_is_word n (length_fits n len),
+      number_is_word size fits,
+      store_are_words cols periods,
+    ) refl
+
+-- what a valid table has
+record ValidTable (table : Shape) : Type 0 where
+  pub name : is_name table.name ≡ true
+  pub length : len_fits table.kind ≡ true
+  pub size : table.size < 2 ^ 64
+  pub periods : list_all period_fits table.cols ≡ true
+  pub ascend : ascends (map (λ col. col_id col.0) table.cols) ≡ true
+
+valid_table : (table : Shape) → is_valid_table table ≡ true → ValidTable table
+valid_table table valid =
+    let four = both _ _ valid in
+    let three = both _ _ four.0 in
+    let two = both _ _ three.0 in
+    let one = both _ _ two.0 in
+    record {
+      name = one.0;
+      length = one.1;
+      size = omega (arith, within_most table.size LARGEST_SIZE two.1);
+      periods = three.1;
+      ascend = four.1;
+    }
+
+-- ---- each kind
+
+pub line_words : (declaration : Declaration) → is_valid declaration ≡ true
+    → list_all is_word (words_of declaration) ≡ true
+line_words (Me name) valid = rw (name_is_word name valid) refl
+line_words (Peer name) valid = rw (name_is_word name valid) refl
+line_words (Table table) valid =
+    let h = valid_table table valid in
+    table_words table.name table.kind table.size table.cols h.name h.length h.size h.periods
+line_words (Filter name table conds) valid =
+    let three = both _ _ valid in
+    let two = both _ _ three.0 in
+    let one = both _ _ two.0 in
+    filter_words name table conds one.0 one.1 three.1
+line_words (Rank name table col n) valid =
+    let two = both (is_name name && is_name table) (is_within n LONGEST_RANK) valid in
+    let one = both (is_name name) (is_name table) two.0 in
+    rank_words name table col n one.0 one.1 (omega (arith, within_most n LONGEST_RANK two.1))
+
+line_read : (declaration : Declaration) → is_valid declaration ≡ true
+    → line_declaration (record { number = 1; words = words_of declaration }) ≡ Ok declaration
+line_read (Me name) valid = me_read name
+line_read (Peer name) valid = peer_read name
+line_read (Table table) valid =
+    let h = valid_table table valid in
+    table_read table.name table.kind table.size table.cols h.length h.size h.periods h.ascend
+line_read (Filter name table conds) valid =
+    let three = both _ _ valid in
+    let two = both _ _ three.0 in
+    filter_read name table conds (within_least (length conds) MOST_CONDS two.1)
+    (within_most (length conds) MOST_CONDS two.1) three.1
+line_read (Rank name table col n) valid =
+    let two = both (is_name name && is_name table) (is_within n LONGEST_RANK) valid in
+    rank_read name table col n (omega (arith, within_most n LONGEST_RANK two.1))
+
+says_something : (declaration : Declaration) → are_comment (words_of declaration) ≡ false
+says_something (Me name) = refl
+says_something (Peer name) = refl
+says_something (Table table) = refl
+says_something (Filter name table conds) = refl
+says_something (Rank name table col n) = refl
+
+pub line_back : (declaration : Declaration) → is_valid declaration ≡ true
+    → declared (declaration_line declaration) ≡ Ok (Some declaration)
+line_back declaration valid =
+    declared_of (words_of declaration) declaration (line_words declaration valid)
+    (says_something declaration) (line_read declaration valid)
