@@ -4,3 +4,5 @@ pub mod Lines
 pub mod Chosen
 pub mod Existing
 pub mod Returns
+pub mod KeyBytes
+pub mod AnswerLines

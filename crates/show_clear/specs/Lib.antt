@@ -1,4 +1,5 @@
 pub mod Answer
+pub mod AnswerLines
 pub mod Change
 pub mod Parse
 pub mod Refusal

@@ -1,16 +1,22 @@
 //! What holds of the texts of answers. Each law stands on a function that does nothing: its clause
 //! is the law.
 
-ghost use Rattle.std.specs.Prelude.{◌≡◌, ℕ, List, Some};
+ghost use Rattle.std.specs.Prelude.{◌≡◌, ℕ, false, List, [], ◌∷◌, map, Some};
 ghost use Rattle.std.specs.List.{flat_map};
+ghost use Rattle.agg_types.specs.Check.{config_faults};
 ghost use Rattle.agg_types.specs.declared.config.Cond.{Cond};
 ghost use Rattle.agg_types.specs.declared.event.Select.TheVariants.{Conds};
 ghost use Rattle.fleet_model.specs.Answers.{summed};
 ghost use Rattle.fleet_model.specs.State.{State};
 ghost use Rattle.fleet_model.specs.Values.{cols_of, meets};
 ghost use Rattle.fleet_model.specs.declared.summed.Summed.{Summed};
-ghost use Rattle.show_clear.specs.Answer.{all_hold, rows_text};
+ghost use Rattle.line_words.specs.Words.{lines_of};
+ghost use Rattle.show_clear.specs.Answer.{IsAnswer, all_hold, rows_text};
+ghost use Rattle.show_clear.specs.AnswerLines.{AreAnswerLines, is_answer_line};
+ghost use Rattle.show_clear.specs.Refusal.{refusal_text};
 ghost use Rattle.show_clear.specs.Selected.{key_row, taken_keys};
+ghost use Rattle.show_clear.specs.declared.command.Command.{Command};
+ghost use Rattle.show_clear.specs.declared.fault.CommandFault.{CommandFault};
 
 /// Conditions hold of the row that is shown of a key where a clear judges that the key meets them;
 /// so a table is shown by conditions as the rows of exactly the keys that a clear by them takes.
@@ -22,4 +28,16 @@ pub fn what_is_shown_is_what_a_clear_takes()
     ensures rows { (state : State) (table : ℕ) (conds : List Cond)
         → rows_text state table (Conds conds)
         ≡ flat_map (key_row state table) (taken_keys state table (Conds conds)) }
+{}
+
+/// No line of an answer is empty or a refusal's, and each has its LF. So who reads answers sees by
+/// their lines where one ends, at an empty line, and whether a command was refused.
+///
+/// It holds of each state of a book: its configuration has no faults
+/// (`fleet_model::laws::states_are_sound`).
+pub fn answers_are_no_refusals()
+    ensures answers { (state : State) (command : Command) (text : List ℕ)
+        → config_faults state.config ≡ [] → IsAnswer state command text → AreAnswerLines text }
+    ensures refusals { (fault : CommandFault)
+        → map is_answer_line (lines_of (refusal_text fault)) ≡ false ∷ [] }
 {}

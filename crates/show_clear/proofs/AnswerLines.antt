@@ -1,0 +1,534 @@
+-- No line of an answer is empty or a refusal's.
+use Rattle.std.proofs.Common.{◌≡◌, ℕ, zero, suc, ◌+◌, ◌/◌, ◌%◌, ◌≤◌, Bool, true, false, eqb, leb, ◌&&◌, not}
+use Rattle.std.proofs.Common.{List, [], ◌∷◌, ◌++◌, length, map, get_or, Option, None, Some, codes}
+use Rattle.std.proofs.Common.{refl, ap, sym, subst, ◌∙◌, append_assoc, append-nil, arith, inl, inr}
+use Rattle.std.specs.Prelude.{nat_eq, slice_index_or}
+use Rattle.std.proofs.lemmas.Bool.{cases_Bool, ne_eqb}
+use Rattle.std.proofs.lemmas.Bool.Decides.{nat_tests}
+use Rattle.std.proofs.lemmas.List.Folds.{list_all-append}
+use Rattle.std.specs.Fmt.{decimal, digits}
+use Rattle.std.specs.List.{flat_map, list_all, starts_with}
+use Rattle.agg_types.specs.Check.{config_faults, each, filter_faults, rank_faults, table_faults}
+use Rattle.agg_types.specs.Col.{col_name, is_rate}
+use Rattle.agg_types.specs.Name.{is_name, is_printable}
+use Rattle.agg_types.specs.declared.check.ConfigFault.{ConfigFault}
+use Rattle.agg_types.specs.declared.column.Col.{Col}
+use Rattle.agg_types.specs.declared.column.Col.TheVariants as column
+use Rattle.agg_types.specs.declared.config.Cond.{Cond}
+use Rattle.agg_types.specs.declared.config.Config.{Config}
+use Rattle.agg_types.specs.declared.config.Filter.{Filter}
+use Rattle.agg_types.specs.declared.config.KeyKind.{KeyKind}
+use Rattle.agg_types.specs.declared.config.KeyKind.TheVariants.{Integer, Ip, Ipv6, Str, Binary}
+use Rattle.agg_types.specs.declared.config.Rank.{Rank}
+use Rattle.agg_types.specs.declared.config.Shape.{Shape}
+use Rattle.agg_types.specs.declared.event.Select.{Select}
+use Rattle.agg_types.specs.declared.event.Select.TheVariants.{All, One, Conds}
+use Rattle.fleet_model.specs.Answers.{filter_of, keys_of, listed, no_filter, set_at, summed}
+use Rattle.fleet_model.specs.Ranking.{no_rank, rank_of, ranked}
+use Rattle.fleet_model.specs.State.{State}
+use Rattle.fleet_model.specs.declared.summed.Summed.{Summed}
+use Rattle.key_text.specs.Printed.{hex_of, key_text}
+use Rattle.line_words.specs.Numbers.{is_decimal}
+use Rattle.line_words.specs.Words.{lines_of}
+use Rattle.line_words.proofs.Checked.{HasName, both_none, faultless, filter_fits, rank_fits}
+use Rattle.line_words.proofs.Checked.{table_fits}
+use Rattle.line_words.proofs.TextLines.{is_line_byte, lines_back, printed_bytes}
+use Rattle.line_words.proofs.WordsBack.{both}
+use Rattle.show_clear.specs.Answer.{IsAnswer, IsAnswerTo, all_hold, change_text, filter_text}
+use Rattle.show_clear.specs.Answer.{headings, held_text, key_line, line_if, no_shape, period_of}
+use Rattle.show_clear.specs.Answer.{place_text, places_text, rank_text, ranking_text, rows_text}
+use Rattle.show_clear.specs.Answer.{shape_of, table_text, title_text}
+use Rattle.show_clear.specs.AnswerLines.{AreAnswerLines, is_answer_line}
+use Rattle.show_clear.specs.Refusal.{refusal_text}
+use Rattle.show_clear.specs.Tables.{cell_text, cells_text, column_text, counts_text, heading}
+use Rattle.show_clear.specs.Tables.{kind_name, ms_or_never, row_text, sums_text, value_in}
+use Rattle.show_clear.specs.declared.command.Command.{Command}
+use Rattle.show_clear.specs.declared.command.Command.TheVariants.{Ask, Change as Changes}
+use Rattle.show_clear.specs.declared.command.Question.{Question}
+use Rattle.show_clear.specs.declared.command.Question.TheVariants.{Tables, Table, FilterKeys}
+use Rattle.show_clear.specs.declared.command.Question.TheVariants.{Ranking, NextChange}
+use Rattle.show_clear.specs.declared.fault.CommandFault.{CommandFault}
+use Rattle.show_clear.specs.declared.fault.CommandFault.TheVariants as faults
+use Rattle.show_clear.proofs.KeyBytes.{Prints, all_of, and_true, decimal_digits, decimal_passes}
+use Rattle.show_clear.proofs.KeyBytes.{decimal_some, key_passes}
+
+-- ---- texts of lines
+
+-- whether a line is whole, and may stand in an answer
+abbrev is_fine : List ℕ → Bool
+is_fine line = list_all is_line_byte line && is_answer_line line
+
+-- lines with their ends
+abbrev text_of : List (List ℕ) → List ℕ
+text_of lines = flat_map (λ line. line ++ 10 ∷ []) lines
+
+-- a text of such lines
+record HasLines (text : List ℕ) : Type 0 where
+  pub lines : List (List ℕ)
+  pub fine : list_all is_fine lines ≡ true
+  pub whole : text ≡ text_of lines
+
+no_lines : HasLines []
+no_lines = record { lines = []; fine = refl; whole = refl }
+
+text_of-append : (a b : List (List ℕ)) → text_of (a ++ b) ≡ text_of a ++ text_of b
+text_of-append [] b = refl
+text_of-append (line ∷ a) b =
+    ap (λ rest. (line ++ 10 ∷ []) ++ rest) (text_of-append a b)
+    ∙ sym (append_assoc (line ++ 10 ∷ []) (text_of a) (text_of b))
+
+-- one text of lines behind another
+more_lines : (a b : List ℕ) → HasLines a → HasLines b → HasLines (a ++ b)
+more_lines a b front back = record {
+  lines = front.lines ++ back.lines;
+  fine = list_all-append is_fine front.lines back.lines
+      ∙ and_true (list_all is_fine front.lines) (list_all is_fine back.lines) front.fine back.fine;
+  whole = ap (λ text. text ++ b) front.whole
+      ∙ (ap (λ text. text_of front.lines ++ text) back.whole
+      ∙ sym (text_of-append front.lines back.lines));
+}
+
+flat_lines : {A : Type 0} (text : A → List ℕ) → ((x : A) → HasLines (text x)) → (xs : List A)
+    → HasLines (flat_map text xs)
+flat_lines text each [] = no_lines
+flat_lines text each (x ∷ xs) =
+    more_lines (text x) (flat_map text xs) (each x) (flat_lines text each xs)
+
+whole_bytes : (lines : List (List ℕ)) → list_all is_fine lines ≡ true
+    → list_all (list_all is_line_byte) lines ≡ true
+whole_bytes [] all = refl
+whole_bytes (line ∷ lines) all =
+    let h = both (is_fine line) (list_all is_fine lines) all in
+    and_true (list_all is_line_byte line) (list_all (list_all is_line_byte) lines)
+    (both (list_all is_line_byte line) (is_answer_line line) h.0).0 (whole_bytes lines h.1)
+
+may_stand : (lines : List (List ℕ)) → list_all is_fine lines ≡ true
+    → list_all is_answer_line lines ≡ true
+may_stand [] all = refl
+may_stand (line ∷ lines) all =
+    let h = both (is_fine line) (list_all is_fine lines) all in
+    and_true (is_answer_line line) (list_all is_answer_line lines)
+    (both (list_all is_line_byte line) (is_answer_line line) h.0).1 (may_stand lines h.1)
+
+-- its lines are read as they are
+answer_lines : (text : List ℕ) → HasLines text → AreAnswerLines text
+answer_lines text h =
+    let read : lines_of text ≡ h.lines =
+    ap lines_of h.whole ∙ lines_back h.lines (whole_bytes h.lines h.fine) in
+    record {
+      whole = ap text_of read ∙ sym h.whole;
+      each = ap (list_all is_answer_line) read ∙ may_stand h.lines h.fine;
+    }
+
+-- ---- one line
+
+-- what stands at the end of a line
+record Ends (text : List ℕ) : Type 0 where
+  pub rest : List ℕ
+  pub within : list_all is_line_byte rest ≡ true
+  pub whole : text ≡ rest ++ 10 ∷ []
+
+-- nothing but its end
+at_end : Ends (codes "\n")
+at_end = record { rest = []; within = refl; whole = refl }
+
+behind : (front text : List ℕ) → list_all is_line_byte front ≡ true → Ends text
+    → Ends (front ++ text)
+behind front text fine end = record {
+  rest = front ++ end.rest;
+  within = all_of is_line_byte front end.rest fine end.within;
+  whole = ap (λ more. front ++ more) end.whole ∙ sym (append_assoc front end.rest (10 ∷ []));
+}
+
+begins_fine : (byte : ℕ) (more : List ℕ) → eqb 114 byte ≡ false
+    → is_answer_line (byte ∷ more) ≡ true
+begins_fine byte more other =
+    let some : eqb (length (byte ∷ more)) 0 ≡ false = ne_eqb _ 0 (λ z. omega (arith, z)) in
+    rw (some, other) refl
+
+-- a line that begins with this byte
+line_of : (byte : ℕ) (more : List ℕ) → Ends (byte ∷ more) → eqb byte 10 ≡ false
+    → eqb 114 byte ≡ false → HasLines (byte ∷ more)
+line_of byte more end inside other = by end.rest end.within end.whole
+  where
+    by : (rest : List ℕ) → list_all is_line_byte rest ≡ true
+        → byte ∷ more ≡ rest ++ 10 ∷ [] → HasLines (byte ∷ more)
+    by [] within whole =
+        let same : byte ≡ 10 = cc in
+        let bad : eqb 10 10 ≡ false = ap (λ b. eqb b 10) (sym same) ∙ inside in
+        absurd cc
+    by (first ∷ rest) within whole =
+        let same : byte ≡ first = cc in
+        let fine : is_answer_line (first ∷ rest) ≡ true =
+        begins_fine first rest (ap (λ b. eqb 114 b) (sym same) ∙ other) in
+        record {
+          lines = (first ∷ rest) ∷ [];
+          fine = and_true (is_fine (first ∷ rest)) true
+              (and_true (list_all is_line_byte (first ∷ rest)) (is_answer_line (first ∷ rest))
+              within fine) refl;
+          whole = whole ∙ sym (append-nil ((first ∷ rest) ++ 10 ∷ []));
+        }
+
+-- ---- names, numbers and keys
+
+-- whether a name may stand in a line
+abbrev stays : {A : Type 0} (name_of : A → List ℕ) → A → Bool
+stays name_of x = list_all is_line_byte (name_of x)
+
+name_stays : (name : List ℕ) → is_name name ≡ true → list_all is_line_byte name ≡ true
+name_stays name is =
+    printed_bytes name (both (leb 1 (length name) && leb (length name) 128)
+    (list_all is_printable name) is).1
+
+get_passes : (p : ℕ → Bool) (xs : List ℕ) (i : ℕ) → list_all p xs ≡ true → p 0 ≡ true
+    → p (get_or xs i 0) ≡ true
+get_passes p [] i all none = none
+get_passes p (x ∷ xs) zero all none = (both (p x) (list_all p xs) all).0
+get_passes p (x ∷ xs) (suc i) all none =
+    get_passes p xs i (both (p x) (list_all p xs) all).1 none
+
+-- the digits of bytes
+abbrev lower_digits : List ℕ
+lower_digits = codes "0123456789abcdef"
+
+digit_stays : (i : ℕ) → is_line_byte (get_or lower_digits i 0) ≡ true
+digit_stays i = get_passes is_line_byte lower_digits i refl refl
+
+hex_stays : (byte : ℕ) → true ≡ true → list_all is_line_byte (hex_of byte) ≡ true
+hex_stays byte any =
+    and_true (is_line_byte (get_or lower_digits (byte / 16) 0))
+    (list_all is_line_byte (get_or lower_digits (byte % 16) 0 ∷ [])) (digit_stays (byte / 16))
+    (and_true (is_line_byte (get_or lower_digits (byte % 16) 0)) true (digit_stays (byte % 16)) refl)
+
+line_prints : Prints is_line_byte (λ byte. true)
+line_prints = record {
+  printed = λ byte prints. (both _ _ (printed_bytes (byte ∷ []) (and_true _ _ prints refl))).0;
+  hex = hex_stays;
+}
+
+number_stays : (n : ℕ) → list_all is_line_byte (decimal n) ≡ true
+number_stays n = decimal_passes is_line_byte (λ byte. true) line_prints n
+
+any_bytes : (key : List ℕ) → list_all (λ byte. true) key ≡ true
+any_bytes [] = refl
+any_bytes (byte ∷ key) = any_bytes key
+
+key_stays : (kind : KeyKind) (key : List ℕ) → list_all is_line_byte (key_text kind key) ≡ true
+key_stays kind key = key_passes is_line_byte (λ byte. true) line_prints kind key (any_bytes key)
+
+col_stays : (col : Col) → list_all is_line_byte (col_name col) ≡ true
+col_stays column.Gpc0 = refl
+col_stays col = refl
+
+column_stays : (col : Col × ℕ) → list_all is_line_byte (column_text col) ≡ true
+column_stays col =
+    elim (cases_Bool (is_rate col.0)) [
+      | inl rate ↦ rw rate (all_of is_line_byte (col_name col.0 ++ codes "(" ++ decimal col.1)
+          (codes ")") (all_of is_line_byte (col_name col.0 ++ codes "(") (decimal col.1)
+          (all_of is_line_byte (col_name col.0) (codes "(") (col_stays col.0) refl)
+          (number_stays col.1)) refl)
+      | inr count ↦ rw count (col_stays col.0)
+    ]
+
+cell_stays : (col : Col × ℕ) (value : ℕ) → list_all is_line_byte (cell_text col value) ≡ true
+cell_stays col value =
+    all_of is_line_byte (codes " " ++ column_text col ++ codes "=") (decimal value)
+    (all_of is_line_byte (codes " " ++ column_text col) (codes "=")
+    (all_of is_line_byte (codes " ") (column_text col) refl (column_stays col)) refl)
+    (number_stays value)
+
+cells_stay : (sums : Summed) (cols : List (Col × ℕ))
+    → list_all is_line_byte (cells_text sums cols) ≡ true
+cells_stay sums [] = refl
+cells_stay sums (col ∷ cols) =
+    all_of is_line_byte (cell_text col (value_in sums col.0)) (cells_text sums cols)
+    (cell_stays col (value_in sums col.0)) (cells_stay sums cols)
+
+ms_stay : (ms : Option ℕ) → list_all is_line_byte (ms_or_never ms) ≡ true
+ms_stay None = refl
+ms_stay (Some ms) = number_stays ms
+
+kind_stays : (kind : KeyKind) → list_all is_line_byte (kind_name kind) ≡ true
+kind_stays Integer = refl
+kind_stays Ip = refl
+kind_stays Ipv6 = refl
+kind_stays (Str len) = refl
+kind_stays (Binary len) = refl
+
+-- a text behind a fixed one that may stand in a line
+labelled : (label text : List ℕ) → list_all is_line_byte label ≡ true
+    → list_all is_line_byte text ≡ true → list_all is_line_byte (label ++ text) ≡ true
+labelled label text front back = all_of is_line_byte label text front back
+
+-- ---- headings
+
+counts_end : (size used : ℕ) → Ends (counts_text size used)
+counts_end size used =
+    behind (codes ", size:" ++ decimal size ++ codes ", used:" ++ decimal used) (codes "\n")
+    (labelled (codes ", size:" ++ decimal size ++ codes ", used:") (decimal used)
+    (labelled (codes ", size:" ++ decimal size) (codes ", used:")
+    (labelled (codes ", size:") (decimal size) refl (number_stays size)) refl)
+    (number_stays used)) at_end
+
+heading_lines : (shape : Shape) (used : ℕ) → list_all is_line_byte shape.name ≡ true
+    → HasLines (heading shape used)
+heading_lines shape used name =
+    line_of 35 _ (behind (codes "# table: " ++ shape.name ++ codes ", type: "
+    ++ kind_name shape.kind) (counts_text shape.size used)
+    (labelled (codes "# table: " ++ shape.name ++ codes ", type: ") (kind_name shape.kind)
+    (labelled (codes "# table: " ++ shape.name) (codes ", type: ")
+    (labelled (codes "# table: ") shape.name refl name) refl) (kind_stays shape.kind))
+    (counts_end shape.size used)) refl refl
+
+headings_lines : (state : State) (table : ℕ) (shapes : List Shape)
+    → list_all (stays (λ shape. shape.name)) shapes ≡ true
+    → HasLines (headings state table shapes)
+headings_lines state table [] all = no_lines
+headings_lines state table (shape ∷ shapes) all =
+    let h = both (list_all is_line_byte shape.name) (list_all (stays (λ shape. shape.name)) shapes)
+    all in
+    more_lines (heading shape (length (keys_of state table))) (headings state (table + 1) shapes)
+    (heading_lines shape (length (keys_of state table)) h.0)
+    (headings_lines state (table + 1) shapes h.1)
+
+title_stays : (title name : List ℕ) (shape : Shape) → list_all is_line_byte title ≡ true
+    → list_all is_line_byte name ≡ true → list_all is_line_byte shape.name ≡ true
+    → list_all is_line_byte (title_text title name shape) ≡ true
+title_stays title name shape begins named its =
+    labelled (title ++ name ++ codes ", table: ") shape.name
+    (labelled (title ++ name) (codes ", table: ") (labelled title name begins named) refl) its
+
+-- ---- rows
+
+sums_end : (sums : Summed) (cols : List (Col × ℕ)) → Ends (sums_text sums cols)
+sums_end sums cols =
+    behind (codes " peers=" ++ decimal sums.peers ++ codes " exp=" ++ ms_or_never sums.left
+    ++ cells_text sums cols) (codes "\n")
+    (labelled (codes " peers=" ++ decimal sums.peers ++ codes " exp=" ++ ms_or_never sums.left)
+    (cells_text sums cols)
+    (labelled (codes " peers=" ++ decimal sums.peers ++ codes " exp=") (ms_or_never sums.left)
+    (labelled (codes " peers=" ++ decimal sums.peers) (codes " exp=")
+    (labelled (codes " peers=") (decimal sums.peers) refl (number_stays sums.peers)) refl)
+    (ms_stay sums.left)) (cells_stay sums cols)) at_end
+
+row_lines : (shape : Shape) (key : List ℕ) (sums : Summed) → HasLines (row_text shape key sums)
+row_lines shape key sums =
+    line_of 107 _ (behind (codes "key=" ++ key_text shape.kind key) (sums_text sums shape.cols)
+    (labelled (codes "key=") (key_text shape.kind key) refl (key_stays shape.kind key))
+    (sums_end sums shape.cols)) refl refl
+
+found_lines : (shape : Shape) (conds : List Cond) (key : List ℕ) (found : Option Summed)
+    → HasLines (line_if shape conds (key, found))
+found_lines shape conds key None = no_lines
+found_lines shape conds key (Some sums) =
+    elim (cases_Bool (all_hold conds sums)) [
+      | inl holds ↦ rw holds (row_lines shape key sums)
+      | inr not_met ↦ rw not_met no_lines
+    ]
+
+entry_lines : (shape : Shape) (conds : List Cond) (entry : List ℕ × Option Summed)
+    → HasLines (line_if shape conds entry)
+entry_lines shape conds entry = found_lines shape conds entry.0 entry.1
+
+selected_lines : (state : State) (table : ℕ) (sel : Select) → HasLines (rows_text state table sel)
+selected_lines state table All =
+    flat_lines (line_if (shape_of state table) []) (entry_lines (shape_of state table) [])
+    (listed state table)
+selected_lines state table (One key) =
+    found_lines (shape_of state table) [] key (summed state table key)
+selected_lines state table (Conds conds) =
+    flat_lines (line_if (shape_of state table) conds) (entry_lines (shape_of state table) conds)
+    (listed state table)
+
+-- ---- keys of filters and ranked lists
+
+key_lines : (shape : Shape) (key : List ℕ) → HasLines (key_line shape key)
+key_lines shape key =
+    line_of 107 _ (behind (codes "key=" ++ key_text shape.kind key) (codes "\n")
+    (labelled (codes "key=") (key_text shape.kind key) refl (key_stays shape.kind key)) at_end)
+    refl refl
+
+held_lines : (filter : Filter) (shape : Shape) (keys : List (List ℕ))
+    → list_all is_line_byte filter.name ≡ true → list_all is_line_byte shape.name ≡ true
+    → HasLines (held_text filter shape keys)
+held_lines filter shape keys name its =
+    let title = title_text (codes "# filter: ") filter.name shape in
+    more_lines (title ++ codes ", keys:" ++ decimal (length keys) ++ codes "\n")
+    (flat_map (key_line shape) keys)
+    (line_of 35 _ (behind (title ++ codes ", keys:" ++ decimal (length keys)) (codes "\n")
+    (labelled (title ++ codes ", keys:") (decimal (length keys))
+    (labelled title (codes ", keys:")
+    (title_stays (codes "# filter: ") filter.name shape refl name its) refl)
+    (number_stays (length keys))) at_end) refl refl)
+    (flat_lines (key_line shape) (key_lines shape) keys)
+
+-- digits, of which there are some
+record Front (text : List ℕ) : Type 0 where
+  pub byte : ℕ
+  pub rest : List ℕ
+  pub is : text ≡ byte ∷ rest
+  pub digit : is_decimal byte ≡ true
+
+front_of : (text : List ℕ) → 1 ≤ length text → list_all is_decimal text ≡ true → Front text
+front_of [] some all = absurd (omega (arith, some))
+front_of (byte ∷ rest) some all = record {
+  byte = byte;
+  rest = rest;
+  is = refl;
+  digit = (both (is_decimal byte) (list_all is_decimal rest) all).0;
+}
+
+no_end : (byte : ℕ) → is_decimal byte ≡ true → eqb byte 10 ≡ false
+no_end byte digit = grind (arith, nat_tests)
+
+no_refusal : (byte : ℕ) → is_decimal byte ≡ true → eqb 114 byte ≡ false
+no_refusal byte digit = grind (arith, nat_tests)
+
+-- a line that begins with a number
+numbered : (n : ℕ) (text : List ℕ) → Ends text → HasLines (decimal n ++ text)
+numbered n text end =
+    let front = front_of (decimal n) (decimal_some n) (decimal_digits n) in
+    let ends : Ends (decimal n ++ text) = behind (decimal n) text (number_stays n) end in
+    subst (λ digits. HasLines (digits ++ text)) (sym front.is)
+    (line_of front.byte (front.rest ++ text)
+    (subst (λ digits. Ends (digits ++ text)) front.is ends)
+    (no_end front.byte front.digit) (no_refusal front.byte front.digit))
+
+place_lines : (place : ℕ) (shape : Shape) (key : List ℕ) (col : Col × ℕ) (value : ℕ)
+    → HasLines (place_text place shape key col value)
+place_lines place shape key col value =
+    let text = codes " key=" ++ (key_text shape.kind key ++ (cell_text col value ++ codes "\n")) in
+    subst HasLines (regroup (decimal place) (codes " key=") (key_text shape.kind key)
+    (cell_text col value) (codes "\n"))
+    (numbered place text
+    (behind (codes " key=") (key_text shape.kind key ++ (cell_text col value ++ codes "\n")) refl
+    (behind (key_text shape.kind key) (cell_text col value ++ codes "\n")
+    (key_stays shape.kind key)
+    (behind (cell_text col value) (codes "\n") (cell_stays col value) at_end))))
+  where
+    regroup : (a b c d e : List ℕ) → a ++ (b ++ (c ++ (d ++ e))) ≡ a ++ b ++ c ++ d ++ e
+    regroup a b c d e = simp append_assoc
+
+places_lines : (shape : Shape) (col : Col × ℕ) (place : ℕ) (entries : List (List ℕ × ℕ))
+    → HasLines (places_text shape col place entries)
+places_lines shape col place [] = no_lines
+places_lines shape col place (entry ∷ entries) =
+    more_lines (place_text place shape entry.0 col entry.1)
+    (places_text shape col (place + 1) entries)
+    (place_lines place shape entry.0 col entry.1) (places_lines shape col (place + 1) entries)
+
+ranking_lines : (rank : Rank) (shape : Shape) (col : Col × ℕ) (entries : List (List ℕ × ℕ))
+    → list_all is_line_byte rank.name ≡ true → list_all is_line_byte shape.name ≡ true
+    → HasLines (ranking_text rank shape col entries)
+ranking_lines rank shape col entries name its =
+    let title = title_text (codes "# rank: ") rank.name shape in
+    more_lines (title ++ codes ", by: " ++ column_text col ++ codes "\n")
+    (places_text shape col 1 entries)
+    (line_of 35 _ (behind (title ++ codes ", by: " ++ column_text col) (codes "\n")
+    (labelled (title ++ codes ", by: ") (column_text col)
+    (labelled title (codes ", by: ")
+    (title_stays (codes "# rank: ") rank.name shape refl name its) refl)
+    (column_stays col)) at_end) refl refl)
+    (places_lines shape col 1 entries)
+
+change_lines : (filter : Filter) (shape : Shape) (t : Option ℕ)
+    → list_all is_line_byte filter.name ≡ true → list_all is_line_byte shape.name ≡ true
+    → HasLines (change_text filter shape t)
+change_lines filter shape t name its =
+    let title = title_text (codes "# next: ") filter.name shape in
+    line_of 35 _ (behind (title ++ codes ", at:" ++ ms_or_never t) (codes "\n")
+    (labelled (title ++ codes ", at:") (ms_or_never t)
+    (labelled title (codes ", at:")
+    (title_stays (codes "# next: ") filter.name shape refl name its) refl)
+    (ms_stay t)) at_end) refl refl
+
+-- ---- the names of a checked configuration
+
+names_stay : {A : Type 0} (name_of : A → List ℕ) (faults : List A → A → List ConfigFault)
+    → ((before : List A) (x : A) → faults before x ≡ [] → HasName name_of before x)
+    → (before xs : List A) → each faults before xs ≡ [] → list_all (stays name_of) xs ≡ true
+names_stay name_of faults named before [] none = refl
+names_stay name_of faults named before (x ∷ xs) none =
+    let h = both_none (faults before x) (each faults (before ++ x ∷ []) xs) none in
+    and_true (stays name_of x) (list_all (stays name_of) xs)
+    (name_stays (name_of x) (named before x h.0).valid)
+    (names_stay name_of faults named (before ++ x ∷ []) xs h.1)
+
+-- so is that at a position, or the one that stands for none
+at_position : {A : Type 0} (p : A → Bool) (xs : List A) (i : ℕ) (other : A)
+    → list_all p xs ≡ true → p other ≡ true → p (slice_index_or xs i other) ≡ true
+at_position p [] i other all is = is
+at_position p (x ∷ xs) zero other all is = (both (p x) (list_all p xs) all).0
+at_position p (x ∷ xs) (suc i) other all is =
+    at_position p xs i other (both (p x) (list_all p xs) all).1 is
+
+-- the names that answers have
+record NamesStay (state : State) : Type 0 where
+  pub tables : list_all (stays (λ shape. shape.name)) state.config.tables ≡ true
+  pub shape : (table : ℕ) → list_all is_line_byte (shape_of state table).name ≡ true
+  pub filter : (filter : ℕ) → list_all is_line_byte (filter_of state filter).name ≡ true
+  pub rank : (rank : ℕ) → list_all is_line_byte (rank_of state rank).name ≡ true
+
+names_of : (state : State) → config_faults state.config ≡ [] → NamesStay state
+names_of state none =
+    let h = faultless state.config none in
+    let tables : list_all (stays (λ shape. shape.name)) state.config.tables ≡ true =
+    names_stay (λ shape. shape.name) table_faults (λ before x e. (table_fits before x e).named) []
+    state.config.tables h.tables in
+    record {
+      tables = tables;
+      shape = λ table. at_position (stays (λ shape. shape.name)) state.config.tables table no_shape
+          tables refl;
+      filter = λ filter. at_position (stays (λ filter. filter.name)) state.config.filters filter
+          no_filter (names_stay (λ filter. filter.name) (filter_faults state.config.tables)
+          (λ before x e. (filter_fits state.config.tables before x e).named) []
+          state.config.filters h.filters) refl;
+      rank = λ rank. at_position (stays (λ rank. rank.name)) state.config.ranks rank no_rank
+          (names_stay (λ rank. rank.name) (rank_faults state.config.tables)
+          (λ before x e. (rank_fits state.config.tables before x e).named) []
+          state.config.ranks h.ranks) refl;
+    }
+
+-- ---- each answer
+
+question_lines : (state : State) (question : Question) (text : List ℕ) → NamesStay state
+    → IsAnswerTo state question text → HasLines text
+question_lines state Tables text names is =
+    subst HasLines (sym is) (headings_lines state 0 state.config.tables names.tables)
+question_lines state (Table table sel) text names is =
+    subst HasLines (sym is) (more_lines (heading (shape_of state table)
+    (length (keys_of state table))) (rows_text state table sel)
+    (heading_lines (shape_of state table) (length (keys_of state table)) (names.shape table))
+    (selected_lines state table sel))
+question_lines state (FilterKeys at) text names is =
+    let filter = filter_of state at in
+    subst HasLines (sym is) (held_lines filter (shape_of state filter.table)
+    (set_at state filter state.moment) (names.filter at) (names.shape filter.table))
+question_lines state (Ranking at) text names is =
+    let rank = rank_of state at in
+    let shape = shape_of state rank.table in
+    subst HasLines (sym is) (ranking_lines rank shape (rank.col, period_of shape.cols rank.col)
+    (ranked state rank) (names.rank at) (names.shape rank.table))
+question_lines state (NextChange at) text names is =
+    let filter = filter_of state at in
+    subst HasLines (sym is.2) (change_lines filter (shape_of state filter.table) is.0
+    (names.filter at) (names.shape filter.table))
+
+command_lines : (state : State) (command : Command) (text : List ℕ) → NamesStay state
+    → IsAnswer state command text → HasLines text
+command_lines state (Ask question) text names is = question_lines state question text names is
+command_lines state (Changes change) text names is =
+    subst HasLines (sym is) (line_of 111 _ (behind (codes "ok") (codes "\n") refl at_end) refl refl)
+
+pub lines_answer : (state : State) (command : Command) (text : List ℕ)
+    → config_faults state.config ≡ [] → IsAnswer state command text → AreAnswerLines text
+lines_answer state command text none is =
+    answer_lines text (command_lines state command text (names_of state none) is)
+
+-- ---- refusals
+
+pub lines_refuse : (fault : CommandFault)
+    → map is_answer_line (lines_of (refusal_text fault)) ≡ false ∷ []
+unfolding lines_of digits
+lines_refuse faults.Empty = refl
+lines_refuse fault = refl
