@@ -21,6 +21,7 @@ use Rattle.agg_config.specs.Columns.{rate_item, stored}
 use Rattle.agg_config.specs.ReadResults.{read_each}
 use Rattle.agg_config.specs.Written.{column_text, store_words}
 use Rattle.line_words.proofs.WordsBack.{both, differs, digits_of-decimal, is_word, list_all-weaker}
+use Rattle.line_words.proofs.WordsBack.{join_some}
 use Rattle.line_words.proofs.WordsBack.{number_back, parts-join, position_at, some_byte}
 use Rattle.line_words.proofs.NamesBack.{column_back}
 
@@ -200,19 +201,13 @@ join_prints (col ∷ next ∷ cols) all =
       join_prints (next ∷ cols) h.1,
     ) refl
 
-join_some : (text : List ℕ) (texts : List (List ℕ)) → 1 ≤ length text
-    → 1 ≤ length (join_with_byte 44 (text ∷ texts))
-join_some text [] some = some
-join_some text (next ∷ texts) some =
-    omega (arith, some, length-append text (44 ∷ join_with_byte 44 (next ∷ texts)))
-
 pub store_are_words : (cols : List (Col × ℕ)) → list_all period_fits cols ≡ true
     → list_all is_word (store_words cols) ≡ true
 store_are_words [] all = refl
 store_are_words (col ∷ cols) all =
     rw (
       some_byte (length (join_with_byte 44 (map column_text (col ∷ cols))))
-          (join_some (column_text col) (map column_text cols) (text_some col.0 col.1)),
+          (join_some 44 (column_text col) (map column_text cols) (text_some col.0 col.1)),
       join_prints (col ∷ cols) all,
     ) refl
 

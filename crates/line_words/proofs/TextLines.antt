@@ -1,7 +1,7 @@
 -- Lines that are written, each ended by LF, are the lines of the text.
 use Rattle.std.proofs.Common.{◌≡◌, ℕ, zero, suc, ◌-◌, Bool, true, false, eqb, ◌&&◌, not, List, []}
 use Rattle.std.proofs.Common.{◌∷◌, ◌++◌, length, slice_index, refl, ap, ◌∙◌, append_assoc}
-use Rattle.std.proofs.Common.{arith, leb}
+use Rattle.std.proofs.Common.{arith}
 use Rattle.std.proofs.lemmas.Bool.Decides.{nat_tests}
 use Rattle.std.proofs.lemmas.List.Folds.{list_all-append}
 use Rattle.std.specs.List.{flat_map, join_with_byte, list_all}

@@ -2,6 +2,7 @@
 use Rattle.std.proofs.Common.{◌≡◌, ℕ, ◌^◌, ◌<◌, ◌≤◌, Bool, true, false, eqb, leb, ltb}
 use Rattle.std.proofs.Common.{◌&&◌, not, List, [], ◌∷◌, ◌++◌, length, filter, Ok, Some, refl, ap, ◌∙◌}
 use Rattle.std.proofs.Common.{arith, inl, inr}
+use Rattle.std.proofs.Common.{length-append}
 use Rattle.std.proofs.lemmas.Bool.{cases_Bool, leb-true}
 use Rattle.std.proofs.lemmas.Bool.Decides.{nat_tests}
 use Rattle.std.proofs.lemmas.Fmt.{decimal_is_IsNumeral, length-decimal-le}
@@ -77,6 +78,12 @@ pub parts-join : (c : ℕ) (front : List ℕ) (others : List (List ℕ))
 unfolding parts
 parts-join c front others free = split_join c front others free
 
+pub join_some : (c : ℕ) (text : List ℕ) (texts : List (List ℕ)) → 1 ≤ length text
+    → 1 ≤ length (join_with_byte c (text ∷ texts))
+join_some c text [] some = some
+join_some c text (next ∷ texts) some =
+    omega (arith, some, length-append text (c ∷ join_with_byte c (next ∷ texts)))
+
 -- a place that the first passing element has
 pub position_at : {A : Type 0} (p : A → Bool) (xs : List A) (i : ℕ) → position_or_len p xs ≡ i
     → i < length xs → position p xs ≡ Some i
@@ -147,7 +154,7 @@ are_decimal (byte ∷ digits) h =
 pub digits_of-decimal : (n : ℕ) → n < 2 ^ 64 → list_all is_decimal (decimal n) ≡ true
 digits_of-decimal n fits = are_decimal (decimal n) (decimal_is_IsNumeral n fits).0.1
 
-decimal_prints : (byte : ℕ) → is_decimal byte ≡ true → is_printable byte ≡ true
+pub decimal_prints : (byte : ℕ) → is_decimal byte ≡ true → is_printable byte ≡ true
 decimal_prints byte digit = grind (arith, nat_tests)
 
 -- a number is a word

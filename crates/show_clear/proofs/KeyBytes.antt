@@ -1,7 +1,7 @@
 -- The bytes of numbers and of the texts of keys.
 use Rattle.std.proofs.Common.{◌≡◌, ℕ, zero, suc, ◌+◌, ◌-◌, ◌/◌, ◌%◌, ◌^◌, ◌<◌, ◌≤◌, Bool, true}
 use Rattle.std.proofs.Common.{false, eqb, leb, ltb, ◌&&◌, not, List, [], ◌∷◌, ◌++◌, length, map}
-use Rattle.std.proofs.Common.{refl, ap, ◌∙◌, arith, inl, inr}
+use Rattle.std.proofs.Common.{codes, refl, ap, ◌∙◌, arith, inl, inr}
 use Rattle.std.proofs.lemmas.Bool.{cases_Bool}
 use Rattle.std.proofs.lemmas.Bool.Decides.{nat_tests}
 use Rattle.std.proofs.lemmas.List.Folds.{list_all-append}
@@ -12,7 +12,7 @@ use Rattle.agg_types.specs.Name.{is_printable}
 use Rattle.agg_types.specs.declared.config.KeyKind.{KeyKind}
 use Rattle.agg_types.specs.declared.config.KeyKind.TheVariants.{Integer, Ip, Ipv6, Str, Binary}
 use Rattle.line_words.specs.Numbers.{is_decimal}
-use Rattle.line_words.proofs.WordsBack.{both, list_all-weaker}
+use Rattle.line_words.proofs.WordsBack.{both, decimal_prints, list_all-weaker}
 use Rattle.key_text.specs.Printed.{escaped, groups, hex_of, integer_text, is_plain, key_text}
 use Rattle.key_text.specs.Printed.{signed_text}
 
@@ -72,10 +72,11 @@ pub decimal_some : (n : ℕ) → 1 ≤ length (decimal n)
 unfolding digits
 decimal_some n = digits_some 63 n
 
-digit_prints : (byte : ℕ) → is_decimal byte ≡ true → is_printable byte ≡ true
-digit_prints byte digit = grind (arith, nat_tests)
-
 -- ---- keys
+
+-- the digits of bytes
+abbrev pub lower_digits : List ℕ
+lower_digits = codes "0123456789abcdef"
 
 -- a test that printable bytes pass, and the digits of bytes that fit
 pub record Prints (p fits : ℕ → Bool) : Type 0 where
@@ -84,7 +85,7 @@ pub record Prints (p fits : ℕ → Bool) : Type 0 where
 
 pub decimal_passes : (p fits : ℕ → Bool) → Prints p fits → (n : ℕ) → list_all p (decimal n) ≡ true
 decimal_passes p fits h n =
-    list_all-weaker is_decimal p (λ byte digit. h.printed byte (digit_prints byte digit))
+    list_all-weaker is_decimal p (λ byte digit. h.printed byte (decimal_prints byte digit))
     (decimal n) (decimal_digits n)
 
 signed_passes : (p fits : ℕ → Bool) → Prints p fits → (n : ℕ)

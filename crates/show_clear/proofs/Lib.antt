@@ -5,4 +5,7 @@ pub mod Chosen
 pub mod Existing
 pub mod Returns
 pub mod KeyBytes
+pub mod AnswerPieces
 pub mod AnswerLines
+pub mod CommandWords
+pub mod CommandBack

@@ -5,3 +5,4 @@ pub mod Parse
 pub mod Refusal
 pub mod Selected
 pub mod Tables
+pub mod Written

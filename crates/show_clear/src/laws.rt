@@ -1,7 +1,7 @@
-//! What holds of the texts of answers. Each law stands on a function that does nothing: its clause
-//! is the law.
+//! What holds of the lines of commands and of the texts of answers. Each law stands on a function
+//! that does nothing: its clause is the law.
 
-ghost use Rattle.std.specs.Prelude.{◌≡◌, ℕ, false, List, [], ◌∷◌, map, Some};
+ghost use Rattle.std.specs.Prelude.{◌≡◌, ℕ, true, false, List, [], ◌∷◌, map, Some, Ok};
 ghost use Rattle.std.specs.List.{flat_map};
 ghost use Rattle.agg_types.specs.Check.{config_faults};
 ghost use Rattle.agg_types.specs.declared.config.Cond.{Cond};
@@ -13,8 +13,10 @@ ghost use Rattle.fleet_model.specs.declared.summed.Summed.{Summed};
 ghost use Rattle.line_words.specs.Words.{lines_of};
 ghost use Rattle.show_clear.specs.Answer.{IsAnswer, all_hold, rows_text};
 ghost use Rattle.show_clear.specs.AnswerLines.{AreAnswerLines, is_answer_line};
+ghost use Rattle.show_clear.specs.Parse.{command_of};
 ghost use Rattle.show_clear.specs.Refusal.{refusal_text};
 ghost use Rattle.show_clear.specs.Selected.{key_row, taken_keys};
+ghost use Rattle.show_clear.specs.Written.{can_ask, command_line};
 ghost use Rattle.show_clear.specs.declared.command.Command.{Command};
 ghost use Rattle.show_clear.specs.declared.fault.CommandFault.{CommandFault};
 
@@ -40,4 +42,13 @@ pub fn answers_are_no_refusals()
         → config_faults state.config ≡ [] → IsAnswer state command text → AreAnswerLines text }
     ensures refusals { (fault : CommandFault)
         → map is_answer_line (lines_of (refusal_text fault)) ≡ false ∷ [] }
+{}
+
+/// A command written out is read as that command, for each kind of question and change: where what
+/// it names is there, and its selector or its filter fits, `parse` gives it from its line, unless
+/// an allocation fails. A key of no bytes is no word, and so no line names one.
+pub fn written_command_is_read()
+    ensures { (state : State) (command : Command) → config_faults state.config ≡ []
+        → can_ask state command ≡ true
+        → command_of state (command_line state command) ≡ Ok command }
 {}
