@@ -18,6 +18,7 @@ use Rattle.agg_types.specs.declared.config.Rank.{Rank}
 use Rattle.agg_types.specs.declared.config.Shape.{Shape}
 use Rattle.agg_types.specs.declared.event.Select.{Select}
 use Rattle.agg_types.specs.declared.event.Select.TheVariants.{All, One, Conds}
+use Rattle.agg_types.specs.declared.limits.TheConstants.{LONGEST_COMMAND_LINE}
 use Rattle.agg_types.specs.declared.limits.TheConstants.{MOST_CONDS, MOST_FILTERS}
 use Rattle.fleet_model.specs.Answers.{filter_of, no_filter}
 use Rattle.fleet_model.specs.Ranking.{no_rank, rank_of}
@@ -206,7 +207,7 @@ rank_is_named state at none there =
 record Asks (state : State) (command : Command) : Type 0 where
   pub back : asked state (command_words state command) ≡ Ok command
   pub are_words : list_all is_word (command_words state command) ≡ true
-  pub short : cost (command_words state command) ≤ 4096
+  pub short : cost (command_words state command) ≤ LONGEST_COMMAND_LINE
 
 -- a table's name and a selector
 record Picks (state : State) (table : ℕ) (sel : Select) : Type 0 where
@@ -304,8 +305,13 @@ filter_added state filter none can =
         name_is_word shape.name named.name,
         conditions_are_words filter.conds one.1,
       ) refl;
-      short = omega (arith, name_short filter.name fits.0, name_short shape.name named.name,
-          conditions_cost filter.conds, few);
+      short = omega (
+        arith,
+        name_short filter.name fits.0,
+        name_short shape.name named.name,
+        conditions_cost filter.conds,
+        few,
+      );
     }
 
 asks : (state : State) (command : Command) → config_faults state.config ≡ []

@@ -20,7 +20,8 @@ use Rattle.agg_types.specs.declared.config.KeyKind.{KeyKind}
 use Rattle.agg_types.specs.declared.config.KeyKind.TheVariants.{Integer, Ip, Ipv6, Str, Binary}
 use Rattle.agg_types.specs.declared.config.Op.{Op}
 use Rattle.agg_types.specs.declared.config.Op.TheVariants as operators
-use Rattle.agg_types.specs.declared.limits.TheConstants.{LONGEST_KEY, LONGEST_NAME}
+use Rattle.agg_types.specs.declared.limits.TheConstants.{LONGEST_COMMAND_LINE, LONGEST_KEY}
+use Rattle.agg_types.specs.declared.limits.TheConstants.{LONGEST_NAME}
 use Rattle.fleet_model.specs.State.{State}
 use Rattle.key_text.specs.Printed.{escaped, groups, hex_of, integer_text, is_plain, key_text}
 use Rattle.key_text.specs.Printed.{signed_text}
@@ -49,8 +50,11 @@ pub join_cost : (c : ℕ) (texts : List (List ℕ)) → length (join_with_byte c
 join_cost c [] = omega arith
 join_cost c (text ∷ []) = omega arith
 join_cost c (text ∷ next ∷ texts) =
-    omega (arith, join_cost c (next ∷ texts),
-    length-append text (c ∷ join_with_byte c (next ∷ texts)))
+    omega (
+      arith,
+      join_cost c (next ∷ texts),
+      length-append text (c ∷ join_with_byte c (next ∷ texts)),
+    )
 
 digits_short : (k n : ℕ) (behind : List ℕ)
     → length (digits_onto k 10 false n behind) ≤ k + length behind
@@ -80,8 +84,14 @@ pub conditions_cost : (conds : List Cond) → cost (flat_map condition_words con
     ≤ 100 * length conds
 conditions_cost [] = omega arith
 conditions_cost (cond ∷ conds) =
-    omega (arith, col_short cond.col, operator_short cond.op, decimal_short cond.bound,
-    conditions_cost conds, length-append (codes "data.") (col_name cond.col))
+    omega (
+      arith,
+      col_short cond.col,
+      operator_short cond.op,
+      decimal_short cond.bound,
+      conditions_cost conds,
+      length-append (codes "data.") (col_name cond.col),
+    )
 
 pub name_short : (name : List ℕ) → is_name name ≡ true → length name ≤ LONGEST_NAME
 name_short name is =
@@ -126,8 +136,12 @@ escaped_short byte =
 string_short : (key : List ℕ) → length (flat_map escaped key) ≤ 3 * length key
 string_short [] = omega arith
 string_short (byte ∷ key) =
-    omega (arith, escaped_short byte, string_short key,
-    length-append (escaped byte) (flat_map escaped key))
+    omega (
+      arith,
+      escaped_short byte,
+      string_short key,
+      length-append (escaped byte) (flat_map escaped key),
+    )
 
 binary_short : (key : List ℕ) → length (flat_map hex_of key) ≤ 2 * length key
 binary_short [] = omega arith
@@ -296,17 +310,18 @@ no_returns (byte ∷ line) all =
     not_so true bad = absurd cc
     not_so false fine = refl
 
-not_long : (n : ℕ) → n ≤ 4096 → ltb 4096 n ≡ false
-not_long n short = grind (arith, nat_tests)
+not_long : (most n : ℕ) → n ≤ most → ltb most n ≡ false
+not_long most n short = grind (arith, nat_tests)
 
 -- what a line of words asks for
 pub line_asks : (state : State) (texts : List (List ℕ)) → list_all is_word texts ≡ true
-    → cost texts ≤ 4096 → command_of state (join_with_byte 32 texts) ≡ asked state texts
+    → cost texts ≤ LONGEST_COMMAND_LINE
+    → command_of state (join_with_byte 32 texts) ≡ asked state texts
 line_asks state texts all short =
     let line = join_with_byte 32 texts in
     let whole : without_returns line ≡ line = no_returns line (line_bytes texts all) in
-    let long : ltb 4096 (length line) ≡ false =
-    not_long (length line) (omega (arith, join_cost 32 texts, short)) in
-    ap (λ (text : List ℕ). if nat_lt 4096 (length text) then Err Unknown else asked state
-    (words text)) whole
+    let long : ltb LONGEST_COMMAND_LINE (length line) ≡ false =
+    not_long LONGEST_COMMAND_LINE (length line) (omega (arith, join_cost 32 texts, short)) in
+    ap (λ (text : List ℕ). if nat_lt LONGEST_COMMAND_LINE (length text) then Err Unknown
+    else asked state (words text)) whole
     ∙ rw long (ap (λ ws. asked state ws) (words_back texts all))

@@ -19,6 +19,7 @@ use Rattle.agg_types.specs.declared.config.Op.{Op}
 use Rattle.agg_types.specs.declared.config.Shape.{Shape}
 use Rattle.agg_types.specs.declared.event.Select.{Select}
 use Rattle.agg_types.specs.declared.event.Select.TheVariants.{All, One, Conds}
+use Rattle.agg_types.specs.declared.limits.TheConstants.{LONGEST_COMMAND_LINE}
 use Rattle.fleet_model.specs.State.{State}
 use Rattle.key_text.specs.Read.{bytes_of, if_fits, key_of}
 use Rattle.line_words.specs.Numbers.{number_of}
@@ -460,7 +461,7 @@ asked_good state (word ∷ ws) command h =
 command_good : (state : State) (line : List ℕ) (command : Command)
     → command_of state line ≡ Ok command → IsGood state command
 command_good state line command h =
-    either (ltb 4096 (length (without_returns line))) (Err Unknown)
+    either (ltb LONGEST_COMMAND_LINE (length (without_returns line))) (Err Unknown)
     (asked state (words (without_returns line))) command h (none_read Unknown command)
     (asked_good state (words (without_returns line)) command)
 
