@@ -1,5 +1,5 @@
 -- What a line that prints, and a command, leave.
-use Rattle.std.proofs.Common.{◌≡◌, ◌≢◌, ℕ, List, [], ◌∷◌, ◌++◌, true, Option, None, Some, Result}
+use Rattle.std.proofs.Common.{◌≡◌, ◌≢◌, ℕ, List, ◌++◌, true, Option, None, Some, Result}
 use Rattle.std.proofs.Common.{Ok, Err, IfOk, OnOk, codes, inl, inr, sym, ap, subst, ◌∙◌, refl}
 use Rattle.std.proofs.Common.{append_assoc}
 use Rattle.std.specs.Fmt.{decimal}
@@ -25,7 +25,7 @@ use Rattle.show_clear.specs.declared.fault.CommandFault.TheVariants.{BadColumn, 
 use Rattle.show_clear.specs.declared.fault.CommandFault.TheVariants.{BadValue, BadKey, TooMany}
 use Rattle.show_clear.specs.declared.fault.CommandFault.TheVariants.{NoMemory, BadName, Exists}
 use Rattle.show_clear.specs.declared.fault.CommandFault.TheVariants.{Full}
-use Rattle.replay.specs.Given.{Did, Given, IsSettled, step_given}
+use Rattle.replay.specs.Given.{Did, Given, IsSettled}
 use Rattle.replay.specs.Runs.{AskGives, AskOrRefusal, CommandGives, LineDid, bad_line, change_given}
 use Rattle.replay.specs.Runs.{ok_if, printing, state_after, step_of}
 use Rattle.replay.specs.declared.ending.Ending.{Ending}

@@ -30,6 +30,12 @@ pub record SoFar (config : Config) (opening : ℕ) (lines : List (List ℕ)) (nu
   pub goes_on : (more : List ℕ) (ending : Ending) → Prints config opening left past next more ending
       → Prints config opening lines [] number (text ++ more) ending
 
+-- the same of the lines of a source, and of those that are left of it
+abbrev pub SourceSoFar : Config → ℕ → ℕ → Option (List ℕ) → Collected → ℕ → Option (List ℕ)
+    → List (List ℕ) → List (List ℕ) → Type 0
+SourceSoFar config opening number before fleet next after lines left =
+    SoFar config opening lines number before fleet left next after
+
 -- before the first line
 pub so_far_none : (config : Config) (opening : ℕ) (lines : List (List ℕ)) (number : ℕ)
     (before : Option (List ℕ)) (fleet : Collected) → Represents fleet config opening []
@@ -218,6 +224,16 @@ follows config opening left past next (Some ending) = record {
       (refl, refl);
 }
 
+-- a read failed: what was written may be followed by something
+pub unread : (config : Config) (opening : ℕ) (lines : List (List ℕ)) (number : ℕ)
+    (before : Option (List ℕ)) (fleet : Collected) (all : List (List ℕ)) (next : ℕ)
+    (after : Option (List ℕ)) → SoFar config opening lines number before fleet all next after
+    → WroteFront (RunPrints config opening lines number) before after
+unread config opening lines number before fleet all next after h =
+    let f = follows config opening all h.past next None in
+    breaks config opening lines number before fleet all next after after [] f.more f.ending h
+    f.behind (record { front = []; behind = []; whole = refl; appends = Appends-nil after })
+
 -- a write of a line's text failed
 pub broke : (config : Config) (opening : ℕ) (lines : List (List ℕ)) (number : ℕ)
     (before : Option (List ℕ)) (old new : Collected) (all : List (List ℕ)) (line : List ℕ)
@@ -240,6 +256,16 @@ broke config opening lines number before old new all line left next middle after
     (line_prints config opening line left h.past next d.given last f.more f.ending d.gives
     d.did.ended f.behind)))
     wrote
+
+-- nothing was written before the fleet was open
+pub front_nothing : (Says : List ℕ → Ending → Type 0) (before : Option (List ℕ))
+    → WroteFront (OrNothing Says) before before
+front_nothing Says before = record {
+  text = [];
+  ending = Failed;
+  appends = record { front = []; behind = []; whole = refl; appends = Appends-nil before };
+  says = inr (refl, refl);
+}
 
 -- the opening lacked memory
 pub wrote_nothing : (Says : List ℕ → Ending → Type 0) (before : Option (List ℕ))

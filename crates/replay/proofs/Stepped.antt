@@ -1,6 +1,6 @@
 -- What a step of a script leaves and prints.
-use Rattle.std.proofs.Common.{◌≡◌, ◌≢◌, ℕ, Bool, true, false, ◌&&◌, not, List, [], ◌∷◌, ◌++◌, codes}
-use Rattle.std.proofs.Common.{Option, None, Some, Result, Ok, Err, if◌then◌else◌, sym, ap, subst}
+use Rattle.std.proofs.Common.{◌≡◌, ◌≢◌, ℕ, Bool, true, false, ◌&&◌, List, [], ◌∷◌, ◌++◌, codes}
+use Rattle.std.proofs.Common.{Option, None, Some, Result, Ok, Err, sym, ap, subst}
 use Rattle.std.proofs.Common.{◌∙◌, refl}
 use Rattle.std.proofs.lemmas.Bool.{and_parts}
 use Rattle.agg_types.specs.declared.config.Config.{Config}
@@ -8,7 +8,7 @@ use Rattle.session_core.specs.declared.cause.SessionCause.{SessionCause}
 use Rattle.fleet_core.proofs.Running.{could, unspent}
 use Rattle.fleet_core.specs.Answers.{Answers}
 use Rattle.fleet_core.specs.Possible.{can_be, end_by, is_spent, sent_by, spends_at}
-use Rattle.fleet_core.specs.Represents.{Collected, Represents}
+use Rattle.fleet_core.specs.Represents.{Collected}
 use Rattle.fleet_core.specs.Steps.{conn_of}
 use Rattle.fleet_core.specs.declared.step.FleetFault.{FleetFault}
 use Rattle.fleet_core.specs.declared.step.FleetFault.TheVariants.{NoConn, Spent, NoMemory, Session}
@@ -16,7 +16,7 @@ use Rattle.fleet_core.specs.declared.step.Replies.{Replies}
 use Rattle.fleet_core.specs.declared.step.Step.{Step}
 use Rattle.fleet_core.specs.declared.step.Step.TheVariants.{Connect, Bytes, Lost, Clear, AddFilter}
 use Rattle.fleet_core.specs.declared.step.Step.TheVariants.{Moment}
-use Rattle.replay.specs.Given.{Did, Given, IsSettled, answer_ending, answer_text, done_text}
+use Rattle.replay.specs.Given.{Did, IsSettled, answer_ending, answer_text, done_text}
 use Rattle.replay.specs.Given.{step_given}
 use Rattle.replay.specs.Texts.{end_text, sent_text}
 use Rattle.replay.specs.declared.ending.Ending.{Ending}

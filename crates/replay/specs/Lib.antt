@@ -5,3 +5,5 @@ pub mod Runs
 pub mod Writing
 pub mod Script
 pub mod Status
+pub mod Source
+pub mod Start

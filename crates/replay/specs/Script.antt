@@ -5,7 +5,7 @@ use Rattle.std.specs.Prelude.{Option, None, Some, Result, Ok, Err}
 use Rattle.std.specs.Fmt.{decimal}
 use Rattle.std.specs.Str.{bytes_eq}
 use Rattle.agg_types.specs.declared.config.Config.{Config}
-use Rattle.agg_config.specs.Reading.{IsFirstFault, Write, cause_name}
+use Rattle.agg_config.specs.Reading.{IsFirstFault, Write, fault_line}
 use Rattle.agg_config.specs.declared.causes.LineCause.TheVariants as cause
 use Rattle.agg_config.specs.declared.causes.LineFault.{LineFault}
 use Rattle.line_words.specs.Numbers.{number_of}
@@ -51,8 +51,7 @@ BadStart number text ending =
 abbrev pub BadLine : LineFault → List ℕ → Ending → Type 0
 BadLine fault text ending =
     (fault.cause ≢ cause.NoMemory)
-    × (text ≡ codes "config line " ++ decimal fault.line ++ codes ": " ++ cause_name fault.cause
-    ++ codes "\n") × (ending ≡ BadConfiguration)
+    × (text ≡ fault_line fault ++ codes "\n") × (ending ≡ BadConfiguration)
 
 -- the first fault of a configuration's lines, or what goes on with what they write
 abbrev pub Configures : List (List ℕ) → (Config → List ℕ → Ending → Type 0)
@@ -84,22 +83,3 @@ abbrev pub IsReplayed : List ℕ → Option (List ℕ) → Option (List ℕ) →
 IsReplayed script before after ending =
     Wrote (ScriptPrints script) before after ending
     ⊎ (WroteFront (ScriptPrints script) before after × (ending ≡ Failed))
-
--- what stands before a line `start`, its number, what it says, and what stands behind it
-pub record Cuts (lines : List (List ℕ)) (at : ℕ) (front : List ℕ) (line : ℕ)
-    (said : Option ℕ) (rest : List ℕ) : Type 0 where
-  pub before : lines_of front ≡ take at lines
-  pub number : line ≡ at + 1
-  pub opening : said ≡ opening_of (words (slice_index_or lines at []))
-  pub behind : lines_of rest ≡ drop (at + 1) lines
-
--- a script is cut at its first line `start`, or has none
-abbrev pub IsCutAt : List (List ℕ) → Option ℕ → List ℕ → ℕ → Option ℕ → List ℕ → Type 0
-IsCutAt lines None before number opening behind =
-    (number ≡ length lines + 1) × (opening ≡ None)
-IsCutAt lines (Some at) before number opening behind = Cuts lines at before number opening behind
-
--- the bytes of a text's first line with its LF, by where the first LF stands
-abbrev pub length_by : Option ℕ → ℕ → ℕ
-length_by None length = length
-length_by (Some end) length = end + 1

@@ -1,5 +1,5 @@
 -- What a step prints.
-use Rattle.std.specs.Prelude.{ℕ, List, [], ◌∷◌, ◌++◌, codes, Option, None, Some}
+use Rattle.std.specs.Prelude.{ℕ, List, [], ◌∷◌, ◌++◌, codes}
 use Rattle.std.specs.Fmt.{decimal}
 use Rattle.hex.specs.Hex.{encode_lower}
 use Rattle.peers_msg.specs.declared.fault.WireCause.{WireCause}
@@ -9,10 +9,6 @@ use Rattle.session_core.specs.declared.cause.SessionCause.TheVariants as cause
 use Rattle.session_core.specs.declared.cause.Status.{Status}
 use Rattle.session_core.specs.declared.cause.Status.TheVariants.{Accepted, TryLater, Protocol}
 use Rattle.session_core.specs.declared.cause.Status.TheVariants.{Version, LocalName, RemoteName}
-use Rattle.fleet_core.specs.declared.step.Replies.{Replies}
-use Rattle.fleet_core.specs.declared.step.Step.{Step}
-use Rattle.fleet_core.specs.declared.step.Step.TheVariants.{Connect, Bytes, Lost, Clear, AddFilter}
-use Rattle.fleet_core.specs.declared.step.Step.TheVariants.{Moment}
 
 -- a connection came
 abbrev pub conn_text : ℕ → List ℕ

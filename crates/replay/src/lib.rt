@@ -1,12 +1,12 @@
 //! Scripts of steps and commands, replayed over a fleet.
 //!
-//! `aggregator replay` and the programs of its rows call it. `replay` writes what specs/Script says
-//! that a script prints: its first line `start` is looked for, its configuration is read, and then
-//! each line is done. The lines' texts stand one behind the other, each that of the fleet's answers
-//! after the steps before it (specs/Runs), up to a line that ends the replay or for which an
-//! allocation fails. Where a write fails, a beginning of that was written. `replay_from` does the
-//! same with what a reader has. No clause says that an allocation fails only where there is no
-//! memory.
+//! `aggregator replay` and the programs of its rows call it. `replay_lines` writes what specs/Script
+//! says that a script prints: its configuration is read up to the first line `start`, and then each
+//! line is done. The lines' texts stand one behind the other, each that of the fleet's answers after
+//! the steps before it (specs/Runs), up to a line that ends the replay or for which an allocation
+//! fails. Where a read or a write fails, a beginning of that was written. Of the script one line is
+//! kept at a time. `replay` does the same with a script in memory, `replay_from` with a flush at the
+//! end. No clause says that an allocation fails only where there is no memory.
 #![tactic(auto)]
 
 mod commands;
@@ -14,7 +14,6 @@ mod doing;
 mod ending;
 mod running;
 mod script;
-mod slices;
 mod start;
 mod steps;
 mod streams;
@@ -23,4 +22,4 @@ mod writing;
 
 pub use ending::Ending;
 pub use script::replay;
-pub use streams::replay_from;
+pub use streams::{replay_from, replay_lines};

@@ -1,7 +1,7 @@
 //! The lines behind `start`, one after the other.
 
-ghost use Rattle.std.specs.Prelude.{◌≡◌, ◌++◌, ◌≤◌, ◌<◌, ◌^◌, ◌+◌, [], ℕ, List, codes, IfOk, OnOk};
-ghost use Rattle.std.specs.Prelude.{OnErr, length};
+ghost use Rattle.std.specs.Prelude.{◌≡◌, ◌++◌, ◌≤◌, ◌^◌, [], ℕ, List, codes, IfOk, IfSome, OnOk};
+ghost use Rattle.std.specs.Prelude.{OnErr};
 ghost use Rattle.std.specs.Fmt.{decimal};
 ghost use Rattle.agg_types.specs.Check.{config_faults};
 ghost use Rattle.agg_types.specs.declared.config.Config.{Config};
@@ -16,6 +16,7 @@ use crate::commands::ask;
 use crate::doing::do_step;
 use crate::ending::Ending;
 use crate::steps::{Meaning, meaning_of};
+use crate::streams::{MOST_LINES, take_line};
 use crate::writing::write_text;
 use agg_types::{Config, NoMemory};
 use fleet_core::Fleet;
@@ -23,36 +24,39 @@ use key_text::{append_number, append_text};
 use line_words::next_line;
 use std::alloc::Global;
 use std::io;
-use std::io::Write;
+use std::io::{BufRead, ErrorKind, Write};
 
-/// Opens a fleet and does what the lines of a text say, the first of which has this number: writes
-/// what each prints, and tells how the replay ends. Where an allocation of the opening fails,
-/// nothing is written.
-pub fn run<W: Write>(
+/// Opens a fleet and does what the lines that a source has left say, the first of which has this
+/// number: writes what each prints, and tells how the replay ends. Where an allocation of the
+/// opening fails, nothing is written.
+pub fn run<R: BufRead, W: Write>(
     alloc: Global,
     config: Config,
     opening: u64,
-    text: &[u8],
-    number: u128,
+    script: &mut R,
+    first: u128,
     out: &mut W,
 ) -> io::Result<Ending>
     requires checked { config_faults config ≡ [] }
     requires in_range { opening ≤ 2 ^ 62 }
-    requires numbered { number + length text.now < 2 ^ 128 }
-    ensures whole { IfOk result
-        (Wrote (OrNothing (Prints config opening (lines_of text.now) [] number))
-        (W.contents out.old) (W.contents out.new)) }
-    ensures cut { OnErr result
-        (WroteFront (OrNothing (Prints config opening (lines_of text.now) [] number))
-        (W.contents out.old) (W.contents out.new)) }
+    requires numbered { first ≤ 2 ^ 64 }
+    ensures whole { IfSome (R.remaining script.old) (λ text. IfOk result
+        (Wrote (OrNothing (Prints config opening (lines_of text) [] first))
+        (W.contents out.old) (W.contents out.new))) }
+    ensures cut { IfSome (R.remaining script.old) (λ text. OnErr result
+        (WroteFront (OrNothing (Prints config opening (lines_of text) [] first))
+        (W.contents out.old) (W.contents out.new))) }
 {
     let Ok(mut fleet) = Fleet::new(alloc, config, opening) else {
         return Ok(Ending::Failed);
     };
+    let mut bytes = Vec::new(alloc);
     let mut printed = Vec::new(alloc);
-    let mut left = text;
-    let mut number = number;
-    'lines: while let Some((line, behind)) = next_line(left) {
+    'lines: for number in first..first + MOST_LINES {
+        take_line(script, &mut bytes)?;
+        let Some((line, _)) = next_line(bytes.as_slice()) else {
+            return Ok(Ending::Done);
+        };
         printed.clear();
         let Ok(ended) = do_line(alloc, &mut fleet, line, number, &mut printed) else {
             write_text(b"fault NoMemory\n", out)?;
@@ -62,10 +66,8 @@ pub fn run<W: Write>(
         if let Some(ending) = ended {
             return Ok(ending);
         }
-        number += 1;
-        left = behind;
     }
-    Ok(Ending::Done)
+    Err(io::Error::from(ErrorKind::FileTooLarge))
 }
 
 // Does what a line says, appends what it prints, and tells how the replay ends by it, if it does.

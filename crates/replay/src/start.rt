@@ -1,68 +1,63 @@
 //! The line of a script that opens the fleet.
 
-ghost use Rattle.std.specs.Prelude.{◌≡◌, ◌+◌, ◌≤◌, ◌<◌, ◌^◌, ◌==◌, length, position, IfSome};
+ghost use Rattle.std.specs.Prelude.{◌≡◌, ◌≤◌, ◌^◌, [], List, ℕ, length, position, IfOk, IfSome};
+ghost use Rattle.agg_config.specs.Lines.{HasRead, lines_read};
 ghost use Rattle.line_words.specs.Words.{lines_of, words};
-ghost use Rattle.replay.specs.Script.{IsCutAt, is_start, length_by, opening_of};
+ghost use Rattle.replay.specs.Script.{is_start, opening_of};
+ghost use Rattle.replay.specs.Source.{OfLines};
+ghost use Rattle.replay.specs.Start.{IsCutAt};
 
-use crate::slices::{front, rest};
 use crate::steps::only;
+use crate::streams::{MOST_LINES, take_line};
+use agg_config::Reader;
 use agg_types::LAST_MOMENT;
-use line_words::{next_line, next_word, number, place_of};
+use line_words::{next_line, next_word, number};
+use std::alloc::Global;
+use std::io;
+use std::io::{BufRead, ErrorKind};
 
-/// What a script has around its first line whose first word is `start`, or around its end: what
-/// stands before it, its number, the opening moment that it says, if it says one of at most 2^62 ms
-/// and nothing else, and what stands behind it.
-#[derive(Clone, Copy)]
-pub struct Start<'a> {
-    pub before: &'a [u8],
+/// What a script has up to its first line whose first word is `start`, or up to its end: the
+/// configuration that stands before it, the line's number, and the opening moment that it says, if it
+/// says one of at most 2^62 ms and nothing else.
+#[derive(Drop)]
+pub struct Start {
+    pub config: Reader,
     pub number: u128,
     pub opening: Option<u64>,
-    pub behind: &'a [u8],
 }
 
-/// Cuts a script at its first line whose first word is `start`.
-pub fn start_of(script: &[u8]) -> Start<'_>
-    ensures cut { IsCutAt (lines_of script.now) (position is_start (lines_of script.now))
-        result.before.now result.number result.opening result.behind.now }
-    ensures in_range { IfSome result.opening (λ moment. moment ≤ 2 ^ 62) }
-    ensures numbered { result.number + length result.behind.now ≤ 2 ^ 65 }
+/// Reads a script up to its first line whose first word is `start`, or to its end. The reader reads
+/// the lines before it.
+pub fn start_of<R: BufRead>(alloc: Global, config: Reader, script: &mut R) -> io::Result<Start>
+    requires none { HasRead config [] }
+    requires count { lines_read config ≡ 0 }
+    ensures cut { IfOk result (λ start. OfLines (R.remaining script.old) (R.remaining script.new)
+        (λ lines rest. IsCutAt lines (position is_start lines) rest start)) }
+    ensures in_range { IfOk result (λ start. IfSome start.opening (λ moment. moment ≤ 2 ^ 62)) }
+    ensures numbered { IfOk result (λ start. start.number ≤ 2 ^ 63) }
 {
-    let mut at = 0usize;
-    let mut left = script;
-    let mut number = 1u128;
-    'lines: while let Some((line, behind)) = next_line(left) {
+    let mut config = config;
+    let mut bytes = Vec::new(alloc);
+    'lines: for number in 1..MOST_LINES {
+        take_line(script, &mut bytes)?;
+        let Some((line, _)) = next_line(bytes.as_slice()) else {
+            return Ok(Start {
+                config,
+                number,
+                opening: None,
+            });
+        };
         if is_start(line) {
-            let before = front(script, at);
             let opening = opening_of(line);
-            return Start {
-                before,
+            return Ok(Start {
+                config,
                 number,
                 opening,
-                behind,
-            };
+            });
         }
-        at += line_length(left);
-        left = rest(script, at);
-        number += 1;
+        config.line(line);
     }
-    Start {
-        before: script,
-        number,
-        opening: None,
-        behind: b"",
-    }
-}
-
-// The bytes of a text's first line with its LF.
-fn line_length(text: &[u8]) -> usize
-    ensures value { result ≡ length_by (position (λ byte. byte == 10) text.now) (length text.now) }
-    ensures within { result ≤ length text.now }
-    ensures some { 0 < length text.now → 0 < result }
-{
-    match place_of(text, b'\n') {
-        None => text.len(),
-        Some(end) => end + 1,
-    }
+    Err(io::Error::from(ErrorKind::FileTooLarge))
 }
 
 fn is_start(line: &[u8]) -> bool

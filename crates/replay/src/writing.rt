@@ -1,10 +1,9 @@
 //! Texts that are written whole, or a beginning of them.
 
-ghost use Rattle.std.specs.Prelude.{OnOk, OnErr};
+ghost use Rattle.std.specs.Prelude.{◌≡◌, ◌≤◌, length, drop, OnOk, OnErr};
 ghost use Rattle.std.specs.Io.KnownBytes.{Appends};
 ghost use Rattle.replay.specs.Writing.{AppendsFront};
 
-use crate::slices::rest;
 use std::io;
 use std::io::{ErrorKind, Write};
 
@@ -27,4 +26,12 @@ pub fn write_text<W: Write>(text: &[u8], out: &mut W) -> io::Result<()>
         }
     }
     Err(io::Error::from(ErrorKind::Interrupted))
+}
+
+// What stands behind the first bytes of a text, this many.
+fn rest(text: &[u8], len: usize) -> &[u8]
+    requires { len ≤ length text.now }
+    ensures { result.now ≡ drop len text.now }
+{
+    &text[len..]
 }

@@ -1,23 +1,34 @@
 //! Reads and writes that fail.
 
 use std::io;
-use std::io::Write;
+use std::io::{BufReader, Write};
 use test_support::{Full, Torn};
 
 /// A script that prints a line of as many bytes.
 const SCRIPT: &[u8] = b"name agg\nstart 0\nx";
 
+/// One that prints two such lines.
+const TWO: &[u8] = b"name agg\nstart 0\nx\ny\n";
+
 /// Prints how the replay ends where its reader fails behind none of its bytes, one, and so on, and
-/// where it doesn't fail.
+/// where it doesn't fail: of a script of one line behind `start`, and of one of two.
 pub fn show_reads(rt: &(impl Print + AllocGlobal)) -> io::Result<()> {
     for room in 0..SCRIPT.len().saturating_add(2) {
-        let mut script = Torn { left: SCRIPT, room };
-        let mut out = Full::new(rt.alloc(), 100, true);
-        let status = replay::replay_from(rt.alloc(), &mut script, &mut out).status();
-        let bytes = out.taken.len();
-        println!(rt; "reads {room}: status {status}, {bytes} written")?;
+        show_read(rt, SCRIPT, room)?;
+    }
+    for room in 16..TWO.len().saturating_add(2) {
+        show_read(rt, TWO, room)?;
     }
     Ok(())
+}
+
+fn show_read(rt: &(impl Print + AllocGlobal), left: &[u8], room: usize) -> io::Result<()> {
+    let len = left.len();
+    let mut script = BufReader::new(rt.alloc(), Torn { left, room })?;
+    let mut out = Full::new(rt.alloc(), 100, true);
+    let status = replay::replay_from(rt.alloc(), &mut script, &mut out).status();
+    let bytes = out.taken.len();
+    println!(rt; "reads {room} of {len}: status {status}, {bytes} written")
 }
 
 /// Prints how the replay ends where its writer has room for none of its bytes, for one, and so on,

@@ -1,4 +1,4 @@
-use Rattle.std.proofs.Common.{◌∙◌, sym}
+use Rattle.std.proofs.Common.{◌∙◌}
 use Rattle.replay.specs.Runs.{AskOrRefusal, CommandGives, state_after}
 use Rattle.show_clear.specs.Parse.{command_of}
 use Rattle.replay.proofs.Asking.{book_is, given_too, printed, read_ok, refused_gives}

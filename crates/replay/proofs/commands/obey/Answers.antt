@@ -3,9 +3,7 @@ use Rattle.replay.specs.Given.{step_given}
 use Rattle.replay.specs.Runs.{CommandGives, change_given}
 use Rattle.replay.proofs.Asking.{answered, just_given, step_fits}
 use Rattle.replay.proofs.commands.obey.Goals as goal
-use Rattle.show_clear.specs.Answer.{Answers}
 use Rattle.show_clear.specs.Change.{ChangeFits}
-use Rattle.show_clear.specs.declared.command.Command.{Command}
 
 pub change_fleet-requires : goal.change_fleet-requires
 change_fleet-requires c = record {

@@ -1,5 +1,4 @@
-use Rattle.std.proofs.Common.{◌≡◌, ◌++◌, ◌∙◌, codes, append_assoc}
-use Rattle.std.specs.Fmt.{decimal}
+use Rattle.std.proofs.Common.{◌∙◌, append_assoc}
 use Rattle.replay.proofs.running.append_bad.Goals as goal
 
 pub returns-clause-text : goal.returns-clause-text

@@ -1,4 +1,4 @@
-use Rattle.std.proofs.Common.{◌≡◌, [], List, ℕ, codes, sym, subst, refl, ◌∙◌, append-nil}
+use Rattle.std.proofs.Common.{[], codes, sym, subst, refl, ◌∙◌, append-nil}
 use Rattle.replay.specs.Given.{step_given}
 use Rattle.replay.specs.Runs.{LineGives, MeaningGives, bad_line, printing}
 use Rattle.replay.specs.declared.steps.Meaning.{Meaning}

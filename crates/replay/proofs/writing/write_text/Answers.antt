@@ -1,5 +1,4 @@
-use Rattle.std.proofs.Common.{List, ℕ, subst, sym}
-use Rattle.replay.proofs.Written.{Left, left_kept, left_less}
+use Rattle.replay.proofs.Written.{left_kept, left_less}
 use Rattle.replay.proofs.writing.write_text.Goals as goal
 use Rattle.replay.proofs.writing.write_text.Goals.{in-Ok, in-Err}
 

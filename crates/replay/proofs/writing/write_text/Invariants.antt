@@ -1,4 +1,3 @@
-use Rattle.replay.specs.Writing.{AppendsFront}
 use Rattle.replay.proofs.Written.{Left}
 use Rattle.replay.proofs.writing.write_text.Given as goal
 
