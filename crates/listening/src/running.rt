@@ -5,7 +5,7 @@ use program::{FAULT, Prepared, arguments, prepare, tell};
 use std::convert::AsStr;
 use std::env::Env;
 use std::io;
-use std::io::{BufReader, BufWriter, Read, Write};
+use std::io::{BufRead, BufReader, BufWriter, Write};
 use std::net::{Net, TcpListener, TcpStream};
 use std::sync::Wait;
 use std::thread::Threads;
@@ -57,7 +57,7 @@ where
     R: Eprint + AllocGlobal + Clock,
     R: Net<Listener = TcpListener, Stream = TcpStream>,
     S: AsStr,
-    I: Read,
+    I: BufRead,
     O: Write,
     E: Write,
 {

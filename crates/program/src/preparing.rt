@@ -14,7 +14,7 @@ use command_line::{Job, Usage};
 use std::alloc::Global;
 use std::convert::AsStr;
 use std::io;
-use std::io::{Read, Write};
+use std::io::{BufRead, Read, Write};
 use std::net::SocketAddrV4;
 
 /// The status of a faulty configuration.
@@ -22,7 +22,7 @@ const BAD_CONFIGURATION: u8 = 3;
 
 /// Does what the words of a command line ask for, the first of them the program's name, up to where
 /// proxies would be listened to. Where an allocation or a write failed the status is 5.
-pub fn prepare<S: AsStr, I: Read, O: Write, E: Write>(
+pub fn prepare<S: AsStr, I: BufRead, O: Write, E: Write>(
     alloc: Global,
     words: &[S],
     input: &mut I,
@@ -40,7 +40,7 @@ pub fn prepare<S: AsStr, I: Read, O: Write, E: Write>(
 }
 
 // Does what the words ask for, where no allocation and no write fails.
-fn try_prepare<S: AsStr, I: Read, O: Write, E: Write>(
+fn try_prepare<S: AsStr, I: BufRead, O: Write, E: Write>(
     alloc: Global,
     words: &[S],
     input: &mut I,
@@ -61,7 +61,7 @@ fn try_prepare<S: AsStr, I: Read, O: Write, E: Write>(
 }
 
 // Replays the script on standard input.
-fn run_replay<I: Read, O: Write>(alloc: Global, input: &mut I, output: &mut O) -> Prepared
+fn run_replay<I: BufRead, O: Write>(alloc: Global, input: &mut I, output: &mut O) -> Prepared
     ensures { (errors : Option (List ℕ)) → Replays (I.remaining input.old)
         (streams (O.contents output.old) (O.contents output.new) errors errors) result }
 {

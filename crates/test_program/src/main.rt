@@ -11,7 +11,7 @@ mod scene;
 use program::{Asked, Prepared, prepare};
 use scene::{Scene, Torn};
 use std::io;
-use std::io::{Read, Write};
+use std::io::{BufRead, BufReader, Write};
 use std::net::{Ipv4Addr, Net, SocketAddr, SocketAddrV4, TcpListener, TcpStream};
 use std::sync::Wait;
 use std::thread::Threads;
@@ -123,7 +123,7 @@ fn show_left(rt: &impl Print, errors: &[u8], left: Prepared) -> io::Result<()> {
 fn show_prepare<R, I, O>(rt: &R, words: &[&str], input: &mut I, output: &mut O) -> io::Result<()>
 where
     R: Print + AllocGlobal,
-    I: Read,
+    I: BufRead,
     O: Write,
 {
     let mut errors = Vec::new(rt.alloc());
@@ -154,12 +154,13 @@ fn show_torn(rt: &(impl Print + AllocGlobal)) -> io::Result<()> {
         "--peers=192.0.2.1:1024",
         "--admin=192.0.2.2:1025",
     ];
+    let mut input = BufReader::new(rt.alloc(), Torn)?;
     let mut output = io::writer(rt);
     let mut faulty = FAULTY;
     println!(rt; "== replay: no input")?;
-    show_prepare(rt, &["aggregator", "replay"], &mut Torn, &mut output)?;
+    show_prepare(rt, &["aggregator", "replay"], &mut input, &mut output)?;
     println!(rt; "== listen: no input")?;
-    show_prepare(rt, &listen, &mut Torn, &mut output)?;
+    show_prepare(rt, &listen, &mut input, &mut output)?;
     println!(rt; "== listen: no output")?;
     show_prepare(rt, &listen, &mut faulty, &mut Torn)?;
     println!(rt; "== --help: no output")?;
