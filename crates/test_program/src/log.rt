@@ -80,27 +80,27 @@ pub fn show<R: Print + Copy + AllocGlobal>(rt: &R) -> io::Result<()> {
 /// Connections that are over, by each cause, of a peer and of a stranger.
 fn show_ends<R: Print + AllocGlobal>(rt: &R, notes: &Notes<'_, Still<R>>) {
     show_end(notes, None);
-    show_end(notes, Some(&Cause::Read));
-    show_end(notes, Some(&Cause::Write));
+    show_end(notes, Some(Cause::Read));
+    show_end(notes, Some(Cause::Write));
     let refused = SessionCause::Refused(Status::RemoteName);
-    show_end(notes, Some(&Cause::Session(refused)));
-    show_end(notes, Some(&Cause::Session(SessionCause::TimedOut)));
+    show_end(notes, Some(Cause::Session(refused)));
+    show_end(notes, Some(Cause::Session(SessionCause::TimedOut)));
     let unposted = PostFault::NoMemory(Vec::new(rt.alloc()));
-    show_end(notes, Some(&Cause::Post(unposted)));
-    show_end(notes, Some(&Cause::Post(PostFault::Spent)));
-    show_end(notes, Some(&Cause::Look));
+    show_end(notes, Some(Cause::Post(unposted)));
+    show_end(notes, Some(Cause::Post(PostFault::Spent)));
+    show_end(notes, Some(Cause::Look));
 }
 
-fn show_end<R: Print>(notes: &Notes<'_, Still<R>>, cause: Option<&Cause>) {
+fn show_end<R: Print>(notes: &Notes<'_, Still<R>>, cause: Option<Cause>) {
     let gone = Gone {
         sender: sender(),
         peer: Some(1),
         name: None,
         updates: 812,
-        cause,
+        cause: cause.as_ref(),
     };
     notes.tell(SESSION, News::Gone(gone));
-    show_stranger(notes, None, cause);
+    show_stranger(notes, None, cause.as_ref());
 }
 
 fn show_stranger<R: Print>(
