@@ -31,13 +31,16 @@ use Rattle.serve.proofs.Works.{wrote_more, wrote_none}
 use Rattle.serve.specs.Commands.{AllAnswered, EndsCommands, HasNoEnd, IsCommandedUntil}
 use Rattle.serve.specs.Commands.{IsCommandedWhole, IsReply, LastCutShort, LaterRefused, Replies}
 use Rattle.serve.specs.Commands.{Reply, ShowsTold, changes_in, lines_in, texts_in}
-use Rattle.serve.specs.Commanding.{ChangesTo, HasLearned, HasObeyed, KeepsTo, LooksTo, ObeysTo}
-use Rattle.serve.specs.Commanding.{Stops, Works, WorksOn, kept_of, reply_of}
+use Rattle.serve.specs.Commanding.{HasLearned, HasLooked, HasObeyed, ObeysTo, Stops, Works}
+use Rattle.serve.specs.Commanding.{kept_of, reply_of}
+use Rattle.serve.specs.Faults.{cause_of_line}
 use Rattle.serve.specs.Told.{HasTold, IsServed, TellsLast, stored_of}
-use Rattle.serve.specs.Turns.{Sends, WroteFront}
+use Rattle.serve.specs.Turns.{WroteFront}
 use Rattle.serve.specs.declared.admin.Answered.{Answered}
 use Rattle.serve.specs.declared.admin.Worker.{Worker}
 use Rattle.serve.specs.declared.desk.Desk.{Desk}
+use Rattle.serve.specs.declared.faults.LineFault.{LineFault}
+use Rattle.serve.specs.declared.faults.LineFault.TheVariants as faults
 use Rattle.serve.specs.declared.served.Cause.{Cause}
 use Rattle.serve.specs.declared.served.Cause.TheVariants.{Read, Write, Session, Post, Look}
 use Rattle.serve.specs.declared.served.Faulted.{Faulted}
@@ -201,13 +204,13 @@ pub looked : (hub : Beginning) (seat : ℕ) (old new : Worker) (whats : List Wha
     → new.desk ≡ old.desk → new.lens.seen ≡ seen → Follows old.lens.seen seen → IsBookOf book seen
     → Replies book (kept_of line) answered.change answered.text.items → HasNoEnd line
     → HasLearned hub seat old whats
-    → LooksTo hub seat new whats line (Ok answered)
+    → HasLooked hub seat new whats line answered
 looked hub seat old new whats line book answered seen desk same later stands says whole learned =
     let now : HasLearned hub seat new whats =
     learned_later hub seat old new whats desk (subst (λ (b : Beginning). Follows old.lens.seen b)
-    (sym same) later) learned in (
-      now,
-      record {
+    (sym same) later) learned in record {
+      learned = now;
+      is = record {
         whole = whole;
         seen = new.lens.seen;
         follows = now.sees;
@@ -215,8 +218,8 @@ looked hub seat old new whats line book answered seen desk same later stands say
         book = book;
         stands = subst (λ (b : Beginning). IsBookOf book b) (sym same) stands;
         says = replied_kept book line answered.change answered.text.items says;
-      },
-    )
+      };
+    }
 
 -- ---- bytes and lines
 
@@ -370,43 +373,25 @@ stops_unkept hub seat old new rest given0 given wrote0 wrote fault desk none w =
     (subst (λ (n : ℕ). HasTold hub new.desk (changes_in w.replies) n) (sym none) told)
     (wrote_none wrote)
 
--- bytes couldn't be kept: an allocation failed
-pub stops_keeping : (hub : Beginning) (seat : ℕ) (old new : Worker) (rest line : List ℕ)
-    (given0 given wrote0 wrote : Option (List ℕ)) (cause : Cause)
-    → new.desk ≡ old.desk → KeepsTo new line (Err cause)
-    → Works hub seat old rest given0 given wrote0 wrote
-    → Stops hub seat new given0 given wrote0 wrote cause
-stops_keeping hub seat old new rest line given0 given wrote0 wrote Read desk keeps w = absurd keeps
-stops_keeping hub seat old new rest line given0 given wrote0 wrote Write desk keeps w = absurd keeps
-stops_keeping hub seat old new rest line given0 given wrote0 wrote (Session cause) desk keeps w =
-    absurd keeps
-stops_keeping hub seat old new rest line given0 given wrote0 wrote (Post fault) desk keeps w =
-    stops_unkept hub seat old new rest given0 given wrote0 wrote fault desk keeps w
-stops_keeping hub seat old new rest line given0 given wrote0 wrote Look desk keeps w = absurd keeps
-
 -- bytes of a line that hasn't ended were kept
 pub works_kept : (hub : Beginning) (seat : ℕ) (old new : Worker) (rest : List ℕ)
-    (given0 given wrote0 wrote : Option (List ℕ))
-    (result : Result (Unit {0}) Cause) → new.desk ≡ old.desk → new.lens.seen ≡ old.lens.seen
-    → HasNoEnd rest
-    → ((line : List ℕ) → old.line.bytes.items ≡ kept_of line → KeepsTo new (line ++ rest) result)
+    (given0 given wrote0 wrote : Option (List ℕ)) → new.desk ≡ old.desk
+    → new.lens.seen ≡ old.lens.seen → HasNoEnd rest
+    → ((line : List ℕ) → old.line.bytes.items ≡ kept_of line
+    → new.line.bytes.items ≡ kept_of (line ++ rest))
     → Works hub seat old rest given0 given wrote0 wrote
-    → WorksOn hub seat new [] given0 given wrote0 wrote result
-works_kept hub seat old new rest given0 given wrote0 wrote (Ok done) desk lens whole keeps w =
-    record {
-      replies = w.replies;
-      line = w.line ++ rest;
-      are = w.are;
-      learned = learned_same hub seat old new (changes_in w.replies) desk lens w.learned;
-      keeps = keeps w.line w.keeps;
-      unended = none_in_both w.line rest w.unended whole;
-      gave = subst (λ bytes. Appends given0 given bytes) (line_goes_on w.replies w.line rest)
-          w.gave;
-      took = w.took;
-    }
-works_kept hub seat old new rest given0 given wrote0 wrote (Err cause) desk lens whole keeps w =
-    stops_keeping hub seat old new rest (w.line ++ rest) given0 given wrote0 wrote cause desk
-    (keeps w.line w.keeps) w
+    → Works hub seat new [] given0 given wrote0 wrote
+works_kept hub seat old new rest given0 given wrote0 wrote desk lens whole keeps w = record {
+  replies = w.replies;
+  line = w.line ++ rest;
+  are = w.are;
+  learned = learned_same hub seat old new (changes_in w.replies) desk lens w.learned;
+  keeps = keeps w.line w.keeps;
+  unended = none_in_both w.line rest w.unended whole;
+  gave = subst (λ bytes. Appends given0 given bytes) (line_goes_on w.replies w.line rest)
+      w.gave;
+  took = w.took;
+}
 
 -- a line that ended was obeyed, and the next one begins
 pub works_obeyed : (hub : Beginning) (seat : ℕ) (old mid new : Worker) (bytes rest : List ℕ)
@@ -461,68 +446,39 @@ stops_cut hub seat old new bytes rest given0 given wrote0 before after reply w o
 -- a line that ended, at a fault
 pub stops_obeying : (hub : Beginning) (seat : ℕ) (old new : Worker) (bytes rest : List ℕ)
     (given0 given wrote0 before after : Option (List ℕ))
-    (cause : Cause) → (w : Works hub seat old (bytes ++ 10 ∷ rest) given0 given wrote0 before)
-    → ObeysTo hub seat new (changes_in w.replies) (w.line ++ bytes) before after (Err cause)
-    → Stops hub seat new given0 given wrote0 after cause
-stops_obeying hub seat old new bytes rest given0 given wrote0 before after Read w obeys =
-    absurd obeys
-stops_obeying hub seat old new bytes rest given0 given wrote0 before after Write w obeys =
+    (fault : LineFault) → (w : Works hub seat old (bytes ++ 10 ∷ rest) given0 given wrote0 before)
+    → ObeysTo hub seat new (changes_in w.replies) (w.line ++ bytes) before after (Err fault)
+    → Stops hub seat new given0 given wrote0 after (cause_of_line fault)
+stops_obeying hub seat old new bytes rest given0 given wrote0 before after faults.Write w obeys =
     stops_cut hub seat old new bytes rest given0 given wrote0 before after obeys.0 w obeys.1 obeys.2
-stops_obeying hub seat old new bytes rest given0 given wrote0 before after (Session cause) w obeys =
-    absurd obeys
-stops_obeying hub seat old new bytes rest given0 given wrote0 before after (Post fault) w obeys =
+stops_obeying hub seat old new bytes rest given0 given wrote0 before after (faults.Post fault) w
+    obeys =
     stops_refused hub seat old new (bytes ++ 10 ∷ rest) given0 given wrote0 before after fault w
     obeys.0 obeys.1
-stops_obeying hub seat old new bytes rest given0 given wrote0 before after Look w obeys =
+stops_obeying hub seat old new bytes rest given0 given wrote0 before after faults.Look w obeys =
     stops_unseen hub seat old new (bytes ++ 10 ∷ rest) given0 given wrote0 before after w
     obeys.0 obeys.1
 
 -- ---- a line
 
--- a look or a change that ended with a fault ends the line, of which nothing was written
-pub obeys_unlooked : (hub : Beginning) (seat : ℕ) (worker : Worker) (whats : List What)
-    (line : List ℕ) (wrote : Option (List ℕ)) (cause : Cause)
-    → LooksTo hub seat worker whats line (Err cause)
-    → ObeysTo hub seat worker whats line wrote wrote (Err cause)
-obeys_unlooked hub seat worker whats line wrote Read looks = absurd looks
-obeys_unlooked hub seat worker whats line wrote Write looks = absurd looks
-obeys_unlooked hub seat worker whats line wrote (Session cause) looks = absurd looks
-obeys_unlooked hub seat worker whats line wrote (Post fault) looks = (
-  subst (λ (n : ℕ). HasTold hub worker.desk whats n) (sym looks.none) looks.told,
+-- a line at which an allocation failed, and of which nothing was told nor written
+pub obeys_unlooked : (hub : Beginning) (desk : Desk) (whats : List What)
+    (wrote : Option (List ℕ)) (fault : PostFault) → stored_of fault 1 ≡ 0
+    → HasTold hub desk whats 0
+    → HasTold hub desk whats (stored_of fault 1) × Appends wrote wrote []
+obeys_unlooked hub desk whats wrote fault none told = (
+  subst (λ (n : ℕ). HasTold hub desk whats n) (sym none) told,
   wrote_none wrote,
 )
-obeys_unlooked hub seat worker whats line wrote Look looks = (looks, wrote_none wrote)
 
-pub obeys_unchanged : (hub : Beginning) (seat : ℕ) (worker : Worker) (whats batch : List What)
-    (line : List ℕ) (wrote : Option (List ℕ)) (cause : Cause)
-    → ChangesTo hub seat worker whats batch (Err cause)
-    → ObeysTo hub seat worker whats line wrote wrote (Err cause)
-obeys_unchanged hub seat worker whats batch line wrote Read changes = absurd changes
-obeys_unchanged hub seat worker whats batch line wrote Write changes = absurd changes
-obeys_unchanged hub seat worker whats batch line wrote (Session cause) changes = absurd changes
-obeys_unchanged hub seat worker whats batch line wrote (Post fault) changes =
-    (changes, wrote_none wrote)
-obeys_unchanged hub seat worker whats batch line wrote Look changes = absurd changes
-
--- a line whose change was told and whose answer is sent
-pub obeys_sent : (hub : Beginning) (seat : ℕ) (worker : Worker) (whats : List What) (line : List ℕ)
-    (before after : Option (List ℕ)) (change : Option What)
-    (text : List ℕ) (result : Result (Unit {0}) Cause)
+-- a line whose change was told
+pub has_obeyed : (hub : Beginning) (seat : ℕ) (worker : Worker) (whats : List What)
+    (line : List ℕ) (change : Option What) (text : List ℕ)
     → IsReply hub seat whats (reply_of line change text)
-    → HasLearned hub seat worker (whats ++ option_to_list change) → Sends before after text result
-    → ObeysTo hub seat worker whats line before after result
-obeys_sent hub seat worker whats line before after change text (Ok done) is learned sends =
-    (reply_of line change text, record { answers = refl; is = is; learned = learned }, sends)
-obeys_sent hub seat worker whats line before after change text (Err Read) is learned sends =
-    absurd sends
-obeys_sent hub seat worker whats line before after change text (Err Write) is learned sends =
-    (reply_of line change text, record { answers = refl; is = is; learned = learned }, sends)
-obeys_sent hub seat worker whats line before after change text (Err (Session cause)) is learned
-    sends = absurd sends
-obeys_sent hub seat worker whats line before after change text (Err (Post fault)) is learned sends =
-    absurd sends
-obeys_sent hub seat worker whats line before after change text (Err Look) is learned sends =
-    absurd sends
+    → HasLearned hub seat worker (whats ++ option_to_list change)
+    → HasObeyed hub seat worker whats line (reply_of line change text)
+has_obeyed hub seat worker whats line change text is learned =
+    record { answers = refl; is = is; learned = learned }
 
 -- nothing is asked for
 pub changes_none : (hub : Beginning) (seat : ℕ) (worker : Worker) (whats : List What)

@@ -17,15 +17,18 @@ use Rattle.session_core.specs.TalkAnswers.{FaultAnswersTalk, ContinuesTalk}
 use Rattle.session_core.specs.declared.stage.Stage.{Stage}
 use Rattle.hub.specs.History.{Beginning}
 use Rattle.serve.specs.declared.desk.Desk.{Desk}
+use Rattle.serve.specs.declared.faults.AnswerFault.{AnswerFault}
+use Rattle.serve.specs.declared.faults.AnswerFault.TheVariants.{Write as Unwritten, Post as Unposted}
 use Rattle.serve.specs.declared.served.Cause.{Cause}
 use Rattle.serve.specs.declared.served.Cause.TheVariants.{Read, Write, Session, Post, Look}
 use Rattle.serve.specs.declared.served.Faulted.{Faulted}
 use Rattle.serve.specs.declared.served.Served.{Served}
 use Rattle.serve.specs.declared.worker.Worker.{Worker}
 use Rattle.std.specs.Io.KnownBytes.{Appends, Keeps}
+use Rattle.serve.specs.Faults.{cause_of_turn, turn_fault_of}
 use Rattle.serve.specs.Told.{stored_of}
 use Rattle.serve.specs.Turns.{DeskTells, EndsBy, EndsBySession, IsDeskOf, IsAnswered, IsRefused}
-use Rattle.serve.specs.Turns.{SeatIsServed, Sends, answer_at, answers_in, facts_in, heartbeat}
+use Rattle.serve.specs.Turns.{SeatIsServed, WroteFront, answer_at, answers_in, facts_in, heartbeat}
 use Rattle.serve.specs.Turns.{said_beyond, taken_in}
 use Rattle.serve.specs.Working.{EndsFor, EndsTo, IsAtWork, IsServedUntil, IsServedWhole}
 use Rattle.serve.specs.Working.{SettlesThen, SettlesTo, Stops, Works, WorksOn}
@@ -219,16 +222,15 @@ stops_for_memory hub seated old new given0 given after wrote0 wrote piece gives 
 -- a session whose batch was settled
 pub settled : (hub : Beginning) (seated : Bool) (old new : Worker)
     (given0 given after wrote0 wrote1 wrote2 : Option (List ℕ)) (piece : List ℕ) (batch : Batched)
-    (end : Option SessionCause)
-    (result : Result (Unit {0}) Cause) → Appends given after piece
+    (end : Option SessionCause) → Appends given after piece
     → (w : Works hub seated old given0 given wrote0 wrote1)
     → ContinuesTalk (setup_of hub.config) seated (taken_in w.turns) piece batch end
     new.session.stage → new.session.seated ≡ seated
-    → SettlesTo hub new.desk (facts_in (setup_of hub.config) seated w.turns) batch
-    wrote1 wrote2 result
-    → WorksOn hub seated new given0 after wrote0 wrote2 result
-settled hub seated old new given0 given after wrote0 wrote1 wrote2 piece batch end (Ok done) gives w
-    stands same settles =
+    → DeskTells hub new.desk (facts_in (setup_of hub.config) seated w.turns ++ batch.facts) 0
+    → Appends wrote1 wrote2 (batch.replies ++ batch.acks)
+    → Works hub seated new given0 after wrote0 wrote2
+settled hub seated old new given0 given after wrote0 wrote1 wrote2 piece batch end gives w
+    stands same told wrote =
     let setup : Setup = setup_of hub.config in
     let says : answer_at setup seated w.turns (Some piece) ≡ batch.replies ++ batch.acks =
     says_beyond setup (talk setup seated (taken_in w.turns))
@@ -237,17 +239,26 @@ settled hub seated old new given0 given after wrote0 wrote1 wrote2 piece batch e
       work = record {
         has_seat = same;
         stands = stands.stands;
-        told = subst (λ facts. DeskTells hub new.desk facts 0) (sym stands.grows.facts) settles.0;
+        told = subst (λ facts. DeskTells hub new.desk facts 0) (sym stands.grows.facts) told;
       };
       gave = wrote_more given0 given after (taken_in w.turns) piece w.gave gives;
       took = wrote_more wrote0 wrote1 wrote2 (answers_in setup seated w.turns)
           (answer_at setup seated w.turns (Some piece)) w.took
-          (subst (λ bytes. Appends wrote1 wrote2 bytes) (sym says) settles.1);
+          (subst (λ bytes. Appends wrote1 wrote2 bytes) (sym says) wrote);
     }
-settled hub seated old new given0 given after wrote0 wrote1 wrote2 piece batch end (Err Read) gives
-    w stands same settles = absurd settles
-settled hub seated old new given0 given after wrote0 wrote1 wrote2 piece batch end (Err Write) gives
-    w stands same settles =
+
+-- a session whose batch couldn't be settled
+pub unsettled : {A : Type 0} → (hub : Beginning) (seated : Bool) (old new : Worker)
+    (given0 given after wrote0 wrote1 wrote2 : Option (List ℕ)) (piece : List ℕ) (batch : Batched)
+    (end : Option SessionCause) (fault : AnswerFault) → Appends given after piece
+    → (w : Works hub seated old given0 given wrote0 wrote1)
+    → ContinuesTalk (setup_of hub.config) seated (taken_in w.turns) piece batch end
+    new.session.stage
+    → SettlesTo {A = A} hub new.desk (facts_in (setup_of hub.config) seated w.turns) batch
+    wrote1 wrote2 (Err fault)
+    → Stops hub seated new given0 after wrote0 wrote2 (cause_of_turn (turn_fault_of fault))
+unsettled hub seated old new given0 given after wrote0 wrote1 wrote2 piece batch end Unwritten gives
+    w stands settles =
     let setup : Setup = setup_of hub.config in
     let says : answer_at setup seated w.turns (Some piece) ≡ batch.replies ++ batch.acks =
     says_beyond setup (talk setup seated (taken_in w.turns))
@@ -268,10 +279,8 @@ settled hub seated old new given0 given after wrote0 wrote1 wrote2 piece batch e
         answered = refl;
       };
     }
-settled hub seated old new given0 given after wrote0 wrote1 wrote2 piece batch end
-    (Err (Session cause)) gives w stands same settles = absurd settles
-settled hub seated old new given0 given after wrote0 wrote1 wrote2 piece batch end
-    (Err (Post fault)) gives w stands same settles =
+unsettled hub seated old new given0 given after wrote0 wrote1 wrote2 piece batch end
+    (Unposted fault) gives w stands settles =
     let setup : Setup = setup_of hub.config in
     let count : length (talk setup seated (taken_in w.turns ++ piece)).facts - length
     (facts_in setup seated w.turns) ≡ length batch.facts =
@@ -292,8 +301,6 @@ settled hub seated old new given0 given after wrote0 wrote1 wrote2 piece batch e
         answered = refl;
       };
     }
-settled hub seated old new given0 given after wrote0 wrote1 wrote2 piece batch end (Err Look) gives
-    w stands same settles = absurd settles
 
 nothing_in : (whats : List What) → length whats ≤ 0 → whats ≡ []
 nothing_in [] le = refl
@@ -425,12 +432,12 @@ served_until hub seated worker given0 given wrote0 wrote seat faulted same f s =
 
 -- a heartbeat is sent
 pub beaten : (hub : Beginning) (seated : Bool) (old new : Worker)
-    (given0 given wrote0 wrote1 wrote2 : Option (List ℕ)) (result : Result (Unit {0}) Cause)
+    (given0 given wrote0 wrote1 wrote2 : Option (List ℕ))
     → new.session.seated ≡ old.session.seated → new.session.stage ≡ old.session.stage
     → new.desk ≡ old.desk
-    → Works hub seated old given0 given wrote0 wrote1 → Sends wrote1 wrote2 heartbeat result
-    → WorksOn hub seated new given0 given wrote0 wrote2 result
-beaten hub seated old new given0 given wrote0 wrote1 wrote2 (Ok done) same stage desk w sends =
+    → Works hub seated old given0 given wrote0 wrote1 → Appends wrote1 wrote2 heartbeat
+    → Works hub seated new given0 given wrote0 wrote2
+beaten hub seated old new given0 given wrote0 wrote1 wrote2 same stage desk w sends =
     let setup : Setup = setup_of hub.config in record {
       turns = None ∷ w.turns;
       work = record {
@@ -443,9 +450,13 @@ beaten hub seated old new given0 given wrote0 wrote1 wrote2 (Ok done) same stage
       took = wrote_more wrote0 wrote1 wrote2 (answers_in setup seated w.turns)
           heartbeat w.took sends;
     }
-beaten hub seated old new given0 given wrote0 wrote1 wrote2 (Err Read) same stage desk w sends =
-    absurd sends
-beaten hub seated old new given0 given wrote0 wrote1 wrote2 (Err Write) same stage desk w sends =
+
+-- a heartbeat couldn't be sent
+pub unbeaten : (hub : Beginning) (seated : Bool) (old new : Worker)
+    (given0 given wrote0 wrote1 wrote2 : Option (List ℕ)) → new.desk ≡ old.desk
+    → Works hub seated old given0 given wrote0 wrote1 → WroteFront wrote1 wrote2 heartbeat
+    → Stops hub seated new given0 given wrote0 wrote2 Write
+unbeaten hub seated old new given0 given wrote0 wrote1 wrote2 desk w sends =
     let setup : Setup = setup_of hub.config in record {
       bytes = taken_in w.turns;
       written = answers_in setup seated w.turns ++ sends.front;
@@ -464,12 +475,6 @@ beaten hub seated old new given0 given wrote0 wrote1 wrote2 (Err Write) same sta
         answered = refl;
       };
     }
-beaten hub seated old new given0 given wrote0 wrote1 wrote2 (Err (Session cause)) same stage desk w
-    sends = absurd sends
-beaten hub seated old new given0 given wrote0 wrote1 wrote2 (Err (Post fault)) same stage desk w
-    sends = absurd sends
-beaten hub seated old new given0 given wrote0 wrote1 wrote2 (Err Look) same stage desk w sends =
-    absurd sends
 
 -- silence ends a session, whatever it keeps then
 pub silenced : (hub : Beginning) (seated : Bool) (old new : Worker)
@@ -510,55 +515,53 @@ works_still hub seated old new given0 given wrote0 wrote same stage desk w =
       took = w.took;
     }
 
+-- what becomes of a session's last batch: it ends for its cause, or at the batch
+abbrev pub EndsSo : Beginning → Bool → Worker → Option (List ℕ) → Option (List ℕ)
+    → Option (List ℕ) → Option (List ℕ) → Result SessionCause AnswerFault → Type 0
+EndsSo hub seated worker given0 given wrote0 wrote (Ok cause) =
+    Stops hub seated worker given0 given wrote0 wrote (Session cause)
+EndsSo hub seated worker given0 given wrote0 wrote (Err fault) =
+    Stops hub seated worker given0 given wrote0 wrote (cause_of_turn (turn_fault_of fault))
+
 -- a session whose last batch was settled, for a cause other than out of memory
 ends_then : (hub : Beginning) (seated : Bool) (old new : Worker)
     (given0 given after wrote0 wrote1 wrote2 : Option (List ℕ)) (piece : List ℕ)
     (fault : SessionFault)
-    (result : Result (Unit {0}) Cause) → TookIt fault.cause → Appends given after piece
+    (result : Result SessionCause AnswerFault) → TookIt fault.cause → Appends given after piece
     → (w : Works hub seated old given0 given wrote0 wrote1)
     → ContinuesTalk (setup_of hub.config) seated (taken_in w.turns) piece fault.batch
     (Some fault.cause) new.session.stage → new.session.seated ≡ seated
     → SettlesThen hub new.desk (facts_in (setup_of hub.config) seated w.turns) fault
     wrote1 wrote2 result
-    → WorksOn hub seated new given0 after wrote0 wrote2 result
-ends_then hub seated old new given0 given after wrote0 wrote1 wrote2 piece fault (Ok done) took
-    gives w stands same ends = absurd ends
-ends_then hub seated old new given0 given after wrote0 wrote1 wrote2 piece fault (Err Read) took
-    gives w stands same ends = absurd ends
-ends_then hub seated old new given0 given after wrote0 wrote1 wrote2 piece fault (Err Write) took
+    → EndsSo hub seated new given0 after wrote0 wrote2 result
+ends_then hub seated old new given0 given after wrote0 wrote1 wrote2 piece fault (Ok cause) took
     gives w stands same ends =
-    settled hub seated old new given0 given after wrote0 wrote1 wrote2 piece fault.batch
-    (Some fault.cause) (Err Write) gives w stands same ends
-ends_then hub seated old new given0 given after wrote0 wrote1 wrote2 piece fault
-    (Err (Session cause)) took gives w stands same ends =
-    subst (λ cause. Stops hub seated new given0 after wrote0 wrote2 (Session cause)) (sym ends.0)
+    subst (λ cause. Stops hub seated new given0 after wrote0 wrote2 (Session cause)) (sym ends.is)
     (stops_by_session hub seated new given0 after wrote0 wrote2 fault.cause took
     (settled hub seated old new given0 given after wrote0 wrote1 wrote2 piece fault.batch
-    (Some fault.cause) (Ok tt) gives w stands same ends.1))
-ends_then hub seated old new given0 given after wrote0 wrote1 wrote2 piece fault (Err (Post post))
-    took gives w stands same ends =
-    settled hub seated old new given0 given after wrote0 wrote1 wrote2 piece fault.batch
-    (Some fault.cause) (Err (Post post)) gives w stands same ends
-ends_then hub seated old new given0 given after wrote0 wrote1 wrote2 piece fault (Err Look) took
-    gives w stands same ends = absurd ends
+    (Some fault.cause) gives w stands same ends.settles.0 ends.settles.1))
+ends_then hub seated old new given0 given after wrote0 wrote1 wrote2 piece fault (Err answer) took
+    gives w stands same ends =
+    unsettled {A = SessionCause} hub seated old new given0 given after wrote0 wrote1 wrote2 piece
+    fault.batch (Some fault.cause) answer gives w stands ends.settles
 
 -- a session that ends with a fault
 pub ended_by : (hub : Beginning) (seated : Bool) (old new : Worker)
     (given0 given after wrote0 wrote1 wrote2 : Option (List ℕ)) (piece : List ℕ)
     (fault : SessionFault)
-    (result : Result (Unit {0}) Cause) → Appends given after piece
+    (result : Result SessionCause AnswerFault) → Appends given after piece
     → (w : Works hub seated old given0 given wrote0 wrote1) → new.session.seated ≡ seated
     → FaultAnswersTalk fault.cause fault.batch (setup_of hub.config) seated (taken_in w.turns) piece
     new.session.stage
     → EndsTo hub old.desk new.desk (facts_in (setup_of hub.config) seated w.turns) fault
     wrote1 wrote2 result
-    → WorksOn hub seated new given0 after wrote0 wrote2 result
+    → EndsSo hub seated new given0 after wrote0 wrote2 result
 ended_by hub seated old new given0 given after wrote0 wrote1 wrote2 piece fault result gives w same
     answers ends = by_cause fault.cause refl answers ends
   where
     then : TookIt fault.cause → SettlesThen hub new.desk
         (facts_in (setup_of hub.config) seated w.turns) fault wrote1 wrote2 result
-        → WorksOn hub seated new given0 after wrote0 wrote2 result
+        → EndsSo hub seated new given0 after wrote0 wrote2 result
     then took settles =
         ends_then hub seated old new given0 given after wrote0 wrote1 wrote2 piece fault
         result took gives w
@@ -568,13 +571,13 @@ ended_by hub seated old new given0 given after wrote0 wrote1 wrote2 piece fault 
     by_cause : (cause : SessionCause) → fault.cause ≡ cause → FaultAnswersTalk cause fault.batch
         (setup_of hub.config) seated (taken_in w.turns) piece new.session.stage
         → EndsFor cause hub old.desk new.desk (facts_in (setup_of hub.config) seated w.turns) fault
-        wrote1 wrote2 result → WorksOn hub seated new given0 after wrote0 wrote2 result
+        wrote1 wrote2 result → EndsSo hub seated new given0 after wrote0 wrote2 result
     by_cause (causes.Refused status) is a e = then (subst TookIt (sym is) tt) e
     by_cause (causes.Wire wire) is a e = then (subst TookIt (sym is) tt) e
     by_cause causes.PeerError is a e = then (subst TookIt (sym is) tt) e
     by_cause causes.TimedOut is a e = then (subst TookIt (sym is) tt) e
     by_cause causes.NoMemory is a e =
-        subst (λ r. WorksOn hub seated new given0 after wrote0 wrote2 r) (sym e.is)
+        subst (λ r. EndsSo hub seated new given0 after wrote0 wrote2 r) (sym e.is)
         (subst (λ wrote. Stops hub seated new given0 after wrote0 wrote (Session causes.NoMemory))
         (sym e.kept)
         (stops_for_memory hub seated old new given0 given after wrote0 wrote1 piece gives e.desk w))

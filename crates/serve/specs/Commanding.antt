@@ -1,19 +1,22 @@
 -- An admin at work.
-use Rattle.std.specs.Prelude.{◌≡◌, ℕ, ◌==◌, not, List, [], ◌++◌, drop, find, take, Option, Result}
-use Rattle.std.specs.Prelude.{Ok, Err}
+use Rattle.std.specs.Prelude.{◌≡◌, ℕ, ◌==◌, not, List, [], ◌++◌, drop, find, take, Option, Some}
+use Rattle.std.specs.Prelude.{None, Result, Ok, Err}
 use Rattle.std.specs.Io.KnownBytes.{Appends}
 use Rattle.std.specs.Option.{option_to_list}
 use Rattle.agg_types.specs.declared.event.What.{What}
 use Rattle.agg_types.specs.declared.limits.TheConstants.{LONGEST_COMMAND_LINE}
+use Rattle.agg_types.specs.declared.no_memory.NoMemory.{NoMemory}
 use Rattle.hub.specs.declared.faults.PostFault.{PostFault}
 use Rattle.hub.specs.History.{Beginning}
 use Rattle.hub.specs.Posts.{Follows}
 use Rattle.serve.specs.declared.admin.Answered.{Answered}
 use Rattle.serve.specs.declared.admin.Worker.{Worker}
+use Rattle.serve.specs.declared.faults.LineFault.{LineFault}
+use Rattle.serve.specs.declared.faults.LineFault.TheVariants.{Write, Post, Look}
 use Rattle.serve.specs.declared.served.Cause.{Cause}
-use Rattle.serve.specs.declared.served.Cause.TheVariants.{Read, Write, Session, Post, Look}
 use Rattle.serve.specs.Commands.{AreReplies, EndsCommands, HasNoEnd, IsReply, Reply, ShowsTold}
 use Rattle.serve.specs.Commands.{changes_in, lines_in, texts_in}
+use Rattle.serve.specs.Faults.{cause_of_line}
 use Rattle.serve.specs.Told.{HasTold, stored_of}
 use Rattle.serve.specs.Turns.{WroteFront}
 
@@ -39,33 +42,26 @@ pub record HasLearned (hub : Beginning) (seat : ℕ) (worker : Worker) (whats : 
 abbrev pub reply_of : List ℕ → Option What → List ℕ → Reply
 reply_of line change text = record { line = line; change = change; text = text }
 
--- no more was told, and nothing is stored that isn't shown
-pub record HasPaused (hub : Beginning) (worker : Worker) (whats : List What) (fault : PostFault)
-    : Type 0 where
-  pub told : HasTold hub worker.desk whats 0
-  pub none : stored_of fault 1 ≡ 0
+-- a line is answered
+pub record HasLooked (hub : Beginning) (seat : ℕ) (worker : Worker) (whats : List What)
+    (line : List ℕ) (answered : Answered) : Type 0 where
+  pub learned : HasLearned hub seat worker whats
+  pub is : IsReply hub seat whats (reply_of line answered.change answered.text.items)
 
--- a line is answered; else no copy could be entered, or an allocation failed
-abbrev pub LooksTo : Beginning → ℕ → Worker → List What → List ℕ → Result Answered Cause → Type 0
-LooksTo hub seat worker whats line (Ok answered) =
-    HasLearned hub seat worker whats
-    × IsReply hub seat whats (reply_of line answered.change answered.text.items)
-LooksTo hub seat worker whats line (Err Read) = ⊥
-LooksTo hub seat worker whats line (Err Write) = ⊥
-LooksTo hub seat worker whats line (Err (Session cause)) = ⊥
-LooksTo hub seat worker whats line (Err (Post fault)) = HasPaused hub worker whats fault
-LooksTo hub seat worker whats line (Err Look) = HasTold hub worker.desk whats 0
+-- the same, else no copy could be entered, or an allocation failed, and no more was told
+abbrev pub LooksTo : Beginning → ℕ → Worker → List What → List ℕ
+    → Result (Option Answered) NoMemory → Type 0
+LooksTo hub seat worker whats line (Ok (Some answered)) =
+    HasLooked hub seat worker whats line answered
+LooksTo hub seat worker whats line (Ok None) = HasTold hub worker.desk whats 0
+LooksTo hub seat worker whats line (Err want) = HasTold hub worker.desk whats 0
 
 -- what a line asks for is told behind what was told before it, and learned; or refused
-abbrev pub ChangesTo : Beginning → ℕ → Worker → List What → List What → Result (Unit {0}) Cause
-    → Type 0
+abbrev pub ChangesTo : Beginning → ℕ → Worker → List What → List What
+    → Result (Unit {0}) PostFault → Type 0
 ChangesTo hub seat worker whats batch (Ok done) = HasLearned hub seat worker (whats ++ batch)
-ChangesTo hub seat worker whats batch (Err Read) = ⊥
-ChangesTo hub seat worker whats batch (Err Write) = ⊥
-ChangesTo hub seat worker whats batch (Err (Session cause)) = ⊥
-ChangesTo hub seat worker whats batch (Err (Post fault)) =
+ChangesTo hub seat worker whats batch (Err fault) =
     HasTold hub worker.desk whats (stored_of fault 1)
-ChangesTo hub seat worker whats batch (Err Look) = ⊥
 
 -- a line has a reply, and what it asks for was told and learned
 pub record HasObeyed (hub : Beginning) (seat : ℕ) (worker : Worker) (whats : List What)
@@ -76,27 +72,16 @@ pub record HasObeyed (hub : Beginning) (seat : ℕ) (worker : Worker) (whats : L
 
 -- its answer was written, or a beginning of it; or nothing of a line was told nor written
 abbrev pub ObeysTo : Beginning → ℕ → Worker → List What → List ℕ → Option (List ℕ)
-    → Option (List ℕ) → Result (Unit {0}) Cause → Type 0
+    → Option (List ℕ) → Result (Unit {0}) LineFault → Type 0
 ObeysTo hub seat worker whats line before after (Ok done) =
     (reply : Reply) × HasObeyed hub seat worker whats line reply × Appends before after reply.text
-ObeysTo hub seat worker whats line before after (Err Read) = ⊥
 ObeysTo hub seat worker whats line before after (Err Write) =
     (reply : Reply) × HasObeyed hub seat worker whats line reply
     × WroteFront before after reply.text
-ObeysTo hub seat worker whats line before after (Err (Session cause)) = ⊥
 ObeysTo hub seat worker whats line before after (Err (Post fault)) =
     HasTold hub worker.desk whats (stored_of fault 1) × Appends before after []
 ObeysTo hub seat worker whats line before after (Err Look) =
     HasTold hub worker.desk whats 0 × Appends before after []
-
--- bytes were kept, or an allocation failed
-abbrev pub KeepsTo : Worker → List ℕ → Result (Unit {0}) Cause → Type 0
-KeepsTo worker line (Ok done) = worker.line.bytes.items ≡ kept_of line
-KeepsTo worker line (Err Read) = ⊥
-KeepsTo worker line (Err Write) = ⊥
-KeepsTo worker line (Err (Session cause)) = ⊥
-KeepsTo worker line (Err (Post fault)) = stored_of fault 1 ≡ 0
-KeepsTo worker line (Err Look) = ⊥
 
 -- an admin at work, with what its source gave and its writer took since it began; so many bytes of
 -- a piece are left
@@ -127,3 +112,11 @@ WorksOn hub seat worker rest given0 given wrote0 wrote (Ok done) =
     Works hub seat worker rest given0 given wrote0 wrote
 WorksOn hub seat worker rest given0 given wrote0 wrote (Err cause) =
     Stops hub seat worker given0 given wrote0 wrote cause
+
+-- the same after a step, which can't fail for every cause
+abbrev pub GoesOn : {A : Type 0} → Beginning → ℕ → Worker → List ℕ → Option (List ℕ)
+    → Option (List ℕ) → Option (List ℕ) → Option (List ℕ) → Result A LineFault → Type 0
+GoesOn hub seat worker rest given0 given wrote0 wrote (Ok done) =
+    Works hub seat worker rest given0 given wrote0 wrote
+GoesOn hub seat worker rest given0 given wrote0 wrote (Err fault) =
+    Stops hub seat worker given0 given wrote0 wrote (cause_of_line fault)

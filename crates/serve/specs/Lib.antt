@@ -1,3 +1,4 @@
+pub mod Faults
 pub mod Sources
 pub mod Told
 pub mod Turns

@@ -36,6 +36,11 @@ stored_of (NoMemory back) count = 0
 stored_of Pending count = count
 stored_of Spent count = 0
 
+-- the same of a post that may have been refused
+abbrev pub stored_in : {A : Type 0} → Result A PostFault → ℕ → ℕ
+stored_in (Ok done) count = 0
+stored_in (Err fault) count = stored_of fault count
+
 -- after a post all of the batch was told; after a refusal nothing of it
 abbrev pub TellsMore : Beginning → Desk → List What → List What → Result (Unit {0}) PostFault
     → Type 0

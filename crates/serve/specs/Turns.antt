@@ -10,6 +10,7 @@ use Rattle.session_core.specs.Piece.{Setup}
 use Rattle.session_core.specs.Talk.{Talk, acks_among, talk}
 use Rattle.hub.specs.History.{Beginning}
 use Rattle.serve.specs.declared.desk.Desk.{Desk}
+use Rattle.serve.specs.declared.faults.WriteFailed.{WriteFailed}
 use Rattle.serve.specs.declared.served.Cause.{Cause}
 use Rattle.serve.specs.declared.served.Cause.TheVariants.{Read, Write, Session, Post, Look}
 use Rattle.serve.specs.declared.served.Served.{Served}
@@ -134,10 +135,7 @@ pub record WroteFront (before after : Option (List ℕ)) (bytes : List ℕ) : Ty
   pub wrote : Appends before after front
 
 -- all of the bytes were written, or a beginning of them where a write failed
-abbrev pub Sends : Option (List ℕ) → Option (List ℕ) → List ℕ → Result (Unit {0}) Cause → Type 0
+abbrev pub Sends : Option (List ℕ) → Option (List ℕ) → List ℕ → Result (Unit {0}) WriteFailed
+    → Type 0
 Sends before after bytes (Ok done) = Appends before after bytes
-Sends before after bytes (Err Read) = ⊥
-Sends before after bytes (Err Write) = WroteFront before after bytes
-Sends before after bytes (Err (Session cause)) = ⊥
-Sends before after bytes (Err (Post fault)) = ⊥
-Sends before after bytes (Err Look) = ⊥
+Sends before after bytes (Err failed) = WroteFront before after bytes

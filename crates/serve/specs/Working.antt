@@ -1,6 +1,6 @@
 -- A session at work.
 use Rattle.std.specs.Prelude.{◌≡◌, ℕ, Bool, List, [], ◌++◌, length, Option, is_some, Result, Ok}
-use Rattle.std.specs.Prelude.{Err}
+use Rattle.std.specs.Prelude.{Err, IfOk}
 use Rattle.agg_types.specs.declared.event.What.{What}
 use Rattle.session_core.specs.declared.batch.SessionFault.{SessionFault}
 use Rattle.session_core.specs.declared.cause.SessionCause.{SessionCause}
@@ -8,14 +8,18 @@ use Rattle.session_core.specs.declared.cause.SessionCause.TheVariants as causes
 use Rattle.session_core.specs.Batched.{Batched}
 use Rattle.session_core.specs.Piece.{setup_of}
 use Rattle.session_core.specs.Talk.{stage_of}
+use Rattle.hub.specs.declared.faults.PostFault.{PostFault}
 use Rattle.hub.specs.History.{Beginning}
 use Rattle.serve.specs.declared.desk.Desk.{Desk}
+use Rattle.serve.specs.declared.faults.AnswerFault.{AnswerFault}
+use Rattle.serve.specs.declared.faults.AnswerFault.TheVariants.{Write, Post}
+use Rattle.serve.specs.declared.faults.TurnFault.{TurnFault}
 use Rattle.serve.specs.declared.served.Cause.{Cause}
-use Rattle.serve.specs.declared.served.Cause.TheVariants.{Read, Write, Session, Post, Look}
 use Rattle.serve.specs.declared.served.Faulted.{Faulted}
 use Rattle.serve.specs.declared.served.Served.{Served}
 use Rattle.serve.specs.declared.worker.Worker.{Worker}
 use Rattle.std.specs.Io.KnownBytes.{Appends}
+use Rattle.serve.specs.Faults.{cause_of_turn}
 use Rattle.serve.specs.Told.{stored_of}
 use Rattle.serve.specs.Turns.{DeskTells, EndsBy, IsAnswered, SeatIsServed, Turn, WroteFront}
 use Rattle.serve.specs.Turns.{answers_in, facts_in, taken_in}
@@ -56,54 +60,48 @@ WorksOn hub seated worker given0 given wrote0 wrote (Ok done) =
 WorksOn hub seated worker given0 given wrote0 wrote (Err cause) =
     Stops hub seated worker given0 given wrote0 wrote cause
 
+-- the same after a step, which can't fail for every cause
+abbrev pub GoesOn : {A : Type 0} → Beginning → Bool → Worker → Option (List ℕ)
+    → Option (List ℕ) → Option (List ℕ) → Option (List ℕ) → Result A TurnFault → Type 0
+GoesOn hub seated worker given0 given wrote0 wrote (Ok done) =
+    Works hub seated worker given0 given wrote0 wrote
+GoesOn hub seated worker given0 given wrote0 wrote (Err fault) =
+    Stops hub seated worker given0 given wrote0 wrote (cause_of_turn fault)
+
 -- a batch is told behind what was told before it, or refused
-abbrev pub PostsTo : Beginning → Option Desk → List What → List What → Result (Unit {0}) Cause
+abbrev pub PostsTo : Beginning → Option Desk → List What → List What → Result (Unit {0}) PostFault
     → Type 0
 PostsTo hub desk whats batch (Ok done) = DeskTells hub desk (whats ++ batch) 0
-PostsTo hub desk whats batch (Err Read) = ⊥
-PostsTo hub desk whats batch (Err Write) = ⊥
-PostsTo hub desk whats batch (Err (Session cause)) = ⊥
-PostsTo hub desk whats batch (Err (Post fault)) =
-    DeskTells hub desk whats (stored_of fault (length batch))
-PostsTo hub desk whats batch (Err Look) = ⊥
+PostsTo hub desk whats batch (Err fault) = DeskTells hub desk whats (stored_of fault (length batch))
 
 -- the facts of a batch are told, and then its bytes written; where they are refused, nothing is
-abbrev pub SettlesTo : Beginning → Option Desk → List What → Batched → Option (List ℕ)
-    → Option (List ℕ) → Result (Unit {0}) Cause → Type 0
+abbrev pub SettlesTo : {A : Type 0} → Beginning → Option Desk → List What → Batched
+    → Option (List ℕ) → Option (List ℕ) → Result A AnswerFault → Type 0
 SettlesTo hub desk whats batch before after (Ok done) =
     DeskTells hub desk (whats ++ batch.facts) 0
     × Appends before after (batch.replies ++ batch.acks)
-SettlesTo hub desk whats batch before after (Err Read) = ⊥
 SettlesTo hub desk whats batch before after (Err Write) =
     DeskTells hub desk (whats ++ batch.facts) 0
     × WroteFront before after (batch.replies ++ batch.acks)
-SettlesTo hub desk whats batch before after (Err (Session cause)) = ⊥
 SettlesTo hub desk whats batch before after (Err (Post fault)) =
     DeskTells hub desk whats (stored_of fault (length batch.facts)) × Appends before after []
-SettlesTo hub desk whats batch before after (Err Look) = ⊥
-
--- a batch that came with a fault is settled, and then the fault is the cause
-abbrev pub SettlesThen : Beginning → Option Desk → List What → SessionFault → Option (List ℕ)
-    → Option (List ℕ) → Result (Unit {0}) Cause → Type 0
-SettlesThen hub desk whats fault before after (Ok done) = ⊥
-SettlesThen hub desk whats fault before after (Err Read) = ⊥
-SettlesThen hub desk whats fault before after (Err Write) =
-    SettlesTo hub desk whats fault.batch before after (Err Write)
-SettlesThen hub desk whats fault before after (Err (Session cause)) =
-    (cause ≡ fault.cause) × SettlesTo hub desk whats fault.batch before after (Ok tt)
-SettlesThen hub desk whats fault before after (Err (Post post)) =
-    SettlesTo hub desk whats fault.batch before after (Err (Post post))
-SettlesThen hub desk whats fault before after (Err Look) = ⊥
 
 -- out of memory, nothing is posted nor written
 pub record EndsForMemory (old new : Option Desk) (before after : Option (List ℕ))
-    (result : Result (Unit {0}) Cause) : Type 0 where
-  pub is : result ≡ Err (Session causes.NoMemory)
+    (result : Result SessionCause AnswerFault) : Type 0 where
+  pub is : result ≡ Ok causes.NoMemory
   pub desk : new ≡ old
   pub kept : after ≡ before
 
+-- a batch that came with a fault is settled, and then its cause ends the session
+pub record SettlesThen (hub : Beginning) (desk : Option Desk) (whats : List What)
+    (fault : SessionFault) (before after : Option (List ℕ))
+    (result : Result SessionCause AnswerFault) : Type 0 where
+  pub is : IfOk result (λ cause. cause ≡ fault.cause)
+  pub settles : SettlesTo hub desk whats fault.batch before after result
+
 abbrev pub EndsFor : SessionCause → Beginning → Option Desk → Option Desk → List What
-    → SessionFault → Option (List ℕ) → Option (List ℕ) → Result (Unit {0}) Cause → Type 0
+    → SessionFault → Option (List ℕ) → Option (List ℕ) → Result SessionCause AnswerFault → Type 0
 EndsFor (causes.Refused status) hub old new whats fault before after result =
     SettlesThen hub new whats fault before after result
 EndsFor (causes.Wire wire) hub old new whats fault before after result =
@@ -117,7 +115,7 @@ EndsFor causes.NoMemory hub old new whats fault before after result =
 
 -- how a session ends with a fault
 abbrev pub EndsTo : Beginning → Option Desk → Option Desk → List What → SessionFault
-    → Option (List ℕ) → Option (List ℕ) → Result (Unit {0}) Cause → Type 0
+    → Option (List ℕ) → Option (List ℕ) → Result SessionCause AnswerFault → Type 0
 EndsTo hub old new whats fault before after result =
     EndsFor fault.cause hub old new whats fault before after result
 

@@ -1,7 +1,7 @@
 //! One admin connection: commands of a line each, and their answers.
 
-ghost use Rattle.std.specs.Prelude.{◌≡◌, ◌≢◌, ◌<◌, ◌≤◌, ◌+◌, ◌^◌, ◌⊎◌, ◌++◌, ℕ, List, [], ◌∷◌};
-ghost use Rattle.std.specs.Prelude.{codes, Option, None, IfOk, IfSome, IfErr, Ok, Err, MatchResult};
+ghost use Rattle.std.specs.Prelude.{◌≡◌, ◌<◌, ◌≤◌, ◌+◌, ◌^◌, ◌⊎◌, ◌++◌, ℕ, List, [], ◌∷◌};
+ghost use Rattle.std.specs.Prelude.{codes, Option, None, IfOk, IfSome, IfErr, OnOk, Err, MatchResult};
 ghost use Rattle.std.specs.Option.{option_to_list};
 ghost use Rattle.agg_types.specs.declared.config.Config.{Config};
 ghost use Rattle.agg_types.specs.declared.event.What.{What};
@@ -16,6 +16,7 @@ ghost use Rattle.show_clear.specs.Change.{asked_event};
 ghost use Rattle.show_clear.specs.Refusal.{refusal_text};
 
 use crate::desk::Desk;
+use crate::faults::LineFault;
 use crate::gate::{Gate, Place};
 use crate::lines::{Line, split_line};
 use crate::served::{Cause, Faulted, Served};
@@ -96,8 +97,8 @@ struct Worker {
 }
 
 impl Worker {
-    ghost use Rattle.serve.specs.Commanding.{ChangesTo, HasLearned, KeepsTo, LooksTo, ObeysTo};
-    ghost use Rattle.serve.specs.Commanding.{Works, WorksOn, kept_of};
+    ghost use Rattle.serve.specs.Commanding.{ChangesTo, GoesOn, HasLearned, HasLooked, LooksTo};
+    ghost use Rattle.serve.specs.Commanding.{ObeysTo, Works, WorksOn, kept_of};
 
     // An admin that has read nothing.
     fn new(alloc: Global, lens: Lens, pass: Pass) -> Worker
@@ -118,24 +119,22 @@ impl Worker {
         }
     }
 
-    // Answers the line that is kept, over a look that has all that was posted and learned.
-    fn look(&mut self) -> Result<Answered, Cause>
-        ensures read { result ≢ Err Cause.Read }
+    // Answers the line that is kept, over a look that has all that was posted and learned. None
+    // where no copy of the book could be entered.
+    fn look(&mut self) -> Result<Option<Answered>, NoMemory>
         ensures desk { self.new.desk ≡ self.old.desk }
         ensures lens { Follows self.old.lens.seen self.new.lens.seen }
         ensures fits { (hub : Beginning) → Follows hub self.old.lens.seen
-            → IfOk result (λ a. IfSome a.change (MayPost hub.config)) }
+            → IfOk result (λ o. IfSome o (λ a. IfSome a.change (MayPost hub.config))) }
         ensures looks { (hub : Beginning) (seat : ℕ) (whats : List What) (line : List ℕ)
             → HasLearned hub seat self.old whats → self.old.line.bytes.items ≡ kept_of line
             → HasNoEnd line → LooksTo hub seat self.new whats line result }
     {
         let Some(look) = self.lens.look() else {
-            return Err(Cause::Look);
+            return Ok(None);
         };
-        match answer_to(self.alloc, look.book(), self.line.as_slice()) {
-            Ok(answered) => Ok(answered),
-            Err(NoMemory) => Err(Cause::Post(refused(self.alloc))),
-        }
+        let answered = answer_to(self.alloc, look.book(), self.line.as_slice())?;
+        Ok(Some(answered))
     }
 
     // Posts a change, and learns that it is shown.
@@ -144,11 +143,10 @@ impl Worker {
         rt: &R,
         hub: &Hub<J, H>,
         what: What,
-    ) -> Result<(), Cause>
+    ) -> Result<(), PostFault>
         requires of { self.old.desk.pass.seen.of ≡ hub.now.of }
         requires lens { Follows hub.now self.old.lens.seen }
         requires fits { MayPost hub.now.config what }
-        ensures read { result ≢ Err Cause.Read }
         ensures of { self.new.desk.pass.seen.of ≡ hub.now.of }
         ensures lens { Follows hub.now self.new.lens.seen }
         ensures seat { self.new.desk.pass.seat ≡ self.old.desk.pass.seat }
@@ -157,15 +155,11 @@ impl Worker {
     {
         let mut whats = Vec::new(self.alloc);
         if whats.push(what).is_err() {
-            return Err(Cause::Post(refused(self.alloc)));
+            return Err(refused(self.alloc));
         }
-        match self.desk.post(rt, hub, whats) {
-            Err(fault) => Err(Cause::Post(fault)),
-            Ok(()) => {
-                self.desk.show(&mut self.lens);
-                Ok(())
-            }
-        }
+        self.desk.post(rt, hub, whats)?;
+        self.desk.show(&mut self.lens);
+        Ok(())
     }
 
     // Does what a line asks for.
@@ -174,11 +168,10 @@ impl Worker {
         rt: &R,
         hub: &Hub<J, H>,
         change: Option<What>,
-    ) -> Result<(), Cause>
+    ) -> Result<(), PostFault>
         requires of { self.old.desk.pass.seen.of ≡ hub.now.of }
         requires lens { Follows hub.now self.old.lens.seen }
         requires fits { IfSome change (MayPost hub.now.config) }
-        ensures read { result ≢ Err Cause.Read }
         ensures of { self.new.desk.pass.seen.of ≡ hub.now.of }
         ensures lens { Follows hub.now self.new.lens.seen }
         ensures seat { self.new.desk.pass.seat ≡ self.old.desk.pass.seat }
@@ -198,24 +191,22 @@ impl Worker {
         hub: &Hub<J, H>,
         writer: &mut W,
         answered: Answered,
-    ) -> Result<(), Cause>
+    ) -> Result<(), LineFault>
         requires of { self.old.desk.pass.seen.of ≡ hub.now.of }
         requires lens { Follows hub.now self.old.lens.seen }
         requires fits { IfSome answered.change (MayPost hub.now.config) }
-        ensures read { result ≢ Err Cause.Read }
         ensures of { self.new.desk.pass.seen.of ≡ hub.now.of }
         ensures lens { Follows hub.now self.new.lens.seen }
         ensures seat { self.new.desk.pass.seat ≡ self.old.desk.pass.seat }
         ensures obeys { (seat : ℕ) (whats : List What) (line : List ℕ)
-            → LooksTo hub.now seat self.old whats line (Ok answered)
+            → HasLooked hub.now seat self.old whats line answered
             → ObeysTo hub.now seat self.new whats line (W.contents writer.old)
             (W.contents writer.new) result }
     {
         let Answered { change, text } = answered;
-        match self.carry_out(rt, hub, change) {
-            Ok(()) => send(writer, text.as_slice()),
-            Err(cause) => Err(cause),
-        }
+        self.carry_out(rt, hub, change)?;
+        send(writer, text.as_slice())?;
+        Ok(())
     }
 
     // Does what the line that is kept asks for, and writes its answer.
@@ -225,10 +216,9 @@ impl Worker {
         hub: &Hub<J, H>,
         writer: &mut W,
         gate: &G,
-    ) -> Result<(), Cause>
+    ) -> Result<(), LineFault>
         requires of { self.old.desk.pass.seen.of ≡ hub.now.of }
         requires lens { Follows hub.now self.old.lens.seen }
-        ensures read { result ≢ Err Cause.Read }
         ensures of { self.new.desk.pass.seen.of ≡ hub.now.of }
         ensures lens { Follows hub.now self.new.lens.seen }
         ensures seat { self.new.desk.pass.seat ≡ self.old.desk.pass.seat }
@@ -239,23 +229,20 @@ impl Worker {
     {
         gate.turn(Place::Admin);
         match self.look() {
-            Ok(answered) => self.reply(rt, hub, writer, answered),
-            Err(cause) => Err(cause),
+            Ok(Some(answered)) => self.reply(rt, hub, writer, answered),
+            Ok(None) => Err(LineFault::Look),
+            Err(NoMemory) => Err(LineFault::Post(refused(self.alloc))),
         }
     }
 
     // Adds bytes to the line that is kept.
-    fn keep(&mut self, bytes: &[u8]) -> Result<(), Cause>
-        ensures read { result ≢ Err Cause.Read }
+    fn keep(&mut self, bytes: &[u8]) -> Result<(), NoMemory>
         ensures desk { self.new.desk ≡ self.old.desk }
         ensures lens { self.new.lens ≡ self.old.lens }
         ensures keeps { (line : List ℕ) → self.old.line.bytes.items ≡ kept_of line
-            → KeepsTo self.new (line ++ bytes.now) result }
+            → OnOk result (self.new.line.bytes.items ≡ kept_of (line ++ bytes.now)) }
     {
-        match self.line.add(bytes) {
-            Ok(()) => Ok(()),
-            Err(NoMemory) => Err(Cause::Post(refused(self.alloc))),
-        }
+        self.line.add(bytes)
     }
 
     // Obeys the line that these bytes end.
@@ -266,10 +253,9 @@ impl Worker {
         writer: &mut W,
         gate: &G,
         bytes: &[u8],
-    ) -> Result<(), Cause>
+    ) -> Result<(), LineFault>
         requires of { self.old.desk.pass.seen.of ≡ hub.now.of }
         requires lens { Follows hub.now self.old.lens.seen }
-        ensures read { result ≢ Err Cause.Read }
         ensures of { self.new.desk.pass.seen.of ≡ hub.now.of }
         ensures lens { Follows hub.now self.new.lens.seen }
         ensures seat { self.new.desk.pass.seat ≡ self.old.desk.pass.seat }
@@ -277,19 +263,15 @@ impl Worker {
             → HasNoEnd bytes.now
             → Works hub.now seat self.old (bytes.now ++ 10 ∷ rest) given0 given wrote0
             (W.contents writer.old)
-            → WorksOn hub.now seat self.new rest given0 given wrote0 (W.contents writer.new)
+            → GoesOn hub.now seat self.new rest given0 given wrote0 (W.contents writer.new)
             result }
     {
-        match self.keep(bytes) {
-            Err(cause) => Err(cause),
-            Ok(()) => match self.obey(rt, hub, writer, gate) {
-                Err(cause) => Err(cause),
-                Ok(()) => {
-                    self.line.clear();
-                    Ok(())
-                }
-            },
+        if self.keep(bytes).is_err() {
+            return Err(LineFault::Post(refused(self.alloc)));
         }
+        self.obey(rt, hub, writer, gate)?;
+        self.line.clear();
+        Ok(())
     }
 
     // Takes a piece: each line that ends in it is obeyed.
@@ -300,51 +282,25 @@ impl Worker {
         writer: &mut W,
         gate: &G,
         piece: &[u8],
-    ) -> Result<(), Cause>
+    ) -> Result<(), LineFault>
         requires of { self.old.desk.pass.seen.of ≡ hub.now.of }
         requires lens { Follows hub.now self.old.lens.seen }
-        ensures read { result ≢ Err Cause.Read }
         ensures of { self.new.desk.pass.seen.of ≡ hub.now.of }
         ensures lens { Follows hub.now self.new.lens.seen }
         ensures seat { self.new.desk.pass.seat ≡ self.old.desk.pass.seat }
         ensures works { (seat : ℕ) (given0 given wrote0 : Option (List ℕ))
             → Works hub.now seat self.old piece.now given0 given wrote0 (W.contents writer.old)
-            → WorksOn hub.now seat self.new [] given0 given wrote0 (W.contents writer.new) result }
+            → GoesOn hub.now seat self.new [] given0 given wrote0 (W.contents writer.new) result }
     {
         let mut rest = piece;
         while let Some((front, behind)) = split_line(rest) {
-            match self.end_line(rt, hub, writer, gate, front) {
-                Ok(()) => rest = behind,
-                Err(cause) => return Err(cause),
-            }
+            self.end_line(rt, hub, writer, gate, front)?;
+            rest = behind;
         }
-        self.keep(rest)
-    }
-
-    // Takes a piece, and goes on.
-    fn treat<J: Naming, H: Wait + Drop, R: Wait, W: Write, G: Gate>(
-        &mut self,
-        rt: &R,
-        hub: &Hub<J, H>,
-        writer: &mut W,
-        gate: &G,
-        piece: &[u8],
-    ) -> Result<bool, Cause>
-        requires of { self.old.desk.pass.seen.of ≡ hub.now.of }
-        requires lens { Follows hub.now self.old.lens.seen }
-        ensures of { self.new.desk.pass.seen.of ≡ hub.now.of }
-        ensures lens { Follows hub.now self.new.lens.seen }
-        ensures seat { self.new.desk.pass.seat ≡ self.old.desk.pass.seat }
-        ensures read { result ≢ Err Cause.Read }
-        ensures works { (seat : ℕ) (given0 given wrote0 : Option (List ℕ))
-            → Works hub.now seat self.old piece.now given0 given wrote0 (W.contents writer.old)
-            → WorksOn hub.now seat self.new [] given0 given wrote0 (W.contents writer.new) result }
-    {
-        self.silent = 0;
-        match self.take(rt, hub, writer, gate, piece) {
-            Ok(()) => Ok(true),
-            Err(cause) => Err(cause),
+        if self.keep(rest).is_err() {
+            return Err(LineFault::Post(refused(self.alloc)));
         }
+        Ok(())
     }
 
     // Notes that a read gave nothing. Whether the connection goes on.
@@ -386,7 +342,11 @@ impl Worker {
             Err(_) => Err(Cause::Read),
             Ok(Came::End) => Ok(false),
             Ok(Came::Nothing) => Ok(self.wait()),
-            Ok(Came::Bytes(count)) => self.treat(rt, hub, writer, gate, front(buffer, count)),
+            Ok(Came::Bytes(count)) => {
+                self.silent = 0;
+                self.take(rt, hub, writer, gate, front(buffer, count))?;
+                Ok(true)
+            }
         }
     }
 

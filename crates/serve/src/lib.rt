@@ -16,6 +16,7 @@ mod admin;
 mod clock;
 mod desk;
 mod doors;
+mod faults;
 mod gate;
 mod hello;
 mod lines;

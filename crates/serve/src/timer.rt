@@ -3,6 +3,7 @@
 ghost use Rattle.std.specs.Prelude.{◌≡◌, ℕ, IfOk, IfErr};
 ghost use Rattle.hub.specs.Posts.{Follows, SitsDown};
 ghost use Rattle.serve.specs.Moments.{HasTimed, IsTimed, stored_at, stored_by};
+ghost use Rattle.serve.specs.Told.{stored_in};
 
 use crate::clock::Clock;
 use crate::desk::Desk;
@@ -23,10 +24,10 @@ fn post_moment<J: Naming, H: Wait + Drop, R: Wait, C: Clock>(
     clock: &C,
     hub: &Hub<J, H>,
     desk: &mut Desk,
-) -> Result<(), Cause>
+) -> Result<(), PostFault>
     requires timed { HasTimed hub.now (C.gives clock.now) desk.old 0 }
     ensures seat { desk.new.pass.seat ≡ desk.old.pass.seat }
-    ensures timed { HasTimed hub.now (C.gives clock.now) desk.new (stored_at result) }
+    ensures timed { HasTimed hub.now (C.gives clock.now) desk.new (stored_in result 1) }
 {
     let moment = clock.now();
     if moment > LAST_MOMENT {
@@ -34,12 +35,9 @@ fn post_moment<J: Naming, H: Wait + Drop, R: Wait, C: Clock>(
     }
     let mut whats = Vec::new(alloc);
     if whats.push(What::Moment(moment)).is_err() {
-        return Err(Cause::Post(PostFault::NoMemory(Vec::new(alloc))));
+        return Err(PostFault::NoMemory(Vec::new(alloc)));
     }
-    match desk.post(rt, hub, whats) {
-        Ok(()) => Ok(()),
-        Err(fault) => Err(Cause::Post(fault)),
-    }
+    desk.post(rt, hub, whats)
 }
 
 /// Posts moments until the gate says so, or a fault comes.
@@ -60,8 +58,10 @@ fn run<J: Naming, H: Wait + Drop, R: Wait, C: Clock, G: Gate>(
             return Ok(());
         }
         gate.turn(Place::Timer);
-        post_moment(rt, alloc, clock, hub, desk)?;
-        clock.rest();
+        match post_moment(rt, alloc, clock, hub, desk) {
+            Ok(()) => clock.rest(),
+            Err(refusal) => return Err(Cause::Post(refusal)),
+        }
     }
     Err(Cause::Read)
 }

@@ -1,6 +1,6 @@
 //! A session at work.
 
-ghost use Rattle.std.specs.Prelude.{Bool, is_some, ◌≡◌, ◌≢◌, ◌<◌, ◌≤◌, ◌+◌, ◌^◌, ◌⊎◌, ℕ, List, []};
+ghost use Rattle.std.specs.Prelude.{Bool, is_some, ◌≡◌, ◌<◌, ◌≤◌, ◌+◌, ◌^◌, ◌⊎◌, ℕ, List, []};
 ghost use Rattle.std.specs.Prelude.{Option, IfSome, Err};
 ghost use Rattle.std.specs.List.{All};
 ghost use Rattle.std.specs.Option.{option_map};
@@ -12,13 +12,14 @@ ghost use Rattle.std.specs.Io.KnownBytes.{Appends};
 
 use crate::clock::Clock;
 use crate::desk::Desk;
+use crate::faults::{AnswerFault, TurnFault};
 use crate::gate::{Gate, Gone, News, Place};
 use crate::hello::Hello;
 use crate::served::Cause;
 use crate::source::{Came, Source, buffer};
 use crate::writing::{front, send};
 use agg_types::What;
-use hub::{Hub, Naming, Pass};
+use hub::{Hub, Naming, Pass, PostFault};
 use session_core::{Batch, Idle, Session, SessionCause, SessionFault};
 use std::alloc::Global;
 use std::io::Write;
@@ -43,7 +44,8 @@ pub struct Worker {
 
 impl Worker {
     ghost use Rattle.serve.specs.Turns.{DeskTells, IsDeskOf, Turn, seat_at};
-    ghost use Rattle.serve.specs.Working.{EndsTo, IsAtWork, PostsTo, SettlesTo, Works, WorksOn};
+    ghost use Rattle.serve.specs.Working.{EndsTo, GoesOn, IsAtWork, PostsTo, SettlesTo};
+    ghost use Rattle.serve.specs.Working.{Works, WorksOn};
 
     /// A connection that came in, with a desk if it has a seat.
     pub fn new(alloc: Global, pass: Option<Pass>, now: u64) -> Worker
@@ -86,11 +88,10 @@ impl Worker {
         rt: &R,
         hub: &Hub<J, H>,
         facts: Vec<What>,
-    ) -> Result<(), Cause>
+    ) -> Result<(), PostFault>
         requires of { IsDeskOf hub.now self.old.desk }
         requires fits { All (MayPost hub.now.config) facts.items }
         ensures session { self.new.session ≡ self.old.session }
-        ensures read { result ≢ Err Cause.Read }
         ensures seat { seat_at self.new.desk ≡ seat_at self.old.desk }
         ensures told { (whats : List What) → DeskTells hub.now self.old.desk whats 0
             → PostsTo hub.now self.new.desk whats facts.items result }
@@ -102,13 +103,9 @@ impl Worker {
             return Ok(());
         }
         let count = facts.len() as u64;
-        match desk.post(rt, hub, facts) {
-            Ok(()) => {
-                self.told = self.told.saturating_add(count);
-                Ok(())
-            }
-            Err(fault) => Err(Cause::Post(fault)),
-        }
+        desk.post(rt, hub, facts)?;
+        self.told = self.told.saturating_add(count);
+        Ok(())
     }
 
     // Posts a batch's facts, and then writes its replies and acknowledgements.
@@ -118,11 +115,10 @@ impl Worker {
         hub: &Hub<J, H>,
         writer: &mut W,
         batch: Batch,
-    ) -> Result<(), Cause>
+    ) -> Result<(), AnswerFault>
         requires of { IsDeskOf hub.now self.old.desk }
         requires fits { All (MayPost hub.now.config) batch.facts }
         ensures session { self.new.session ≡ self.old.session }
-        ensures read { result ≢ Err Cause.Read }
         ensures seat { seat_at self.new.desk ≡ seat_at self.old.desk }
         ensures told { (whats : List What) → DeskTells hub.now self.old.desk whats 0
             → SettlesTo hub.now self.new.desk whats batch (W.contents writer.old)
@@ -130,7 +126,8 @@ impl Worker {
     {
         let (facts, out) = batch.into_parts();
         self.post(rt, hub, facts.into_vec())?;
-        send(writer, out.as_slice())
+        send(writer, out.as_slice())?;
+        Ok(())
     }
 
     // Takes a piece: its facts are posted, and then its replies and acknowledgements are written.
@@ -141,35 +138,39 @@ impl Worker {
         writer: &mut W,
         piece: &[u8],
         now: u64,
-    ) -> Result<(), Cause>
+    ) -> Result<(), TurnFault>
         requires work { (seated : Bool) × (turns : List Turn)
             × IsAtWork hub.now seated self.old turns }
-        ensures read { result ≢ Err Cause.Read }
         ensures seat { seat_at self.new.desk ≡ seat_at self.old.desk }
         ensures takes { (seated : Bool) (given0 given after wrote0 : Option (List ℕ))
             → Appends given after piece.now
             → Works hub.now seated self.old given0 given wrote0 (W.contents writer.old)
-            → WorksOn hub.now seated self.new given0 after wrote0 (W.contents writer.new) result }
+            → GoesOn hub.now seated self.new given0 after wrote0 (W.contents writer.new) result }
     {
         match self.session.feed(hub.config(), piece, now) {
-            Ok(batch) => self.settle(rt, hub, writer, batch),
-            Err(fault) => self.end(rt, hub, writer, fault),
+            Ok(batch) => {
+                self.settle(rt, hub, writer, batch)?;
+                Ok(())
+            }
+            Err(fault) => {
+                let cause = self.end(rt, hub, writer, fault)?;
+                Err(TurnFault::Session(cause))
+            }
         }
     }
 
-    // Ends with a fault: what its batch has is posted and written first, unless an allocation
-    // failed.
+    // Ends with a fault, and says its cause: what its batch has is posted and written first, unless
+    // an allocation failed.
     fn end<J: Naming, H: Wait + Drop, R: Wait, W: Write>(
         &mut self,
         rt: &R,
         hub: &Hub<J, H>,
         writer: &mut W,
         fault: SessionFault,
-    ) -> Result<(), Cause>
+    ) -> Result<SessionCause, AnswerFault>
         requires of { IsDeskOf hub.now self.old.desk }
         requires fits { All (MayPost hub.now.config) fault.batch.facts }
         ensures session { self.new.session ≡ self.old.session }
-        ensures read { result ≢ Err Cause.Read }
         ensures seat { seat_at self.new.desk ≡ seat_at self.old.desk }
         ensures ends { (whats : List What) → DeskTells hub.now self.old.desk whats 0
             → EndsTo hub.now self.old.desk self.new.desk whats fault (W.contents writer.old)
@@ -177,11 +178,11 @@ impl Worker {
     {
         let SessionFault { cause, batch } = fault;
         match cause {
-            SessionCause::NoMemory => Err(Cause::Session(SessionCause::NoMemory)),
-            _ => match self.settle(rt, hub, writer, batch) {
-                Ok(()) => Err(Cause::Session(cause)),
-                Err(fault) => Err(fault),
-            },
+            SessionCause::NoMemory => Ok(SessionCause::NoMemory),
+            _ => {
+                self.settle(rt, hub, writer, batch)?;
+                Ok(cause)
+            }
         }
     }
 
@@ -235,31 +236,19 @@ impl Worker {
     }
 
     // Sends a heartbeat where one is due, and ends a session that was silent for too long.
-    fn rest<W: Write>(&mut self, writer: &mut W, now: u64) -> Result<(), Cause>
-        ensures read { result ≢ Err Cause.Read }
+    fn rest<W: Write>(&mut self, writer: &mut W, now: u64) -> Result<(), TurnFault>
         ensures seat { seat_at self.new.desk ≡ seat_at self.old.desk }
         ensures rests { (hub : Beginning) (seated : Bool) (given0 given wrote0 : Option (List ℕ))
             → Works hub seated self.old given0 given wrote0 (W.contents writer.old)
-            → WorksOn hub seated self.new given0 given wrote0 (W.contents writer.new) result }
+            → GoesOn hub seated self.new given0 given wrote0 (W.contents writer.new) result }
     {
         match self.session.idle(now) {
             Idle::Nothing => Ok(()),
-            Idle::Beat => send(writer, &HEARTBEAT),
-            Idle::Ended => Err(Cause::Session(SessionCause::TimedOut)),
-        }
-    }
-
-    // Rests, and goes on.
-    fn go_on<W: Write>(&mut self, writer: &mut W, now: u64) -> Result<bool, Cause>
-        ensures read { result ≢ Err Cause.Read }
-        ensures seat { seat_at self.new.desk ≡ seat_at self.old.desk }
-        ensures rests { (hub : Beginning) (seated : Bool) (given0 given wrote0 : Option (List ℕ))
-            → Works hub seated self.old given0 given wrote0 (W.contents writer.old)
-            → WorksOn hub seated self.new given0 given wrote0 (W.contents writer.new) result }
-    {
-        match self.rest(writer, now) {
-            Ok(()) => Ok(true),
-            Err(cause) => Err(cause),
+            Idle::Beat => {
+                send(writer, &HEARTBEAT)?;
+                Ok(())
+            }
+            Idle::Ended => Err(TurnFault::Session(SessionCause::TimedOut)),
         }
     }
 
@@ -273,26 +262,21 @@ impl Worker {
         clock: &C,
         gate: &G,
         piece: &[u8],
-    ) -> Result<bool, Cause>
+    ) -> Result<(), TurnFault>
         requires work { (seated : Bool) × (turns : List Turn)
             × IsAtWork hub.now seated self.old turns }
-        ensures read { result ≢ Err Cause.Read }
         ensures seat { seat_at self.new.desk ≡ seat_at self.old.desk }
         ensures treats { (seated : Bool) (given0 given after wrote0 : Option (List ℕ))
             → Appends given after piece.now
             → Works hub.now seated self.old given0 given wrote0 (W.contents writer.old)
-            → WorksOn hub.now seated self.new given0 after wrote0 (W.contents writer.new) result }
+            → GoesOn hub.now seated self.new given0 after wrote0 (W.contents writer.new) result }
     {
         gate.turn(self.place());
         self.listen(piece);
         let now = clock.now();
-        match self.take(rt, hub, writer, piece, now) {
-            Err(cause) => Err(cause),
-            Ok(()) => {
-                self.greet(gate);
-                self.go_on(writer, now)
-            }
-        }
+        self.take(rt, hub, writer, piece, now)?;
+        self.greet(gate);
+        self.rest(writer, now)
     }
 
     // Reads once, and does what that asks for. Whether the source goes on.
@@ -322,9 +306,13 @@ impl Worker {
         match source.read(buffer) {
             Err(_) => Err(Cause::Read),
             Ok(Came::End) => Ok(false),
-            Ok(Came::Nothing) => self.go_on(writer, clock.now()),
+            Ok(Came::Nothing) => {
+                self.rest(writer, clock.now())?;
+                Ok(true)
+            }
             Ok(Came::Bytes(count)) => {
-                self.treat(rt, hub, writer, clock, gate, front(buffer, count))
+                self.treat(rt, hub, writer, clock, gate, front(buffer, count))?;
+                Ok(true)
             }
         }
     }

@@ -1,10 +1,10 @@
 //! Sending.
 
-ghost use Rattle.std.specs.Prelude.{◌≡◌, ◌≤◌, [], length, take, drop, IfOk, IfErr, OnErr};
+ghost use Rattle.std.specs.Prelude.{◌≡◌, ◌≤◌, [], length, take, drop, IfOk, OnErr};
 ghost use Rattle.std.specs.Io.KnownBytes.{Appends};
 ghost use Rattle.serve.specs.Turns.{Sends};
 
-use crate::served::Cause;
+use crate::faults::WriteFailed;
 use std::io::{ErrorKind, Write};
 
 /// The first bytes.
@@ -25,28 +25,27 @@ fn behind(bytes: &[u8], count: usize) -> &[u8]
 
 /// Writes once, and says how many bytes were taken: none where the call was interrupted.
 #[tactic(auto, using(crate::proofs::Sent::kept_none))]
-fn write_once<W: Write>(writer: &mut W, bytes: &[u8]) -> Result<usize, Cause>
+fn write_once<W: Write>(writer: &mut W, bytes: &[u8]) -> Result<usize, WriteFailed>
     ensures within { IfOk result (λ count. count ≤ length bytes.now) }
     ensures ok { IfOk result (λ count. Appends (W.contents writer.old) (W.contents writer.new)
         (take count bytes.now)) }
     ensures err { OnErr result (Appends (W.contents writer.old) (W.contents writer.new) []) }
-    ensures write { IfErr result (λ cause. cause ≡ Cause.Write) }
 {
     match writer.write(bytes) {
-        Ok(0) => Err(Cause::Write),
+        Ok(0) => Err(WriteFailed),
         Ok(count) => Ok(count),
         Err(fault) => {
             if fault.kind() == ErrorKind::Interrupted {
                 Ok(0)
             } else {
-                Err(Cause::Write)
+                Err(WriteFailed)
             }
         }
     }
 }
 
 /// Writes all of the bytes, over as many writes as that takes. An interrupted one is made again.
-pub fn send<W: Write>(writer: &mut W, bytes: &[u8]) -> Result<(), Cause>
+pub fn send<W: Write>(writer: &mut W, bytes: &[u8]) -> Result<(), WriteFailed>
     ensures { Sends (W.contents writer.old) (W.contents writer.new) bytes.now result }
 {
     let mut rest = bytes;
@@ -56,8 +55,8 @@ pub fn send<W: Write>(writer: &mut W, bytes: &[u8]) -> Result<(), Cause>
         }
         match write_once(writer, rest) {
             Ok(count) => rest = behind(rest, count),
-            Err(_) => return Err(Cause::Write),
+            Err(WriteFailed) => return Err(WriteFailed),
         }
     }
-    Err(Cause::Write)
+    Err(WriteFailed)
 }

@@ -1,0 +1,23 @@
+-- Which cause a fault of a step is.
+use Rattle.serve.specs.declared.faults.AnswerFault.{AnswerFault}
+use Rattle.serve.specs.declared.faults.AnswerFault.TheVariants as answers
+use Rattle.serve.specs.declared.faults.LineFault.{LineFault}
+use Rattle.serve.specs.declared.faults.LineFault.TheVariants as lines
+use Rattle.serve.specs.declared.faults.TurnFault.{TurnFault}
+use Rattle.serve.specs.declared.faults.TurnFault.TheVariants as turns
+use Rattle.serve.specs.declared.served.Cause.{Cause}
+use Rattle.serve.specs.declared.served.Cause.TheVariants as causes
+
+abbrev pub turn_fault_of : AnswerFault → TurnFault
+turn_fault_of answers.Write = turns.Write
+turn_fault_of (answers.Post refusal) = turns.Post refusal
+
+abbrev pub cause_of_turn : TurnFault → Cause
+cause_of_turn turns.Write = causes.Write
+cause_of_turn (turns.Post refusal) = causes.Post refusal
+cause_of_turn (turns.Session cause) = causes.Session cause
+
+abbrev pub cause_of_line : LineFault → Cause
+cause_of_line lines.Write = causes.Write
+cause_of_line (lines.Post refusal) = causes.Post refusal
+cause_of_line lines.Look = causes.Look
