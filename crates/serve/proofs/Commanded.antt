@@ -35,6 +35,7 @@ use Rattle.serve.specs.Commanding.{HasLearned, HasLooked, HasObeyed, ObeysTo, St
 use Rattle.serve.specs.Commanding.{kept_of, reply_of}
 use Rattle.serve.specs.Faults.{cause_of_line}
 use Rattle.serve.specs.Told.{HasTold, IsServed, TellsLast, stored_of}
+use Rattle.serve.specs.Traffic.{Traffic, so_far}
 use Rattle.serve.specs.Turns.{WroteFront}
 use Rattle.serve.specs.declared.admin.Answered.{Answered}
 use Rattle.serve.specs.declared.admin.Worker.{Worker}
@@ -245,16 +246,18 @@ line_goes_on earlier line rest = ap (λ xs. lines_in earlier ++ xs) (sym (append
 
 -- nothing of the later lines was told nor answered
 pub stops_refused : (hub : Beginning) (seat : ℕ) (old new : Worker) (rest : List ℕ)
-    (given0 given wrote0 before after : Option (List ℕ)) (fault : PostFault)
-    → (w : Works hub seat old rest given0 given wrote0 before)
+    (start : Traffic) (given before after : Option (List ℕ)) (fault : PostFault)
+    → (w : Works hub seat old rest start (so_far given before))
     → HasTold hub new.desk (changes_in w.replies) (stored_of fault 1)
-    → Appends before after [] → Stops hub seat new given0 given wrote0 after (Post fault)
-stops_refused hub seat old new rest given0 given wrote0 before after fault w told none = record {
+    → Appends before after [] → Stops hub seat new start (so_far given after) (Post fault)
+stops_refused hub seat old new rest start given before after fault w told none = record {
   bytes = lines_in w.replies ++ (w.line ++ rest);
   written = texts_in w.replies;
-  gave = w.gave;
-  took = subst (λ bytes. Appends wrote0 after bytes) (append-nil (texts_in w.replies))
-      (wrote_more wrote0 before after (texts_in w.replies) [] w.took none);
+  carried = record {
+    gave = w.carried.gave;
+    took = subst (λ bytes. Appends start.taken after bytes) (append-nil (texts_in w.replies))
+        (wrote_more start.taken before after (texts_in w.replies) [] w.carried.took none);
+  };
   ends = record {
     replies = w.replies;
     later = w.line ++ rest;
@@ -267,16 +270,18 @@ stops_refused hub seat old new rest given0 given wrote0 before after fault w tol
 }
 
 pub stops_unseen : (hub : Beginning) (seat : ℕ) (old new : Worker) (rest : List ℕ)
-    (given0 given wrote0 before after : Option (List ℕ))
-    → (w : Works hub seat old rest given0 given wrote0 before)
+    (start : Traffic) (given before after : Option (List ℕ))
+    → (w : Works hub seat old rest start (so_far given before))
     → HasTold hub new.desk (changes_in w.replies) 0
-    → Appends before after [] → Stops hub seat new given0 given wrote0 after Look
-stops_unseen hub seat old new rest given0 given wrote0 before after w told none = record {
+    → Appends before after [] → Stops hub seat new start (so_far given after) Look
+stops_unseen hub seat old new rest start given before after w told none = record {
   bytes = lines_in w.replies ++ (w.line ++ rest);
   written = texts_in w.replies;
-  gave = w.gave;
-  took = subst (λ bytes. Appends wrote0 after bytes) (append-nil (texts_in w.replies))
-      (wrote_more wrote0 before after (texts_in w.replies) [] w.took none);
+  carried = record {
+    gave = w.carried.gave;
+    took = subst (λ bytes. Appends start.taken after bytes) (append-nil (texts_in w.replies))
+        (wrote_more start.taken before after (texts_in w.replies) [] w.carried.took none);
+  };
   ends = record {
     replies = w.replies;
     later = w.line ++ rest;
@@ -290,14 +295,17 @@ stops_unseen hub seat old new rest given0 given wrote0 before after w told none 
 
 -- a read failed
 pub stops_failed : (hub : Beginning) (seat : ℕ) (worker : Worker)
-    (given0 given wrote0 wrote : Option (List ℕ))
-    → Works hub seat worker [] given0 given wrote0 wrote
-    → Stops hub seat worker given0 given wrote0 wrote Read
-stops_failed hub seat worker given0 given wrote0 wrote w = record {
+    (start now : Traffic)
+    → Works hub seat worker [] start now
+    → Stops hub seat worker start now Read
+stops_failed hub seat worker start now w = record {
   bytes = lines_in w.replies ++ w.line;
   written = texts_in w.replies;
-  gave = subst (λ bytes. Appends given0 given bytes) (none_left w.replies w.line) w.gave;
-  took = w.took;
+  carried = record {
+    gave = subst (λ bytes. Appends start.given now.given bytes) (none_left w.replies w.line)
+        w.carried.gave;
+    took = w.carried.took;
+  };
   ends = record {
     replies = w.replies;
     line = w.line;
@@ -311,98 +319,104 @@ stops_failed hub seat worker given0 given wrote0 wrote w = record {
 
 -- a piece was read
 pub works_piece : (hub : Beginning) (seat : ℕ) (worker : Worker) (piece : List ℕ)
-    (given0 given after wrote0 wrote : Option (List ℕ)) → Appends given after piece
-    → Works hub seat worker [] given0 given wrote0 wrote
-    → Works hub seat worker piece given0 after wrote0 wrote
-works_piece hub seat worker piece given0 given after wrote0 wrote gives w = record {
+    (start : Traffic) (given after taken : Option (List ℕ)) → Appends given after piece
+    → Works hub seat worker [] start (so_far given taken)
+    → Works hub seat worker piece start (so_far after taken)
+works_piece hub seat worker piece start given after taken gives w = record {
   replies = w.replies;
   line = w.line;
   are = w.are;
   learned = w.learned;
   keeps = w.keeps;
   unended = w.unended;
-  gave = subst (λ bytes. Appends given0 after bytes)
-      (ap (λ xs. xs ++ piece) (none_left w.replies w.line)
-      ∙ append_assoc (lines_in w.replies) w.line piece)
-      (wrote_more given0 given after (lines_in w.replies ++ (w.line ++ [])) piece w.gave gives);
-  took = w.took;
+  carried = record {
+    gave = subst (λ bytes. Appends start.given after bytes)
+        (ap (λ xs. xs ++ piece) (none_left w.replies w.line)
+        ∙ append_assoc (lines_in w.replies) w.line piece)
+        (wrote_more start.given given after (lines_in w.replies ++ (w.line ++ [])) piece
+        w.carried.gave gives);
+    took = w.carried.took;
+  };
 }
 
 -- the same desk, lens and line
 pub works_alike : (hub : Beginning) (seat : ℕ) (old new : Worker) (rest : List ℕ)
-    (given0 given wrote0 wrote : Option (List ℕ)) → new.desk ≡ old.desk
+    (start now : Traffic) → new.desk ≡ old.desk
     → new.lens.seen ≡ old.lens.seen → new.line.bytes.items ≡ old.line.bytes.items
-    → Works hub seat old rest given0 given wrote0 wrote
-    → Works hub seat new rest given0 given wrote0 wrote
-works_alike hub seat old new rest given0 given wrote0 wrote desk lens line w = record {
+    → Works hub seat old rest start now
+    → Works hub seat new rest start now
+works_alike hub seat old new rest start now desk lens line w = record {
   replies = w.replies;
   line = w.line;
   are = w.are;
   learned = learned_same hub seat old new (changes_in w.replies) desk lens w.learned;
   keeps = line ∙ w.keeps;
   unended = w.unended;
-  gave = w.gave;
-  took = w.took;
+  carried = w.carried;
 }
 
 -- an admin that has read nothing
-pub works_none : (hub : Beginning) (seat : ℕ) (worker : Worker) (given wrote : Option (List ℕ))
+pub works_none : (hub : Beginning) (seat : ℕ) (worker : Worker) (start : Traffic)
     → worker.line.bytes.items ≡ []
-    → HasLearned hub seat worker [] → Works hub seat worker [] given given wrote wrote
-works_none hub seat worker given wrote line learned = record {
+    → HasLearned hub seat worker [] → Works hub seat worker [] start start
+works_none hub seat worker start line learned = record {
   replies = [];
   line = [];
   are = tt;
   learned = learned;
   keeps = line;
   unended = refl;
-  gave = wrote_none given;
-  took = wrote_none wrote;
+  carried = record {
+    gave = wrote_none start.given;
+    took = wrote_none start.taken;
+  };
 }
 
 -- bytes couldn't be kept
 pub stops_unkept : (hub : Beginning) (seat : ℕ) (old new : Worker) (rest : List ℕ)
-    (given0 given wrote0 wrote : Option (List ℕ)) (fault : PostFault)
+    (start now : Traffic) (fault : PostFault)
     → new.desk ≡ old.desk → stored_of fault 1 ≡ 0
-    → Works hub seat old rest given0 given wrote0 wrote
-    → Stops hub seat new given0 given wrote0 wrote (Post fault)
-stops_unkept hub seat old new rest given0 given wrote0 wrote fault desk none w =
+    → Works hub seat old rest start now
+    → Stops hub seat new start now (Post fault)
+stops_unkept hub seat old new rest start now fault desk none w =
     let told : HasTold hub new.desk (changes_in w.replies) 0 =
     subst (λ (d : Desk). HasTold hub d (changes_in w.replies) 0) (sym desk) w.learned.told in
-    stops_refused hub seat old new rest given0 given wrote0 wrote wrote fault w
+    stops_refused hub seat old new rest start now.given now.taken now.taken fault w
     (subst (λ (n : ℕ). HasTold hub new.desk (changes_in w.replies) n) (sym none) told)
-    (wrote_none wrote)
+    (wrote_none now.taken)
 
 -- bytes of a line that hasn't ended were kept
 pub works_kept : (hub : Beginning) (seat : ℕ) (old new : Worker) (rest : List ℕ)
-    (given0 given wrote0 wrote : Option (List ℕ)) → new.desk ≡ old.desk
+    (start now : Traffic) → new.desk ≡ old.desk
     → new.lens.seen ≡ old.lens.seen → HasNoEnd rest
     → ((line : List ℕ) → old.line.bytes.items ≡ kept_of line
     → new.line.bytes.items ≡ kept_of (line ++ rest))
-    → Works hub seat old rest given0 given wrote0 wrote
-    → Works hub seat new [] given0 given wrote0 wrote
-works_kept hub seat old new rest given0 given wrote0 wrote desk lens whole keeps w = record {
+    → Works hub seat old rest start now
+    → Works hub seat new [] start now
+works_kept hub seat old new rest start now desk lens whole keeps w = record {
   replies = w.replies;
   line = w.line ++ rest;
   are = w.are;
   learned = learned_same hub seat old new (changes_in w.replies) desk lens w.learned;
   keeps = keeps w.line w.keeps;
   unended = none_in_both w.line rest w.unended whole;
-  gave = subst (λ bytes. Appends given0 given bytes) (line_goes_on w.replies w.line rest)
-      w.gave;
-  took = w.took;
+  carried = record {
+    gave = subst (λ bytes. Appends start.given now.given bytes) (line_goes_on w.replies w.line rest)
+        w.carried.gave;
+    took = w.carried.took;
+  };
 }
 
 -- a line that ended was obeyed, and the next one begins
 pub works_obeyed : (hub : Beginning) (seat : ℕ) (old mid new : Worker) (bytes rest : List ℕ)
-    (given0 given wrote0 before after : Option (List ℕ))
+    (start : Traffic) (given before after : Option (List ℕ))
     (reply : Reply) → new.desk ≡ mid.desk → new.lens.seen ≡ mid.lens.seen
     → new.line.bytes.items ≡ []
-    → (w : Works hub seat old (bytes ++ 10 ∷ rest) given0 given wrote0 before)
+    → (w : Works hub seat old (bytes ++ 10 ∷ rest) start (so_far given before))
     → HasObeyed hub seat mid (changes_in w.replies) (w.line ++ bytes) reply
     → Appends before after reply.text
-    → Works hub seat new rest given0 given wrote0 after
-works_obeyed hub seat old mid new bytes rest given0 given wrote0 before after reply desk lens
+    → Works hub seat new rest start (so_far given after)
+works_obeyed hub seat old mid new bytes rest start given before after reply desk lens
     cleared w obeyed wrote = record {
       replies = reply ∷ w.replies;
       line = [];
@@ -411,24 +425,31 @@ works_obeyed hub seat old mid new bytes rest given0 given wrote0 before after re
           obeyed.learned;
       keeps = cleared;
       unended = refl;
-      gave = subst (λ xs. Appends given0 given xs) (line_ends w.replies reply w.line bytes rest
-          obeyed.answers) w.gave;
-      took = wrote_more wrote0 before after (texts_in w.replies) reply.text w.took wrote;
+      carried = record {
+        gave = subst (λ xs. Appends start.given given xs)
+            (line_ends w.replies reply w.line bytes rest
+            obeyed.answers) w.carried.gave;
+        took = wrote_more start.taken before after (texts_in w.replies) reply.text
+            w.carried.took wrote;
+      };
     }
 
 -- of the answer only a beginning was written
 pub stops_cut : (hub : Beginning) (seat : ℕ) (old new : Worker) (bytes rest : List ℕ)
-    (given0 given wrote0 before after : Option (List ℕ))
-    (reply : Reply) → (w : Works hub seat old (bytes ++ 10 ∷ rest) given0 given wrote0 before)
+    (start : Traffic) (given before after : Option (List ℕ))
+    (reply : Reply) → (w : Works hub seat old (bytes ++ 10 ∷ rest) start (so_far given before))
     → HasObeyed hub seat new (changes_in w.replies) (w.line ++ bytes) reply
     → WroteFront before after reply.text
-    → Stops hub seat new given0 given wrote0 after Write
-stops_cut hub seat old new bytes rest given0 given wrote0 before after reply w obeyed wrote =
+    → Stops hub seat new start (so_far given after) Write
+stops_cut hub seat old new bytes rest start given before after reply w obeyed wrote =
     record {
       bytes = lines_in w.replies ++ (w.line ++ (bytes ++ 10 ∷ rest));
       written = texts_in w.replies ++ wrote.front;
-      gave = w.gave;
-      took = wrote_more wrote0 before after (texts_in w.replies) wrote.front w.took wrote.wrote;
+      carried = record {
+        gave = w.carried.gave;
+        took = wrote_more start.taken before after (texts_in w.replies) wrote.front
+            w.carried.took wrote.wrote;
+      };
       ends = record {
         replies = w.replies;
         last = reply;
@@ -445,18 +466,18 @@ stops_cut hub seat old new bytes rest given0 given wrote0 before after reply w o
 
 -- a line that ended, at a fault
 pub stops_obeying : (hub : Beginning) (seat : ℕ) (old new : Worker) (bytes rest : List ℕ)
-    (given0 given wrote0 before after : Option (List ℕ))
-    (fault : LineFault) → (w : Works hub seat old (bytes ++ 10 ∷ rest) given0 given wrote0 before)
+    (start : Traffic) (given before after : Option (List ℕ))
+    (fault : LineFault) → (w : Works hub seat old (bytes ++ 10 ∷ rest) start (so_far given before))
     → ObeysTo hub seat new (changes_in w.replies) (w.line ++ bytes) before after (Err fault)
-    → Stops hub seat new given0 given wrote0 after (cause_of_line fault)
-stops_obeying hub seat old new bytes rest given0 given wrote0 before after faults.Write w obeys =
-    stops_cut hub seat old new bytes rest given0 given wrote0 before after obeys.0 w obeys.1 obeys.2
-stops_obeying hub seat old new bytes rest given0 given wrote0 before after (faults.Post fault) w
+    → Stops hub seat new start (so_far given after) (cause_of_line fault)
+stops_obeying hub seat old new bytes rest start given before after faults.Write w obeys =
+    stops_cut hub seat old new bytes rest start given before after obeys.0 w obeys.1 obeys.2
+stops_obeying hub seat old new bytes rest start given before after (faults.Post fault) w
     obeys =
-    stops_refused hub seat old new (bytes ++ 10 ∷ rest) given0 given wrote0 before after fault w
+    stops_refused hub seat old new (bytes ++ 10 ∷ rest) start given before after fault w
     obeys.0 obeys.1
-stops_obeying hub seat old new bytes rest given0 given wrote0 before after faults.Look w obeys =
-    stops_unseen hub seat old new (bytes ++ 10 ∷ rest) given0 given wrote0 before after w
+stops_obeying hub seat old new bytes rest start given before after faults.Look w obeys =
+    stops_unseen hub seat old new (bytes ++ 10 ∷ rest) start given before after w
     obeys.0 obeys.1
 
 -- ---- a line
@@ -550,33 +571,31 @@ ends_served hub seat Told Shown bytes written Look f ends =
     refused_served hub seat Told Shown bytes written 0 f ends
 
 pub commanded_whole : (hub : Beginning) (seat : ℕ) (worker : Worker)
-    (given0 given wrote0 wrote : Option (List ℕ)) (served : Served)
+    (start now : Traffic) (served : Served)
     → ((whats : List What) (waiting : ℕ) → HasTold hub worker.desk whats waiting
     → IsServed seat whats waiting served)
-    → Works hub seat worker [] given0 given wrote0 wrote
-    → IsCommandedWhole hub seat given0 given wrote0 wrote served
-commanded_whole hub seat worker given0 given wrote0 wrote served f w =
-    let stops = stops_failed hub seat worker given0 given wrote0 wrote w in record {
+    → Works hub seat worker [] start now
+    → IsCommandedWhole hub seat start now served
+commanded_whole hub seat worker start now served f w =
+    let stops = stops_failed hub seat worker start now w in record {
       bytes = stops.bytes;
       written = stops.written;
-      gave = stops.gave;
-      took = stops.took;
+      carried = stops.carried;
       ends = all_served hub seat (HasTold hub worker.desk)
           (λ whats waiting. IsServed seat whats waiting served) stops.bytes
           stops.written f stops.ends;
     }
 
 pub commanded_until : (hub : Beginning) (seat : ℕ) (worker : Worker)
-    (given0 given wrote0 wrote : Option (List ℕ)) (faulted : Faulted)
+    (start now : Traffic) (faulted : Faulted)
     → ((whats : List What) (waiting : ℕ) → HasTold hub worker.desk whats waiting
     → IsServed seat whats waiting faulted.served)
-    → Stops hub seat worker given0 given wrote0 wrote faulted.cause → IsCommandedUntil hub seat
-    given0 given wrote0 wrote faulted
-commanded_until hub seat worker given0 given wrote0 wrote faulted f stops = record {
+    → Stops hub seat worker start now faulted.cause → IsCommandedUntil hub seat
+    start now faulted
+commanded_until hub seat worker start now faulted f stops = record {
   bytes = stops.bytes;
   written = stops.written;
-  gave = stops.gave;
-  took = stops.took;
+  carried = stops.carried;
   ends = ends_served hub seat (HasTold hub worker.desk)
       (λ whats waiting. IsServed seat whats waiting faulted.served) stops.bytes stops.written
       faulted.cause f stops.ends;

@@ -18,7 +18,7 @@ use Rattle.session_core.specs.declared.stage.Stage.{Stage}
 use Rattle.hub.specs.History.{Beginning}
 use Rattle.serve.specs.declared.desk.Desk.{Desk}
 use Rattle.serve.specs.declared.faults.AnswerFault.{AnswerFault}
-use Rattle.serve.specs.declared.faults.AnswerFault.TheVariants.{Write as Unwritten, Post as Unposted}
+use Rattle.serve.specs.declared.faults.AnswerFault.TheVariants as answers
 use Rattle.serve.specs.declared.served.Cause.{Cause}
 use Rattle.serve.specs.declared.served.Cause.TheVariants.{Read, Write, Session, Post, Look}
 use Rattle.serve.specs.declared.served.Faulted.{Faulted}
@@ -27,6 +27,7 @@ use Rattle.serve.specs.declared.worker.Worker.{Worker}
 use Rattle.std.specs.Io.KnownBytes.{Appends, Keeps}
 use Rattle.serve.specs.Faults.{cause_of_turn, turn_fault_of}
 use Rattle.serve.specs.Told.{stored_of}
+use Rattle.serve.specs.Traffic.{Traffic, so_far}
 use Rattle.serve.specs.Turns.{DeskTells, EndsBy, EndsBySession, IsDeskOf, IsAnswered, IsRefused}
 use Rattle.serve.specs.Turns.{SeatIsServed, WroteFront, answer_at, answers_in, facts_in, heartbeat}
 use Rattle.serve.specs.Turns.{said_beyond, taken_in}
@@ -152,15 +153,14 @@ seat_kept causes.NoMemory batch old new piece now setup seated stage is =
 
 -- a session that works stops for a reason of its own
 pub stops_by_session : (hub : Beginning) (seated : Bool) (worker : Worker)
-    (given0 given wrote0 wrote : Option (List ℕ)) (cause : SessionCause) → TookIt cause
-    → Works hub seated worker given0 given wrote0 wrote
-    → Stops hub seated worker given0 given wrote0 wrote (Session cause)
-stops_by_session hub seated worker given0 given wrote0 wrote cause took w =
+    (start now : Traffic) (cause : SessionCause) → TookIt cause
+    → Works hub seated worker start now
+    → Stops hub seated worker start now (Session cause)
+stops_by_session hub seated worker start now cause took w =
     let setup : Setup = setup_of hub.config in record {
       bytes = taken_in w.turns;
       written = answers_in setup seated w.turns;
-      gave = w.gave;
-      took = w.took;
+      carried = w.carried;
       ends = by_session setup seated (DeskTells hub worker.desk) (taken_in w.turns)
           (answers_in setup seated w.turns) cause took (record {
             turns = w.turns;
@@ -172,43 +172,46 @@ stops_by_session hub seated worker given0 given wrote0 wrote cause took w =
 
 -- a session that works stops, since a read failed
 pub stops_by_read : (hub : Beginning) (seated : Bool) (worker : Worker)
-    (given0 given wrote0 wrote : Option (List ℕ))
-    → Works hub seated worker given0 given wrote0 wrote
-    → Stops hub seated worker given0 given wrote0 wrote Read
-stops_by_read hub seated worker given0 given wrote0 wrote w =
+    (start now : Traffic)
+    → Works hub seated worker start now
+    → Stops hub seated worker start now Read
+stops_by_read hub seated worker start now w =
     let setup : Setup = setup_of hub.config in record {
       bytes = taken_in w.turns;
       written = answers_in setup seated w.turns;
-      gave = w.gave;
-      took = w.took;
+      carried = w.carried;
       ends = record { turns = w.turns; read = refl; told = w.work.told; answered = refl };
     }
 
 -- the same worker, after a read that gave nothing
 pub works_same : (hub : Beginning) (seated : Bool) (worker : Worker)
-    (given0 given after wrote0 wrote : Option (List ℕ)) → Appends given after []
-    → Works hub seated worker given0 given wrote0 wrote
-    → Works hub seated worker given0 after wrote0 wrote
-works_same hub seated worker given0 given after wrote0 wrote none w = record {
+    (start : Traffic) (given after taken : Option (List ℕ)) → Appends given after []
+    → Works hub seated worker start (so_far given taken)
+    → Works hub seated worker start (so_far after taken)
+works_same hub seated worker start given after taken none w = record {
   turns = w.turns;
   work = w.work;
-  gave = subst (λ bytes. Appends given0 after bytes) (append-nil (taken_in w.turns))
-      (wrote_more given0 given after (taken_in w.turns) [] w.gave none);
-  took = w.took;
+  carried = record {
+    gave = subst (λ bytes. Appends start.given after bytes) (append-nil (taken_in w.turns))
+        (wrote_more start.given given after (taken_in w.turns) [] w.carried.gave none);
+    took = w.carried.took;
+  };
 }
 
 -- out of memory, nothing of a piece is taken
 pub stops_for_memory : (hub : Beginning) (seated : Bool) (old new : Worker)
-    (given0 given after wrote0 wrote : Option (List ℕ)) (piece : List ℕ)
+    (start : Traffic) (given after taken : Option (List ℕ)) (piece : List ℕ)
     → Appends given after piece → new.desk ≡ old.desk
-    → Works hub seated old given0 given wrote0 wrote
-    → Stops hub seated new given0 after wrote0 wrote (Session causes.NoMemory)
-stops_for_memory hub seated old new given0 given after wrote0 wrote piece gives desk w =
+    → Works hub seated old start (so_far given taken)
+    → Stops hub seated new start (so_far after taken) (Session causes.NoMemory)
+stops_for_memory hub seated old new start given after taken piece gives desk w =
     let setup : Setup = setup_of hub.config in record {
       bytes = taken_in w.turns ++ piece;
       written = answers_in setup seated w.turns;
-      gave = wrote_more given0 given after (taken_in w.turns) piece w.gave gives;
-      took = w.took;
+      carried = record {
+        gave = wrote_more start.given given after (taken_in w.turns) piece w.carried.gave gives;
+        took = w.carried.took;
+      };
       ends = record {
         turns = w.turns;
         piece = piece;
@@ -221,15 +224,16 @@ stops_for_memory hub seated old new given0 given after wrote0 wrote piece gives 
 
 -- a session whose batch was settled
 pub settled : (hub : Beginning) (seated : Bool) (old new : Worker)
-    (given0 given after wrote0 wrote1 wrote2 : Option (List ℕ)) (piece : List ℕ) (batch : Batched)
+    (start : Traffic) (given after taken more : Option (List ℕ)) (piece : List ℕ) (batch : Batched)
     (end : Option SessionCause) → Appends given after piece
-    → (w : Works hub seated old given0 given wrote0 wrote1)
+    → (w : Works hub seated old start (so_far given taken))
     → ContinuesTalk (setup_of hub.config) seated (taken_in w.turns) piece batch end
-    new.session.stage → new.session.seated ≡ seated
+    new.session.stage
+    → new.session.seated ≡ seated
     → DeskTells hub new.desk (facts_in (setup_of hub.config) seated w.turns ++ batch.facts) 0
-    → Appends wrote1 wrote2 (batch.replies ++ batch.acks)
-    → Works hub seated new given0 after wrote0 wrote2
-settled hub seated old new given0 given after wrote0 wrote1 wrote2 piece batch end gives w
+    → Appends taken more (batch.replies ++ batch.acks)
+    → Works hub seated new start (so_far after more)
+settled hub seated old new start given after taken more piece batch end gives w
     stands same told wrote =
     let setup : Setup = setup_of hub.config in
     let says : answer_at setup seated w.turns (Some piece) ≡ batch.replies ++ batch.acks =
@@ -241,23 +245,25 @@ settled hub seated old new given0 given after wrote0 wrote1 wrote2 piece batch e
         stands = stands.stands;
         told = subst (λ facts. DeskTells hub new.desk facts 0) (sym stands.grows.facts) told;
       };
-      gave = wrote_more given0 given after (taken_in w.turns) piece w.gave gives;
-      took = wrote_more wrote0 wrote1 wrote2 (answers_in setup seated w.turns)
-          (answer_at setup seated w.turns (Some piece)) w.took
-          (subst (λ bytes. Appends wrote1 wrote2 bytes) (sym says) wrote);
+      carried = record {
+        gave = wrote_more start.given given after (taken_in w.turns) piece w.carried.gave gives;
+        took = wrote_more start.taken taken more (answers_in setup seated w.turns)
+            (answer_at setup seated w.turns (Some piece)) w.carried.took
+            (subst (λ bytes. Appends taken more bytes) (sym says) wrote);
+      };
     }
 
 -- a session whose batch couldn't be settled
 pub unsettled : {A : Type 0} → (hub : Beginning) (seated : Bool) (old new : Worker)
-    (given0 given after wrote0 wrote1 wrote2 : Option (List ℕ)) (piece : List ℕ) (batch : Batched)
+    (start : Traffic) (given after taken more : Option (List ℕ)) (piece : List ℕ) (batch : Batched)
     (end : Option SessionCause) (fault : AnswerFault) → Appends given after piece
-    → (w : Works hub seated old given0 given wrote0 wrote1)
+    → (w : Works hub seated old start (so_far given taken))
     → ContinuesTalk (setup_of hub.config) seated (taken_in w.turns) piece batch end
     new.session.stage
     → SettlesTo {A = A} hub new.desk (facts_in (setup_of hub.config) seated w.turns) batch
-    wrote1 wrote2 (Err fault)
-    → Stops hub seated new given0 after wrote0 wrote2 (cause_of_turn (turn_fault_of fault))
-unsettled hub seated old new given0 given after wrote0 wrote1 wrote2 piece batch end Unwritten gives
+    taken more (Err fault)
+    → Stops hub seated new start (so_far after more) (cause_of_turn (turn_fault_of fault))
+unsettled hub seated old new start given after taken more piece batch end answers.Write gives
     w stands settles =
     let setup : Setup = setup_of hub.config in
     let says : answer_at setup seated w.turns (Some piece) ≡ batch.replies ++ batch.acks =
@@ -265,9 +271,11 @@ unsettled hub seated old new given0 given after wrote0 wrote1 wrote2 piece batch
     (talk setup seated (taken_in w.turns ++ piece)) batch stands.grows in record {
       bytes = taken_in w.turns ++ piece;
       written = answers_in setup seated w.turns ++ settles.1.front;
-      gave = wrote_more given0 given after (taken_in w.turns) piece w.gave gives;
-      took = wrote_more wrote0 wrote1 wrote2 (answers_in setup seated w.turns) settles.1.front
-          w.took settles.1.wrote;
+      carried = record {
+        gave = wrote_more start.given given after (taken_in w.turns) piece w.carried.gave gives;
+        took = wrote_more start.taken taken more (answers_in setup seated w.turns) settles.1.front
+            w.carried.took settles.1.wrote;
+      };
       ends = record {
         turns = w.turns;
         last = Some piece;
@@ -279,8 +287,8 @@ unsettled hub seated old new given0 given after wrote0 wrote1 wrote2 piece batch
         answered = refl;
       };
     }
-unsettled hub seated old new given0 given after wrote0 wrote1 wrote2 piece batch end
-    (Unposted fault) gives w stands settles =
+unsettled hub seated old new start given after taken more piece batch end
+    (answers.Post fault) gives w stands settles =
     let setup : Setup = setup_of hub.config in
     let count : length (talk setup seated (taken_in w.turns ++ piece)).facts - length
     (facts_in setup seated w.turns) ≡ length batch.facts =
@@ -288,10 +296,13 @@ unsettled hub seated old new given0 given after wrote0 wrote1 wrote2 piece batch
     (talk setup seated (taken_in w.turns ++ piece)).facts stands.grows.facts in record {
       bytes = taken_in w.turns ++ piece;
       written = answers_in setup seated w.turns;
-      gave = wrote_more given0 given after (taken_in w.turns) piece w.gave gives;
-      took = subst (λ bytes. Appends wrote0 wrote2 bytes)
-          (append-nil (answers_in setup seated w.turns))
-          (wrote_more wrote0 wrote1 wrote2 (answers_in setup seated w.turns) [] w.took settles.1);
+      carried = record {
+        gave = wrote_more start.given given after (taken_in w.turns) piece w.carried.gave gives;
+        took = subst (λ bytes. Appends start.taken more bytes)
+            (append-nil (answers_in setup seated w.turns))
+            (wrote_more start.taken taken more (answers_in setup seated w.turns) []
+            w.carried.took settles.1);
+      };
       ends = record {
         turns = w.turns;
         piece = piece;
@@ -311,23 +322,28 @@ pub no_facts : (setup : Setup) (seated : Bool) → [] ≡ (talk setup seated [])
 no_facts setup seated = sym (nothing_in (talk setup seated []).facts (facts_few setup seated []))
 
 pub works_at_start : (hub : Beginning) (seated : Bool) (worker : Worker)
-    (given wrote : Option (List ℕ)) → IsAtWork hub seated worker []
-    → Works hub seated worker given given wrote wrote
-works_at_start hub seated worker given wrote work = record {
+    (start : Traffic)
+    → IsAtWork hub seated worker [] → Works hub seated worker start start
+works_at_start hub seated worker start work = record {
   turns = [];
   work = work;
-  gave = wrote_none given;
-  took = wrote_none wrote;
+  carried = record {
+    gave = wrote_none start.given;
+    took = wrote_none start.taken;
+  };
 }
 
 pub stops_at_start : (hub : Beginning) (seated : Bool) (worker : Worker)
-    (given wrote : Option (List ℕ)) → IsAtWork hub seated worker []
-    → Stops hub seated worker given given wrote wrote (Session causes.NoMemory)
-stops_at_start hub seated worker given wrote work = record {
+    (start : Traffic)
+    → IsAtWork hub seated worker []
+    → Stops hub seated worker start start (Session causes.NoMemory)
+stops_at_start hub seated worker start work = record {
   bytes = [];
   written = [];
-  gave = wrote_none given;
-  took = wrote_none wrote;
+  carried = record {
+    gave = wrote_none start.given;
+    took = wrote_none start.taken;
+  };
   ends = record { turns = []; piece = []; read = refl; told = work.told; answered = refl };
 }
 
@@ -392,17 +408,16 @@ ends_as setup seated P Q bytes written Look f is = absurd is
 
 -- what a session's receipts show once its pass was given back
 pub served_whole : (hub : Beginning) (seated : Bool) (worker : Worker)
-    (given0 given wrote0 wrote : Option (List ℕ)) (seat : Option ℕ) (served : Served)
+    (start now : Traffic) (seat : Option ℕ) (served : Served)
     → seated ≡ is_some seat → ((whats : List What) (n : ℕ) → DeskTells hub worker.desk whats n
     → SeatIsServed seat served whats n)
-    → Works hub seated worker given0 given wrote0 wrote
-    → IsServedWhole hub seat given0 given wrote0 wrote served
-served_whole hub seated worker given0 given wrote0 wrote seat served same f w =
+    → Works hub seated worker start now
+    → IsServedWhole hub seat start now served
+served_whole hub seated worker start now seat served same f w =
     let setup : Setup = setup_of hub.config in record {
       bytes = taken_in w.turns;
       written = answers_in setup seated w.turns;
-      gave = w.gave;
-      took = w.took;
+      carried = w.carried;
       ends = subst (λ b. IsAnswered setup b (SeatIsServed seat served) (taken_in w.turns)
           (answers_in setup seated w.turns)) same (record {
             turns = w.turns;
@@ -413,17 +428,16 @@ served_whole hub seated worker given0 given wrote0 wrote seat served same f w =
     }
 
 pub served_until : (hub : Beginning) (seated : Bool) (worker : Worker)
-    (given0 given wrote0 wrote : Option (List ℕ)) (seat : Option ℕ) (faulted : Faulted)
+    (start now : Traffic) (seat : Option ℕ) (faulted : Faulted)
     → seated ≡ is_some seat → ((whats : List What) (n : ℕ) → DeskTells hub worker.desk whats n
     → SeatIsServed seat faulted.served whats n)
-    → Stops hub seated worker given0 given wrote0 wrote faulted.cause → IsServedUntil hub seat
-    given0 given wrote0 wrote faulted
-served_until hub seated worker given0 given wrote0 wrote seat faulted same f s =
+    → Stops hub seated worker start now faulted.cause → IsServedUntil hub seat
+    start now faulted
+served_until hub seated worker start now seat faulted same f s =
     let setup : Setup = setup_of hub.config in record {
       bytes = s.bytes;
       written = s.written;
-      gave = s.gave;
-      took = s.took;
+      carried = s.carried;
       ends = subst (λ b. EndsBy setup b (SeatIsServed seat faulted.served) s.bytes s.written
           faulted.cause) same
           (ends_as setup seated (DeskTells hub worker.desk) (SeatIsServed seat faulted.served)
@@ -432,12 +446,12 @@ served_until hub seated worker given0 given wrote0 wrote seat faulted same f s =
 
 -- a heartbeat is sent
 pub beaten : (hub : Beginning) (seated : Bool) (old new : Worker)
-    (given0 given wrote0 wrote1 wrote2 : Option (List ℕ))
+    (start : Traffic) (given taken more : Option (List ℕ))
     → new.session.seated ≡ old.session.seated → new.session.stage ≡ old.session.stage
     → new.desk ≡ old.desk
-    → Works hub seated old given0 given wrote0 wrote1 → Appends wrote1 wrote2 heartbeat
-    → Works hub seated new given0 given wrote0 wrote2
-beaten hub seated old new given0 given wrote0 wrote1 wrote2 same stage desk w sends =
+    → Works hub seated old start (so_far given taken) → Appends taken more heartbeat
+    → Works hub seated new start (so_far given more)
+beaten hub seated old new start given taken more same stage desk w sends =
     let setup : Setup = setup_of hub.config in record {
       turns = None ∷ w.turns;
       work = record {
@@ -446,23 +460,27 @@ beaten hub seated old new given0 given wrote0 wrote1 wrote2 same stage desk w se
         told = subst (λ d. DeskTells hub d (facts_in setup seated w.turns) 0)
             (sym desk) w.work.told;
       };
-      gave = w.gave;
-      took = wrote_more wrote0 wrote1 wrote2 (answers_in setup seated w.turns)
-          heartbeat w.took sends;
+      carried = record {
+        gave = w.carried.gave;
+        took = wrote_more start.taken taken more (answers_in setup seated w.turns)
+            heartbeat w.carried.took sends;
+      };
     }
 
 -- a heartbeat couldn't be sent
 pub unbeaten : (hub : Beginning) (seated : Bool) (old new : Worker)
-    (given0 given wrote0 wrote1 wrote2 : Option (List ℕ)) → new.desk ≡ old.desk
-    → Works hub seated old given0 given wrote0 wrote1 → WroteFront wrote1 wrote2 heartbeat
-    → Stops hub seated new given0 given wrote0 wrote2 Write
-unbeaten hub seated old new given0 given wrote0 wrote1 wrote2 desk w sends =
+    (start : Traffic) (given taken more : Option (List ℕ)) → new.desk ≡ old.desk
+    → Works hub seated old start (so_far given taken) → WroteFront taken more heartbeat
+    → Stops hub seated new start (so_far given more) Write
+unbeaten hub seated old new start given taken more desk w sends =
     let setup : Setup = setup_of hub.config in record {
       bytes = taken_in w.turns;
       written = answers_in setup seated w.turns ++ sends.front;
-      gave = w.gave;
-      took = wrote_more wrote0 wrote1 wrote2 (answers_in setup seated w.turns) sends.front
-          w.took sends.wrote;
+      carried = record {
+        gave = w.carried.gave;
+        took = wrote_more start.taken taken more (answers_in setup seated w.turns) sends.front
+            w.carried.took sends.wrote;
+      };
       ends = record {
         turns = w.turns;
         last = None;
@@ -478,15 +496,14 @@ unbeaten hub seated old new given0 given wrote0 wrote1 wrote2 desk w sends =
 
 -- silence ends a session, whatever it keeps then
 pub silenced : (hub : Beginning) (seated : Bool) (old new : Worker)
-    (given0 given wrote0 wrote : Option (List ℕ)) → new.desk ≡ old.desk
-    → Works hub seated old given0 given wrote0 wrote
-    → Stops hub seated new given0 given wrote0 wrote (Session causes.TimedOut)
-silenced hub seated old new given0 given wrote0 wrote desk w =
+    (start now : Traffic) → new.desk ≡ old.desk
+    → Works hub seated old start now
+    → Stops hub seated new start now (Session causes.TimedOut)
+silenced hub seated old new start now desk w =
     let setup : Setup = setup_of hub.config in record {
       bytes = taken_in w.turns;
       written = answers_in setup seated w.turns;
-      gave = w.gave;
-      took = w.took;
+      carried = w.carried;
       ends = record {
         turns = w.turns;
         read = refl;
@@ -498,11 +515,11 @@ silenced hub seated old new given0 given wrote0 wrote desk w =
 
 -- the same, where nothing was said to a worker that is otherwise as it was
 pub works_still : (hub : Beginning) (seated : Bool) (old new : Worker)
-    (given0 given wrote0 wrote : Option (List ℕ)) → new.session.seated ≡ old.session.seated
+    (start now : Traffic) → new.session.seated ≡ old.session.seated
     → new.session.stage ≡ old.session.stage → new.desk ≡ old.desk
-    → Works hub seated old given0 given wrote0 wrote
-    → Works hub seated new given0 given wrote0 wrote
-works_still hub seated old new given0 given wrote0 wrote same stage desk w =
+    → Works hub seated old start now
+    → Works hub seated new start now
+works_still hub seated old new start now same stage desk w =
     let setup : Setup = setup_of hub.config in record {
       turns = w.turns;
       work = record {
@@ -511,59 +528,59 @@ works_still hub seated old new given0 given wrote0 wrote same stage desk w =
         told = subst (λ d. DeskTells hub d (facts_in setup seated w.turns) 0)
             (sym desk) w.work.told;
       };
-      gave = w.gave;
-      took = w.took;
+      carried = w.carried;
     }
 
 -- what becomes of a session's last batch: it ends for its cause, or at the batch
-abbrev pub EndsSo : Beginning → Bool → Worker → Option (List ℕ) → Option (List ℕ)
-    → Option (List ℕ) → Option (List ℕ) → Result SessionCause AnswerFault → Type 0
-EndsSo hub seated worker given0 given wrote0 wrote (Ok cause) =
-    Stops hub seated worker given0 given wrote0 wrote (Session cause)
-EndsSo hub seated worker given0 given wrote0 wrote (Err fault) =
-    Stops hub seated worker given0 given wrote0 wrote (cause_of_turn (turn_fault_of fault))
+abbrev pub EndsSo : Beginning → Bool → Worker → Traffic → Traffic
+    → Result SessionCause AnswerFault → Type 0
+EndsSo hub seated worker start now (Ok cause) =
+    Stops hub seated worker start now (Session cause)
+EndsSo hub seated worker start now (Err fault) =
+    Stops hub seated worker start now (cause_of_turn (turn_fault_of fault))
 
 -- a session whose last batch was settled, for a cause other than out of memory
 ends_then : (hub : Beginning) (seated : Bool) (old new : Worker)
-    (given0 given after wrote0 wrote1 wrote2 : Option (List ℕ)) (piece : List ℕ)
+    (start : Traffic) (given after taken more : Option (List ℕ)) (piece : List ℕ)
     (fault : SessionFault)
     (result : Result SessionCause AnswerFault) → TookIt fault.cause → Appends given after piece
-    → (w : Works hub seated old given0 given wrote0 wrote1)
+    → (w : Works hub seated old start (so_far given taken))
     → ContinuesTalk (setup_of hub.config) seated (taken_in w.turns) piece fault.batch
-    (Some fault.cause) new.session.stage → new.session.seated ≡ seated
+    (Some fault.cause)
+    new.session.stage → new.session.seated ≡ seated
     → SettlesThen hub new.desk (facts_in (setup_of hub.config) seated w.turns) fault
-    wrote1 wrote2 result
-    → EndsSo hub seated new given0 after wrote0 wrote2 result
-ends_then hub seated old new given0 given after wrote0 wrote1 wrote2 piece fault (Ok cause) took
+    taken more result
+    → EndsSo hub seated new start (so_far after more) result
+ends_then hub seated old new start given after taken more piece fault (Ok cause) took
     gives w stands same ends =
-    subst (λ cause. Stops hub seated new given0 after wrote0 wrote2 (Session cause)) (sym ends.is)
-    (stops_by_session hub seated new given0 after wrote0 wrote2 fault.cause took
-    (settled hub seated old new given0 given after wrote0 wrote1 wrote2 piece fault.batch
+    subst (λ cause. Stops hub seated new start (so_far after more) (Session cause)) (sym ends.is)
+    (stops_by_session hub seated new start (so_far after more) fault.cause took
+    (settled hub seated old new start given after taken more piece fault.batch
     (Some fault.cause) gives w stands same ends.settles.0 ends.settles.1))
-ends_then hub seated old new given0 given after wrote0 wrote1 wrote2 piece fault (Err answer) took
+ends_then hub seated old new start given after taken more piece fault (Err answer) took
     gives w stands same ends =
-    unsettled {A = SessionCause} hub seated old new given0 given after wrote0 wrote1 wrote2 piece
+    unsettled {A = SessionCause} hub seated old new start given after taken more piece
     fault.batch (Some fault.cause) answer gives w stands ends.settles
 
 -- a session that ends with a fault
 pub ended_by : (hub : Beginning) (seated : Bool) (old new : Worker)
-    (given0 given after wrote0 wrote1 wrote2 : Option (List ℕ)) (piece : List ℕ)
+    (start : Traffic) (given after taken more : Option (List ℕ)) (piece : List ℕ)
     (fault : SessionFault)
     (result : Result SessionCause AnswerFault) → Appends given after piece
-    → (w : Works hub seated old given0 given wrote0 wrote1) → new.session.seated ≡ seated
+    → (w : Works hub seated old start (so_far given taken)) → new.session.seated ≡ seated
     → FaultAnswersTalk fault.cause fault.batch (setup_of hub.config) seated (taken_in w.turns) piece
     new.session.stage
     → EndsTo hub old.desk new.desk (facts_in (setup_of hub.config) seated w.turns) fault
-    wrote1 wrote2 result
-    → EndsSo hub seated new given0 after wrote0 wrote2 result
-ended_by hub seated old new given0 given after wrote0 wrote1 wrote2 piece fault result gives w same
+    taken more result
+    → EndsSo hub seated new start (so_far after more) result
+ended_by hub seated old new start given after taken more piece fault result gives w same
     answers ends = by_cause fault.cause refl answers ends
   where
     then : TookIt fault.cause → SettlesThen hub new.desk
-        (facts_in (setup_of hub.config) seated w.turns) fault wrote1 wrote2 result
-        → EndsSo hub seated new given0 after wrote0 wrote2 result
+        (facts_in (setup_of hub.config) seated w.turns) fault taken more result
+        → EndsSo hub seated new start (so_far after more) result
     then took settles =
-        ends_then hub seated old new given0 given after wrote0 wrote1 wrote2 piece fault
+        ends_then hub seated old new start given after taken more piece fault
         result took gives w
         (fault_stands fault.cause fault.batch (setup_of hub.config) seated (taken_in w.turns) piece
         new.session.stage took answers) same settles
@@ -571,16 +588,16 @@ ended_by hub seated old new given0 given after wrote0 wrote1 wrote2 piece fault 
     by_cause : (cause : SessionCause) → fault.cause ≡ cause → FaultAnswersTalk cause fault.batch
         (setup_of hub.config) seated (taken_in w.turns) piece new.session.stage
         → EndsFor cause hub old.desk new.desk (facts_in (setup_of hub.config) seated w.turns) fault
-        wrote1 wrote2 result → EndsSo hub seated new given0 after wrote0 wrote2 result
+        taken more result → EndsSo hub seated new start (so_far after more) result
     by_cause (causes.Refused status) is a e = then (subst TookIt (sym is) tt) e
     by_cause (causes.Wire wire) is a e = then (subst TookIt (sym is) tt) e
     by_cause causes.PeerError is a e = then (subst TookIt (sym is) tt) e
     by_cause causes.TimedOut is a e = then (subst TookIt (sym is) tt) e
     by_cause causes.NoMemory is a e =
-        subst (λ r. EndsSo hub seated new given0 after wrote0 wrote2 r) (sym e.is)
-        (subst (λ wrote. Stops hub seated new given0 after wrote0 wrote (Session causes.NoMemory))
+        subst (λ r. EndsSo hub seated new start (so_far after more) r) (sym e.is)
+        (subst (λ wrote. Stops hub seated new start (so_far after wrote) (Session causes.NoMemory))
         (sym e.kept)
-        (stops_for_memory hub seated old new given0 given after wrote0 wrote1 piece gives e.desk w))
+        (stops_for_memory hub seated old new start given after taken piece gives e.desk w))
 
 -- a desk that tells is of the hub
 desk_is_of : (hub : Beginning) (desk : Option Desk) (whats : List What) (n : ℕ)
@@ -621,9 +638,9 @@ desk_of_stops hub seated desk bytes written Look ends = absurd ends
 
 -- a session that works on or has stopped has a desk of the hub, if it has one
 pub desk_of_works : (hub : Beginning) (seated : Bool) (worker : Worker)
-    (given0 given wrote0 wrote : Option (List ℕ)) (result : Result (Unit {0}) Cause)
-    → WorksOn hub seated worker given0 given wrote0 wrote result → IsDeskOf hub worker.desk
-desk_of_works hub seated worker given0 given wrote0 wrote (Ok done) w =
+    (start now : Traffic) (result : Result (Unit {0}) Cause)
+    → WorksOn hub seated worker start now result → IsDeskOf hub worker.desk
+desk_of_works hub seated worker start now (Ok done) w =
     desk_is_of hub worker.desk (facts_in (setup_of hub.config) seated w.turns) 0 w.work.told
-desk_of_works hub seated worker given0 given wrote0 wrote (Err cause) s =
+desk_of_works hub seated worker start now (Err cause) s =
     desk_of_stops hub seated worker.desk s.bytes s.written cause s.ends

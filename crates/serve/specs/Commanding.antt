@@ -18,6 +18,7 @@ use Rattle.serve.specs.Commands.{AreReplies, EndsCommands, HasNoEnd, IsReply, Re
 use Rattle.serve.specs.Commands.{changes_in, lines_in, texts_in}
 use Rattle.serve.specs.Faults.{cause_of_line}
 use Rattle.serve.specs.Told.{HasTold, stored_of}
+use Rattle.serve.specs.Traffic.{Advances, Traffic, so_far}
 use Rattle.serve.specs.Turns.{WroteFront}
 
 -- the first byte that is no CR, if there is one
@@ -86,37 +87,44 @@ ObeysTo hub seat worker whats line before after (Err Look) =
 -- an admin at work, with what its source gave and its writer took since it began; so many bytes of
 -- a piece are left
 pub record Works (hub : Beginning) (seat : ℕ) (worker : Worker) (rest : List ℕ)
-    (given0 given wrote0 wrote : Option (List ℕ)) : Type 0 where
+    (start now : Traffic) : Type 0 where
   pub replies : List Reply
   pub line : List ℕ
   pub are : AreReplies hub seat replies
   pub learned : HasLearned hub seat worker (changes_in replies)
   pub keeps : worker.line.bytes.items ≡ kept_of line
   pub unended : HasNoEnd line
-  pub gave : Appends given0 given (lines_in replies ++ (line ++ rest))
-  pub took : Appends wrote0 wrote (texts_in replies)
+  pub carried : Advances start now (lines_in replies ++ (line ++ rest)) (texts_in replies)
 
 -- it has ended for this cause
 pub record Stops (hub : Beginning) (seat : ℕ) (worker : Worker)
-    (given0 given wrote0 wrote : Option (List ℕ)) (cause : Cause) : Type 0 where
+    (start now : Traffic) (cause : Cause) : Type 0 where
   pub bytes : List ℕ
   pub written : List ℕ
-  pub gave : Appends given0 given bytes
-  pub took : Appends wrote0 wrote written
+  pub carried : Advances start now bytes written
   pub ends : EndsCommands hub seat (HasTold hub worker.desk) bytes written cause
 
 -- it works on, or has ended
-abbrev pub WorksOn : {A : Type 0} → Beginning → ℕ → Worker → List ℕ → Option (List ℕ)
-    → Option (List ℕ) → Option (List ℕ) → Option (List ℕ) → Result A Cause → Type 0
-WorksOn hub seat worker rest given0 given wrote0 wrote (Ok done) =
-    Works hub seat worker rest given0 given wrote0 wrote
-WorksOn hub seat worker rest given0 given wrote0 wrote (Err cause) =
-    Stops hub seat worker given0 given wrote0 wrote cause
+abbrev pub WorksOn : {A : Type 0} → Beginning → ℕ → Worker → List ℕ → Traffic → Traffic
+    → Result A Cause → Type 0
+WorksOn hub seat worker rest start now (Ok done) =
+    Works hub seat worker rest start now
+WorksOn hub seat worker rest start now (Err cause) =
+    Stops hub seat worker start now cause
 
 -- the same after a step, which can't fail for every cause
-abbrev pub GoesOn : {A : Type 0} → Beginning → ℕ → Worker → List ℕ → Option (List ℕ)
-    → Option (List ℕ) → Option (List ℕ) → Option (List ℕ) → Result A LineFault → Type 0
-GoesOn hub seat worker rest given0 given wrote0 wrote (Ok done) =
-    Works hub seat worker rest given0 given wrote0 wrote
-GoesOn hub seat worker rest given0 given wrote0 wrote (Err fault) =
-    Stops hub seat worker given0 given wrote0 wrote (cause_of_line fault)
+abbrev pub GoesOn : {A : Type 0} → Beginning → ℕ → Worker → List ℕ → Traffic → Traffic
+    → Result A LineFault → Type 0
+GoesOn hub seat worker rest start now (Ok done) =
+    Works hub seat worker rest start now
+GoesOn hub seat worker rest start now (Err fault) =
+    Stops hub seat worker start now (cause_of_line fault)
+
+-- a step that takes bytes which were read, and leaves some of them, whatever was read and written
+-- before
+abbrev pub Takes : {A : Type 0} → Beginning → Worker → Worker → List ℕ → List ℕ
+    → Option (List ℕ) → Option (List ℕ) → Result A LineFault → Type 0
+Takes hub old new bytes rest before after result =
+    (seat : ℕ) (start : Traffic) (given : Option (List ℕ))
+    → Works hub seat old bytes start (so_far given before)
+    → GoesOn hub seat new rest start (so_far given after) result

@@ -1,7 +1,6 @@
 -- What an admin reads, tells and answers, line by line.
 use Rattle.std.specs.Prelude.{◌≡◌, ◌≢◌, ℕ, ◌==◌, ◌⊎◌, ⊤, false, List, [], ◌∷◌, ◌++◌, codes, Option}
 use Rattle.std.specs.Prelude.{None, Ok, Err}
-use Rattle.std.specs.Io.KnownBytes.{Appends}
 use Rattle.std.specs.List.{list_any}
 use Rattle.std.specs.Option.{option_to_list}
 use mathlib.Core.List.{IsPrefix}
@@ -24,6 +23,7 @@ use Rattle.serve.specs.declared.served.Cause.TheVariants.{Read, Write, Session, 
 use Rattle.serve.specs.declared.served.Faulted.{Faulted}
 use Rattle.serve.specs.declared.served.Served.{Served}
 use Rattle.serve.specs.Told.{IsServed, stored_of}
+use Rattle.serve.specs.Traffic.{Advances, Traffic}
 
 -- no LF is among the bytes
 abbrev pub HasNoEnd : List ℕ → Type 0
@@ -149,20 +149,18 @@ EndsCommands hub seat Told bytes written Look = LaterRefused hub seat Told bytes
 
 -- how an admin was served at Ok: all lines that its source gave were answered
 pub record IsCommandedWhole (hub : Beginning) (seat : ℕ)
-    (given0 given wrote0 wrote : Option (List ℕ)) (served : Served) : Type 0 where
+    (start now : Traffic) (served : Served) : Type 0 where
   pub bytes : List ℕ
   pub written : List ℕ
-  pub gave : Appends given0 given bytes
-  pub took : Appends wrote0 wrote written
+  pub carried : Advances start now bytes written
   pub ends : AllAnswered hub seat (λ whats waiting. IsServed seat whats waiting served) bytes
       written
 
 -- how an admin was served that ended for a cause
 pub record IsCommandedUntil (hub : Beginning) (seat : ℕ)
-    (given0 given wrote0 wrote : Option (List ℕ)) (faulted : Faulted) : Type 0 where
+    (start now : Traffic) (faulted : Faulted) : Type 0 where
   pub bytes : List ℕ
   pub written : List ℕ
-  pub gave : Appends given0 given bytes
-  pub took : Appends wrote0 wrote written
+  pub carried : Advances start now bytes written
   pub ends : EndsCommands hub seat (λ whats waiting. IsServed seat whats waiting faulted.served)
       bytes written faulted.cause

@@ -1,6 +1,7 @@
 pub mod Faults
 pub mod Sources
 pub mod Told
+pub mod Traffic
 pub mod Turns
 pub mod Working
 pub mod Moments

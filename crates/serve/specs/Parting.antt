@@ -1,30 +1,31 @@
 -- What is left of a connection that is over.
-use Rattle.std.specs.Prelude.{◌≡◌, ℕ, List, Option, Result, MatchResult}
+use Rattle.std.specs.Prelude.{◌≡◌, ℕ, Option, Result, MatchResult}
 use Rattle.agg_types.specs.declared.config.Config.{Config}
 use Rattle.hub.specs.History.{Beginning}
 use Rattle.serve.specs.declared.served.Faulted.{Faulted}
 use Rattle.serve.specs.declared.served.Served.{Served}
 use Rattle.serve.specs.Commands.{IsCommandedUntil, IsCommandedWhole}
 use Rattle.serve.specs.Moments.{IsTimed, stored_by}
+use Rattle.serve.specs.Traffic.{Traffic}
 use Rattle.serve.specs.Working.{IsServedUntil, IsServedWhole}
 
 -- a hub of this configuration served a session, at a seat or at none
-pub record WasServed (config : Config) (given0 given wrote0 wrote : Option (List ℕ))
+pub record WasServed (config : Config) (start now : Traffic)
     (ended : Result Served Faulted) : Type 0 where
   pub hub : Beginning
   pub of : hub.config ≡ config
   pub seat : Option ℕ
-  pub how : MatchResult ended (IsServedWhole hub seat given0 given wrote0 wrote)
-      (IsServedUntil hub seat given0 given wrote0 wrote)
+  pub how : MatchResult ended (IsServedWhole hub seat start now)
+      (IsServedUntil hub seat start now)
 
 -- a hub of this configuration served an admin
-pub record WasCommanded (config : Config) (given0 given wrote0 wrote : Option (List ℕ))
+pub record WasCommanded (config : Config) (start now : Traffic)
     (ended : Result Served Faulted) : Type 0 where
   pub hub : Beginning
   pub of : hub.config ≡ config
   pub seat : ℕ
-  pub how : MatchResult ended (IsCommandedWhole hub seat given0 given wrote0 wrote)
-      (IsCommandedUntil hub seat given0 given wrote0 wrote)
+  pub how : MatchResult ended (IsCommandedWhole hub seat start now)
+      (IsCommandedUntil hub seat start now)
 
 -- a timer told moments of a clock, at some seat
 pub record WasTimed (gives : ℕ → Type 0) (ended : Result Served Faulted) : Type 0 where

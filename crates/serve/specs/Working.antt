@@ -21,6 +21,7 @@ use Rattle.serve.specs.declared.worker.Worker.{Worker}
 use Rattle.std.specs.Io.KnownBytes.{Appends}
 use Rattle.serve.specs.Faults.{cause_of_turn}
 use Rattle.serve.specs.Told.{stored_of}
+use Rattle.serve.specs.Traffic.{Advances, Traffic, so_far}
 use Rattle.serve.specs.Turns.{DeskTells, EndsBy, IsAnswered, SeatIsServed, Turn, WroteFront}
 use Rattle.serve.specs.Turns.{answers_in, facts_in, taken_in}
 
@@ -33,40 +34,44 @@ pub record IsAtWork (hub : Beginning) (seated : Bool) (worker : Worker) (turns :
 
 -- the same, with what its source gave and its writer took since it began
 pub record Works (hub : Beginning) (seated : Bool) (worker : Worker)
-    (given0 given wrote0 wrote : Option (List ℕ))
-    : Type 0 where
+    (start now : Traffic) : Type 0 where
   pub turns : List Turn
   pub work : IsAtWork hub seated worker turns
-  pub gave : Appends given0 given (taken_in turns)
-  pub took : Appends wrote0 wrote
+  pub carried : Advances start now (taken_in turns)
       (answers_in (setup_of hub.config) seated turns)
 
 -- it has ended for this cause
 pub record Stops (hub : Beginning) (seated : Bool) (worker : Worker)
-    (given0 given wrote0 wrote : Option (List ℕ))
-    (cause : Cause) : Type 0 where
+    (start now : Traffic) (cause : Cause) : Type 0 where
   pub bytes : List ℕ
   pub written : List ℕ
-  pub gave : Appends given0 given bytes
-  pub took : Appends wrote0 wrote written
+  pub carried : Advances start now bytes written
   pub ends : EndsBy (setup_of hub.config) seated (DeskTells hub worker.desk) bytes
       written cause
 
 -- it works on, or has ended
-abbrev pub WorksOn : {A : Type 0} → Beginning → Bool → Worker → Option (List ℕ)
-    → Option (List ℕ) → Option (List ℕ) → Option (List ℕ) → Result A Cause → Type 0
-WorksOn hub seated worker given0 given wrote0 wrote (Ok done) =
-    Works hub seated worker given0 given wrote0 wrote
-WorksOn hub seated worker given0 given wrote0 wrote (Err cause) =
-    Stops hub seated worker given0 given wrote0 wrote cause
+abbrev pub WorksOn : {A : Type 0} → Beginning → Bool → Worker → Traffic → Traffic
+    → Result A Cause → Type 0
+WorksOn hub seated worker start now (Ok done) =
+    Works hub seated worker start now
+WorksOn hub seated worker start now (Err cause) =
+    Stops hub seated worker start now cause
 
 -- the same after a step, which can't fail for every cause
-abbrev pub GoesOn : {A : Type 0} → Beginning → Bool → Worker → Option (List ℕ)
-    → Option (List ℕ) → Option (List ℕ) → Option (List ℕ) → Result A TurnFault → Type 0
-GoesOn hub seated worker given0 given wrote0 wrote (Ok done) =
-    Works hub seated worker given0 given wrote0 wrote
-GoesOn hub seated worker given0 given wrote0 wrote (Err fault) =
-    Stops hub seated worker given0 given wrote0 wrote (cause_of_turn fault)
+abbrev pub GoesOn : {A : Type 0} → Beginning → Bool → Worker → Traffic → Traffic
+    → Result A TurnFault → Type 0
+GoesOn hub seated worker start now (Ok done) =
+    Works hub seated worker start now
+GoesOn hub seated worker start now (Err fault) =
+    Stops hub seated worker start now (cause_of_turn fault)
+
+-- a step that takes a piece which was read, whatever was read and written before
+abbrev pub Takes : {A : Type 0} → Beginning → Worker → Worker → List ℕ → Option (List ℕ)
+    → Option (List ℕ) → Result A TurnFault → Type 0
+Takes hub old new piece before after result =
+    (seated : Bool) (start : Traffic) (given more : Option (List ℕ)) → Appends given more piece
+    → Works hub seated old start (so_far given before)
+    → GoesOn hub seated new start (so_far more after) result
 
 -- a batch is told behind what was told before it, or refused
 abbrev pub PostsTo : Beginning → Option Desk → List What → List What → Result (Unit {0}) PostFault
@@ -121,22 +126,18 @@ EndsTo hub old new whats fault before after result =
 
 -- how a session was served at Ok: all that its source gave was told and answered
 pub record IsServedWhole (hub : Beginning) (seat : Option ℕ)
-    (given0 given wrote0 wrote : Option (List ℕ))
-    (served : Served) : Type 0 where
+    (start now : Traffic) (served : Served) : Type 0 where
   pub bytes : List ℕ
   pub written : List ℕ
-  pub gave : Appends given0 given bytes
-  pub took : Appends wrote0 wrote written
+  pub carried : Advances start now bytes written
   pub ends : IsAnswered (setup_of hub.config) (is_some seat) (SeatIsServed seat served) bytes
       written
 
 -- how a session was served that ended for a cause
 pub record IsServedUntil (hub : Beginning) (seat : Option ℕ)
-    (given0 given wrote0 wrote : Option (List ℕ))
-    (faulted : Faulted) : Type 0 where
+    (start now : Traffic) (faulted : Faulted) : Type 0 where
   pub bytes : List ℕ
   pub written : List ℕ
-  pub gave : Appends given0 given bytes
-  pub took : Appends wrote0 wrote written
+  pub carried : Advances start now bytes written
   pub ends : EndsBy (setup_of hub.config) (is_some seat) (SeatIsServed seat faulted.served) bytes
       written faulted.cause

@@ -1,7 +1,8 @@
 //! One admin connection: commands of a line each, and their answers.
 
 ghost use Rattle.std.specs.Prelude.{◌≡◌, ◌<◌, ◌≤◌, ◌+◌, ◌^◌, ◌⊎◌, ◌++◌, ℕ, List, [], ◌∷◌};
-ghost use Rattle.std.specs.Prelude.{codes, Option, None, IfOk, IfSome, IfErr, OnOk, Err, MatchResult};
+ghost use Rattle.std.specs.Prelude.{codes, Option, None, IfOk, IfSome, IfErr, OnOk, Err};
+ghost use Rattle.std.specs.Prelude.{MatchResult};
 ghost use Rattle.std.specs.Option.{option_to_list};
 ghost use Rattle.agg_types.specs.declared.config.Config.{Config};
 ghost use Rattle.agg_types.specs.declared.event.What.{What};
@@ -11,6 +12,7 @@ ghost use Rattle.hub.specs.Roll.{MayPost};
 ghost use Rattle.serve.specs.Commands.{AnswersWith, HasNoEnd, IsCommandedUntil, IsCommandedWhole};
 ghost use Rattle.serve.specs.Commands.{Replies};
 ghost use Rattle.serve.specs.Told.{stored_of};
+ghost use Rattle.serve.specs.Traffic.{so_far};
 ghost use Rattle.show_clear.specs.Answer.{NamesExist};
 ghost use Rattle.show_clear.specs.Change.{asked_event};
 ghost use Rattle.show_clear.specs.Refusal.{refusal_text};
@@ -97,8 +99,9 @@ struct Worker {
 }
 
 impl Worker {
-    ghost use Rattle.serve.specs.Commanding.{ChangesTo, GoesOn, HasLearned, HasLooked, LooksTo};
-    ghost use Rattle.serve.specs.Commanding.{ObeysTo, Works, WorksOn, kept_of};
+    ghost use Rattle.serve.specs.Commanding.{ChangesTo, HasLearned, HasLooked, LooksTo, ObeysTo};
+    ghost use Rattle.serve.specs.Commanding.{Takes, Works, WorksOn, kept_of};
+    ghost use Rattle.serve.specs.Traffic.{Traffic};
 
     // An admin that has read nothing.
     fn new(alloc: Global, lens: Lens, pass: Pass) -> Worker
@@ -259,12 +262,9 @@ impl Worker {
         ensures of { self.new.desk.pass.seen.of ≡ hub.now.of }
         ensures lens { Follows hub.now self.new.lens.seen }
         ensures seat { self.new.desk.pass.seat ≡ self.old.desk.pass.seat }
-        ensures works { (seat : ℕ) (rest : List ℕ) (given0 given wrote0 : Option (List ℕ))
-            → HasNoEnd bytes.now
-            → Works hub.now seat self.old (bytes.now ++ 10 ∷ rest) given0 given wrote0
-            (W.contents writer.old)
-            → GoesOn hub.now seat self.new rest given0 given wrote0 (W.contents writer.new)
-            result }
+        ensures takes { (rest : List ℕ) → HasNoEnd bytes.now
+            → Takes hub.now self.old self.new (bytes.now ++ 10 ∷ rest) rest
+            (W.contents writer.old) (W.contents writer.new) result }
     {
         if self.keep(bytes).is_err() {
             return Err(LineFault::Post(refused(self.alloc)));
@@ -288,9 +288,8 @@ impl Worker {
         ensures of { self.new.desk.pass.seen.of ≡ hub.now.of }
         ensures lens { Follows hub.now self.new.lens.seen }
         ensures seat { self.new.desk.pass.seat ≡ self.old.desk.pass.seat }
-        ensures works { (seat : ℕ) (given0 given wrote0 : Option (List ℕ))
-            → Works hub.now seat self.old piece.now given0 given wrote0 (W.contents writer.old)
-            → GoesOn hub.now seat self.new [] given0 given wrote0 (W.contents writer.new) result }
+        ensures takes { Takes hub.now self.old self.new piece.now [] (W.contents writer.old)
+            (W.contents writer.new) result }
     {
         let mut rest = piece;
         while let Some((front, behind)) = split_line(rest) {
@@ -332,11 +331,11 @@ impl Worker {
         ensures reads { S.reads source.new ≡ S.reads source.old + 1 }
         ensures failed { S.failed source.old ≤ S.failed source.new }
         ensures read { result ≡ Err Cause.Read → S.failed source.old < S.failed source.new }
-        ensures works { (seat : ℕ) (given0 wrote0 : Option (List ℕ))
-            → Works hub.now seat self.old [] given0 (S.given source.old) wrote0
-            (W.contents writer.old)
-            → WorksOn hub.now seat self.new [] given0 (S.given source.new) wrote0
-            (W.contents writer.new) result }
+        ensures works { (seat : ℕ) (start : Traffic)
+            → Works hub.now seat self.old [] start
+            (so_far (S.given source.old) (W.contents writer.old))
+            → WorksOn hub.now seat self.new [] start
+            (so_far (S.given source.new) (W.contents writer.new)) result }
     {
         match source.read(buffer) {
             Err(_) => Err(Cause::Read),
@@ -367,8 +366,9 @@ impl Worker {
         requires learned { HasLearned hub.now self.old.desk.pass.seat self.old [] }
         ensures seat { self.new.desk.pass.seat ≡ self.old.desk.pass.seat }
         ensures of { self.new.desk.pass.seen.of ≡ hub.now.of }
-        ensures works { WorksOn hub.now self.old.desk.pass.seat self.new [] (S.given source.old)
-            (S.given source.new) (W.contents writer.old) (W.contents writer.new) result }
+        ensures works { WorksOn hub.now self.old.desk.pass.seat self.new []
+            (so_far (S.given source.old) (W.contents writer.old))
+            (so_far (S.given source.new) (W.contents writer.new)) result }
         ensures read { result ≡ Err Cause.Read
             → (S.failed source.old < S.failed source.new) ⊎ (S.reads source.new ≡ 2 ^ 40) }
     {
@@ -396,8 +396,9 @@ impl Worker {
         requires learned { HasLearned hub.now self.old.desk.pass.seat self.old [] }
         ensures seat { self.new.desk.pass.seat ≡ self.old.desk.pass.seat }
         ensures of { self.new.desk.pass.seen.of ≡ hub.now.of }
-        ensures works { WorksOn hub.now self.old.desk.pass.seat self.new [] (S.given source.old)
-            (S.given source.new) (W.contents writer.old) (W.contents writer.new) result }
+        ensures works { WorksOn hub.now self.old.desk.pass.seat self.new []
+            (so_far (S.given source.old) (W.contents writer.old))
+            (so_far (S.given source.new) (W.contents writer.new)) result }
         ensures read { result ≡ Err Cause.Read
             → (S.failed source.old < S.failed source.new) ⊎ (S.reads source.new ≡ 2 ^ 40) }
     {
@@ -438,10 +439,10 @@ pub fn serve_admin<J: Naming, H: Wait + Drop, R: Wait, S: Source, W: Write, G: G
 
     // What was read, changed and answered; and what the receipts show of that.
     ensures served { MatchResult result
-        (IsCommandedWhole hub.now pass.seat (S.given source.old) (S.given source.new)
-        (W.contents writer.old) (W.contents writer.new))
-        (IsCommandedUntil hub.now pass.seat (S.given source.old) (S.given source.new)
-        (W.contents writer.old) (W.contents writer.new)) }
+        (IsCommandedWhole hub.now pass.seat (so_far (S.given source.old) (W.contents writer.old))
+        (so_far (S.given source.new) (W.contents writer.new)))
+        (IsCommandedUntil hub.now pass.seat (so_far (S.given source.old) (W.contents writer.old))
+        (so_far (S.given source.new) (W.contents writer.new))) }
 
     // It ends with Read only where a read failed, or 2^40 were made.
     ensures read { IfErr result (λ faulted. faulted.cause ≡ Cause.Read

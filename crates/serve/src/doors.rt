@@ -2,6 +2,7 @@
 
 ghost use Rattle.std.specs.Prelude.{◌≡◌, ℕ, List, Option, IfSome};
 ghost use Rattle.serve.specs.Parting.{WasCommanded, WasServed};
+ghost use Rattle.serve.specs.Traffic.{so_far};
 
 use crate::admin::serve_admin;
 use crate::clock::Clock;
@@ -60,15 +61,15 @@ pub trait Doors<S: Source + Drop, W: Write + Drop> {
     /// Takes back the connection of a peer that is over. What was read, told and written is what
     /// `serve_session` promises.
     fn part_peer(&self, _config: &Config, _source: S, _writer: W, _ended: Result<Served, Faulted>)
-        requires { WasServed _config.now unread (S.given _source) blank (W.contents _writer)
-            _ended }
+        requires { WasServed _config.now (so_far unread blank)
+            (so_far (S.given _source) (W.contents _writer)) _ended }
     {}
 
     /// Takes back an admin connection that is over. What was read, changed and answered is what
     /// `serve_admin` promises.
     fn part_admin(&self, _config: &Config, _source: S, _writer: W, _ended: Result<Served, Faulted>)
-        requires { WasCommanded _config.now unread (S.given _source) blank (W.contents _writer)
-            _ended }
+        requires { WasCommanded _config.now (so_far unread blank)
+            (so_far (S.given _source) (W.contents _writer)) _ended }
     {}
 }
 

@@ -5,6 +5,7 @@ ghost use Rattle.std.specs.Option.{option_map};
 ghost use Rattle.agg_types.specs.declared.event.What.{What};
 ghost use Rattle.hub.specs.Posts.{Follows, SitsDown};
 ghost use Rattle.serve.specs.declared.served.Cause.{Cause};
+ghost use Rattle.serve.specs.Traffic.{so_far};
 ghost use Rattle.serve.specs.Turns.{DeskTells, IsDeskOf, SeatIsServed, seat_at};
 ghost use Rattle.serve.specs.Working.{IsServedUntil, IsServedWhole};
 
@@ -54,10 +55,12 @@ pub fn serve_session<J: Naming, H: Wait + Drop, R: Wait, S: Source, W: Write, C:
 
     // What was read, told and written; and what the receipts show of that.
     ensures served { MatchResult result
-        (IsServedWhole hub.now (option_map (λ p. p.seat) pass) (S.given source.old)
-        (S.given source.new) (W.contents writer.old) (W.contents writer.new))
-        (IsServedUntil hub.now (option_map (λ p. p.seat) pass) (S.given source.old)
-        (S.given source.new) (W.contents writer.old) (W.contents writer.new)) }
+        (IsServedWhole hub.now (option_map (λ p. p.seat) pass)
+        (so_far (S.given source.old) (W.contents writer.old))
+        (so_far (S.given source.new) (W.contents writer.new)))
+        (IsServedUntil hub.now (option_map (λ p. p.seat) pass)
+        (so_far (S.given source.old) (W.contents writer.old))
+        (so_far (S.given source.new) (W.contents writer.new))) }
 
     // It ends with Read only where a read failed, or 2^40 were made.
     ensures read { IfErr result (λ faulted. faulted.cause ≡ Cause.Read

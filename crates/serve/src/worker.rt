@@ -8,7 +8,6 @@ ghost use Rattle.agg_types.specs.declared.event.What.{What};
 ghost use Rattle.hub.specs.History.{Beginning};
 ghost use Rattle.hub.specs.Posts.{Follows, SitsDown};
 ghost use Rattle.hub.specs.Roll.{MayPost};
-ghost use Rattle.std.specs.Io.KnownBytes.{Appends};
 
 use crate::clock::Clock;
 use crate::desk::Desk;
@@ -44,7 +43,8 @@ pub struct Worker {
 
 impl Worker {
     ghost use Rattle.serve.specs.Turns.{DeskTells, IsDeskOf, Turn, seat_at};
-    ghost use Rattle.serve.specs.Working.{EndsTo, GoesOn, IsAtWork, PostsTo, SettlesTo};
+    ghost use Rattle.serve.specs.Working.{EndsTo, IsAtWork, PostsTo, SettlesTo, Takes};
+    ghost use Rattle.serve.specs.Traffic.{Traffic, so_far};
     ghost use Rattle.serve.specs.Working.{Works, WorksOn};
 
     /// A connection that came in, with a desk if it has a seat.
@@ -142,10 +142,8 @@ impl Worker {
         requires work { (seated : Bool) × (turns : List Turn)
             × IsAtWork hub.now seated self.old turns }
         ensures seat { seat_at self.new.desk ≡ seat_at self.old.desk }
-        ensures takes { (seated : Bool) (given0 given after wrote0 : Option (List ℕ))
-            → Appends given after piece.now
-            → Works hub.now seated self.old given0 given wrote0 (W.contents writer.old)
-            → GoesOn hub.now seated self.new given0 after wrote0 (W.contents writer.new) result }
+        ensures takes { Takes hub.now self.old self.new piece.now (W.contents writer.old)
+            (W.contents writer.new) result }
     {
         match self.session.feed(hub.config(), piece, now) {
             Ok(batch) => {
@@ -238,9 +236,8 @@ impl Worker {
     // Sends a heartbeat where one is due, and ends a session that was silent for too long.
     fn rest<W: Write>(&mut self, writer: &mut W, now: u64) -> Result<(), TurnFault>
         ensures seat { seat_at self.new.desk ≡ seat_at self.old.desk }
-        ensures rests { (hub : Beginning) (seated : Bool) (given0 given wrote0 : Option (List ℕ))
-            → Works hub seated self.old given0 given wrote0 (W.contents writer.old)
-            → GoesOn hub seated self.new given0 given wrote0 (W.contents writer.new) result }
+        ensures takes { (hub : Beginning) → Takes hub self.old self.new [] (W.contents writer.old)
+            (W.contents writer.new) result }
     {
         match self.session.idle(now) {
             Idle::Nothing => Ok(()),
@@ -266,10 +263,8 @@ impl Worker {
         requires work { (seated : Bool) × (turns : List Turn)
             × IsAtWork hub.now seated self.old turns }
         ensures seat { seat_at self.new.desk ≡ seat_at self.old.desk }
-        ensures treats { (seated : Bool) (given0 given after wrote0 : Option (List ℕ))
-            → Appends given after piece.now
-            → Works hub.now seated self.old given0 given wrote0 (W.contents writer.old)
-            → GoesOn hub.now seated self.new given0 after wrote0 (W.contents writer.new) result }
+        ensures takes { Takes hub.now self.old self.new piece.now (W.contents writer.old)
+            (W.contents writer.new) result }
     {
         gate.turn(self.place());
         self.listen(piece);
@@ -294,11 +289,11 @@ impl Worker {
             × IsAtWork hub.now seated self.old turns }
         requires reads { S.reads source.old < 2 ^ 62 }
         ensures seat { seat_at self.new.desk ≡ seat_at self.old.desk }
-        ensures works { (seated : Bool) (given0 wrote0 : Option (List ℕ))
-            → Works hub.now seated self.old given0 (S.given source.old) wrote0
-            (W.contents writer.old)
-            → WorksOn hub.now seated self.new given0 (S.given source.new) wrote0
-            (W.contents writer.new) result }
+        ensures works { (seated : Bool) (start : Traffic)
+            → Works hub.now seated self.old start
+            (so_far (S.given source.old) (W.contents writer.old))
+            → WorksOn hub.now seated self.new start
+            (so_far (S.given source.new) (W.contents writer.new)) result }
         ensures reads { S.reads source.new ≡ S.reads source.old + 1 }
         ensures failed { S.failed source.old ≤ S.failed source.new }
         ensures read { result ≡ Err Cause.Read → S.failed source.old < S.failed source.new }
@@ -331,8 +326,9 @@ impl Worker {
         requires work { IsAtWork hub.now self.old.session.seated self.old [] }
         requires reads { S.reads source.old ≡ 0 }
         ensures seat { seat_at self.new.desk ≡ seat_at self.old.desk }
-        ensures works { WorksOn hub.now self.old.session.seated self.new (S.given source.old)
-            (S.given source.new) (W.contents writer.old) (W.contents writer.new) result }
+        ensures works { WorksOn hub.now self.old.session.seated self.new
+            (so_far (S.given source.old) (W.contents writer.old))
+            (so_far (S.given source.new) (W.contents writer.new)) result }
         ensures read { result ≡ Err Cause.Read
             → (S.failed source.old < S.failed source.new) ⊎ (S.reads source.new ≡ 2 ^ 40) }
     {
@@ -358,8 +354,9 @@ impl Worker {
         requires work { IsAtWork hub.now self.old.session.seated self.old [] }
         requires reads { S.reads source.old ≡ 0 }
         ensures seat { seat_at self.new.desk ≡ seat_at self.old.desk }
-        ensures works { WorksOn hub.now self.old.session.seated self.new (S.given source.old)
-            (S.given source.new) (W.contents writer.old) (W.contents writer.new) result }
+        ensures works { WorksOn hub.now self.old.session.seated self.new
+            (so_far (S.given source.old) (W.contents writer.old))
+            (so_far (S.given source.new) (W.contents writer.new)) result }
         ensures read { result ≡ Err Cause.Read
             → (S.failed source.old < S.failed source.new) ⊎ (S.reads source.new ≡ 2 ^ 40) }
     {
