@@ -254,7 +254,7 @@ settled hub seated old new start given after taken more piece batch end gives w
     }
 
 -- a session whose batch couldn't be settled
-pub unsettled : {A : Type 0} → (hub : Beginning) (seated : Bool) (old new : Worker)
+pub unsettled : (A : Type 0) (hub : Beginning) (seated : Bool) (old new : Worker)
     (start : Traffic) (given after taken more : Option (List ℕ)) (piece : List ℕ) (batch : Batched)
     (end : Option SessionCause) (fault : AnswerFault) → Appends given after piece
     → (w : Works hub seated old start (so_far given taken))
@@ -263,7 +263,7 @@ pub unsettled : {A : Type 0} → (hub : Beginning) (seated : Bool) (old new : Wo
     → SettlesTo {A = A} hub new.desk (facts_in (setup_of hub.config) seated w.turns) batch
     taken more (Err fault)
     → Stops hub seated new start (so_far after more) (cause_of_turn (turn_fault_of fault))
-unsettled hub seated old new start given after taken more piece batch end answers.Write gives
+unsettled A hub seated old new start given after taken more piece batch end answers.Write gives
     w stands settles =
     let setup : Setup = setup_of hub.config in
     let says : answer_at setup seated w.turns (Some piece) ≡ batch.replies ++ batch.acks =
@@ -287,7 +287,7 @@ unsettled hub seated old new start given after taken more piece batch end answer
         answered = refl;
       };
     }
-unsettled hub seated old new start given after taken more piece batch end
+unsettled A hub seated old new start given after taken more piece batch end
     (answers.Post fault) gives w stands settles =
     let setup : Setup = setup_of hub.config in
     let count : length (talk setup seated (taken_in w.turns ++ piece)).facts - length
@@ -559,7 +559,7 @@ ends_then hub seated old new start given after taken more piece fault (Ok cause)
     (Some fault.cause) gives w stands same ends.settles.0 ends.settles.1))
 ends_then hub seated old new start given after taken more piece fault (Err answer) took
     gives w stands same ends =
-    unsettled {A = SessionCause} hub seated old new start given after taken more piece
+    unsettled SessionCause hub seated old new start given after taken more piece
     fault.batch (Some fault.cause) answer gives w stands ends.settles
 
 -- a session that ends with a fault

@@ -39,6 +39,17 @@ pub record HasLearned (hub : Beginning) (seat : ℕ) (worker : Worker) (whats : 
   pub told : HasTold hub worker.desk whats 0
   pub shows : ShowsTold seat whats worker.lens.seen
 
+-- its pass and its lens are of this hub
+pub record IsAtHub (hub : Beginning) (worker : Worker) : Type 0 where
+  pub of : worker.desk.pass.seen.of ≡ hub.of
+  pub lens : Follows hub worker.lens.seen
+
+-- each step keeps it at its hub and at its seat
+pub record KeepsDesk (hub : Beginning) (old new : Worker) : Type 0 where
+  pub of : new.desk.pass.seen.of ≡ hub.of
+  pub lens : Follows hub new.lens.seen
+  pub seat : new.desk.pass.seat ≡ old.desk.pass.seat
+
 -- a line's reply
 abbrev pub reply_of : List ℕ → Option What → List ℕ → Reply
 reply_of line change text = record { line = line; change = change; text = text }

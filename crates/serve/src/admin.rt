@@ -12,11 +12,13 @@ ghost use Rattle.hub.specs.Roll.{MayPost};
 ghost use Rattle.serve.specs.Commands.{AnswersWith, HasNoEnd, IsCommandedUntil, IsCommandedWhole};
 ghost use Rattle.serve.specs.Commands.{Replies};
 ghost use Rattle.serve.specs.Told.{stored_of};
-ghost use Rattle.serve.specs.Traffic.{so_far};
+ghost use Rattle.serve.specs.Traffic.{Traffic, so_far};
 ghost use Rattle.show_clear.specs.Answer.{NamesExist};
 ghost use Rattle.show_clear.specs.Change.{asked_event};
 ghost use Rattle.show_clear.specs.Refusal.{refusal_text};
 
+use crate::clock::Clock;
+use crate::context::{Context, Link};
 use crate::desk::Desk;
 use crate::faults::LineFault;
 use crate::gate::{Gate, Place};
@@ -27,7 +29,7 @@ use crate::worker::MOST_READS;
 use crate::writing::{front, send};
 use agg_types::{NoMemory, What};
 use book::Book;
-use hub::{Hub, Lens, Naming, Pass, PostFault};
+use hub::{Lens, Naming, Pass, PostFault};
 use show_clear::{Command, CommandFault, answer, parse, refusal};
 use std::alloc::Global;
 use std::io::Write;
@@ -91,7 +93,6 @@ fn answer_to(alloc: Global, book: &Book, line: &[u8]) -> Result<Answered, NoMemo
 /// An admin at work.
 #[derive(Drop)]
 struct Worker {
-    alloc: Global,
     lens: Lens,
     desk: Desk,
     line: Line,
@@ -99,9 +100,7 @@ struct Worker {
 }
 
 impl Worker {
-    ghost use Rattle.serve.specs.Commanding.{ChangesTo, HasLearned, HasLooked, LooksTo, ObeysTo};
-    ghost use Rattle.serve.specs.Commanding.{Takes, Works, WorksOn, kept_of};
-    ghost use Rattle.serve.specs.Traffic.{Traffic};
+    ghost use Rattle.serve.specs.Commanding.{HasLearned, LooksTo, kept_of};
 
     // An admin that has read nothing.
     fn new(alloc: Global, lens: Lens, pass: Pass) -> Worker
@@ -114,7 +113,6 @@ impl Worker {
         let desk = Desk::new(pass);
         let line = Line::new(alloc);
         Worker {
-            alloc,
             lens,
             desk,
             line,
@@ -124,7 +122,7 @@ impl Worker {
 
     // Answers the line that is kept, over a look that has all that was posted and learned. None
     // where no copy of the book could be entered.
-    fn look(&mut self) -> Result<Option<Answered>, NoMemory>
+    fn look(&mut self, alloc: Global) -> Result<Option<Answered>, NoMemory>
         ensures desk { self.new.desk ≡ self.old.desk }
         ensures lens { Follows self.old.lens.seen self.new.lens.seen }
         ensures fits { (hub : Beginning) → Follows hub self.old.lens.seen
@@ -136,106 +134,8 @@ impl Worker {
         let Some(look) = self.lens.look() else {
             return Ok(None);
         };
-        let answered = answer_to(self.alloc, look.book(), self.line.as_slice())?;
+        let answered = answer_to(alloc, look.book(), self.line.as_slice())?;
         Ok(Some(answered))
-    }
-
-    // Posts a change, and learns that it is shown.
-    fn change<J: Naming, H: Wait + Drop, R: Wait>(
-        &mut self,
-        rt: &R,
-        hub: &Hub<J, H>,
-        what: What,
-    ) -> Result<(), PostFault>
-        requires of { self.old.desk.pass.seen.of ≡ hub.now.of }
-        requires lens { Follows hub.now self.old.lens.seen }
-        requires fits { MayPost hub.now.config what }
-        ensures of { self.new.desk.pass.seen.of ≡ hub.now.of }
-        ensures lens { Follows hub.now self.new.lens.seen }
-        ensures seat { self.new.desk.pass.seat ≡ self.old.desk.pass.seat }
-        ensures changes { (seat : ℕ) (whats : List What) → HasLearned hub.now seat self.old whats
-            → ChangesTo hub.now seat self.new whats (what ∷ []) result }
-    {
-        let mut whats = Vec::new(self.alloc);
-        if whats.push(what).is_err() {
-            return Err(refused(self.alloc));
-        }
-        self.desk.post(rt, hub, whats)?;
-        self.desk.show(&mut self.lens);
-        Ok(())
-    }
-
-    // Does what a line asks for.
-    fn carry_out<J: Naming, H: Wait + Drop, R: Wait>(
-        &mut self,
-        rt: &R,
-        hub: &Hub<J, H>,
-        change: Option<What>,
-    ) -> Result<(), PostFault>
-        requires of { self.old.desk.pass.seen.of ≡ hub.now.of }
-        requires lens { Follows hub.now self.old.lens.seen }
-        requires fits { IfSome change (MayPost hub.now.config) }
-        ensures of { self.new.desk.pass.seen.of ≡ hub.now.of }
-        ensures lens { Follows hub.now self.new.lens.seen }
-        ensures seat { self.new.desk.pass.seat ≡ self.old.desk.pass.seat }
-        ensures changes { (seat : ℕ) (whats : List What) → HasLearned hub.now seat self.old whats
-            → ChangesTo hub.now seat self.new whats (option_to_list change) result }
-    {
-        match change {
-            None => Ok(()),
-            Some(what) => self.change(rt, hub, what),
-        }
-    }
-
-    // Does what a line asks for that was looked at, and writes its answer.
-    fn reply<J: Naming, H: Wait + Drop, R: Wait, W: Write>(
-        &mut self,
-        rt: &R,
-        hub: &Hub<J, H>,
-        writer: &mut W,
-        answered: Answered,
-    ) -> Result<(), LineFault>
-        requires of { self.old.desk.pass.seen.of ≡ hub.now.of }
-        requires lens { Follows hub.now self.old.lens.seen }
-        requires fits { IfSome answered.change (MayPost hub.now.config) }
-        ensures of { self.new.desk.pass.seen.of ≡ hub.now.of }
-        ensures lens { Follows hub.now self.new.lens.seen }
-        ensures seat { self.new.desk.pass.seat ≡ self.old.desk.pass.seat }
-        ensures obeys { (seat : ℕ) (whats : List What) (line : List ℕ)
-            → HasLooked hub.now seat self.old whats line answered
-            → ObeysTo hub.now seat self.new whats line (W.contents writer.old)
-            (W.contents writer.new) result }
-    {
-        let Answered { change, text } = answered;
-        self.carry_out(rt, hub, change)?;
-        send(writer, text.as_slice())?;
-        Ok(())
-    }
-
-    // Does what the line that is kept asks for, and writes its answer.
-    fn obey<J: Naming, H: Wait + Drop, R: Wait, W: Write, G: Gate>(
-        &mut self,
-        rt: &R,
-        hub: &Hub<J, H>,
-        writer: &mut W,
-        gate: &G,
-    ) -> Result<(), LineFault>
-        requires of { self.old.desk.pass.seen.of ≡ hub.now.of }
-        requires lens { Follows hub.now self.old.lens.seen }
-        ensures of { self.new.desk.pass.seen.of ≡ hub.now.of }
-        ensures lens { Follows hub.now self.new.lens.seen }
-        ensures seat { self.new.desk.pass.seat ≡ self.old.desk.pass.seat }
-        ensures obeys { (seat : ℕ) (whats : List What) (line : List ℕ)
-            → HasLearned hub.now seat self.old whats → self.old.line.bytes.items ≡ kept_of line
-            → HasNoEnd line → ObeysTo hub.now seat self.new whats line
-            (W.contents writer.old) (W.contents writer.new) result }
-    {
-        gate.turn(Place::Admin);
-        match self.look() {
-            Ok(Some(answered)) => self.reply(rt, hub, writer, answered),
-            Ok(None) => Err(LineFault::Look),
-            Err(NoMemory) => Err(LineFault::Post(refused(self.alloc))),
-        }
     }
 
     // Adds bytes to the line that is kept.
@@ -248,60 +148,6 @@ impl Worker {
         self.line.add(bytes)
     }
 
-    // Obeys the line that these bytes end.
-    fn end_line<J: Naming, H: Wait + Drop, R: Wait, W: Write, G: Gate>(
-        &mut self,
-        rt: &R,
-        hub: &Hub<J, H>,
-        writer: &mut W,
-        gate: &G,
-        bytes: &[u8],
-    ) -> Result<(), LineFault>
-        requires of { self.old.desk.pass.seen.of ≡ hub.now.of }
-        requires lens { Follows hub.now self.old.lens.seen }
-        ensures of { self.new.desk.pass.seen.of ≡ hub.now.of }
-        ensures lens { Follows hub.now self.new.lens.seen }
-        ensures seat { self.new.desk.pass.seat ≡ self.old.desk.pass.seat }
-        ensures takes { (rest : List ℕ) → HasNoEnd bytes.now
-            → Takes hub.now self.old self.new (bytes.now ++ 10 ∷ rest) rest
-            (W.contents writer.old) (W.contents writer.new) result }
-    {
-        if self.keep(bytes).is_err() {
-            return Err(LineFault::Post(refused(self.alloc)));
-        }
-        self.obey(rt, hub, writer, gate)?;
-        self.line.clear();
-        Ok(())
-    }
-
-    // Takes a piece: each line that ends in it is obeyed.
-    fn take<J: Naming, H: Wait + Drop, R: Wait, W: Write, G: Gate>(
-        &mut self,
-        rt: &R,
-        hub: &Hub<J, H>,
-        writer: &mut W,
-        gate: &G,
-        piece: &[u8],
-    ) -> Result<(), LineFault>
-        requires of { self.old.desk.pass.seen.of ≡ hub.now.of }
-        requires lens { Follows hub.now self.old.lens.seen }
-        ensures of { self.new.desk.pass.seen.of ≡ hub.now.of }
-        ensures lens { Follows hub.now self.new.lens.seen }
-        ensures seat { self.new.desk.pass.seat ≡ self.old.desk.pass.seat }
-        ensures takes { Takes hub.now self.old self.new piece.now [] (W.contents writer.old)
-            (W.contents writer.new) result }
-    {
-        let mut rest = piece;
-        while let Some((front, behind)) = split_line(rest) {
-            self.end_line(rt, hub, writer, gate, front)?;
-            rest = behind;
-        }
-        if self.keep(rest).is_err() {
-            return Err(LineFault::Post(refused(self.alloc)));
-        }
-        Ok(())
-    }
-
     // Notes that a read gave nothing. Whether the connection goes on.
     fn wait(&mut self) -> bool
         ensures desk { self.new.desk ≡ self.old.desk }
@@ -310,102 +156,6 @@ impl Worker {
     {
         self.silent = self.silent.saturating_add(1);
         self.silent < MOST_SILENT
-    }
-
-    // Reads once, and does what that asks for. Whether the connection goes on.
-    fn turn<J: Naming, H: Wait + Drop, R: Wait, S: Source, W: Write, G: Gate>(
-        &mut self,
-        rt: &R,
-        hub: &Hub<J, H>,
-        source: &mut S,
-        writer: &mut W,
-        gate: &G,
-        buffer: &mut [u8],
-    ) -> Result<bool, Cause>
-        requires reads { S.reads source.old < 2 ^ 62 }
-        requires of { self.old.desk.pass.seen.of ≡ hub.now.of }
-        requires lens { Follows hub.now self.old.lens.seen }
-        ensures of { self.new.desk.pass.seen.of ≡ hub.now.of }
-        ensures lens { Follows hub.now self.new.lens.seen }
-        ensures seat { self.new.desk.pass.seat ≡ self.old.desk.pass.seat }
-        ensures reads { S.reads source.new ≡ S.reads source.old + 1 }
-        ensures failed { S.failed source.old ≤ S.failed source.new }
-        ensures read { result ≡ Err Cause.Read → S.failed source.old < S.failed source.new }
-        ensures works { (seat : ℕ) (start : Traffic)
-            → Works hub.now seat self.old [] start
-            (so_far (S.given source.old) (W.contents writer.old))
-            → WorksOn hub.now seat self.new [] start
-            (so_far (S.given source.new) (W.contents writer.new)) result }
-    {
-        match source.read(buffer) {
-            Err(_) => Err(Cause::Read),
-            Ok(Came::End) => Ok(false),
-            Ok(Came::Nothing) => Ok(self.wait()),
-            Ok(Came::Bytes(count)) => {
-                self.silent = 0;
-                self.take(rt, hub, writer, gate, front(buffer, count))?;
-                Ok(true)
-            }
-        }
-    }
-
-    // Reads until the source ends, the gate says so, or a fault comes.
-    fn run<J: Naming, H: Wait + Drop, R: Wait, S: Source, W: Write, G: Gate>(
-        &mut self,
-        rt: &R,
-        hub: &Hub<J, H>,
-        source: &mut S,
-        writer: &mut W,
-        gate: &G,
-        buffer: &mut [u8],
-    ) -> Result<(), Cause>
-        requires reads { S.reads source.old ≡ 0 }
-        requires of { self.old.desk.pass.seen.of ≡ hub.now.of }
-        requires lens { Follows hub.now self.old.lens.seen }
-        requires line { self.old.line.bytes.items ≡ [] }
-        requires learned { HasLearned hub.now self.old.desk.pass.seat self.old [] }
-        ensures seat { self.new.desk.pass.seat ≡ self.old.desk.pass.seat }
-        ensures of { self.new.desk.pass.seen.of ≡ hub.now.of }
-        ensures works { WorksOn hub.now self.old.desk.pass.seat self.new []
-            (so_far (S.given source.old) (W.contents writer.old))
-            (so_far (S.given source.new) (W.contents writer.new)) result }
-        ensures read { result ≡ Err Cause.Read
-            → (S.failed source.old < S.failed source.new) ⊎ (S.reads source.new ≡ 2 ^ 40) }
-    {
-        for made in 0..MOST_READS {
-            if gate.stop() || !self.turn(rt, hub, source, writer, gate, buffer)? {
-                return Ok(());
-            }
-        }
-        Err(Cause::Read)
-    }
-
-    // Runs with a buffer of its own.
-    fn serve<J: Naming, H: Wait + Drop, R: Wait, S: Source, W: Write, G: Gate>(
-        &mut self,
-        rt: &R,
-        hub: &Hub<J, H>,
-        source: &mut S,
-        writer: &mut W,
-        gate: &G,
-    ) -> Result<(), Cause>
-        requires reads { S.reads source.old ≡ 0 }
-        requires of { self.old.desk.pass.seen.of ≡ hub.now.of }
-        requires lens { Follows hub.now self.old.lens.seen }
-        requires line { self.old.line.bytes.items ≡ [] }
-        requires learned { HasLearned hub.now self.old.desk.pass.seat self.old [] }
-        ensures seat { self.new.desk.pass.seat ≡ self.old.desk.pass.seat }
-        ensures of { self.new.desk.pass.seen.of ≡ hub.now.of }
-        ensures works { WorksOn hub.now self.old.desk.pass.seat self.new []
-            (so_far (S.given source.old) (W.contents writer.old))
-            (so_far (S.given source.new) (W.contents writer.new)) result }
-        ensures read { result ≡ Err Cause.Read
-            → (S.failed source.old < S.failed source.new) ⊎ (S.reads source.new ≡ 2 ^ 40) }
-    {
-        match buffer(self.alloc) {
-            None => Err(Cause::Post(refused(self.alloc))),
-            Some(mut buffer) => self.run(rt, hub, source, writer, gate, buffer.as_mut_slice()),
-        }
     }
 
     // What is left of it once it has ended.
@@ -417,42 +167,224 @@ impl Worker {
     }
 }
 
-/// Serves one admin connection, with a lens of its own and a pass that has posted nothing.
-///
-/// A line ends with LF; one that hasn't ended when the connection does is dropped. Its answer has
-/// an empty line behind it, and is made whole, and the look given up, before anything is posted or
-/// written. A change is posted and learned, and then answered `ok`. After 20 reads in a row that
-/// gave nothing the connection is over.
-pub fn serve_admin<J: Naming, H: Wait + Drop, R: Wait, S: Source, W: Write, G: Gate>(
-    rt: &R,
-    alloc: Global,
-    source: &mut S,
-    writer: &mut W,
-    hub: &Hub<J, H>,
-    lens: Lens,
-    pass: Pass,
-    gate: &G,
-) -> Result<Served, Faulted>
-    requires pass { SitsDown pass × Follows hub.now pass.seen }
-    requires lens { Follows hub.now lens.seen }
-    requires reads { S.reads source.old ≡ 0 }
+impl<'a, J: Naming, H: Wait + Drop, R: Wait, C: Clock, G: Gate> Context<'a, J, H, R, C, G> {
+    ghost use Rattle.serve.specs.Commanding.{ChangesTo, HasLearned, HasLooked, IsAtHub};
+    ghost use Rattle.serve.specs.Commanding.{KeepsDesk, ObeysTo, Takes, Works, WorksOn};
+    ghost use Rattle.serve.specs.Commanding.{kept_of};
 
-    // What was read, changed and answered; and what the receipts show of that.
-    ensures served { MatchResult result
-        (IsCommandedWhole hub.now pass.seat (so_far (S.given source.old) (W.contents writer.old))
-        (so_far (S.given source.new) (W.contents writer.new)))
-        (IsCommandedUntil hub.now pass.seat (so_far (S.given source.old) (W.contents writer.old))
-        (so_far (S.given source.new) (W.contents writer.new))) }
+    // Posts a change, and learns that it is shown.
+    fn change(&self, worker: &mut Worker, what: What) -> Result<(), PostFault>
+        requires at { IsAtHub self.now.hub.now worker.old }
+        requires fits { MayPost self.now.hub.now.config what }
+        ensures keeps { KeepsDesk self.now.hub.now worker.old worker.new }
+        ensures changes { (seat : ℕ) (whats : List What)
+            → HasLearned self.now.hub.now seat worker.old whats
+            → ChangesTo self.now.hub.now seat worker.new whats (what ∷ []) result }
+    {
+        let mut whats = Vec::new(self.alloc);
+        if whats.push(what).is_err() {
+            return Err(refused(self.alloc));
+        }
+        worker.desk.post(self.rt, self.hub, whats)?;
+        worker.desk.show(&mut worker.lens);
+        Ok(())
+    }
 
-    // It ends with Read only where a read failed, or 2^40 were made.
-    ensures read { IfErr result (λ faulted. faulted.cause ≡ Cause.Read
-        → (S.failed source.old < S.failed source.new) ⊎ (S.reads source.new ≡ 2 ^ 40)) }
-{
-    let mut worker = Worker::new(alloc, lens, pass);
-    let ended = worker.serve(rt, hub, source, writer, gate);
-    let served = worker.into_desk().leave(rt, hub);
-    match ended {
-        Ok(()) => Ok(served),
-        Err(cause) => Err(Faulted { cause, served }),
+    // Does what a line asks for.
+    fn carry_out(&self, worker: &mut Worker, change: Option<What>) -> Result<(), PostFault>
+        requires at { IsAtHub self.now.hub.now worker.old }
+        requires fits { IfSome change (MayPost self.now.hub.now.config) }
+        ensures keeps { KeepsDesk self.now.hub.now worker.old worker.new }
+        ensures changes { (seat : ℕ) (whats : List What)
+            → HasLearned self.now.hub.now seat worker.old whats
+            → ChangesTo self.now.hub.now seat worker.new whats (option_to_list change) result }
+    {
+        match change {
+            None => Ok(()),
+            Some(what) => self.change(worker, what),
+        }
+    }
+
+    // Does what a line asks for that was looked at, and writes its answer.
+    fn reply<W: Write>(
+        &self,
+        worker: &mut Worker,
+        writer: &mut W,
+        answered: Answered,
+    ) -> Result<(), LineFault>
+        requires at { IsAtHub self.now.hub.now worker.old }
+        requires fits { IfSome answered.change (MayPost self.now.hub.now.config) }
+        ensures keeps { KeepsDesk self.now.hub.now worker.old worker.new }
+        ensures obeys { (seat : ℕ) (whats : List What) (line : List ℕ)
+            → HasLooked self.now.hub.now seat worker.old whats line answered
+            → ObeysTo self.now.hub.now seat worker.new whats line (W.contents writer.old)
+            (W.contents writer.new) result }
+    {
+        let Answered { change, text } = answered;
+        self.carry_out(worker, change)?;
+        send(writer, text.as_slice())?;
+        Ok(())
+    }
+
+    // Does what the line that is kept asks for, and writes its answer.
+    fn obey<W: Write>(&self, worker: &mut Worker, writer: &mut W) -> Result<(), LineFault>
+        requires { IsAtHub self.now.hub.now worker.old }
+        ensures keeps { KeepsDesk self.now.hub.now worker.old worker.new }
+        ensures obeys { (seat : ℕ) (whats : List What) (line : List ℕ)
+            → HasLearned self.now.hub.now seat worker.old whats
+            → worker.old.line.bytes.items ≡ kept_of line → HasNoEnd line
+            → ObeysTo self.now.hub.now seat worker.new whats line (W.contents writer.old)
+            (W.contents writer.new) result }
+    {
+        self.gate.turn(Place::Admin);
+        match worker.look(self.alloc) {
+            Ok(Some(answered)) => self.reply(worker, writer, answered),
+            Ok(None) => Err(LineFault::Look),
+            Err(NoMemory) => Err(LineFault::Post(refused(self.alloc))),
+        }
+    }
+
+    // Obeys the line that these bytes end.
+    fn end_line<W: Write>(
+        &self,
+        worker: &mut Worker,
+        writer: &mut W,
+        bytes: &[u8],
+    ) -> Result<(), LineFault>
+        requires { IsAtHub self.now.hub.now worker.old }
+        ensures keeps { KeepsDesk self.now.hub.now worker.old worker.new }
+        ensures takes { (rest : List ℕ) → HasNoEnd bytes.now
+            → Takes self.now.hub.now worker.old worker.new (bytes.now ++ 10 ∷ rest) rest
+            (W.contents writer.old) (W.contents writer.new) result }
+    {
+        if worker.keep(bytes).is_err() {
+            return Err(LineFault::Post(refused(self.alloc)));
+        }
+        self.obey(worker, writer)?;
+        worker.line.clear();
+        Ok(())
+    }
+
+    // Takes a piece: each line that ends in it is obeyed.
+    fn take_lines<W: Write>(
+        &self,
+        worker: &mut Worker,
+        writer: &mut W,
+        piece: &[u8],
+    ) -> Result<(), LineFault>
+        requires { IsAtHub self.now.hub.now worker.old }
+        ensures keeps { KeepsDesk self.now.hub.now worker.old worker.new }
+        ensures takes { Takes self.now.hub.now worker.old worker.new piece.now []
+            (W.contents writer.old) (W.contents writer.new) result }
+    {
+        let mut rest = piece;
+        while let Some((front, behind)) = split_line(rest) {
+            self.end_line(worker, writer, front)?;
+            rest = behind;
+        }
+        if worker.keep(rest).is_err() {
+            return Err(LineFault::Post(refused(self.alloc)));
+        }
+        Ok(())
+    }
+
+    // Reads once, and does what that asks for. Whether the connection goes on.
+    fn turn_admin<S: Source, W: Write>(
+        &self,
+        worker: &mut Worker,
+        link: &mut Link<S, W>,
+        buffer: &mut [u8],
+    ) -> Result<bool, Cause>
+        requires reads { S.reads link.old.source < 2 ^ 62 }
+        requires at { IsAtHub self.now.hub.now worker.old }
+        ensures keeps { KeepsDesk self.now.hub.now worker.old worker.new }
+        ensures reads { S.reads link.new.source ≡ S.reads link.old.source + 1 }
+        ensures failed { S.failed link.old.source ≤ S.failed link.new.source }
+        ensures read { result ≡ Err Cause.Read
+            → S.failed link.old.source < S.failed link.new.source }
+        ensures works { (seat : ℕ) (start : Traffic)
+            → Works self.now.hub.now seat worker.old [] start
+            (so_far (S.given link.old.source) (W.contents link.old.writer))
+            → WorksOn self.now.hub.now seat worker.new [] start
+            (so_far (S.given link.new.source) (W.contents link.new.writer)) result }
+    {
+        match link.source.read(buffer) {
+            Err(_) => Err(Cause::Read),
+            Ok(Came::End) => Ok(false),
+            Ok(Came::Nothing) => Ok(worker.wait()),
+            Ok(Came::Bytes(count)) => {
+                worker.silent = 0;
+                self.take_lines(worker, &mut link.writer, front(buffer, count))?;
+                Ok(true)
+            }
+        }
+    }
+
+    // Reads until the source ends, the gate says so, or a fault comes.
+    fn run_admin<S: Source, W: Write>(
+        &self,
+        worker: &mut Worker,
+        link: &mut Link<S, W>,
+    ) -> Result<(), Cause>
+        requires reads { S.reads link.old.source ≡ 0 }
+        requires at { IsAtHub self.now.hub.now worker.old }
+        requires line { worker.old.line.bytes.items ≡ [] }
+        requires learned { HasLearned self.now.hub.now worker.old.desk.pass.seat worker.old [] }
+        ensures keeps { KeepsDesk self.now.hub.now worker.old worker.new }
+        ensures works { WorksOn self.now.hub.now worker.old.desk.pass.seat worker.new []
+            (so_far (S.given link.old.source) (W.contents link.old.writer))
+            (so_far (S.given link.new.source) (W.contents link.new.writer)) result }
+        ensures read { result ≡ Err Cause.Read
+            → (S.failed link.old.source < S.failed link.new.source)
+            ⊎ (S.reads link.new.source ≡ 2 ^ 40) }
+    {
+        let Some(mut buffer) = buffer(self.alloc) else {
+            return Err(Cause::Post(refused(self.alloc)));
+        };
+        for made in 0..MOST_READS {
+            if self.gate.stop() || !self.turn_admin(worker, link, buffer.as_mut_slice())? {
+                return Ok(());
+            }
+        }
+        Err(Cause::Read)
+    }
+
+    /// Serves one admin connection, with a lens of its own and a pass that has posted nothing.
+    ///
+    /// A line ends with LF; one that hasn't ended when the connection does is dropped. Its answer
+    /// has an empty line behind it, and is made whole, and the look given up, before anything is
+    /// posted or written. A change is posted and learned, and then answered `ok`. After 20 reads in
+    /// a row that gave nothing the connection is over.
+    pub fn serve_admin<S: Source, W: Write>(
+        &self,
+        link: &mut Link<S, W>,
+        lens: Lens,
+        pass: Pass,
+    ) -> Result<Served, Faulted>
+        requires pass { SitsDown pass × Follows self.now.hub.now pass.seen }
+        requires lens { Follows self.now.hub.now lens.seen }
+        requires reads { S.reads link.old.source ≡ 0 }
+
+        // What was read, changed and answered; and what the receipts show of that.
+        ensures served { MatchResult result
+            (IsCommandedWhole self.now.hub.now pass.seat
+            (so_far (S.given link.old.source) (W.contents link.old.writer))
+            (so_far (S.given link.new.source) (W.contents link.new.writer)))
+            (IsCommandedUntil self.now.hub.now pass.seat
+            (so_far (S.given link.old.source) (W.contents link.old.writer))
+            (so_far (S.given link.new.source) (W.contents link.new.writer))) }
+
+        // It ends with Read only where a read failed, or 2^40 were made.
+        ensures read { IfErr result (λ faulted. faulted.cause ≡ Cause.Read
+            → (S.failed link.old.source < S.failed link.new.source)
+            ⊎ (S.reads link.new.source ≡ 2 ^ 40)) }
+    {
+        let mut worker = Worker::new(self.alloc, lens, pass);
+        let ended = self.run_admin(&mut worker, link);
+        let served = worker.into_desk().leave(self.rt, self.hub);
+        match ended {
+            Ok(()) => Ok(served),
+            Err(cause) => Err(Faulted { cause, served }),
+        }
     }
 }

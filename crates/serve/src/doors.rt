@@ -4,13 +4,11 @@ ghost use Rattle.std.specs.Prelude.{◌≡◌, ℕ, List, Option, IfSome};
 ghost use Rattle.serve.specs.Parting.{WasCommanded, WasServed};
 ghost use Rattle.serve.specs.Traffic.{so_far};
 
-use crate::admin::serve_admin;
 use crate::clock::Clock;
+use crate::context::{Context, Link};
 use crate::gate::{Gate, News, Place};
 use crate::served::{Faulted, Served};
-use crate::session::serve_session;
 use crate::source::Source;
-use crate::timer::run_timer;
 use agg_types::Config;
 use hub::{Hub, Naming};
 use std::alloc::Global;
@@ -243,6 +241,20 @@ struct House<'a, J: Naming, H: Wait + Drop, C, G, D> {
 }
 
 impl<'a, J: Naming, H: Wait + Drop, C, G: Gate, D> House<'a, J, H, C, G, D> {
+    // What a worker stands on.
+    fn context<'b, R>(&'b self, rt: &'b R) -> Context<'b, J, H, R, C, G>
+        ensures hub { result.hub.now ≡ self.now.hub.now }
+        ensures clock { result.clock.now ≡ self.now.clock.now }
+    {
+        Context {
+            rt,
+            alloc: self.alloc,
+            hub: self.hub,
+            clock: self.clock,
+            gate: self.gate,
+        }
+    }
+
     // Tells that an admin connection isn't served.
     fn close_admin(&self, sender: Option<SocketAddr>) {
         self.counts.refuse();
@@ -289,22 +301,12 @@ impl<
     // Without a seat it is served all the same, and refused.
     fn peer<R: Wait>(&self, rt: &R, guest: Guest<'a, S, W, D>) {
         let Guest { caller, doors } = guest;
-        let Caller {
-            mut source,
-            mut writer,
-        } = caller;
+        let Caller { source, writer } = caller;
+        let mut link = Link { source, writer };
         let pass = self.hub.seat(rt).ok();
-        let ended = serve_session(
-            rt,
-            self.alloc,
-            &mut source,
-            &mut writer,
-            self.clock,
-            self.hub,
-            pass,
-            self.gate,
-        );
+        let ended = self.context(rt).serve_session(&mut link, pass);
         self.counts.count(ended.is_ok());
+        let Link { source, writer } = link;
         doors.part_peer(self.hub.config(), source, writer, ended);
     }
 
@@ -312,29 +314,19 @@ impl<
     #[tactic(auto, using(crate::proofs::Commanded::lens_follows))]
     fn admin<R: Wait>(&self, rt: &R, guest: Guest<'a, S, W, D>) {
         let Guest { caller, doors } = guest;
-        let Caller {
-            mut source,
-            mut writer,
-        } = caller;
+        let Caller { source, writer } = caller;
+        let mut link = Link { source, writer };
         let Ok(lens) = self.hub.lens(rt) else {
-            self.close_admin(source.sender());
+            self.close_admin(link.source.sender());
             return;
         };
         let Ok(pass) = self.hub.seat(rt) else {
-            self.close_admin(source.sender());
+            self.close_admin(link.source.sender());
             return;
         };
-        let ended = serve_admin(
-            rt,
-            self.alloc,
-            &mut source,
-            &mut writer,
-            self.hub,
-            lens,
-            pass,
-            self.gate,
-        );
+        let ended = self.context(rt).serve_admin(&mut link, lens, pass);
         self.counts.count(ended.is_ok());
+        let Link { source, writer } = link;
         doors.part_admin(self.hub.config(), source, writer, ended);
     }
 
@@ -350,7 +342,14 @@ impl<
             gate: self.gate,
             counts: self.counts,
         };
-        let ended = run_timer(rt, self.alloc, self.clock, self.hub, pass, &gate);
+        let context = Context {
+            rt,
+            alloc: self.alloc,
+            hub: self.hub,
+            clock: self.clock,
+            gate: &gate,
+        };
+        let ended = context.run_timer(pass);
         self.clock.part_timer(ended);
     }
 }

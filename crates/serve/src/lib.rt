@@ -14,6 +14,7 @@
 
 mod admin;
 mod clock;
+mod context;
 mod desk;
 mod doors;
 mod faults;
@@ -27,11 +28,9 @@ mod timer;
 mod worker;
 mod writing;
 
-pub use admin::serve_admin;
 pub use clock::Clock;
+pub use context::{Context, Link};
 pub use doors::{Caller, Doors, Ended, serve_all};
 pub use gate::{Gate, Gone, News, Place};
 pub use served::{Cause, Faulted, Served};
-pub use session::serve_session;
 pub use source::{Came, ReadFailed, Source};
-pub use timer::run_timer;

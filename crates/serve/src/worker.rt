@@ -10,6 +10,7 @@ ghost use Rattle.hub.specs.Posts.{Follows, SitsDown};
 ghost use Rattle.hub.specs.Roll.{MayPost};
 
 use crate::clock::Clock;
+use crate::context::{Context, Link};
 use crate::desk::Desk;
 use crate::faults::{AnswerFault, TurnFault};
 use crate::gate::{Gate, Gone, News, Place};
@@ -18,7 +19,7 @@ use crate::served::Cause;
 use crate::source::{Came, Source, buffer};
 use crate::writing::{front, send};
 use agg_types::What;
-use hub::{Hub, Naming, Pass, PostFault};
+use hub::{Naming, Pass, PostFault};
 use session_core::{Batch, Idle, Session, SessionCause, SessionFault};
 use std::alloc::Global;
 use std::io::Write;
@@ -42,10 +43,8 @@ pub struct Worker {
 }
 
 impl Worker {
-    ghost use Rattle.serve.specs.Turns.{DeskTells, IsDeskOf, Turn, seat_at};
-    ghost use Rattle.serve.specs.Working.{EndsTo, IsAtWork, PostsTo, SettlesTo, Takes};
-    ghost use Rattle.serve.specs.Traffic.{Traffic, so_far};
-    ghost use Rattle.serve.specs.Working.{Works, WorksOn};
+    ghost use Rattle.serve.specs.Turns.{seat_at};
+    ghost use Rattle.serve.specs.Working.{IsAtWork, Takes};
 
     /// A connection that came in, with a desk if it has a seat.
     pub fn new(alloc: Global, pass: Option<Pass>, now: u64) -> Worker
@@ -80,108 +79,6 @@ impl Worker {
             None => None,
             Some(desk) => Some(desk.seat()),
         })
-    }
-
-    // Posts facts, if there are any and it has a seat.
-    fn post<J: Naming, H: Wait + Drop, R: Wait>(
-        &mut self,
-        rt: &R,
-        hub: &Hub<J, H>,
-        facts: Vec<What>,
-    ) -> Result<(), PostFault>
-        requires of { IsDeskOf hub.now self.old.desk }
-        requires fits { All (MayPost hub.now.config) facts.items }
-        ensures session { self.new.session ≡ self.old.session }
-        ensures seat { seat_at self.new.desk ≡ seat_at self.old.desk }
-        ensures told { (whats : List What) → DeskTells hub.now self.old.desk whats 0
-            → PostsTo hub.now self.new.desk whats facts.items result }
-    {
-        let Some(desk) = &mut self.desk else {
-            return Ok(());
-        };
-        if facts.is_empty() {
-            return Ok(());
-        }
-        let count = facts.len() as u64;
-        desk.post(rt, hub, facts)?;
-        self.told = self.told.saturating_add(count);
-        Ok(())
-    }
-
-    // Posts a batch's facts, and then writes its replies and acknowledgements.
-    fn settle<J: Naming, H: Wait + Drop, R: Wait, W: Write>(
-        &mut self,
-        rt: &R,
-        hub: &Hub<J, H>,
-        writer: &mut W,
-        batch: Batch,
-    ) -> Result<(), AnswerFault>
-        requires of { IsDeskOf hub.now self.old.desk }
-        requires fits { All (MayPost hub.now.config) batch.facts }
-        ensures session { self.new.session ≡ self.old.session }
-        ensures seat { seat_at self.new.desk ≡ seat_at self.old.desk }
-        ensures told { (whats : List What) → DeskTells hub.now self.old.desk whats 0
-            → SettlesTo hub.now self.new.desk whats batch (W.contents writer.old)
-            (W.contents writer.new) result }
-    {
-        let (facts, out) = batch.into_parts();
-        self.post(rt, hub, facts.into_vec())?;
-        send(writer, out.as_slice())?;
-        Ok(())
-    }
-
-    // Takes a piece: its facts are posted, and then its replies and acknowledgements are written.
-    fn take<J: Naming, H: Wait + Drop, R: Wait, W: Write>(
-        &mut self,
-        rt: &R,
-        hub: &Hub<J, H>,
-        writer: &mut W,
-        piece: &[u8],
-        now: u64,
-    ) -> Result<(), TurnFault>
-        requires work { (seated : Bool) × (turns : List Turn)
-            × IsAtWork hub.now seated self.old turns }
-        ensures seat { seat_at self.new.desk ≡ seat_at self.old.desk }
-        ensures takes { Takes hub.now self.old self.new piece.now (W.contents writer.old)
-            (W.contents writer.new) result }
-    {
-        match self.session.feed(hub.config(), piece, now) {
-            Ok(batch) => {
-                self.settle(rt, hub, writer, batch)?;
-                Ok(())
-            }
-            Err(fault) => {
-                let cause = self.end(rt, hub, writer, fault)?;
-                Err(TurnFault::Session(cause))
-            }
-        }
-    }
-
-    // Ends with a fault, and says its cause: what its batch has is posted and written first, unless
-    // an allocation failed.
-    fn end<J: Naming, H: Wait + Drop, R: Wait, W: Write>(
-        &mut self,
-        rt: &R,
-        hub: &Hub<J, H>,
-        writer: &mut W,
-        fault: SessionFault,
-    ) -> Result<SessionCause, AnswerFault>
-        requires of { IsDeskOf hub.now self.old.desk }
-        requires fits { All (MayPost hub.now.config) fault.batch.facts }
-        ensures session { self.new.session ≡ self.old.session }
-        ensures seat { seat_at self.new.desk ≡ seat_at self.old.desk }
-        ensures ends { (whats : List What) → DeskTells hub.now self.old.desk whats 0
-            → EndsTo hub.now self.old.desk self.new.desk whats fault (W.contents writer.old)
-            (W.contents writer.new) result }
-    {
-        let SessionFault { cause, batch } = fault;
-        match cause {
-            SessionCause::NoMemory => Ok(SessionCause::NoMemory),
-            _ => {
-                self.settle(rt, hub, writer, batch)?;
-                Ok(cause)
-            }
-        }
     }
 
     // Keeps what it hears of a hello.
@@ -248,123 +145,189 @@ impl Worker {
             Idle::Ended => Err(TurnFault::Session(SessionCause::TimedOut)),
         }
     }
+}
+
+impl<'a, J: Naming, H: Wait + Drop, R: Wait, C: Clock, G: Gate> Context<'a, J, H, R, C, G> {
+    ghost use Rattle.serve.specs.Traffic.{Traffic, so_far};
+    ghost use Rattle.serve.specs.Turns.{DeskTells, IsDeskOf, Turn, seat_at};
+    ghost use Rattle.serve.specs.Working.{EndsTo, IsAtWork, PostsTo, SettlesTo, Takes};
+    ghost use Rattle.serve.specs.Working.{Works, WorksOn};
+
+    // Posts facts, if there are any and the session has a seat.
+    fn post_facts(&self, worker: &mut Worker, facts: Vec<What>) -> Result<(), PostFault>
+        requires of { IsDeskOf self.now.hub.now worker.old.desk }
+        requires fits { All (MayPost self.now.hub.now.config) facts.items }
+        ensures session { worker.new.session ≡ worker.old.session }
+        ensures seat { seat_at worker.new.desk ≡ seat_at worker.old.desk }
+        ensures told { (whats : List What) → DeskTells self.now.hub.now worker.old.desk whats 0
+            → PostsTo self.now.hub.now worker.new.desk whats facts.items result }
+    {
+        let Some(desk) = &mut worker.desk else {
+            return Ok(());
+        };
+        if facts.is_empty() {
+            return Ok(());
+        }
+        let count = facts.len() as u64;
+        desk.post(self.rt, self.hub, facts)?;
+        worker.told = worker.told.saturating_add(count);
+        Ok(())
+    }
+
+    // Posts a batch's facts, and then writes its replies and acknowledgements.
+    fn settle<W: Write>(
+        &self,
+        worker: &mut Worker,
+        writer: &mut W,
+        batch: Batch,
+    ) -> Result<(), AnswerFault>
+        requires of { IsDeskOf self.now.hub.now worker.old.desk }
+        requires fits { All (MayPost self.now.hub.now.config) batch.facts }
+        ensures session { worker.new.session ≡ worker.old.session }
+        ensures seat { seat_at worker.new.desk ≡ seat_at worker.old.desk }
+        ensures told { (whats : List What) → DeskTells self.now.hub.now worker.old.desk whats 0
+            → SettlesTo self.now.hub.now worker.new.desk whats batch (W.contents writer.old)
+            (W.contents writer.new) result }
+    {
+        let (facts, out) = batch.into_parts();
+        self.post_facts(worker, facts.into_vec())?;
+        send(writer, out.as_slice())?;
+        Ok(())
+    }
+
+    // Ends a session with a fault, and says its cause: what its batch has is posted and written
+    // first, unless an allocation failed.
+    fn end_session<W: Write>(
+        &self,
+        worker: &mut Worker,
+        writer: &mut W,
+        fault: SessionFault,
+    ) -> Result<SessionCause, AnswerFault>
+        requires of { IsDeskOf self.now.hub.now worker.old.desk }
+        requires fits { All (MayPost self.now.hub.now.config) fault.batch.facts }
+        ensures session { worker.new.session ≡ worker.old.session }
+        ensures seat { seat_at worker.new.desk ≡ seat_at worker.old.desk }
+        ensures ends { (whats : List What) → DeskTells self.now.hub.now worker.old.desk whats 0
+            → EndsTo self.now.hub.now worker.old.desk worker.new.desk whats fault
+            (W.contents writer.old) (W.contents writer.new) result }
+    {
+        let SessionFault { cause, batch } = fault;
+        match cause {
+            SessionCause::NoMemory => Ok(SessionCause::NoMemory),
+            _ => {
+                self.settle(worker, writer, batch)?;
+                Ok(cause)
+            }
+        }
+    }
+
+    // Takes a piece: its facts are posted, and then its replies and acknowledgements are written.
+    fn take_piece<W: Write>(
+        &self,
+        worker: &mut Worker,
+        writer: &mut W,
+        piece: &[u8],
+        now: u64,
+    ) -> Result<(), TurnFault>
+        requires work { (seated : Bool) × (turns : List Turn)
+            × IsAtWork self.now.hub.now seated worker.old turns }
+        ensures seat { seat_at worker.new.desk ≡ seat_at worker.old.desk }
+        ensures takes { Takes self.now.hub.now worker.old worker.new piece.now
+            (W.contents writer.old) (W.contents writer.new) result }
+    {
+        match worker.session.feed(self.hub.config(), piece, now) {
+            Ok(batch) => {
+                self.settle(worker, writer, batch)?;
+                Ok(())
+            }
+            Err(fault) => {
+                let cause = self.end_session(worker, writer, fault)?;
+                Err(TurnFault::Session(cause))
+            }
+        }
+    }
 
     // Takes a piece at its turn, tells of its peer, and rests: at the moment at which the piece
     // came, since a peer isn't silent while its own piece waits to be posted.
-    fn treat<J: Naming, H: Wait + Drop, R: Wait, W: Write, C: Clock, G: Gate>(
-        &mut self,
-        rt: &R,
-        hub: &Hub<J, H>,
+    fn treat_piece<W: Write>(
+        &self,
+        worker: &mut Worker,
         writer: &mut W,
-        clock: &C,
-        gate: &G,
         piece: &[u8],
     ) -> Result<(), TurnFault>
         requires work { (seated : Bool) × (turns : List Turn)
-            × IsAtWork hub.now seated self.old turns }
-        ensures seat { seat_at self.new.desk ≡ seat_at self.old.desk }
-        ensures takes { Takes hub.now self.old self.new piece.now (W.contents writer.old)
-            (W.contents writer.new) result }
+            × IsAtWork self.now.hub.now seated worker.old turns }
+        ensures seat { seat_at worker.new.desk ≡ seat_at worker.old.desk }
+        ensures takes { Takes self.now.hub.now worker.old worker.new piece.now
+            (W.contents writer.old) (W.contents writer.new) result }
     {
-        gate.turn(self.place());
-        self.listen(piece);
-        let now = clock.now();
-        self.take(rt, hub, writer, piece, now)?;
-        self.greet(gate);
-        self.rest(writer, now)
+        self.gate.turn(worker.place());
+        worker.listen(piece);
+        let now = self.clock.now();
+        self.take_piece(worker, writer, piece, now)?;
+        worker.greet(self.gate);
+        worker.rest(writer, now)
     }
 
     // Reads once, and does what that asks for. Whether the source goes on.
-    fn turn<J: Naming, H: Wait + Drop, R: Wait, S: Source, W: Write, C: Clock, G: Gate>(
-        &mut self,
-        rt: &R,
-        hub: &Hub<J, H>,
-        source: &mut S,
-        writer: &mut W,
-        clock: &C,
-        gate: &G,
+    fn turn_session<S: Source, W: Write>(
+        &self,
+        worker: &mut Worker,
+        link: &mut Link<S, W>,
         buffer: &mut [u8],
     ) -> Result<bool, Cause>
         requires work { (seated : Bool) × (turns : List Turn)
-            × IsAtWork hub.now seated self.old turns }
-        requires reads { S.reads source.old < 2 ^ 62 }
-        ensures seat { seat_at self.new.desk ≡ seat_at self.old.desk }
+            × IsAtWork self.now.hub.now seated worker.old turns }
+        requires reads { S.reads link.old.source < 2 ^ 62 }
+        ensures seat { seat_at worker.new.desk ≡ seat_at worker.old.desk }
         ensures works { (seated : Bool) (start : Traffic)
-            → Works hub.now seated self.old start
-            (so_far (S.given source.old) (W.contents writer.old))
-            → WorksOn hub.now seated self.new start
-            (so_far (S.given source.new) (W.contents writer.new)) result }
-        ensures reads { S.reads source.new ≡ S.reads source.old + 1 }
-        ensures failed { S.failed source.old ≤ S.failed source.new }
-        ensures read { result ≡ Err Cause.Read → S.failed source.old < S.failed source.new }
+            → Works self.now.hub.now seated worker.old start
+            (so_far (S.given link.old.source) (W.contents link.old.writer))
+            → WorksOn self.now.hub.now seated worker.new start
+            (so_far (S.given link.new.source) (W.contents link.new.writer)) result }
+        ensures reads { S.reads link.new.source ≡ S.reads link.old.source + 1 }
+        ensures failed { S.failed link.old.source ≤ S.failed link.new.source }
+        ensures read { result ≡ Err Cause.Read
+            → S.failed link.old.source < S.failed link.new.source }
     {
-        match source.read(buffer) {
+        match link.source.read(buffer) {
             Err(_) => Err(Cause::Read),
             Ok(Came::End) => Ok(false),
             Ok(Came::Nothing) => {
-                self.rest(writer, clock.now())?;
+                worker.rest(&mut link.writer, self.clock.now())?;
                 Ok(true)
             }
             Ok(Came::Bytes(count)) => {
-                self.treat(rt, hub, writer, clock, gate, front(buffer, count))?;
+                self.treat_piece(worker, &mut link.writer, front(buffer, count))?;
                 Ok(true)
             }
         }
     }
 
-    // Reads until the source ends, the gate says so, or a fault comes.
-    fn run<J: Naming, H: Wait + Drop, R: Wait, S: Source, W: Write, C: Clock, G: Gate>(
-        &mut self,
-        rt: &R,
-        hub: &Hub<J, H>,
-        source: &mut S,
-        writer: &mut W,
-        clock: &C,
-        gate: &G,
-        buffer: &mut [u8],
+    /// Reads until the source ends, the gate says so, or a fault comes.
+    pub fn run_session<S: Source, W: Write>(
+        &self,
+        worker: &mut Worker,
+        link: &mut Link<S, W>,
     ) -> Result<(), Cause>
-        requires work { IsAtWork hub.now self.old.session.seated self.old [] }
-        requires reads { S.reads source.old ≡ 0 }
-        ensures seat { seat_at self.new.desk ≡ seat_at self.old.desk }
-        ensures works { WorksOn hub.now self.old.session.seated self.new
-            (so_far (S.given source.old) (W.contents writer.old))
-            (so_far (S.given source.new) (W.contents writer.new)) result }
+        requires work { IsAtWork self.now.hub.now worker.old.session.seated worker.old [] }
+        requires reads { S.reads link.old.source ≡ 0 }
+        ensures seat { seat_at worker.new.desk ≡ seat_at worker.old.desk }
+        ensures works { WorksOn self.now.hub.now worker.old.session.seated worker.new
+            (so_far (S.given link.old.source) (W.contents link.old.writer))
+            (so_far (S.given link.new.source) (W.contents link.new.writer)) result }
         ensures read { result ≡ Err Cause.Read
-            → (S.failed source.old < S.failed source.new) ⊎ (S.reads source.new ≡ 2 ^ 40) }
+            → (S.failed link.old.source < S.failed link.new.source)
+            ⊎ (S.reads link.new.source ≡ 2 ^ 40) }
     {
+        let Some(mut buffer) = buffer(self.alloc) else {
+            return Err(Cause::Session(SessionCause::NoMemory));
+        };
         for made in 0..MOST_READS {
-            if gate.stop() || !self.turn(rt, hub, source, writer, clock, gate, buffer)? {
+            if self.gate.stop() || !self.turn_session(worker, link, buffer.as_mut_slice())? {
                 return Ok(());
             }
         }
         Err(Cause::Read)
-    }
-
-    /// Runs with a buffer of its own.
-    pub fn serve<J: Naming, H: Wait + Drop, R: Wait, S: Source, W: Write, C: Clock, G: Gate>(
-        &mut self,
-        rt: &R,
-        alloc: Global,
-        hub: &Hub<J, H>,
-        source: &mut S,
-        writer: &mut W,
-        clock: &C,
-        gate: &G,
-    ) -> Result<(), Cause>
-        requires work { IsAtWork hub.now self.old.session.seated self.old [] }
-        requires reads { S.reads source.old ≡ 0 }
-        ensures seat { seat_at self.new.desk ≡ seat_at self.old.desk }
-        ensures works { WorksOn hub.now self.old.session.seated self.new
-            (so_far (S.given source.old) (W.contents writer.old))
-            (so_far (S.given source.new) (W.contents writer.new)) result }
-        ensures read { result ≡ Err Cause.Read
-            → (S.failed source.old < S.failed source.new) ⊎ (S.reads source.new ≡ 2 ^ 40) }
-    {
-        match buffer(alloc) {
-            None => Err(Cause::Session(SessionCause::NoMemory)),
-            Some(mut buffer) => {
-                self.run(rt, hub, source, writer, clock, gate, buffer.as_mut_slice())
-            }
-        }
     }
 }

@@ -9,26 +9,22 @@ use crate::peers::{Case, say};
 use crate::told::Ending;
 use anyhow::{Result, anyhow};
 use hub::{Hub, Lens, Naming, Pass};
-use serve::{Faulted, Served, serve_admin};
+use serve::{Context, Faulted, Link, Served};
 use std::alloc::Global;
 use std::sync::Wait;
 
 /// Serves an admin.
 fn serve<J: Naming, H: Wait + Drop, R: Wait>(
-    rt: &R,
-    alloc: Global,
-    source: &mut Script<'_>,
-    writer: &mut Paper,
-    hub: &Hub<J, H>,
+    context: &Context<'_, J, H, R, Watch, Turnstile>,
+    link: &mut Link<Script<'_>, Paper>,
     lens: Lens,
     pass: Pass,
-    gate: &Turnstile,
 ) -> Result<Served, Faulted>
-    requires pass { SitsDown pass × Follows hub.now pass.seen }
-    requires lens { Follows hub.now lens.seen }
-    requires reads { source.old.reads ≡ 0 }
+    requires pass { SitsDown pass × Follows context.now.hub.now pass.seen }
+    requires lens { Follows context.now.hub.now lens.seen }
+    requires reads { link.old.source.reads ≡ 0 }
 {
-    serve_admin(rt, alloc, source, writer, hub, lens, pass, gate)
+    context.serve_admin(link, lens, pass)
 }
 
 /// A lens of this hub.
@@ -39,21 +35,32 @@ fn lens_of<J: Naming, H: Wait + Drop, R: Wait>(rt: &R, hub: &Hub<J, H>) -> Optio
     hub.lens(rt).ok()
 }
 
-/// Serves an admin, and tells how it ended. None without a lens or a seat.
+/// Serves an admin, and tells what it wrote and how it ended. None without a lens or a seat.
 fn command<J: Naming, H: Wait + Drop, R: Wait>(
     rt: &R,
     alloc: Global,
     hub: &Hub<J, H>,
     case: Case,
-    paper: &mut Paper,
-) -> Option<Ending> {
+    paper: Paper,
+) -> Option<(Paper, Ending)> {
     let watch = Watch::new();
-    let mut source = Script::new(case.steps, case.reads, &watch);
+    let mut link = Link {
+        source: Script::new(case.steps, case.reads, &watch),
+        writer: paper,
+    };
     let lens = lens_of(rt, hub)?;
     let pass = hub.seat(rt).ok()?;
     let gate = Turnstile::new(case.looks);
-    let ended = serve(rt, alloc, &mut source, paper, hub, lens, pass, &gate);
-    Some(Ending::of(&ended))
+    let context = Context {
+        rt,
+        alloc,
+        hub,
+        clock: &watch,
+        gate: &gate,
+    };
+    let ended = serve(&context, &mut link, lens, pass);
+    let Link { writer, .. } = link;
+    Some((writer, Ending::of(&ended)))
 }
 
 /// Serves an admin over a paper that looks.
@@ -63,10 +70,10 @@ pub fn row<J: Naming, H: Wait + Drop, R: Wait + Print>(
     hub: &Hub<J, H>,
     case: Case,
 ) -> Result<()> {
-    let mut paper = Paper::new(alloc, case.pen, hub.lens(rt).ok());
-    match command(rt, alloc, hub, case, &mut paper) {
+    let paper = Paper::new(alloc, case.pen, hub.lens(rt).ok());
+    match command(rt, alloc, hub, case, paper) {
         None => Err(anyhow!("no seat, or no lens")),
-        Some(ending) => say(rt, case.title, &paper, ending),
+        Some((paper, ending)) => say(rt, case.title, &paper, ending),
     }
 }
 
@@ -80,8 +87,8 @@ pub fn leavers<J: Naming, H: Wait + Drop, R: Wait>(
 ) -> u64 {
     let mut left = 0u64;
     for _ in 0..count {
-        let mut paper = Paper::new(alloc, case.pen, None);
-        if let Some(ending) = command(rt, alloc, hub, case, &mut paper)
+        let paper = Paper::new(alloc, case.pen, None);
+        if let Some((_, ending)) = command(rt, alloc, hub, case, paper)
             && ending.has_left()
         {
             left = left.saturating_add(1);

@@ -9,7 +9,7 @@ use crate::paper::{Paper, Pen};
 use crate::told::Ending;
 use anyhow::Result;
 use hub::{Hub, Lens, Naming, Pass};
-use serve::{Faulted, Served, serve_session};
+use serve::{Context, Faulted, Link, Served};
 use std::alloc::Global;
 use std::sync::Wait;
 
@@ -27,19 +27,14 @@ pub struct Case {
 
 /// Serves a session.
 fn serve<J: Naming, H: Wait + Drop, R: Wait>(
-    rt: &R,
-    alloc: Global,
-    source: &mut Script<'_>,
-    writer: &mut Paper,
-    watch: &Watch,
-    hub: &Hub<J, H>,
+    context: &Context<'_, J, H, R, Watch, Turnstile>,
+    link: &mut Link<Script<'_>, Paper>,
     pass: Option<Pass>,
-    gate: &Turnstile,
 ) -> Result<Served, Faulted>
-    requires pass { IfSome pass (λ p. SitsDown p × Follows hub.now p.seen) }
-    requires reads { source.old.reads ≡ 0 }
+    requires pass { IfSome pass (λ p. SitsDown p × Follows context.now.hub.now p.seen) }
+    requires reads { link.old.source.reads ≡ 0 }
 {
-    serve_session(rt, alloc, source, writer, watch, hub, pass, gate)
+    context.serve_session(link, pass)
 }
 
 /// A seat, if the case has one.
@@ -49,20 +44,31 @@ fn seat_for<J: Naming, H: Wait + Drop, R: Wait>(rt: &R, hub: &Hub<J, H>, case: C
     if case.seated { hub.seat(rt).ok() } else { None }
 }
 
-/// Serves a session, and tells how it ended.
+/// Serves a session, and tells what it wrote and how it ended.
 pub fn talk<J: Naming, H: Wait + Drop, R: Wait>(
     rt: &R,
     alloc: Global,
     hub: &Hub<J, H>,
     case: Case,
-    paper: &mut Paper,
-) -> Ending {
+    paper: Paper,
+) -> (Paper, Ending) {
     let watch = Watch::new();
-    let mut source = Script::new(case.steps, case.reads, &watch);
+    let mut link = Link {
+        source: Script::new(case.steps, case.reads, &watch),
+        writer: paper,
+    };
     let pass = seat_for(rt, hub, case);
     let gate = Turnstile::new(case.looks);
-    let ended = serve(rt, alloc, &mut source, paper, &watch, hub, pass, &gate);
-    Ending::of(&ended)
+    let context = Context {
+        rt,
+        alloc,
+        hub,
+        clock: &watch,
+        gate: &gate,
+    };
+    let ended = serve(&context, &mut link, pass);
+    let Link { writer, .. } = link;
+    (writer, Ending::of(&ended))
 }
 
 /// Prints what was written, what the row of 10.0.0.1 was at each write, and how it ended.
@@ -88,8 +94,8 @@ pub fn row<J: Naming, H: Wait + Drop, R: Wait + Print>(
     hub: &Hub<J, H>,
     case: Case,
 ) -> Result<()> {
-    let mut paper = Paper::new(alloc, case.pen, hub.lens(rt).ok());
-    let ending = talk(rt, alloc, hub, case, &mut paper);
+    let paper = Paper::new(alloc, case.pen, hub.lens(rt).ok());
+    let (paper, ending) = talk(rt, alloc, hub, case, paper);
     say(rt, case.title, &paper, ending)
 }
 
@@ -103,8 +109,9 @@ pub fn leavers<J: Naming, H: Wait + Drop, R: Wait>(
 ) -> u64 {
     let mut left = 0u64;
     for _ in 0..count {
-        let mut paper = Paper::new(alloc, case.pen, None);
-        if talk(rt, alloc, hub, case, &mut paper).has_left() {
+        let paper = Paper::new(alloc, case.pen, None);
+        let (_, ending) = talk(rt, alloc, hub, case, paper);
+        if ending.has_left() {
             left = left.saturating_add(1);
         }
     }

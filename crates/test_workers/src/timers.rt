@@ -7,7 +7,7 @@ use crate::memory::Turnstile;
 use crate::told::Ending;
 use anyhow::{Result, anyhow};
 use hub::{Hub, Naming, Pass};
-use serve::{Clock, Faulted, Served, run_timer};
+use serve::{Clock, Context, Faulted, Served};
 use std::alloc::Global;
 use std::sync::Wait;
 use std::sync::atomic::{AtomicUsize, Ordering};
@@ -37,16 +37,12 @@ const TURNS: u64 = 4;
 
 /// Runs a timer.
 fn run<J: Naming, H: Wait + Drop, R: Wait>(
-    rt: &R,
-    alloc: Global,
-    beats: &Beats,
-    gate: &Turnstile,
-    hub: &Hub<J, H>,
+    context: &Context<'_, J, H, R, Beats, Turnstile>,
     pass: Pass,
 ) -> Result<Served, Faulted>
-    requires { SitsDown pass × Follows hub.now pass.seen }
+    requires { SitsDown pass × Follows context.now.hub.now pass.seen }
 {
-    run_timer(rt, alloc, beats, hub, pass, gate)
+    context.run_timer(pass)
 }
 
 /// Runs a timer over these moments, and tells how it ended. None without a seat.
@@ -62,7 +58,14 @@ fn tick<J: Naming, H: Wait + Drop, R: Wait>(
     };
     let gate = Turnstile::new(TURNS);
     let pass = hub.seat(rt).ok()?;
-    let ended = run(rt, alloc, &beats, &gate, hub, pass);
+    let context = Context {
+        rt,
+        alloc,
+        hub,
+        clock: &beats,
+        gate: &gate,
+    };
+    let ended = run(&context, pass);
     Some(Ending::of(&ended))
 }
 

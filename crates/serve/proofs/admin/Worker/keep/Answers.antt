@@ -1,4 +1,14 @@
+use Rattle.std.proofs.Common.{ℕ, List, Result, Ok, Err, OnOk, ◌≡◌, ◌++◌}
+use Rattle.serve.specs.Commanding.{kept_of}
 use Rattle.serve.proofs.admin.Worker.keep.Goals as goal
 
-pub returns-in-Ok-clause-keeps : goal.returns-in-Ok-clause-keeps
-returns-in-Ok-clause-keeps c = λ line is. c.in-Ok.ensures.ok line is
+kept : {A E : Type 0} (line more old new : List ℕ) (result : Result A E) → old ≡ kept_of line
+    → OnOk result ((line : List ℕ) → old ≡ kept_of line → new ≡ kept_of (line ++ more))
+    → OnOk result (new ≡ kept_of (line ++ more))
+kept line more old new (Ok done) is then = then line is
+kept line more old new (Err fault) is then = tt
+
+pub returns-clause-keeps : goal.returns-clause-keeps
+returns-clause-keeps c =
+    λ line is. kept line c.args.bytes.now c.args.self.now.line.bytes.items
+    c.add.new.self.bytes.items c.add.result is c.add.ensures.ok

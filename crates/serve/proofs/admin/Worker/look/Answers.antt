@@ -4,21 +4,22 @@ use Rattle.serve.specs.Commanding.{kept_of}
 use Rattle.serve.specs.Commands.{Replies}
 use Rattle.serve.proofs.admin.Worker.look.Goals as goal
 
-pub returns-in-Ok-clause-fits : goal.returns-in-Ok-clause-fits
-returns-in-Ok-clause-fits c =
+pub returns-clause-fits : goal.returns-clause-fits
+returns-clause-fits c =
     λ hub follows.
-    change_may_post hub c.in-Some.look.lens.now.seen c.book.result.now c.in-Ok.answered.change
+    change_may_post hub c.in-Some.look.lens.now.seen c.book.result.now
+    c.in_ok-answered.answered.change
     (follows_on hub c.args.self.now.lens.seen c.in-Some.look.lens.now.seen follows
     c.in-Some.ensures.some.2) c.book.ensures
-    (c.in-Ok.ensures.fits c.book.result.now.config refl)
+    (c.in_ok-answered.ensures.fits c.book.result.now.config refl)
 
-pub returns-in-Ok-clause-looks : goal.returns-in-Ok-clause-looks
-returns-in-Ok-clause-looks c =
+pub returns-clause-looks : goal.returns-clause-looks
+returns-clause-looks c =
     λ hub seat whats line learned kept whole.
-    let answered = c.in-Ok.answered in
+    let answered = c.in_ok-answered.answered in
     let says : Replies c.book.result.now (kept_of line) answered.change answered.text.items =
     subst (λ (bytes : List ℕ). Replies c.book.result.now bytes answered.change answered.text.items)
-    (c.as_slice.ensures ∙ kept) c.in-Ok.ensures.replies in
+    (c.as_slice.ensures ∙ kept) c.in_ok-answered.ensures.replies in
     looked hub seat c.args.self.now _ whats line c.book.result.now answered
     c.in-Some.look.lens.now.seen refl (search rules) c.in-Some.ensures.some.2 c.book.ensures
     says whole learned

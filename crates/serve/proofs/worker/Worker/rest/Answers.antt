@@ -1,13 +1,15 @@
 use Rattle.std.proofs.Common.{refl, ap, sym, ◌∙◌}
+use Rattle.std.proofs.lemmas.Result.{err_from_is_err_and}
 use Rattle.session_core.specs.State.{after_idle}
 use Rattle.serve.specs.declared.worker.Worker.{Worker}
-use Rattle.serve.proofs.Works.{beaten}
+use Rattle.serve.proofs.Works.{beaten, unbeaten, works_same}
 use Rattle.serve.proofs.worker.Worker.rest.Goals as goal
 
-pub returns-in-Beat-clause-rests : goal.returns-in-Beat-clause-rests
-returns-in-Beat-clause-rests g c =
-    λ hub seated given0 given wrote0 w.
+pub returns-in_ok-send-in-Beat-clause-takes : goal.returns-in_ok-send-in-Beat-clause-takes
+returns-in_ok-send-in-Beat-clause-takes g c =
+    λ hub seated start given more gives w.
     let old = c.args.self.now in
+    let before = g.W.Write.contents c.args.writer.now in
     let new : Worker = record {
       session = c.idle.new.self;
       desk = c.args.self.now.desk;
@@ -18,6 +20,23 @@ returns-in-Beat-clause-rests g c =
     let after = c.in-Beat.ensures.after
     ∙ ap (λ idle. after_idle c.args.self.now.session c.args.now idle)
     (sym c.in-Beat.ensures.answer) in
-    beaten hub seated old new given0 given wrote0 (g.W.Write.contents c.args.writer.now)
-    (g.W.Write.contents c.send.new.writer) c.send.result
-    (ap (λ s. s.seated) after) (ap (λ s. s.stage) after) refl w c.send.ensures
+    beaten hub seated old new start more before (g.W.Write.contents c.send.new.writer)
+    (ap (λ s. s.seated) after) (ap (λ s. s.stage) after) refl
+    (works_same hub seated old start given more before gives w) c.in_ok-send-in-Beat.ensures
+
+pub returns-in_err-send-in-Beat-clause-takes : goal.returns-in_err-send-in-Beat-clause-takes
+returns-in_err-send-in-Beat-clause-takes g c =
+    λ hub seated start given more gives w.
+    let old = c.args.self.now in
+    let before = g.W.Write.contents c.args.writer.now in
+    let new : Worker = record {
+      session = c.idle.new.self;
+      desk = c.args.self.now.desk;
+      hello = c.args.self.now.hello;
+      peer = c.args.self.now.peer;
+      told = c.args.self.now.told;
+    } in
+    let p = err_from_is_err_and c.from_residual.result c.from_residual.ensures.1 in
+    rw (p.1, p.2) (unbeaten hub seated old new start more before
+    (g.W.Write.contents c.send.new.writer) refl
+    (works_same hub seated old start given more before gives w) c.in_err-send-in-Beat.ensures)

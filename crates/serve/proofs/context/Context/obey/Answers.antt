@@ -1,0 +1,31 @@
+use Rattle.serve.proofs.Commanded.{obeys_unlooked}
+use Rattle.serve.proofs.Works.{wrote_none}
+use Rattle.serve.proofs.context.Context.obey.Goals as goal
+
+pub reply-requires-clause-fits : goal.reply-requires-clause-fits
+reply-requires-clause-fits g c =
+    let fits = rw c.in-Ok-Some.field-0-is at c.in-Ok-Some.ensures.fits in
+    fits c.args.self.now.hub.now c.requires.lens
+
+pub returns-in-Ok-Some-clause-obeys : goal.returns-in-Ok-Some-clause-obeys
+returns-in-Ok-Some-clause-obeys g c =
+    λ seat whats line learned kept whole.
+    let looks = rw c.in-Ok-Some.field-0-is at c.in-Ok-Some.ensures.looks in
+    c.reply.ensures.obeys seat whats line
+    (looks c.args.self.now.hub.now seat whats line learned kept whole)
+
+pub returns-in-Ok-None-clause-obeys : goal.returns-in-Ok-None-clause-obeys
+returns-in-Ok-None-clause-obeys g c =
+    λ seat whats line learned kept whole.
+    let looks = rw c.in-Ok-None.field-0-is at c.in-Ok-None.ensures.looks in (
+      looks c.args.self.now.hub.now seat whats line learned kept whole,
+      wrote_none (g.W.Write.contents c.args.writer.now),
+    )
+
+pub returns-in-Err-clause-obeys : goal.returns-in-Err-clause-obeys
+returns-in-Err-clause-obeys g c =
+    λ seat whats line learned kept whole.
+    let hub = c.args.self.now.hub.now in
+    obeys_unlooked hub c.look.new.self.desk whats (g.W.Write.contents c.args.writer.now)
+    c.refused.result c.refused.ensures
+    (c.in-Err.ensures.looks hub seat whats line learned kept whole)

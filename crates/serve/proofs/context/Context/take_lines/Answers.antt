@@ -1,0 +1,35 @@
+use Rattle.std.proofs.Common.{ℕ, List, ◌∙◌, ap, subst, sym}
+use Rattle.std.proofs.lemmas.Result.{err_from_is_err_and}
+use Rattle.book.proofs.Verdicts.{from_ok}
+use Rattle.hub.specs.Views.{Seeing}
+use Rattle.serve.proofs.Commanded.{stops_unkept, works_kept}
+use Rattle.serve.specs.Commanding.{Works}
+use Rattle.serve.specs.Traffic.{so_far}
+use Rattle.serve.proofs.context.Context.take_lines.Goals as goal
+
+pub returns-in_err-end_line-clause-takes : goal.returns-in_err-end_line-clause-takes
+returns-in_err-end_line-clause-takes g c =
+    λ seat start given w.
+    let before = g.W.Write.contents c.loop-front.writer in
+    let p = err_from_is_err_and c.from_residual.result c.from_residual.ensures.1 in
+    rw (p.1, p.2) (c.in_err-end_line.ensures.takes c.in-Some.behind.now c.in-Some.ensures.line seat
+    start given
+    (subst (λ (rest : List ℕ). Works c.args.self.now.hub.now seat c.loop-front.worker rest start
+    (so_far given before)) c.in-Some.ensures.parts (c.loop-front.invariant.works seat start given w)))
+
+pub returns-then-is_err-clause-takes : goal.returns-then-is_err-clause-takes
+returns-then-is_err-clause-takes g c =
+    λ seat start given w.
+    stops_unkept c.args.self.now.hub.now seat c.loop-front.worker c.keep.new.self
+    c.loop-front.rest.now start (so_far given (g.W.Write.contents c.loop-front.writer))
+    c.refused.result c.keep.ensures.desk c.refused.ensures
+    (c.loop-front.invariant.works seat start given w)
+
+pub returns-clause-takes : goal.returns-clause-takes
+returns-clause-takes g c =
+    λ seat start given w.
+    works_kept c.args.self.now.hub.now seat c.loop-front.worker c.keep.new.self
+    c.loop-front.rest.now start (so_far given (g.W.Write.contents c.loop-front.writer))
+    c.keep.ensures.desk (ap (λ (s : Seeing). s.seen) c.keep.ensures.lens) c.in_default.ensures.whole
+    (λ line is. from_ok c.keep.result (sym c.is_err.ensures.value ∙ c.if-is_err.false)
+    (c.keep.ensures.keeps line is)) (c.loop-front.invariant.works seat start given w)

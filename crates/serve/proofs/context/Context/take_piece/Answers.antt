@@ -1,0 +1,135 @@
+use Rattle.std.proofs.Common.{◌≡◌, None, Err, Ok, ap, sym, subst, ◌∙◌}
+use Rattle.std.proofs.lemmas.Result.{err_from_is_err_and}
+use Rattle.session_core.specs.Piece.{setup_of}
+use Rattle.session_core.specs.State.{SessionState}
+use Rattle.session_core.specs.TalkAnswers.{FaultAnswersTalk, ContinuesTalk}
+use Rattle.serve.proofs.Facts.{fact_may_post, fault_may_post}
+use Rattle.serve.proofs.Works.{ended_by, fault_at, seat_kept, settled, stands_at, unsettled}
+use Rattle.serve.specs.Turns.{facts_in, taken_in}
+use Rattle.serve.proofs.context.Context.take_piece.Goals as goal
+
+pub settle-requires-clause-fits : goal.settle-requires-clause-fits
+settle-requires-clause-fits g c =
+    let w = c.requires.work.2 in
+    fact_may_post c.config.result.now c.args.self.now.hub.now.config
+    c.args.worker.now.session.seated
+    c.requires.work.0 (taken_in c.requires.work.1) c.args.piece.now
+    c.args.worker.now.session.stage c.feed.new.self.stage c.in-Ok.batch None c.config.ensures
+    w.has_seat w.stands c.in-Ok.ensures.talk c.in-Ok.ensures.fits
+
+pub end_session-requires-clause-fits : goal.end_session-requires-clause-fits
+end_session-requires-clause-fits g c =
+    let w = c.requires.work.2 in
+    fault_may_post c.config.result.now c.args.self.now.hub.now.config
+    c.args.worker.now.session.seated
+    c.requires.work.0 (taken_in c.requires.work.1) c.args.piece.now
+    c.args.worker.now.session.stage c.feed.new.self.stage c.args.worker.now.session
+    c.feed.new.self c.args.now
+    (setup_of c.config.result.now) c.args.worker.now.session.seated
+    c.args.worker.now.session.stage
+    c.in-Err.fault c.config.ensures w.has_seat w.stands
+    c.in-Err.ensures.talk c.in-Err.ensures.fits c.in-Err.ensures.exact
+
+pub returns-in_ok-settle-in-Ok-clause-takes : goal.returns-in_ok-settle-in-Ok-clause-takes
+returns-in_ok-settle-in-Ok-clause-takes g c =
+    λ seated start given more gives w.
+    let hub = c.args.self.now.hub.now in
+    let new = c.settle.new.worker in
+    let stands : ContinuesTalk (setup_of hub.config) seated (taken_in w.turns) c.args.piece.now
+    c.in-Ok.batch None c.feed.new.self.stage =
+    stands_at c.config.result.now hub.config c.args.worker.now.session.seated seated
+    (taken_in w.turns) c.args.piece.now c.args.worker.now.session.stage c.feed.new.self.stage
+    c.in-Ok.batch None
+    c.config.ensures w.work.has_seat w.work.stands c.in-Ok.ensures.talk in
+    let same : new.session.seated ≡ seated =
+    ap (λ (s : SessionState). s.seated) c.settle.ensures.session
+    ∙ (ap (λ (s : SessionState). s.seated) c.in-Ok.ensures.exact.2 ∙ w.work.has_seat) in
+    let told = c.in_ok-settle-in-Ok.ensures.told (facts_in (setup_of hub.config) seated w.turns)
+    w.work.told in
+    settled hub seated c.args.worker.now new start given more
+    (g.W.Write.contents c.args.writer.now) (g.W.Write.contents c.settle.new.writer)
+    c.args.piece.now c.in-Ok.batch None gives w
+    (subst (λ stage. ContinuesTalk (setup_of hub.config) seated (taken_in w.turns) c.args.piece.now
+    c.in-Ok.batch None stage) (sym
+    (ap (λ (s : SessionState). s.stage) c.settle.ensures.session)) stands)
+    same told.0 told.1
+
+pub returns-in_err-settle-in-Ok-clause-takes : goal.returns-in_err-settle-in-Ok-clause-takes
+returns-in_err-settle-in-Ok-clause-takes g c =
+    λ seated start given more gives w.
+    let hub = c.args.self.now.hub.now in
+    let new = c.settle.new.worker in
+    let stands : ContinuesTalk (setup_of hub.config) seated (taken_in w.turns) c.args.piece.now
+    c.in-Ok.batch None c.feed.new.self.stage =
+    stands_at c.config.result.now hub.config c.args.worker.now.session.seated seated
+    (taken_in w.turns) c.args.piece.now c.args.worker.now.session.stage c.feed.new.self.stage
+    c.in-Ok.batch None
+    c.config.ensures w.work.has_seat w.work.stands c.in-Ok.ensures.talk in
+    let p = err_from_is_err_and c.from_residual.result c.from_residual.ensures.1 in
+    rw (p.1, p.2) (unsettled (Unit {0}) hub seated c.args.worker.now new start given more
+    (g.W.Write.contents c.args.writer.now) (g.W.Write.contents c.settle.new.writer)
+    c.args.piece.now c.in-Ok.batch None _ gives w
+    (subst (λ stage. ContinuesTalk (setup_of hub.config) seated (taken_in w.turns) c.args.piece.now
+    c.in-Ok.batch None stage) (sym
+    (ap (λ (s : SessionState). s.stage) c.settle.ensures.session)) stands)
+    (c.in_err-settle-in-Ok.ensures.told (facts_in (setup_of hub.config) seated w.turns) w.work.told))
+
+pub returns-in_ok-cause-in-Err-clause-takes : goal.returns-in_ok-cause-in-Err-clause-takes
+returns-in_ok-cause-in-Err-clause-takes g c =
+    λ seated start given more gives w.
+    let hub = c.args.self.now.hub.now in
+    let new = c.end_session.new.worker in
+    let fault = c.in-Err.fault in
+    let answers : FaultAnswersTalk fault.cause fault.batch (setup_of hub.config) seated
+    (taken_in w.turns) c.args.piece.now c.feed.new.self.stage =
+    fault_at c.config.result.now hub.config c.args.worker.now.session.seated seated
+    (taken_in w.turns)
+    c.args.piece.now c.args.worker.now.session.stage c.feed.new.self.stage fault
+    c.config.ensures w.work.has_seat w.work.stands c.in-Err.ensures.talk in
+    let kept : c.feed.new.self.seated ≡ c.args.worker.now.session.seated =
+    seat_kept fault.cause fault.batch c.args.worker.now.session c.feed.new.self
+    c.args.piece.now c.args.now
+    (setup_of c.config.result.now) c.args.worker.now.session.seated
+    c.args.worker.now.session.stage
+    c.in-Err.ensures.exact in
+    let same : new.session.seated ≡ seated =
+    ap (λ (s : SessionState). s.seated) c.end_session.ensures.session
+    ∙ (kept ∙ w.work.has_seat) in
+    ended_by hub seated c.args.worker.now new start given more
+    (g.W.Write.contents c.args.writer.now) (g.W.Write.contents c.end_session.new.writer)
+    c.args.piece.now fault (Ok _) gives w same
+    (subst (λ stage. FaultAnswersTalk fault.cause fault.batch (setup_of hub.config) seated
+    (taken_in w.turns) c.args.piece.now stage)
+    (sym (ap (λ (s : SessionState). s.stage) c.end_session.ensures.session)) answers)
+    (c.in_ok-cause-in-Err.ensures.ends (facts_in (setup_of hub.config) seated w.turns) w.work.told)
+
+pub returns-in_err-cause-in-Err-clause-takes : goal.returns-in_err-cause-in-Err-clause-takes
+returns-in_err-cause-in-Err-clause-takes g c =
+    λ seated start given more gives w.
+    let hub = c.args.self.now.hub.now in
+    let new = c.end_session.new.worker in
+    let fault = c.in-Err.fault in
+    let answers : FaultAnswersTalk fault.cause fault.batch (setup_of hub.config) seated
+    (taken_in w.turns) c.args.piece.now c.feed.new.self.stage =
+    fault_at c.config.result.now hub.config c.args.worker.now.session.seated seated
+    (taken_in w.turns)
+    c.args.piece.now c.args.worker.now.session.stage c.feed.new.self.stage fault
+    c.config.ensures w.work.has_seat w.work.stands c.in-Err.ensures.talk in
+    let kept : c.feed.new.self.seated ≡ c.args.worker.now.session.seated =
+    seat_kept fault.cause fault.batch c.args.worker.now.session c.feed.new.self
+    c.args.piece.now c.args.now
+    (setup_of c.config.result.now) c.args.worker.now.session.seated
+    c.args.worker.now.session.stage
+    c.in-Err.ensures.exact in
+    let same : new.session.seated ≡ seated =
+    ap (λ (s : SessionState). s.seated) c.end_session.ensures.session
+    ∙ (kept ∙ w.work.has_seat) in
+    let p = err_from_is_err_and c.from_residual-in_err-cause-in-Err.result
+    c.from_residual-in_err-cause-in-Err.ensures.1 in
+    rw (p.1, p.2) (ended_by hub seated c.args.worker.now new start given more
+    (g.W.Write.contents c.args.writer.now) (g.W.Write.contents c.end_session.new.writer)
+    c.args.piece.now fault (Err _) gives w same
+    (subst (λ stage. FaultAnswersTalk fault.cause fault.batch (setup_of hub.config) seated
+    (taken_in w.turns) c.args.piece.now stage)
+    (sym (ap (λ (s : SessionState). s.stage) c.end_session.ensures.session)) answers)
+    (c.in_err-cause-in-Err.ensures.ends (facts_in (setup_of hub.config) seated w.turns) w.work.told))

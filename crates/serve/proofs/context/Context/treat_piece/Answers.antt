@@ -1,0 +1,31 @@
+use Rattle.std.proofs.Common.{ap}
+use Rattle.std.proofs.lemmas.Result.{err_from_is_err_and}
+use Rattle.session_core.specs.State.{SessionState}
+use Rattle.serve.proofs.Works.{works_still, wrote_none}
+use Rattle.serve.specs.Traffic.{so_far}
+use Rattle.serve.proofs.context.Context.treat_piece.Goals as goal
+
+pub returns-in_err-take_piece-clause-takes : goal.returns-in_err-take_piece-clause-takes
+returns-in_err-take_piece-clause-takes g c =
+    λ seated start given more gives w.
+    let p = err_from_is_err_and c.from_residual.result c.from_residual.ensures.1 in
+    rw (p.1, p.2) (c.in_err-take_piece.ensures.takes seated start given more gives
+    (works_still c.args.self.now.hub.now seated c.args.worker.now c.listen.new.self start
+    (so_far given (g.W.Write.contents c.args.writer.now))
+    (ap (λ (s : SessionState). s.seated) c.listen.ensures.session)
+    (ap (λ (s : SessionState). s.stage) c.listen.ensures.session) c.listen.ensures.desk w))
+
+pub returns-clause-takes : goal.returns-clause-takes
+returns-clause-takes g c =
+    λ seated start given more gives w.
+    let hub = c.args.self.now.hub.now in
+    c.rest.ensures.takes hub seated start more more (wrote_none more)
+    (works_still hub seated c.take_piece.new.worker c.greet.new.self start
+    (so_far more (g.W.Write.contents c.take_piece.new.writer))
+    (ap (λ (s : SessionState). s.seated) c.greet.ensures.session)
+    (ap (λ (s : SessionState). s.stage) c.greet.ensures.session) c.greet.ensures.desk
+    (c.in_ok-take_piece.ensures.takes seated start given more gives
+    (works_still hub seated c.args.worker.now c.listen.new.self start
+    (so_far given (g.W.Write.contents c.args.writer.now))
+    (ap (λ (s : SessionState). s.seated) c.listen.ensures.session)
+    (ap (λ (s : SessionState). s.stage) c.listen.ensures.session) c.listen.ensures.desk w)))
