@@ -1,6 +1,7 @@
 //! All workers of a collector, each in a thread.
 
 ghost use Rattle.std.specs.Prelude.{◌≡◌, ℕ, List, Option, IfSome};
+ghost use Rattle.hub.specs.Posts.{Follows, SitsDown};
 ghost use Rattle.serve.specs.Parting.{WasCommanded, WasServed};
 ghost use Rattle.serve.specs.Traffic.{so_far};
 
@@ -10,7 +11,7 @@ use crate::gate::{Gate, News, Place};
 use crate::served::{Faulted, Served};
 use crate::source::Source;
 use agg_types::Config;
-use hub::{Hub, Naming};
+use hub::{Hub, Naming, Pass};
 use std::alloc::Global;
 use std::io::Write;
 use std::net::SocketAddr;
@@ -21,6 +22,9 @@ use std::thread::Threads;
 
 /// How many connections a door takes at most.
 const MOST_CALLERS: u64 = 1 << 40;
+
+/// How many admin connections are served at once.
+const ADMINS: u64 = 4;
 
 /// How far the start has got: nothing is known yet; the timer has its seat, and the doors serve; or
 /// a thread or that seat was refused, and all end.
@@ -36,6 +40,14 @@ pub struct Caller<S: Source, W> {
     pub source: S,
     pub writer: W,
     pub ghost fresh: { S.reads source ≡ 0 },
+}
+
+/// A peer's connection before it may sit down.
+#[derive(Drop)]
+pub struct Greeted<S: Source, W> {
+    pub caller: Caller<S, W>,
+    /// Whether its hello would be accepted. Only then does it get a seat.
+    pub is_welcome: bool,
 }
 
 /// Where connections come in, and go when they are over.
@@ -55,6 +67,23 @@ pub trait Doors<S: Source + Drop, W: Write + Drop> {
     fn admin(&self) -> Option<Caller<S, W>>
         ensures unread { IfSome result (λ caller. S.given caller.source ≡ unread) }
         ensures blank { IfSome result (λ caller. W.contents caller.writer ≡ blank) };
+
+    /// Waits for the hello of a peer's connection, in the connection's own thread and before it has
+    /// a seat. What was read for that is what its source gives first.
+    fn greet(&self, _config: &Config, caller: Caller<S, W>) -> Greeted<S, W>
+        requires unread { S.given caller.source ≡ unread }
+        requires blank { W.contents caller.writer ≡ blank }
+        ensures unread { S.given result.caller.source ≡ unread }
+        ensures blank { W.contents result.caller.writer ≡ blank }
+    {
+        Greeted {
+            caller,
+            is_welcome: true,
+        }
+    }
+
+    /// A connection of a peer has its seat.
+    fn seated(&self, _source: &S) {}
 
     /// Takes back the connection of a peer that is over. What was read, told and written is what
     /// `serve_session` promises.
@@ -97,7 +126,7 @@ struct Counts {
     ended: AtomicU64,
     faulted: AtomicU64,
     refused: AtomicU64,
-    // how many doors have closed
+    // how many threads have found their door closed: one for peers, and each that serves admins
     closed: AtomicU64,
     // how many connections of peers are being served
     serving: AtomicU64,
@@ -170,7 +199,7 @@ impl Counts {
 
     // Whether all have given up, or both doors have closed and their workers have ended.
     fn are_done(&self) -> bool {
-        let have_ended = self.closed.load(Ordering::SeqCst) >= 2
+        let have_ended = self.closed.load(Ordering::SeqCst) > ADMINS
             && self.serving.load(Ordering::SeqCst) == 0;
         have_ended || self.has_given_up()
     }
@@ -260,6 +289,37 @@ impl<'a, J: Naming, H: Wait + Drop, C, G: Gate, D> House<'a, J, H, C, G, D> {
         self.counts.refuse();
         self.gate.tell(Place::Admin, News::TurnedAway(sender));
     }
+
+    // Tells that a connection of a peer isn't served.
+    fn close_peer(&self, sender: Option<SocketAddr>) {
+        self.counts.refuse();
+        self.gate
+            .tell(Place::Session(None), News::TurnedAway(sender));
+    }
+}
+
+impl<'a, J: Naming, H: Wait + Drop, C: Clock, G: Gate, D> House<'a, J, H, C, G, D> {
+    // Serves a connection of a peer that came through these doors, with its seat if it has one.
+    fn serve_peer<R: Wait, S: Source + Drop, W: Write + Drop>(
+        &self,
+        rt: &R,
+        doors: &D,
+        caller: Caller<S, W>,
+        pass: Option<Pass>,
+    )
+    where
+        D: Doors<S, W>,
+        requires pass { IfSome pass (λ p. SitsDown p × Follows self.now.hub.now p.seen) }
+        requires unread { S.given caller.source ≡ D.unread }
+        requires blank { W.contents caller.writer ≡ D.blank }
+    {
+        let Caller { source, writer } = caller;
+        let mut link = Link { source, writer };
+        let ended = self.context(rt).serve_session(&mut link, pass);
+        self.counts.count(ended.is_ok());
+        let Link { source, writer } = link;
+        doors.part_peer(self.hub.config(), source, writer, ended);
+    }
 }
 
 impl<
@@ -293,21 +353,25 @@ impl<
     }
 
     fn turn_away(&self, sender: Option<SocketAddr>) {
-        self.counts.refuse();
-        self.gate
-            .tell(Place::Session(None), News::TurnedAway(sender));
+        self.close_peer(sender);
     }
 
-    // Without a seat it is served all the same, and refused.
+    // A seat is taken only behind a welcome hello: any other is answered without one. Where no seat
+    // is free it is closed without an answer, so that the peer calls again.
     fn peer<R: Wait>(&self, rt: &R, guest: Guest<'a, S, W, D>) {
         let Guest { caller, doors } = guest;
-        let Caller { source, writer } = caller;
-        let mut link = Link { source, writer };
-        let pass = self.hub.seat(rt).ok();
-        let ended = self.context(rt).serve_session(&mut link, pass);
-        self.counts.count(ended.is_ok());
-        let Link { source, writer } = link;
-        doors.part_peer(self.hub.config(), source, writer, ended);
+        let Greeted { caller, is_welcome } = doors.greet(self.hub.config(), caller);
+        if !is_welcome {
+            self.serve_peer(rt, doors, caller, None);
+            return;
+        }
+        match self.hub.seat(rt) {
+            Ok(pass) => {
+                doors.seated(&caller.source);
+                self.serve_peer(rt, doors, caller, Some(pass));
+            }
+            Err(_) => self.close_peer(caller.source.sender()),
+        }
     }
 
     // Without a seat or a lens it is closed.
@@ -354,7 +418,7 @@ impl<
     }
 }
 
-// Admin connections, one after the other, until their door closes.
+// Admin connections, one after the other, until their door closes. Several threads do this.
 fn admins<R: Wait, K, U: Workers<K>>(rt: &R, workers: &U, counts: &Counts) {
     if !counts.are_served(rt) {
         return;
@@ -374,7 +438,8 @@ fn peer<R: Wait, K, U: Workers<K>>(rt: &R, workers: &U, counts: &Counts, caller:
     counts.end();
 }
 
-// Runs the timer and the admins' door in threads of their own, and each connection of a peer.
+// Runs the timer in a thread of its own, as many admins as may be served at once, and each
+// connection of a peer.
 fn open<R: Threads + Wait + Copy + Send + Sync, K: Send + Drop, U: Workers<K> + Sync>(
     rt: &R,
     workers: &U,
@@ -385,9 +450,11 @@ fn open<R: Threads + Wait + Copy + Send + Sync, K: Send + Drop, U: Workers<K> + 
             counts.give_up();
             return;
         }
-        if scope.spawn(move || admins(rt, workers, counts)).is_err() {
-            counts.give_up();
-            return;
+        for _ in 0..ADMINS {
+            if scope.spawn(move || admins(rt, workers, counts)).is_err() {
+                counts.give_up();
+                return;
+            }
         }
         if !counts.are_served(rt) {
             return;
@@ -411,9 +478,9 @@ fn open<R: Threads + Wait + Copy + Send + Sync, K: Send + Drop, U: Workers<K> + 
 }
 
 /// Serves until both doors have closed and their workers have ended: one worker for each connection
-/// of a peer, admin connections one after the other, and a timer, whose seat is taken first.
+/// of a peer, four admin connections at once, and a timer, whose seat is taken first.
 ///
-/// Where that seat is refused, or the thread of the timer or of the admins' door, nothing is
+/// Where that seat is refused, or the thread of the timer or of an admin, nothing is
 /// served. Each connection that was served goes back to the doors, and the timer to its clock, with
 /// what is promised of it. Which connections are served, that all go back, and what is counted no
 /// clause says: what other threads did leaves nothing here that one could name.
