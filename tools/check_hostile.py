@@ -4,9 +4,9 @@
     check_hostile.py [--collector crates/aggregator/out/aggregator]
 
 It starts `aggregator listen` (examples/fleet.conf) and speaks to its sockets. Peers send hellos of every verdict,
-broken and cut messages, a byte at a time; they reset, never read, or are more than there are seats. Admins send
-lines without an end, or nothing. Signals and ports that are taken are tried too. The last line counts passed and failed; the status is 1
-where one failed. It takes about a minute.
+broken and cut messages, a byte at a time; they reset, never read, say nothing by the thousand, or drip a hello.
+Admins send lines without an end, or nothing. Signals and ports that are taken are tried too. The last line counts passed and failed; the status is 1
+where one failed. It takes about two minutes.
 """
 
 import argparse
@@ -106,16 +106,100 @@ def streams(report, collector):
 def crowd(report, collector):
     before = collector.descriptors(), collector.threads()
     peers = [call(collector.peers, HELLO, timeout=10) for _ in range(600)]
-    statuses = [read(peer, 4) for peer in peers]
-    counts = statuses.count(b"200\n"), statuses.count(b"300\n")
-    report.check("of 600 peers at once 511 get a seat, and 89 are told that there is none", 1,
-                 lambda: "" if counts == (511, 89) else counts)
+    statuses = {read(peer, 4) for peer in peers}
+    report.check("of 600 hellos of one peer at once none is told that there is no seat", 1,
+                 lambda: "" if b"200\n" in statuses and statuses <= {b"200\n", b""} else statuses)
     for peer in peers:
         peer.close()
-    report.check("the seats are free again", 5, lambda: answered(collector.peers, HELLO, ACCEPTED))
+    report.check("a seat is free again", 5, lambda: answered(collector.peers, HELLO, ACCEPTED))
     report.check("descriptors and threads are what they were", 10, lambda: "" if (
         collector.descriptors() <= before[0] + 1 and collector.threads() <= before[1] + 1)
         else (before, collector.descriptors(), collector.threads()))
+
+
+def newer(report, collector):
+    """A newer connection of a peer, while the older one is in the middle of a message."""
+    def replaced():
+        with call(collector.peers, HELLO + DEFINE + UPDATE + UPDATE[:5]) as older:
+            found = read(older, len(ACCEPTED + ACK))
+            with call(collector.peers, HELLO) as later:
+                if read(later, len(ACCEPTED)) != ACCEPTED:
+                    return "the newer one isn't accepted"
+                older.settimeout(1)
+                rest = read_all(older)
+                later.sendall(DEFINE + UPDATE)
+                if read(later, len(ACK)) != ACK:
+                    return "the newer one isn't served"
+        return "" if found == ACCEPTED + ACK and not rest else (found, rest)
+    report.check("a newer connection of a peer ends the older one", 2, replaced)
+
+
+def accepted_within(port, seconds):
+    """Whether a peer is accepted in that time."""
+    start = time.monotonic()
+    found = answered(port, HELLO, ACCEPTED)
+    took = time.monotonic() - start
+    return found or ("" if took < seconds else f"{took:.1f} s")
+
+
+def strangers(report, collector):
+    """Connections that never say a whole hello: they take no seat."""
+    silent = [call(collector.peers) for _ in range(1200)]
+    report.check("beside 1,200 silent connections a peer is accepted within a second", 1,
+                 lambda: accepted_within(collector.peers, 1))
+    time.sleep(6)
+
+    def closed():
+        for peer in silent:
+            peer.settimeout(1)
+            try:
+                if peer.recv(1):
+                    return "they are answered"
+            except ConnectionResetError:
+                pass
+        return ""
+    report.check("and after 5 s they are closed without an answer", 1, closed)
+    for peer in silent:
+        peer.close()
+
+    def flood(data):
+        """200 connections a second for 15 seconds, while a peer comes back each second."""
+        held, faults, start = [], [], time.monotonic()
+        while time.monotonic() - start < 15:
+            began = time.monotonic()
+            held += [call(collector.peers, data) for _ in range(200)]
+            faults.append(accepted_within(collector.peers, 2))
+            for peer in held[:-1000]:
+                peer.close()
+            held = held[-1000:]
+            for peer in held[::40]:
+                try:
+                    peer.sendall(data[-1:])
+                except OSError:
+                    pass
+            time.sleep(max(0, began + 1 - time.monotonic()))
+        for peer in held:
+            peer.close()
+        return next((fault for fault in faults if fault), "")
+    report.check("beside 200 silent connections a second a peer is never refused", 1, lambda: flood(b""))
+    report.check("nor beside as many that drip a hello", 1, lambda: flood(HELLO[:9]))
+
+    def late():
+        with call(collector.peers, timeout=10) as peer:
+            start = time.monotonic()
+            try:
+                for byte in HELLO:
+                    peer.sendall(bytes([byte]))
+                    time.sleep(0.25)
+            except OSError:
+                pass
+            try:
+                found = read_all(peer)
+            except ConnectionResetError:
+                found = b""
+            took = time.monotonic() - start
+        return "" if not found and 4.5 < took < 7 else (found, took)
+    report.check("a hello that takes more than 5 s is closed without an answer", 1, late)
 
 
 def deaf(report, collector):
@@ -185,12 +269,20 @@ def admins(report, collector):
                 return "another answer"
         return ""
     report.check("a thousand admins, one after the other", 1, many)
-    with call(collector.admin):
-        start = time.monotonic()
-        answer = said(b"show filter abusers\n")
-        took = time.monotonic() - start
-    report.check(f"an admin that says nothing makes room for the next ({took:.0f} s)", 1, lambda: "" if
+    silent = [call(collector.admin) for _ in range(3)]
+    start = time.monotonic()
+    answer = said(b"show filter abusers\n")
+    took = time.monotonic() - start
+    report.check("beside three silent admins a fourth is answered", 1, lambda: "" if
+                 answer == one and took < 2 else (answer, took))
+    silent.append(call(collector.admin))
+    start = time.monotonic()
+    answer = said(b"show filter abusers\n")
+    took = time.monotonic() - start
+    report.check(f"admins that say nothing make room for a fifth ({took:.0f} s)", 1, lambda: "" if
                  answer == one and took < 13 else (answer, took))
+    for admin in silent:
+        admin.close()
 
 
 def scarce(report, options):
@@ -200,8 +292,9 @@ def scarce(report, options):
     resource.setrlimit(resource.RLIMIT_NOFILE, (64, limits[1]))
     collector = Collector(options.collector, peers, admin)
     resource.setrlimit(resource.RLIMIT_NOFILE, limits)
-    crowd_of = [call(peers, HELLO) for _ in range(100)]
-    time.sleep(0.5)
+    crowd_of = [call(peers) for _ in range(100)]
+    report.check("where silent connections have all descriptors a peer is accepted", 3,
+                 lambda: accepted_within(peers, 2))
     for peer in crowd_of:
         peer.close()
     report.check("after descriptors ran out peers are served again", 8, lambda: answered(peers, HELLO, ACCEPTED))
@@ -249,7 +342,7 @@ def main():
     resource.setrlimit(resource.RLIMIT_NOFILE, (4096, resource.getrlimit(resource.RLIMIT_NOFILE)[1]))
     report = Report()
     collector = Collector(options.collector, *free_ports(2))
-    for part in (verdicts, streams, crowd, deaf, silence, admins):
+    for part in (verdicts, streams, crowd, newer, strangers, deaf, silence, admins):
         part(report, collector)
     collector.stop()
     scarce(report, options)

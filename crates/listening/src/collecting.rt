@@ -3,6 +3,7 @@
 ghost use Rattle.std.specs.Prelude.{◌≡◌, []};
 ghost use Rattle.agg_types.specs.Check.{config_faults};
 
+use crate::connections::Connections;
 use crate::log::Event;
 use crate::notes::{Notes, write_event};
 use crate::sockets::{Sockets, Ticks};
@@ -17,8 +18,8 @@ use std::sync::Wait;
 use std::thread::Threads;
 use std::time::{Clock, Instant};
 
-/// How many admin connections may look at once: there is one, and one that is about to end.
-const PLACES: usize = 4;
+/// How many admin connections may look at once: four are served, and each may be about to end.
+const PLACES: usize = 8;
 
 /// Listens at both addresses, says so on standard output, and collects until both listeners have
 /// failed. Answers why it didn't begin, or ended.
@@ -45,13 +46,18 @@ where
 }
 
 // Begins to listen at both addresses.
-fn listen<R>(rt: &R, peers: SocketAddrV4, admin: SocketAddrV4) -> Result<Sockets<R>, Fault>
+fn listen<'a, R>(
+    rt: &R,
+    peers: SocketAddrV4,
+    admin: SocketAddrV4,
+    connections: &'a Connections,
+) -> Result<Sockets<'a, R>, Fault>
 where
     R: Copy + AllocGlobal + Net<Listener = TcpListener, Stream = TcpStream>,
 {
     let peers = listener(rt, peers)?;
     let admins = listener(rt, admin)?;
-    Ok(Sockets::new(*rt, rt.alloc(), peers, admins))
+    Ok(Sockets::new(*rt, rt.alloc(), peers, admins, connections))
 }
 
 fn listener<R>(rt: &R, address: SocketAddrV4) -> Result<TcpListener, Fault>
@@ -90,7 +96,8 @@ where
     let Ok(hub) = Hub::<J, R>::new(rt.alloc(), *rt, opening, PLACES) else {
         return Err(Fault::NoMemory);
     };
-    let doors = listen(rt, peers, admin)?;
+    let connections = Connections::new(rt.alloc());
+    let doors = listen(rt, peers, admin, &connections)?;
     let start = match begin(rt, output) {
         Ok(start) => start,
         Err(error) => return Err(Fault::Start(error)),
@@ -100,6 +107,7 @@ where
     let notes = Notes {
         rt: *rt,
         config: hub.config(),
+        connections: &connections,
     };
     let _ended = serve_all(rt, rt.alloc(), &doors, &clock, &hub, &notes);
     Ok(())

@@ -7,12 +7,15 @@
 #![tactic(auto)]
 
 mod collecting;
+mod connections;
+mod greeting;
 mod log;
 mod notes;
 mod running;
 mod sockets;
 
 pub use collecting::collect;
+pub use connections::Connections;
 pub use log::Event;
 pub use notes::{Notes, write_event};
 pub use running::{run, run_words};

@@ -29,13 +29,19 @@ pub enum Event<'a> {
         updates: u64,
         cause: Option<&'a Cause>,
     },
+    /// The connection of a peer ended as a newer one of it sat down.
+    PeerReplaced {
+        peer: &'a [u8],
+        address: Option<SocketAddr>,
+        updates: u64,
+    },
     /// A connection is over of which no hello was accepted. Its sender chose the name.
     StrangerGone {
         name: Option<&'a [u8]>,
         address: Option<SocketAddr>,
         cause: Option<&'a Cause>,
     },
-    /// A peer's connection was closed before it was served: no thread.
+    /// A peer's connection was closed before it was served: no thread, no seat, or out of memory.
     PeerTurnedAway {
         address: Option<SocketAddr>,
     },
@@ -53,6 +59,7 @@ impl<'a> Event<'a> {
             Event::PeerConnected { .. } => "info peer connected",
             Event::PeerGone { cause: None, .. } => "info peer disconnected",
             Event::PeerGone { .. } => "warn peer ended",
+            Event::PeerReplaced { .. } => "info peer replaced",
             Event::StrangerGone { cause: None, .. } => "info connection closed without a hello",
             Event::StrangerGone { .. } => "warn connection ended",
             Event::PeerTurnedAway { .. } => "error connection turned away",
@@ -85,13 +92,27 @@ impl<'a> fmt::Display for Line<'a> {
                 let why = Why(cause);
                 write!(f, " peer={}{from} updates={updates}{why}", Value(peer))
             }
+            Event::PeerReplaced {
+                peer,
+                address,
+                updates,
+            } => write!(
+                f,
+                " peer={}{} updates={updates}",
+                Value(peer),
+                From(address)
+            ),
             Event::StrangerGone {
                 name,
                 address,
                 cause,
             } => write!(f, "{}{}{}", Named(name), From(address), Why(cause)),
             Event::PeerTurnedAway { address } => {
-                write!(f, "{} reason=\"no thread\"", From(address))
+                write!(
+                    f,
+                    "{} reason=\"no thread, no seat, or out of memory\"",
+                    From(address)
+                )
             }
             Event::AdminTurnedAway { address } => {
                 write!(f, "{} reason=\"no seat, or out of memory\"", From(address))

@@ -1,8 +1,11 @@
 //! What is told to an operator while the collector runs.
 
+use crate::connections::Connections;
 use crate::log::{Event, Line};
 use agg_types::Config;
 use serve::{Gate, Gone, News, Place};
+use std::net::SocketAddr;
+use std::sync::Wait;
 use std::time::{Clock, SystemTime, UNIX_EPOCH};
 
 /// The gate of the collector: it lets all pass, and writes the news to standard error.
@@ -10,6 +13,7 @@ use std::time::{Clock, SystemTime, UNIX_EPOCH};
 pub struct Notes<'a, R> {
     pub rt: R,
     pub config: &'a Config,
+    pub connections: &'a Connections,
 }
 
 // The seconds since 1970. A clock that fails gives 0.
@@ -41,10 +45,21 @@ impl<'a, R> Notes<'a, R> {
         }
     }
 
+    // Whether a newer connection of its peer ended the one from this address.
+    fn was_replaced(&self, address: Option<SocketAddr>) -> bool
+    where
+        R: Wait,
+    {
+        match address {
+            None => false,
+            Some(address) => self.connections.was_replaced(&self.rt, address),
+        }
+    }
+
     // Tells of the connection of a session that is over.
     fn gone(&self, gone: Gone<'_>)
     where
-        R: Eprint + Clock,
+        R: Eprint + Clock + Wait,
     {
         let address = gone.sender;
         let updates = gone.updates;
@@ -55,6 +70,15 @@ impl<'a, R> Notes<'a, R> {
         };
         if let Some(peer) = gone.peer {
             let peer = self.name(peer);
+            if self.was_replaced(address) {
+                let event = Event::PeerReplaced {
+                    peer,
+                    address,
+                    updates,
+                };
+                write_event(&self.rt, event);
+                return;
+            }
             let event = Event::PeerGone {
                 peer,
                 address,
@@ -77,7 +101,7 @@ impl<'a, R> Notes<'a, R> {
     }
 }
 
-impl<'a, R: Eprint + Clock> Gate for Notes<'a, R> {
+impl<'a, R: Eprint + Clock + Wait> Gate for Notes<'a, R> {
     fn turn(&self, _place: Place) {}
 
     fn stop(&self) -> bool {

@@ -1,13 +1,16 @@
 //! Sockets and the clock of the machine, as workers see them.
 
-ghost use Rattle.std.specs.Prelude.{◌≤◌};
+ghost use Rattle.std.specs.Prelude.{◌≡◌, ◌≤◌, length};
 
-use serve::{Caller, Came, Doors, ReadFailed, Source};
+use crate::connections::Connections;
+use crate::greeting::{Greeting, Hello, read_hello};
+use agg_types::Config;
+use serve::{Caller, Came, Doors, Faulted, Greeted, ReadFailed, Served, Source};
 use std::alloc::Global;
 use std::io;
 use std::io::{ErrorKind, Read, Write};
 use std::net::{SocketAddr, TcpListener, TcpStream};
-use std::sync::Arc;
+use std::sync::{Arc, Wait};
 use std::time::{Clock, Duration, Instant};
 
 /// How long a read waits, in ms.
@@ -18,6 +21,9 @@ const WRITE_LIMIT: u64 = 5000;
 
 /// The time between two moments, and before an accept that failed is tried again, in ms.
 const REST: u64 = 100;
+
+/// The time before an accept is tried again for which a waiting connection was closed, in ms.
+const SHORT_REST: u64 = 1;
 
 /// The moments since the start.
 #[derive(Drop)]
@@ -41,11 +47,19 @@ impl<R: Clock> serve::Clock for Ticks<R> {
     }
 }
 
-/// What a peer or an admin sends.
+/// What a peer or an admin sends: first what was read before it was served.
 #[derive(Drop)]
 pub struct Incoming {
     stream: Arc<TcpStream, Global>,
     sender: SocketAddr,
+    // Its number among the connections of peers, 0 for an admin's.
+    id: u64,
+    // Whose hello was read, by its place in the configuration.
+    peer: Option<usize>,
+    // What was read of it so far, from its end on, and whether nothing is read behind that.
+    read: Vec<u8>,
+    taken: usize,
+    is_over: bool,
     reads: u64,
     failed: u64,
     // Whether a read ends by itself where nothing comes.
@@ -53,6 +67,37 @@ pub struct Incoming {
     // Whether bytes came in the last read.
     is_fed: bool,
     ghost fewer: { failed ≤ reads },
+}
+
+impl Incoming {
+    // The same connection behind its hello, not read yet.
+    fn behind(self, read: Vec<u8>, hello: Hello) -> Incoming
+        ensures { result.reads ≡ 0 }
+    {
+        let Incoming {
+            stream,
+            sender,
+            id,
+            is_limited,
+            ..
+        } = self;
+        Incoming {
+            stream,
+            sender,
+            id,
+            peer: match hello {
+                Hello::Of(peer) => Some(peer),
+                _ => None,
+            },
+            read,
+            taken: 0,
+            is_over: hello == Hello::Late,
+            reads: 0,
+            failed: 0,
+            is_limited,
+            is_fed: false,
+        }
+    }
 }
 
 impl Source for Incoming {
@@ -66,6 +111,15 @@ impl Source for Incoming {
 
     fn read(&mut self, buffer: &mut [u8]) -> Result<Came, ReadFailed> {
         self.reads += 1;
+        let count = copy_front(self.read.as_slice(), self.taken, buffer);
+        if count > 0 {
+            self.taken = self.taken.saturating_add(count);
+            self.is_fed = true;
+            return Ok(Came::Bytes(count));
+        }
+        if self.is_over {
+            return Ok(Came::End);
+        }
         if !self.is_limited && self.is_fed {
             self.is_fed = false;
             return Ok(Came::Nothing);
@@ -94,6 +148,19 @@ impl Source for Incoming {
     }
 }
 
+// Copies bytes from a place on to the front of a buffer: how many.
+fn copy_front(bytes: &[u8], from: usize, buffer: &mut [u8]) -> usize
+    ensures { result ≤ length buffer.new }
+{
+    let left = match bytes.get(from..) {
+        None => return 0,
+        Some(left) => left,
+    };
+    let count = left.len().min(buffer.len());
+    buffer[..count].copy_from_slice(&left[..count]);
+    count
+}
+
 /// What is sent to a peer or an admin.
 #[derive(Drop)]
 pub struct Outgoing {
@@ -113,11 +180,21 @@ impl Write for Outgoing {
 
 /// Both listeners: the doors of a collector.
 #[derive(Drop)]
-pub struct Sockets<R> {
+pub struct Sockets<'a, R> {
     rt: R,
     alloc: Global,
     peers: TcpListener,
     admins: TcpListener,
+    connections: &'a Connections,
+}
+
+/// Whether descriptors, buffers or memory are lacking, so that another connection's end helps.
+fn lacks(fault: &io::Error) -> bool {
+    match fault.kind() {
+        ErrorKind::OutOfMemory => true,
+        // ENOMEM, ENFILE, EMFILE, ENOBUFS
+        _ => matches!(fault.raw_os_error(), Some(12 | 23 | 24 | 105)),
+    }
 }
 
 /// Whether an accept may do better later: the caller is gone, the call was interrupted, or
@@ -142,35 +219,47 @@ fn passes(fault: &io::Error) -> bool {
     }
 }
 
-impl<R> Sockets<R> {
-    /// The doors of these two listeners.
-    pub fn new(rt: R, alloc: Global, peers: TcpListener, admins: TcpListener) -> Sockets<R> {
+impl<'a, R> Sockets<'a, R> {
+    /// The doors of these two listeners, for these connections.
+    pub fn new(
+        rt: R,
+        alloc: Global,
+        peers: TcpListener,
+        admins: TcpListener,
+        connections: &'a Connections,
+    ) -> Sockets<'a, R> {
         Sockets {
             rt,
             alloc,
             peers,
             admins,
+            connections,
         }
     }
 }
 
-impl<R: Clock> Sockets<R> {
+impl<'a, R: Clock + Wait> Sockets<'a, R> {
     // A connection with its limits. What is sent leaves at once.
     fn caller(
         &self,
-        stream: TcpStream,
+        stream: Arc<TcpStream, Global>,
         sender: SocketAddr,
+        id: u64,
     ) -> io::Result<Caller<Incoming, Outgoing>> {
         stream.set_nodelay(true)?;
         stream.set_write_timeout(Some(Duration::from_millis(WRITE_LIMIT)))?;
         let limit = stream.set_read_timeout(Some(Duration::from_millis(READ_LIMIT)));
-        let stream = Arc::new(self.alloc, stream)?;
         let writer = Outgoing {
             stream: Arc::try_clone(&stream)?,
         };
         let source = Incoming {
             stream,
             sender,
+            id,
+            peer: None,
+            read: Vec::new(self.alloc),
+            taken: 0,
+            is_over: false,
             reads: 0,
             failed: 0,
             is_limited: limit.is_ok(),
@@ -179,35 +268,117 @@ impl<R: Clock> Sockets<R> {
         Ok(Caller { source, writer })
     }
 
-    // The next connection. None after a fault that won't pass.
-    fn accept(&self, listener: &TcpListener) -> Option<Caller<Incoming, Outgoing>> {
-        for _ in 0..u64::MAX {
-            match listener.accept() {
-                Ok((stream, sender)) => {
-                    if let Ok(caller) = self.caller(stream, sender) {
-                        return Some(caller);
-                    }
-                }
-                Err(fault) if passes(&fault) => self.rt.sleep(Duration::from_millis(REST)),
-                Err(_) => return None,
+    // A peer's connection that came, which waits for its hello from now on. None where memory is
+    // lacking, or the connection is gone.
+    fn waiting(&self, stream: TcpStream, sender: SocketAddr) -> Option<Caller<Incoming, Outgoing>> {
+        let stream = Arc::new(self.alloc, stream).ok()?;
+        let id = self.connections.come(&self.rt, &stream)?;
+        match self.caller(stream, sender, id) {
+            Ok(caller) => Some(caller),
+            Err(_) => {
+                self.connections.stop_waiting(&self.rt, id);
+                None
             }
         }
-        None
+    }
+
+    fn operator(
+        &self,
+        stream: TcpStream,
+        sender: SocketAddr,
+    ) -> Option<Caller<Incoming, Outgoing>> {
+        let stream = Arc::new(self.alloc, stream).ok()?;
+        self.caller(stream, sender, 0).ok()
+    }
+
+    // What to do about an accept that failed: whether it is tried again. Where a connection waits
+    // whose end helps, that one is closed.
+    fn tries_again(&self, fault: &io::Error) -> bool {
+        if !passes(fault) {
+            return false;
+        }
+        let rest = if lacks(fault) && self.connections.make_room(&self.rt) {
+            SHORT_REST
+        } else {
+            REST
+        };
+        self.rt.sleep(Duration::from_millis(rest));
+        true
     }
 }
 
-impl<R: Clock> Doors<Incoming, Outgoing> for Sockets<R> {
+impl<'a, R: Clock + Wait> Doors<Incoming, Outgoing> for Sockets<'a, R> {
     ghost use Rattle.std.specs.Prelude.{None};
 
     ghost unread = { None };
 
     ghost blank = { None };
 
+    // The next connection. None after a fault that won't pass.
     fn peer(&self) -> Option<Caller<Incoming, Outgoing>> {
-        self.accept(&self.peers)
+        for _ in 0..u64::MAX {
+            match self.peers.accept() {
+                Ok((stream, sender)) => {
+                    if let Some(caller) = self.waiting(stream, sender) {
+                        return Some(caller);
+                    }
+                }
+                Err(fault) if self.tries_again(&fault) => {}
+                Err(_) => return None,
+            }
+        }
+        None
     }
 
     fn admin(&self) -> Option<Caller<Incoming, Outgoing>> {
-        self.accept(&self.admins)
+        for _ in 0..u64::MAX {
+            match self.admins.accept() {
+                Ok((stream, sender)) => {
+                    if let Some(caller) = self.operator(stream, sender) {
+                        return Some(caller);
+                    }
+                }
+                Err(fault) if self.tries_again(&fault) => {}
+                Err(_) => return None,
+            }
+        }
+        None
+    }
+
+    fn greet(
+        &self,
+        config: &Config,
+        caller: Caller<Incoming, Outgoing>,
+    ) -> Greeted<Incoming, Outgoing> {
+        let Caller { source, writer } = caller;
+        let Greeting { bytes, hello } = read_hello(&self.rt, self.alloc, config, &source.stream);
+        self.connections.stop_waiting(&self.rt, source.id);
+        let _ = source
+            .stream
+            .set_read_timeout(Some(Duration::from_millis(READ_LIMIT)));
+        let source = source.behind(bytes, hello);
+        Greeted {
+            caller: Caller { source, writer },
+            is_welcome: matches!(hello, Hello::Of(_)),
+        }
+    }
+
+    fn seated(&self, source: &Incoming) {
+        if let Some(peer) = source.peer {
+            self.connections
+                .sit(&self.rt, peer, source.id, source.sender, &source.stream);
+        }
+    }
+
+    fn part_peer(
+        &self,
+        _config: &Config,
+        source: Incoming,
+        _writer: Outgoing,
+        _ended: Result<Served, Faulted>,
+    ) {
+        if let Some(peer) = source.peer {
+            self.connections.rise(&self.rt, peer, source.id);
+        }
     }
 }

@@ -3,11 +3,12 @@
 use crate::scene::Still;
 use agg_types::Config;
 use hub::PostFault;
-use listening::{Event, Notes, write_event};
+use listening::{Connections, Event, Notes, write_event};
 use serve::{Cause, Gate, Gone, News, Place};
 use session_core::{SessionCause, Status};
 use std::io;
 use std::net::{Ipv4Addr, SocketAddr, SocketAddrV4};
+use std::sync::Wait;
 
 /// Two peers, so that a line with the other's name shows.
 const CONFIGURATION: &[u8] = b"name agg\npeer lb1\npeer lb2\n";
@@ -48,7 +49,7 @@ fn sender() -> Option<SocketAddr> {
 }
 
 /// Prints the lines of all that is told.
-pub fn show<R: Print + Copy + AllocGlobal>(rt: &R) -> io::Result<()> {
+pub fn show<R: Print + Wait + Copy + AllocGlobal>(rt: &R) -> io::Result<()> {
     println!(rt; "== the log")?;
     let Ok(config) = agg_config::read(rt.alloc(), CONFIGURATION) else {
         return println!(rt; "no configuration");
@@ -60,9 +61,17 @@ pub fn show<R: Print + Copy + AllocGlobal>(rt: &R) -> io::Result<()> {
     let peers = address(9000);
     let admin = address(9001);
     write_event(&morning, Event::Listening { peers, admin });
+    let replaced = Event::PeerReplaced {
+        peer: b"lb1",
+        address: sender(),
+        updates: 812,
+    };
+    write_event(&morning, replaced);
+    let connections = Connections::new(rt.alloc());
     let notes = Notes {
         rt: morning,
         config: &config,
+        connections: &connections,
     };
     notes.tell(SESSION, News::Came(0));
     notes.tell(SESSION, News::Came(1));
@@ -78,7 +87,7 @@ pub fn show<R: Print + Copy + AllocGlobal>(rt: &R) -> io::Result<()> {
 }
 
 /// Connections that are over, by each cause, of a peer and of a stranger.
-fn show_ends<R: Print + AllocGlobal>(rt: &R, notes: &Notes<'_, Still<R>>) {
+fn show_ends<R: Print + Wait + AllocGlobal>(rt: &R, notes: &Notes<'_, Still<R>>) {
     show_end(notes, None);
     show_end(notes, Some(Cause::Read));
     show_end(notes, Some(Cause::Write));
@@ -91,7 +100,7 @@ fn show_ends<R: Print + AllocGlobal>(rt: &R, notes: &Notes<'_, Still<R>>) {
     show_end(notes, Some(Cause::Look));
 }
 
-fn show_end<R: Print>(notes: &Notes<'_, Still<R>>, cause: Option<Cause>) {
+fn show_end<R: Print + Wait>(notes: &Notes<'_, Still<R>>, cause: Option<Cause>) {
     let gone = Gone {
         sender: sender(),
         peer: Some(1),
@@ -103,7 +112,7 @@ fn show_end<R: Print>(notes: &Notes<'_, Still<R>>, cause: Option<Cause>) {
     show_stranger(notes, None, cause.as_ref());
 }
 
-fn show_stranger<R: Print>(
+fn show_stranger<R: Print + Wait>(
     notes: &Notes<'_, Still<R>>,
     name: Option<&[u8]>,
     cause: Option<&Cause>,
@@ -119,17 +128,23 @@ fn show_stranger<R: Print>(
 }
 
 /// The same line at odd moments, and where the clock fails.
-fn show_moments<R: Print + Copy>(rt: &R, config: &Config) {
+fn show_moments<R: Print + Wait + Copy + AllocGlobal>(rt: &R, config: &Config) {
     for moment in MOMENTS {
         show_moment(rt, config, Some(moment));
     }
     show_moment(rt, config, None);
 }
 
-fn show_moment<R: Print + Copy>(rt: &R, config: &Config, seconds: Option<u64>) {
+fn show_moment<R: Print + Wait + Copy + AllocGlobal>(
+    rt: &R,
+    config: &Config,
+    seconds: Option<u64>,
+) {
+    let connections = Connections::new(rt.alloc());
     let notes = Notes {
         rt: Still { rt: *rt, seconds },
         config,
+        connections: &connections,
     };
     notes.tell(SESSION, News::Came(0));
 }

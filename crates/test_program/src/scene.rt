@@ -7,6 +7,7 @@ use std::env::{Env, FillError};
 use std::fmt::Display;
 use std::io;
 use std::io::{BufRead, ErrorKind, Input, Lines, Read, Write};
+use std::sync::Wait;
 use std::time::{Clock, Duration};
 
 /// Arguments and an input in memory, and the standard output of another.
@@ -110,6 +111,8 @@ impl<R: Print> Eprint for Still<R> {
         self.rt.println(value)
     }
 }
+
+impl<R: Wait> Wait for Still<R> {}
 
 impl<R> Clock for Still<R> {
     fn monotonic(&self) -> io::Result<Duration> {

@@ -2,8 +2,9 @@
 //!
 //! The collector runs in a thread, with the configuration on standard input. A peer says hello,
 //! defines a table and sends three updates, each once the one before it is acknowledged; then an
-//! admin asks for the table. What each is answered is printed. The collector doesn't end by itself:
-//! the program ends while it runs.
+//! admin asks for the table. A stranger that says nothing is connected all the while, and a newer
+//! connection of the peer ends the older one. What each is answered is printed. The collector
+//! doesn't end by itself: the program ends while it runs.
 #![tactic(auto)]
 
 use anyhow::{Result, anyhow};
@@ -111,12 +112,25 @@ where
     Ok(status)
 }
 
+/// The peer calls again: what its newer connection is answered, and what comes on the older one.
+fn call_again(rt: &HostRuntime, peers: SocketAddr, older: &TcpStream) -> Result<()> {
+    let newer = connect(rt, peers)?;
+    let [(hello, count), ..] = TALK;
+    say(rt, &newer, hello, count)?;
+    let mut from = older;
+    let mut rest = [0; 16];
+    let count = from.read(&mut rest)?;
+    println!(rt; "the older connection: {count} more bytes")?;
+    Ok(())
+}
+
 fn main(rt: HostRuntime) -> Result<()> {
     let peers = free_address(&rt)?;
     let admin = free_address(&rt)?;
     let _collector = thread::spawn(&rt, move || {
         let _ = run(&rt, peers, admin);
     })?;
+    let _stranger = connect(&rt, peers)?;
     let peer = connect(&rt, peers)?;
     for (piece, count) in TALK {
         say(&rt, &peer, piece, count)?;
@@ -124,5 +138,6 @@ fn main(rt: HostRuntime) -> Result<()> {
     let asking = connect(&rt, admin)?;
     ask(&rt, rt.alloc(), &asking, b"show table t\n")?;
     ask(&rt, rt.alloc(), &asking, b"clear table t key 10.0.0.2\n")?;
-    ask(&rt, rt.alloc(), &asking, b"show table\n")
+    ask(&rt, rt.alloc(), &asking, b"show table\n")?;
+    call_again(&rt, peers, &peer)
 }
