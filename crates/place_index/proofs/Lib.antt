@@ -1,0 +1,8 @@
+pub mod Lists
+pub mod Joined
+pub mod Held
+pub mod Words
+pub mod Leading
+mod Filled
+mod Apart
+mod Lent

@@ -1,0 +1,10 @@
+use Rattle.std.proofs.Common.{◌≡◌, ◌<◌, ℕ, Some, slice_get}
+use Rattle.place_index.specs.Places.{key_at}
+use Rattle.place_index.specs.Slots.{held}
+use Rattle.place_index.specs.Windows.{word_of}
+use Rattle.place_index.proofs.reach.named_in.Given as goal
+
+abbrev pub invariant-loop-index : goal.invariant-loop-index
+invariant-loop-index g l =
+    (k at : ℕ) → k < l.index → key_at (held l.slots.slots.items) at ≡ Some l.key
+    → slice_get l.window k ≡ Some (word_of l.hash at) → ⊥

@@ -1,0 +1,267 @@
+ghost use Rattle.std.specs.Prelude.{◌≡◌, ◌≤◌, ◌<◌, ◌+◌, ◌-◌, ◌^◌, [], Some, None, length, IfOk};
+ghost use Rattle.std.specs.Prelude.{IsOk, OnOk, OnErr, IfSome, IfNone, IsSome, slice_set};
+ghost use Rattle.std.specs.Option.{option_copied};
+ghost use Rattle.place_index.specs.Places.{item_at, key_at, value_at, laid, revalued, filled};
+ghost use Rattle.place_index.specs.Slots.{held};
+ghost use Rattle.place_index.specs.Reach.{IsIndex, spare};
+ghost use Rattle.place_index.specs.Places.{AreDistinct, IsAbsent, AreEmpty};
+
+use crate::IndexKey;
+use crate::reach::Reach;
+use crate::slots::Slots;
+use agg_types::NoMemory;
+use std::alloc::Global;
+use std::marker::Model;
+
+/// Keys with values in numbered places.
+///
+/// Contracts see the list of the places, each empty or a key with its value, so a place's number
+/// stays right until the place is emptied, and for how many further keys there is room. No order
+/// is kept.
+#[derive(Drop)]
+pub struct PlaceIndex<K: IndexKey, V: Drop> {
+    slots: Slots<K, V>,
+    reach: Reach<K>,
+    // How many places are filled.
+    count: usize,
+    // How many further keys are sure to be laid down.
+    room: usize,
+}
+
+impl<K: IndexKey, V: Drop> Model for PlaceIndex<K, V> {
+    ghost use Rattle.place_index.specs.Places.{Numbered, numbered_code};
+    ghost use Rattle.place_index.specs.Slots.{held};
+    ghost use Rattle.place_index.specs.Reach.{IsIndex, IsCounted};
+
+    ghost Value = { Numbered K V };
+
+    ghost coded = { numbered_code K.code V.code };
+
+    ghost view = { λ a. record { places = held a.slots.slots.items; room = a.room } };
+
+    ghost invariant = { λ a. IsIndex K.cmp K.hashed a.reach (held a.slots.slots.items)
+        × IsCounted a.reach (held a.slots.slots.items) a.count a.slots.slots.room a.room };
+}
+
+impl<K: IndexKey, V: Drop> PlaceIndex<K, V> {
+    ghost use Rattle.std.specs.Borrow.{sem};
+    ghost use Rattle.place_index.specs.Lending.{lends_place};
+
+    /// No places, and room for no key. Takes no memory.
+    pub fn new(alloc: Global) -> PlaceIndex<K, V>
+        ensures places { result.places ≡ [] }
+        ensures room { result.room ≡ 0 }
+    {
+        PlaceIndex {
+            slots: Slots::new(alloc),
+            reach: Reach::new(alloc),
+            count: 0,
+            room: 0,
+        }
+    }
+
+    /// How many places there are, empty ones among them.
+    #[inline]
+    pub fn places(&self) -> usize
+        ensures { result ≡ length self.now.places }
+    {
+        self.slots.len()
+    }
+
+    /// How many places are filled. No key lies in two.
+    #[inline]
+    pub fn count(&self) -> usize
+        ensures value { result ≡ filled self.now.places }
+        ensures distinct { AreDistinct self.now.places }
+    {
+        self.count
+    }
+
+    /// The place of a key. No key has two.
+    #[inline]
+    pub fn find(&self, key: &K) -> Option<usize>
+        ensures some { IfSome result (λ at. key_at self.now.places at ≡ Some key.now) }
+        ensures none { IfNone result (IsAbsent self.now.places key.now) }
+        ensures distinct { AreDistinct self.now.places }
+    {
+        look(&self.slots, &self.reach, key)
+    }
+
+    /// The key in a place.
+    #[inline]
+    pub fn key(&self, at: usize) -> Option<&K>
+        ensures { option_copied result ≡ key_at self.now.places at }
+    {
+        self.slots.key(at)
+    }
+
+    /// The value in a place.
+    #[inline]
+    pub fn value(&self, at: usize) -> Option<&V>
+        ensures { option_copied result ≡ value_at self.now.places at }
+    {
+        self.slots.value(at)
+    }
+
+    /// Lends the value in a place that isn't empty for writing: once the borrow ends, the place has
+    /// what was left there beside its key, and nothing else has changed.
+    #[inline]
+    pub fn value_mut(&mut self, at: usize) -> &mut V
+        requires { IsSome (item_at self.old.places at) }
+        ensures* writes_back { sem 𝓛 (lends_place K.row V.row
+            (record { hashed = K.hashed }) (record { cmp = K.cmp }) (record { eq = K.eq })
+            (record { partial_cmp = K.partial_cmp }) self.entry at result) }
+        ensures value { value_at self.old.places at ≡ Some result.now }
+    {
+        self.slots.value_mut(at)
+    }
+
+    /// Makes room for so many further keys: as many inserts are then sure to be answered `Ok`,
+    /// whatever memory there is. After `NoMemory` there is room for as many as before.
+    pub fn reserve(&mut self, keys: usize) -> Result<(), NoMemory>
+        ensures places { self.new.places ≡ self.old.places }
+        ensures ok { OnOk result (keys ≤ self.new.room) }
+        ensures room { self.old.room ≤ self.new.room }
+        ensures err { OnErr result (self.new ≡ self.old) }
+        ensures held { keys ≤ self.old.room → IsOk result }
+    {
+        if keys <= self.room {
+            return Ok(());
+        }
+        self.slots.reserve(keys)?;
+        self.reach.reserve(keys)?;
+        self.room = keys;
+        Ok(())
+    }
+
+    /// Lays a key that has no place into an empty one, or into a new one behind the last, and
+    /// answers its number. After `NoMemory`, which doesn't come where there is room, nothing has
+    /// changed.
+    pub fn insert(&mut self, key: K, value: V) -> Result<usize, NoMemory>
+        requires { IsAbsent self.old.places key }
+        ensures bound { IfOk result (λ at. at ≤ length self.old.places) }
+        ensures empty { IfOk result (λ at. item_at self.old.places at ≡ None) }
+        ensures ok { IfOk result
+            (λ at. self.new.places ≡ laid self.old.places at (Some (key, value))) }
+        ensures room { OnOk result (self.new.room ≡ self.old.room - 1) }
+        ensures err { OnErr result (self.new ≡ self.old) }
+        ensures reserved { 0 < self.old.room → IsOk result }
+    {
+        let at = lay(&mut self.slots, &mut self.reach, key, value)?;
+        self.count += 1;
+        self.room = self.room.saturating_sub(1);
+        Ok(at)
+    }
+
+    /// Exchanges the value in a place, and answers the one before: none where the place is empty,
+    /// which it then stays.
+    pub fn replace(&mut self, at: usize, value: V) -> Option<V>
+        ensures value { result ≡ value_at self.old.places at }
+        ensures after { self.new.places ≡ revalued self.old.places at value }
+        ensures room { self.new.room ≡ self.old.room }
+    {
+        exchange(&mut self.slots, &self.reach, at, value)
+    }
+
+    /// Empties a place, and answers what lay there.
+    pub fn remove(&mut self, at: usize) -> Option<(K, V)>
+        ensures value { result ≡ item_at self.old.places at }
+        ensures after { self.new.places ≡ slice_set self.old.places at None }
+        ensures room { self.new.room ≡ self.old.room }
+    {
+        let item = take(&mut self.slots, &mut self.reach, at)?;
+        self.count -= 1;
+        Some(item)
+    }
+
+    /// The first place from a number on that isn't empty: the step of a walk over places.
+    pub fn first_from(&self, from: usize) -> Option<usize>
+        ensures some { IfSome result (λ at. from ≤ at) }
+        ensures filled { IfSome result (λ at. IsSome (item_at self.now.places at)) }
+        ensures before { IfSome result (λ at. AreEmpty self.now.places from at) }
+        ensures none { IfNone result (AreEmpty self.now.places from (length self.now.places)) }
+    {
+        self.slots.first_from(from)
+    }
+}
+
+// The place of a key.
+#[inline]
+fn look<K: IndexKey, V: Drop>(slots: &Slots<K, V>, reach: &Reach<K>, key: &K) -> Option<usize>
+    requires { IsIndex K.cmp K.hashed reach.now (held slots.now.slots.items) }
+    ensures some { IfSome result (λ at. key_at (held slots.now.slots.items) at ≡ Some key.now) }
+    ensures none { IfNone result (IsAbsent (held slots.now.slots.items) key.now) }
+    ensures distinct { AreDistinct (held slots.now.slots.items) }
+{
+    reach.find(slots, key)
+}
+
+// Lays a key that has no place into an empty one, and answers its number.
+fn lay<K: IndexKey, V: Drop>(
+    slots: &mut Slots<K, V>,
+    reach: &mut Reach<K>,
+    key: K,
+    value: V,
+) -> Result<usize, NoMemory>
+    requires index { IsIndex K.cmp K.hashed reach.old (held slots.old.slots.items) }
+    requires absent { IsAbsent (held slots.old.slots.items) key }
+    ensures index { IsIndex K.cmp K.hashed reach.new (held slots.new.slots.items) }
+    ensures bound { IfOk result (λ at. at ≤ length (held slots.old.slots.items)) }
+    ensures empty { IfOk result (λ at. item_at (held slots.old.slots.items) at ≡ None) }
+    ensures ok { IfOk result (λ at. held slots.new.slots.items
+        ≡ laid (held slots.old.slots.items) at (Some (key, value))) }
+    ensures err { OnErr result (held slots.new.slots.items ≡ held slots.old.slots.items) }
+    ensures small { OnOk result (length (held slots.new.slots.items) < 2 ^ 64) }
+    ensures free { slots.old.slots.room ≤ slots.new.slots.room + 1 }
+    ensures spare { spare reach.old ≤ spare reach.new + 1 }
+    ensures reserved { 0 < slots.old.slots.room → 0 < spare reach.old → IsOk result }
+{
+    let at = slots.vacant();
+    slots.reserve(1)?;
+    reach.reserve(1)?;
+    reach.grow(slots.len().saturating_add(1));
+    reach.put(&key, at);
+    slots.fill(at, key, value);
+    Ok(at)
+}
+
+// Exchanges the value in a place.
+fn exchange<K: IndexKey, V: Drop>(
+    slots: &mut Slots<K, V>,
+    reach: &Reach<K>,
+    at: usize,
+    value: V,
+) -> Option<V>
+    requires { IsIndex K.cmp K.hashed reach.now (held slots.old.slots.items) }
+    ensures index { IsIndex K.cmp K.hashed reach.now (held slots.new.slots.items) }
+    ensures value { result ≡ value_at (held slots.old.slots.items) at }
+    ensures after { held slots.new.slots.items
+        ≡ revalued (held slots.old.slots.items) at value }
+    ensures filled { filled (held slots.new.slots.items)
+        ≡ filled (held slots.old.slots.items) }
+    ensures free { slots.new.slots.room ≡ slots.old.slots.room }
+{
+    slots.replace(at, value)
+}
+
+// Empties a place, and answers what lay there.
+fn take<K: IndexKey, V: Drop>(
+    slots: &mut Slots<K, V>,
+    reach: &mut Reach<K>,
+    at: usize,
+) -> Option<(K, V)>
+    requires { IsIndex K.cmp K.hashed reach.old (held slots.old.slots.items) }
+    ensures index { IsIndex K.cmp K.hashed reach.new (held slots.new.slots.items) }
+    ensures value { result ≡ item_at (held slots.old.slots.items) at }
+    ensures after { held slots.new.slots.items ≡ slice_set (held slots.old.slots.items) at None }
+    ensures free { slots.new.slots.room ≡ slots.old.slots.room }
+    ensures spare { spare reach.old ≤ spare reach.new }
+{
+    match slots.empty(at) {
+        Some(item) => {
+            reach.clear(&item.0, at);
+            Some(item)
+        }
+        None => None,
+    }
+}

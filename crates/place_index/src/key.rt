@@ -1,0 +1,51 @@
+ghost use Rattle.std.specs.Prelude.{◌≡◌, ℕ, IfOk};
+ghost use Rattle.place_index.specs.Hash.{hash_of_bytes};
+ghost use Rattle.std.specs.declared.cmp.Ordering.TheVariants.{Equal};
+ghost use Rattle.std.proofs.lemmas.Map.Lookups.{exact_bytes};
+
+use agg_types::{Key, NoMemory};
+use std::alloc::Global;
+
+/// What an index asks of its keys: a hash, and copies for the few keys that its ordered map holds.
+///
+/// Any function will do as the hash. Keys of one hash cost what an ordered map costs.
+pub trait IndexKey: Ord + Drop {
+    /// The hash, as a function of the key.
+    ghost hashed: { Self → ℕ };
+
+    /// The key's hash.
+    fn hash_of(&self) -> u32
+        ensures { result ≡ hashed self.now };
+
+    /// An equal key.
+    fn again(&self, alloc: Global) -> Result<Self, NoMemory>
+        ensures { IfOk result (λ key. key ≡ self.now) };
+
+    /// Keys that compare as equal are the same.
+    ghost exact: { (x y : Self) → Self.cmp x y ≡ Equal → x ≡ y };
+}
+
+// An odd number whose bits are in no order.
+const ODD: u64 = 11400714819323198485;
+
+// The state before the first byte.
+const BEGIN: u64 = 14695981039346656037;
+
+impl IndexKey for Key {
+    ghost hashed = { hash_of_bytes };
+
+    ghost exact = { exact_bytes };
+
+    fn hash_of(&self) -> u32 {
+        let bytes = self.as_slice();
+        let mut state = BEGIN;
+        for byte in bytes {
+            state = (state ^ u64::from(*byte)).wrapping_mul(ODD);
+        }
+        (state >> 32) as u32
+    }
+
+    fn again(&self, alloc: Global) -> Result<Key, NoMemory> {
+        self.duplicate(alloc)
+    }
+}

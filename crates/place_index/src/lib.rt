@@ -1,0 +1,44 @@
+//! An exact index: keys with values in numbered places. `peer_rows` keeps the rows of a table in
+//! one.
+//!
+//! Contracts see the list of the places, each empty or a key with its value, so a place's number is
+//! part of the contract, and beside it for how many further keys there is room. `find` answers the
+//! place of a key, or that none has it; no key has two. `insert` fills an empty place, or a new one
+//! behind the last, and answers its number; `remove` empties one; `replace` exchanges the value in
+//! one, and `value_mut` lends it for writing. All other places stay as they are. `count` is the
+//! number of filled places, and `first_from` the step of a walk over them. No order is kept.
+//!
+//! `reserve` makes room for so many keys, or changes nothing. As many inserts are then answered
+//! `Ok`, whatever memory there is: each takes one from the room, and nothing else takes any.
+//! `NoMemory`, which only `reserve` and an `insert` without room answer, leaves places and room as
+//! they were. It comes where an allocation failed, and would come at the last number that a `usize`
+//! has.
+//!
+//! Words name the places. A key's hash chooses a window of eight words, and a key that finds no
+//! free word there goes to an ordered map. So keys that are made to collide cost what an ordered
+//! map costs, and the hash needs no secret. Where the map has no memory, the place goes to a short
+//! list whose memory was taken with the room, and each search that ends there walks it. Nothing
+//! that a word, the map or the list says is believed before the place's key was looked at. So all
+//! that is proved of them is one direction: each filled place is reached from its key.
+//!
+//! Windows are made one by one as places come, each out of one other whose words it parts. Places
+//! and windows lie in segments of 1,024, which never move; the memory of a segment is taken at
+//! once, and written only as items come. So an insert moves eight words, and the list of the
+//! segments' addresses where that grows: at most 48 KB, up to four million places.
+//!
+//! No clause says how long a call takes; that keys stand in windows at all, that windows grow, and
+//! that words and entries which name nothing any more are gone (a `remove` that leaves them would
+//! meet its contract, and be slow); that an empty place is taken before a new one; how much memory
+//! is used, and that an insert with room asks for none, only that it does without. A key stays in
+//! the ordered map or in the list until it is removed, though there may be room elsewhere again.
+#![tactic(auto)]
+
+mod index;
+mod key;
+mod reach;
+mod segments;
+mod slots;
+mod windows;
+
+pub use index::PlaceIndex;
+pub use key::IndexKey;

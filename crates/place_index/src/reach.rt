@@ -1,0 +1,244 @@
+//! How a key's place is found.
+ghost use Rattle.std.specs.Prelude.{◌≡◌, ◌≢◌, ◌<◌, ◌≤◌, ◌+◌, ℕ, Some, slice_get, IfSome, IfNone};
+ghost use Rattle.std.specs.Prelude.{IsTrue, IsOk, OnOk};
+ghost use Rattle.std.specs.BTreeMap.{is_at};
+ghost use Rattle.std.specs.Map.{lookup};
+ghost use Rattle.std.specs.Vec.{vec_len, vec_capacity};
+ghost use Rattle.place_index.specs.Loose.{IsLoose};
+ghost use Rattle.place_index.specs.Places.{key_at};
+ghost use Rattle.place_index.specs.Slots.{held};
+ghost use Rattle.place_index.specs.Windows.{word_of, IsIn};
+ghost use Rattle.place_index.specs.Reach.{Leads, spare};
+
+use crate::IndexKey;
+use crate::slots::Slots;
+use crate::windows::{Windows, Word, word_at};
+use agg_types::NoMemory;
+use std::alloc::Global;
+use std::collections::BTreeMap;
+
+/// How a key's place is found: by a word of its hash's window, by an ordered map of the keys that
+/// found no room there, or by a look at each of the few places for which the map had no memory.
+#[derive(Drop)]
+pub(crate) struct Reach<K: Ord> {
+    windows: Windows,
+    crowded: BTreeMap<K, usize>,
+    // Memory for them is taken beforehand. None of them once memory is to be had again.
+    loose: Vec<usize>,
+}
+
+impl<K: IndexKey> Reach<K> {
+    /// Nothing is found. Takes no memory.
+    pub(crate) fn new(alloc: Global) -> Reach<K> {
+        Reach {
+            windows: Windows::new(alloc),
+            crowded: BTreeMap::new(alloc),
+            loose: Vec::new(alloc),
+        }
+    }
+
+    /// The place of a key.
+    #[inline]
+    pub(crate) fn find<V: Drop>(&self, slots: &Slots<K, V>, key: &K) -> Option<usize>
+        ensures some { IfSome result (λ at. key_at (held slots.now.slots.items) at ≡ Some key.now) }
+        ensures none { IfNone result ((at : ℕ)
+            → key_at (held slots.now.slots.items) at ≡ Some key.now
+            → Leads K.cmp K.hashed self.now key.now at → ⊥) }
+    {
+        let hash = key.hash_of();
+        if let Some(at) = named_in(self.windows.window(hash), slots, hash, key) {
+            return Some(at);
+        }
+        if let Some(at) = crowded_at(&self.crowded, slots, key) {
+            return Some(at);
+        }
+        loose_in(&self.loose, slots, key)
+    }
+
+    /// Takes memory for so many keys, or for none.
+    pub(crate) fn reserve(&mut self, keys: usize) -> Result<(), NoMemory>
+        ensures others { (k : K) (q : ℕ) → Leads K.cmp K.hashed self.old k q
+            → Leads K.cmp K.hashed self.new k q }
+        ensures ok { OnOk result (keys ≤ spare self.new) }
+        ensures spare { spare self.old ≤ spare self.new }
+        ensures held { keys ≤ spare self.old → IsOk result }
+    {
+        self.loose.reserve(keys)?;
+        Ok(())
+    }
+
+    /// Has the place of a key be found.
+    pub(crate) fn put(&mut self, key: &K, at: usize)
+        requires { 0 < spare self.old }
+        ensures leads { Leads K.cmp K.hashed self.new key.now at }
+        ensures others { (k : K) (q : ℕ) → k ≢ key.now → Leads K.cmp K.hashed self.old k q
+            → Leads K.cmp K.hashed self.new k q }
+        ensures spare { spare self.old ≤ spare self.new + 1 }
+    {
+        if self.windows.put(key.hash_of(), at) {
+            return;
+        }
+        let alloc = *self.loose.allocator();
+        if remember(&mut self.crowded, alloc, key, at) {
+            return;
+        }
+        self.loose.push_reserved(at);
+    }
+
+    /// Has the place of a key be found no more.
+    pub(crate) fn clear(&mut self, key: &K, at: usize)
+        ensures others { (k : K) (q : ℕ) → k ≢ key.now → q ≢ at → Leads K.cmp K.hashed self.old k q
+            → Leads K.cmp K.hashed self.new k q }
+        ensures spare { spare self.old ≤ spare self.new }
+    {
+        let cleared = self.windows.clear(key.hash_of(), at);
+        forget(&mut self.crowded, key, cleared);
+        drop_loose(&mut self.loose, at);
+    }
+
+    /// Makes room for so many places, a little with each call, if there is memory for it.
+    pub(crate) fn grow(&mut self, places: usize)
+        ensures others { (k : K) (q : ℕ) → Leads K.cmp K.hashed self.old k q
+            → Leads K.cmp K.hashed self.new k q }
+        ensures spare { spare self.new ≡ spare self.old }
+    {
+        if !self.windows.is_small(places) {
+            return;
+        }
+        self.windows.grow();
+    }
+}
+
+// The place of a key, if a word of the window names it.
+#[inline]
+fn named_in<K: IndexKey, V: Drop>(
+    window: &[Word],
+    slots: &Slots<K, V>,
+    hash: u32,
+    key: &K,
+) -> Option<usize>
+    ensures some { IfSome result (λ at. key_at (held slots.now.slots.items) at ≡ Some key.now) }
+    ensures none { IfNone result ((at : ℕ) → key_at (held slots.now.slots.items) at ≡ Some key.now
+        → IsIn window.now (word_of hash at) → ⊥) }
+{
+    for index in 0..window.len() {
+        if let Some(at) = named_at(window, index, slots, hash, key) {
+            return Some(at);
+        }
+    }
+    None
+}
+
+// The place of a key, if the word of an index names it.
+#[inline]
+fn named_at<K: IndexKey, V: Drop>(
+    window: &[Word],
+    index: usize,
+    slots: &Slots<K, V>,
+    hash: u32,
+    key: &K,
+) -> Option<usize>
+    ensures some { IfSome result (λ at. key_at (held slots.now.slots.items) at ≡ Some key.now) }
+    ensures none { IfNone result ((at : ℕ) → key_at (held slots.now.slots.items) at ≡ Some key.now
+        → slice_get window.now index ≢ Some (word_of hash at)) }
+{
+    match word_at(window, index) {
+        Some(word) => named_by(*word, slots, hash, key),
+        None => None,
+    }
+}
+
+// The place of a key, if the word names it.
+#[inline]
+fn named_by<K: IndexKey, V: Drop>(
+    word: Word,
+    slots: &Slots<K, V>,
+    hash: u32,
+    key: &K,
+) -> Option<usize>
+    ensures some { IfSome result (λ at. key_at (held slots.now.slots.items) at ≡ Some key.now) }
+    ensures none { IfNone result ((at : ℕ) → key_at (held slots.now.slots.items) at ≡ Some key.now
+        → word ≢ word_of hash at) }
+{
+    match word.named(hash) {
+        Some(at) => checked(slots, at, key),
+        None => None,
+    }
+}
+
+// The place of a key, if the map has it.
+fn crowded_at<K: IndexKey, V: Drop>(
+    crowded: &BTreeMap<K, usize>,
+    slots: &Slots<K, V>,
+    key: &K,
+) -> Option<usize>
+    ensures some { IfSome result (λ at. key_at (held slots.now.slots.items) at ≡ Some key.now) }
+    ensures none { IfNone result ((at : ℕ) → key_at (held slots.now.slots.items) at ≡ Some key.now
+        → lookup (is_at (K.cmp key.now)) crowded.now.entries ≢ Some at) }
+{
+    match crowded.get(key) {
+        Some(at) => checked(slots, *at, key),
+        None => None,
+    }
+}
+
+// The place of a key, if it is among some.
+fn loose_in<K: IndexKey, V: Drop>(loose: &[usize], slots: &Slots<K, V>, key: &K) -> Option<usize>
+    ensures some { IfSome result (λ at. key_at (held slots.now.slots.items) at ≡ Some key.now) }
+    ensures none { IfNone result ((at : ℕ) → key_at (held slots.now.slots.items) at ≡ Some key.now
+        → IsLoose loose.now at → ⊥) }
+{
+    for index in 0..loose.len() {
+        if let Some(at) = checked(slots, loose[index], key) {
+            return Some(at);
+        }
+    }
+    None
+}
+
+// A place, if the key lies there.
+#[inline]
+fn checked<K: IndexKey, V: Drop>(slots: &Slots<K, V>, at: usize, key: &K) -> Option<usize>
+    ensures some { IfSome result
+        (λ place. key_at (held slots.now.slots.items) place ≡ Some key.now) }
+    ensures none { IfNone result (key_at (held slots.now.slots.items) at ≢ Some key.now) }
+{
+    if slots.is_of(at, key) { Some(at) } else { None }
+}
+
+// Puts a key into the map, if there is memory for it.
+fn remember<K: IndexKey>(
+    crowded: &mut BTreeMap<K, usize>,
+    alloc: Global,
+    key: &K,
+    at: usize,
+) -> bool
+    ensures has { IsTrue result → lookup (is_at (K.cmp key.now)) crowded.new.entries ≡ Some at }
+    ensures others { (k : K) → k ≢ key.now → lookup (is_at (K.cmp k)) crowded.new.entries
+        ≡ lookup (is_at (K.cmp k)) crowded.old.entries }
+{
+    match key.again(alloc) {
+        Ok(own) => crowded.insert(own, at).is_ok(),
+        Err(_) => false,
+    }
+}
+
+// Takes a key out of the map, unless its word was cleared.
+fn forget<K: IndexKey>(crowded: &mut BTreeMap<K, usize>, key: &K, cleared: bool)
+    ensures { (k : K) → k ≢ key.now → lookup (is_at (K.cmp k)) crowded.new.entries
+        ≡ lookup (is_at (K.cmp k)) crowded.old.entries }
+{
+    if cleared {
+        return;
+    }
+    crowded.remove(key);
+}
+
+// Takes a place out of some.
+fn drop_loose(loose: &mut Vec<usize>, at: usize)
+    ensures others { (q : ℕ) → q ≢ at → IsLoose loose.old.items q → IsLoose loose.new.items q }
+    ensures len { vec_len loose.new ≤ vec_len loose.old }
+    ensures capacity { vec_capacity loose.new ≡ vec_capacity loose.old }
+{
+    loose.retain(|own| *own != at);
+}

@@ -1,0 +1,261 @@
+//! Words that name the places of keys, in windows that their hashes choose.
+ghost use Rattle.std.specs.Prelude.{◌≡◌, ◌≢◌, ℕ, ◌<◌, ◌%◌, [], Some, length, slice_get, IfSome};
+ghost use Rattle.std.specs.Prelude.{IsTrue, slice_index_or};
+ghost use Rattle.std.specs.Option.{option_copied};
+ghost use Rattle.place_index.specs.Windows.{word_of, home, IsFreeAt, IsIn, Has};
+
+use crate::segments::Segments;
+use std::alloc::Global;
+
+/// How many words a window has: a line of the cache.
+const WIDTH: usize = 8;
+
+/// The number of a place that may have a key of this hash, plus one. A word of number 0 is free.
+#[derive(Clone, Copy)]
+pub(crate) struct Word {
+    hash: u32,
+    place: u32,
+}
+
+/// A word that names nothing.
+const FREE: Word = Word { hash: 0, place: 0 };
+
+impl Word {
+    /// The word that names a place for keys of a hash, if its number fits.
+    pub(crate) fn naming(hash: u32, at: usize) -> Option<Word>
+        ensures { IfSome result (λ word. word ≡ word_of hash at) }
+    {
+        let place = u32::try_from(at.checked_add(1)?).ok()?;
+        Some(Word { hash, place })
+    }
+
+    /// The place that the word names for keys of a hash.
+    #[inline]
+    pub(crate) fn named(self, hash: u32) -> Option<usize>
+        ensures { (at : ℕ) → self ≡ word_of hash at → result ≡ Some at }
+    {
+        if self.hash != hash {
+            return None;
+        }
+        (self.place as usize).checked_sub(1)
+    }
+}
+
+/// The words next to each other that keys of one hash may have.
+pub(crate) type Window = [Word; WIDTH];
+
+/// All windows. They are made one by one, each out of an older one whose words it parts.
+///
+/// Nothing is said of where words stand, nor that a key has one: whoever finds no word looks
+/// elsewhere, and whoever finds one looks at its place.
+#[derive(Drop)]
+pub(crate) struct Windows {
+    windows: Segments<Window>,
+    // A hash chooses among so many windows, as far as there are so many.
+    wide: u32,
+    // Half of `wide`: how far below a missing window the one is that stands for it.
+    half: u32,
+}
+
+impl Windows {
+    /// No windows. Takes no memory.
+    pub(crate) fn new(alloc: Global) -> Windows {
+        Windows {
+            windows: Segments::new(alloc),
+            wide: 2,
+            half: 1,
+        }
+    }
+
+    /// What the windows are made with, and keys are.
+    pub(crate) fn allocator(&self) -> Global {
+        self.windows.allocator()
+    }
+
+    // The number of the window of a hash.
+    #[inline]
+    fn home(&self, hash: u32) -> usize
+        ensures { result ≡ home self.now.wide self.now.half (length self.now.windows.items) hash }
+    {
+        let low = modulo(hash, self.wide) as usize;
+        if low < self.windows.len() {
+            low
+        } else {
+            low.saturating_sub(self.half as usize)
+        }
+    }
+
+    /// The window of a hash.
+    #[inline]
+    pub(crate) fn window(&self, hash: u32) -> &[Word]
+        ensures { result.now ≡ slice_index_or self.now.windows.items
+            (home self.now.wide self.now.half (length self.now.windows.items) hash) [] }
+    {
+        match self.windows.get(self.home(hash)) {
+            Some(window) => window.as_slice(),
+            None => &[],
+        }
+    }
+
+    // The window of a number, or a free one where there is none.
+    fn window_at(&self, number: usize) -> Window
+        ensures { (word : Word) → IsIn (slice_index_or self.now.windows.items number []) word
+            → IsIn result word }
+    {
+        match self.windows.get(number) {
+            Some(window) => *window,
+            None => [FREE; WIDTH],
+        }
+    }
+
+    /// Writes a word that names the place, if the window has a free one.
+    pub(crate) fn put(&mut self, hash: u32, at: usize) -> bool
+        ensures has { IsTrue result → Has self.new hash at }
+        ensures others { (h q : ℕ) → Has self.old h q → Has self.new h q }
+    {
+        let Some(word) = Word::naming(hash, at) else {
+            return false;
+        };
+        let home = self.home(hash);
+        let mut window = self.window_at(home);
+        let Some(free) = free_in(&window) else {
+            return false;
+        };
+        window[free] = word;
+        self.windows.replace(home, window).is_some()
+    }
+
+    /// Frees the word that names the place.
+    pub(crate) fn clear(&mut self, hash: u32, at: usize) -> bool
+        ensures { (h q : ℕ) → q ≢ at → Has self.old h q → Has self.new h q }
+    {
+        let Some(word) = Word::naming(hash, at) else {
+            return false;
+        };
+        let home = self.home(hash);
+        let mut window = self.window_at(home);
+        let Some(index) = index_in(&window, word) else {
+            return false;
+        };
+        window[index] = FREE;
+        self.windows.replace(home, window).is_some()
+    }
+
+    /// Whether there are fewer windows than so many places want: two for seven places.
+    pub(crate) fn is_small(&self, places: usize) -> bool {
+        self.windows.len().saturating_mul(7) < places.saturating_mul(2)
+    }
+
+    /// Makes a further window, if there is memory for it.
+    pub(crate) fn grow(&mut self)
+        ensures { (h q : ℕ) → Has self.old h q → Has self.new h q }
+    {
+        self.widen();
+        self.add();
+    }
+
+    // Makes a further window out of the one that stood for it, whose words it parts.
+    fn add(&mut self)
+        ensures { (h q : ℕ) → Has self.old h q → Has self.new h q }
+    {
+        let count = self.windows.len();
+        let from = count.saturating_sub(self.half as usize);
+        let window = self.window_at(from);
+        let sides = parted(&window, self.wide, count);
+        let Ok(()) = self.windows.push(sides.1) else {
+            return;
+        };
+        self.windows.replace(from, sides.0);
+    }
+
+    // Once there are as many windows as a hash chooses among, it chooses among twice as many.
+    fn widen(&mut self)
+        ensures { (h q : ℕ) → Has self.old h q → Has self.new h q }
+    {
+        if self.windows.len() != self.wide as usize {
+            return;
+        }
+        if self.wide == 0 {
+            return;
+        }
+        if let Some(wide) = self.wide.checked_mul(2) {
+            self.half = self.wide;
+            self.wide = wide;
+        }
+    }
+}
+
+// The remainder of a division, which by 0 leaves all.
+#[inline]
+fn modulo(hash: u32, by: u32) -> u32
+    ensures { result ≡ hash % by }
+{
+    if by == 0 { hash } else { hash % by }
+}
+
+// The index of a free word.
+fn free_in(window: &Window) -> Option<usize>
+    ensures within { IfSome result (λ index. index < 8) }
+    ensures free { IfSome result (λ index. IsFreeAt window.now index) }
+{
+    window.iter().position(|word| word.place == 0)
+}
+
+// The index of a word.
+fn index_in(window: &Window, word: Word) -> Option<usize>
+    ensures within { IfSome result (λ index. index < 8) }
+    ensures is { IfSome result (λ index. slice_get window.now index ≡ Some word) }
+{
+    window
+        .iter()
+        .position(|own| own.hash == word.hash && own.place == word.place)
+}
+
+// The words of a window that stay, and those that go to a new one: whose hash chooses that number.
+fn parted(window: &Window, wide: u32, number: usize) -> (Window, Window)
+    ensures stay { (word : Word) → IsIn window.now word → word.hash % wide ≢ number
+        → IsIn result.0 word }
+    ensures go { (word : Word) → IsIn window.now word → word.hash % wide ≡ number
+        → IsIn result.1 word }
+{
+    let mut stay = [FREE; WIDTH];
+    let mut go = [FREE; WIDTH];
+    for index in 0..WIDTH {
+        let sides = sides(window, index, wide, number);
+        stay[index] = sides.0;
+        go[index] = sides.1;
+    }
+    (stay, go)
+}
+
+// The word of an index on the side of those that stay, or of those that go.
+fn sides(window: &Window, index: usize, wide: u32, number: usize) -> (Word, Word)
+    ensures stay { (word : Word) → slice_get window.now index ≡ Some word
+        → word.hash % wide ≢ number → result.0 ≡ word }
+    ensures go { (word : Word) → slice_get window.now index ≡ Some word
+        → word.hash % wide ≡ number → result.1 ≡ word }
+{
+    match word_at(window, index) {
+        Some(word) => side_of(*word, wide, number),
+        None => (FREE, FREE),
+    }
+}
+
+fn side_of(word: Word, wide: u32, number: usize) -> (Word, Word)
+    ensures stay { word.hash % wide ≢ number → result.0 ≡ word }
+    ensures go { word.hash % wide ≡ number → result.1 ≡ word }
+{
+    if modulo(word.hash, wide) as usize == number {
+        (FREE, word)
+    } else {
+        (word, FREE)
+    }
+}
+
+/// The word of an index.
+#[inline]
+pub(crate) fn word_at(window: &[Word], index: usize) -> Option<&Word>
+    ensures { option_copied result ≡ slice_get window.now index }
+{
+    window.get(index)
+}
