@@ -1,0 +1,63 @@
+//! Keys whose hashes choose one window: what it has no room for goes to the ordered map.
+
+use crate::laying::{key, lay, place};
+use agg_types::{Key, NoMemory};
+use anyhow::Result;
+use place_index::{IndexKey, PlaceIndex};
+use std::alloc::Global;
+
+/// How many keys there are.
+const NUMBER: usize = 30;
+
+/// Numbers whose keys' hashes leave the same remainders by 2, 4, 8 and so on up to 64: for 30 keys
+/// there are at most 9 windows, which 16 remainders choose.
+fn colliding(alloc: Global) -> Result<Vec<u32>, NoMemory> {
+    let mut numbers = Vec::new(alloc);
+    for number in 0..100_000u32 {
+        if numbers.len() >= NUMBER {
+            break;
+        }
+        if key(alloc, number)?.hash_of() % 64 == 7 {
+            numbers.push(number)?;
+        }
+    }
+    Ok(numbers)
+}
+
+/// How many of the numbers' keys are there, each in a place that has it as its value.
+fn held(alloc: Global, index: &PlaceIndex<Key, u32>, numbers: &[u32]) -> Result<u32> {
+    let mut count = 0u32;
+    for number in numbers {
+        if let Some(at) = place(alloc, index, *number)?
+            && index.value(at) == Some(number)
+        {
+            count = count.saturating_add(1);
+        }
+    }
+    Ok(count)
+}
+
+/// Lays the keys down, takes every other one out, and lays them down again.
+pub fn run(rt: &HostRuntime) -> Result<()> {
+    let alloc = rt.alloc();
+    let numbers = colliding(alloc)?;
+    let mut index = PlaceIndex::<Key, u32>::new(alloc);
+    for number in &numbers {
+        lay(alloc, &mut index, *number)?;
+    }
+    let (keys, count) = (numbers.len(), held(alloc, &index, &numbers)?);
+    println!(rt; "{count} of {keys} crowded keys held")?;
+    for at in 0..index.places() {
+        if at % 2 == 0 {
+            index.remove(at);
+        }
+    }
+    let count = held(alloc, &index, &numbers)?;
+    println!(rt; "{count} once every other place is empty")?;
+    for number in &numbers {
+        lay(alloc, &mut index, *number)?;
+    }
+    let (count, places) = (held(alloc, &index, &numbers)?, index.places());
+    println!(rt; "{count} again, in {places} places")?;
+    Ok(())
+}
