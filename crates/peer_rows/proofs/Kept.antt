@@ -1,7 +1,7 @@
 -- What a table keeps beside its rows, as they change: each peer's number of rows.
 use Rattle.std.proofs.Common.{◌≡◌, ◌≢◌, ℕ, zero, suc, ◌+◌, ◌-◌, ◌<◌, ◌≤◌, Bool, true, false, cond}
 use Rattle.std.proofs.Common.{◌&&◌, List, [], ◌∷◌, length, refl, sym, ◌∙◌, ap, subst, arith, get_or}
-use Rattle.std.proofs.Common.{set, get_or-set_same, get_or-set_other, ⊎_elim}
+use Rattle.std.proofs.Common.{◌^◌, replicate, set, get_or-set_same, get_or-set_other, ⊎_elim}
 use Rattle.std.specs.Option.{is_some}
 use Rattle.std.specs.Prelude.{Result, Ok, Err, IfOk}
 use Rattle.std.specs.Prelude.{Option, Some, None, IfNone, MatchBool, not, filter, map, ◌==◌}
@@ -21,12 +21,14 @@ use Rattle.std.proofs.lemmas.Map.{none_passes_from_lookup}
 use Rattle.peer_rows.specs.declared.row.Row.{Row}
 use Rattle.peer_rows.specs.Table.{Spot, spot, spot_cmp, same_key, rows_in, rows_of_peer}
 use Rattle.peer_rows.specs.Table.{rows_at_peer, EachPeerOnce, IsKept, TableRows}
+use Rattle.peer_rows.proofs.Ordered.{sorted-in_order}
 use Rattle.peer_rows.proofs.Sorted.{equal_itself}
 use Rattle.peer_rows.proofs.Selecting.{filter_not-none, filter-none}
 use Rattle.peer_rows.proofs.Spreading.{spread-remove_entry, spread-none, filter_not-spread}
 use Rattle.peer_rows.proofs.Spreading.{map-filter-spread, sorted-spread}
 use Rattle.peer_rows.proofs.Keying.{Keys, one_key, once-remove_entry, peers-lookup}
-use Rattle.peer_rows.proofs.Keying.{rows_of_peer-split, length-filter-insert_entry_new}
+use Rattle.peer_rows.proofs.Keying.{rows_of_peer-split, rows_of_peer-le}
+use Rattle.peer_rows.proofs.Keying.{length-filter-insert_entry_new}
 use Rattle.peer_rows.proofs.Keying.{length-filter-insert_entry_held, length-filter-remove_entry}
 
 -- each key's rows stand by peer
@@ -305,6 +307,38 @@ kept-same es fs counts kept ordered once is = record {
   once = once;
   counted =
       λ p. kept.counted p ∙ ap (λ rows. rows_of_peer p rows) (sym is);
+}
+
+-- a peer's count has room for a row that came, since no peer has more rows than there are keys
+pub few_after : (es fs : Keys) (counts : List ℕ) (key : List ℕ) (peer : ℕ) (row : Row) (n : ℕ)
+    → IsKept es counts → rows_in fs ≡ insert_entry spot_cmp (rows_in es) (key, peer) row
+    → lookup (is_at (spot_cmp (key, peer))) (rows_in es) ≡ None → EachPeerOnce fs
+    → n ≡ length fs → n < 2 ^ 64 → get_or counts peer 0 + 1 < 2 ^ 64
+few_after es fs counts key peer row n kept is none once len small =
+    let one : (peer == peer) ≡ true = grind (arith, nat_tests) in
+    let more : rows_of_peer peer (rows_in fs) ≡ rows_of_peer peer (rows_in es) + 1 =
+    ap (λ rows. rows_of_peer peer rows) is
+    ∙ length-filter-insert_entry_new spot_cmp (λ q. peer == q.1) (rows_in es) (key, peer) row none
+    ∙ ap (λ (b : Bool). rows_of_peer peer (rows_in es) + cond b 1 0) one in
+    let was = kept.counted peer in
+    let most = rows_of_peer-le fs peer once in
+    omega (arith, more, was, most, len, small)
+
+alike_at : (n p z : ℕ) → get_or (replicate n z) p z ≡ z
+alike_at zero zero z = refl
+alike_at zero (suc p) z = refl
+alike_at (suc n) zero z = refl
+alike_at (suc n) (suc p) z = alike_at n p z
+
+-- a table without keys
+pub kept-none : (es : Keys) (counts : List ℕ) (n : ℕ) → es ≡ [] → counts ≡ replicate n 0
+    → IsKept es counts
+kept-none es counts n none zeros = record {
+  ordered = subst (λ (l : Keys). IsStrictlySortedBy (slice_cmp nat_cmp) (keys_of l)) (sym none)
+      (sorted-in_order []);
+  once = subst (λ (l : Keys). EachPeerOnce l) (sym none) tt;
+  counted = λ p. ap (λ (l : List ℕ). get_or l p 0) zeros ∙ alike_at n p 0
+      ∙ ap (λ (l : Keys). rows_of_peer p (rows_in l)) (sym none);
 }
 
 -- a table by its number of peers and its rows

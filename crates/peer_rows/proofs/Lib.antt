@@ -4,7 +4,8 @@ pub mod Selecting
 pub mod Peers
 pub mod Spreading
 pub mod Widths
-pub mod Indexed
+pub mod Ordered
+pub mod Listed
 pub mod Keying
 pub mod Using
 pub mod Kept

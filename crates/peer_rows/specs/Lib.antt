@@ -7,4 +7,4 @@ pub mod Peers
 pub mod Spread
 pub mod Table
 pub mod Rows
-pub mod Slots
+pub mod Places

@@ -20,13 +20,13 @@ pub(crate) type PeerRow = (usize, Row);
 /// The rows of one key: at least one, each with the peer that holds it, by peer.
 ///
 /// A single row lies in the value itself and takes no memory beside it; several lie side by side.
-#[derive(Debug, Drop)]
+#[derive(Drop)]
 pub(crate) struct KeyRows {
     peers: Peers,
     alloc: Global,
 }
 
-#[derive(Debug, Drop)]
+#[derive(Drop)]
 enum Peers {
     One(PeerRow),
     Many(Vec<PeerRow>),

@@ -1,74 +1,70 @@
-//! The rows of a table by key, without the counts: an ordered map says in which place the rows of
-//! each key lie, and what was found lately is found again without it.
-ghost use Rattle.std.specs.Prelude.{◌≡◌, ◌^◌, ◌<◌, ℕ, List, [], ◌∷◌, Some, None, length, IsOk};
+//! The rows of a table by key, without the counts: an exact index says in which place the rows of
+//! each key lie, and keeps no order.
+ghost use Rattle.std.specs.Prelude.{◌≡◌, ◌^◌, ◌<◌, ◌↔◌, List, [], ◌∷◌, Some, None, length, IsOk};
 ghost use Rattle.std.specs.Prelude.{IsSome, IfSome, IfNone, IfOk, OnOk, OnErr, IsTrue, MatchBool};
-ghost use Rattle.std.specs.Prelude.{MatchOption, is_some, if◌then◌else◌};
-ghost use Rattle.std.specs.Option.{option_copied, unwrap_or};
+ghost use Rattle.std.specs.Prelude.{MatchOption, is_some, slice_set};
+ghost use Rattle.std.specs.Option.{option_copied};
 ghost use Rattle.std.specs.Ordering.{nat_cmp};
 ghost use Rattle.std.specs.Cmp.Lexicographic.{slice_cmp};
 ghost use Rattle.std.specs.Map.{keys_of, lookup, remove_entry};
 ghost use Rattle.std.specs.BTreeMap.{insert_entry, is_at};
 ghost use Rattle.std.specs.List.Sorted.{IsStrictlySortedBy};
-ghost use Rattle.peer_rows.specs.Slots.{key_at, rows_at, seen, IsIndexed};
+ghost use Rattle.place_index.specs.Places.{item_at, key_at, value_at, AreDistinct, IsAbsent};
+ghost use Rattle.peer_rows.specs.Places.{in_order};
 
 use crate::key_rows::KeyRows;
-use crate::near::{Hash, Near};
-use crate::slots::{Slot, Slots};
+use crate::listing::sorted;
 use crate::{ByKey, Row, Spot};
 use agg_types::{Key, NoMemory};
+use place_index::PlaceIndex;
 use std::alloc::Global;
-use std::collections::BTreeMap;
 use std::marker::Model;
 use std::mem;
 
-/// The rows of a table, by key. Contracts see the list of the keys with the rows of each.
-#[derive(Debug, Drop)]
+/// The places of a table's keys with their rows.
+pub(crate) type Index = PlaceIndex<Key, KeyRows>;
+
+/// The rows of a table, by key. Contracts see the list of the keys in order, with the rows of each.
+#[derive(Drop)]
 pub(crate) struct Keyed {
-    keys: BTreeMap<Key, usize>,
-    slots: Slots,
-    near: Near,
+    index: PlaceIndex<Key, KeyRows>,
+    alloc: Global,
 }
 
 impl Model for Keyed {
     ghost use Rattle.std.specs.Prelude.{List, ℕ};
     ghost use Rattle.peer_rows.specs.declared.row.Row.{Row};
-    ghost use Rattle.peer_rows.specs.Slots.{key_at, rows_at, seen, IsIndexed};
+    ghost use Rattle.peer_rows.specs.Places.{in_order};
 
     ghost Value = { List (List ℕ × List (ℕ × Row)) };
 
-    ghost view = { λ k. seen (rows_at k.slots.places.items) k.keys.entries };
-
-    ghost invariant = { λ k. IsIndexed (key_at k.slots.places.items) k.keys.entries };
+    ghost view = { λ k. in_order k.index.places };
 }
 
 impl Keyed {
-    ghost use Rattle.peer_rows.specs.Table.{spot_cmp, rows_in, rows_of_peer, EachPeerOnce};
+    ghost use Rattle.peer_rows.specs.Table.{spot_cmp, rows_in, EachPeerOnce};
 
     /// No rows.
     pub(crate) fn new(alloc: Global) -> Keyed
         ensures { result ≡ [] }
     {
         Keyed {
-            keys: BTreeMap::new(alloc),
-            slots: Slots::new(alloc),
-            near: Near::new(alloc),
+            index: PlaceIndex::new(alloc),
+            alloc,
         }
     }
 
     /// How many keys there are.
     pub(crate) fn len(&self) -> usize
-        ensures { result ≡ length self.now }
+        ensures value { result ≡ length self.now }
+        ensures small { result < 2 ^ 64 }
     {
-        self.keys.len()
+        self.index.count()
     }
 
-    /// Where the rows of a key lie, if that was seen lately.
+    /// Where the rows of a key lie.
     pub(crate) fn spot_near(&self, hint: Option<Spot>, key: &Key) -> Option<Spot> {
-        let at = match hinted(&self.slots, hint, key) {
-            Some(at) => at,
-            None => self.near.find(&self.slots, Hash::of(key), key)?,
-        };
-        Some(Spot::new(at))
+        Some(Spot::new(find(&self.index, hint, key)?))
     }
 
     /// The rows of a key.
@@ -76,8 +72,8 @@ impl Keyed {
         ensures value { option_copied result ≡ lookup (is_at (slice_cmp nat_cmp key.now)) self.now }
         ensures ordered { IsStrictlySortedBy (slice_cmp nat_cmp) (keys_of self.now) }
     {
-        let at = find(&self.keys, &self.slots, &self.near, hint, key)?;
-        Some(self.slots.rows(at))
+        let at = find(&self.index, hint, key)?;
+        self.index.value(at)
     }
 
     /// The row of a peer and key.
@@ -105,17 +101,17 @@ impl Keyed {
             → IsOk result }
         ensures err { OnErr result (self.new ≡ self.old) }
 
-        // Each peer stands once at a key, the keys in order, and no peer has 2^63 rows.
+        // Each peer stands once at a key, and the keys in order.
         ensures once { EachPeerOnce self.new }
         ensures ordered { IsStrictlySortedBy (slice_cmp nat_cmp) (keys_of self.new) }
-        ensures few { (p : ℕ) → rows_of_peer p (rows_in self.old) < 2 ^ 63 }
     {
-        let _few = self.keys.len();
-        let Some(at) = learn(&self.keys, &self.slots, &mut self.near, hint, key) else {
-            self.insert(peer, key, row)?;
+        let Some(at) = find(&self.index, hint, key) else {
+            let mut row = row;
+            insert_new(&mut self.index, self.alloc, peer, key, &mut row)?;
             return Ok(None);
         };
-        self.slots.put(at, peer, row)
+        let rows = self.index.value_mut(at);
+        rows.put(peer, row)
     }
 
     /// Exchanges the row of a peer and key for this one, if there is one.
@@ -137,10 +133,11 @@ impl Keyed {
         ensures once { EachPeerOnce self.new }
         ensures ordered { IsStrictlySortedBy (slice_cmp nat_cmp) (keys_of self.new) }
     {
-        let Some(at) = learn(&self.keys, &self.slots, &mut self.near, hint, key) else {
+        let Some(at) = find(&self.index, hint, key) else {
             return false;
         };
-        self.slots.exchange(at, peer, row)
+        let rows = self.index.value_mut(at);
+        rows.exchange(peer, row)
     }
 
     /// Puts the first row of a key, which is left blank then. Where the key has rows, nothing
@@ -160,41 +157,12 @@ impl Keyed {
         ensures err { OnErr result (self.new ≡ self.old) }
         ensures once { EachPeerOnce self.new }
         ensures ordered { IsStrictlySortedBy (slice_cmp nat_cmp) (keys_of self.new) }
-        ensures few { (p : ℕ) → rows_of_peer p (rows_in self.old) < 2 ^ 63 }
     {
-        let _few = self.keys.len();
-        let (at, new) = place_key(&mut self.keys, &mut self.slots, peer, key, row)?;
-        self.near.refill(&self.slots);
-        self.near.grow(self.slots.len());
-        self.near.remember(Hash::of(key), at);
-        if !new {
-            return Ok(Some(Spot::new(at)));
-        }
-        Ok(None)
-    }
-
-    /// Puts the first row of a key.
-    pub(crate) fn insert(&mut self, peer: usize, key: &Key, row: Row) -> Result<(), NoMemory>
-        requires once { EachPeerOnce self.old }
-        requires none { lookup (is_at (slice_cmp nat_cmp key.now)) self.old ≡ None }
-        ensures ok { OnOk result (rows_in self.new
-            ≡ insert_entry spot_cmp (rows_in self.old) (key.now, peer) row) }
-        ensures err { OnErr result (self.new ≡ self.old) }
-        ensures once { EachPeerOnce self.new }
-        ensures ordered { IsStrictlySortedBy (slice_cmp nat_cmp) (keys_of self.new) }
-        ensures few { (p : ℕ) → rows_of_peer p (rows_in self.old) < 2 ^ 63 }
-    {
-        let _few = self.keys.len();
-        let alloc = self.slots.allocator();
-        let slot = Slot {
-            key: key.duplicate(alloc)?,
-            rows: KeyRows::new(alloc, peer, row),
+        let Some(at) = find(&self.index, None, key) else {
+            insert_new(&mut self.index, self.alloc, peer, key, row)?;
+            return Ok(None);
         };
-        let at = insert_key(&mut self.keys, &mut self.slots, slot)?;
-        self.near.refill(&self.slots);
-        self.near.grow(self.slots.len());
-        self.near.remember(Hash::of(key), at);
-        Ok(())
+        Ok(Some(Spot::new(at)))
     }
 
     /// Takes a row out, and its key with it where it was the key's last.
@@ -206,12 +174,13 @@ impl Keyed {
         ensures ordered { IsStrictlySortedBy (slice_cmp nat_cmp) (keys_of self.new) }
         ensures once { EachPeerOnce self.new }
     {
-        let at = learn(&self.keys, &self.slots, &mut self.near, hint, key)?;
-        if self.slots.rows(at).is_only(peer) {
-            self.near.forget(Hash::of(key), at);
-            remove_key(&mut self.keys, &mut self.slots, at, key)?.into_last()
+        let at = find(&self.index, hint, key)?;
+        if is_only(&self.index, at, peer) {
+            let rows = taken(&mut self.index, at);
+            rows.into_last()
         } else {
-            self.slots.take(at, peer)
+            let rows = self.index.value_mut(at);
+            rows.take(peer)
         }
     }
 
@@ -222,162 +191,94 @@ impl Keyed {
         ensures ordered { IsStrictlySortedBy (slice_cmp nat_cmp) (keys_of self.new) }
         ensures unchanged { IfNone result (self.new ≡ self.old) }
     {
-        let at = learn(&self.keys, &self.slots, &mut self.near, hint, key)?;
-        self.near.forget(Hash::of(key), at);
-        remove_key(&mut self.keys, &mut self.slots, at, key)
+        let at = find(&self.index, hint, key)?;
+        Some(taken(&mut self.index, at))
     }
 
-    /// All rows, by key, then by peer.
-    pub(crate) fn by_key(&self) -> ByKey<'_>
-        ensures { result ≡ rows_in self.now }
+    /// All rows, by key, then by peer, in an order that is made now.
+    pub(crate) fn by_key(&self) -> Result<ByKey<'_>, NoMemory>
+        ensures { IfOk result (λ rows. rows ≡ rows_in self.now) }
     {
-        ByKey::new(self.keys.iter(), &self.slots)
+        let keys = sorted(self.alloc, &self.index)?;
+        Ok(ByKey::new(keys))
+    }
+}
+
+// Whether a key lies in a place.
+fn is_of(index: &Index, at: usize, key: &Key) -> bool
+    ensures { IsTrue result → key_at index.now.places at ≡ Some key.now }
+{
+    match index.key(at) {
+        Some(own) => *own == *key,
+        None => false,
+    }
+}
+
+// The place that a hint says, if the rows of the key lie there.
+fn hinted(index: &Index, hint: Option<Spot>, key: &Key) -> Option<usize>
+    ensures { IfSome result (λ at. key_at index.now.places at ≡ Some key.now) }
+{
+    let at = hint?.slot as usize;
+    if is_of(index, at, key) {
+        Some(at)
+    } else {
+        None
     }
 }
 
 // The place in which the rows of a key lie.
-fn find(
-    keys: &BTreeMap<Key, usize>,
-    slots: &Slots,
-    near: &Near,
-    hint: Option<Spot>,
-    key: &Key,
-) -> Option<usize>
-    requires { IsIndexed (key_at slots.now.places.items) keys.now.entries }
-    ensures value { result ≡ lookup (is_at (slice_cmp nat_cmp key.now)) keys.now.entries }
-    ensures some { IfSome result (λ at. key_at slots.now.places.items at ≡ Some key.now) }
+fn find(index: &Index, hint: Option<Spot>, key: &Key) -> Option<usize>
+    ensures some { IfSome result (λ at. key_at index.now.places at ≡ Some key.now) }
+    ensures none { IfNone result (IsAbsent index.now.places key.now) }
+    ensures distinct { AreDistinct index.now.places }
 {
-    if let Some(at) = hinted(slots, hint, key) {
+    let _keys = index.count();
+    if let Some(at) = hinted(index, hint, key) {
         return Some(at);
     }
-    if let Some(at) = near.find(slots, Hash::of(key), key) {
-        return Some(at);
-    }
-    Some(*keys.get(key)?)
+    index.find(key)
 }
 
-// The same, and what was searched for is remembered, as are some keys that growth forgot.
-fn learn(
-    keys: &BTreeMap<Key, usize>,
-    slots: &Slots,
-    near: &mut Near,
-    hint: Option<Spot>,
-    key: &Key,
-) -> Option<usize>
-    requires { IsIndexed (key_at slots.now.places.items) keys.now.entries }
-    ensures value { result ≡ lookup (is_at (slice_cmp nat_cmp key.now)) keys.now.entries }
-    ensures some { IfSome result (λ at. key_at slots.now.places.items at ≡ Some key.now) }
+// Whether a peer's row is the only one in a place.
+fn is_only(index: &Index, at: usize, peer: usize) -> bool
+    requires { IsSome (item_at index.now.places at) }
+    ensures { IfSome (value_at index.now.places at)
+        (λ rows. IsTrue result ↔ (keys_of rows ≡ peer ∷ [])) }
 {
-    near.refill(slots);
-    if let Some(at) = hinted(slots, hint, key) {
-        return Some(at);
+    match index.value(at) {
+        Some(rows) => rows.is_only(peer),
+        None => false,
     }
-    let hash = Hash::of(key);
-    if let Some(at) = near.find(slots, hash, key) {
-        return Some(at);
-    }
-    let at = *keys.get(key)?;
-    near.remember(hash, at);
-    Some(at)
 }
 
-// The place that a hint says, if the rows of the key lie there.
-fn hinted(slots: &Slots, hint: Option<Spot>, key: &Key) -> Option<usize>
-    ensures { IfSome result (λ at. key_at slots.now.places.items at ≡ Some key.now) }
-{
-    let at = hint?.slot as usize;
-    if slots.is_of(at, key) { Some(at) } else { None }
-}
-
-// Lays down the rows of a new key, and says where.
-fn insert_key(
-    keys: &mut BTreeMap<Key, usize>,
-    slots: &mut Slots,
-    slot: Slot,
-) -> Result<usize, NoMemory>
-    requires indexed { IsIndexed (key_at slots.old.places.items) keys.old.entries }
-    requires none { lookup (is_at (slice_cmp nat_cmp slot.key)) keys.old.entries ≡ None }
-    ensures indexed { IsIndexed (key_at slots.new.places.items) keys.new.entries }
-    ensures ok { OnOk result (seen (rows_at slots.new.places.items) keys.new.entries
-        ≡ insert_entry (slice_cmp nat_cmp) (seen (rows_at slots.old.places.items) keys.old.entries)
-        slot.key slot.rows) }
-    ensures err { OnErr result (seen (rows_at slots.new.places.items) keys.new.entries
-        ≡ seen (rows_at slots.old.places.items) keys.old.entries) }
-{
-    let at = slots.vacant()?;
-    let key = slot.key.duplicate(slots.allocator())?;
-    keys.insert(key, at)?;
-    slots.fill(at, slot);
-    Ok(at)
-}
-
-// Lays down the first row of a key, which is left blank then, and says where, and that the key is
-// new. Where the key has a place, nothing changes but that this comes back.
-fn place_key(
-    keys: &mut BTreeMap<Key, usize>,
-    slots: &mut Slots,
+// Lays down the first row of a new key, which is left blank then.
+fn insert_new(
+    index: &mut Index,
+    alloc: Global,
     peer: usize,
     key: &Key,
     row: &mut Row,
-) -> Result<(usize, bool), NoMemory>
-    requires { IsIndexed (key_at slots.old.places.items) keys.old.entries }
-    ensures indexed { IsIndexed (key_at slots.new.places.items) keys.new.entries }
-    ensures new { IfOk result (λ x. IsTrue x.1
-        → lookup (is_at (slice_cmp nat_cmp key.now)) keys.old.entries ≡ None) }
-    ensures ok { IfOk result (λ x. MatchBool x.1
-        (seen (rows_at slots.new.places.items) keys.new.entries
-        ≡ insert_entry (slice_cmp nat_cmp) (seen (rows_at slots.old.places.items) keys.old.entries)
-        key.now ((peer, row.old) ∷ []))
-        ((seen (rows_at slots.new.places.items) keys.new.entries
-        ≡ seen (rows_at slots.old.places.items) keys.old.entries) × (row.new ≡ row.old))) }
-    ensures err { OnErr result (seen (rows_at slots.new.places.items) keys.new.entries
-        ≡ seen (rows_at slots.old.places.items) keys.old.entries) }
+) -> Result<(), NoMemory>
+    requires { IsAbsent index.old.places key.now }
+    ensures ok { OnOk result (in_order index.new.places ≡ insert_entry (slice_cmp nat_cmp)
+        (in_order index.old.places) key.now ((peer, row.old) ∷ [])) }
+    ensures err { OnErr result (index.new.places ≡ index.old.places) }
 {
-    let alloc = slots.allocator();
-    let at = slots.vacant()?;
     let own = key.duplicate(alloc)?;
-    let place = number(keys, key.duplicate(alloc)?, at)?;
-    if place != at {
-        return Ok((place, false));
+    index.reserve(1)?;
+    let first = mem::replace(row, Row::blank(alloc));
+    let _at = index.insert(own, KeyRows::new(alloc, peer, first))?;
+    Ok(())
+}
+
+// Empties a place, and answers the rows that lay there.
+fn taken(index: &mut Index, at: usize) -> KeyRows
+    requires { IsSome (item_at index.old.places at) }
+    ensures value { value_at index.old.places at ≡ Some result }
+    ensures after { index.new.places ≡ slice_set index.old.places at None }
+{
+    match index.remove(at) {
+        Some((_, rows)) => rows,
+        None => unreachable!(),
     }
-    let row = mem::replace(row, Row::blank(alloc));
-    let rows = KeyRows::new(alloc, peer, row);
-    slots.fill(at, Slot { key: own, rows });
-    Ok((at, true))
-}
-
-// Gives a key this number, unless it has one: by one search. Its number comes back.
-fn number(keys: &mut BTreeMap<Key, usize>, key: Key, at: usize) -> Result<usize, NoMemory>
-    ensures value { IfOk result (λ number. number
-        ≡ unwrap_or (lookup (is_at (slice_cmp nat_cmp key)) keys.old.entries) at) }
-    ensures ok { IfOk result (λ number. keys.new.entries
-        ≡ insert_entry (slice_cmp nat_cmp) keys.old.entries key number) }
-    ensures updates { IfOk result (λ number. (q : List ℕ)
-        → lookup (is_at (slice_cmp nat_cmp q)) keys.new.entries
-        ≡ (if is_at (slice_cmp nat_cmp key) q then Some number
-        else lookup (is_at (slice_cmp nat_cmp q)) keys.old.entries)) }
-    ensures err { OnErr result (keys.new.entries ≡ keys.old.entries) }
-    ensures ordered { IsStrictlySortedBy (slice_cmp nat_cmp) (keys_of keys.new.entries) }
-{
-    Ok(*keys.entry(key)?.or_insert(at))
-}
-
-// Takes a key and its rows out of their place.
-fn remove_key(
-    keys: &mut BTreeMap<Key, usize>,
-    slots: &mut Slots,
-    at: usize,
-    key: &Key,
-) -> Option<KeyRows>
-    requires indexed { IsIndexed (key_at slots.old.places.items) keys.old.entries }
-    requires found { lookup (is_at (slice_cmp nat_cmp key.now)) keys.old.entries ≡ Some at }
-    requires at { key_at slots.old.places.items at ≡ Some key.now }
-    ensures value { result ≡ Some (rows_at slots.old.places.items at) }
-    ensures indexed { IsIndexed (key_at slots.new.places.items) keys.new.entries }
-    ensures after { seen (rows_at slots.new.places.items) keys.new.entries
-        ≡ remove_entry (is_at (slice_cmp nat_cmp key.now))
-        (seen (rows_at slots.old.places.items) keys.old.entries) }
-{
-    keys.remove(key);
-    slots.empty(at)
 }

@@ -5,10 +5,11 @@
 //! removal, a look-up or a filter of that list, and a call that ran out of memory changed nothing.
 //! The rows of one key lie together, so that one search finds what all peers hold of it.
 //!
-//! Rows lie in numbered places, a place for a key. An ordered map of the keys has their places, and
-//! a table of hashes remembers where keys were found lately: what it says, and what a `Spot` says,
-//! is looked at before it is believed. So a held key is mostly found without the ordered map, and
-//! keys that are chosen to collide cost a search there and no more.
+//! Rows lie in the numbered places of an exact index, a place for a key, in no order. A `Spot` is
+//! the number of a place: the place's key is looked at before it is believed. A key whose hash's
+//! window is full lies in an ordered map. So keys that are made to collide cost what an ordered map
+//! costs, and the hash needs no secret. `by_key` sorts the keys of its table in memory of its own,
+//! which is given back with the listing.
 //!
 //! No clause says how long a call takes: a look-up is at most one search of a table's keys, `count`
 //! and `used` take constant time, and a row that replaces another takes no memory. Nor does one say
@@ -19,12 +20,11 @@ mod by_key;
 mod few;
 mod key_rows;
 mod keyed;
-mod near;
+mod listing;
 mod of_key;
 mod packed;
 mod row;
 mod rows;
-mod slots;
 mod spot;
 mod table;
 

@@ -7,13 +7,14 @@ use crate::table::Table;
 use crate::{ByKey, OfKey, Row, Spot};
 use agg_types::{Key, NoMemory};
 use std::alloc::Global;
+use std::fmt;
 use std::marker::Model;
 
 /// The rows of a fleet: for each peer, table and key at most one.
 ///
 /// Peers and tables are named by their positions. Contracts see the numbers of peers and tables,
 /// and the rows as the list of the entries of a finite map, by table, then by key, then by peer.
-#[derive(Debug, Drop)]
+#[derive(Drop)]
 pub struct Rows {
     peers: usize,
     tables: Vec<Table>,
@@ -33,6 +34,16 @@ impl Model for Rows {
     } };
 
     ghost invariant = { λ rows. AreTables rows.peers rows.tables.items };
+}
+
+impl fmt::Debug for Rows {
+    fn fmt<W: fmt::Write>(&self, f: &mut fmt::Formatter<W>) -> fmt::Result {
+        let tables = self.tables.len();
+        f.debug_struct("Rows")
+            .field("peers", &self.peers)
+            .field("tables", &tables)
+            .finish()
+    }
 }
 
 impl Rows {
@@ -125,13 +136,15 @@ impl Rows {
         self.clear_key_at(None, table, key)
     }
 
-    /// Lends the rows of a table, each once, by key, then by peer, in one walk.
+    /// Lends the rows of a table, each once, by key, then by peer, in one walk, in an order that is
+    /// made now: it takes memory for the keys of the table.
     pub fn by_key(&self, table: usize) -> Result<ByKey<'_>, NoMemory>
         requires { table < self.now.tables }
         ensures value { IfOk result (λ rows. rows ≡ rows_of self.now table) }
         ensures ordered { AreInOrder self.now.entries }
     {
-        Ok(self.tables[table].by_key())
+        let rows = self.tables[table].by_key()?;
+        Ok(rows)
     }
 
     /// Lends the rows of a table and key over all peers, by peer: one search, and then the rows
@@ -146,8 +159,7 @@ impl Rows {
 
     // ---- with a hint at where the rows of a key lie
 
-    /// Where the rows of a table and key lie, if the hint says so or it was seen lately, without a
-    /// search of the ordered map. Nothing is promised of it: a key with no spot may have rows.
+    /// Where the rows of a table and key lie, if it has any. Nothing is promised of it.
     pub fn spot_near(&self, hint: Option<Spot>, table: usize, key: &Key) -> Option<Spot>
         requires { table < self.now.tables }
     {
@@ -207,8 +219,8 @@ impl Rows {
         self.tables[table].exchange(hint, peer, key, row)
     }
 
-    /// Puts the first row of a key, by the only search of the ordered map; the row is left blank
-    /// then. Where the key has rows, nothing changes, and where they lie comes back.
+    /// Puts the first row of a key; the row is left blank then. Where the key has rows, nothing
+    /// changes, and where they lie comes back.
     pub fn insert_first(
         &mut self,
         peer: usize,

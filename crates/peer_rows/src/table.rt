@@ -15,7 +15,7 @@ use std::alloc::Global;
 use std::marker::Model;
 
 /// The rows of a table: by key, then by peer, with the number of each peer's rows beside.
-#[derive(Debug, Drop)]
+#[derive(Drop)]
 pub(crate) struct Table {
     keys: Keyed,
     counts: Vec<usize>,
@@ -90,13 +90,15 @@ impl Table {
         ensures err { OnErr result (self.new ≡ self.old) }
     {
         let old = self.keys.put(hint, peer, key, row)?;
+        // Each peer has at most a row of each key, so its count stays below 2^64.
+        let _keys = self.keys.len();
         if old.is_none() {
             self.counts[peer] += 1;
         }
         Ok(old)
     }
 
-    /// Where the rows of a key lie, if that was seen lately.
+    /// Where the rows of a key lie.
     pub(crate) fn spot_near(&self, hint: Option<Spot>, key: &Key) -> Option<Spot> {
         self.keys.spot_near(hint, key)
     }
@@ -140,6 +142,7 @@ impl Table {
         ensures err { OnErr result (self.new ≡ self.old) }
     {
         let held = self.keys.insert_first(peer, key, row)?;
+        let _keys = self.keys.len();
         if held.is_none() {
             self.counts[peer] += 1;
         }
@@ -189,8 +192,8 @@ impl Table {
     }
 
     /// All rows, by key, then by peer.
-    pub(crate) fn by_key(&self) -> ByKey<'_>
-        ensures { result ≡ self.now.entries }
+    pub(crate) fn by_key(&self) -> Result<ByKey<'_>, NoMemory>
+        ensures { IfOk result (λ rows. rows ≡ self.now.entries) }
     {
         self.keys.by_key()
     }

@@ -1,63 +1,56 @@
 use Rattle.std.proofs.Common.{sym, ap}
 use Rattle.std.specs.Prelude.{Option, is_some}
 use Rattle.peer_rows.specs.declared.row.Row.{Row}
-use Rattle.peer_rows.specs.Slots.{key_at, rows_at, seen}
+use Rattle.peer_rows.specs.Places.{in_order}
 use Rattle.peer_rows.specs.Table.{EachPeerOnce}
-use Rattle.peer_rows.proofs.Indexed.{sorted-seen, indexed-same}
-use Rattle.peer_rows.proofs.Keying.{lookup_not_held}
-use Rattle.peer_rows.proofs.Shown.{none-shown, peers-shown, exchanged-shown, once-shown}
+use Rattle.peer_rows.proofs.Ordered.{sorted-in_order, some_item}
+use Rattle.peer_rows.proofs.Shown.{no_peer-shown, peers-shown, exchanged-shown, once-shown}
+use Rattle.place_index.specs.Places.{item_at, revalued}
 use Rattle.peer_rows.proofs.keyed.Keyed.exchange.Goals as goal
+
+pub value_mut-rows-requires : goal.value_mut-rows-requires
+value_mut-rows-requires c = some_item (item_at c.self.inside.index.places c.in-Some.at)
+    c.args.key.now c.in-Some.ensures.some
 
 pub returns-clause-found : goal.returns-clause-found
 returns-clause-found c = rw (
   ← c.self.view_is,
-  peers-shown (key_at c.self.inside.slots.places.items)
-      (rows_at c.self.inside.slots.places.items) c.self.inside.keys.entries c.args.key.now
-      c.self.invariant c.in-Some.at (sym c.in-Some.ensures.value) c.args.peer,
+  peers-shown c.self.inside.index.places c.args.key.now c.in-Some.ensures.distinct c.in-Some.at
+      c.in-Some.ensures.some c.value_mut-rows.result.now c.value_mut-rows.ensures.value
+      c.args.peer,
 ) c.exchange.ensures.found
 
 pub returns-clause-rows : goal.returns-clause-rows
-returns-clause-rows c = rw (← c.self.view_is)
-    (exchanged-shown (key_at c.self.inside.slots.places.items)
-    (rows_at c.self.inside.slots.places.items) c.self.inside.keys.entries c.args.key.now
-    c.self.invariant c.in-Some.at (sym c.in-Some.ensures.value)
-    (rows_at c.exchange.new.self.places.items) c.in-Some.ensures.some c.exchange.ensures.other_rows
-    c.args.peer c.args.row.now c.exchange.result c.exchange.ensures.here)
+returns-clause-rows c = rw (← c.self.view_is) (exchanged-shown c.self.inside.index.places
+    c.args.key.now c.in-Some.ensures.distinct c.in-Some.at c.in-Some.ensures.some
+    c.value_mut-rows.result.now c.value_mut-rows.ensures.value c.exchange.new.self c.args.peer
+    c.args.row.now c.exchange.result c.exchange.ensures.rows)
 
 pub returns-clause-row : goal.returns-clause-row
 returns-clause-row c = rw (
   ← c.self.view_is,
-  peers-shown (key_at c.self.inside.slots.places.items)
-      (rows_at c.self.inside.slots.places.items) c.self.inside.keys.entries c.args.key.now
-      c.self.invariant c.in-Some.at (sym c.in-Some.ensures.value) c.args.peer,
+  peers-shown c.self.inside.index.places c.args.key.now c.in-Some.ensures.distinct c.in-Some.at
+      c.in-Some.ensures.some c.value_mut-rows.result.now c.value_mut-rows.ensures.value
+      c.args.peer,
 ) c.exchange.ensures.row
 
 pub returns-clause-once : goal.returns-clause-once
 returns-clause-once c =
-    let once : EachPeerOnce (seen (rows_at c.self.inside.slots.places.items)
-    c.self.inside.keys.entries) = rw (← c.self.view_is) at c.requires in
-    once-shown (key_at c.self.inside.slots.places.items) (rows_at c.self.inside.slots.places.items)
-    c.self.inside.keys.entries c.args.key.now c.self.invariant c.in-Some.at
-    (sym c.in-Some.ensures.value) (rows_at c.exchange.new.self.places.items)
-    c.in-Some.ensures.some c.exchange.ensures.other_rows once c.exchange.ensures.are
+    let once : EachPeerOnce (in_order c.self.inside.index.places) =
+    rw (← c.self.view_is) at c.requires in
+    once-shown c.self.inside.index.places c.args.key.now c.in-Some.ensures.distinct c.in-Some.at
+    c.in-Some.ensures.some c.value_mut-rows.result.now c.value_mut-rows.ensures.value
+    c.exchange.new.self once c.exchange.ensures.are
 
 pub returns-clause-ordered : goal.returns-clause-ordered
-returns-clause-ordered c = sorted-seen (rows_at c.exchange.new.self.places.items)
-    c.self.inside.keys.entries c.self.invariant.ordered
+returns-clause-ordered c =
+    sorted-in_order (revalued c.self.inside.index.places c.in-Some.at c.exchange.new.self)
 
 pub returns-in_default-clause-found : goal.returns-in_default-clause-found
-returns-in_default-clause-found c = rw (← c.self.view_is) (sym (ap (λ (o : Option Row). is_some o)
-    (lookup_not_held (seen (rows_at c.self.inside.slots.places.items)
-    c.self.inside.keys.entries) c.args.key.now c.args.peer
-    (none-shown (key_at c.self.inside.slots.places.items)
-    (rows_at c.self.inside.slots.places.items) c.self.inside.keys.entries c.args.key.now
-    c.self.invariant (sym c.in_default.ensures.value)))))
+returns-in_default-clause-found c = rw (← c.self.view_is)
+    (sym (ap (λ (o : Option Row). is_some o) (no_peer-shown c.self.inside.index.places
+    c.args.key.now c.args.peer c.in_default.ensures.none)))
 
 pub returns-in_default-clause-ordered : goal.returns-in_default-clause-ordered
-returns-in_default-clause-ordered c = sorted-seen (rows_at c.self.inside.slots.places.items)
-    c.self.inside.keys.entries c.self.invariant.ordered
-
-pub invariant_of-self-2 : goal.invariant_of-self-2
-invariant_of-self-2 c = indexed-same (key_at c.self.inside.slots.places.items)
-    (key_at c.exchange.new.self.places.items) c.self.inside.keys.entries c.exchange.ensures.keys
-    c.self.invariant
+returns-in_default-clause-ordered c =
+    rw (← c.self.view_is) (sorted-in_order c.self.inside.index.places)

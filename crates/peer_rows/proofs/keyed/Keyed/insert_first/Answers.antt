@@ -1,75 +1,45 @@
-use Rattle.std.proofs.Common.{◌≡◌, ◌∙◌, sym, ap, subst}
-use Rattle.std.specs.Prelude.{None}
-use Rattle.std.specs.Ordering.{nat_cmp}
-use Rattle.std.specs.Cmp.Lexicographic.{slice_cmp}
-use Rattle.std.specs.Map.{lookup}
-use Rattle.std.specs.BTreeMap.{is_at}
-use Rattle.peer_rows.specs.Slots.{key_at, rows_at, seen}
-use Rattle.peer_rows.specs.Table.{rows_in, EachPeerOnce}
-use Rattle.peer_rows.proofs.Indexed.{sorted-seen}
-use Rattle.peer_rows.proofs.Keying.{Keys, put_new, once-insert_entry}
-use Rattle.peer_rows.proofs.Shown.{few-shown, none-shown}
+use Rattle.std.proofs.Common.{ap}
+use Rattle.peer_rows.specs.Places.{in_order}
+use Rattle.peer_rows.specs.Table.{EachPeerOnce}
+use Rattle.peer_rows.proofs.Ordered.{sorted-in_order}
+use Rattle.peer_rows.proofs.Shown.{none-shown, new-shown, new_once-shown, same_once, on_err}
 use Rattle.peer_rows.proofs.keyed.Keyed.insert_first.Goals as goal
 
-pub returns-in_err-at-clause-ordered : goal.returns-in_err-at-clause-ordered
-returns-in_err-at-clause-ordered c = sorted-seen (rows_at c.place_key.new.slots.places.items)
-    c.place_key.new.keys.entries c.place_key.ensures.indexed.ordered
+pub returns-in_err-insert_new-clause-err : goal.returns-in_err-insert_new-clause-err
+returns-in_err-insert_new-clause-err c =
+    rw (← c.self.view_is) (on_err c.from_residual.result
+    (ap in_order c.in_err-insert_new.ensures.err))
 
-pub returns-in_err-at-clause-few : goal.returns-in_err-at-clause-few
-returns-in_err-at-clause-few c =
-    let once : EachPeerOnce (seen (rows_at c.self.inside.slots.places.items)
-    c.self.inside.keys.entries) = rw (← c.self.view_is) at c.requires in
-    rw (← c.self.view_is) (few-shown (rows_at c.self.inside.slots.places.items)
-    c.self.inside.keys.entries once c.len-few.result c.len-few.ensures.len
-    c.len-few.ensures.small)
+pub returns-in_err-insert_new-clause-once : goal.returns-in_err-insert_new-clause-once
+returns-in_err-insert_new-clause-once c =
+    let once : EachPeerOnce (in_order c.self.inside.index.places) =
+    rw (← c.self.view_is) at c.requires in
+    same_once c.self.inside.index.places c.insert_new.new.index.places
+    c.in_err-insert_new.ensures.err once
 
-pub returns-then-not-new-clause-ordered : goal.returns-then-not-new-clause-ordered
-returns-then-not-new-clause-ordered c = sorted-seen (rows_at c.place_key.new.slots.places.items)
-    c.place_key.new.keys.entries c.place_key.ensures.indexed.ordered
+pub returns-in_err-insert_new-clause-ordered : goal.returns-in_err-insert_new-clause-ordered
+returns-in_err-insert_new-clause-ordered c = sorted-in_order c.insert_new.new.index.places
 
-pub returns-then-not-new-clause-few : goal.returns-then-not-new-clause-few
-returns-then-not-new-clause-few c =
-    let once : EachPeerOnce (seen (rows_at c.self.inside.slots.places.items)
-    c.self.inside.keys.entries) = rw (← c.self.view_is) at c.requires in
-    rw (← c.self.view_is) (few-shown (rows_at c.self.inside.slots.places.items)
-    c.self.inside.keys.entries once c.len-few.result c.len-few.ensures.len
-    c.len-few.ensures.small)
+pub returns-in_default-clause-new : goal.returns-in_default-clause-new
+returns-in_default-clause-new c = rw (← c.self.view_is)
+    (none-shown c.self.inside.index.places c.args.key.now c.in_default.ensures.none)
 
--- a key that is new has no rows
-fresh : (c : goal.Else-not-new) → lookup (is_at (slice_cmp nat_cmp c.args.key.now))
-    (seen (rows_at c.self.inside.slots.places.items) c.self.inside.keys.entries) ≡ None
-fresh c = none-shown (key_at c.self.inside.slots.places.items)
-    (rows_at c.self.inside.slots.places.items) c.self.inside.keys.entries c.args.key.now
-    c.self.invariant (c.in_ok-at.ensures.new c.if-not-new.false)
+pub returns-in_default-clause-ok : goal.returns-in_default-clause-ok
+returns-in_default-clause-ok c = rw (← c.self.view_is)
+    (new-shown c.self.inside.index.places c.args.key.now c.args.peer c.args.row.now
+    (in_order c.insert_new.new.index.places) c.in_default.ensures.none
+    c.in_ok-insert_new.ensures.ok)
 
-pub returns-clause-new : goal.returns-clause-new
-returns-clause-new c = rw (← c.self.view_is) (fresh c)
+pub returns-in_default-clause-once : goal.returns-in_default-clause-once
+returns-in_default-clause-once c =
+    let once : EachPeerOnce (in_order c.self.inside.index.places) =
+    rw (← c.self.view_is) at c.requires in
+    new_once-shown c.self.inside.index.places c.args.key.now c.args.peer c.args.row.now
+    (in_order c.insert_new.new.index.places) once c.in_ok-insert_new.ensures.ok
 
-pub returns-clause-ok : goal.returns-clause-ok
-returns-clause-ok c =
-    rw (← c.self.view_is) (ap rows_in (rw c.if-not-new.false at c.in_ok-at.ensures.ok)
-    ∙ put_new (seen (rows_at c.self.inside.slots.places.items)
-    c.self.inside.keys.entries) c.args.key.now c.args.peer c.args.row.now
-    (sorted-seen (rows_at c.self.inside.slots.places.items) c.self.inside.keys.entries
-    c.self.invariant.ordered) (fresh c))
-
-pub returns-clause-once : goal.returns-clause-once
-returns-clause-once c =
-    let once : EachPeerOnce (seen (rows_at c.self.inside.slots.places.items)
-    c.self.inside.keys.entries) = rw (← c.self.view_is) at c.requires in
-    subst (λ (keys : Keys). EachPeerOnce keys)
-    (sym (rw c.if-not-new.false at c.in_ok-at.ensures.ok))
-    (once-insert_entry (seen (rows_at c.self.inside.slots.places.items)
-    c.self.inside.keys.entries) c.args.key.now c.args.peer c.args.row.now once)
+pub returns-in_default-clause-ordered : goal.returns-in_default-clause-ordered
+returns-in_default-clause-ordered c = sorted-in_order c.insert_new.new.index.places
 
 pub returns-clause-ordered : goal.returns-clause-ordered
-returns-clause-ordered c = sorted-seen (rows_at c.place_key.new.slots.places.items)
-    c.place_key.new.keys.entries c.place_key.ensures.indexed.ordered
-
-pub returns-clause-few : goal.returns-clause-few
-returns-clause-few c =
-    let once : EachPeerOnce (seen (rows_at c.self.inside.slots.places.items)
-    c.self.inside.keys.entries) = rw (← c.self.view_is) at c.requires in
-    rw (← c.self.view_is) (few-shown (rows_at c.self.inside.slots.places.items)
-    c.self.inside.keys.entries once c.len-few.result c.len-few.ensures.len
-    c.len-few.ensures.small)
+returns-clause-ordered c =
+    rw (← c.self.view_is) (sorted-in_order c.self.inside.index.places)

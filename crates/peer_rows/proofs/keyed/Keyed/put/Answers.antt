@@ -1,86 +1,94 @@
-use Rattle.std.proofs.Common.{sym}
-use Rattle.peer_rows.specs.Slots.{key_at, rows_at, seen}
+use Rattle.std.proofs.Common.{sym, ap}
+use Rattle.peer_rows.specs.Places.{in_order}
 use Rattle.peer_rows.specs.Table.{EachPeerOnce}
-use Rattle.peer_rows.proofs.Indexed.{sorted-seen, indexed-same}
-use Rattle.peer_rows.proofs.Keying.{lookup_not_held}
-use Rattle.peer_rows.proofs.Shown.{none-shown, peers-shown, put-shown, refused-shown, once-shown}
-use Rattle.peer_rows.proofs.Shown.{few-shown}
+use Rattle.peer_rows.proofs.Ordered.{sorted-in_order, some_item}
+use Rattle.peer_rows.proofs.Shown.{no_peer-shown, new-shown, new_once-shown, same_once, on_err}
+use Rattle.peer_rows.proofs.Shown.{peers-shown, put-shown, refused-shown, once-shown}
+use Rattle.place_index.specs.Places.{item_at, revalued}
 use Rattle.peer_rows.proofs.keyed.Keyed.put.Goals as goal
 
+pub value_mut-rows-requires : goal.value_mut-rows-requires
+value_mut-rows-requires c = some_item (item_at c.self.inside.index.places c.in-Some.at)
+    c.args.key.now c.in-Some.ensures.some
+
 pub returns-clause-ok : goal.returns-clause-ok
-returns-clause-ok c = rw (← c.self.view_is) (put-shown (key_at c.self.inside.slots.places.items)
-    (rows_at c.self.inside.slots.places.items) c.self.inside.keys.entries c.args.key.now
-    c.self.invariant c.in-Some.at (sym c.in-Some.ensures.value)
-    (rows_at c.put.new.self.places.items) c.in-Some.ensures.some c.put.ensures.other_rows
-    c.args.peer c.args.row c.put.result c.put.ensures.ok)
+returns-clause-ok c = rw (← c.self.view_is) (put-shown c.self.inside.index.places
+    c.args.key.now c.in-Some.ensures.distinct c.in-Some.at c.in-Some.ensures.some
+    c.value_mut-rows.result.now c.value_mut-rows.ensures.value c.put.new.self c.args.peer
+    c.args.row c.put.result c.put.ensures.ok)
 
 pub returns-clause-old : goal.returns-clause-old
 returns-clause-old c = rw (
   ← c.self.view_is,
-  peers-shown (key_at c.self.inside.slots.places.items)
-      (rows_at c.self.inside.slots.places.items) c.self.inside.keys.entries c.args.key.now
-      c.self.invariant c.in-Some.at (sym c.in-Some.ensures.value) c.args.peer,
+  peers-shown c.self.inside.index.places c.args.key.now c.in-Some.ensures.distinct c.in-Some.at
+      c.in-Some.ensures.some c.value_mut-rows.result.now c.value_mut-rows.ensures.value
+      c.args.peer,
 ) c.put.ensures.old
 
 pub returns-clause-held : goal.returns-clause-held
 returns-clause-held c = rw (
   ← c.self.view_is,
-  peers-shown (key_at c.self.inside.slots.places.items)
-      (rows_at c.self.inside.slots.places.items) c.self.inside.keys.entries c.args.key.now
-      c.self.invariant c.in-Some.at (sym c.in-Some.ensures.value) c.args.peer,
+  peers-shown c.self.inside.index.places c.args.key.now c.in-Some.ensures.distinct c.in-Some.at
+      c.in-Some.ensures.some c.value_mut-rows.result.now c.value_mut-rows.ensures.value
+      c.args.peer,
 ) c.put.ensures.held
 
 pub returns-clause-err : goal.returns-clause-err
-returns-clause-err c = rw (← c.self.view_is)
-    (refused-shown (key_at c.self.inside.slots.places.items)
-    (rows_at c.self.inside.slots.places.items) c.self.inside.keys.entries c.args.key.now
-    c.self.invariant c.in-Some.at (sym c.in-Some.ensures.value)
-    (rows_at c.put.new.self.places.items) c.in-Some.ensures.some c.put.ensures.other_rows
-    c.put.result c.put.ensures.err)
+returns-clause-err c = rw (← c.self.view_is) (refused-shown c.self.inside.index.places
+    c.args.key.now c.in-Some.ensures.distinct c.in-Some.at c.in-Some.ensures.some
+    c.value_mut-rows.result.now c.value_mut-rows.ensures.value c.put.new.self c.put.result
+    c.put.ensures.err)
 
 pub returns-clause-once : goal.returns-clause-once
 returns-clause-once c =
-    let once : EachPeerOnce (seen (rows_at c.self.inside.slots.places.items)
-    c.self.inside.keys.entries) = rw (← c.self.view_is) at c.requires in
-    once-shown (key_at c.self.inside.slots.places.items) (rows_at c.self.inside.slots.places.items)
-    c.self.inside.keys.entries c.args.key.now c.self.invariant c.in-Some.at
-    (sym c.in-Some.ensures.value) (rows_at c.put.new.self.places.items) c.in-Some.ensures.some
-    c.put.ensures.other_rows once c.put.ensures.are
+    let once : EachPeerOnce (in_order c.self.inside.index.places) =
+    rw (← c.self.view_is) at c.requires in
+    once-shown c.self.inside.index.places c.args.key.now c.in-Some.ensures.distinct c.in-Some.at
+    c.in-Some.ensures.some c.value_mut-rows.result.now c.value_mut-rows.ensures.value
+    c.put.new.self once c.put.ensures.are
 
 pub returns-clause-ordered : goal.returns-clause-ordered
-returns-clause-ordered c = sorted-seen (rows_at c.put.new.self.places.items)
-    c.self.inside.keys.entries c.self.invariant.ordered
+returns-clause-ordered c =
+    sorted-in_order (revalued c.self.inside.index.places c.in-Some.at c.put.new.self)
 
-pub returns-clause-few : goal.returns-clause-few
-returns-clause-few c =
-    let once : EachPeerOnce (seen (rows_at c.self.inside.slots.places.items)
-    c.self.inside.keys.entries) = rw (← c.self.view_is) at c.requires in
-    rw (← c.self.view_is) (few-shown (rows_at c.self.inside.slots.places.items)
-    c.self.inside.keys.entries once c.len-few.result c.len-few.ensures.len
-    c.len-few.ensures.small)
-
-pub insert-requires-clause-none : goal.insert-requires-clause-none
-insert-requires-clause-none c = none-shown (key_at c.self.inside.slots.places.items)
-    (rows_at c.self.inside.slots.places.items) c.self.inside.keys.entries c.args.key.now
-    c.self.invariant (sym c.in_default.ensures.value)
-
-pub returns-in_err-insert-clause-held : goal.returns-in_err-insert-clause-held
-returns-in_err-insert-clause-held c =
-    let none = lookup_not_held (seen (rows_at c.self.inside.slots.places.items)
-    c.self.inside.keys.entries) c.args.key.now c.args.peer
-    (none-shown (key_at c.self.inside.slots.places.items)
-    (rows_at c.self.inside.slots.places.items) c.self.inside.keys.entries c.args.key.now
-    c.self.invariant (sym c.in_default.ensures.value)) in
+pub returns-in_err-insert_new-clause-held : goal.returns-in_err-insert_new-clause-held
+returns-in_err-insert_new-clause-held c =
+    let none = no_peer-shown c.self.inside.index.places c.args.key.now c.args.peer
+    c.in_default.ensures.none in
     rw (← c.self.view_is) (λ held. let nothing = rw none at held in cc)
 
-pub returns-in_default-clause-old : goal.returns-in_default-clause-old
-returns-in_default-clause-old c =
-    rw (← c.self.view_is) (sym (lookup_not_held (seen (rows_at c.self.inside.slots.places.items)
-    c.self.inside.keys.entries) c.args.key.now c.args.peer
-    (none-shown (key_at c.self.inside.slots.places.items) (rows_at c.self.inside.slots.places.items)
-    c.self.inside.keys.entries c.args.key.now c.self.invariant (sym c.in_default.ensures.value))))
+pub returns-in_err-insert_new-clause-err : goal.returns-in_err-insert_new-clause-err
+returns-in_err-insert_new-clause-err c =
+    rw (← c.self.view_is) (on_err c.from_residual.result
+    (ap in_order c.in_err-insert_new.ensures.err))
 
-pub invariant_of-self-2 : goal.invariant_of-self-2
-invariant_of-self-2 c = indexed-same (key_at c.self.inside.slots.places.items)
-    (key_at c.put.new.self.places.items) c.self.inside.keys.entries c.put.ensures.keys
-    c.self.invariant
+pub returns-in_err-insert_new-clause-once : goal.returns-in_err-insert_new-clause-once
+returns-in_err-insert_new-clause-once c =
+    let once : EachPeerOnce (in_order c.self.inside.index.places) =
+    rw (← c.self.view_is) at c.requires in
+    same_once c.self.inside.index.places c.insert_new.new.index.places
+    c.in_err-insert_new.ensures.err once
+
+pub returns-in_err-insert_new-clause-ordered : goal.returns-in_err-insert_new-clause-ordered
+returns-in_err-insert_new-clause-ordered c = sorted-in_order c.insert_new.new.index.places
+
+pub returns-in_default-clause-ok : goal.returns-in_default-clause-ok
+returns-in_default-clause-ok c = rw (← c.self.view_is)
+    (new-shown c.self.inside.index.places c.args.key.now c.args.peer c.args.row
+    (in_order c.insert_new.new.index.places) c.in_default.ensures.none
+    c.in_ok-insert_new.ensures.ok)
+
+pub returns-in_default-clause-old : goal.returns-in_default-clause-old
+returns-in_default-clause-old c = rw (← c.self.view_is)
+    (sym (no_peer-shown c.self.inside.index.places c.args.key.now c.args.peer
+    c.in_default.ensures.none))
+
+pub returns-in_default-clause-once : goal.returns-in_default-clause-once
+returns-in_default-clause-once c =
+    let once : EachPeerOnce (in_order c.self.inside.index.places) =
+    rw (← c.self.view_is) at c.requires in
+    new_once-shown c.self.inside.index.places c.args.key.now c.args.peer c.args.row
+    (in_order c.insert_new.new.index.places) once c.in_ok-insert_new.ensures.ok
+
+pub returns-in_default-clause-ordered : goal.returns-in_default-clause-ordered
+returns-in_default-clause-ordered c = sorted-in_order c.insert_new.new.index.places

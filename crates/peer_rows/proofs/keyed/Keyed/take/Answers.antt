@@ -1,100 +1,97 @@
-use Rattle.std.proofs.Common.{◌≡◌, ◌∙◌, sym, ap, subst, ◌∷◌, []}
-use Rattle.std.specs.Ordering.{nat_cmp}
-use Rattle.std.specs.Cmp.Lexicographic.{slice_cmp}
+use Rattle.std.proofs.Common.{◌≡◌, ◌∙◌, sym, ◌∷◌, [], true, false}
 use Rattle.std.specs.Map.{keys_of}
-use Rattle.std.specs.BTreeMap.{is_at}
-use Rattle.peer_rows.specs.Slots.{key_at, rows_at, seen}
-use Rattle.peer_rows.specs.Table.{rows_in, EachPeerOnce}
-use Rattle.peer_rows.proofs.Indexed.{sorted-seen, indexed-same}
-use Rattle.peer_rows.proofs.Keying.{Keys, lookup_not_held, take_not_held, take_last, value_last}
-use Rattle.peer_rows.proofs.Keying.{once-remove_entry}
-use Rattle.peer_rows.proofs.Shown.{none-shown, rows-shown, peers-shown, take-shown, once-shown}
+use Rattle.place_index.specs.Places.{item_at, revalued}
+use Rattle.peer_rows.specs.Places.{in_order}
+use Rattle.peer_rows.specs.Table.{EachPeerOnce}
+use Rattle.peer_rows.proofs.Keying.{take_not_held, value_last}
+use Rattle.peer_rows.proofs.Ordered.{sorted-in_order, some_item}
+use Rattle.peer_rows.proofs.Shown.{none-shown, no_peer-shown, peers-shown, take-shown}
+use Rattle.peer_rows.proofs.Shown.{once-shown, last-shown, gone_once-shown}
 use Rattle.peer_rows.proofs.keyed.Keyed.take.Goals as goal
 
 pub returns-in_err-at-clause-value : goal.returns-in_err-at-clause-value
-returns-in_err-at-clause-value c =
-    rw (c.from_residual.ensures, ← c.self.view_is)
-    (sym (lookup_not_held (seen (rows_at c.self.inside.slots.places.items)
-    c.self.inside.keys.entries) c.args.key.now c.args.peer
-    (none-shown (key_at c.self.inside.slots.places.items) (rows_at c.self.inside.slots.places.items)
-    c.self.inside.keys.entries c.args.key.now c.self.invariant (sym c.in_err-at.ensures.value))))
+returns-in_err-at-clause-value c = rw (c.from_residual.ensures, ← c.self.view_is)
+    (sym (no_peer-shown c.self.inside.index.places c.args.key.now c.args.peer
+    c.in_err-at.ensures.none))
 
 pub returns-in_err-at-clause-after : goal.returns-in_err-at-clause-after
-returns-in_err-at-clause-after c =
-    rw (← c.self.view_is) (sym (take_not_held (seen (rows_at c.self.inside.slots.places.items)
-    c.self.inside.keys.entries) c.args.key.now c.args.peer
-    (none-shown (key_at c.self.inside.slots.places.items) (rows_at c.self.inside.slots.places.items)
-    c.self.inside.keys.entries c.args.key.now c.self.invariant (sym c.in_err-at.ensures.value))))
+returns-in_err-at-clause-after c = rw (← c.self.view_is)
+    (sym (take_not_held (in_order c.self.inside.index.places) c.args.key.now c.args.peer
+    (none-shown c.self.inside.index.places c.args.key.now c.in_err-at.ensures.none)))
 
 pub returns-in_err-at-clause-ordered : goal.returns-in_err-at-clause-ordered
-returns-in_err-at-clause-ordered c = sorted-seen (rows_at c.self.inside.slots.places.items)
-    c.self.inside.keys.entries c.self.invariant.ordered
+returns-in_err-at-clause-ordered c =
+    rw (← c.self.view_is) (sorted-in_order c.self.inside.index.places)
 
-pub invariant_of-self-else-is_only : goal.invariant_of-self-else-is_only
-invariant_of-self-else-is_only c = indexed-same (key_at c.self.inside.slots.places.items)
-    (key_at c.take.new.self.places.items) c.self.inside.keys.entries c.take.ensures.keys
-    c.self.invariant
+pub is_only-requires : goal.is_only-requires
+is_only-requires c = some_item (item_at c.self.inside.index.places c.in_ok-at.at)
+    c.args.key.now c.in_ok-at.ensures.some
 
-pub returns-in_ok-remove_key-clause-value : goal.returns-in_ok-remove_key-clause-value
-returns-in_ok-remove_key-clause-value c =
-    let only : keys_of (rows_at c.self.inside.slots.places.items c.in_ok-at.at) ≡ c.args.peer ∷ [] =
-    rw c.rows.ensures at (c.is_only.ensures.0 c.if-is_only.true) in
-    let same : c.in_ok-remove_key.field-0 ≡ rows_at c.self.inside.slots.places.items c.in_ok-at.at =
-    let value = c.in_ok-remove_key.ensures.value in cc in
-    rw (← c.self.view_is) (rw same at c.into_last.ensures
-    ∙ sym (value_last c.args.peer (rows_at c.self.inside.slots.places.items c.in_ok-at.at) only)
-    ∙ sym (peers-shown (key_at c.self.inside.slots.places.items)
-    (rows_at c.self.inside.slots.places.items) c.self.inside.keys.entries c.args.key.now
-    c.self.invariant c.in_ok-at.at (sym c.in_ok-at.ensures.value) c.args.peer))
+pub taken-rows-requires : goal.taken-rows-requires
+taken-rows-requires c = some_item (item_at c.self.inside.index.places c.in_ok-at.at)
+    c.args.key.now c.in_ok-at.ensures.some
 
-pub returns-in_ok-remove_key-clause-after : goal.returns-in_ok-remove_key-clause-after
-returns-in_ok-remove_key-clause-after c =
-    let only : keys_of (rows_at c.self.inside.slots.places.items c.in_ok-at.at) ≡ c.args.peer ∷ [] =
-    rw c.rows.ensures at (c.is_only.ensures.0 c.if-is_only.true) in
-    rw (← c.self.view_is) (ap rows_in c.remove_key.ensures.after
-    ∙ take_last (seen (rows_at c.self.inside.slots.places.items) c.self.inside.keys.entries)
-    c.args.key.now c.args.peer (rows_at c.self.inside.slots.places.items c.in_ok-at.at)
-    (sorted-seen (rows_at c.self.inside.slots.places.items) c.self.inside.keys.entries
-    c.self.invariant.ordered) (rows-shown (key_at c.self.inside.slots.places.items)
-    (rows_at c.self.inside.slots.places.items) c.self.inside.keys.entries c.args.key.now
-    c.self.invariant c.in_ok-at.at (sym c.in_ok-at.ensures.value)) only)
+pub value_mut-rows-requires : goal.value_mut-rows-requires
+value_mut-rows-requires c = some_item (item_at c.self.inside.index.places c.in_ok-at.at)
+    c.args.key.now c.in_ok-at.ensures.some
 
-pub returns-in_ok-remove_key-clause-ordered : goal.returns-in_ok-remove_key-clause-ordered
-returns-in_ok-remove_key-clause-ordered c =
-    sorted-seen (rows_at c.remove_key.new.slots.places.items) c.remove_key.new.keys.entries
-    c.remove_key.ensures.indexed.ordered
+pub take-requires : goal.take-requires
+take-requires c = λ last.
+    let yes : c.is_only.result ≡ true =
+    (rw c.value_mut-rows.ensures.value at c.is_only.ensures).1 last in
+    let wrong : true ≡ false = sym yes ∙ c.if-is_only.false in
+    cc
 
-pub returns-in_ok-remove_key-clause-once : goal.returns-in_ok-remove_key-clause-once
-returns-in_ok-remove_key-clause-once c =
-    let once : EachPeerOnce (seen (rows_at c.self.inside.slots.places.items)
-    c.self.inside.keys.entries) = rw (← c.self.view_is) at c.requires in
-    subst (λ (keys : Keys). EachPeerOnce keys) (sym c.remove_key.ensures.after)
-    (once-remove_entry (is_at (slice_cmp nat_cmp c.args.key.now))
-    (seen (rows_at c.self.inside.slots.places.items) c.self.inside.keys.entries) once)
+pub returns-then-is_only-clause-value : goal.returns-then-is_only-clause-value
+returns-then-is_only-clause-value c =
+    let only : keys_of c.taken-rows.result ≡ c.args.peer ∷ [] =
+    (rw c.taken-rows.ensures.value at c.is_only.ensures).0 c.if-is_only.true in
+    rw (← c.self.view_is) (c.into_last.ensures
+    ∙ sym (value_last c.args.peer c.taken-rows.result only)
+    ∙ sym (peers-shown c.self.inside.index.places c.args.key.now c.in_ok-at.ensures.distinct
+    c.in_ok-at.at c.in_ok-at.ensures.some c.taken-rows.result c.taken-rows.ensures.value
+    c.args.peer))
+
+pub returns-then-is_only-clause-after : goal.returns-then-is_only-clause-after
+returns-then-is_only-clause-after c =
+    let only : keys_of c.taken-rows.result ≡ c.args.peer ∷ [] =
+    (rw c.taken-rows.ensures.value at c.is_only.ensures).0 c.if-is_only.true in
+    rw (← c.self.view_is, c.taken-rows.ensures.after)
+    (last-shown c.self.inside.index.places c.args.key.now c.in_ok-at.ensures.distinct
+    c.in_ok-at.at c.in_ok-at.ensures.some c.taken-rows.result c.taken-rows.ensures.value
+    c.args.peer only)
+
+pub returns-then-is_only-clause-ordered : goal.returns-then-is_only-clause-ordered
+returns-then-is_only-clause-ordered c = sorted-in_order c.taken-rows.new.index.places
+
+pub returns-then-is_only-clause-once : goal.returns-then-is_only-clause-once
+returns-then-is_only-clause-once c =
+    let once : EachPeerOnce (in_order c.self.inside.index.places) =
+    rw (← c.self.view_is) at c.requires in
+    rw c.taken-rows.ensures.after (gone_once-shown c.self.inside.index.places c.args.key.now
+    c.in_ok-at.ensures.distinct c.in_ok-at.at c.in_ok-at.ensures.some c.taken-rows.result
+    c.taken-rows.ensures.value once)
 
 pub returns-else-is_only-clause-value : goal.returns-else-is_only-clause-value
 returns-else-is_only-clause-value c = rw (← c.self.view_is) (c.take.ensures.value
-    ∙ sym (peers-shown (key_at c.self.inside.slots.places.items)
-    (rows_at c.self.inside.slots.places.items) c.self.inside.keys.entries c.args.key.now
-    c.self.invariant c.in_ok-at.at (sym c.in_ok-at.ensures.value) c.args.peer))
+    ∙ sym (peers-shown c.self.inside.index.places c.args.key.now c.in_ok-at.ensures.distinct
+    c.in_ok-at.at c.in_ok-at.ensures.some c.value_mut-rows.result.now
+    c.value_mut-rows.ensures.value c.args.peer))
 
 pub returns-else-is_only-clause-after : goal.returns-else-is_only-clause-after
-returns-else-is_only-clause-after c =
-    rw (← c.self.view_is) (take-shown (key_at c.self.inside.slots.places.items)
-    (rows_at c.self.inside.slots.places.items) c.self.inside.keys.entries c.args.key.now
-    c.self.invariant c.in_ok-at.at (sym c.in_ok-at.ensures.value)
-    (rows_at c.take.new.self.places.items) c.in_ok-at.ensures.some c.take.ensures.other_rows
-    c.args.peer c.take.ensures.after)
+returns-else-is_only-clause-after c = rw (← c.self.view_is)
+    (take-shown c.self.inside.index.places c.args.key.now c.in_ok-at.ensures.distinct
+    c.in_ok-at.at c.in_ok-at.ensures.some c.value_mut-rows.result.now
+    c.value_mut-rows.ensures.value c.take.new.self c.args.peer c.take.ensures.after)
 
 pub returns-else-is_only-clause-ordered : goal.returns-else-is_only-clause-ordered
-returns-else-is_only-clause-ordered c = sorted-seen (rows_at c.take.new.self.places.items)
-    c.self.inside.keys.entries c.self.invariant.ordered
+returns-else-is_only-clause-ordered c =
+    sorted-in_order (revalued c.self.inside.index.places c.in_ok-at.at c.take.new.self)
 
 pub returns-else-is_only-clause-once : goal.returns-else-is_only-clause-once
 returns-else-is_only-clause-once c =
-    let once : EachPeerOnce (seen (rows_at c.self.inside.slots.places.items)
-    c.self.inside.keys.entries) = rw (← c.self.view_is) at c.requires in
-    once-shown (key_at c.self.inside.slots.places.items) (rows_at c.self.inside.slots.places.items)
-    c.self.inside.keys.entries c.args.key.now c.self.invariant c.in_ok-at.at
-    (sym c.in_ok-at.ensures.value) (rows_at c.take.new.self.places.items)
-    c.in_ok-at.ensures.some c.take.ensures.other_rows once c.take.ensures.are
+    let once : EachPeerOnce (in_order c.self.inside.index.places) =
+    rw (← c.self.view_is) at c.requires in
+    once-shown c.self.inside.index.places c.args.key.now c.in_ok-at.ensures.distinct
+    c.in_ok-at.at c.in_ok-at.ensures.some c.value_mut-rows.result.now
+    c.value_mut-rows.ensures.value c.take.new.self once c.take.ensures.are

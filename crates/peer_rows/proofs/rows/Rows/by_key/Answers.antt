@@ -8,5 +8,5 @@ returns-clause-value c =
     let found : slice_get c.self.inside.tables.items c.args.table ≡ Some c.index.result.now =
     found_at c.self.inside.tables.items c.args.table c.index.result.now (rw (← c.self.view_is)
     at c.requires) c.index.ensures in
-    rw (← c.self.view_is) (c.by_key.ensures
+    rw (← c.self.view_is) (c.in_ok-rows.ensures
     ∙ sym (by_key-placed c.self.inside.tables.items c.args.table c.index.result.now found))

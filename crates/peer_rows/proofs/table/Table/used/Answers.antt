@@ -8,4 +8,4 @@ returns c =
       ← c.self.view_is,
       dedup-rows_in c.self.inside.keys c.self.invariant.ordered
           c.self.invariant.once,
-    ) (simp length-map c.len.ensures)
+    ) (simp length-map c.len.ensures.value)
