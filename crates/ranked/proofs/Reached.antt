@@ -13,7 +13,7 @@ use Rattle.fleet_model.proofs.Every.{every-map}
 use Rattle.fleet_model.proofs.Ranks.{all-put}
 use Rattle.fleet_model.specs.Ranking.{put_in_order, rank_cmp}
 use Rattle.ranked.proofs.Walking.{bound_of-falls}
-use Rattle.ranked.specs.Walk.{AreFalling, IsWalk, bound_of, is_done, reach}
+use Rattle.ranked.specs.Walk.{AreFalling, IsWalk, bound_of, counted, is_done, reach}
 
 abbrev Candidates : Type 0
 Candidates = List (List ℕ × ℕ)
@@ -70,23 +70,11 @@ pub walk_start : (index : Entries) → IsWalk index 0 [] index
 walk_start index = record {
   taken = [];
   split = refl;
-  count = omega arith;
+  count = refl;
   above = tt;
   before =
       tt;
   falling = tt;
-}
-
-pub walk_less : (index ahead : Entries) (cs : Candidates) (n m : ℕ) → m ≤ n
-    → IsWalk index n cs ahead → IsWalk index m cs ahead
-walk_less index ahead cs n m le h = record {
-  taken = h.taken;
-  split = h.split;
-  count =
-      omega (arith, le, h.count);
-  above = h.above;
-  before = h.before;
-  falling = h.falling;
 }
 
 -- where a walk may not stop, all candidates are within the next bound
@@ -107,7 +95,7 @@ within_next (best ∷ cs) e undone falling =
 -- the next entry is taken, within whose bound all candidates are
 take_more : (index rest : Entries) (e : ℕ × List ℕ) (cs : Candidates) (n : ℕ)
     → IsWalk index n cs (e ∷ rest) → AllByRecursion (λ c. c.1 ≤ bound_of e.0) cs
-    → AllByRecursion (λ f. e.0 ≤ f.0) rest → IsWalk index (n + 1) cs rest
+    → AllByRecursion (λ f. e.0 ≤ f.0) rest → IsWalk index (counted (n + 1)) cs rest
 take_more index rest e cs n h within order = record {
   taken = h.taken ++ e ∷ [];
   split = h.split ∙ sym (append_assoc h.taken (e ∷ []) rest);
@@ -153,16 +141,16 @@ never_undone (c ∷ cs) undone = false≢true (sym undone)
 
 pub walk_passed : (index rest : Entries) (e : ℕ × List ℕ) (cs : Candidates) (n : ℕ)
     → is_done cs (Some e) ≡ false → AllByRecursion (λ f. e.0 ≤ f.0) rest
-    → IsWalk index n cs (e ∷ rest) → IsWalk index (n + 1) cs rest
+    → IsWalk index n cs (e ∷ rest) → IsWalk index (counted (n + 1)) cs rest
 walk_passed index rest e cs n undone order h =
     take_more index rest e cs n h (within_next cs e undone h.falling) order
 
 pub walk_offered : (index rest : Entries) (e : ℕ × List ℕ) (cs new : Candidates) (n room value : ℕ)
     (key : List ℕ) → is_done cs (Some e) ≡ false → AllByRecursion (λ f. e.0 ≤ f.0) rest
     → value ≤ bound_of e.0 → new ≡ take room (put_in_order rank_cmp (key, value) cs)
-    → IsWalk index n cs (e ∷ rest) → IsWalk index (n + 1) new rest
+    → IsWalk index n cs (e ∷ rest) → IsWalk index (counted (n + 1)) new rest
 walk_offered index rest e cs new n room value key undone order bound is h =
-    subst (λ l. IsWalk index (n + 1) l rest) (sym is)
+    subst (λ l. IsWalk index (counted (n + 1)) l rest) (sym is)
     (take_more index rest e (take room (put_in_order rank_cmp (key, value) cs)) n
     (offer_one index rest e cs n room value key bound h)
     (all-take (λ c. c.1 ≤ bound_of e.0) room (put_in_order rank_cmp (key, value) cs)

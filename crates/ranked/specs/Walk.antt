@@ -2,7 +2,7 @@
 -- so far stands before all that are left.
 use Rattle.std.specs.Prelude.{◌≡◌, ℕ, ◌+◌, ◌-◌, ◌^◌, ◌<◌, ◌≤◌, Bool, true, ◌==◌, nat_le, nat_lt}
 use Rattle.std.specs.Prelude.{if◌then◌else◌, List, [], ◌∷◌, ◌++◌, count_by, length, take, Option}
-use Rattle.std.specs.Prelude.{None, Some, IfSome, is_none}
+use Rattle.std.specs.Prelude.{None, Some, IfSome, is_none, min}
 use Rattle.std.specs.List.{AllByRecursion}
 use Rattle.std.specs.Borrow.{Bor}
 use Rattle.std.specs.Map.Iter.{TakesFirst}
@@ -55,14 +55,17 @@ abbrev pub AreFalling : List (List ℕ × ℕ) → Type 0
 AreFalling [] = Unit {0}
 AreFalling (c ∷ candidates) = AllByRecursion (λ d. d.1 ≤ c.1) candidates × AreFalling candidates
 
--- A walk took at least so many entries of an index, and these lie ahead. Of each entry that it
--- took, the bound is at least the value of each candidate, and at least the bound of each entry
--- ahead.
+-- a count of 64 bits, which stays at its greatest number once it is there
+abbrev pub counted : ℕ → ℕ
+counted n = min n (2 ^ 64 - 1)
+
+-- A walk took so many entries of an index, and these lie ahead. Of each entry that it took, the
+-- bound is at least the value of each candidate, and at least the bound of each entry ahead.
 pub record IsWalk (index : List (ℕ × List ℕ)) (walked : ℕ) (candidates : List (List ℕ × ℕ))
     (ahead : List (ℕ × List ℕ)) : Type 0 where
   pub taken : List (ℕ × List ℕ)
   pub split : index ≡ taken ++ ahead
-  pub count : walked ≤ length taken
+  pub count : walked ≡ counted (length taken)
   pub above : AllByRecursion (λ t. AllByRecursion (λ c. c.1 ≤ bound_of t.0) candidates) taken
   pub before : AllByRecursion (λ t. AllByRecursion (λ f. t.0 ≤ f.0) ahead) taken
   pub falling : AreFalling candidates
@@ -71,22 +74,29 @@ pub record IsWalk (index : List (ℕ × List ℕ)) (walked : ℕ) (candidates : 
 abbrev pub WalksOn : List (List ℕ × ℕ) → List (ℕ × List ℕ) → ℕ → List (List ℕ × ℕ)
     → List (ℕ × List ℕ) → Type 0
 WalksOn candidates ahead more later left = (index : List (ℕ × List ℕ)) (walked : ℕ)
-    → IsWalk index walked candidates ahead → IsWalk index (walked + more) later left
+    → IsWalk index walked candidates ahead → IsWalk index (counted (walked + more)) later left
 
--- what contracts see of a ranked list: what it has left, how many entries of the index it took, and
--- the whole index
+-- what contracts see of a ranked list: what it has left, how many entries of the index it took, the
+-- whole index, and the entries that it didn't take yet
 pub record RankedList : Type 0 where
   pub left : List (List ℕ × ℕ)
   pub walked : ℕ
   pub index : List (ℕ × List ℕ)
+  pub ahead : List (ℕ × List ℕ)
+
+-- the index is what a list took, and behind it what lies ahead; it counted all that it took
+pub record IsCounted (list : RankedList) : Type 0 where
+  pub taken : List (ℕ × List ℕ)
+  pub split : list.index ≡ taken ++ list.ahead
+  pub count : list.walked ≡ counted (length taken)
 
 -- how many keys of an index have a bound of at least a value
 abbrev pub reach : List (ℕ × List ℕ) → ℕ → ℕ
 reach index value = count_by (λ e. nat_le value (bound_of e.0)) index
 
--- the first of what is left is given; and no more entries are taken by then than there are keys
--- with a bound of at least its value
+-- the first of what is left is given; all entries that were taken are counted, and these are no
+-- more by then than there are keys with a bound of at least its value
 abbrev pub GivesFirst : RankedList → Option (Bor (List ℕ) × ℕ) → RankedList → Type 0
 GivesFirst old given new =
     TakesFirst view_of_candidate old.left given new.left × (new.index ≡ old.index)
-    × IfSome given (λ item. new.walked ≤ reach old.index item.1)
+    × IsCounted new × IfSome given (λ item. new.walked ≤ reach old.index item.1)

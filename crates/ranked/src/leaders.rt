@@ -1,4 +1,5 @@
-ghost use Rattle.std.specs.Prelude.{◌≡◌, ◌<◌, ◌≤◌, ℕ, [], length, IfOk, OnOk, OnErr};
+ghost use Rattle.std.specs.Prelude.{◌≡◌, ◌+◌, ◌*◌, ◌<◌, ◌≤◌, ℕ, [], length, IfOk, OnOk, OnErr};
+ghost use Rattle.std.specs.Option.{IsSomeAnd};
 ghost use Rattle.std.specs.Map.{keys_of};
 ghost use Rattle.agg_types.specs.declared.limits.TheConstants.{LONGEST_RANK};
 ghost use Rattle.ranked.specs.Bounds.{AreAllBounded, IsBounded, IsByKey, IsListOf, bound_at};
@@ -43,6 +44,8 @@ impl Leaders {
     pub fn touch(&mut self, list: usize, key: &Key, bound: u128) -> Result<(), NoMemory>
         requires { list < length self.old }
         ensures holds { OnOk result (IsBounded (bounds_of self.new list) key.now bound) }
+        ensures near { OnOk result (IsSomeAnd (bound_at (bounds_of self.new list) key.now)
+            (λ kept. kept ≤ 4 * bound + 3)) }
         ensures others { IsOneKeyOf list key.now self.old self.new }
         ensures err { OnErr result (self.new ≡ self.old) }
     {

@@ -4,7 +4,7 @@ ghost use Rattle.std.specs.Cmp.Lexicographic.{slice_cmp};
 ghost use Rattle.std.specs.Ordering.{nat_cmp};
 ghost use Rattle.agg_types.specs.declared.limits.TheConstants.{LONGEST_RANK};
 ghost use Rattle.expiry_wheel.specs.Entries.{IsInOrder};
-ghost use Rattle.ranked.specs.Walk.{AreBounds, GivesFirst, found};
+ghost use Rattle.ranked.specs.Walk.{AreBounds, GivesFirst, IsCounted, found};
 
 use crate::walk::take_certain;
 use agg_types::{Col, Key, NoMemory, Rank};
@@ -16,8 +16,9 @@ use std::marker::Model;
 /// Lends the keys of a ranked list, each with its value, the larger value first and of equal ones
 /// the smaller key. Takes no memory.
 ///
-/// Contracts see what it has left and how many entries of the index it took. When it has given an
-/// item it never took more than there are keys with a bound of at least the item's value.
+/// Contracts see what it has left, how many entries of the index it took, and which lie ahead. When
+/// it has given an item it never took more than there are keys with a bound of at least the item's
+/// value.
 #[derive(Drop)]
 pub struct Ranked<'a, V: Values> {
     index: &'a OrderedDue<Key>,
@@ -45,6 +46,7 @@ impl<'a, V: Values> Model for Ranked<'a, V> {
           (map view_of_candidate r.candidates.items) r.ahead;
       walked = r.walked;
       index = r.index.now;
+      ahead = r.ahead;
     } };
 
     ghost invariant = { λ r. AreBounds (λ key. V.living r.values.now r.table key r.now)
@@ -88,9 +90,11 @@ impl<'a, V: Values> Ranked<'a, V> {
         })
     }
 
-    /// How many entries of the index were taken so far.
+    /// How many entries of the index were taken so far: each that doesn't lie ahead. The count
+    /// stays at its greatest number once it is there.
     pub fn walked(&self) -> usize
-        ensures { result ≡ self.entry.now.walked }
+        ensures value { result ≡ self.entry.now.walked }
+        ensures counted { IsCounted self.entry.now }
     {
         self.walked
     }

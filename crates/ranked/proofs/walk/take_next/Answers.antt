@@ -2,7 +2,8 @@ use Rattle.std.proofs.Common.{ℕ, ◌+◌, ◌<◌, ◌≡◌, List, ◌∷◌,
 use Rattle.std.specs.Option.{option_map}
 use Rattle.expiry_wheel.specs.Items.{AreFromFirst, without_first}
 use Rattle.expiry_wheel.specs.Lent.{lent_entry}
-use Rattle.ranked.specs.Walk.{AreBounds, IsWalk, found, is_done, view_of_candidate}
+use Rattle.ranked.specs.Walk.{AreBounds, IsWalk, counted, found, is_done}
+use Rattle.ranked.specs.Walk.{view_of_candidate}
 use Rattle.expiry_wheel.proofs.Left.{first_and_rest}
 use Rattle.ranked.proofs.Reached.{never_undone, walk_offered, walk_passed}
 use Rattle.ranked.proofs.Walking.{taken_live}
@@ -38,7 +39,7 @@ returns-then-live-gt0-clause-walked g c index walked h =
     first_and_rest c.args.ahead.now e c.in-Some.ensures.next in
     let bounds : AreBounds living value (e ∷ rest) =
     subst (λ l. AreBounds living value l) all c.requires.bounds in
-    subst (λ l. IsWalk index (walked + 1) new l) (sym c.step.ensures)
+    subst (λ l. IsWalk index (counted (walked + 1)) new l) (sym c.step.ensures)
     (walk_offered index rest e old new walked c.args.room (value e.1) e.1
     (subst (λ o. is_done old o ≡ false) (sym c.in-Some.ensures.next) c.requires.undone)
     (subst (λ l. AreFromFirst l) all c.in-Some.ensures.first)
@@ -53,7 +54,7 @@ returns-else-live-gt0-clause-walked g c index walked h =
     let rest = without_first c.args.ahead.now in
     let all : c.args.ahead.now ≡ e ∷ rest =
     first_and_rest c.args.ahead.now e c.in-Some.ensures.next in
-    subst (λ l. IsWalk index (walked + 1) old l) (sym c.step.ensures)
+    subst (λ l. IsWalk index (counted (walked + 1)) old l) (sym c.step.ensures)
     (walk_passed index rest e old walked
     (subst (λ o. is_done old o ≡ false) (sym c.in-Some.ensures.next) c.requires.undone)
     (subst (λ l. AreFromFirst l) all c.in-Some.ensures.first)

@@ -3,7 +3,7 @@ use Rattle.std.proofs.lemmas.Bool.{eqb-true}
 use Rattle.std.proofs.lemmas.List.{length-map}
 use Rattle.std.specs.Prelude.{remove}
 use Rattle.expiry_wheel.proofs.Left.{shorter}
-use Rattle.ranked.specs.Walk.{IsWalk, found, view_of_candidate}
+use Rattle.ranked.specs.Walk.{IsWalk, counted, found, view_of_candidate}
 use Rattle.ranked.proofs.Reached.{walk_reach}
 use Rattle.ranked.proofs.Walking.{gives_first, gives_none, not_zero, removed_first}
 use Rattle.ranked.proofs.list.RankedIterator.next.Goals as goal
@@ -18,14 +18,14 @@ returns-clause-steps g c =
     (not_zero (length c.as_slice.result.now) (sym c.is_empty.ensures ∙ c.if-is_empty.false)) in
     let left : 0 < r.left = omega (arith, c.if-self-eq0.false) in
     let all = removed_first kept c.remove.result some c.remove.ensures.value in
-    let walk : IsWalk r.index.now (r.walked + c.take_certain-walked.result)
+    let walk : IsWalk r.index.now (counted (r.walked + c.take_certain-walked.result))
     (map view_of_candidate kept)
     c.take_certain-walked.new.ahead = c.take_certain-walked.ensures.walked r.index.now r.walked
     c.self.invariant.3 in
-    let given : IsWalk r.index.now (r.walked + c.take_certain-walked.result)
+    let given : IsWalk r.index.now (counted (r.walked + c.take_certain-walked.result))
     (view_of_candidate c.remove.result ∷ map view_of_candidate (remove kept 0))
     c.take_certain-walked.new.ahead =
-    subst (λ l. IsWalk r.index.now (r.walked + c.take_certain-walked.result)
+    subst (λ l. IsWalk r.index.now (counted (r.walked + c.take_certain-walked.result))
     (map view_of_candidate l) c.take_certain-walked.new.ahead) all walk in (
       ap (λ v. v.left) (sym c.self.view_is) ∙ sym c.take_certain-walked.ensures.same
           ∙ gives_first living value r.left (map view_of_candidate kept)
@@ -37,11 +37,12 @@ returns-clause-steps g c =
           ∙ ap (λ l. view_of_candidate c.remove.result ∷ found living value (r.left - 1)
           (map view_of_candidate l) c.take_certain-walked.new.ahead) (sym c.remove.ensures.items),
       ap (λ v. v.index) c.self.view_is,
+      record { taken = given.taken; split = given.split; count = c.saturating_add-self-inside.ensures ∙ given.count },
       rw (← c.self.view_is) (omega (
         arith,
         walk_reach r.index.now c.take_certain-walked.new.ahead
             (view_of_candidate c.remove.result) (map view_of_candidate (remove kept 0))
-            (r.walked + c.take_certain-walked.result) given,
+            (counted (r.walked + c.take_certain-walked.result)) given,
       )),
     )
 
@@ -62,8 +63,13 @@ returns-then-is_empty-clause-steps g c =
     c.take_certain-walked.new.ahead (length-map c.take_certain-walked.new.candidates.items
     view_of_candidate ∙ ap length (sym c.as_slice.ensures.value)
     ∙ eqb-true (length c.as_slice.result.now) 0 (sym c.is_empty.ensures ∙ c.if-is_empty.true))
-    c.take_certain-walked.ensures.settled in (
+    c.take_certain-walked.ensures.settled in
+    let walk : IsWalk r.index.now (counted (r.walked + c.take_certain-walked.result))
+    (map view_of_candidate c.take_certain-walked.new.candidates.items)
+    c.take_certain-walked.new.ahead = c.take_certain-walked.ensures.walked r.index.now r.walked
+    c.self.invariant.3 in (
       (ap (λ v. v.left) (sym c.self.view_is) ∙ sym c.take_certain-walked.ensures.same ∙ none, none),
       ap (λ v. v.index) c.self.view_is,
+      record { taken = walk.taken; split = walk.split; count = c.saturating_add-self-inside.ensures ∙ walk.count },
       tt,
     )
