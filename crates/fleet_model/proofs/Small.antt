@@ -1,5 +1,5 @@
 -- Moments and lives stay so small that no set changes behind moments of 64 bits.
-use Rattle.std.proofs.Common.{◌≡◌, ℕ, ◌^◌, ◌<◌, ◌≤◌, Bool, true, false, cond, ◌&&◌, nat_lt, List}
+use Rattle.std.proofs.Common.{◌≡◌, ℕ, ◌+◌, ◌^◌, ◌<◌, ◌≤◌, Bool, true, false, cond, ◌&&◌, nat_lt, List}
 use Rattle.std.proofs.Common.{[], ◌∷◌, Option, None, Some, refl, sym, subst, arith, length}
 use Rattle.std.proofs.lemmas.Bool.{and_parts}
 use Rattle.std.proofs.lemmas.Bool.Decides.{nat_tests}
@@ -24,6 +24,7 @@ use Rattle.fleet_model.proofs.InForce.{row_key_cmp_exact}
 use Rattle.fleet_model.proofs.Runs.{along}
 use Rattle.fleet_model.specs.Machine.{after, counts_now, happened, number_of, opened, session_of}
 use Rattle.fleet_model.specs.Machine.{with_put, with_row}
+use Rattle.fleet_model.specs.Keys.{key_rows}
 use Rattle.fleet_model.specs.Moments.{is_live}
 use Rattle.fleet_model.specs.Next.{flat_moment, longest_period, table_flat_from}
 use Rattle.fleet_model.specs.Rows.{has_room, arrival_of}
@@ -147,3 +148,36 @@ flat_if_sound state table sound =
     small_flat (longest_period (cols_of state.config.tables table)) state.rows (omega arith)
     (every-map (IsSoundRow state.config state.moment) IsSmall (small_rows state sound)
     state.rows sound.rows)
+
+-- ---- nor does a row of one, from 2^32 ms on
+abbrev IsRecent : ℕ → RowKey × Arrival → Type 0
+IsRecent moment row = (row.1.arrived ≤ moment) × (unwrap_or row.1.life 0 < 2 ^ 32)
+
+recent_flat : (longest moment : ℕ) (rows : List (RowKey × Arrival)) → longest < 2 ^ 31
+    → AllByRecursion (IsRecent moment) rows → flat_moment longest rows < moment + 2 ^ 32
+recent_flat longest moment [] short h = omega arith
+recent_flat longest moment (row ∷ rows) short h =
+    let arrived : row.1.arrived ≤ moment = h.0.0 in
+    let life : unwrap_or row.1.life 0 < 2 ^ 32 = h.0.1 in
+    let rest : flat_moment longest rows < moment + 2 ^ 32 =
+    recent_flat longest moment rows short h.1 in
+    omega arith
+
+recent_rows : (state : State) → IsSound state → AllByRecursion (IsRecent state.moment) state.rows
+recent_rows state sound =
+    every-map (IsSoundRow state.config state.moment) (IsRecent state.moment)
+    (λ row own. (own.arrived, (small_rows state sound row own).1)) state.rows sound.rows
+
+pub table_flat_soon : (state : State) (table : ℕ) → IsSound state
+    → table_flat_from state table < state.moment + 2 ^ 32
+table_flat_soon state table sound =
+    recent_flat (longest_period (cols_of state.config.tables table)) state.moment state.rows
+    (periods_short state.config table sound.checked) (recent_rows state sound)
+
+pub key_flat_soon : (state : State) (table : ℕ) (key : List ℕ) → IsSound state
+    → flat_moment (longest_period (cols_of state.config.tables table))
+    (key_rows state.rows table key) < state.moment + 2 ^ 32
+key_flat_soon state table key sound =
+    recent_flat (longest_period (cols_of state.config.tables table)) state.moment
+    (key_rows state.rows table key) (periods_short state.config table sound.checked)
+    (every-filter (IsRecent state.moment) _ state.rows (recent_rows state sound))

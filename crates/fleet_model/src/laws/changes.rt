@@ -1,6 +1,6 @@
 //! When a filter's set changes by the clock alone, key by key.
 
-ghost use Rattle.std.specs.Prelude.{◌≡◌, ℕ, ◌<◌, ◌≤◌, [], List, None, Some};
+ghost use Rattle.std.specs.Prelude.{◌≡◌, ℕ, ◌+◌, ◌^◌, ◌<◌, ◌≤◌, [], List, None, Some};
 ghost use Rattle.agg_types.specs.declared.column.Col.{Col};
 ghost use Rattle.agg_types.specs.declared.config.Filter.{Filter};
 ghost use Rattle.agg_types.specs.declared.event.Event.{Event};
@@ -10,6 +10,8 @@ ghost use Rattle.fleet_model.specs.Keys.{Rows, holds, key_rows};
 ghost use Rattle.fleet_model.specs.Laws.{IsOrdered};
 ghost use Rattle.fleet_model.specs.Machine.{after};
 ghost use Rattle.fleet_model.specs.Next.{IsNextChange, flat_moment, longest_period};
+ghost use Rattle.fleet_model.specs.Next.{table_flat_from};
+ghost use Rattle.fleet_model.specs.Sound.{IsSound};
 ghost use Rattle.fleet_model.specs.State.{State};
 ghost use Rattle.fleet_model.specs.Values.{cols_of};
 
@@ -54,4 +56,14 @@ pub fn a_key_is_flat_in_time()
         → t ≤ later → holds state filtering key later ≡ holds state filtering key t }
     ensures within { (cols : List (Col × ℕ)) (rows : Rows) (table : ℕ) (key : List ℕ)
         → rows_flat_from cols (key_rows rows table key) ≤ flat_moment (longest_period cols) rows }
+{}
+
+/// In a sound state the clock changes nothing of a table's rows, nor of a key's, from 2^32 ms on:
+/// they have arrived, and a life and two periods are shorter than that.
+pub fn a_sound_state_is_flat_soon()
+    ensures tables { (state : State) (table : ℕ) → IsSound state
+        → table_flat_from state table < state.moment + 2 ^ 32 }
+    ensures keys { (state : State) (table : ℕ) (key : List ℕ) → IsSound state
+        → flat_moment (longest_period (cols_of state.config.tables table))
+        (key_rows state.rows table key) < state.moment + 2 ^ 32 }
 {}
