@@ -318,12 +318,6 @@ impl Book {
         }
     }
 
-    /// How many values were read for the verdicts that are kept: a count of work, and no answer. It
-    /// begins anew where the verdicts are made anew, and is 0 where they were given up.
-    pub fn evals(&self) -> u64 {
-        self.held.evals()
-    }
-
     // The next change of a filter, for which each key of its table is judged once.
     fn walk_to_change(&self, alloc: Global, filter: usize) -> Result<Option<u64>, NoMemory>
         requires { filter < length self.now.config.filters }

@@ -19,6 +19,7 @@ use crate::machine::Machine;
 use crate::one_key::OneKey;
 use crate::queries::live_keys;
 use agg_types::{Config, Declared, Filter, Key, Name, NoMemory, Select, What};
+use crossing::Meter;
 use peer_rows::Spot;
 use standing_filters::{Keys, Standing};
 use std::alloc::Global;
@@ -74,7 +75,11 @@ impl Held {
             return;
         };
         let values = OneKey::new(machine, spot, table, key);
-        if standing.touch(table, key, &values, machine.moment).is_err() {
+        let mut meter = Meter::new();
+        if standing
+            .touch(table, key, &values, machine.moment, &mut meter)
+            .is_err()
+        {
             self.standing = None;
         }
     }
@@ -101,7 +106,11 @@ impl Held {
             self.renew(machine);
             return;
         };
-        if standing.moment(machine, machine.moment).is_err() {
+        let mut meter = Meter::new();
+        if standing
+            .moment(machine, machine.moment, &mut meter)
+            .is_err()
+        {
             self.standing = None;
         }
     }
@@ -117,14 +126,6 @@ impl Held {
         };
         if add_missing(standing, machine).is_err() {
             self.standing = None;
-        }
-    }
-
-    /// How many values were read for the verdicts that are kept.
-    pub(crate) fn evals(&self) -> u64 {
-        match &self.standing {
-            None => 0,
-            Some(standing) => standing.evals(),
         }
     }
 
@@ -190,7 +191,8 @@ fn add_one(standing: &mut Standing, machine: &Machine, filter: &Filter) -> Resul
 {
     standing_filters::laws::add_gives_verdicts();
     let keys = live_keys(machine.alloc, &machine.rows, filter.table, machine.moment)?;
-    standing.add(filter, keys.as_slice(), machine, machine.moment)
+    let mut meter = Meter::new();
+    standing.add(filter, keys.as_slice(), machine, machine.moment, &mut meter)
 }
 
 /// The keys that a filter holds by its verdicts, in order.

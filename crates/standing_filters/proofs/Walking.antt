@@ -1,19 +1,18 @@
 -- The planned changes up to a moment, and the keys that were judged as they came.
 use Rattle.std.proofs.Common.{◌≡◌, ℕ, ◌+◌, ◌<◌, ◌≤◌, Bool, true, false, cond, ltb, List, [], ◌∷◌}
 use Rattle.std.proofs.Common.{◌++◌, Option, None, Some, length, refl, sym, ap, ◌∙◌, subst, arith}
-use Rattle.std.proofs.Common.{⊎_elim}
+use Rattle.std.proofs.Common.{⊎_elim, ◌*◌, length-append}
 use Rattle.std.specs.Prelude.{filter, map, unwrap_or}
 use Rattle.std.proofs.lemmas.Bool.{cases_lt, false≢true, false_from_ne_true, le-leb, le-ltb}
 use Rattle.std.proofs.lemmas.Bool.{leb-false, leb-true, lt-ltb, or_cases, or_left, or_right}
 use Rattle.std.proofs.lemmas.Cmp.{eq_by_cmp_equiv, nat_list_cmp_total, tied_itself}
 use Rattle.std.proofs.lemmas.List.{length-map}
-use Rattle.std.proofs.lemmas.List.Sums.{length-filter}
+use Rattle.std.proofs.lemmas.List.Sums.{sum_by-cons}
 use Rattle.std.proofs.lemmas.Map.Keys.{sorted_head, sorted_tail}
 use Rattle.std.proofs.lemmas.Map.Lookups.{exact_bytes}
-use Rattle.std.proofs.lemmas.Map.Made.{length-le_from_is_member}
 use Rattle.std.specs.BTreeMap.{is_at}
 use Rattle.std.specs.Cmp.Lexicographic.{slice_cmp}
-use Rattle.std.specs.List.{AllByRecursion, IsDistinct, list_any}
+use Rattle.std.specs.List.{AllByRecursion, AllZip, IsDistinct, list_any}
 use Rattle.std.specs.List.Sorted.{IsStrictlySortedBy}
 use Rattle.std.specs.Map.{keys_of, lookup}
 use Rattle.std.specs.Ordering.{is_eq, nat_cmp}
@@ -23,8 +22,9 @@ use Rattle.expiry_wheel.proofs.Left.{entries_total}
 use Rattle.expiry_wheel.proofs.Lists.{all-imply, all-right}
 use Rattle.expiry_wheel.specs.Entries.{IsInOrder, entry_cmp}
 use Rattle.expiry_wheel.specs.Merge.{entries_until}
-use Rattle.standing_filters.specs.Plans.{IsPlanOf, has_plan, kept_at}
-use Rattle.standing_filters.specs.Turns.{AreJudged, ArePlans, IsQuiet, count_due, has_come, is_due}
+use Rattle.standing_filters.specs.Plans.{IsPlanOf, Watching, has_plan, kept_at, view_of_watch}
+use Rattle.standing_filters.specs.Turns.{AreDue, AreJudged, ArePlans, AreReadFor, IsQuiet}
+use Rattle.standing_filters.specs.Turns.{IsReadFor, has_come, is_due}
 use Rattle.standing_filters.specs.Turns.{keys_judged, planned_at, same_key}
 use Rattle.standing_filters.specs.Verdicts.{IsVerdict, out}
 use Rattle.standing_filters.specs.Watched.{Watched, verdict_at}
@@ -197,6 +197,14 @@ moment_come t o u is come = leb-true u t (ap (has_come t) (sym is) ∙ come)
 pub not_come : (t u : ℕ) → has_come t (Some u) ≡ false → t < u
 not_come t u stays = leb-false u t stays
 
+until_planned : (t : ℕ) (w : Watched) (due : Index) → IsPlanOf w.kept due
+    → AllByRecursion (λ e. (verdict_at w.kept e.1).next ≡ Some e.0) (entries_until (t + 1) due)
+until_planned t w due exact =
+    all_until (λ e. (verdict_at w.kept e.1).next ≡ Some e.0) (t + 1) due
+    (all-imply (λ e. has_plan due e ≡ true) (λ e. (verdict_at w.kept e.1).next ≡ Some e.0)
+    (λ e there. is_that (verdict_at w.kept e.1).next e.0 (sym (exact e) ∙ there)) due
+    (all_there due))
+
 pub all_judged : (summed : ℕ → List ℕ → Col → ℕ → ℕ) (living : ℕ → List ℕ → ℕ → ℕ) (t : ℕ)
     (w : Watched) (due : Index) (judged : List Judged)
     → IsPlanOf w.kept due → IsInOrder (slice_cmp nat_cmp) due
@@ -205,11 +213,7 @@ pub all_judged : (summed : ℕ → List ℕ → Col → ℕ → ℕ) (living : �
     → AreJudged summed living t w judged
 all_judged summed living t w due judged exact ordered are verdicts =
     let until : AllByRecursion (λ e. (verdict_at w.kept e.1).next ≡ Some e.0)
-    (entries_until (t + 1) due) =
-    all_until (λ e. (verdict_at w.kept e.1).next ≡ Some e.0) (t + 1) due
-    (all-imply (λ e. has_plan due e ≡ true) (λ e. (verdict_at w.kept e.1).next ≡ Some e.0)
-    (λ e there. is_that (verdict_at w.kept e.1).next e.0 (sym (exact e) ∙ there)) due
-    (all_there due)) in
+    (entries_until (t + 1) due) = until_planned t w due exact in
     let plans = plans_of w.kept judged
     (subst (λ l. AllByRecursion (λ e. (verdict_at w.kept e.1).next ≡ Some e.0) l)
     (sym are) until) in
@@ -229,34 +233,7 @@ all_judged summed living t w due judged exact ordered are verdicts =
           (stands w.kept due exact key moment.0 moment.1)));
     }
 
--- ---- how many there are
-
-some_due : (t : ℕ) (found : Option Verdict) → is_due t (unwrap_or found out) ≡ true → (v : Verdict)
-    × (found ≡ Some v) × (is_due t v ≡ true)
-some_due t None come = absurd (false≢true come)
-some_due t (Some v) come = (v, refl, come)
-
-due_member : (t : ℕ) (key : List ℕ) (v : Verdict) (kept : KeyVerdicts) → kept_at kept key ≡ Some v
-    → is_due t v ≡ true → list_any (same_key key) (keys_of (filter (λ e. is_due t e.1) kept)) ≡ true
-due_member t key v [] found come = cc
-due_member t key v (e ∷ kept) found come = by (same_key key e.0) refl (is_due t e.1) refl found
-    (λ rest. due_member t key v kept rest come)
-  where
-    by : (s : Bool) → same_key key e.0 ≡ s → (d : Bool) → is_due t e.1 ≡ d
-        → cond s (Some e.1) (kept_at kept key) ≡ Some v
-        → (kept_at kept key ≡ Some v → list_any (same_key key)
-        (keys_of (filter (λ e. is_due t e.1) kept)) ≡ true)
-        → list_any (same_key key) (keys_of (cond d (e ∷ filter (λ e. is_due t e.1) kept)
-        (filter (λ e. is_due t e.1) kept))) ≡ true
-    by true same true due found rest =
-        or_left (same_key key e.0) (list_any (same_key key)
-        (keys_of (filter (λ e. is_due t e.1) kept))) same
-    by true same false due found rest = let is : e.1 ≡ v = cc in
-        absurd (false≢true (sym due ∙ ap (is_due t) is ∙ come))
-    by false same true due found rest =
-        or_right (same_key key e.0) (list_any (same_key key)
-        (keys_of (filter (λ e. is_due t e.1) kept))) (rest found)
-    by false same false due found rest = rest found
+-- ---- what is due
 
 pub member_due : (t : ℕ) (kept : KeyVerdicts) (judged : List Judged) → ArePlans kept judged
     → AllByRecursion (λ j. j.at ≤ t) judged → (key : List ℕ)
@@ -268,20 +245,91 @@ member_due t kept (j ∷ judged) plans come key there = ⊎_elim
     (λ later. member_due t kept judged plans.1 come.1 key later)
     (or_cases (same_key key j.key) (list_any (same_key key) (keys_judged judged)) there)
 
-pub no_more_than_due : (summed : ℕ → List ℕ → Col → ℕ → ℕ) (living : ℕ → List ℕ → ℕ → ℕ) (t : ℕ)
-    (w : Watched) (judged : List Judged) → AreJudged summed living t w judged
-    → length judged ≤ count_due t w.kept
-no_more_than_due summed living t w judged are =
-    let few = length-le_from_is_member (eq_by_cmp_equiv nat_list_cmp_total) (keys_judged judged)
-    (keys_of (filter (λ e. is_due t e.1) w.kept)) are.apart
-    (λ key there.
-    let found = some_due t (kept_at w.kept key)
-    (member_due t w.kept judged are.plans are.come key there) in
-    due_member t key found.0 w.kept found.1 found.2) in
-    let one = length-map judged (λ j. j.key) in
-    let other = length-map (filter (λ e. is_due t e.1) w.kept) (λ e. e.0) in
-    let count = length-filter (λ e. is_due t e.1) w.kept in
-    omega arith
+-- the keys that were judged are due
+each_due : (t : ℕ) (kept : KeyVerdicts) (judged : List Judged) → ArePlans kept judged
+    → AllByRecursion (λ j. j.at ≤ t) judged
+    → AllByRecursion (λ key. is_due t (verdict_at kept key) ≡ true) (keys_judged judged)
+each_due t kept [] plans come = tt
+each_due t kept (j ∷ judged) plans come = (
+  come_since t j.at (verdict_at kept j.key).next plans.0 come.0,
+  each_due t kept judged plans.1 come.1,
+)
+
+-- the entries of an index up to t are of keys that are due, each once
+planned_due : (t : ℕ) (w : Watched) (due : Index) (judged : List Judged) → IsPlanOf w.kept due
+    → IsInOrder (slice_cmp nat_cmp) due → map planned_at judged ≡ entries_until (t + 1) due
+    → AreDue t w (keys_judged judged)
+planned_due t w due judged exact ordered are =
+    let until : AllByRecursion (λ e. (verdict_at w.kept e.1).next ≡ Some e.0)
+    (entries_until (t + 1) due) = until_planned t w due exact in
+    let plans = plans_of w.kept judged
+    (subst (λ l. AllByRecursion (λ e. (verdict_at w.kept e.1).next ≡ Some e.0) l)
+    (sym are) until) in
+    record {
+      due = each_due t w.kept judged plans
+          (come_of t judged (subst (λ l. AllByRecursion (λ e. e.0 < t + 1) l) (sym are)
+          (before_until (t + 1) due)));
+      apart = all_apart w.kept judged plans (subst (λ l. IsInOrder (slice_cmp nat_cmp) l) (sym are)
+          (sorted_until (t + 1) due ordered));
+    }
+
+-- a key that is still to be judged
+unjudged : ℕ × List ℕ → Judged
+unjudged e = record { key = e.1; at = e.0; verdict = out }
+
+unjudged_at : (es : Index) → map planned_at (map unjudged es) ≡ es
+unfolding unjudged
+unjudged_at [] = refl
+unjudged_at (e ∷ es) = ap (λ l. e ∷ l) (unjudged_at es)
+
+-- at most 505 values were read for each such entry
+pub read_due : (t : ℕ) (w : Watched) (due : Index) (before after : ℕ) → IsPlanOf w.kept due
+    → IsInOrder (slice_cmp nat_cmp) due
+    → after ≤ before + 505 * length (entries_until (t + 1) due) → IsReadFor t w before after
+read_due t w due before after exact ordered few =
+    let judged : List Judged = map unjudged (entries_until (t + 1) due) in
+    let one : length (keys_judged judged) ≡ length judged = length-map judged (λ j. j.key) in
+    let other : length judged ≡ length (entries_until (t + 1) due) =
+    length-map (entries_until (t + 1) due) unjudged in
+    record {
+      keys = keys_judged judged;
+      due = planned_due t w due judged exact ordered (unjudged_at (entries_until (t + 1) due));
+      few = omega (arith, few, one, other);
+    }
+
+-- how many were judged, and how many are left
+pub some_judged : (judged : List Judged) (rest es : Index) → map planned_at judged ++ rest ≡ es
+    → length judged + length rest ≡ length es
+some_judged judged rest es is =
+    ap (λ n. n + length rest) (sym (length-map judged planned_at))
+    ∙ sym (length-append (map planned_at judged) rest) ∙ ap length is
+
+-- ---- what was read for all filters
+none_due : (t : ℕ) (ws : List Watched) → AllZip (λ w ks. AreDue t w ks) ws (map (λ w. []) ws)
+unfolding IsDistinct
+none_due t [] = tt
+none_due t (w ∷ ws) = (record { due = tt; apart = tt }, none_due t ws)
+
+pub none_read : (t : ℕ) (ws : List Watched) (count : ℕ) → AreReadFor t ws count count
+none_read t ws count = record {
+  keys = map (λ w. []) ws;
+  due = none_due t ws;
+  few = omega arith;
+}
+
+pub more_read : (t : ℕ) (watches : List Watching) (first : Watching) (rest : List Watching)
+    (before between after : ℕ) → watches ≡ first ∷ rest
+    → IsReadFor t (view_of_watch first) before between
+    → AreReadFor t (map view_of_watch rest) between after
+    → AreReadFor t (map view_of_watch watches) before after
+more_read t watches first rest before between after is own later =
+    let all = sum_by-cons (λ (ks : List (List ℕ)). length ks) own.keys later.keys in
+    record {
+      keys = own.keys ∷ later.keys;
+      due = subst (λ (l : List Watching). AllZip (λ w ks. AreDue t w ks) (map view_of_watch l)
+          (own.keys ∷ later.keys)) (sym is) (own.due, later.due);
+      few = omega (arith, own.few, later.few, all);
+    }
 
 -- ---- on the way
 

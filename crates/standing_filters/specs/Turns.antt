@@ -1,6 +1,7 @@
 -- What standing filters are as the clock goes on, and what is planned on the way.
-use Rattle.std.specs.Prelude.{◌≡◌, ℕ, ◌≤◌, Bool, true, false, ◌&&◌, ◌||◌, nat_le, if◌then◌else◌}
-use Rattle.std.specs.Prelude.{List, [], ◌∷◌, Option, None, Some, count_by, map, sum_by}
+use Rattle.std.specs.Prelude.{◌≡◌, ℕ, ◌+◌, ◌*◌, ◌≤◌, Bool, true, false, ◌&&◌, ◌||◌, nat_le}
+use Rattle.std.specs.Prelude.{if◌then◌else◌, List, [], ◌∷◌, Option, None, Some, length}
+use Rattle.std.specs.Prelude.{map, sum_by}
 use Rattle.std.specs.BTreeMap.{is_at}
 use Rattle.std.specs.Cmp.Lexicographic.{slice_cmp}
 use Rattle.std.specs.List.{AllByRecursion, AllZip, IsDistinct, list_any}
@@ -11,6 +12,9 @@ use Rattle.standing_filters.specs.Verdicts.{IsVerdict}
 use Rattle.standing_filters.specs.Watched.{Watched, verdict_at}
 use Rattle.standing_filters.specs.declared.coming.Judged.{Judged}
 use Rattle.standing_filters.specs.declared.judging.Verdict.{Verdict}
+
+abbrev pub same_key : List ℕ → List ℕ → Bool
+same_key key other = is_at (slice_cmp nat_cmp key) other
 
 -- whether there is a moment, and it is t or before
 abbrev pub has_come : ℕ → Option ℕ → Bool
@@ -39,13 +43,23 @@ AreTurned summed living t old new = AllZip (λ a b. IsTurned summed living t a b
 abbrev pub IsQuiet : ℕ → Watched → Type 0
 IsQuiet t w = (key : List ℕ) → is_due t (verdict_at w.kept key) ≡ false
 
--- how many keys of a filter have a verdict that changes up to t
-abbrev pub count_due : ℕ → List (List ℕ × Verdict) → ℕ
-count_due t kept = count_by (λ e. is_due t e.1) kept
+-- keys of a filter whose verdicts change up to t, each once
+pub record AreDue (t : ℕ) (w : Watched) (keys : List (List ℕ)) : Type 0 where
+  pub due : AllByRecursion (λ key. is_due t (verdict_at w.kept key) ≡ true) keys
+  pub apart : IsDistinct same_key keys
 
--- how many pairs of a filter and a key there are like that
-abbrev pub pairs_due : ℕ → List Watched → ℕ
-pairs_due t filters = sum_by (λ w. count_due t w.kept) filters
+-- at most 505 values were read for each of them
+pub record IsReadFor (t : ℕ) (w : Watched) (before after : ℕ) : Type 0 where
+  pub keys : List (List ℕ)
+  pub due : AreDue t w keys
+  pub few : after ≤ before + 505 * length keys
+
+-- at most 505 values were read for each pair of a filter and a key whose verdict changes up to t
+pub record AreReadFor (t : ℕ) (filters : List Watched) (before after : ℕ) : Type 0 where
+  -- the keys of each filter
+  pub keys : List (List (List ℕ))
+  pub due : AllZip (λ w ks. AreDue t w ks) filters keys
+  pub few : after ≤ before + 505 * sum_by (λ ks. length ks) keys
 
 -- ---- keys that were judged
 
@@ -55,9 +69,6 @@ planned_at judged = (judged.at, judged.key)
 
 abbrev pub keys_judged : List Judged → List (List ℕ)
 keys_judged judged = map (λ j. j.key) judged
-
-abbrev pub same_key : List ℕ → List ℕ → Bool
-same_key key other = is_at (slice_cmp nat_cmp key) other
 
 -- the kept verdict on each of them changes at that moment
 abbrev pub ArePlans : List (List ℕ × Verdict) → List Judged → Type 0

@@ -1,7 +1,7 @@
 -- What contracts see of standing filters: each with the keys on which its verdict isn't `out`, in
 -- order, and their verdicts.
-use Rattle.std.specs.Prelude.{◌≡◌, ◌≢◌, ℕ, ◌≤◌, Bool, true, false, List, [], Option, None, Some}
-use Rattle.std.specs.Prelude.{filter, map, slice_index_or, unwrap_or}
+use Rattle.std.specs.Prelude.{◌≡◌, ◌≢◌, ◌==◌, ℕ, ◌≤◌, Bool, true, false, List, [], Option, None}
+use Rattle.std.specs.Prelude.{Some, count_by, filter, map, slice_index_or, unwrap_or}
 use Rattle.std.specs.Borrow.{Bor}
 use Rattle.std.specs.BTreeMap.{is_at}
 use Rattle.std.specs.Cmp.Lexicographic.{slice_cmp}
@@ -18,10 +18,13 @@ pub record Watched : Type 0 where
   pub filter : Filter
   pub kept : List (List ℕ × Verdict)
 
--- standing filters, and how many values were read for them
+-- standing filters
 pub record AllWatched : Type 0 where
   pub filters : List Watched
-  pub evals : ℕ
+
+-- how many of some filters are of a table
+abbrev pub filters_of : ℕ → List Watched → ℕ
+filters_of table filters = count_by (λ w. w.filter.table == table) filters
 
 -- the verdict on a key: `out` where none is kept
 abbrev pub verdict_at : List (List ℕ × Verdict) → List ℕ → Verdict

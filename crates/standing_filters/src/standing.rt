@@ -11,9 +11,10 @@ ghost use Rattle.agg_types.specs.declared.limits.TheConstants.{MOST_CONDS};
 ghost use Rattle.crossing.specs.First.{IsFlatSoon};
 ghost use Rattle.expiry_wheel.specs.Entries.{IsInOrder};
 ghost use Rattle.standing_filters.specs.Plans.{IsPlanOf};
-ghost use Rattle.standing_filters.specs.Turns.{AreTurned, IsQuiet, pairs_due};
+ghost use Rattle.standing_filters.specs.Turns.{AreReadFor, AreTurned, IsQuiet};
 ghost use Rattle.standing_filters.specs.Watched.{AreTouched, IsAdded, IsFirstChange, Watched};
-ghost use Rattle.standing_filters.specs.Watched.{verdicts_of, keys_held, unheld, verdict_at};
+ghost use Rattle.standing_filters.specs.Watched.{filters_of, keys_held, unheld, verdict_at};
+ghost use Rattle.standing_filters.specs.Watched.{verdicts_of};
 
 use crate::adding::watch_keys;
 use crate::keys::Keys;
@@ -28,11 +29,10 @@ use std::marker::Model;
 
 /// Standing filters, each with the keys that it holds or will hold by the clock alone.
 ///
-/// Contracts see each filter with its verdicts, and how many values were read.
+/// Contracts see each filter with its verdicts.
 #[derive(Drop)]
 pub struct Standing {
     watches: Vec<Watch>,
-    evals: u64,
     alloc: Global,
 }
 
@@ -43,7 +43,7 @@ impl Model for Standing {
 
     ghost Value = { AllWatched };
 
-    ghost view = { λ s. record { filters = map view_of_watch s.watches.items; evals = s.evals } };
+    ghost view = { λ s. record { filters = map view_of_watch s.watches.items } };
 
     ghost invariant = { λ s. AreWatches s.watches.items };
 }
@@ -54,11 +54,9 @@ impl Standing {
         requires few { All (λ filter. length filter.conds ≤ MOST_CONDS) config.now.filters }
         ensures filters { IfOk result (λ standing. standing.filters
             ≡ map unheld config.now.filters) }
-        ensures start { IfOk result (λ standing. standing.evals ≡ 0) }
     {
         let mut standing = Standing {
             watches: Vec::new(alloc),
-            evals: 0,
             alloc,
         };
         let filters = config.filters.as_slice();
@@ -70,63 +68,60 @@ impl Standing {
 
     /// Judges a key by each filter of its table, by its values at a moment, in ms. After `NoMemory`
     /// nothing has changed. A key that has no live row takes no memory. Reads at most 505 values
-    /// for each filter where they stay from 2^33 ms on.
+    /// for each filter of its table where they stay from 2^33 ms on, and counts them, after
+    /// `NoMemory` too.
     pub fn touch<V: Values>(
         &mut self,
         table: usize,
         key: &Key,
         values: &V,
         now: u64,
+        meter: &mut Meter,
     ) -> Result<(), NoMemory>
         ensures ok { OnOk result (AreTouched (V.summed values.now) (V.living values.now) table
             key.now now self.old.filters self.new.filters) }
         ensures err { OnErr result (self.new ≡ self.old) }
         ensures dead { V.living values.now table key.now now ≡ 0 → IsOk result }
         ensures counted { IsFlatSoon now (V.flat values.now table key.now)
-            → self.new.evals ≤ self.old.evals + 505 * length self.old.filters }
+            → meter.new.evals ≤ meter.old.evals + 505 * filters_of table self.old.filters }
     {
-        let mut meter = Meter { evals: self.evals };
-        touch_each(
-            self.watches.as_mut_slice(),
-            table,
-            key,
-            values,
-            now,
-            &mut meter,
-        )?;
-        self.evals = meter.evals;
-        Ok(())
+        touch_each(self.watches.as_mut_slice(), table, key, values, now, meter)
     }
 
     /// The clock goes on to a moment, in ms: judges each key whose verdict changes up to then, by
     /// its values at that moment, and no other. After `NoMemory` nothing has changed. Where no
     /// verdict changes up to then, no value is read and no memory taken. Reads at most 505 values
-    /// for each filter and key of which a change has come, where they stay from 2^33 ms on.
-    pub fn moment<V: Values>(&mut self, values: &V, t: u64) -> Result<(), NoMemory>
+    /// for each filter and key of which a change has come, where they stay from 2^33 ms on, and
+    /// counts them, after `NoMemory` too.
+    pub fn moment<V: Values>(
+        &mut self,
+        values: &V,
+        t: u64,
+        meter: &mut Meter,
+    ) -> Result<(), NoMemory>
         ensures ok { OnOk result (AreTurned (V.summed values.now) (V.living values.now) t
             self.old.filters self.new.filters) }
         ensures err { OnErr result (self.new ≡ self.old) }
         ensures quiet { AllByRecursion (IsQuiet t) self.old.filters
-            → IsOk result × (self.new.evals ≡ self.old.evals) }
+            → IsOk result × (meter.new.evals ≡ meter.old.evals) }
         ensures counted { ((table : ℕ) (key : List ℕ)
             → IsFlatSoon t (V.flat values.now table key))
-            → self.new.evals ≤ self.old.evals + 505 * pairs_due t self.old.filters }
+            → AreReadFor t self.old.filters meter.old.evals meter.new.evals }
     {
-        let mut meter = Meter { evals: self.evals };
-        turn_each(self.watches.as_mut_slice(), values, t, &mut meter)?;
-        self.evals = meter.evals;
-        Ok(())
+        turn_each(self.watches.as_mut_slice(), values, t, meter)
     }
 
     /// Adds a filter behind the others, with the verdicts on these keys of its table by their
     /// values at a moment, in ms. A key that is not among them isn't held. After `NoMemory` nothing
-    /// has changed. Reads at most 505 values for each key where they stay from 2^33 ms on.
+    /// has changed. Reads at most 505 values for each key where they stay from 2^33 ms on, and
+    /// counts them, after `NoMemory` too.
     pub fn add<V: Values>(
         &mut self,
         filter: &Filter,
         keys: &[&Key],
         values: &V,
         now: u64,
+        meter: &mut Meter,
     ) -> Result<(), NoMemory>
         requires few { length filter.now.conds ≤ MOST_CONDS }
         ensures ok { OnOk result ((added : Watched)
@@ -135,12 +130,10 @@ impl Standing {
         ensures err { OnErr result (self.new ≡ self.old) }
         ensures counted { OnOk result (((key : List ℕ)
             → IsFlatSoon now (V.flat values.now filter.now.table key))
-            → self.new.evals ≤ self.old.evals + 505 * length keys.now) }
+            → meter.new.evals ≤ meter.old.evals + 505 * length keys.now) }
     {
-        let mut meter = Meter { evals: self.evals };
-        let watch = watch_keys(self.alloc, filter, keys, values, now, &mut meter)?;
+        let watch = watch_keys(self.alloc, filter, keys, values, now, meter)?;
         self.watches.push(watch)?;
-        self.evals = meter.evals;
         Ok(())
     }
 
@@ -189,14 +182,6 @@ impl Standing {
     {
         self.watches.is_empty()
     }
-
-    /// How many values were read for the verdicts that are kept. The count stays at its greatest
-    /// number once it is there.
-    pub fn evals(&self) -> u64
-        ensures { result ≡ self.now.evals }
-    {
-        self.evals
-    }
 }
 
 impl Standing {
@@ -205,7 +190,6 @@ impl Standing {
         requires few { length filter.now.conds ≤ MOST_CONDS }
         ensures ok { OnOk result (self.new.filters
             ≡ self.old.filters ++ unheld filter.now ∷ []) }
-        ensures evals { self.new.evals ≡ self.old.evals }
         ensures err { OnErr result (self.new ≡ self.old) }
     {
         let watch = Watch::new(self.alloc, filter.duplicate(self.alloc)?)?;

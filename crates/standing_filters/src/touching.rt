@@ -1,10 +1,10 @@
 //! One key, judged by the filters of its table: all of them, or none.
 
-ghost use Rattle.std.specs.Prelude.{◌≡◌, ◌≤◌, ◌+◌, ◌*◌, ◌==◌, length, map, IsOk, OnOk, OnErr};
+ghost use Rattle.std.specs.Prelude.{◌≡◌, ◌≤◌, ◌+◌, ◌*◌, ◌==◌, map, IsOk, OnOk, OnErr};
 ghost use Rattle.std.specs.List.{list_any};
 ghost use Rattle.crossing.specs.First.{IsFlatSoon};
 ghost use Rattle.standing_filters.specs.Plans.{AreWatches, view_of_watch};
-ghost use Rattle.standing_filters.specs.Watched.{AreTouched};
+ghost use Rattle.standing_filters.specs.Watched.{AreTouched, filters_of};
 
 use crate::watch::Watch;
 use agg_types::{Key, NoMemory};
@@ -27,7 +27,8 @@ pub(crate) fn touch_each<V: Values>(
     ensures err { OnErr result (map view_of_watch watches.new ≡ map view_of_watch watches.old) }
     ensures dead { V.living values.now table key.now now ≡ 0 → IsOk result }
     ensures counted { IsFlatSoon now (V.flat values.now table key.now)
-        → meter.new.evals ≤ meter.old.evals + 505 * length watches.old }
+        → meter.new.evals ≤ meter.old.evals
+        + 505 * filters_of table (map view_of_watch watches.old) }
 {
     let Some((first, rest)) = watches.split_first_mut() else {
         return Ok(());

@@ -1,10 +1,10 @@
 //! The clock goes on: the keys whose changes have come are judged by each filter, or none.
 
-ghost use Rattle.std.specs.Prelude.{◌≡◌, ◌≤◌, ◌+◌, ◌*◌, ℕ, List, length, map, IsOk, OnOk, OnErr};
+ghost use Rattle.std.specs.Prelude.{◌≡◌, ℕ, List, map, IsOk, OnOk, OnErr};
 ghost use Rattle.std.specs.List.{AllByRecursion};
 ghost use Rattle.crossing.specs.First.{IsFlatSoon};
 ghost use Rattle.standing_filters.specs.Plans.{AreWatches, view_of_watch};
-ghost use Rattle.standing_filters.specs.Turns.{AreTurned, IsQuiet, pairs_due};
+ghost use Rattle.standing_filters.specs.Turns.{AreReadFor, AreTurned, IsQuiet};
 
 use crate::watch::Watch;
 use agg_types::NoMemory;
@@ -25,9 +25,8 @@ pub(crate) fn turn_each<V: Values>(
     ensures err { OnErr result (map view_of_watch watches.new ≡ map view_of_watch watches.old) }
     ensures quiet { AllByRecursion (IsQuiet t) (map view_of_watch watches.old)
         → IsOk result × (meter.new.evals ≡ meter.old.evals) }
-    ensures counted { OnOk result (((table : ℕ) (key : List ℕ)
-        → IsFlatSoon t (V.flat values.now table key))
-        → meter.new.evals ≤ meter.old.evals + 505 * pairs_due t (map view_of_watch watches.old)) }
+    ensures counted { ((table : ℕ) (key : List ℕ) → IsFlatSoon t (V.flat values.now table key))
+        → AreReadFor t (map view_of_watch watches.old) meter.old.evals meter.new.evals }
 {
     let Some((first, rest)) = watches.split_first_mut() else {
         return Ok(());

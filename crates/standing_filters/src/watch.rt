@@ -18,7 +18,7 @@ ghost use Rattle.standing_filters.specs.Plans.{Watching};
 ghost use Rattle.standing_filters.specs.Plans.{change_of, has_plan, kept_at, view_of_watch};
 ghost use Rattle.standing_filters.specs.Plans.{with_room};
 ghost use Rattle.standing_filters.specs.Plans.{without_key};
-ghost use Rattle.standing_filters.specs.Turns.{AreJudged, ArePlans, IsAhead, IsQuiet, count_due};
+ghost use Rattle.standing_filters.specs.Turns.{AreJudged, ArePlans, IsAhead, IsQuiet, IsReadFor};
 ghost use Rattle.standing_filters.specs.Turns.{keys_judged, same_key, verdict_after};
 
 use crate::coming::{Coming, Judged};
@@ -227,9 +227,9 @@ impl Watch {
         ensures quiet { IsQuiet t (view_of_watch self.now)
             → IsOkAnd result (λ judged. judged.items ≡ []) }
         ensures unread { IsQuiet t (view_of_watch self.now) → meter.new.evals ≡ meter.old.evals }
-        ensures counted { OnOk result (((table : ℕ) (key : List ℕ)
+        ensures counted { ((table : ℕ) (key : List ℕ)
             → IsFlatSoon t (V.flat values.now table key))
-            → meter.new.evals ≤ meter.old.evals + 505 * count_due t self.now.kept) }
+            → IsReadFor t (view_of_watch self.now) meter.old.evals meter.new.evals }
     {
         let mut judged = Vec::new(self.alloc);
         for (at, key) in Coming::new(&self.due, t) {

@@ -1,8 +1,8 @@
 //! Touches keys under standing filters as the clock goes on, and prints what each filter holds,
 //! when that changes next, and how many values were read.
 //!
-//! It shows what no contract says: that these calls succeed while there is memory, and how few
-//! values they read.
+//! It shows what no contract says: that these calls succeed while there is memory, how few values
+//! they read, and that these are all that the values were asked for.
 #![tactic(auto)]
 
 ghost use Rattle.std.specs.Prelude.{◌≤◌, length, IfOk};
@@ -14,7 +14,8 @@ mod pair;
 use agg_types::{Cond, Config, Declared, Filter, Items, Key, Name, NoMemory};
 use anyhow::{Result, ensure};
 use cases::{CASES, Case, FROM_THREE, IS_TWO, LATE, OVER};
-use pair::Pair;
+use crossing::Meter;
+use pair::{Counted, Pair};
 use period_rate::Rate;
 use standing_filters::Standing;
 use std::alloc::Global;
@@ -30,12 +31,12 @@ fn main(rt: HostRuntime) -> Result<()> {
 
 // Two rates of 3 events in the period before, which fall to 0 within the next one. The second
 // period began so many ms before the moment 0.
-fn falling(second: u64, ends: u64) -> Pair {
-    Pair {
+fn falling(second: u64, ends: u64) -> Counted {
+    Counted::new(Pair {
         first: Rate::arrive(1000, 0, 0, 3, 0),
         second: Rate::arrive(1000, second, 0, 3, 0),
         ends,
-    }
+    })
 }
 
 // A filter on the first table.
@@ -85,9 +86,10 @@ fn play<R: Print>(rt: &R, alloc: Global, case: &Case) -> Result<()> {
     if case.touched {
         return touch_each(rt, &mut standing, &key, &values, case.moments);
     }
-    standing.touch(0, &key, &values, 0)?;
-    show(rt, &standing, 0)?;
-    go_on(rt, &mut standing, &values, case.moments)
+    let mut meter = Meter::new();
+    standing.touch(0, &key, &values, 0, &mut meter)?;
+    show(rt, &standing, 0, &values, meter)?;
+    go_on(rt, &mut standing, &values, case.moments, meter)
 }
 
 // Touches a key at each moment.
@@ -95,42 +97,56 @@ fn touch_each<R: Print>(
     rt: &R,
     standing: &mut Standing,
     key: &Key,
-    values: &Pair,
+    values: &Counted,
     moments: &[u64],
 ) -> Result<()> {
+    let mut meter = Meter::new();
     for t in moments {
-        standing.touch(0, key, values, *t)?;
-        show(rt, standing, *t)?;
+        standing.touch(0, key, values, *t, &mut meter)?;
+        show(rt, standing, *t, values, meter)?;
     }
     Ok(())
 }
 
 // Lets the clock go on to each moment.
-fn go_on<R: Print>(rt: &R, standing: &mut Standing, values: &Pair, moments: &[u64]) -> Result<()> {
+fn go_on<R: Print>(
+    rt: &R,
+    standing: &mut Standing,
+    values: &Counted,
+    moments: &[u64],
+    before: Meter,
+) -> Result<()> {
+    let mut meter = before;
     for t in moments {
-        standing.moment(values, *t)?;
-        show(rt, standing, *t)?;
+        standing.moment(values, *t, &mut meter)?;
+        show(rt, standing, *t, values, meter)?;
     }
     Ok(())
 }
 
-fn show<R: Print>(rt: &R, standing: &Standing, t: u64) -> Result<()> {
+fn show<R: Print>(
+    rt: &R,
+    standing: &Standing,
+    t: u64,
+    values: &Counted,
+    meter: Meter,
+) -> Result<()> {
     if standing.len() == 0 {
         return Ok(());
     }
     let mut keys = standing.keys(0);
     let held = keys.next().is_some();
     let next = standing.next_change(0);
-    let evals = standing.evals();
-    println!(rt; "at {t}: held:{held} next:{next:?} evals:{evals}")?;
+    let (evals, reads) = (meter.evals, values.reads());
+    println!(rt; "at {t}: held:{held} next:{next:?} evals:{evals} reads:{reads}")?;
     Ok(())
 }
 
 // Adds a filter with the keys that have rows.
-fn add(alloc: Global, standing: &mut Standing, values: &Pair) -> Result<()> {
+fn add(alloc: Global, standing: &mut Standing, values: &Counted, meter: &mut Meter) -> Result<()> {
     let (one, other) = (Key::copy(alloc, b"a")?, Key::copy(alloc, b"b")?);
     let more = filter(alloc, FROM_THREE)?;
-    standing.add(&more, &[&one, &other], values, 0)?;
+    standing.add(&more, &[&one, &other], values, 0, meter)?;
     Ok(())
 }
 
@@ -139,18 +155,19 @@ fn added<R: Print>(rt: &R, alloc: Global) -> Result<()> {
     println!(rt; "added")?;
     let values = falling(500, LATE);
     let mut standing = standing(alloc, IS_TWO)?;
-    add(alloc, &mut standing, &values)?;
-    count(rt, &standing)?;
+    let mut meter = Meter::new();
+    add(alloc, &mut standing, &values, &mut meter)?;
+    count(rt, &standing, &values, meter)?;
     for t in [166, 167] {
-        standing.moment(&values, t)?;
-        count(rt, &standing)?;
+        standing.moment(&values, t, &mut meter)?;
+        count(rt, &standing, &values, meter)?;
     }
     Ok(())
 }
 
 // Prints how many filters there are, and of the last one how many keys it holds and its next
 // change.
-fn count<R: Print>(rt: &R, standing: &Standing) -> Result<()> {
+fn count<R: Print>(rt: &R, standing: &Standing, values: &Counted, meter: Meter) -> Result<()> {
     let filters = standing.len();
     if filters == 0 {
         return Ok(());
@@ -160,14 +177,21 @@ fn count<R: Print>(rt: &R, standing: &Standing) -> Result<()> {
         held = held.saturating_add(1);
     }
     let next = standing.next_change(filters - 1);
-    let evals = standing.evals();
-    println!(rt; "filters:{filters} held:{held} next:{next:?} evals:{evals}")?;
+    let (evals, reads) = (meter.evals, values.reads());
+    println!(rt; "filters:{filters} held:{held} next:{next:?} evals:{evals} reads:{reads}")?;
     Ok(())
 }
 
 // Touches a key.
-fn touch(alloc: Global, standing: &mut Standing, key: &[u8], values: &Pair, t: u64) -> Result<()> {
-    standing.touch(0, &Key::copy(alloc, key)?, values, t)?;
+fn touch(
+    alloc: Global,
+    standing: &mut Standing,
+    key: &[u8],
+    values: &Counted,
+    t: u64,
+) -> Result<()> {
+    let mut meter = Meter::new();
+    standing.touch(0, &Key::copy(alloc, key)?, values, t, &mut meter)?;
     Ok(())
 }
 
@@ -180,8 +204,9 @@ fn planned<R: Print>(rt: &R, alloc: Global) -> Result<()> {
         touch(alloc, &mut standing, key, &values, t)?;
     }
     show_plans(rt, &standing)?;
+    let mut meter = Meter::new();
     for t in [1, 400] {
-        standing.moment(&values, t)?;
+        standing.moment(&values, t, &mut meter)?;
         show_plans(rt, &standing)?;
     }
     Ok(())

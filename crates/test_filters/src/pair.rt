@@ -1,6 +1,8 @@
 use agg_types::{Col, Key};
 use crossing::Values;
 use period_rate::Rate;
+use std::cell::Cell;
+use std::marker::Model;
 
 /// The values of every key: two rates, added up, of a row that ends.
 #[derive(Clone, Copy, Debug)]
@@ -10,7 +12,40 @@ pub struct Pair {
     pub ends: u64,
 }
 
-impl Values for Pair {
+/// Such values, which count for themselves how often they are asked for.
+///
+/// Contracts see the values alone.
+#[derive(Drop)]
+pub struct Counted {
+    pair: Pair,
+    reads: Cell<u64>,
+}
+
+impl Model for Counted {
+    ghost Value = { Pair };
+
+    ghost view = { λ counted. counted.pair };
+}
+
+impl Counted {
+    pub fn new(pair: Pair) -> Counted {
+        Counted {
+            pair,
+            reads: Cell::new(0),
+        }
+    }
+
+    /// How often a value was asked for so far.
+    pub fn reads(&self) -> u64 {
+        self.reads.get()
+    }
+
+    fn count(&self) {
+        self.reads.set(self.reads.get().saturating_add(1));
+    }
+}
+
+impl Values for Counted {
     ghost use Rattle.test_filters.specs.Pair.{flat_of, living_of, pair_falls, pair_stays};
     ghost use Rattle.test_filters.specs.Pair.{rows_fall, rows_stay, worth_of};
 
@@ -21,18 +56,21 @@ impl Values for Pair {
     ghost flat = { λ v table key. flat_of v.first v.second v.ends };
 
     fn value(&self, table: usize, key: &Key, col: Col, t: u64) -> u128 {
-        u128::from(self.first.at(t)) + u128::from(self.second.at(t))
+        self.count();
+        u128::from(self.pair.first.at(t)) + u128::from(self.pair.second.at(t))
     }
 
     fn live(&self, table: usize, key: &Key, t: u64) -> usize {
-        if t < self.ends { 1 } else { 0 }
+        self.count();
+        if t < self.pair.ends { 1 } else { 0 }
     }
 
     fn flat_from(&self, table: usize, key: &Key) -> u64 {
-        self.first
+        self.pair
+            .first
             .zero_at()
-            .max(self.second.zero_at())
-            .max(self.ends)
+            .max(self.pair.second.zero_at())
+            .max(self.pair.ends)
     }
 
     ghost sums_fall = { λ v table key col t later. pair_falls v.first v.second t later };

@@ -5,13 +5,16 @@ use agg_types::{Col, Key, NoMemory, Rank};
 use crossing::Values;
 use ranked::{Bounds, Ranked};
 use std::alloc::Global;
+use std::cell::Cell;
 use std::collections::BTreeMap;
 use std::marker::Model;
 
-/// Keys whose values fall by 1 each ms. Each has one row, which never ends.
+/// Keys whose values fall by 1 each ms. Each has one row, which never ends. They count for
+/// themselves how often it is asked whether a key has a row.
 #[derive(Drop)]
 pub struct Starts {
     by_key: BTreeMap<Key, u64>,
+    looks: Cell<u64>,
 }
 
 impl Starts {
@@ -41,6 +44,7 @@ impl Values for Starts {
     }
 
     fn live(&self, table: usize, key: &Key, t: u64) -> usize {
+        self.looks.set(self.looks.get().saturating_add(1));
         match self.by_key.get(key) {
             None => 0,
             Some(_) => 1,
@@ -88,6 +92,7 @@ impl Board {
         Board {
             starts: Starts {
                 by_key: BTreeMap::new(alloc),
+                looks: Cell::new(0),
             },
             bounds: Bounds::new(alloc),
             now: 0,
@@ -112,6 +117,11 @@ impl Board {
     pub fn drop_key(&mut self, key: &Key) {
         self.starts.by_key.remove(key);
         self.bounds.drop_key(key);
+    }
+
+    /// How often it was asked so far whether a key has a row.
+    pub fn looks(&self) -> u64 {
+        self.starts.looks.get()
     }
 
     /// The first keys now.

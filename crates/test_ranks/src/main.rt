@@ -1,8 +1,8 @@
 //! Runs ranked lists by bounds over keys whose values fall, and prints each list and how many
 //! entries of the index it looked at.
 //!
-//! It shows what no contract says: that these calls succeed while there is memory, and how few
-//! entries a list takes on some values.
+//! It shows what no contract says: that these calls succeed while there is memory, how few entries
+//! a list takes on some values, and that it asks of no other key.
 #![tactic(auto)]
 
 ghost use Rattle.std.specs.Prelude.{◌≡◌, ◌≤◌, IfOk};
@@ -39,17 +39,23 @@ fn rank(alloc: Global, n: u64) -> Result<Rank, NoMemory>
     })
 }
 
-// Prints the first keys, and after each how many entries were looked at so far.
+// Prints the first keys, and after each how many entries were looked at so far, and of how many
+// keys it was asked whether they have a row.
 fn show<R: Print>(rt: &R, alloc: Global, board: &Board, rank: &Rank) -> Result<()>
     requires { rank.now.n ≤ 1000 }
 {
+    let before = board.looks();
     let mut top = board.top(alloc, rank)?;
     for _ in 0..rank.n {
         let Some((key, value)) = top.next() else {
             break;
         };
         let walked = top.walked();
-        println!(rt; "{:?} {value} walked={walked}", key.as_slice())?;
+        let looks = board.looks().saturating_sub(before);
+        println!(rt;
+            "{:?} {value} walked={walked} looks={looks}",
+            key.as_slice()
+        )?;
     }
     Ok(())
 }

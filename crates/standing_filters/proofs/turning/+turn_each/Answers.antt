@@ -3,6 +3,7 @@ use Rattle.agg_types.specs.declared.limits.TheConstants.{MOST_CONDS}
 use Rattle.standing_filters.specs.Plans.{AreWatches, IsPlanOf, IsWatch, Watching, view_of_watch}
 use Rattle.standing_filters.specs.Turns.{AreTurned, IsAhead, verdict_after}
 use Rattle.standing_filters.proofs.Ahead.{turned, watch_settled}
+use Rattle.standing_filters.proofs.Walking.{more_read, none_read}
 use Rattle.standing_filters.proofs.turning.+turn_each.Goals as goal
 
 each_watch : (watches : List Watching) (first : Watching) (rest : List Watching)
@@ -24,6 +25,19 @@ returns-in_err-prepare_all-clause-stay g t c =
       watch_same first c.prepare_all.new.self all.0 c.in_err-prepare_all.ensures.filter
           c.in_err-prepare_all.ensures.kept c.in_err-prepare_all.ensures.err,
       all.1,
+    )
+
+pub returns-in-Err-clause-stay : goal.returns-in-Err-clause-stay
+returns-in-Err-clause-stay g t c =
+    let first = c.in-Some.first.now in
+    let all = each_watch c.args.watches.now first c.in-Some.rest.now
+    c.in-Some.ensures.cases.0 c.requires in (
+      watch_same first c.back_out_all.new.self all.0 (c.back_out_all.ensures.filter
+          ∙ c.in_ok-prepare_all.ensures.filter) (c.back_out_all.ensures.kept
+          ∙ c.in_ok-prepare_all.ensures.kept)
+          (subst (λ k. IsPlanOf k c.back_out_all.new.self.due) c.in_ok-prepare_all.ensures.kept
+          c.back_out_all.ensures.planned),
+      c.in-Err.ensures.stay,
     )
 
 pub returns-clause-stay : goal.returns-clause-stay
@@ -64,3 +78,27 @@ returns-clause-ok g t c =
           ∙ c.in_ok-prepare_all.ensures.filter) kept,
       c.in_default-turn_each.ensures.ok,
     )
+
+pub returns-clause-counted : goal.returns-clause-counted
+returns-clause-counted g t c = λ flat.
+    more_read c.args.t c.args.watches.now c.in-Some.first.now c.in-Some.rest.now _ _ _
+    c.in-Some.ensures.cases.0 (c.in_ok-judged.ensures.counted flat)
+    (c.in_default-turn_each.ensures.counted flat)
+
+pub returns-in-Err-clause-counted : goal.returns-in-Err-clause-counted
+returns-in-Err-clause-counted g t c = λ flat.
+    more_read c.args.t c.args.watches.now c.in-Some.first.now c.in-Some.rest.now _ _ _
+    c.in-Some.ensures.cases.0 (c.in_ok-judged.ensures.counted flat)
+    (c.in-Err.ensures.counted flat)
+
+pub returns-in_err-prepare_all-clause-counted : goal.returns-in_err-prepare_all-clause-counted
+returns-in_err-prepare_all-clause-counted g t c = λ flat.
+    more_read c.args.t c.args.watches.now c.in-Some.first.now c.in-Some.rest.now _ _ _
+    c.in-Some.ensures.cases.0 (c.in_ok-judged.ensures.counted flat)
+    (none_read c.args.t (map view_of_watch c.in-Some.rest.now) _)
+
+pub returns-in_err-judged-clause-counted : goal.returns-in_err-judged-clause-counted
+returns-in_err-judged-clause-counted g t c = λ flat.
+    more_read c.args.t c.args.watches.now c.in-Some.first.now c.in-Some.rest.now _ _ _
+    c.in-Some.ensures.cases.0 (c.in_err-judged.ensures.counted flat)
+    (none_read c.args.t (map view_of_watch c.in-Some.rest.now) _)

@@ -4,4 +4,4 @@ use Rattle.standing_filters.proofs.standing.Standing.new.Given as goal
 
 abbrev pub invariant-loop-filter : goal.invariant-loop-filter
 invariant-loop-filter l =
-    (l.standing.filters ≡ map unheld (take l.filter-index l.filters)) × (l.standing.evals ≡ 0)
+    l.standing.filters ≡ map unheld (take l.filter-index l.filters)

@@ -7,11 +7,11 @@ use Rattle.expiry_wheel.proofs.Lists.{all-append}
 use Rattle.expiry_wheel.specs.Entries.{IsInOrder}
 use Rattle.expiry_wheel.specs.Merge.{entries_until}
 use Rattle.standing_filters.specs.Plans.{Watching, view_of_watch}
-use Rattle.standing_filters.specs.Turns.{AreJudged, planned_at}
+use Rattle.standing_filters.specs.Turns.{planned_at}
 use Rattle.standing_filters.specs.Verdicts.{IsVerdict}
 use Rattle.standing_filters.specs.declared.coming.Judged.{Judged}
-use Rattle.standing_filters.proofs.Walking.{all_judged, moved, no_more_than_due, nothing_comes}
-use Rattle.standing_filters.proofs.Walking.{one_more}
+use Rattle.standing_filters.proofs.Walking.{all_judged, moved, nothing_comes, one_more, read_due}
+use Rattle.standing_filters.proofs.Walking.{some_judged}
 use Rattle.standing_filters.proofs.watch.Watch.judge_due.Goals as goal
 
 pub returns-in_err-duplicate-clause-quiet : goal.returns-in_err-duplicate-clause-quiet
@@ -106,11 +106,46 @@ returns-clause-unread g c = λ quiet. (c.loop-at.invariant.quiet quiet).1
 
 pub returns-clause-counted : goal.returns-clause-counted
 returns-clause-counted g c = λ flat.
-    let judged : AreJudged (g.V.Values.summed c.args.values.now)
-    (g.V.Values.living c.args.values.now) c.args.t (view_of_watch c.args.self.now)
-    c.loop-at.judged.items = returns-clause-judged g c in
-    let few = no_more_than_due (g.V.Values.summed c.args.values.now)
-    (g.V.Values.living c.args.values.now) c.args.t (view_of_watch c.args.self.now)
-    c.loop-at.judged.items judged in
+    let judged = c.loop-at.judged.items in
+    let all : map planned_at judged ++ [] ≡ entries_until (c.args.t + 1) c.args.self.now.due =
+    ap (λ l. map planned_at judged ++ l) (sym c.in-None.ensures.steps.0)
+    ∙ c.loop-at.invariant.entries in
+    let count = some_judged judged [] (entries_until (c.args.t + 1) c.args.self.now.due) all in
     let read = c.loop-at.invariant.read flat in
-    omega arith
+    read_due c.args.t (view_of_watch c.args.self.now) c.args.self.now.due c.args.meter.now.evals _
+    c.requires.planned (subst (λ (w : Watching). IsInOrder (slice_cmp nat_cmp) w.due)
+    c.self.view_is c.new-at-items.ensures.ordered) (omega (arith, count, read))
+
+pub returns-in_err-duplicate-clause-counted : goal.returns-in_err-duplicate-clause-counted
+returns-in_err-duplicate-clause-counted g c = λ flat.
+    let judged = c.loop-at.judged.items in
+    let entry : ℕ × List ℕ = (c.in-Some.at, c.in-Some.key.now) in
+    let all : map planned_at judged ++ (entry ∷ c.next.new.self)
+    ≡ entries_until (c.args.t + 1) c.args.self.now.due =
+    ap (λ l. map planned_at judged ++ l) (sym c.in-Some.ensures.steps)
+    ∙ c.loop-at.invariant.entries in
+    let count = some_judged judged (entry ∷ c.next.new.self)
+    (entries_until (c.args.t + 1) c.args.self.now.due) all in
+    let before = c.loop-at.invariant.read flat in
+    let once = c.judge-verdict.ensures.counted
+    (flat c.args.self.now.filter.table c.in-Some.key.now) in
+    read_due c.args.t (view_of_watch c.args.self.now) c.args.self.now.due c.args.meter.now.evals _
+    c.requires.planned (subst (λ (w : Watching). IsInOrder (slice_cmp nat_cmp) w.due)
+    c.self.view_is c.new-at-items.ensures.ordered) (omega (arith, count, before, once))
+
+pub returns-in_err-push-clause-counted : goal.returns-in_err-push-clause-counted
+returns-in_err-push-clause-counted g c = λ flat.
+    let judged = c.loop-at.judged.items in
+    let entry : ℕ × List ℕ = (c.in-Some.at, c.in-Some.key.now) in
+    let all : map planned_at judged ++ (entry ∷ c.next.new.self)
+    ≡ entries_until (c.args.t + 1) c.args.self.now.due =
+    ap (λ l. map planned_at judged ++ l) (sym c.in-Some.ensures.steps)
+    ∙ c.loop-at.invariant.entries in
+    let count = some_judged judged (entry ∷ c.next.new.self)
+    (entries_until (c.args.t + 1) c.args.self.now.due) all in
+    let before = c.loop-at.invariant.read flat in
+    let once = c.judge-verdict.ensures.counted
+    (flat c.args.self.now.filter.table c.in-Some.key.now) in
+    read_due c.args.t (view_of_watch c.args.self.now) c.args.self.now.due c.args.meter.now.evals _
+    c.requires.planned (subst (λ (w : Watching). IsInOrder (slice_cmp nat_cmp) w.due)
+    c.self.view_is c.new-at-items.ensures.ordered) (omega (arith, count, before, once))
