@@ -4,8 +4,8 @@
 //! answers what recomputing from all their events gives, but for the last of them, which wait where
 //! an allocation failed. `Fleet::step` promises what each step sends, which fault it answers, and
 //! that nothing but its own events waits behind it. `run` does a list of steps, and promises which
-//! fault ends it. `laws` has what the definitions promise. No clause says that memory suffices, nor
-//! that nothing waits where no allocation failed: the scripts of `test_replay` show it. A fleet
+//! fault ends it. No clause says that memory suffices, nor that nothing waits where no allocation
+//! failed: the scripts of `test_replay` show it; nor that each event of a step counts. A fleet
 //! doesn't ask its sessions for idleness.
 #![tactic(auto)]
 
