@@ -24,9 +24,9 @@ pub(crate) fn watch_keys<V: Values>(
     ensures watch { IfOk result IsWatch }
     ensures added { IfOk result (λ w. IsAdded (V.summed values.now) (V.living values.now) now
         filter.now keys.now (view_of_watch w)) }
-    ensures counted { OnOk result (((key : List ℕ)
+    ensures counted { ((key : List ℕ)
         → IsFlatSoon now (V.flat values.now filter.now.table key))
-        → meter.new.evals ≤ meter.old.evals + 505 * length keys.now) }
+        → meter.new.evals ≤ meter.old.evals + 505 * length keys.now }
 {
     let mut watch = Watch::new(alloc, filter.duplicate(alloc)?)?;
     for key in keys {

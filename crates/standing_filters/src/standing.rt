@@ -128,9 +128,9 @@ impl Standing {
             × (self.new.filters ≡ self.old.filters ++ added ∷ [])
             × IsAdded (V.summed values.now) (V.living values.now) now filter.now keys.now added) }
         ensures err { OnErr result (self.new ≡ self.old) }
-        ensures counted { OnOk result (((key : List ℕ)
+        ensures counted { ((key : List ℕ)
             → IsFlatSoon now (V.flat values.now filter.now.table key))
-            → meter.new.evals ≤ meter.old.evals + 505 * length keys.now) }
+            → meter.new.evals ≤ meter.old.evals + 505 * length keys.now }
     {
         let watch = watch_keys(self.alloc, filter, keys, values, now, meter)?;
         self.watches.push(watch)?;
