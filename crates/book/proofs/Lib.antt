@@ -8,3 +8,4 @@ pub mod Leading
 pub mod FirstKeys
 pub mod Verdicts
 pub mod Following
+pub mod FewReads

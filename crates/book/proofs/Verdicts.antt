@@ -49,7 +49,7 @@ use Rattle.book.specs.Held.{GoesOn, HasMore, IsJudged, IsOneMore, Stays, living_
 use Rattle.book.proofs.Foresight.{bool_same, holds_within, live_any}
 
 -- what is read of a key is what a filter says of it
-holds_in : (state : State) (filtering : Filter) (key : List ℕ) (t : ℕ) → IsSound state
+pub holds_in : (state : State) (filtering : Filter) (key : List ℕ) (t : ℕ) → IsSound state
     → holds_at (sums_in state) (living_in state) filtering key t ≡ holds state filtering key t
 holds_in state filtering key t sound =
     holds_within state filtering key (cols_of state.config.tables filtering.table) refl

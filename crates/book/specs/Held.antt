@@ -1,6 +1,6 @@
 -- Kept verdicts of a book's standing filters, and what an event leaves of what they rest on.
-use Rattle.std.specs.Prelude.{◌≡◌, ◌≢◌, ◌⊎◌, ℕ, ◌≤◌, ◌++◌, ◌∷◌, List, [], Option, IfSome, length}
-use Rattle.std.specs.Prelude.{map, take}
+use Rattle.std.specs.Prelude.{◌≡◌, ◌≢◌, ◌⊎◌, ℕ, zero, suc, ◌+◌, ◌-◌, ◌^◌, ◌≤◌, ◌++◌, ◌∷◌, List}
+use Rattle.std.specs.Prelude.{[], Option, IfSome, length, map, min, take}
 use Rattle.std.specs.List.{AllByRecursion}
 use Rattle.agg_types.specs.declared.column.Col.{Col}
 use Rattle.agg_types.specs.declared.config.Filter.{Filter}
@@ -9,13 +9,15 @@ use Rattle.agg_types.specs.declared.event.Select.TheVariants.{All, One, Conds}
 use Rattle.agg_types.specs.declared.event.What.{What}
 use Rattle.agg_types.specs.declared.event.What.TheVariants.{Sit, Open, Put, Clear, AddFilter}
 use Rattle.agg_types.specs.declared.event.What.TheVariants.{Moment, Leave}
-use Rattle.fleet_model.specs.Keys.{holds, key_rows}
+use Rattle.fleet_model.specs.Changes.{NoKeyChangesBefore}
+use Rattle.fleet_model.specs.Keys.{Rows, holds, key_rows}
 use Rattle.fleet_model.specs.Sound.{IsSound}
 use Rattle.fleet_model.specs.State.{State}
 use Rattle.fleet_model.specs.Values.{cols_of}
 use Rattle.standing_filters.specs.Laws.{AreVerdicts}
 use Rattle.standing_filters.specs.Watched.{AllWatched, Watched}
 use Rattle.book.specs.Foreseen.{living_within, worth_within}
+use Rattle.book.specs.Store.{row_keys}
 
 -- what the keys of a state sum up to, and how many of their rows live, as the clock goes on
 abbrev pub sums_in : State → ℕ → List ℕ → Col → ℕ → ℕ
@@ -108,3 +110,25 @@ Follows (Clear table sel) state later = FollowsClear table sel state later
 Follows (AddFilter filtering) state later = HasMore state later
 Follows (Moment moment) state later = GoesOn state later
 Follows Leave state later = Stays state later
+
+-- ---- what is read for them
+-- nothing changes by the clock up to a later state
+abbrev pub AreStill : State → State → Type 0
+AreStill state later =
+    AllByRecursion (λ filtering. NoKeyChangesBefore state filtering (later.moment + 1))
+    state.config.filters
+
+-- an event on whose way nothing changes
+abbrev pub IsCalm : State → State → What → Type 0
+IsCalm state later Sit = Unit {0}
+IsCalm state later (Open peer) = Unit {0}
+IsCalm state later (Put peer table key life cells) = ⊥
+IsCalm state later (Clear table sel) = ⊥
+IsCalm state later (AddFilter filtering) = ⊥
+IsCalm state later (Moment moment) = AreStill state later
+IsCalm state later Leave = Unit {0}
+
+-- how many keys of so many tables have rows, as 64 bits count
+abbrev pub keys_in : Rows → ℕ → ℕ
+keys_in rows zero = 0
+keys_in rows (suc tables) = min (keys_in rows tables + length (row_keys rows tables)) (2 ^ 64 - 1)

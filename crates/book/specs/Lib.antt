@@ -6,4 +6,5 @@ pub mod Foreseen
 pub mod Flatness
 pub mod Leading
 pub mod Held
+pub mod Reads
 pub use Rattle.book_frame.specs.Lent

@@ -1,5 +1,5 @@
-ghost use Rattle.std.specs.Prelude.{◌≡◌, ◌<◌, ◌≤◌, ℕ, List, map, length, nat_lt, false, []};
-ghost use Rattle.std.specs.Prelude.{◌∷◌, ◌++◌, IfOk, IsOk, OnOk, OnErr};
+ghost use Rattle.std.specs.Prelude.{◌≡◌, ◌*◌, ◌<◌, ◌≤◌, ℕ, List, map, length, nat_lt, true};
+ghost use Rattle.std.specs.Prelude.{false, [], ◌∷◌, ◌++◌, IfOk, IsOk, OnOk, OnErr};
 ghost use Rattle.std.specs.List.{filter_map};
 ghost use Rattle.agg_types.specs.Check.{config_faults};
 ghost use Rattle.agg_types.specs.declared.config.Config.{Config};
@@ -14,6 +14,7 @@ ghost use Rattle.fleet_model.specs.Ranking.{rank_of, ranked};
 ghost use Rattle.fleet_model.specs.Sound.{IsSound};
 ghost use Rattle.fleet_model.specs.State.{IsStateOf};
 ghost use Rattle.book.specs.Foreseen.{IsFirstOf};
+ghost use Rattle.book.specs.Reads.{IsFewFor, IsQuietTo, pairs_from};
 ghost use Rattle.book_frame.specs.Lent.{key_and_sums, shown_row, with_sums};
 
 use crate::foreseen::first_change;
@@ -28,10 +29,24 @@ use book_frame::listing::{BookRows, push_found};
 use book_frame::seats;
 use book_frame::seats::has_free_seat;
 use book_frame::standing::{cols_of, filter_at};
+use crossing::Meter;
 use fleet_model::Summed;
 use peer_rows::Spot;
 use std::alloc::Global;
 use std::marker::Model;
+
+/// What an event came to, beside the state that it leaves.
+#[derive(Clone, Copy, Debug)]
+pub struct Taken {
+    /// Where the rows of a Put's key lay, for another book that takes the same events: none where
+    /// the key had no rows or they weren't seen lately, or where the event isn't a Put that counts.
+    pub spot: Option<Spot>,
+    /// How many values of keys were read for the standing filters.
+    pub read: u64,
+    /// Whether all verdicts were made anew: those that had been given up for want of memory, or
+    /// where several keys were cleared.
+    pub anew: bool,
+}
 
 /// The state of a fleet, one event at a time.
 ///
@@ -99,10 +114,10 @@ impl Book {
         Ok(())
     }
 
-    /// What `step` does and answers, whatever the hint at where the rows of a Put's key lie. It
-    /// says where they lay, for another book that took the same events: none where the key had no
-    /// rows or they weren't seen lately, or where the event isn't a Put that counts.
-    pub fn step_at(&mut self, event: &Event, hint: Option<Spot>) -> Result<Option<Spot>, NoMemory>
+    /// What `step` does, whatever the hint at where the rows of a Put's key lie, and how much was
+    /// read for it: nothing by a moment up to which no row ends and no filter's set changes, and
+    /// else at most 505 values for each pair of a filter and a key that it concerns.
+    pub fn step_at(&mut self, event: &Event, hint: Option<Spot>) -> Result<Taken, NoMemory>
         ensures ok { OnOk result (self.new ≡ after self.old event.now) }
         ensures stands { OnOk result ((config : Config) (opening : ℕ) (events : List Event)
             → IsStateOf self.old config opening events
@@ -110,6 +125,12 @@ impl Book {
         ensures err { OnErr result (self.new ≡ self.old) }
         ensures leaving { event.now.what ≡ Leave → IsOk result }
         ensures uncounted { counts_now self.old event.now ≡ false → IsOk result }
+        ensures quiet { IfOk result (λ taken. IsQuietTo self.old event.now.what
+            → (taken.read ≡ 0) × (taken.anew ≡ false)) }
+        ensures few { IfOk result (λ taken. taken.anew ≡ false
+            → IsFewFor self.old self.new event.now.what taken.read) }
+        ensures anew { IfOk result (λ taken. taken.anew ≡ true
+            → taken.read ≤ 505 * pairs_from self.new 0) }
         ensures sound { IsSound self.new }
     {
         fleet_model::laws::state_after_one_more();
@@ -135,17 +156,31 @@ impl Book {
         seq: u64,
         what: &What,
         hint: Option<Spot>,
-    ) -> Result<Option<Spot>, NoMemory>
+    ) -> Result<Taken, NoMemory>
         ensures ok { OnOk result (self.new ≡ after self.old (event_of seat seq what.now)) }
         ensures err { OnErr result (self.new ≡ self.old) }
         ensures leaving { what.now ≡ Leave → IsOk result }
         ensures uncounted { counts_now self.old (event_of seat seq what.now) ≡ false → IsOk result }
+        ensures quiet { IfOk result (λ taken. IsQuietTo self.old what.now
+            → (taken.read ≡ 0) × (taken.anew ≡ false)) }
+        ensures few { IfOk result (λ taken. taken.anew ≡ false
+            → IsFewFor self.old self.new what.now taken.read) }
+        ensures anew { IfOk result (λ taken. taken.anew ≡ true
+            → taken.read ≤ 505 * pairs_from self.new 0) }
         ensures sound { IsSound self.new }
     {
         fleet_model::laws::states_are_sound();
+        let before = self.held.keys_used(&self.machine);
         let spot = self.machine.apply(seat, seq, what, hint)?;
-        self.held.follow(&self.machine, what, spot);
-        Ok(spot)
+        let mut meter = Meter::new();
+        let anew = self
+            .held
+            .follow(&self.machine, what, spot, before, &mut meter);
+        Ok(Taken {
+            spot,
+            read: meter.evals,
+            anew,
+        })
     }
 
     /// Whether fewer seats sit than may. Takes no memory.

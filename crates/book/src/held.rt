@@ -2,18 +2,22 @@
 //!
 //! A key is judged by the filters of its table when its rows may have changed, and else when a
 //! change that was planned for it has come. Memory for verdicts may be refused: then they are given
-//! up, and queries read the rows until a moment makes the verdicts anew. So no event fails for
-//! them.
+//! up, and queries read the rows until the verdicts are made anew: as a filter is added, as more
+//! than one key may be cleared, or at a moment by which a key's rows ended. So no event fails for
+//! them, and a moment by which nothing changes reads nothing.
 
-ghost use Rattle.std.specs.Prelude.{◌≡◌, ◌<◌, ◌≤◌, ◌==◌, [], length, map, IfOk, OnOk};
+ghost use Rattle.std.specs.Prelude.{◌≡◌, ◌+◌, ◌*◌, ◌<◌, ◌≤◌, ◌==◌, [], length, map, IfOk, OnOk};
+ghost use Rattle.std.specs.Prelude.{true, false};
 ghost use Rattle.std.specs.List.{list_any};
 ghost use Rattle.agg_types.specs.declared.limits.TheConstants.{MOST_CONDS};
+ghost use Rattle.fleet_model.specs.Answers.{keys_of};
 ghost use Rattle.fleet_model.specs.Keys.{AreKeysOf};
 ghost use Rattle.fleet_model.specs.Sound.{IsSound};
 ghost use Rattle.fleet_model.specs.State.{State};
 ghost use Rattle.standing_filters.specs.Watched.{verdicts_of, verdict_at};
 ghost use Rattle.book.specs.Held.{AreAll, AreFirst, AreHeld, ChangesKey, ChangesTable, Follows};
-ghost use Rattle.book.specs.Held.{GoesOn, HasMore, IsOneMore};
+ghost use Rattle.book.specs.Held.{AreStill, GoesOn, HasMore, IsCalm, IsOneMore, keys_in};
+ghost use Rattle.book.specs.Reads.{IsFewFor, IsForDue, filters_at, pairs_from};
 
 use crate::machine::Machine;
 use crate::one_key::OneKey;
@@ -36,36 +40,82 @@ impl Held {
         requires sound { IsSound machine.now }
         ensures { AreHeld machine.now result.standing }
     {
+        let mut meter = Meter::new();
         Held {
-            standing: judge_all(machine).ok(),
+            standing: judge_all(machine, &mut meter).ok(),
         }
     }
 
-    /// Something has happened to the machine: judges what it touched. The spot is a hint at where
-    /// the rows of a Put's key lie.
-    pub(crate) fn follow(&mut self, machine: &Machine, what: &What, spot: Option<Spot>)
+    /// How many keys have rows, where verdicts were given up.
+    pub(crate) fn keys_used(&self, machine: &Machine) -> u64
+        ensures { self.now.standing ≡ None
+            → result ≡ keys_in machine.now.rows (length machine.now.config.tables) }
+    {
+        match &self.standing {
+            None => machine.keys_used(),
+            Some(_) => 0,
+        }
+    }
+
+    /// Something has happened to the machine: judges what it touched, and answers whether all keys
+    /// were judged anew. The spot is a hint at where the rows of a Put's key lie. So many keys had
+    /// rows before, where verdicts were given up.
+    pub(crate) fn follow(
+        &mut self,
+        machine: &Machine,
+        what: &What,
+        spot: Option<Spot>,
+        before: u64,
+        meter: &mut Meter,
+    ) -> bool
         requires sound { IsSound machine.now }
-        ensures { (state : State) → IsSound state → Follows what.now state machine.now
+        requires fresh { meter.old.evals ≡ 0 }
+        ensures held { (state : State) → IsSound state → Follows what.now state machine.now
             → AreHeld state self.old.standing → AreHeld machine.now self.new.standing }
+        ensures few { (state : State) → IsSound state → Follows what.now state machine.now
+            → AreHeld state self.old.standing → result ≡ false
+            → IsFewFor state machine.now what.now meter.new.evals }
+        ensures anew { result ≡ true → meter.new.evals ≤ 505 * pairs_from machine.now 0 }
+        ensures calm { (state : State) → IsSound state → Follows what.now state machine.now
+            → AreHeld state self.old.standing → IsCalm state machine.now what.now
+            → (self.old.standing ≡ None
+            → before ≡ keys_in machine.now.rows (length machine.now.config.tables))
+            → (meter.new.evals ≡ 0) × (result ≡ false) }
     {
         match what {
-            What::Put { table, key, .. } => self.touch(machine, *table, key, spot),
+            What::Put { table, key, .. } => {
+                self.touch(machine, *table, key, spot, meter);
+                false
+            }
             What::Clear { table, sel } => match sel {
-                Select::One(key) => self.touch(machine, *table, key, None),
-                Select::All | Select::Conds(_) => self.clear(machine, *table),
+                Select::One(key) => {
+                    self.touch(machine, *table, key, None, meter);
+                    false
+                }
+                Select::All | Select::Conds(_) => self.clear(machine, *table, meter),
             },
-            What::AddFilter(_) => self.add(machine),
-            What::Moment(_) => self.go_on(machine),
-            What::Sit => {}
-            What::Open(_) => {}
-            What::Leave => {}
+            What::AddFilter(_) => self.add(machine, meter),
+            What::Moment(_) => self.go_on(machine, before, meter),
+            What::Sit => false,
+            What::Open(_) => false,
+            What::Leave => false,
         }
     }
 
     // The rows of a key may have changed.
-    fn touch(&mut self, machine: &Machine, table: usize, key: &Key, spot: Option<Spot>)
-        ensures { (state : State) → ChangesKey table key.now state machine.now
+    fn touch(
+        &mut self,
+        machine: &Machine,
+        table: usize,
+        key: &Key,
+        spot: Option<Spot>,
+        meter: &mut Meter,
+    )
+        requires sound { IsSound machine.now }
+        ensures held { (state : State) → ChangesKey table key.now state machine.now
             → AreHeld state self.old.standing → AreHeld machine.now self.new.standing }
+        ensures few { (state : State) → AreHeld state self.old.standing
+            → meter.new.evals ≤ meter.old.evals + 505 * filters_at state table }
     {
         standing_filters::laws::touch_keeps_verdicts();
         if !has_filter(machine.config.filters.as_slice(), table) {
@@ -75,66 +125,133 @@ impl Held {
             return;
         };
         let values = OneKey::new(machine, spot, table, key);
-        let mut meter = Meter::new();
         if standing
-            .touch(table, key, &values, machine.moment, &mut meter)
+            .touch(table, key, &values, machine.moment, meter)
             .is_err()
         {
             self.standing = None;
         }
     }
 
-    // The rows of several keys of a table may be gone.
-    fn clear(&mut self, machine: &Machine, table: usize)
+    // The rows of several keys of a table may be gone. Answers whether all keys were judged.
+    fn clear(&mut self, machine: &Machine, table: usize, meter: &mut Meter) -> bool
         requires sound { IsSound machine.now }
-        ensures { (state : State) → ChangesTable table state machine.now
+        ensures held { (state : State) → ChangesTable table state machine.now
             → AreHeld state self.old.standing → AreHeld machine.now self.new.standing }
+        ensures few { result ≡ false → meter.new.evals ≡ meter.old.evals }
+        ensures anew { result ≡ true
+            → meter.new.evals ≤ meter.old.evals + 505 * pairs_from machine.now 0 }
     {
         if has_filter(machine.config.filters.as_slice(), table) {
-            self.renew(machine);
+            self.renew(machine, meter);
+            true
+        } else {
+            false
         }
     }
 
-    // The clock may have gone on.
-    fn go_on(&mut self, machine: &Machine)
+    // The clock may have gone on. Given-up verdicts are made anew once a key's rows have ended;
+    // answers whether they were.
+    fn go_on(&mut self, machine: &Machine, before: u64, meter: &mut Meter) -> bool
         requires sound { IsSound machine.now }
-        ensures { (state : State) → IsSound state → GoesOn state machine.now
+        requires fresh { meter.old.evals ≡ 0 }
+        ensures held { (state : State) → IsSound state → GoesOn state machine.now
             → AreHeld state self.old.standing → AreHeld machine.now self.new.standing }
+        ensures few { (state : State) → IsSound state → GoesOn state machine.now
+            → AreHeld state self.old.standing → result ≡ false
+            → IsForDue state machine.now.moment meter.new.evals }
+        ensures anew { result ≡ true → meter.new.evals ≤ 505 * pairs_from machine.now 0 }
+        ensures calm { (state : State) → IsSound state → GoesOn state machine.now
+            → AreHeld state self.old.standing → AreStill state machine.now
+            → (self.old.standing ≡ None
+            → before ≡ keys_in machine.now.rows (length machine.now.config.tables))
+            → (meter.new.evals ≡ 0) × (result ≡ false) }
+    {
+        match &self.standing {
+            Some(_) => {
+                self.turn(machine, meter);
+                false
+            }
+            None => {
+                if machine.keys_used() == before {
+                    return false;
+                }
+                self.renew(machine, meter);
+                true
+            }
+        }
+    }
+
+    // Judges what has come due since, where verdicts are kept.
+    fn turn(&mut self, machine: &Machine, meter: &mut Meter)
+        requires sound { IsSound machine.now }
+        requires fresh { meter.old.evals ≡ 0 }
+        ensures held { (state : State) → IsSound state → GoesOn state machine.now
+            → AreHeld state self.old.standing → AreHeld machine.now self.new.standing }
+        ensures few { (state : State) → IsSound state → GoesOn state machine.now
+            → AreHeld state self.old.standing
+            → IsForDue state machine.now.moment meter.new.evals }
+        ensures calm { (state : State) → IsSound state → GoesOn state machine.now
+            → AreHeld state self.old.standing → AreStill state machine.now
+            → meter.new.evals ≡ 0 }
     {
         standing_filters::laws::moment_keeps_verdicts();
         let Some(standing) = &mut self.standing else {
-            self.renew(machine);
             return;
         };
-        let mut meter = Meter::new();
-        if standing
-            .moment(machine, machine.moment, &mut meter)
-            .is_err()
-        {
+        if standing.moment(machine, machine.moment, meter).is_err() {
             self.standing = None;
         }
     }
 
-    // Filters may stand behind those that stood.
-    fn add(&mut self, machine: &Machine)
+    // Filters may stand behind those that stood. Given-up verdicts are made anew; answers whether
+    // they were.
+    fn add(&mut self, machine: &Machine, meter: &mut Meter) -> bool
         requires sound { IsSound machine.now }
-        ensures { (state : State) → HasMore state machine.now
+        ensures held { (state : State) → HasMore state machine.now
             → AreHeld state self.old.standing → AreHeld machine.now self.new.standing }
+        ensures few { (state : State) → AreHeld state self.old.standing → result ≡ false
+            → meter.new.evals ≤ meter.old.evals
+            + 505 * pairs_from machine.now (length state.config.filters) }
+        ensures anew { result ≡ true
+            → meter.new.evals ≤ meter.old.evals + 505 * pairs_from machine.now 0 }
+    {
+        match &self.standing {
+            Some(_) => {
+                self.add_behind(machine, meter);
+                false
+            }
+            None => {
+                self.renew(machine, meter);
+                true
+            }
+        }
+    }
+
+    // Judges all keys of the filters that were added, where verdicts are kept.
+    fn add_behind(&mut self, machine: &Machine, meter: &mut Meter)
+        requires sound { IsSound machine.now }
+        ensures held { (state : State) → HasMore state machine.now
+            → AreHeld state self.old.standing → AreHeld machine.now self.new.standing }
+        ensures few { (state : State) → AreHeld state self.old.standing
+            → meter.new.evals ≤ meter.old.evals
+            + 505 * pairs_from machine.now (length state.config.filters) }
     {
         let Some(standing) = &mut self.standing else {
             return;
         };
-        if add_missing(standing, machine).is_err() {
+        if add_missing(standing, machine, meter).is_err() {
             self.standing = None;
         }
     }
 
     // All keys are judged anew.
-    fn renew(&mut self, machine: &Machine)
+    fn renew(&mut self, machine: &Machine, meter: &mut Meter)
         requires sound { IsSound machine.now }
-        ensures { AreHeld machine.now self.new.standing }
+        ensures held { AreHeld machine.now self.new.standing }
+        ensures few { meter.new.evals ≤ meter.old.evals + 505 * pairs_from machine.now 0 }
     {
-        self.standing = judge_all(machine).ok();
+        self.standing = judge_all(machine, meter).ok();
     }
 }
 
@@ -146,13 +263,14 @@ fn has_filter(filters: &[Filter], table: usize) -> bool
 }
 
 // The verdicts on all keys, by each filter.
-fn judge_all(machine: &Machine) -> Result<Standing, NoMemory>
+fn judge_all(machine: &Machine, meter: &mut Meter) -> Result<Standing, NoMemory>
     requires sound { IsSound machine.now }
-    ensures { IfOk result (λ standing. AreAll machine.now standing.filters) }
+    ensures all { IfOk result (λ standing. AreAll machine.now standing.filters) }
+    ensures few { meter.new.evals ≤ meter.old.evals + 505 * pairs_from machine.now 0 }
 {
     let none = no_filters(machine.alloc)?;
     let mut standing = Standing::new(machine.alloc, &none)?;
-    add_missing(&mut standing, machine)?;
+    add_missing(&mut standing, machine, meter)?;
     Ok(standing)
 }
 
@@ -170,29 +288,41 @@ fn no_filters(alloc: Global) -> Result<Config, NoMemory>
 }
 
 // Adds the filters that stand behind the first ones.
-fn add_missing(standing: &mut Standing, machine: &Machine) -> Result<(), NoMemory>
+fn add_missing(
+    standing: &mut Standing,
+    machine: &Machine,
+    meter: &mut Meter,
+) -> Result<(), NoMemory>
     requires sound { IsSound machine.now }
-    ensures { OnOk result
+    ensures added { OnOk result
         (AreFirst machine.now (length standing.old.filters) standing.old.filters
         → AreAll machine.now standing.new.filters) }
+    ensures few { meter.new.evals ≤ meter.old.evals
+        + 505 * pairs_from machine.now (length standing.old.filters) }
 {
     for position in standing.len()..machine.config.filters.len() {
-        add_one(standing, machine, machine.filter_at(position))?;
+        add_one(standing, machine, machine.filter_at(position), meter)?;
     }
     Ok(())
 }
 
 // Adds a filter behind the others, with its verdicts on all keys of its table.
-fn add_one(standing: &mut Standing, machine: &Machine, filter: &Filter) -> Result<(), NoMemory>
+fn add_one(
+    standing: &mut Standing,
+    machine: &Machine,
+    filter: &Filter,
+    meter: &mut Meter,
+) -> Result<(), NoMemory>
     requires sound { IsSound machine.now }
     requires few { length filter.now.conds ≤ MOST_CONDS }
-    ensures { OnOk result (IsOneMore machine.now filter.now standing.old.filters
+    ensures added { OnOk result (IsOneMore machine.now filter.now standing.old.filters
         standing.new.filters) }
+    ensures few { meter.new.evals ≤ meter.old.evals
+        + 505 * length (keys_of machine.now filter.now.table) }
 {
     standing_filters::laws::add_gives_verdicts();
     let keys = live_keys(machine.alloc, &machine.rows, filter.table, machine.moment)?;
-    let mut meter = Meter::new();
-    standing.add(filter, keys.as_slice(), machine, machine.moment, &mut meter)
+    standing.add(filter, keys.as_slice(), machine, machine.moment, meter)
 }
 
 /// The keys that a filter holds by its verdicts, in order.

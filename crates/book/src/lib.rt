@@ -12,7 +12,12 @@
 //!
 //! No event fails for want of a verdict's memory. Verdicts are given up where memory for them is
 //! refused, all at once; from then on a filter's keys and its next change are found by judging each
-//! key of its table, until a moment, or a clear of more than one key, makes the verdicts anew.
+//! key of its table. The verdicts are made anew as a filter is added, by a clear of more than one
+//! key, or by a moment at which a key's last row ended.
+//!
+//! `Book::step_at` says how many values an event read: none where nothing changes by it, and else
+//! at most 505 for each pair of a filter and a key that it concerns (`specs/Reads.antt`). That
+//! verdicts are kept while there is memory for them, no clause says.
 //!
 //! Speed is measured, not promised: an end stays planned where it was while its row's end only
 //! moves later, and is planned anew when it comes due, so some rows are looked at before they end;
@@ -37,7 +42,7 @@ mod sets;
 mod store;
 mod values;
 
-pub use book::Book;
+pub use book::{Book, Taken};
 pub use book_frame::listing::BookRows;
 pub use fleet_model::Summed;
 pub use peer_rows::Spot;

@@ -14,6 +14,7 @@ ghost use Rattle.fleet_model.specs.Seats.{is_number};
 ghost use Rattle.fleet_model.specs.Values.{cols_of, selects};
 ghost use Rattle.book_frame.specs.Due.{IsDue};
 ghost use Rattle.book.specs.Due.{FitsPlace};
+ghost use Rattle.book.specs.Held.{keys_in};
 ghost use Rattle.book.specs.Leading.{AreLed};
 ghost use Rattle.book.specs.Planned.{IsInside, IsShort, place_at};
 ghost use Rattle.book.specs.Store.{row_keys};
@@ -116,6 +117,17 @@ impl Machine {
         ensures { result ≡ length (row_keys self.now.rows table) }
     {
         self.rows.used(table)
+    }
+
+    /// How many keys of all tables have a row. The count stays at its greatest number.
+    pub(crate) fn keys_used(&self) -> u64
+        ensures { result ≡ keys_in self.now.rows (length self.now.config.tables) }
+    {
+        let mut used = 0u64;
+        for table in 0..self.config.tables.len() {
+            used = used.saturating_add(self.used(table) as u64);
+        }
+        used
     }
 
     /// What the rows of a key sum up to.

@@ -76,8 +76,8 @@ impl Absorb<Op> for Shown {
 
     fn absorb_first(&mut self, operation: &Op, _other: &Shown) -> Result<(), AllocError> {
         match self.book.step_at(&operation.event, operation.hint.get()) {
-            Ok(spot) => {
-                operation.hint.set(spot);
+            Ok(answer) => {
+                operation.hint.set(answer.spot);
                 self.at = operation.at.again();
                 Ok(())
             }

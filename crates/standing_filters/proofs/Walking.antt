@@ -2,10 +2,10 @@
 use Rattle.std.proofs.Common.{◌≡◌, ℕ, ◌+◌, ◌<◌, ◌≤◌, Bool, true, false, cond, ltb, List, [], ◌∷◌}
 use Rattle.std.proofs.Common.{◌++◌, Option, None, Some, length, refl, sym, ap, ◌∙◌, subst, arith}
 use Rattle.std.proofs.Common.{⊎_elim, ◌*◌, length-append}
-use Rattle.std.specs.Prelude.{filter, map, unwrap_or}
+use Rattle.std.specs.Prelude.{map, unwrap_or}
 use Rattle.std.proofs.lemmas.Bool.{cases_lt, false≢true, false_from_ne_true, le-leb, le-ltb}
 use Rattle.std.proofs.lemmas.Bool.{leb-false, leb-true, lt-ltb, or_cases, or_left, or_right}
-use Rattle.std.proofs.lemmas.Cmp.{eq_by_cmp_equiv, nat_list_cmp_total, tied_itself}
+use Rattle.std.proofs.lemmas.Cmp.{nat_list_cmp_total, tied_itself}
 use Rattle.std.proofs.lemmas.List.{length-map}
 use Rattle.std.proofs.lemmas.List.Sums.{sum_by-cons}
 use Rattle.std.proofs.lemmas.Map.Keys.{sorted_head, sorted_tail}
@@ -22,7 +22,7 @@ use Rattle.expiry_wheel.proofs.Left.{entries_total}
 use Rattle.expiry_wheel.proofs.Lists.{all-imply, all-right}
 use Rattle.expiry_wheel.specs.Entries.{IsInOrder, entry_cmp}
 use Rattle.expiry_wheel.specs.Merge.{entries_until}
-use Rattle.standing_filters.specs.Plans.{IsPlanOf, Watching, has_plan, kept_at, view_of_watch}
+use Rattle.standing_filters.specs.Plans.{IsPlanOf, Watching, has_plan, view_of_watch}
 use Rattle.standing_filters.specs.Turns.{AreDue, AreJudged, ArePlans, AreReadFor, IsQuiet}
 use Rattle.standing_filters.specs.Turns.{IsReadFor, has_come, is_due}
 use Rattle.standing_filters.specs.Turns.{keys_judged, planned_at, same_key}

@@ -19,6 +19,9 @@ pub enum Deed {
     Sit(u64),
     Open(u64, usize),
     Put(u64, Row),
+    /// A seat puts a rate of the first table's key 1 for a peer: how long its period runs, and what
+    /// came in the one before.
+    Rate(u64, usize, u64, u32),
     /// All rows of a table go.
     ClearAll(usize),
     /// A key's rows go, by the table and the number of the key.
@@ -64,6 +67,21 @@ fn put(alloc: Global, row: Row) -> Result<What, NoMemory> {
     })
 }
 
+fn put_rate(alloc: Global, peer: usize, elapsed: u64, prev: u32) -> Result<What, NoMemory> {
+    let rate = Cell::Rate {
+        elapsed,
+        cur: 0,
+        prev,
+    };
+    Ok(What::Put {
+        peer,
+        table: 0,
+        key: key(alloc, 0, 1)?,
+        life: None,
+        cells: Cells::copy(alloc, &[Cell::Count(0), rate])?,
+    })
+}
+
 fn above(alloc: Global, col: Col, op: Op, bound: u64) -> Result<Items<Cond>, NoMemory> {
     Items::copy(alloc, &[Cond { col, op, bound }])
 }
@@ -80,6 +98,7 @@ fn added(alloc: Global, name: u8, table: usize, bound: u64) -> Result<What, NoMe
 pub fn seat_of(deed: Deed) -> u64 {
     match deed {
         Deed::Sit(seat) | Deed::Open(seat, _) | Deed::Put(seat, _) | Deed::Leave(seat) => seat,
+        Deed::Rate(seat, _, _, _) => seat,
         _ => 0,
     }
 }
@@ -90,6 +109,7 @@ pub fn what(alloc: Global, deed: Deed) -> Result<What, NoMemory> {
         Deed::Sit(_) => Ok(What::Sit),
         Deed::Open(_, peer) => Ok(What::Open(peer)),
         Deed::Put(_, row) => put(alloc, row),
+        Deed::Rate(_, peer, elapsed, prev) => put_rate(alloc, peer, elapsed, prev),
         Deed::ClearAll(table) => Ok(What::Clear {
             table,
             sel: Select::All,

@@ -4,7 +4,7 @@ use crate::answers::{Seen, differences};
 use crate::deeds::{Deed, seat_of, what};
 use agg_types::{NoMemory, What};
 use anyhow::Result;
-use book::Book;
+use book::{Book, Taken};
 use plain_book::Book as PlainBook;
 use std::alloc::Global;
 use std::marker::Model;
@@ -39,6 +39,14 @@ rank counts addresses gpc0 3
 rank rates strings http_req_rate 3
 ";
 
+/// A fleet whose rates are of a second, with a filter on them.
+pub const OF_SECONDS: &[u8] = b"name agg
+peer lb1
+peer lb2
+table addresses type ip size 6 store gpc0,http_req_rate(1000)
+filter standing addresses data.http_req_rate ge 3
+";
+
 // What happens, made once more where an allocation failed.
 fn made(alloc: Global, deed: Deed) -> Result<What, NoMemory> {
     match what(alloc, deed) {
@@ -57,6 +65,11 @@ pub struct Pair {
     pub events: u64,
     pub differ: u64,
     pub seen: Seen,
+    // How many values the first one read, by all events and by the last one.
+    pub read: u64,
+    pub last_read: u64,
+    // How often it made its verdicts anew.
+    pub anew: u64,
 }
 
 impl Model for Pair {
@@ -69,7 +82,11 @@ impl Pair {
     /// Two books to which nothing has happened. Next changes are asked for only where all moments
     /// are near, and there tables are small.
     pub fn new(alloc: Global, near: bool) -> Result<Pair> {
-        let fleet = if near { FEW } else { MANY };
+        Pair::of(alloc, if near { FEW } else { MANY }, near)
+    }
+
+    /// The same of a fleet whose configuration is told.
+    pub fn of(alloc: Global, fleet: &[u8], near: bool) -> Result<Pair> {
         let one = config(alloc, fleet)?;
         let other = config(alloc, fleet)?;
         Ok(Pair {
@@ -79,6 +96,9 @@ impl Pair {
             events: 0,
             differ: 0,
             seen: Seen::default(),
+            read: 0,
+            last_read: 0,
+            anew: 0,
         })
     }
 
@@ -94,15 +114,28 @@ impl Pair {
         let seat = seat_of(deed);
         let what = made(alloc, deed)?;
         let seq = self.plain.next_seq(seat).unwrap_or(0);
-        if self.fast.apply(seat, seq, &what).is_err() {
-            self.differ = self.differ.saturating_add(self.differences(alloc)?.0);
-            self.fast.apply(seat, seq, &what)?;
-        }
+        let taken = match self.fast.apply_at(seat, seq, &what, None) {
+            Ok(taken) => taken,
+            Err(_) => {
+                self.differ = self.differ.saturating_add(self.differences(alloc)?.0);
+                self.fast.apply_at(seat, seq, &what, None)?
+            }
+        };
+        self.note(taken);
         if self.plain.apply(seat, seq, &what).is_err() {
             self.plain.apply(seat, seq, &what)?;
         }
         self.events = self.events.saturating_add(1);
         Ok(())
+    }
+
+    // Notes what was read.
+    fn note(&mut self, taken: Taken) {
+        self.last_read = taken.read;
+        self.read = self.read.saturating_add(taken.read);
+        if taken.anew {
+            self.anew = self.anew.saturating_add(1);
+        }
     }
 
     /// Compares how many keys of the first table both have.

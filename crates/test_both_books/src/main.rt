@@ -1,7 +1,7 @@
 //! Runs lists of events through the book that the product runs on and through the plain book, side
 //! by side, and compares all that both answer after each event: rows, sums, sets, ranked lists,
-//! next changes, sessions and seats. Prints how many events there were, and how many answers
-//! differ.
+//! next changes, sessions and seats. Prints how many events there were, how many answers differ,
+//! how many values the book read for its filters, and how often it made its verdicts anew.
 //!
 //! An event for which an allocation failed has to leave each answer as it was, and then happens
 //! once more. `test_both_books again` compares at the end of a run and where an allocation failed:
@@ -16,7 +16,7 @@ mod worked;
 
 use crate::deeds::Deed;
 use crate::drawn::Draw;
-use crate::fleet::Pair;
+use crate::fleet::{OF_SECONDS, Pair};
 use anyhow::Result;
 use std::alloc::Global;
 use std::env::Env;
@@ -60,6 +60,15 @@ fn tell(rt: &impl Print, name: &str, pair: &Pair) -> Result<()> {
     Ok(())
 }
 
+/// Tells what was read for filters, where no allocation fails.
+fn tell_reads(rt: &impl Print, pair: &Pair) -> Result<()> {
+    println!(rt;
+        "  values read {}, verdicts made anew {}",
+        pair.read, pair.anew
+    )?;
+    Ok(())
+}
+
 /// Two books to which nothing has happened, made once more where an allocation failed.
 fn opened(alloc: Global, way: Way) -> Result<Pair> {
     match Pair::new(alloc, way.near) {
@@ -79,9 +88,11 @@ fn happen(alloc: Global, way: Way, pair: &mut Pair, deed: Deed) -> Result<()> {
 
 /// Compares at the end of a run, and tells how it went.
 fn end(rt: &impl Print, alloc: Global, name: &str, way: Way, pair: &mut Pair) -> Result<()> {
-    if !way.often {
-        pair.compare(alloc)?;
+    if way.often {
+        tell(rt, name, pair)?;
+        return tell_reads(rt, pair);
     }
+    pair.compare(alloc)?;
     tell(rt, name, pair)
 }
 
@@ -118,7 +129,21 @@ fn crowd(rt: &impl Print, alloc: Global) -> Result<()> {
         pair.happen(alloc, Deed::Moment(moment))?;
         pair.compare_used();
     }
-    tell(rt, "crowd", &pair)
+    tell(rt, "crowd", &pair)?;
+    tell_reads(rt, &pair)
+}
+
+/// A filter on rates that fall below its bound at 167: what is read as the clock comes to 1, 166
+/// and 167.
+fn falling(rt: &impl Print, alloc: Global) -> Result<()> {
+    let mut pair = Pair::of(alloc, OF_SECONDS, true)?;
+    for deed in worked::FALLING {
+        happen(alloc, NEAR, &mut pair, *deed)?;
+        if let Deed::Moment(moment) = deed {
+            println!(rt; "  at {moment}: values read {}", pair.last_read)?;
+        }
+    }
+    end(rt, alloc, "falling", NEAR, &mut pair)
 }
 
 /// The runs of which each allocation fails in turn.
@@ -135,6 +160,7 @@ fn all_runs(rt: &impl Print, alloc: Global) -> Result<()> {
     play(rt, alloc, "clears", NEAR, worked::CLEARS)?;
     draw(rt, alloc, "drawn, near", NEAR)?;
     draw(rt, alloc, "drawn, far", FAR)?;
+    falling(rt, alloc)?;
     crowd(rt, alloc)
 }
 

@@ -129,6 +129,21 @@ pub const CLEARS: &[Deed] = &[
     Deed::ClearAll(1),
 ];
 
+/// Two peers' rates of 3 a second at one key, one of them half a period old. They sum up to 4 at
+/// first, to 3 from 1 ms on, and to 2 from 167 ms on.
+pub const FALLING: &[Deed] = &[
+    Deed::Sit(0),
+    Deed::Sit(1),
+    Deed::Sit(2),
+    Deed::Open(1, 0),
+    Deed::Open(2, 1),
+    Deed::Rate(1, 0, 0, 3),
+    Deed::Rate(2, 1, 500, 3),
+    Deed::Moment(1),
+    Deed::Moment(166),
+    Deed::Moment(167),
+];
+
 /// One of the rows that all end at 50 ms.
 pub fn of_crowd(key: u16) -> Deed {
     put!(1, 0, key, Some(50), u32::from(key))

@@ -1,8 +1,12 @@
-use Rattle.std.proofs.Common.{length}
+use Rattle.std.proofs.Common.{◌+◌, ◌*◌, ◌≤◌, length}
 use Rattle.book.specs.Held.{AreFirst}
+use Rattle.book.specs.Reads.{pairs_from}
 use Rattle.book.proofs.held.add_missing.Given as goal
 
 abbrev pub invariant-loop-position : goal.invariant-loop-position
-invariant-loop-position l =
-    AreFirst l.machine (length l.fn.standing.filters) l.fn.standing.filters
-    → AreFirst l.machine l.position l.standing.filters
+invariant-loop-position l = record {
+  first : AreFirst l.machine (length l.fn.standing.filters) l.fn.standing.filters
+      → AreFirst l.machine l.position l.standing.filters;
+  few : l.meter.evals + 505 * pairs_from l.machine l.position
+      ≤ l.fn.meter.evals + 505 * pairs_from l.machine (length l.fn.standing.filters);
+}

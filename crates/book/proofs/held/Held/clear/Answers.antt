@@ -6,8 +6,8 @@ use Rattle.fleet_model.specs.State.{State}
 use Rattle.book.proofs.Verdicts.{elsewhere_kept}
 use Rattle.book.proofs.held.Held.clear.Goals as goal
 
-pub returns-else-has_filter : goal.returns-else-has_filter
-returns-else-has_filter c = λ state changes held.
+pub returns-else-has_filter-clause-held : goal.returns-else-has_filter-clause-held
+returns-else-has_filter-clause-held c = λ state changes held.
     let none : list_any (λ (f : Filter). f.table == c.args.table)
     c.args.machine.now.config.filters ≡ false =
     ap (λ (s : State). list_any (λ (f : Filter). f.table == c.args.table) s.config.filters)

@@ -1,20 +1,28 @@
-use Rattle.std.proofs.Common.{subst}
+use Rattle.std.proofs.Common.{◌≤◌, ◌+◌, ◌*◌, sym, subst, arith}
 use Rattle.agg_types.specs.declared.event.What.{What}
 use Rattle.book.specs.Held.{Follows}
+use Rattle.book.specs.Reads.{IsFewFor, filters_at}
 use Rattle.book.proofs.Verdicts.{stays_kept}
 use Rattle.book.proofs.held.Held.follow.Goals as goal
 
-pub returns-in-Sit : goal.returns-in-Sit
-returns-in-Sit c = λ state sound follows held.
+pub returns-in-Sit-clause-held : goal.returns-in-Sit-clause-held
+returns-in-Sit-clause-held c = λ state sound follows held.
     stays_kept state c.args.machine.now c.args.self.now.standing
     (subst (λ (w : What). Follows w state c.args.machine.now) c.in-Sit.is follows) held
 
-pub returns-in-Open : goal.returns-in-Open
-returns-in-Open c = λ state sound follows held.
+pub returns-in-Open-clause-held : goal.returns-in-Open-clause-held
+returns-in-Open-clause-held c = λ state sound follows held.
     stays_kept state c.args.machine.now c.args.self.now.standing
     (subst (λ (w : What). Follows w state c.args.machine.now) c.in-Open.is follows) held
 
-pub returns-in-Leave : goal.returns-in-Leave
-returns-in-Leave c = λ state sound follows held.
+pub returns-in-Leave-clause-held : goal.returns-in-Leave-clause-held
+returns-in-Leave-clause-held c = λ state sound follows held.
     stays_kept state c.args.machine.now c.args.self.now.standing
     (subst (λ (w : What). Follows w state c.args.machine.now) c.in-Leave.is follows) held
+
+pub returns-in-Put-clause-few : goal.returns-in-Put-clause-few
+returns-in-Put-clause-few c = λ state sound follows held kept.
+    let few : c.touch.new.meter.evals ≤ c.args.meter.now.evals
+    + 505 * filters_at state c.in-Put.table = c.touch.ensures.few state held in
+    subst (λ (w : What). IsFewFor state c.args.machine.now w c.touch.new.meter.evals)
+    (sym c.in-Put.is) (omega (arith, few, c.requires.fresh))

@@ -4,11 +4,12 @@ use Rattle.agg_types.specs.declared.config.Filter.{Filter}
 use Rattle.fleet_model.specs.State.{State}
 use Rattle.standing_filters.specs.Watched.{AreTouched}
 use Rattle.book.specs.Held.{AreHeld, living_in, sums_in}
+use Rattle.book.proofs.FewReads.{touched_few}
 use Rattle.book.proofs.Verdicts.{elsewhere_kept, from_ok, touched_held}
 use Rattle.book.proofs.held.Held.touch.Goals as goal
 
-pub returns-then-not-has_filter : goal.returns-then-not-has_filter
-returns-then-not-has_filter c = λ state changes held.
+pub returns-then-not-has_filter-clause-held : goal.returns-then-not-has_filter-clause-held
+returns-then-not-has_filter-clause-held c = λ state changes held.
     let none : list_any (λ (f : Filter). f.table == c.args.table)
     c.args.machine.now.config.filters ≡ false =
     ap (λ (s : State). list_any (λ (f : Filter). f.table == c.args.table) s.config.filters)
@@ -21,8 +22,8 @@ returns-then-not-has_filter c = λ state changes held.
       others = λ t other apart. changes.others t other (inl apart);
     }) none held
 
-pub returns-else-is_err : goal.returns-else-is_err
-returns-else-is_err c = λ state changes held.
+pub returns-else-is_err-clause-held : goal.returns-else-is_err-clause-held
+returns-else-is_err-clause-held c = λ state changes held.
     let later : State = c.args.machine.now in
     let moment : c.machine.inside.moment ≡ later.moment =
     ap (λ (s : State). s.moment) c.machine.view_is in
@@ -35,3 +36,17 @@ returns-else-is_err c = λ state changes held.
     c.new-values.ensures
     (from_ok c.touch.result (sym c.is_err.ensures.value ∙ c.if-is_err.false) c.touch.ensures.ok)))
     (subst (AreHeld state) c.in-Some.is held)
+
+pub returns-then-is_err-clause-few : goal.returns-then-is_err-clause-few
+returns-then-is_err-clause-few c = λ state held.
+    touched_few state c.args.machine.now c.new-values.result c.machine.inside.moment c.args.table
+    c.args.key.now c.args.self.now.standing c.in-Some.standing c.args.meter.now.evals
+    c.touch.new.meter.evals c.requires.sound held c.in-Some.is
+    (ap (λ (s : State). s.moment) c.machine.view_is) c.new-values.ensures c.touch.ensures.counted
+
+pub returns-else-is_err-clause-few : goal.returns-else-is_err-clause-few
+returns-else-is_err-clause-few c = λ state held.
+    touched_few state c.args.machine.now c.new-values.result c.machine.inside.moment c.args.table
+    c.args.key.now c.args.self.now.standing c.in-Some.standing c.args.meter.now.evals
+    c.touch.new.meter.evals c.requires.sound held c.in-Some.is
+    (ap (λ (s : State). s.moment) c.machine.view_is) c.new-values.ensures c.touch.ensures.counted
