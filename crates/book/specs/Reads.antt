@@ -70,3 +70,13 @@ IsFewFor state later (AddFilter filtering) read =
     read ≤ 505 * pairs_from later (length state.config.filters)
 IsFewFor state later (Moment moment) read = IsForDue state later.moment read
 IsFewFor state later Leave read = read ≡ 0
+
+-- whether an event may make all verdicts anew
+abbrev pub MayRenew : What → Type 0
+MayRenew Sit = ⊥
+MayRenew (Open peer) = ⊥
+MayRenew (Put peer table key life cells) = ⊥
+MayRenew (Clear table sel) = Unit {0}
+MayRenew (AddFilter filtering) = Unit {0}
+MayRenew (Moment moment) = Unit {0}
+MayRenew Leave = ⊥

@@ -14,7 +14,7 @@ ghost use Rattle.fleet_model.specs.Ranking.{rank_of, ranked};
 ghost use Rattle.fleet_model.specs.Sound.{IsSound};
 ghost use Rattle.fleet_model.specs.State.{IsStateOf};
 ghost use Rattle.book.specs.Foreseen.{IsFirstOf};
-ghost use Rattle.book.specs.Reads.{IsFewFor, IsQuietTo, pairs_from};
+ghost use Rattle.book.specs.Reads.{IsFewFor, IsQuietTo, MayRenew, pairs_from};
 ghost use Rattle.book_frame.specs.Lent.{key_and_sums, shown_row, with_sums};
 
 use crate::foreseen::first_change;
@@ -130,7 +130,7 @@ impl Book {
         ensures few { IfOk result (λ taken. taken.anew ≡ false
             → IsFewFor self.old self.new event.now.what taken.read) }
         ensures anew { IfOk result (λ taken. taken.anew ≡ true
-            → taken.read ≤ 505 * pairs_from self.new 0) }
+            → MayRenew event.now.what × (taken.read ≤ 505 * pairs_from self.new 0)) }
         ensures sound { IsSound self.new }
     {
         fleet_model::laws::state_after_one_more();
@@ -166,7 +166,7 @@ impl Book {
         ensures few { IfOk result (λ taken. taken.anew ≡ false
             → IsFewFor self.old self.new what.now taken.read) }
         ensures anew { IfOk result (λ taken. taken.anew ≡ true
-            → taken.read ≤ 505 * pairs_from self.new 0) }
+            → MayRenew what.now × (taken.read ≤ 505 * pairs_from self.new 0)) }
         ensures sound { IsSound self.new }
     {
         fleet_model::laws::states_are_sound();

@@ -17,7 +17,7 @@ ghost use Rattle.fleet_model.specs.State.{State};
 ghost use Rattle.standing_filters.specs.Watched.{verdicts_of, verdict_at};
 ghost use Rattle.book.specs.Held.{AreAll, AreFirst, AreHeld, ChangesKey, ChangesTable, Follows};
 ghost use Rattle.book.specs.Held.{AreStill, GoesOn, HasMore, IsCalm, IsOneMore, keys_in};
-ghost use Rattle.book.specs.Reads.{IsFewFor, IsForDue, filters_at, pairs_from};
+ghost use Rattle.book.specs.Reads.{IsFewFor, IsForDue, MayRenew, filters_at, pairs_from};
 
 use crate::machine::Machine;
 use crate::one_key::OneKey;
@@ -75,7 +75,8 @@ impl Held {
         ensures few { (state : State) → IsSound state → Follows what.now state machine.now
             → AreHeld state self.old.standing → result ≡ false
             → IsFewFor state machine.now what.now meter.new.evals }
-        ensures anew { result ≡ true → meter.new.evals ≤ 505 * pairs_from machine.now 0 }
+        ensures anew { result ≡ true
+            → MayRenew what.now × (meter.new.evals ≤ 505 * pairs_from machine.now 0) }
         ensures calm { (state : State) → IsSound state → Follows what.now state machine.now
             → AreHeld state self.old.standing → IsCalm state machine.now what.now
             → (self.old.standing ≡ None
