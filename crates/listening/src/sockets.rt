@@ -5,7 +5,7 @@ ghost use Rattle.std.specs.Prelude.{◌≡◌, ◌≤◌, length};
 use crate::connections::Connections;
 use crate::greeting::{Greeting, Hello, read_hello};
 use agg_types::Config;
-use serve::{Caller, Came, Doors, Faulted, Greeted, ReadFailed, Served, Source};
+use serve::{Caller, Came, Doors, Faulted, ReadFailed, Served, Source};
 use std::alloc::Global;
 use std::io;
 use std::io::{ErrorKind, Read, Write};
@@ -70,33 +70,17 @@ pub struct Incoming {
 }
 
 impl Incoming {
-    // The same connection behind its hello, not read yet.
-    fn behind(self, read: Vec<u8>, hello: Hello) -> Incoming
-        ensures { result.reads ≡ 0 }
+    // Has what was read for its hello be what it gives first.
+    fn begin_with(&mut self, read: Vec<u8>, hello: Hello)
+        ensures { self.new.reads ≡ self.old.reads }
     {
-        let Incoming {
-            stream,
-            sender,
-            id,
-            is_limited,
-            ..
-        } = self;
-        Incoming {
-            stream,
-            sender,
-            id,
-            peer: match hello {
-                Hello::Of(peer) => Some(peer),
-                _ => None,
-            },
-            read,
-            taken: 0,
-            is_over: hello == Hello::Late,
-            reads: 0,
-            failed: 0,
-            is_limited,
-            is_fed: false,
-        }
+        self.peer = match hello {
+            Hello::Of(peer) => Some(peer),
+            _ => None,
+        };
+        self.read = read;
+        self.taken = 0;
+        self.is_over = hello == Hello::Late;
     }
 }
 
@@ -345,22 +329,13 @@ impl<'a, R: Clock + Wait> Doors<Incoming, Outgoing> for Sockets<'a, R> {
         None
     }
 
-    fn greet(
-        &self,
-        config: &Config,
-        caller: Caller<Incoming, Outgoing>,
-    ) -> Greeted<Incoming, Outgoing> {
-        let Caller { source, writer } = caller;
+    fn greet(&self, config: &Config, source: &mut Incoming) -> bool {
         let Greeting { bytes, hello } = read_hello(&self.rt, self.alloc, config, &source.stream);
         self.connections.stop_waiting(&self.rt, source.id);
-        let _ = source
-            .stream
-            .set_read_timeout(Some(Duration::from_millis(READ_LIMIT)));
-        let source = source.behind(bytes, hello);
-        Greeted {
-            caller: Caller { source, writer },
-            is_welcome: matches!(hello, Hello::Of(_)),
-        }
+        let limit = Duration::from_millis(READ_LIMIT);
+        source.is_limited = source.stream.set_read_timeout(Some(limit)).is_ok();
+        source.begin_with(bytes, hello);
+        matches!(hello, Hello::Of(_))
     }
 
     fn seated(&self, source: &Incoming) {

@@ -42,14 +42,6 @@ pub struct Caller<S: Source, W> {
     pub ghost fresh: { S.reads source ≡ 0 },
 }
 
-/// A peer's connection before it may sit down.
-#[derive(Drop)]
-pub struct Greeted<S: Source, W> {
-    pub caller: Caller<S, W>,
-    /// Whether its hello would be accepted. Only then does it get a seat.
-    pub is_welcome: bool,
-}
-
 /// Where connections come in, and go when they are over.
 pub trait Doors<S: Source + Drop, W: Write + Drop> {
     // what its sources tell that they gave, before they are read
@@ -69,17 +61,15 @@ pub trait Doors<S: Source + Drop, W: Write + Drop> {
         ensures blank { IfSome result (λ caller. W.contents caller.writer ≡ blank) };
 
     /// Waits for the hello of a peer's connection, in the connection's own thread and before it has
-    /// a seat. What was read for that is what its source gives first.
-    fn greet(&self, _config: &Config, caller: Caller<S, W>) -> Greeted<S, W>
-        requires unread { S.given caller.source ≡ unread }
-        requires blank { W.contents caller.writer ≡ blank }
-        ensures unread { S.given result.caller.source ≡ unread }
-        ensures blank { W.contents result.caller.writer ≡ blank }
+    /// a seat: whether it would be accepted. Only then does the connection get a seat. What was read
+    /// for that is what its source gives first.
+    fn greet(&self, _config: &Config, _source: &mut S) -> bool
+        requires fresh { S.reads _source.old ≡ 0 }
+        requires unread { S.given _source.old ≡ unread }
+        ensures fresh { S.reads _source.new ≡ 0 }
+        ensures unread { S.given _source.new ≡ unread }
     {
-        Greeted {
-            caller,
-            is_welcome: true,
-        }
+        true
     }
 
     /// A connection of a peer has its seat.
@@ -360,17 +350,17 @@ impl<
     // is free it is closed without an answer, so that the peer calls again.
     fn peer<R: Wait>(&self, rt: &R, guest: Guest<'a, S, W, D>) {
         let Guest { caller, doors } = guest;
-        let Greeted { caller, is_welcome } = doors.greet(self.hub.config(), caller);
-        if !is_welcome {
-            self.serve_peer(rt, doors, caller, None);
+        let Caller { mut source, writer } = caller;
+        if !doors.greet(self.hub.config(), &mut source) {
+            self.serve_peer(rt, doors, Caller { source, writer }, None);
             return;
         }
         match self.hub.seat(rt) {
             Ok(pass) => {
-                doors.seated(&caller.source);
-                self.serve_peer(rt, doors, caller, Some(pass));
+                doors.seated(&source);
+                self.serve_peer(rt, doors, Caller { source, writer }, Some(pass));
             }
-            Err(_) => self.close_peer(caller.source.sender()),
+            Err(_) => self.close_peer(source.sender()),
         }
     }
 

@@ -30,7 +30,7 @@ mod writing;
 
 pub use clock::Clock;
 pub use context::{Context, Link};
-pub use doors::{Caller, Doors, Ended, Greeted, serve_all};
+pub use doors::{Caller, Doors, Ended, serve_all};
 pub use gate::{Gate, Gone, News, Place};
 pub use served::{Cause, Faulted, Served};
 pub use source::{Came, ReadFailed, Source};
