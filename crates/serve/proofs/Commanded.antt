@@ -18,19 +18,20 @@ use Rattle.show_clear.specs.Change.{ChangeFits, asked_event}
 use Rattle.show_clear.specs.declared.command.Command.{Command}
 use Rattle.show_clear.specs.declared.command.Change.TheVariants.{Clear, AddFilter}
 use Rattle.show_clear.specs.declared.command.Command.TheVariants.{Ask, Change as Changes}
-use Rattle.hub.proofs.Fronts.{prefix_self, prefix_trans}
+use Rattle.hub.proofs.Fronts.{prefix_trans}
 use Rattle.hub.proofs.Rolling.{fits_at}
 use Rattle.hub.specs.History.{Beginning, own}
 use Rattle.hub.specs.Posts.{Follows}
 use Rattle.hub.specs.Roll.{MayPost}
 use Rattle.hub.specs.Views.{IsBookOf, Seeing}
 use Rattle.hub.specs.declared.faults.PostFault.{PostFault}
+use Rattle.serve.proofs.Later.{follows_on, follows_self}
 use Rattle.serve.proofs.Kept.{kept_says}
 use Rattle.serve.proofs.Pieces.{none_in_both}
 use Rattle.serve.proofs.Works.{wrote_more, wrote_none}
 use Rattle.serve.specs.Commands.{AllAnswered, EndsCommands, HasNoEnd, IsCommandedUntil}
 use Rattle.serve.specs.Commands.{IsCommandedWhole, IsReply, LastCutShort, LaterRefused, Replies}
-use Rattle.serve.specs.Commands.{Reply, ShowsTold, changes_in, lines_in, texts_in}
+use Rattle.serve.specs.Commands.{Reply, ShowsTold, changes_in, lines_in, seen_by, texts_in}
 use Rattle.serve.specs.Commanding.{HasLearned, HasLooked, HasObeyed, ObeysTo, Stops, Works}
 use Rattle.serve.specs.Commanding.{kept_of, reply_of}
 use Rattle.serve.specs.Faults.{cause_of_line}
@@ -86,15 +87,6 @@ change_may_post hub seen book (Some what) follows stands may =
 
 -- ---- later lists
 
-pub follows_self : (b : Beginning) → Follows b b
-follows_self b = record { same = refl; events = prefix_self b.events }
-
-pub follows_on : (a b c : Beginning) → Follows a b → Follows b c → Follows a c
-follows_on a b c p q = record {
-  same = q.same ∙ ap (λ (x : Beginning). record x { events = c.events }) p.same;
-  events = prefix_trans a.events b.events c.events p.events q.events;
-}
-
 -- a lens that was just made
 pub lens_follows : (hub : Beginning) (lens : Seeing) → lens ≡ record { seen = hub; inside = false }
     → Follows hub lens.seen
@@ -129,7 +121,7 @@ shows_last seat whats (Some list) seen tells follows =
 -- nothing was told
 pub learned_none : (hub : Beginning) (seat : ℕ) (worker : Worker) → worker.desk.pass.seat ≡ seat
     → Follows hub worker.lens.seen
-    → HasTold hub worker.desk [] 0 → HasLearned hub seat worker []
+    → HasTold hub worker.desk [] 0 → HasLearned hub hub seat worker []
 learned_none hub seat worker at sees told = record {
   at = at;
   sees = sees;
@@ -139,32 +131,46 @@ learned_none hub seat worker at sees told = record {
 }
 
 -- its lens has seen more
-pub learned_later : (hub : Beginning) (seat : ℕ) (old new : Worker) (whats : List What)
+pub learned_later : (hub since : Beginning) (seat : ℕ) (old new : Worker) (whats : List What)
     → new.desk ≡ old.desk
-    → Follows old.lens.seen new.lens.seen → HasLearned hub seat old whats
-    → HasLearned hub seat new whats
-learned_later hub seat old new whats desk later learned = record {
+    → Follows old.lens.seen new.lens.seen → HasLearned hub since seat old whats
+    → HasLearned hub since seat new whats
+learned_later hub since seat old new whats desk later learned = record {
   at = ap (λ (d : Desk). d.pass.seat) desk ∙ learned.at;
-  sees = follows_on hub old.lens.seen new.lens.seen learned.sees later;
+  sees = follows_on since old.lens.seen new.lens.seen learned.sees later;
   told = subst (λ (d : Desk). HasTold hub d whats 0) (sym desk) learned.told;
   shows = shows_on seat whats old.lens.seen new.lens.seen learned.shows later;
 }
 
-pub learned_same : (hub : Beginning) (seat : ℕ) (old new : Worker) (whats : List What)
+pub learned_same : (hub since : Beginning) (seat : ℕ) (old new : Worker) (whats : List What)
     → new.desk ≡ old.desk
-    → new.lens.seen ≡ old.lens.seen → HasLearned hub seat old whats → HasLearned hub seat new whats
-learned_same hub seat old new whats desk lens learned =
-    learned_later hub seat old new whats desk (subst (λ (b : Beginning). Follows old.lens.seen b)
-    (sym lens) (follows_self old.lens.seen)) learned
+    → new.lens.seen ≡ old.lens.seen → HasLearned hub since seat old whats
+    → HasLearned hub since seat new whats
+learned_same hub since seat old new whats desk lens learned =
+    learned_later hub since seat old new whats desk
+    (subst (λ (b : Beginning). Follows old.lens.seen b) (sym lens) (follows_self old.lens.seen))
+    learned
+
+-- what its lens has seen begins with itself
+learned_here : (hub since : Beginning) (seat : ℕ) (worker : Worker) (whats : List What)
+    → HasLearned hub since seat worker whats → HasLearned hub worker.lens.seen seat worker whats
+learned_here hub since seat worker whats learned = record {
+  at = learned.at;
+  sees = follows_self worker.lens.seen;
+  told = learned.told;
+  shows = learned.shows;
+}
 
 -- what was told is learned
-pub learned_more : (hub : Beginning) (seat : ℕ) (old new : Worker) (whats : List What)
+pub learned_more : (hub since : Beginning) (seat : ℕ) (old new : Worker) (whats : List What)
     → new.desk.pass.seat ≡ seat
-    → Follows hub old.lens.seen → Follows old.lens.seen new.lens.seen → HasTold hub new.desk whats 0
-    → IfSome new.desk.last (λ list. Follows list new.lens.seen) → HasLearned hub seat new whats
-learned_more hub seat old new whats at sees kept told learned = record {
+    → Follows since old.lens.seen → Follows old.lens.seen new.lens.seen
+    → HasTold hub new.desk whats 0
+    → IfSome new.desk.last (λ list. Follows list new.lens.seen)
+    → HasLearned hub since seat new whats
+learned_more hub since seat old new whats at sees kept told learned = record {
   at = at;
-  sees = follows_on hub old.lens.seen new.lens.seen sees kept;
+  sees = follows_on since old.lens.seen new.lens.seen sees kept;
   told = told;
   shows = subst (λ (s : ℕ). ShowsTold s whats new.lens.seen) at
       (shows_last new.desk.pass.seat whats new.desk.last new.lens.seen told.last learned);
@@ -200,20 +206,20 @@ replied_kept book line change text says =
     ]
 
 -- a line that was answered over a look
-pub looked : (hub : Beginning) (seat : ℕ) (old new : Worker) (whats : List What) (line : List ℕ)
-    (book : State) (answered : Answered) (seen : Beginning)
+pub looked : (hub since : Beginning) (seat : ℕ) (old new : Worker) (whats : List What)
+    (line : List ℕ) (book : State) (answered : Answered) (seen : Beginning)
     → new.desk ≡ old.desk → new.lens.seen ≡ seen → Follows old.lens.seen seen → IsBookOf book seen
     → Replies book (kept_of line) answered.change answered.text.items → HasNoEnd line
-    → HasLearned hub seat old whats
-    → HasLooked hub seat new whats line answered
-looked hub seat old new whats line book answered seen desk same later stands says whole learned =
-    let now : HasLearned hub seat new whats =
-    learned_later hub seat old new whats desk (subst (λ (b : Beginning). Follows old.lens.seen b)
-    (sym same) later) learned in record {
-      learned = now;
+    → HasLearned hub since seat old whats
+    → HasLooked hub since seat new whats line answered
+looked hub since seat old new whats line book answered seen desk same later stands says whole
+    learned =
+    let now : HasLearned hub since seat new whats =
+    learned_later hub since seat old new whats desk
+    (subst (λ (b : Beginning). Follows old.lens.seen b) (sym same) later) learned in record {
+      learned = learned_here hub since seat new whats now;
       is = record {
         whole = whole;
-        seen = new.lens.seen;
         follows = now.sees;
         shows = now.shows;
         book = book;
@@ -349,7 +355,8 @@ works_alike hub seat old new rest start now desk lens line w = record {
   replies = w.replies;
   line = w.line;
   are = w.are;
-  learned = learned_same hub seat old new (changes_in w.replies) desk lens w.learned;
+  learned = learned_same hub (seen_by hub w.replies) seat old new (changes_in w.replies) desk lens
+      w.learned;
   keeps = line ∙ w.keeps;
   unended = w.unended;
   carried = w.carried;
@@ -358,7 +365,7 @@ works_alike hub seat old new rest start now desk lens line w = record {
 -- an admin that has read nothing
 pub works_none : (hub : Beginning) (seat : ℕ) (worker : Worker) (start : Traffic)
     → worker.line.bytes.items ≡ []
-    → HasLearned hub seat worker [] → Works hub seat worker [] start start
+    → HasLearned hub hub seat worker [] → Works hub seat worker [] start start
 works_none hub seat worker start line learned = record {
   replies = [];
   line = [];
@@ -397,7 +404,8 @@ works_kept hub seat old new rest start now desk lens whole keeps w = record {
   replies = w.replies;
   line = w.line ++ rest;
   are = w.are;
-  learned = learned_same hub seat old new (changes_in w.replies) desk lens w.learned;
+  learned = learned_same hub (seen_by hub w.replies) seat old new (changes_in w.replies) desk lens
+      w.learned;
   keeps = keeps w.line w.keeps;
   unended = none_in_both w.line rest w.unended whole;
   carried = record {
@@ -413,7 +421,8 @@ pub works_obeyed : (hub : Beginning) (seat : ℕ) (old mid new : Worker) (bytes 
     (reply : Reply) → new.desk ≡ mid.desk → new.lens.seen ≡ mid.lens.seen
     → new.line.bytes.items ≡ []
     → (w : Works hub seat old (bytes ++ 10 ∷ rest) start (so_far given before))
-    → HasObeyed hub seat mid (changes_in w.replies) (w.line ++ bytes) reply
+    → HasObeyed hub (seen_by hub w.replies) seat mid (changes_in w.replies) (w.line ++ bytes)
+    reply
     → Appends before after reply.text
     → Works hub seat new rest start (so_far given after)
 works_obeyed hub seat old mid new bytes rest start given before after reply desk lens
@@ -421,8 +430,8 @@ works_obeyed hub seat old mid new bytes rest start given before after reply desk
       replies = reply ∷ w.replies;
       line = [];
       are = (obeyed.is, w.are);
-      learned = learned_same hub seat mid new (changes_in (reply ∷ w.replies)) desk lens
-          obeyed.learned;
+      learned = learned_same hub reply.seen seat mid new (changes_in (reply ∷ w.replies)) desk
+          lens obeyed.learned;
       keeps = cleared;
       unended = refl;
       carried = record {
@@ -438,7 +447,8 @@ works_obeyed hub seat old mid new bytes rest start given before after reply desk
 pub stops_cut : (hub : Beginning) (seat : ℕ) (old new : Worker) (bytes rest : List ℕ)
     (start : Traffic) (given before after : Option (List ℕ))
     (reply : Reply) → (w : Works hub seat old (bytes ++ 10 ∷ rest) start (so_far given before))
-    → HasObeyed hub seat new (changes_in w.replies) (w.line ++ bytes) reply
+    → HasObeyed hub (seen_by hub w.replies) seat new (changes_in w.replies) (w.line ++ bytes)
+    reply
     → WroteFront before after reply.text
     → Stops hub seat new start (so_far given after) Write
 stops_cut hub seat old new bytes rest start given before after reply w obeyed wrote =
@@ -468,7 +478,8 @@ stops_cut hub seat old new bytes rest start given before after reply w obeyed wr
 pub stops_obeying : (hub : Beginning) (seat : ℕ) (old new : Worker) (bytes rest : List ℕ)
     (start : Traffic) (given before after : Option (List ℕ))
     (fault : LineFault) → (w : Works hub seat old (bytes ++ 10 ∷ rest) start (so_far given before))
-    → ObeysTo hub seat new (changes_in w.replies) (w.line ++ bytes) before after (Err fault)
+    → ObeysTo hub (seen_by hub w.replies) seat new (changes_in w.replies) (w.line ++ bytes) before
+    after (Err fault)
     → Stops hub seat new start (so_far given after) (cause_of_line fault)
 stops_obeying hub seat old new bytes rest start given before after faults.Write w obeys =
     stops_cut hub seat old new bytes rest start given before after obeys.0 w obeys.1 obeys.2
@@ -493,20 +504,20 @@ obeys_unlooked hub desk whats wrote fault none told = (
 )
 
 -- a line whose change was told
-pub has_obeyed : (hub : Beginning) (seat : ℕ) (worker : Worker) (whats : List What)
-    (line : List ℕ) (change : Option What) (text : List ℕ)
-    → IsReply hub seat whats (reply_of line change text)
-    → HasLearned hub seat worker (whats ++ option_to_list change)
-    → HasObeyed hub seat worker whats line (reply_of line change text)
-has_obeyed hub seat worker whats line change text is learned =
+pub has_obeyed : (hub since : Beginning) (seat : ℕ) (worker : Worker) (whats : List What)
+    (line : List ℕ) (change : Option What) (text : List ℕ) (seen : Beginning)
+    → IsReply since seat whats (reply_of line change text seen)
+    → HasLearned hub seen seat worker (whats ++ option_to_list change)
+    → HasObeyed hub since seat worker whats line (reply_of line change text seen)
+has_obeyed hub since seat worker whats line change text seen is learned =
     record { answers = refl; is = is; learned = learned }
 
 -- nothing is asked for
-pub changes_none : (hub : Beginning) (seat : ℕ) (worker : Worker) (whats : List What)
-    → HasLearned hub seat worker whats
-    → HasLearned hub seat worker (whats ++ [])
-changes_none hub seat worker whats learned =
-    subst (λ (ws : List What). HasLearned hub seat worker ws) (sym (append-nil whats)) learned
+pub changes_none : (hub since : Beginning) (seat : ℕ) (worker : Worker) (whats : List What)
+    → HasLearned hub since seat worker whats
+    → HasLearned hub since seat worker (whats ++ [])
+changes_none hub since seat worker whats learned =
+    subst (λ (ws : List What). HasLearned hub since seat worker ws) (sym (append-nil whats)) learned
 
 -- ---- what the receipts show at the end
 
@@ -573,7 +584,7 @@ ends_served hub seat Told Shown bytes written Look f ends =
 pub commanded_whole : (hub : Beginning) (seat : ℕ) (worker : Worker)
     (start now : Traffic) (served : Served)
     → ((whats : List What) (waiting : ℕ) → HasTold hub worker.desk whats waiting
-    → IsServed seat whats waiting served)
+    → IsServed hub seat whats waiting served)
     → Works hub seat worker [] start now
     → IsCommandedWhole hub seat start now served
 commanded_whole hub seat worker start now served f w =
@@ -582,14 +593,14 @@ commanded_whole hub seat worker start now served f w =
       written = stops.written;
       carried = stops.carried;
       ends = all_served hub seat (HasTold hub worker.desk)
-          (λ whats waiting. IsServed seat whats waiting served) stops.bytes
+          (λ whats waiting. IsServed hub seat whats waiting served) stops.bytes
           stops.written f stops.ends;
     }
 
 pub commanded_until : (hub : Beginning) (seat : ℕ) (worker : Worker)
     (start now : Traffic) (faulted : Faulted)
     → ((whats : List What) (waiting : ℕ) → HasTold hub worker.desk whats waiting
-    → IsServed seat whats waiting faulted.served)
+    → IsServed hub seat whats waiting faulted.served)
     → Stops hub seat worker start now faulted.cause → IsCommandedUntil hub seat
     start now faulted
 commanded_until hub seat worker start now faulted f stops = record {
@@ -597,6 +608,6 @@ commanded_until hub seat worker start now faulted f stops = record {
   written = stops.written;
   carried = stops.carried;
   ends = ends_served hub seat (HasTold hub worker.desk)
-      (λ whats waiting. IsServed seat whats waiting faulted.served) stops.bytes stops.written
+      (λ whats waiting. IsServed hub seat whats waiting faulted.served) stops.bytes stops.written
       faulted.cause f stops.ends;
 }

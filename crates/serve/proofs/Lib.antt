@@ -1,3 +1,5 @@
+pub mod Ends
+pub mod Later
 pub mod Owns
 pub mod Facts
 pub mod Works

@@ -13,8 +13,9 @@ use Rattle.hub.specs.History.{Beginning, longer_by, own}
 use Rattle.hub.specs.declared.faults.PostFault.{PostFault}
 use Rattle.hub.specs.declared.faults.PostFault.TheVariants.{Replaced, NotNext, NoMemory, Pending}
 use Rattle.hub.specs.declared.faults.PostFault.TheVariants.{Spent}
-use Rattle.hub.specs.Posts.{PostRefused, PostsAfter, Seated, ShowsBatch, advanced}
+use Rattle.hub.specs.Posts.{Follows, PostRefused, PostsAfter, Seated, ShowsBatch, advanced}
 use Rattle.serve.specs.declared.desk.Desk.{Desk}
+use Rattle.serve.proofs.Later.{follows_on}
 use Rattle.serve.specs.Told.{HasTold, IsLeft, Tells, stored_of}
 
 same_seat : (seat : ℕ) → (seat == seat) ≡ true
@@ -124,10 +125,22 @@ left_shown p whats waiting (Some shown) tells number shows =
 abbrev pub desk_of : Seated → Option Beginning → Desk
 desk_of pass last = record { pass = pass; last = last }
 
-pub same_log : (p : Seated) (shown : Beginning) (batch : List What) → ShowsBatch p batch shown
-    → shown.of ≡ p.seen.of
-same_log p shown batch shows = ap (λ (b : Beginning). b.of) shows.posted
-    ∙ ap (λ (b : Beginning). b.of) shows.seen.same
+-- a list that shows a batch of a pass of a hub is of its history
+pub shown_follows : (hub : Beginning) (p : Seated) (shown : Beginning) (batch : List What)
+    → Follows hub p.seen → ShowsBatch p batch shown → Follows hub shown
+shown_follows hub p shown batch seen shows =
+    let made = numbered p.seat p.number batch in
+    let before = follows_on hub p.seen shows.before seen shows.seen in
+    subst (λ (b : Beginning). Follows hub b) (sym shows.posted)
+    (follows_on hub shows.before (longer_by shows.before made) before
+    (record { same = refl; events = (made, refl) }))
+
+-- the same of a leave, if it shows something
+pub left_follows : (hub : Beginning) (p : Seated) (shown : Option Beginning)
+    → Follows hub p.seen
+    → IfSome shown (ShowsBatch p (Leave ∷ [])) → IfSome shown (Follows hub)
+left_follows hub p None seen shows = tt
+left_follows hub p (Some shown) seen shows = shown_follows hub p shown (Leave ∷ []) seen shows
 
 -- a desk after a post
 pub posted : (hub : Beginning) (p q : Seated) (last : Option Beginning) (whats batch : List What)
@@ -145,10 +158,11 @@ posted hub p q last whats batch shown told after =
     let number : p.number + length batch ≡ 1 + length (whats ++ batch) + 0 = let n = told.number in
     omega (arith, length-append whats batch) in
     let done : HasTold hub made_of (whats ++ batch) 0 = record {
-      of = same_log p shown batch after.0 ∙ told.of;
+      seen = shown_follows hub p shown batch told.seen after.0;
       number = number;
       tells = tells;
       last = tells;
+      shown = shown_follows hub p shown batch told.seen after.0;
     } in
     subst (λ (r : Seated). HasTold hub (desk_of r (Some shown)) (whats ++ batch) 0)
     (sym after.1) done
@@ -172,10 +186,11 @@ refused hub p q last whats batch (NoMemory back) told why = same_told hub p q la
 refused hub p q last whats batch Pending told why =
     let done : HasTold hub (desk_of (advanced p (length batch)) last) whats (length batch) =
     record {
-      of = told.of;
+      seen = told.seen;
       number = let n = told.number in omega arith;
       tells = told.tells;
       last = told.last;
+      shown = told.shown;
     } in
     subst (λ (r : Seated). HasTold hub (desk_of r last) whats (length batch)) (sym why) done
 refused hub p q last whats batch Spent told why = same_told hub p q last whats told why.0

@@ -52,8 +52,9 @@ timed_refused hub gives old new waiting timed f = record {
 -- what a timer's receipts show once its pass was given back
 pub timed_served : (hub : Beginning) (gives : ℕ → Type 0) (desk : Desk) (seat waiting : ℕ)
     (served : Served) → HasTimed hub gives desk waiting
-    → ((whats : List What) → HasTold hub desk whats waiting → IsServed seat whats waiting served)
-    → IsTimed gives seat waiting served
+    → ((whats : List What) → HasTold hub desk whats waiting
+    → IsServed hub seat whats waiting served)
+    → IsTimed hub gives seat waiting served
 timed_served hub gives desk seat waiting served timed f = record {
   moments = timed.moments;
   are = timed.are;
@@ -61,9 +62,9 @@ timed_served hub gives desk seat waiting served timed f = record {
 }
 
 -- how a timer ended, whatever its seat
-pub was_timed : (gives : ℕ → Type 0) (seat : ℕ) (ended : Result Served Faulted)
-    → IfOk ended (IsTimed gives seat 0)
-    → IfErr ended (λ faulted. IsTimed gives seat (stored_by faulted.cause) faulted.served)
+pub was_timed : (hub : Beginning) (gives : ℕ → Type 0) (seat : ℕ) (ended : Result Served Faulted)
+    → IfOk ended (IsTimed hub gives seat 0)
+    → IfErr ended (λ faulted. IsTimed hub gives seat (stored_by faulted.cause) faulted.served)
     → WasTimed gives ended
-was_timed gives seat (Ok served) ok err = record { seat = seat; how = ok }
-was_timed gives seat (Err faulted) ok err = record { seat = seat; how = err }
+was_timed hub gives seat (Ok served) ok err = record { hub = hub; seat = seat; how = ok }
+was_timed hub gives seat (Err faulted) ok err = record { hub = hub; seat = seat; how = err }

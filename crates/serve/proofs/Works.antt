@@ -16,6 +16,7 @@ use Rattle.session_core.specs.Talk.{Grows, Talk, acks_among, stage_of, talk}
 use Rattle.session_core.specs.TalkAnswers.{FaultAnswersTalk, ContinuesTalk}
 use Rattle.session_core.specs.declared.stage.Stage.{Stage}
 use Rattle.hub.specs.History.{Beginning}
+use Rattle.serve.proofs.Ends.{never_late}
 use Rattle.serve.specs.declared.desk.Desk.{Desk}
 use Rattle.serve.specs.declared.faults.AnswerFault.{AnswerFault}
 use Rattle.serve.specs.declared.faults.AnswerFault.TheVariants as answers
@@ -27,7 +28,7 @@ use Rattle.serve.specs.declared.worker.Worker.{Worker}
 use Rattle.std.specs.Io.KnownBytes.{Appends, Keeps}
 use Rattle.serve.specs.Faults.{cause_of_turn, turn_fault_of}
 use Rattle.serve.specs.Told.{stored_of}
-use Rattle.serve.specs.Traffic.{Traffic, so_far}
+use Rattle.serve.specs.Traffic.{Advances, Traffic, so_far}
 use Rattle.serve.specs.Turns.{DeskTells, EndsBy, EndsBySession, IsDeskOf, IsAnswered, IsRefused}
 use Rattle.serve.specs.Turns.{SeatIsServed, WroteFront, answer_at, answers_in, facts_in, heartbeat}
 use Rattle.serve.specs.Turns.{said_beyond, taken_in}
@@ -77,12 +78,13 @@ TookIt causes.NoMemory = ⊥
 
 by_session : (setup : Setup) (seated : Bool) (Told : List What → ℕ → Type 0)
     (bytes written : List ℕ) (cause : SessionCause) → TookIt cause
-    → IsAnswered setup seated Told bytes written
+    → IsAnswered setup seated Told (Some cause) bytes written
     → EndsBySession setup seated Told bytes written cause
 by_session setup seated Told bytes written (causes.Refused status) took is = is
 by_session setup seated Told bytes written (causes.Wire wire) took is = is
 by_session setup seated Told bytes written causes.PeerError took is = is
-by_session setup seated Told bytes written causes.TimedOut took is = is
+by_session setup seated Told bytes written causes.TimedOut took is =
+    absurd (never_late setup seated bytes is.ends)
 by_session setup seated Told bytes written causes.NoMemory took is = absurd took
 
 pub took_it : (cause : SessionCause) → (cause ≡ causes.NoMemory → ⊥) → TookIt cause
@@ -151,25 +153,6 @@ seat_kept causes.TimedOut batch old new piece now setup seated stage is =
 seat_kept causes.NoMemory batch old new piece now setup seated stage is =
     ap (λ (s : SessionState). s.seated) is.1
 
--- a session that works stops for a reason of its own
-pub stops_by_session : (hub : Beginning) (seated : Bool) (worker : Worker)
-    (start now : Traffic) (cause : SessionCause) → TookIt cause
-    → Works hub seated worker start now
-    → Stops hub seated worker start now (Session cause)
-stops_by_session hub seated worker start now cause took w =
-    let setup : Setup = setup_of hub.config in record {
-      bytes = taken_in w.turns;
-      written = answers_in setup seated w.turns;
-      carried = w.carried;
-      ends = by_session setup seated (DeskTells hub worker.desk) (taken_in w.turns)
-          (answers_in setup seated w.turns) cause took (record {
-            turns = w.turns;
-            read = refl;
-            told = w.work.told;
-            answered = refl;
-          });
-    }
-
 -- a session that works stops, since a read failed
 pub stops_by_read : (hub : Beginning) (seated : Bool) (worker : Worker)
     (start now : Traffic)
@@ -180,7 +163,13 @@ stops_by_read hub seated worker start now w =
       bytes = taken_in w.turns;
       written = answers_in setup seated w.turns;
       carried = w.carried;
-      ends = record { turns = w.turns; read = refl; told = w.work.told; answered = refl };
+      ends = record {
+        turns = w.turns;
+        read = refl;
+        ends = w.work.goes_on;
+        told = w.work.told;
+        answered = refl;
+      };
     }
 
 -- the same worker, after a read that gave nothing
@@ -215,6 +204,7 @@ stops_for_memory hub seated old new start given after taken piece gives desk w =
       ends = record {
         turns = w.turns;
         piece = piece;
+        goes_on = w.work.goes_on;
         read = refl;
         told = subst (λ d. DeskTells hub d (facts_in setup seated w.turns) 0)
             (sym desk) w.work.told;
@@ -222,35 +212,76 @@ stops_for_memory hub seated old new start given after taken piece gives desk w =
       };
     }
 
--- a session whose batch was settled
+-- what was read and written once a piece was taken and its batch settled
+carried_on : (hub : Beginning) (seated : Bool) (old : Worker) (start : Traffic)
+    (given after taken more : Option (List ℕ)) (piece : List ℕ) (batch : Batched)
+    → Appends given after piece
+    → (w : Works hub seated old start (so_far given taken))
+    → Grows (setup_of hub.config) (talk (setup_of hub.config) seated (taken_in w.turns))
+    (talk (setup_of hub.config) seated (taken_in w.turns ++ piece)) batch
+    → Appends taken more (batch.replies ++ batch.acks)
+    → Advances start (so_far after more) (taken_in (Some piece ∷ w.turns))
+    (answers_in (setup_of hub.config) seated (Some piece ∷ w.turns))
+carried_on hub seated old start given after taken more piece batch gives w grows wrote =
+    let setup : Setup = setup_of hub.config in
+    let says : answer_at setup seated w.turns (Some piece) ≡ batch.replies ++ batch.acks =
+    says_beyond setup (talk setup seated (taken_in w.turns))
+    (talk setup seated (taken_in w.turns ++ piece)) batch grows in record {
+      gave = wrote_more start.given given after (taken_in w.turns) piece w.carried.gave gives;
+      took = wrote_more start.taken taken more (answers_in setup seated w.turns)
+          (answer_at setup seated w.turns (Some piece)) w.carried.took
+          (subst (λ bytes. Appends taken more bytes) (sym says) wrote);
+    }
+
+-- a session whose batch was settled, and whose talk goes on
 pub settled : (hub : Beginning) (seated : Bool) (old new : Worker)
     (start : Traffic) (given after taken more : Option (List ℕ)) (piece : List ℕ) (batch : Batched)
-    (end : Option SessionCause) → Appends given after piece
+    → Appends given after piece
     → (w : Works hub seated old start (so_far given taken))
-    → ContinuesTalk (setup_of hub.config) seated (taken_in w.turns) piece batch end
+    → ContinuesTalk (setup_of hub.config) seated (taken_in w.turns) piece batch None
     new.session.stage
     → new.session.seated ≡ seated
     → DeskTells hub new.desk (facts_in (setup_of hub.config) seated w.turns ++ batch.facts) 0
     → Appends taken more (batch.replies ++ batch.acks)
     → Works hub seated new start (so_far after more)
-settled hub seated old new start given after taken more piece batch end gives w
-    stands same told wrote =
-    let setup : Setup = setup_of hub.config in
-    let says : answer_at setup seated w.turns (Some piece) ≡ batch.replies ++ batch.acks =
-    says_beyond setup (talk setup seated (taken_in w.turns))
-    (talk setup seated (taken_in w.turns ++ piece)) batch stands.grows in record {
+settled hub seated old new start given after taken more piece batch gives w stands same told
+    wrote = record {
       turns = Some piece ∷ w.turns;
       work = record {
         has_seat = same;
         stands = stands.stands;
+        goes_on = stands.ends;
         told = subst (λ facts. DeskTells hub new.desk facts 0) (sym stands.grows.facts) told;
       };
-      carried = record {
-        gave = wrote_more start.given given after (taken_in w.turns) piece w.carried.gave gives;
-        took = wrote_more start.taken taken more (answers_in setup seated w.turns)
-            (answer_at setup seated w.turns (Some piece)) w.carried.took
-            (subst (λ bytes. Appends taken more bytes) (sym says) wrote);
-      };
+      carried = carried_on hub seated old start given after taken more piece batch gives w
+          stands.grows wrote;
+    }
+
+-- a session whose last batch was settled, and whose talk has ended
+stops_settled : (hub : Beginning) (seated : Bool) (old new : Worker)
+    (start : Traffic) (given after taken more : Option (List ℕ)) (piece : List ℕ) (batch : Batched)
+    (cause : SessionCause) → TookIt cause → Appends given after piece
+    → (w : Works hub seated old start (so_far given taken))
+    → ContinuesTalk (setup_of hub.config) seated (taken_in w.turns) piece batch (Some cause)
+    new.session.stage
+    → DeskTells hub new.desk (facts_in (setup_of hub.config) seated w.turns ++ batch.facts) 0
+    → Appends taken more (batch.replies ++ batch.acks)
+    → Stops hub seated new start (so_far after more) (Session cause)
+stops_settled hub seated old new start given after taken more piece batch cause took gives w
+    stands told wrote =
+    let setup : Setup = setup_of hub.config in record {
+      bytes = taken_in (Some piece ∷ w.turns);
+      written = answers_in setup seated (Some piece ∷ w.turns);
+      carried = carried_on hub seated old start given after taken more piece batch gives w
+          stands.grows wrote;
+      ends = by_session setup seated (DeskTells hub new.desk) (taken_in (Some piece ∷ w.turns))
+          (answers_in setup seated (Some piece ∷ w.turns)) cause took (record {
+            turns = Some piece ∷ w.turns;
+            read = refl;
+            ends = stands.ends;
+            told = subst (λ facts. DeskTells hub new.desk facts 0) (sym stands.grows.facts) told;
+            answered = refl;
+          });
     }
 
 -- a session whose batch couldn't be settled
@@ -281,6 +312,7 @@ unsettled A hub seated old new start given after taken more piece batch end answ
         last = Some piece;
         front = settles.1.front;
         rest = settles.1.rest;
+        goes_on = w.work.goes_on;
         read = refl;
         told = subst (λ facts. DeskTells hub new.desk facts 0) (sym stands.grows.facts) settles.0;
         answer = says ∙ settles.1.split;
@@ -306,6 +338,7 @@ unsettled A hub seated old new start given after taken more piece batch end
       ends = record {
         turns = w.turns;
         piece = piece;
+        goes_on = w.work.goes_on;
         read = refl;
         told = subst (λ n. DeskTells hub new.desk (facts_in setup seated w.turns)
             (stored_of fault n)) (sym count) settles.0;
@@ -344,15 +377,24 @@ stops_at_start hub seated worker start work = record {
     gave = wrote_none start.given;
     took = wrote_none start.taken;
   };
-  ends = record { turns = []; piece = []; read = refl; told = work.told; answered = refl };
+  ends = record {
+    turns = [];
+    piece = [];
+    goes_on = work.goes_on;
+    read = refl;
+    told = work.told;
+    answered = refl;
+  };
 }
 
 answered_as : (setup : Setup) (seated : Bool) (P Q : List What → ℕ → Type 0)
-    (bytes written : List ℕ) → ((whats : List What) (n : ℕ) → P whats n → Q whats n)
-    → IsAnswered setup seated P bytes written → IsAnswered setup seated Q bytes written
-answered_as setup seated P Q bytes written f is = record {
+    (end : Option SessionCause) (bytes written : List ℕ)
+    → ((whats : List What) (n : ℕ) → P whats n → Q whats n)
+    → IsAnswered setup seated P end bytes written → IsAnswered setup seated Q end bytes written
+answered_as setup seated P Q end bytes written f is = record {
   turns = is.turns;
   read = is.read;
+  ends = is.ends;
   told = f (facts_in setup seated is.turns) 0 is.told;
   answered = is.answered;
 }
@@ -363,6 +405,7 @@ refused_as : (setup : Setup) (seated : Bool) (P Q : List What → ℕ → Type 0
 refused_as setup seated P Q bytes written stored f is = record {
   turns = is.turns;
   piece = is.piece;
+  goes_on = is.goes_on;
   read = is.read;
   told = f (facts_in setup seated is.turns)
       (stored (length (talk setup seated bytes).facts - length (facts_in setup seated is.turns)))
@@ -376,25 +419,27 @@ by_session_as : (setup : Setup) (seated : Bool) (P Q : List What → ℕ → Typ
     → EndsBySession setup seated P bytes written cause → EndsBySession setup seated Q
     bytes written cause
 by_session_as setup seated P Q bytes written (causes.Refused status) f is =
-    answered_as setup seated P Q bytes written f is
+    answered_as setup seated P Q (Some (causes.Refused status)) bytes written f is
 by_session_as setup seated P Q bytes written (causes.Wire wire) f is =
-    answered_as setup seated P Q bytes written f is
+    answered_as setup seated P Q (Some (causes.Wire wire)) bytes written f is
 by_session_as setup seated P Q bytes written causes.PeerError f is =
-    answered_as setup seated P Q bytes written f is
+    answered_as setup seated P Q (Some causes.PeerError) bytes written f is
 by_session_as setup seated P Q bytes written causes.TimedOut f is =
-    answered_as setup seated P Q bytes written f is
+    answered_as setup seated P Q None bytes written f is
 by_session_as setup seated P Q bytes written causes.NoMemory f is =
     refused_as setup seated P Q bytes written (λ count. 0) f is
 
 ends_as : (setup : Setup) (seated : Bool) (P Q : List What → ℕ → Type 0) (bytes written : List ℕ)
     (cause : Cause) → ((whats : List What) (n : ℕ) → P whats n → Q whats n)
     → EndsBy setup seated P bytes written cause → EndsBy setup seated Q bytes written cause
-ends_as setup seated P Q bytes written Read f is = answered_as setup seated P Q bytes written f is
+ends_as setup seated P Q bytes written Read f is =
+    answered_as setup seated P Q None bytes written f is
 ends_as setup seated P Q bytes written Write f is = record {
   turns = is.turns;
   last = is.last;
   front = is.front;
   rest = is.rest;
+  goes_on = is.goes_on;
   read = is.read;
   told = f (facts_in setup seated (is.last ∷ is.turns)) 0 is.told;
   answer = is.answer;
@@ -410,7 +455,7 @@ ends_as setup seated P Q bytes written Look f is = absurd is
 pub served_whole : (hub : Beginning) (seated : Bool) (worker : Worker)
     (start now : Traffic) (seat : Option ℕ) (served : Served)
     → seated ≡ is_some seat → ((whats : List What) (n : ℕ) → DeskTells hub worker.desk whats n
-    → SeatIsServed seat served whats n)
+    → SeatIsServed hub seat served whats n)
     → Works hub seated worker start now
     → IsServedWhole hub seat start now served
 served_whole hub seated worker start now seat served same f w =
@@ -418,10 +463,11 @@ served_whole hub seated worker start now seat served same f w =
       bytes = taken_in w.turns;
       written = answers_in setup seated w.turns;
       carried = w.carried;
-      ends = subst (λ b. IsAnswered setup b (SeatIsServed seat served) (taken_in w.turns)
+      ends = subst (λ b. IsAnswered setup b (SeatIsServed hub seat served) None (taken_in w.turns)
           (answers_in setup seated w.turns)) same (record {
             turns = w.turns;
             read = refl;
+            ends = w.work.goes_on;
             told = f (facts_in setup seated w.turns) 0 w.work.told;
             answered = refl;
           });
@@ -430,7 +476,7 @@ served_whole hub seated worker start now seat served same f w =
 pub served_until : (hub : Beginning) (seated : Bool) (worker : Worker)
     (start now : Traffic) (seat : Option ℕ) (faulted : Faulted)
     → seated ≡ is_some seat → ((whats : List What) (n : ℕ) → DeskTells hub worker.desk whats n
-    → SeatIsServed seat faulted.served whats n)
+    → SeatIsServed hub seat faulted.served whats n)
     → Stops hub seated worker start now faulted.cause → IsServedUntil hub seat
     start now faulted
 served_until hub seated worker start now seat faulted same f s =
@@ -438,9 +484,9 @@ served_until hub seated worker start now seat faulted same f s =
       bytes = s.bytes;
       written = s.written;
       carried = s.carried;
-      ends = subst (λ b. EndsBy setup b (SeatIsServed seat faulted.served) s.bytes s.written
+      ends = subst (λ b. EndsBy setup b (SeatIsServed hub seat faulted.served) s.bytes s.written
           faulted.cause) same
-          (ends_as setup seated (DeskTells hub worker.desk) (SeatIsServed seat faulted.served)
+          (ends_as setup seated (DeskTells hub worker.desk) (SeatIsServed hub seat faulted.served)
           s.bytes s.written faulted.cause f s.ends);
     }
 
@@ -457,6 +503,7 @@ beaten hub seated old new start given taken more same stage desk w sends =
       work = record {
         has_seat = same ∙ w.work.has_seat;
         stands = stage ∙ w.work.stands;
+        goes_on = w.work.goes_on;
         told = subst (λ d. DeskTells hub d (facts_in setup seated w.turns) 0)
             (sym desk) w.work.told;
       };
@@ -486,6 +533,7 @@ unbeaten hub seated old new start given taken more desk w sends =
         last = None;
         front = sends.front;
         rest = sends.rest;
+        goes_on = w.work.goes_on;
         read = refl;
         told = subst (λ d. DeskTells hub d (facts_in setup seated w.turns) 0)
             (sym desk) w.work.told;
@@ -507,6 +555,7 @@ silenced hub seated old new start now desk w =
       ends = record {
         turns = w.turns;
         read = refl;
+        ends = w.work.goes_on;
         told = subst (λ d. DeskTells hub d (facts_in setup seated w.turns) 0)
             (sym desk) w.work.told;
         answered = refl;
@@ -525,6 +574,7 @@ works_still hub seated old new start now same stage desk w =
       work = record {
         has_seat = same ∙ w.work.has_seat;
         stands = stage ∙ w.work.stands;
+        goes_on = w.work.goes_on;
         told = subst (λ d. DeskTells hub d (facts_in setup seated w.turns) 0)
             (sym desk) w.work.told;
       };
@@ -554,9 +604,8 @@ ends_then : (hub : Beginning) (seated : Bool) (old new : Worker)
 ends_then hub seated old new start given after taken more piece fault (Ok cause) took
     gives w stands same ends =
     subst (λ cause. Stops hub seated new start (so_far after more) (Session cause)) (sym ends.is)
-    (stops_by_session hub seated new start (so_far after more) fault.cause took
-    (settled hub seated old new start given after taken more piece fault.batch
-    (Some fault.cause) gives w stands same ends.settles.0 ends.settles.1))
+    (stops_settled hub seated old new start given after taken more piece fault.batch fault.cause
+    took gives w stands ends.settles.0 ends.settles.1)
 ends_then hub seated old new start given after taken more piece fault (Err answer) took
     gives w stands same ends =
     unsettled SessionCause hub seated old new start given after taken more piece
@@ -603,7 +652,7 @@ ended_by hub seated old new start given after taken more piece fault result give
 desk_is_of : (hub : Beginning) (desk : Option Desk) (whats : List What) (n : ℕ)
     → DeskTells hub desk whats n → IsDeskOf hub desk
 desk_is_of hub None whats n told = tt
-desk_is_of hub (Some desk) whats n told = told.of
+desk_is_of hub (Some desk) whats n told = ap (λ (b : Beginning). b.of) told.seen.same
 
 desk_of_session : (hub : Beginning) (seated : Bool) (desk : Option Desk) (bytes written : List ℕ)
     (cause : SessionCause)

@@ -15,7 +15,7 @@ use Rattle.serve.specs.declared.faults.LineFault.{LineFault}
 use Rattle.serve.specs.declared.faults.LineFault.TheVariants.{Write, Post, Look}
 use Rattle.serve.specs.declared.served.Cause.{Cause}
 use Rattle.serve.specs.Commands.{AreReplies, EndsCommands, HasNoEnd, IsReply, Reply, ShowsTold}
-use Rattle.serve.specs.Commands.{changes_in, lines_in, texts_in}
+use Rattle.serve.specs.Commands.{changes_in, lines_in, seen_by, texts_in}
 use Rattle.serve.specs.Faults.{cause_of_line}
 use Rattle.serve.specs.Told.{HasTold, stored_of}
 use Rattle.serve.specs.Traffic.{Advances, Traffic, so_far}
@@ -31,11 +31,11 @@ abbrev pub kept_of : List ℕ → List ℕ
 kept_of line =
     take LONGEST_COMMAND_LINE line ++ option_to_list (text_byte (drop LONGEST_COMMAND_LINE line))
 
--- this was told at a seat, and what its lens has seen shows it
-pub record HasLearned (hub : Beginning) (seat : ℕ) (worker : Worker) (whats : List What)
+-- this was told at a seat, and what its lens has seen shows it, and begins with an earlier list
+pub record HasLearned (hub since : Beginning) (seat : ℕ) (worker : Worker) (whats : List What)
     : Type 0 where
   pub at : worker.desk.pass.seat ≡ seat
-  pub sees : Follows hub worker.lens.seen
+  pub sees : Follows since worker.lens.seen
   pub told : HasTold hub worker.desk whats 0
   pub shows : ShowsTold seat whats worker.lens.seen
 
@@ -51,48 +51,52 @@ pub record KeepsDesk (hub : Beginning) (old new : Worker) : Type 0 where
   pub seat : new.desk.pass.seat ≡ old.desk.pass.seat
 
 -- a line's reply
-abbrev pub reply_of : List ℕ → Option What → List ℕ → Reply
-reply_of line change text = record { line = line; change = change; text = text }
+abbrev pub reply_of : List ℕ → Option What → List ℕ → Beginning → Reply
+reply_of line change text seen =
+    record { line = line; change = change; text = text; seen = seen }
 
--- a line is answered
-pub record HasLooked (hub : Beginning) (seat : ℕ) (worker : Worker) (whats : List What)
+-- a line is answered over what its lens has seen
+pub record HasLooked (hub since : Beginning) (seat : ℕ) (worker : Worker) (whats : List What)
     (line : List ℕ) (answered : Answered) : Type 0 where
-  pub learned : HasLearned hub seat worker whats
-  pub is : IsReply hub seat whats (reply_of line answered.change answered.text.items)
+  pub learned : HasLearned hub worker.lens.seen seat worker whats
+  pub is : IsReply since seat whats
+      (reply_of line answered.change answered.text.items worker.lens.seen)
 
 -- the same, else no copy could be entered, or an allocation failed, and no more was told
-abbrev pub LooksTo : Beginning → ℕ → Worker → List What → List ℕ
+abbrev pub LooksTo : Beginning → Beginning → ℕ → Worker → List What → List ℕ
     → Result (Option Answered) NoMemory → Type 0
-LooksTo hub seat worker whats line (Ok (Some answered)) =
-    HasLooked hub seat worker whats line answered
-LooksTo hub seat worker whats line (Ok None) = HasTold hub worker.desk whats 0
-LooksTo hub seat worker whats line (Err want) = HasTold hub worker.desk whats 0
+LooksTo hub since seat worker whats line (Ok (Some answered)) =
+    HasLooked hub since seat worker whats line answered
+LooksTo hub since seat worker whats line (Ok None) = HasTold hub worker.desk whats 0
+LooksTo hub since seat worker whats line (Err want) = HasTold hub worker.desk whats 0
 
 -- what a line asks for is told behind what was told before it, and learned; or refused
-abbrev pub ChangesTo : Beginning → ℕ → Worker → List What → List What
+abbrev pub ChangesTo : Beginning → Beginning → ℕ → Worker → List What → List What
     → Result (Unit {0}) PostFault → Type 0
-ChangesTo hub seat worker whats batch (Ok done) = HasLearned hub seat worker (whats ++ batch)
-ChangesTo hub seat worker whats batch (Err fault) =
+ChangesTo hub since seat worker whats batch (Ok done) =
+    HasLearned hub since seat worker (whats ++ batch)
+ChangesTo hub since seat worker whats batch (Err fault) =
     HasTold hub worker.desk whats (stored_of fault 1)
 
 -- a line has a reply, and what it asks for was told and learned
-pub record HasObeyed (hub : Beginning) (seat : ℕ) (worker : Worker) (whats : List What)
+pub record HasObeyed (hub since : Beginning) (seat : ℕ) (worker : Worker) (whats : List What)
     (line : List ℕ) (reply : Reply) : Type 0 where
   pub answers : reply.line ≡ line
-  pub is : IsReply hub seat whats reply
-  pub learned : HasLearned hub seat worker (whats ++ option_to_list reply.change)
+  pub is : IsReply since seat whats reply
+  pub learned : HasLearned hub reply.seen seat worker (whats ++ option_to_list reply.change)
 
 -- its answer was written, or a beginning of it; or nothing of a line was told nor written
-abbrev pub ObeysTo : Beginning → ℕ → Worker → List What → List ℕ → Option (List ℕ)
+abbrev pub ObeysTo : Beginning → Beginning → ℕ → Worker → List What → List ℕ → Option (List ℕ)
     → Option (List ℕ) → Result (Unit {0}) LineFault → Type 0
-ObeysTo hub seat worker whats line before after (Ok done) =
-    (reply : Reply) × HasObeyed hub seat worker whats line reply × Appends before after reply.text
-ObeysTo hub seat worker whats line before after (Err Write) =
-    (reply : Reply) × HasObeyed hub seat worker whats line reply
+ObeysTo hub since seat worker whats line before after (Ok done) =
+    (reply : Reply) × HasObeyed hub since seat worker whats line reply
+    × Appends before after reply.text
+ObeysTo hub since seat worker whats line before after (Err Write) =
+    (reply : Reply) × HasObeyed hub since seat worker whats line reply
     × WroteFront before after reply.text
-ObeysTo hub seat worker whats line before after (Err (Post fault)) =
+ObeysTo hub since seat worker whats line before after (Err (Post fault)) =
     HasTold hub worker.desk whats (stored_of fault 1) × Appends before after []
-ObeysTo hub seat worker whats line before after (Err Look) =
+ObeysTo hub since seat worker whats line before after (Err Look) =
     HasTold hub worker.desk whats 0 × Appends before after []
 
 -- an admin at work, with what its source gave and its writer took since it began; so many bytes of
@@ -102,7 +106,7 @@ pub record Works (hub : Beginning) (seat : ℕ) (worker : Worker) (rest : List �
   pub replies : List Reply
   pub line : List ℕ
   pub are : AreReplies hub seat replies
-  pub learned : HasLearned hub seat worker (changes_in replies)
+  pub learned : HasLearned hub (seen_by hub replies) seat worker (changes_in replies)
   pub keeps : worker.line.bytes.items ≡ kept_of line
   pub unended : HasNoEnd line
   pub carried : Advances start now (lines_in replies ++ (line ++ rest)) (texts_in replies)

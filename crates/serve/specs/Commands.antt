@@ -56,26 +56,27 @@ pub record IsRefusedLine (book : State) (line : List ℕ) (change : Option What)
 abbrev pub Replies : State → List ℕ → Option What → List ℕ → Type 0
 Replies book line change text = IsObeyed book line change text ⊎ IsRefusedLine book line change text
 
--- a line without its LF, what it changed if it asked for a change, and the text that answers it
+-- a line without its LF, what it changed if it asked for a change, the text that answers it, and
+-- the list whose book answered
 pub record Reply : Type 0 where
   pub line : List ℕ
   pub change : Option What
   pub text : List ℕ
+  pub seen : Beginning
 
 -- a list shows what a seat told, if it told anything
 abbrev pub ShowsTold : ℕ → List What → Beginning → Type 0
 ShowsTold seat whats list = whats ≢ []
     → IsPrefix (numbered seat 0 (Sit ∷ whats)) (own seat list.events)
 
--- a line is answered over the book of some beginning of the hub's history, which shows all that its
--- seat told before
-pub record IsReply (hub : Beginning) (seat : ℕ) (told : List What) (reply : Reply) : Type 0 where
+-- a line is answered over the book of a list that begins with an earlier one, and shows all that
+-- its seat told before
+pub record IsReply (since : Beginning) (seat : ℕ) (told : List What) (reply : Reply) : Type 0 where
   pub whole : HasNoEnd reply.line
-  pub seen : Beginning
-  pub follows : Follows hub seen
-  pub shows : ShowsTold seat told seen
+  pub follows : Follows since reply.seen
+  pub shows : ShowsTold seat told reply.seen
   pub book : State
-  pub stands : IsBookOf book seen
+  pub stands : IsBookOf book reply.seen
   pub says : Replies book reply.line reply.change reply.text
 
 -- the lines that were answered, of which the newest reply is first, each with its LF
@@ -93,11 +94,16 @@ abbrev pub texts_in : List Reply → List ℕ
 texts_in [] = []
 texts_in (reply ∷ earlier) = texts_in earlier ++ reply.text
 
--- each line was answered behind what those before it changed
+-- the list that the newest reply is of, and the hub's before the first
+abbrev pub seen_by : Beginning → List Reply → Beginning
+seen_by hub [] = hub
+seen_by hub (reply ∷ earlier) = reply.seen
+
+-- each line was answered behind what those before it changed; their lists begin with one another
 abbrev pub AreReplies : Beginning → ℕ → List Reply → Type 0
 AreReplies hub seat [] = ⊤
 AreReplies hub seat (reply ∷ earlier) =
-    IsReply hub seat (changes_in earlier) reply × AreReplies hub seat earlier
+    IsReply (seen_by hub earlier) seat (changes_in earlier) reply × AreReplies hub seat earlier
 
 -- all lines that ended were answered, and what they changed was told; one that hasn't ended is
 -- dropped
@@ -153,7 +159,7 @@ pub record IsCommandedWhole (hub : Beginning) (seat : ℕ)
   pub bytes : List ℕ
   pub written : List ℕ
   pub carried : Advances start now bytes written
-  pub ends : AllAnswered hub seat (λ whats waiting. IsServed seat whats waiting served) bytes
+  pub ends : AllAnswered hub seat (λ whats waiting. IsServed hub seat whats waiting served) bytes
       written
 
 -- how an admin was served that ended for a cause
@@ -162,5 +168,5 @@ pub record IsCommandedUntil (hub : Beginning) (seat : ℕ)
   pub bytes : List ℕ
   pub written : List ℕ
   pub carried : Advances start now bytes written
-  pub ends : EndsCommands hub seat (λ whats waiting. IsServed seat whats waiting faulted.served)
+  pub ends : EndsCommands hub seat (λ whats waiting. IsServed hub seat whats waiting faulted.served)
       bytes written faulted.cause

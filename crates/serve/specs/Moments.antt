@@ -36,7 +36,8 @@ pub record HasTimed (hub : Beginning) (gives : ℕ → Type 0) (desk : Desk) (wa
   pub told : HasTold hub desk moments waiting
 
 -- what a timer's receipts show: moments of its clock, and so many events more
-pub record IsTimed (gives : ℕ → Type 0) (seat waiting : ℕ) (served : Served) : Type 0 where
+pub record IsTimed (hub : Beginning) (gives : ℕ → Type 0) (seat waiting : ℕ) (served : Served)
+    : Type 0 where
   pub moments : List What
   pub are : All (IsMomentOf gives) moments
-  pub shown : IsServed seat moments waiting served
+  pub shown : IsServed hub seat moments waiting served

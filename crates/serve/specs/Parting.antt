@@ -27,8 +27,9 @@ pub record WasCommanded (config : Config) (start now : Traffic)
   pub how : MatchResult ended (IsCommandedWhole hub seat start now)
       (IsCommandedUntil hub seat start now)
 
--- a timer told moments of a clock, at some seat
+-- a timer told a hub moments of a clock, at some seat
 pub record WasTimed (gives : ℕ → Type 0) (ended : Result Served Faulted) : Type 0 where
+  pub hub : Beginning
   pub seat : ℕ
-  pub how : MatchResult ended (IsTimed gives seat 0)
-      (λ faulted. IsTimed gives seat (stored_by faulted.cause) faulted.served)
+  pub how : MatchResult ended (IsTimed hub gives seat 0)
+      (λ faulted. IsTimed hub gives seat (stored_by faulted.cause) faulted.served)

@@ -9,6 +9,7 @@ use Rattle.hub.specs.declared.faults.PostFault.{PostFault}
 use Rattle.hub.specs.declared.faults.PostFault.TheVariants.{Replaced, NotNext, NoMemory, Pending}
 use Rattle.hub.specs.declared.faults.PostFault.TheVariants.{Spent}
 use Rattle.hub.specs.History.{Beginning, own}
+use Rattle.hub.specs.Posts.{Follows}
 use Rattle.serve.specs.declared.desk.Desk.{Desk}
 use Rattle.serve.specs.declared.served.Served.{Served}
 
@@ -21,12 +22,13 @@ abbrev pub TellsLast : ℕ → List What → Option Beginning → Type 0
 TellsLast seat whats last = MatchOption last (whats ≡ []) (Tells seat whats)
 
 -- a pass of this hub, and the last receipt of its posts, where this was told, and so many events
--- more are stored and not shown yet
+-- more are stored and not shown yet; what they have seen is of the hub's history
 pub record HasTold (hub : Beginning) (desk : Desk) (whats : List What) (waiting : ℕ) : Type 0 where
-  pub of : desk.pass.seen.of ≡ hub.of
+  pub seen : Follows hub desk.pass.seen
   pub number : desk.pass.number ≡ 1 + length whats + waiting
   pub tells : Tells desk.pass.seat whats desk.pass.seen
   pub last : TellsLast desk.pass.seat whats desk.last
+  pub shown : IfSome desk.last (Follows hub)
 
 -- how many events of a refused batch are stored all the same
 abbrev pub stored_of : PostFault → ℕ → ℕ
@@ -54,7 +56,10 @@ pub record IsLeft (seat : ℕ) (whats : List What) (waiting : ℕ) (list : Begin
   pub events : own seat list.events ≡ numbered seat 0 (Sit ∷ whats) ++ more
       ++ numbered seat (1 + length whats + waiting) (Leave ∷ [])
 
--- what a worker's receipts show of its seat
-pub record IsServed (seat : ℕ) (whats : List What) (waiting : ℕ) (served : Served) : Type 0 where
+-- what a worker's receipts show of its seat; their lists are of the hub's history
+pub record IsServed (hub : Beginning) (seat : ℕ) (whats : List What) (waiting : ℕ)
+    (served : Served) : Type 0 where
   pub last : TellsLast seat whats served.last
   pub left : IfSome served.left (IsLeft seat whats waiting)
+  pub last_shown : IfSome served.last (Follows hub)
+  pub left_shown : IfSome served.left (Follows hub)

@@ -6,6 +6,7 @@ use Rattle.std.specs.Io.KnownBytes.{Appends}
 use Rattle.agg_types.specs.declared.event.What.{What}
 use Rattle.session_core.specs.declared.cause.SessionCause.{SessionCause}
 use Rattle.session_core.specs.declared.cause.SessionCause.TheVariants as causes
+use Rattle.session_core.specs.Cause.{cause_of}
 use Rattle.session_core.specs.Piece.{Setup}
 use Rattle.session_core.specs.Talk.{Talk, acks_among, talk}
 use Rattle.hub.specs.History.{Beginning}
@@ -53,11 +54,16 @@ answers_in setup seated (turn ∷ earlier) =
 abbrev pub facts_in : Setup → Bool → List Turn → List What
 facts_in setup seated turns = (talk setup seated (taken_in turns)).facts
 
--- each turn was answered, and all facts were told
+-- the talk of these bytes has ended for this cause; at none it goes on
+abbrev pub TalkEnds : Setup → Bool → List ℕ → Option SessionCause → Type 0
+TalkEnds setup seated bytes end = option_map cause_of (talk setup seated bytes).end ≡ end
+
+-- each turn was answered, and all facts were told, up to this end of the talk if it came
 pub record IsAnswered (setup : Setup) (seated : Bool) (Told : List What → ℕ → Type 0)
-    (bytes written : List ℕ) : Type 0 where
+    (end : Option SessionCause) (bytes written : List ℕ) : Type 0 where
   pub turns : List Turn
   pub read : bytes ≡ taken_in turns
+  pub ends : TalkEnds setup seated bytes end
   pub told : Told (facts_in setup seated turns) 0
   pub answered : written ≡ answers_in setup seated turns
 
@@ -68,6 +74,7 @@ pub record IsCutShort (setup : Setup) (seated : Bool) (Told : List What → ℕ 
   pub last : Turn
   pub front : List ℕ
   pub rest : List ℕ
+  pub goes_on : TalkEnds setup seated (taken_in turns) None
   pub read : bytes ≡ taken_in (last ∷ turns)
   pub told : Told (facts_in setup seated (last ∷ turns)) 0
   pub answer : answer_at setup seated turns last ≡ front ++ rest
@@ -79,28 +86,30 @@ pub record IsRefused (setup : Setup) (seated : Bool) (Told : List What → ℕ �
     (bytes written : List ℕ) (stored : ℕ → ℕ) : Type 0 where
   pub turns : List Turn
   pub piece : List ℕ
+  pub goes_on : TalkEnds setup seated (taken_in turns) None
   pub read : bytes ≡ taken_in turns ++ piece
   pub told : Told (facts_in setup seated turns)
       (stored (length (talk setup seated bytes).facts - length (facts_in setup seated turns)))
   pub answered : written ≡ answers_in setup seated turns
 
--- how a session ends by its stream, by silence or out of memory
+-- how a session ends by its stream, by silence or out of memory: no end of a stream is invented,
+-- and none is passed over
 abbrev pub EndsBySession : Setup → Bool → (List What → ℕ → Type 0) → List ℕ → List ℕ → SessionCause
     → Type 0
 EndsBySession setup seated Told bytes written (causes.Refused status) =
-    IsAnswered setup seated Told bytes written
+    IsAnswered setup seated Told (Some (causes.Refused status)) bytes written
 EndsBySession setup seated Told bytes written (causes.Wire wire) =
-    IsAnswered setup seated Told bytes written
+    IsAnswered setup seated Told (Some (causes.Wire wire)) bytes written
 EndsBySession setup seated Told bytes written causes.PeerError =
-    IsAnswered setup seated Told bytes written
+    IsAnswered setup seated Told (Some causes.PeerError) bytes written
 EndsBySession setup seated Told bytes written causes.TimedOut =
-    IsAnswered setup seated Told bytes written
+    IsAnswered setup seated Told None bytes written
 EndsBySession setup seated Told bytes written causes.NoMemory =
     IsRefused setup seated Told bytes written (λ count. 0)
 
 -- how a session ends that read and wrote these bytes
 abbrev pub EndsBy : Setup → Bool → (List What → ℕ → Type 0) → List ℕ → List ℕ → Cause → Type 0
-EndsBy setup seated Told bytes written Read = IsAnswered setup seated Told bytes written
+EndsBy setup seated Told bytes written Read = IsAnswered setup seated Told None bytes written
 EndsBy setup seated Told bytes written Write = IsCutShort setup seated Told bytes written
 EndsBy setup seated Told bytes written (Session cause) =
     EndsBySession setup seated Told bytes written cause
@@ -122,10 +131,10 @@ abbrev pub IsDeskOf : Beginning → Option Desk → Type 0
 IsDeskOf hub desk = MatchOption desk (Unit {0}) (λ desk. desk.pass.seen.of ≡ hub.of)
 
 -- what the receipts of a session show; without a seat there are none
-abbrev pub SeatIsServed : Option ℕ → Served → List What → ℕ → Type 0
-SeatIsServed seat served whats waiting =
+abbrev pub SeatIsServed : Beginning → Option ℕ → Served → List What → ℕ → Type 0
+SeatIsServed hub seat served whats waiting =
     MatchOption seat ((served.last ≡ None) × (served.left ≡ None))
-    (λ seat. IsServed seat whats waiting served)
+    (λ seat. IsServed hub seat whats waiting served)
 
 -- some beginning of these bytes was written
 pub record WroteFront (before after : Option (List ℕ)) (bytes : List ℕ) : Type 0 where

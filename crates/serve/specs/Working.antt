@@ -1,5 +1,5 @@
 -- A session at work.
-use Rattle.std.specs.Prelude.{◌≡◌, ℕ, Bool, List, [], ◌++◌, length, Option, is_some, Result, Ok}
+use Rattle.std.specs.Prelude.{◌≡◌, ℕ, Bool, List, [], ◌++◌, length, Option, None, is_some, Result, Ok}
 use Rattle.std.specs.Prelude.{Err, IfOk}
 use Rattle.agg_types.specs.declared.event.What.{What}
 use Rattle.session_core.specs.declared.batch.SessionFault.{SessionFault}
@@ -23,13 +23,14 @@ use Rattle.serve.specs.Faults.{cause_of_turn}
 use Rattle.serve.specs.Told.{stored_of}
 use Rattle.serve.specs.Traffic.{Advances, Traffic, so_far}
 use Rattle.serve.specs.Turns.{DeskTells, EndsBy, IsAnswered, SeatIsServed, Turn, WroteFront}
-use Rattle.serve.specs.Turns.{answers_in, facts_in, taken_in}
+use Rattle.serve.specs.Turns.{TalkEnds, answers_in, facts_in, taken_in}
 
--- it stands for the bytes taken in these turns, and their facts were told
+-- it stands for the bytes taken in these turns, whose talk goes on, and their facts were told
 pub record IsAtWork (hub : Beginning) (seated : Bool) (worker : Worker) (turns : List Turn)
     : Type 0 where
   pub has_seat : worker.session.seated ≡ seated
   pub stands : worker.session.stage ≡ stage_of (setup_of hub.config) seated (taken_in turns)
+  pub goes_on : TalkEnds (setup_of hub.config) seated (taken_in turns) None
   pub told : DeskTells hub worker.desk (facts_in (setup_of hub.config) seated turns) 0
 
 -- the same, with what its source gave and its writer took since it began
@@ -124,14 +125,15 @@ abbrev pub EndsTo : Beginning → Option Desk → Option Desk → List What → 
 EndsTo hub old new whats fault before after result =
     EndsFor fault.cause hub old new whats fault before after result
 
--- how a session was served at Ok: all that its source gave was told and answered
+-- how a session was served at Ok: all that its source gave was told and answered, and its talk
+-- goes on
 pub record IsServedWhole (hub : Beginning) (seat : Option ℕ)
     (start now : Traffic) (served : Served) : Type 0 where
   pub bytes : List ℕ
   pub written : List ℕ
   pub carried : Advances start now bytes written
-  pub ends : IsAnswered (setup_of hub.config) (is_some seat) (SeatIsServed seat served) bytes
-      written
+  pub ends : IsAnswered (setup_of hub.config) (is_some seat) (SeatIsServed hub seat served) None
+      bytes written
 
 -- how a session was served that ended for a cause
 pub record IsServedUntil (hub : Beginning) (seat : Option ℕ)
@@ -139,5 +141,5 @@ pub record IsServedUntil (hub : Beginning) (seat : Option ℕ)
   pub bytes : List ℕ
   pub written : List ℕ
   pub carried : Advances start now bytes written
-  pub ends : EndsBy (setup_of hub.config) (is_some seat) (SeatIsServed seat faulted.served) bytes
+  pub ends : EndsBy (setup_of hub.config) (is_some seat) (SeatIsServed hub seat faulted.served) bytes
       written faulted.cause

@@ -107,8 +107,8 @@ impl Worker {
         ensures pass { result.desk.pass ≡ pass }
         ensures lens { result.lens ≡ lens }
         ensures line { result.line.bytes.items ≡ [] }
-        ensures learned { (hub : Beginning) → SitsDown pass → pass.seen.of ≡ hub.of
-            → Follows hub lens.seen → HasLearned hub pass.seat result [] }
+        ensures learned { (hub : Beginning) → SitsDown pass → Follows hub pass.seen
+            → Follows hub lens.seen → HasLearned hub hub pass.seat result [] }
     {
         let desk = Desk::new(pass);
         let line = Line::new(alloc);
@@ -127,9 +127,9 @@ impl Worker {
         ensures lens { Follows self.old.lens.seen self.new.lens.seen }
         ensures fits { (hub : Beginning) → Follows hub self.old.lens.seen
             → IfOk result (λ o. IfSome o (λ a. IfSome a.change (MayPost hub.config))) }
-        ensures looks { (hub : Beginning) (seat : ℕ) (whats : List What) (line : List ℕ)
-            → HasLearned hub seat self.old whats → self.old.line.bytes.items ≡ kept_of line
-            → HasNoEnd line → LooksTo hub seat self.new whats line result }
+        ensures looks { (hub since : Beginning) (seat : ℕ) (whats : List What) (line : List ℕ)
+            → HasLearned hub since seat self.old whats → self.old.line.bytes.items ≡ kept_of line
+            → HasNoEnd line → LooksTo hub since seat self.new whats line result }
     {
         let Some(look) = self.lens.look() else {
             return Ok(None);
@@ -177,9 +177,9 @@ impl<'a, J: Naming, H: Wait + Drop, R: Wait, C: Clock, G: Gate> Context<'a, J, H
         requires at { IsAtHub self.now.hub.now worker.old }
         requires fits { MayPost self.now.hub.now.config what }
         ensures keeps { KeepsDesk self.now.hub.now worker.old worker.new }
-        ensures changes { (seat : ℕ) (whats : List What)
-            → HasLearned self.now.hub.now seat worker.old whats
-            → ChangesTo self.now.hub.now seat worker.new whats (what ∷ []) result }
+        ensures changes { (since : Beginning) (seat : ℕ) (whats : List What)
+            → HasLearned self.now.hub.now since seat worker.old whats
+            → ChangesTo self.now.hub.now since seat worker.new whats (what ∷ []) result }
     {
         let mut whats = Vec::new(self.alloc);
         if whats.push(what).is_err() {
@@ -195,9 +195,10 @@ impl<'a, J: Naming, H: Wait + Drop, R: Wait, C: Clock, G: Gate> Context<'a, J, H
         requires at { IsAtHub self.now.hub.now worker.old }
         requires fits { IfSome change (MayPost self.now.hub.now.config) }
         ensures keeps { KeepsDesk self.now.hub.now worker.old worker.new }
-        ensures changes { (seat : ℕ) (whats : List What)
-            → HasLearned self.now.hub.now seat worker.old whats
-            → ChangesTo self.now.hub.now seat worker.new whats (option_to_list change) result }
+        ensures changes { (since : Beginning) (seat : ℕ) (whats : List What)
+            → HasLearned self.now.hub.now since seat worker.old whats
+            → ChangesTo self.now.hub.now since seat worker.new whats (option_to_list change)
+            result }
     {
         match change {
             None => Ok(()),
@@ -215,9 +216,9 @@ impl<'a, J: Naming, H: Wait + Drop, R: Wait, C: Clock, G: Gate> Context<'a, J, H
         requires at { IsAtHub self.now.hub.now worker.old }
         requires fits { IfSome answered.change (MayPost self.now.hub.now.config) }
         ensures keeps { KeepsDesk self.now.hub.now worker.old worker.new }
-        ensures obeys { (seat : ℕ) (whats : List What) (line : List ℕ)
-            → HasLooked self.now.hub.now seat worker.old whats line answered
-            → ObeysTo self.now.hub.now seat worker.new whats line (W.contents writer.old)
+        ensures obeys { (since : Beginning) (seat : ℕ) (whats : List What) (line : List ℕ)
+            → HasLooked self.now.hub.now since seat worker.old whats line answered
+            → ObeysTo self.now.hub.now since seat worker.new whats line (W.contents writer.old)
             (W.contents writer.new) result }
     {
         let Answered { change, text } = answered;
@@ -230,10 +231,10 @@ impl<'a, J: Naming, H: Wait + Drop, R: Wait, C: Clock, G: Gate> Context<'a, J, H
     fn obey<W: Write>(&self, worker: &mut Worker, writer: &mut W) -> Result<(), LineFault>
         requires { IsAtHub self.now.hub.now worker.old }
         ensures keeps { KeepsDesk self.now.hub.now worker.old worker.new }
-        ensures obeys { (seat : ℕ) (whats : List What) (line : List ℕ)
-            → HasLearned self.now.hub.now seat worker.old whats
+        ensures obeys { (since : Beginning) (seat : ℕ) (whats : List What) (line : List ℕ)
+            → HasLearned self.now.hub.now since seat worker.old whats
             → worker.old.line.bytes.items ≡ kept_of line → HasNoEnd line
-            → ObeysTo self.now.hub.now seat worker.new whats line (W.contents writer.old)
+            → ObeysTo self.now.hub.now since seat worker.new whats line (W.contents writer.old)
             (W.contents writer.new) result }
     {
         self.gate.turn(Place::Admin);
@@ -329,7 +330,8 @@ impl<'a, J: Naming, H: Wait + Drop, R: Wait, C: Clock, G: Gate> Context<'a, J, H
         requires reads { S.reads link.old.source ≡ 0 }
         requires at { IsAtHub self.now.hub.now worker.old }
         requires line { worker.old.line.bytes.items ≡ [] }
-        requires learned { HasLearned self.now.hub.now worker.old.desk.pass.seat worker.old [] }
+        requires learned { HasLearned self.now.hub.now self.now.hub.now worker.old.desk.pass.seat
+            worker.old [] }
         ensures keeps { KeepsDesk self.now.hub.now worker.old worker.new }
         ensures works { WorksOn self.now.hub.now worker.old.desk.pass.seat worker.new []
             (so_far (S.given link.old.source) (W.contents link.old.writer))
@@ -342,7 +344,10 @@ impl<'a, J: Naming, H: Wait + Drop, R: Wait, C: Clock, G: Gate> Context<'a, J, H
             return Err(Cause::Post(refused(self.alloc)));
         };
         for made in 0..MOST_READS {
-            if self.gate.stop() || !self.turn_admin(worker, link, buffer.as_mut_slice())? {
+            if self.gate.stop() {
+                return Ok(());
+            }
+            if !self.turn_admin(worker, link, buffer.as_mut_slice())? {
                 return Ok(());
             }
         }

@@ -25,7 +25,7 @@ impl Desk {
     /// A desk at which nothing was posted yet.
     pub fn new(pass: Pass) -> Desk
         ensures pass { result.pass ≡ pass }
-        ensures told { (hub : Beginning) → SitsDown pass → pass.seen.of ≡ hub.of
+        ensures told { (hub : Beginning) → SitsDown pass → Follows hub pass.seen
             → HasTold hub result [] 0 }
     {
         Desk { pass, last: None }
@@ -77,7 +77,7 @@ impl Desk {
     pub fn leave<J: Naming, H: Wait + Drop, R: Wait>(self, rt: &R, hub: &Hub<J, H>) -> Served
         requires pass { self.pass.seen.of ≡ hub.now.of }
         ensures { (whats : List What) (waiting : ℕ) → HasTold hub.now self whats waiting
-            → IsServed self.pass.seat whats waiting result }
+            → IsServed hub.now self.pass.seat whats waiting result }
     {
         let Desk { pass, last } = self;
         let left = match hub.leave(rt, pass) {

@@ -25,7 +25,7 @@ impl<'a, J: Naming, H: Wait + Drop, R: Wait, C: Clock, G: Gate> Context<'a, J, H
     fn leave(&self, desk: Option<Desk>) -> Served
         requires of { IsDeskOf self.now.hub.now desk }
         ensures { (whats : List What) (waiting : ℕ) → DeskTells self.now.hub.now desk whats waiting
-            → SeatIsServed (seat_at desk) result whats waiting }
+            → SeatIsServed self.now.hub.now (seat_at desk) result whats waiting }
     {
         match desk {
             None => Served {

@@ -63,9 +63,10 @@ impl<'a, J: Naming, H: Wait + Drop, R: Wait, C: Clock, G: Gate> Context<'a, J, H
     /// (of no events).
     pub fn run_timer(&self, pass: Pass) -> Result<Served, Faulted>
         requires pass { SitsDown pass × Follows self.now.hub.now pass.seen }
-        ensures ok { IfOk result (IsTimed (C.gives self.now.clock.now) pass.seat 0) }
-        ensures err { IfErr result (λ faulted. IsTimed (C.gives self.now.clock.now) pass.seat
-            (stored_by faulted.cause) faulted.served) }
+        ensures ok { IfOk result (IsTimed self.now.hub.now (C.gives self.now.clock.now)
+            pass.seat 0) }
+        ensures err { IfErr result (λ faulted. IsTimed self.now.hub.now
+            (C.gives self.now.clock.now) pass.seat (stored_by faulted.cause) faulted.served) }
     {
         let mut desk = Desk::new(pass);
         let ended = self.post_moments(&mut desk);

@@ -6,7 +6,7 @@ use crate::fleet::moment_in;
 use crate::memory::Turnstile;
 use crate::told::Ending;
 use anyhow::{Result, anyhow};
-use hub::{Hub, Naming, Pass};
+use hub::{Hub, Lens, Naming, Pass};
 use serve::{Clock, Context, Faulted, Served};
 use std::alloc::Global;
 use std::sync::Wait;
@@ -35,28 +35,36 @@ impl Clock for Beats {
 /// The turns that a timer makes before its gate closes.
 const TURNS: u64 = 4;
 
-/// Runs a timer.
+/// Runs a timer, and has a lens of the same hub learn what its last post shows.
 fn run<J: Naming, H: Wait + Drop, R: Wait>(
     context: &Context<'_, J, H, R, Beats, Turnstile>,
     pass: Pass,
+    lens: &mut Lens,
 ) -> Result<Served, Faulted>
-    requires { SitsDown pass × Follows context.now.hub.now pass.seen }
+    requires pass { SitsDown pass × Follows context.now.hub.now pass.seen }
+    requires lens { Follows context.now.hub.now lens.old.seen }
 {
-    context.run_timer(pass)
+    let served = context.run_timer(pass)?;
+    if let Some(receipt) = &served.last {
+        lens.learn(receipt);
+    }
+    Ok(served)
 }
 
-/// Runs a timer over these moments, and tells how it ended. None without a seat.
+/// Runs a timer over these moments, and tells how it ended and what a look shows that has learned
+/// of its last post. None without a seat or a lens.
 fn tick<J: Naming, H: Wait + Drop, R: Wait>(
     rt: &R,
     alloc: Global,
     hub: &Hub<J, H>,
     moments: [u64; 4],
-) -> Option<Ending> {
+) -> Option<(Ending, Option<u64>)> {
     let beats = Beats {
         moments,
         at: AtomicUsize::new(0),
     };
     let gate = Turnstile::new(TURNS);
+    let mut lens = hub.lens(rt).ok()?;
     let pass = hub.seat(rt).ok()?;
     let context = Context {
         rt,
@@ -65,8 +73,8 @@ fn tick<J: Naming, H: Wait + Drop, R: Wait>(
         clock: &beats,
         gate: &gate,
     };
-    let ended = run(&context, pass);
-    Some(Ending::of(&ended))
+    let ended = run(&context, pass, &mut lens);
+    Some((Ending::of(&ended), moment_in(&mut lens)))
 }
 
 /// Runs a timer over these moments, and prints how it ended and what the fleet's moment is then.
@@ -76,15 +84,9 @@ pub fn row<J: Naming, H: Wait + Drop, R: Wait + Print>(
     hub: &Hub<J, H>,
     moments: [u64; 4],
 ) -> Result<()> {
-    let Ok(mut lens) = hub.lens(rt) else {
-        return Err(anyhow!("no lens"));
+    let Some((ending, moment)) = tick(rt, alloc, hub, moments) else {
+        return Err(anyhow!("no seat or no lens"));
     };
-    let Some(ending) = tick(rt, alloc, hub, moments) else {
-        return Err(anyhow!("no seat"));
-    };
-    println!(rt;
-        "a clock of {moments:?}: {ending}; then {:?}",
-        moment_in(&mut lens)
-    )?;
+    println!(rt; "a clock of {moments:?}: {ending}; then {moment:?}")?;
     Ok(())
 }

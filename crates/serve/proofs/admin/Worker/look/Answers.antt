@@ -1,5 +1,6 @@
 use Rattle.std.proofs.Common.{rules, ℕ, List, refl, subst, ◌∙◌}
-use Rattle.serve.proofs.Commanded.{change_may_post, follows_on, looked}
+use Rattle.serve.proofs.Commanded.{change_may_post, looked}
+use Rattle.serve.proofs.Later.{follows_on}
 use Rattle.serve.specs.Commanding.{kept_of}
 use Rattle.serve.specs.Commands.{Replies}
 use Rattle.serve.proofs.admin.Worker.look.Goals as goal
@@ -15,11 +16,11 @@ returns-clause-fits c =
 
 pub returns-clause-looks : goal.returns-clause-looks
 returns-clause-looks c =
-    λ hub seat whats line learned kept whole.
+    λ hub since seat whats line learned kept whole.
     let answered = c.in_ok-answered.answered in
     let says : Replies c.book.result.now (kept_of line) answered.change answered.text.items =
     subst (λ (bytes : List ℕ). Replies c.book.result.now bytes answered.change answered.text.items)
     (c.as_slice.ensures ∙ kept) c.in_ok-answered.ensures.replies in
-    looked hub seat c.args.self.now _ whats line c.book.result.now answered
+    looked hub since seat c.args.self.now _ whats line c.book.result.now answered
     c.in-Some.look.lens.now.seen refl (search rules) c.in-Some.ensures.some.2 c.book.ensures
     says whole learned

@@ -7,7 +7,7 @@ use Rattle.serve.proofs.context.Context.change.Goals as goal
 
 pub returns-clause-changes : goal.returns-clause-changes
 returns-clause-changes g c =
-    λ seat whats learned.
+    λ since seat whats learned.
     let hub = c.args.self.now.hub.now in
     let pushed : c.push.new.self.items ≡ c.args.what ∷ [] =
     pushed_one c.push.new.self.items c.new-whats.result.items c.args.what (is_ok c.push.result)
@@ -16,5 +16,5 @@ returns-clause-changes g c =
     let told : HasTold hub c.post.new.self (whats ++ c.args.what ∷ []) 0 =
     subst (λ (batch : List What). HasTold hub c.post.new.self (whats ++ batch) 0) pushed
     (c.in_ok-post.ensures.told whats learned.told) in
-    learned_more hub seat c.args.worker.now _ (whats ++ c.args.what ∷ []) (c.post.ensures.seat
+    learned_more hub since seat c.args.worker.now _ (whats ++ c.args.what ∷ []) (c.post.ensures.seat
     ∙ learned.at) learned.sees c.show.ensures.kept told c.show.ensures.learned

@@ -5,15 +5,16 @@ use Rattle.hub.specs.Views.{Seeing}
 use Rattle.serve.proofs.Commanded.{learned_same, stops_obeying, works_obeyed}
 use Rattle.serve.proofs.Pieces.{none_in_both}
 use Rattle.serve.specs.Commanding.{HasLearned, kept_of}
-use Rattle.serve.specs.Commands.{changes_in}
+use Rattle.serve.specs.Commands.{changes_in, seen_by}
 use Rattle.serve.proofs.context.Context.end_line.Goals as goal
 
 pub returns-in_err-obey-clause-takes : goal.returns-in_err-obey-clause-takes
 returns-in_err-obey-clause-takes g c =
     λ rest whole seat start given w.
     let hub = c.args.self.now.hub.now in
-    let learned : HasLearned hub seat c.keep.new.self (changes_in w.replies) =
-    learned_same hub seat c.args.worker.now c.keep.new.self (changes_in w.replies)
+    let since = seen_by hub w.replies in
+    let learned : HasLearned hub since seat c.keep.new.self (changes_in w.replies) =
+    learned_same hub since seat c.args.worker.now c.keep.new.self (changes_in w.replies)
     c.keep.ensures.desk (ap (λ (s : Seeing). s.seen) c.keep.ensures.lens) w.learned in
     let kept : c.keep.new.self.line.bytes.items ≡ kept_of (w.line ++ c.args.bytes.now) =
     from_ok c.keep.result (sym c.is_err.ensures.value ∙ c.if-is_err.false)
@@ -21,20 +22,21 @@ returns-in_err-obey-clause-takes g c =
     let p = err_from_is_err_and c.from_residual.result c.from_residual.ensures.1 in
     rw (p.1, p.2) (stops_obeying hub seat c.args.worker.now c.obey.new.worker c.args.bytes.now rest
     start given (g.W.Write.contents c.args.writer.now) (g.W.Write.contents c.obey.new.writer) _ w
-    (c.in_err-obey.ensures.obeys seat (changes_in w.replies) (w.line ++ c.args.bytes.now) learned
+    (c.in_err-obey.ensures.obeys since seat (changes_in w.replies) (w.line ++ c.args.bytes.now) learned
     kept (none_in_both w.line c.args.bytes.now w.unended whole)))
 
 pub returns-clause-takes : goal.returns-clause-takes
 returns-clause-takes g c =
     λ rest whole seat start given w.
     let hub = c.args.self.now.hub.now in
-    let learned : HasLearned hub seat c.keep.new.self (changes_in w.replies) =
-    learned_same hub seat c.args.worker.now c.keep.new.self (changes_in w.replies)
+    let since = seen_by hub w.replies in
+    let learned : HasLearned hub since seat c.keep.new.self (changes_in w.replies) =
+    learned_same hub since seat c.args.worker.now c.keep.new.self (changes_in w.replies)
     c.keep.ensures.desk (ap (λ (s : Seeing). s.seen) c.keep.ensures.lens) w.learned in
     let kept : c.keep.new.self.line.bytes.items ≡ kept_of (w.line ++ c.args.bytes.now) =
     from_ok c.keep.result (sym c.is_err.ensures.value ∙ c.if-is_err.false)
     (c.keep.ensures.keeps w.line w.keeps) in
-    let obeyed = c.in_ok-obey.ensures.obeys seat (changes_in w.replies)
+    let obeyed = c.in_ok-obey.ensures.obeys since seat (changes_in w.replies)
     (w.line ++ c.args.bytes.now) learned kept
     (none_in_both w.line c.args.bytes.now w.unended whole) in
     works_obeyed hub seat c.args.worker.now c.obey.new.worker _ c.args.bytes.now rest start given

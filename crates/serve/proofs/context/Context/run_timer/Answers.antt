@@ -1,5 +1,4 @@
 use Rattle.std.proofs.Common.{◌≡◌, ap, subst, ◌∙◌}
-use Rattle.hub.specs.History.{Beginning}
 use Rattle.serve.proofs.Timed.{timed_none, timed_served}
 use Rattle.serve.specs.Moments.{IsTimed, stored_by}
 use Rattle.serve.proofs.context.Context.run_timer.Goals as goal
@@ -8,15 +7,15 @@ pub post_moments-ended-requires : goal.post_moments-ended-requires
 post_moments-ended-requires g c = record {
   timed = timed_none c.args.self.now.hub.now (g.C.Clock.gives c.args.self.now.clock.now)
       c.new-desk.result
-      (c.new-desk.ensures.told c.args.self.now.hub.now c.requires.pass.0
-      (ap (λ (b : Beginning). b.of) c.requires.pass.1.same));
+      (c.new-desk.ensures.told c.args.self.now.hub.now c.requires.pass.0 c.requires.pass.1);
 }
 
 pub returns-in-Ok-clause-ok : goal.returns-in-Ok-clause-ok
 returns-in-Ok-clause-ok g c =
     let same : c.post_moments-ended.new.desk.pass.seat ≡ c.args.pass.seat = c.in-Ok.ensures.seat
     ∙ ap (λ p. p.seat) c.new-desk.ensures.pass in
-    subst (λ seat. IsTimed (g.C.Clock.gives c.args.self.now.clock.now) seat 0
+    subst (λ seat. IsTimed c.args.self.now.hub.now
+    (g.C.Clock.gives c.args.self.now.clock.now) seat 0
     c.leave-served.result) same
     (timed_served c.args.self.now.hub.now (g.C.Clock.gives c.args.self.now.clock.now)
     c.post_moments-ended.new.desk
@@ -27,7 +26,8 @@ pub returns-in-Err-clause-err : goal.returns-in-Err-clause-err
 returns-in-Err-clause-err g c =
     let same : c.post_moments-ended.new.desk.pass.seat ≡ c.args.pass.seat = c.in-Err.ensures.seat
     ∙ ap (λ p. p.seat) c.new-desk.ensures.pass in
-    subst (λ seat. IsTimed (g.C.Clock.gives c.args.self.now.clock.now) seat
+    subst (λ seat. IsTimed c.args.self.now.hub.now
+    (g.C.Clock.gives c.args.self.now.clock.now) seat
     (stored_by c.in-Err.cause)
     c.leave-served.result) same
     (timed_served c.args.self.now.hub.now (g.C.Clock.gives c.args.self.now.clock.now)

@@ -1,5 +1,4 @@
 use Rattle.std.proofs.Common.{◌≡◌, ℕ, [], Result, Ok, Err, ap, sym, subst, ◌∙◌}
-use Rattle.hub.specs.History.{Beginning}
 use Rattle.hub.specs.Posts.{Seated}
 use Rattle.serve.proofs.Commanded.{commanded_until, commanded_whole}
 use Rattle.serve.specs.Commanding.{HasLearned, WorksOn}
@@ -11,10 +10,11 @@ use Rattle.serve.proofs.context.Context.serve_admin.Goals as goal
 
 pub run_admin-ended-requires-clause-learned : goal.run_admin-ended-requires-clause-learned
 run_admin-ended-requires-clause-learned g c =
-    subst (λ (s : ℕ). HasLearned c.args.self.now.hub.now s c.new-worker.result [])
+    subst (λ (s : ℕ). HasLearned c.args.self.now.hub.now c.args.self.now.hub.now s
+    c.new-worker.result [])
     (sym (ap (λ (p : Seated). p.seat) c.new-worker.ensures.pass))
-    (c.new-worker.ensures.learned c.args.self.now.hub.now c.requires.pass.0
-    (ap (λ (b : Beginning). b.of) c.requires.pass.1.same) c.requires.lens)
+    (c.new-worker.ensures.learned c.args.self.now.hub.now c.requires.pass.0 c.requires.pass.1
+    c.requires.lens)
 
 pub returns-in-Ok-clause-served : goal.returns-in-Ok-clause-served
 returns-in-Ok-clause-served g c =
@@ -38,7 +38,7 @@ returns-in-Ok-clause-served g c =
     (g.W.Write.contents c.run_admin-ended.new.link.writer))
     c.leave-served.result
     (λ whats n told.
-    subst (λ (s : ℕ). IsServed s whats n c.leave-served.result) left
+    subst (λ (s : ℕ). IsServed hub s whats n c.leave-served.result) left
     (c.leave-served.ensures whats n (subst (λ (desk : Desk). HasTold hub desk whats n)
     (sym c.into_desk.ensures) told)))
     (subst (λ (s : ℕ). WorksOn hub s c.run_admin-ended.new.worker []
@@ -70,7 +70,7 @@ returns-in-Err-clause-served g c =
     (g.W.Write.contents c.run_admin-ended.new.link.writer))
     (record { cause = c.in-Err.cause; served = c.leave-served.result })
     (λ whats n told.
-    subst (λ (s : ℕ). IsServed s whats n c.leave-served.result) left
+    subst (λ (s : ℕ). IsServed hub s whats n c.leave-served.result) left
     (c.leave-served.ensures whats n (subst (λ (desk : Desk). HasTold hub desk whats n)
     (sym c.into_desk.ensures) told)))
     (subst (λ (s : ℕ). WorksOn hub s c.run_admin-ended.new.worker []

@@ -34,7 +34,7 @@ returns-in-Ok-clause-served g c =
     (g.W.Write.contents c.run_session-ended.new.link.writer)) seat
     c.leave-served.result c.new-worker.ensures.seated
     (λ whats n told.
-    subst (λ (s : Option ℕ). SeatIsServed s c.leave-served.result whats n) left
+    subst (λ (s : Option ℕ). SeatIsServed hub s c.leave-served.result whats n) left
     (c.leave-served.ensures whats n (subst (λ (desk : Option Desk). DeskTells hub desk whats n)
     (sym c.into_desk.ensures) told)))
     (subst (λ (r : Result (Unit {0}) Cause). WorksOn hub c.new-worker.result.session.seated
@@ -58,7 +58,7 @@ returns-in-Err-clause-served g c =
     (record { cause = c.in-Err.cause; served = c.leave-served.result })
     c.new-worker.ensures.seated
     (λ whats n told.
-    subst (λ (s : Option ℕ). SeatIsServed s c.leave-served.result whats n) left
+    subst (λ (s : Option ℕ). SeatIsServed hub s c.leave-served.result whats n) left
     (c.leave-served.ensures whats n (subst (λ (desk : Option Desk). DeskTells hub desk whats n)
     (sym c.into_desk.ensures) told)))
     (subst (λ (r : Result (Unit {0}) Cause). WorksOn hub c.new-worker.result.session.seated

@@ -33,3 +33,18 @@ returns-clause-takes g c =
     c.keep.ensures.desk (ap (λ (s : Seeing). s.seen) c.keep.ensures.lens) c.in_default.ensures.whole
     (λ line is. from_ok c.keep.result (sym c.is_err.ensures.value ∙ c.if-is_err.false)
     (c.keep.ensures.keeps line is)) (c.loop-front.invariant.works seat start given w)
+
+pub loop-front-preserved : goal.loop-front-preserved
+loop-front-preserved g c =
+    let i = c.loop-front.invariant in
+    let before = g.W.Write.contents c.loop-front.writer in record {
+      keeps = record {
+        of = c.end_line.ensures.keeps.of;
+        lens = c.end_line.ensures.keeps.lens;
+        seat = c.end_line.ensures.keeps.seat ∙ i.keeps.seat;
+      };
+      works = λ seat start given w.
+          c.in_ok-end_line.ensures.takes c.in-Some.behind.now c.in-Some.ensures.line seat start given
+          (subst (λ (rest : List ℕ). Works c.args.self.now.hub.now seat c.loop-front.worker rest
+          start (so_far given before)) c.in-Some.ensures.parts (i.works seat start given w));
+    }

@@ -48,7 +48,7 @@ returns-in_ok-settle-in-Ok-clause-takes g c =
     w.work.told in
     settled hub seated c.args.worker.now new start given more
     (g.W.Write.contents c.args.writer.now) (g.W.Write.contents c.settle.new.writer)
-    c.args.piece.now c.in-Ok.batch None gives w
+    c.args.piece.now c.in-Ok.batch gives w
     (subst (λ stage. ContinuesTalk (setup_of hub.config) seated (taken_in w.turns) c.args.piece.now
     c.in-Ok.batch None stage) (sym
     (ap (λ (s : SessionState). s.stage) c.settle.ensures.session)) stands)

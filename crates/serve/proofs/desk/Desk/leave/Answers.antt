@@ -1,6 +1,7 @@
 use Rattle.std.proofs.Common.{Option, IfSome, sym, subst}
 use Rattle.hub.specs.History.{Beginning}
-use Rattle.serve.proofs.Owns.{left_shown}
+use Rattle.hub.specs.Posts.{Follows}
+use Rattle.serve.proofs.Owns.{left_follows, left_shown}
 use Rattle.serve.specs.Told.{IsLeft}
 use Rattle.serve.proofs.desk.Desk.leave.Goals.{in-Ok, in-Err}
 use Rattle.serve.proofs.desk.Desk.leave.Goals as goal
@@ -9,11 +10,18 @@ pub returns : goal.returns
 returns g c =
     λ whats waiting told.
     let P : Option Beginning → Type 0 =
-    λ o. IfSome o (IsLeft c.args.self.pass.seat whats waiting) in record {
+    λ o. IfSome o (IsLeft c.args.self.pass.seat whats waiting) in
+    let F : Option Beginning → Type 0 = λ o. IfSome o (Follows c.args.hub.now) in record {
       last = told.last;
+      last_shown = told.shown;
       left = elim c.match-leave.branch [
         | in-Ok w ↦ subst P (sym w.left-is) (left_shown c.args.self.pass whats waiting w.in-Ok.left
             told.tells told.number w.in-Ok.ensures)
         | in-Err w ↦ subst P (sym w.left-is) tt
+      ];
+      left_shown = elim c.match-leave.branch [
+        | in-Ok w ↦ subst F (sym w.left-is) (left_follows c.args.hub.now c.args.self.pass
+            w.in-Ok.left told.seen w.in-Ok.ensures)
+        | in-Err w ↦ subst F (sym w.left-is) tt
       ];
     }

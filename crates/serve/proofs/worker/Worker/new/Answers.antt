@@ -1,8 +1,8 @@
 use Rattle.std.proofs.Common.{◌≡◌, [], Option, IfSome, ap, sym, subst, ◌∙◌, refl}
-use Rattle.hub.specs.History.{Beginning}
 use Rattle.hub.specs.Posts.{Follows, Seated, SitsDown}
 use Rattle.session_core.specs.Piece.{Setup, setup_of}
 use Rattle.session_core.specs.Talk.{stage_of}
+use Rattle.serve.proofs.Ends.{goes_on_at_start}
 use Rattle.serve.proofs.Works.{no_facts}
 use Rattle.serve.specs.declared.desk.Desk.{Desk}
 use Rattle.serve.specs.Told.{HasTold}
@@ -20,6 +20,9 @@ returns-clause-work c =
     in record {
       has_seat = refl;
       stands = c.accept.ensures.stands setup ∙ ap (λ b. stage_of setup b []) (sym seated);
+      goes_on = goes_on_at_start setup c.accept.result.seated
+          (ap (λ b. stage_of setup b []) seated ∙ (sym (c.accept.ensures.stands setup)
+          ∙ ap (λ s. s.stage) c.accept.ensures.new));
       told = elim c.match-pass.branch [
         | in-None w ↦ subst P (sym w.desk-is) tt
         | in-Some w ↦
@@ -27,7 +30,7 @@ returns-clause-work c =
             let h : SitsDown w.in-Some.pass × Follows hub w.in-Some.pass.seen =
             subst Q w.in-Some.is sits in
             let told : HasTold hub w.new.result [] 0 =
-            w.new.ensures.told hub h.0 (ap (λ (b : Beginning). b.of) h.1.same) in
+            w.new.ensures.told hub h.0 h.1 in
             subst P (sym w.desk-is) (subst (λ facts. HasTold hub w.new.result facts 0)
             (no_facts setup c.accept.result.seated) told)
       ];
