@@ -22,6 +22,8 @@ pub struct Counted {
 }
 
 impl Model for Counted {
+    ghost use Rattle.test_filters.specs.declared.pair.Pair.{Pair};
+
     ghost Value = { Pair };
 
     ghost view = { λ counted. counted.pair };
