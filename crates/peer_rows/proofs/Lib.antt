@@ -11,3 +11,4 @@ pub mod Using
 pub mod Kept
 pub mod Shown
 pub mod Placing
+pub mod Walk

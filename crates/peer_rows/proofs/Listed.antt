@@ -1,7 +1,7 @@
 -- The keys of a table, listed by place and then sorted.
 use Rattle.std.proofs.Common.{◌≡◌, ℕ, zero, suc, ◌+◌, ◌<◌, Bool, true, false, cond, List, [], ◌∷◌}
 use Rattle.std.proofs.Common.{◌++◌, length, take, refl, sym, ◌∙◌, ap, subst, arith}
-use Rattle.std.specs.Prelude.{Option, Some, None, slice_index_or}
+use Rattle.std.specs.Prelude.{Option, Some, None, map, slice_index_or}
 use Rattle.std.specs.Borrow.{Bor}
 use Rattle.std.specs.List.{AllByRecursion, IsDistinct}
 use Rattle.std.specs.List.Sorted.{IsStrictlySortedBy, IsPermutation, IsSortedBy}
@@ -78,7 +78,7 @@ others_differ (Some item ∷ places) key absent =
     by true is = absurd (absent zero (ap Some (sym (same_if_at key item.0 is))))
     by false is = is
 
-distinct_keys : (places : Places) → AreDistinct places
+pub distinct_keys : (places : Places) → AreDistinct places
     → IsDistinct (eq_by_cmp (slice_cmp nat_cmp)) (keys_of (by_place places))
 unfolding IsDistinct
 distinct_keys [] d = tt
@@ -88,7 +88,7 @@ distinct_keys (Some item ∷ places) d = (
   distinct_keys places (distinct_others (Some item) places d),
 )
 
-lookup-by_place : (places : Places) (q : List ℕ)
+pub lookup-by_place : (places : Places) (q : List ℕ)
     → lookup (at_key q) (by_place places) ≡ found places q
 lookup-by_place [] q = refl
 lookup-by_place (None ∷ places) q = lookup-by_place places q
@@ -98,7 +98,7 @@ lookup-by_place (Some item ∷ places) q =
     ∙ ap (λ (b : Bool). cond b (Some item.1) (found places q)) (turned_at q item.0)
 
 -- ---- keys that differ are found in any order
-alike : (es fs : Keys) (q : List ℕ) → IsPermutation es fs
+pub alike : (es fs : Keys) (q : List ℕ) → IsPermutation es fs
     → IsDistinct (eq_by_cmp (slice_cmp nat_cmp)) (keys_of es)
     → IsDistinct (eq_by_cmp (slice_cmp nat_cmp)) (keys_of fs)
     → lookup (at_key q) es ≡ lookup (at_key q) fs
@@ -120,53 +120,64 @@ alike es fs q moved d e = by (lookup (at_key q) es) refl (lookup (at_key q) fs) 
     by None is (Some v) has = across fs es v (IsPermutation-sym es fs moved) d has ∙ sym has
 
 -- ---- what is sorted and differs rises
-abbrev pub Rises : List LentKey → Type 0
-Rises keys = (j k : ℕ) (d : LentKey) → j ≡ k + 1 → j < length keys
-    → is_lt (slice_cmp nat_cmp (slice_index_or keys j d).0.now (slice_index_or keys k d).0.now)
-    ≡ false
+module _ {X : Type 0} (item : X → Item) where
+  abbrev pub Rises : List X → Type 0
+  Rises keys = (j k : ℕ) (d : X) → j ≡ k + 1 → j < length keys
+      → is_lt (slice_cmp nat_cmp (item (slice_index_or keys j d)).0
+      (item (slice_index_or keys k d)).0) ≡ false
 
-rising : (keys : List LentKey) → Rises keys
-    → IsDistinct (eq_by_cmp (slice_cmp nat_cmp)) (keys_of (shown keys))
-    → IsStrictlySortedBy (slice_cmp nat_cmp) (keys_of (shown keys))
-unfolding IsStrictlySortedBy
-rising [] up d = tt
-rising (x ∷ []) up d = (tt, tt)
-rising (x ∷ (y ∷ keys)) up d =
-    let rest : IsStrictlySortedBy (slice_cmp nat_cmp) (keys_of (shown (y ∷ keys))) =
-    rising (y ∷ keys) (λ j k z is within. up (suc j) (suc k) z (omega (arith, is))
-    (omega (arith, within)))
-    (IsDistinct-tail (eq_by_cmp (slice_cmp nat_cmp)) x.0.now (keys_of (shown (y ∷ keys))) d) in
-    let less : slice_cmp nat_cmp x.0.now y.0.now ≡ Less =
-    by (slice_cmp nat_cmp x.0.now y.0.now) refl in (
-      (
-        less,
-        AllAbove-below (slice_cmp nat_cmp) nat_list_cmp_total x.0.now y.0.now less
-            (shown keys) rest.0,
-      ),
-      rest,
-    )
-  where
-    by : (o : Ordering) → slice_cmp nat_cmp x.0.now y.0.now ≡ o
-        → slice_cmp nat_cmp x.0.now y.0.now ≡ Less
-    by Less is = is
-    by Equal is =
-        let differ : at_key x.0.now y.0.now ≡ false =
-        (IsDistinct-head (eq_by_cmp (slice_cmp nat_cmp)) x.0.now (keys_of (shown (y ∷ keys)))
-        d).0 in
-        let same : at_key x.0.now y.0.now ≡ true = ap is_eq is in
-        let wrong : true ≡ false = sym same ∙ differ in
-        cc
-    by Greater is =
-        let below : is_lt (slice_cmp nat_cmp y.0.now x.0.now) ≡ true =
-        ap is_lt (turned nat_list_cmp_total x.0.now y.0.now is) in
-        let not_below : is_lt (slice_cmp nat_cmp y.0.now x.0.now) ≡ false =
-        up (suc zero) zero x (omega arith) (omega arith) in
-        let wrong : true ≡ false = sym below ∙ not_below in
-        cc
+  pub rising : (keys : List X) → Rises keys
+      → IsDistinct (eq_by_cmp (slice_cmp nat_cmp)) (keys_of (map item keys))
+      → IsStrictlySortedBy (slice_cmp nat_cmp) (keys_of (map item keys))
+  unfolding IsStrictlySortedBy
+  rising [] up d = tt
+  rising (x ∷ []) up d = (tt, tt)
+  rising (x ∷ (y ∷ keys)) up d =
+      let rest : IsStrictlySortedBy (slice_cmp nat_cmp) (keys_of (map item (y ∷ keys))) =
+      rising (y ∷ keys) (λ j k z is within. up (suc j) (suc k) z (omega (arith, is))
+      (omega (arith, within)))
+      (IsDistinct-tail (eq_by_cmp (slice_cmp nat_cmp)) (item x).0
+      (keys_of (map item (y ∷ keys))) d) in
+      let less : slice_cmp nat_cmp (item x).0 (item y).0 ≡ Less =
+      by (slice_cmp nat_cmp (item x).0 (item y).0) refl in (
+        (
+          less,
+          AllAbove-below (slice_cmp nat_cmp) nat_list_cmp_total (item x).0 (item y).0 less
+              (map item keys) rest.0,
+        ),
+        rest,
+      )
+    where
+      by : (o : Ordering) → slice_cmp nat_cmp (item x).0 (item y).0 ≡ o
+          → slice_cmp nat_cmp (item x).0 (item y).0 ≡ Less
+      by Less is = is
+      by Equal is =
+          let differ : at_key (item x).0 (item y).0 ≡ false =
+          (IsDistinct-head (eq_by_cmp (slice_cmp nat_cmp)) (item x).0
+          (keys_of (map item (y ∷ keys))) d).0 in
+          let same : at_key (item x).0 (item y).0 ≡ true = ap is_eq is in
+          let wrong : true ≡ false = sym same ∙ differ in
+          cc
+      by Greater is =
+          let below : is_lt (slice_cmp nat_cmp (item y).0 (item x).0) ≡ true =
+          ap is_lt (turned nat_list_cmp_total (item x).0 (item y).0 is) in
+          let not_below : is_lt (slice_cmp nat_cmp (item y).0 (item x).0) ≡ false =
+          up (suc zero) zero x (omega arith) (omega arith) in
+          let wrong : true ≡ false = sym below ∙ not_below in
+          cc
+
+  -- what a sort says of neighbours
+  pub rises_from_sort : (keys : List X)
+      → IsSortedBy (λ a b. is_lt (slice_cmp nat_cmp (item a).0 (item b).0)) keys → Rises keys
+  rises_from_sort keys sorted = λ j k d is within.
+      let near : k + 1 < length keys = omega (arith, is, within) in
+      let up = sorted k d (omega arith) near in
+      subst (λ i. is_lt (slice_cmp nat_cmp (item (slice_index_or keys i d)).0
+      (item (slice_index_or keys k d)).0) ≡ false) (sym is) up
 
 -- the keys by place, sorted, are those in order
 pub sorted-listed : (places : Places) (xs ys : List LentKey) → AreDistinct places
-    → shown xs ≡ by_place places → IsPermutation xs ys → Rises ys
+    → shown xs ≡ by_place places → IsPermutation xs ys → Rises one_shown ys
     → shown ys ≡ in_order places
 sorted-listed places xs ys d listed moved up =
     let perm : IsPermutation (by_place places) (shown ys) =
@@ -178,15 +189,6 @@ sorted-listed places xs ys d listed moved up =
     IsDistinct-IsPermutation (eq_by_cmp (slice_cmp nat_cmp)) (λ x y. turned_at x y)
     (keys_of (by_place places)) (keys_of (shown ys))
     (IsPermutation-map (λ (e : Item). e.0) (by_place places) (shown ys) perm) differ in
-    same_keys (shown ys) (in_order places) (rising ys up differ_too) (sorted-in_order places)
+    same_keys (shown ys) (in_order places) (rising one_shown ys up differ_too) (sorted-in_order places)
     (λ q. sym (alike (by_place places) (shown ys) q perm differ differ_too)
     ∙ lookup-by_place places q ∙ sym (lookup-in_order places q))
-
--- what a sort says of neighbours
-pub rises_from_sort : (keys : List LentKey)
-    → IsSortedBy (λ a b. is_lt (slice_cmp nat_cmp a.0.now b.0.now)) keys → Rises keys
-rises_from_sort keys sorted = λ j k d is within.
-    let near : k + 1 < length keys = omega (arith, is, within) in
-    let up = sorted k d (omega arith) near in
-    subst (λ i. is_lt (slice_cmp nat_cmp (slice_index_or keys i d).0.now
-    (slice_index_or keys k d).0.now) ≡ false) (sym is) up

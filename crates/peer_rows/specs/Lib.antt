@@ -8,3 +8,4 @@ pub mod Spread
 pub mod Table
 pub mod Rows
 pub mod Places
+pub mod Walk

@@ -12,6 +12,10 @@ peer_and_row p = (p.0, p.1.now)
 abbrev pub spot_and_row : Bor (List ℕ) × ℕ × Bor Row → Spot × Row
 spot_and_row p = ((p.0.now, p.1), p.2.now)
 
+-- what an item of a walk over keys shows: the key and its rows
+abbrev pub key_and_rows : Bor (List ℕ) × List (ℕ × Row) → List ℕ × List (ℕ × Row)
+key_and_rows p = (p.0.now, p.1)
+
 -- the rows that are left of the key at which a listing stands
 abbrev pub left_at : Option (Bor (List ℕ) × List (ℕ × Row)) → List (Spot × Row)
 left_at None = []

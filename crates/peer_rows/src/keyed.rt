@@ -11,10 +11,11 @@ ghost use Rattle.std.specs.BTreeMap.{insert_entry, is_at};
 ghost use Rattle.std.specs.List.Sorted.{IsStrictlySortedBy};
 ghost use Rattle.place_index.specs.Places.{item_at, key_at, value_at, AreDistinct, IsAbsent};
 ghost use Rattle.peer_rows.specs.Places.{in_order};
+ghost use Rattle.peer_rows.specs.Walk.{AreKeysOf};
 
 use crate::key_rows::KeyRows;
 use crate::listing::sorted;
-use crate::{ByKey, Row, Spot};
+use crate::{ByKey, EachKey, Row, Spot};
 use agg_types::{Key, NoMemory};
 use place_index::PlaceIndex;
 use std::alloc::Global;
@@ -193,6 +194,14 @@ impl Keyed {
     {
         let at = find(&self.index, hint, key)?;
         Some(taken(&mut self.index, at))
+    }
+
+    /// Each key once with its rows, in no order.
+    pub(crate) fn each_key(&self) -> EachKey<'_>
+        ensures { AreKeysOf self.now result }
+    {
+        let _distinct = self.index.count();
+        EachKey::new(&self.index)
     }
 
     /// All rows, by key, then by peer, in an order that is made now.

@@ -9,7 +9,7 @@
 //! the number of a place: the place's key is looked at before it is believed. A key whose hash's
 //! window is full lies in an ordered map. So keys that are made to collide cost what an ordered map
 //! costs, and the hash needs no secret. `by_key` sorts the keys of its table in memory of its own,
-//! which is given back with the listing.
+//! which is given back with the listing. `each_key` walks the places as they lie.
 //!
 //! No clause says how long a call takes: a look-up is at most one search of a table's keys, `count`
 //! and `used` take constant time, and a row that replaces another takes no memory. Nor does one say
@@ -17,6 +17,7 @@
 #![tactic(auto)]
 
 mod by_key;
+mod each_key;
 mod few;
 mod key_rows;
 mod keyed;
@@ -29,6 +30,7 @@ mod spot;
 mod table;
 
 pub use by_key::ByKey;
+pub use each_key::EachKey;
 pub use of_key::OfKey;
 pub use row::{Held, Row, RowCells};
 pub use rows::Rows;

@@ -2,9 +2,10 @@ ghost use Rattle.std.specs.Prelude.{◌≡◌, ◌<◌, [], length, count_by, Is
 ghost use Rattle.std.specs.Prelude.{OnOk, OnErr, Some, MatchBool, MatchOption, is_some};
 ghost use Rattle.std.specs.Prelude.{if◌then◌else◌};
 ghost use Rattle.std.specs.Option.{option_copied};
+ghost use Rattle.peer_rows.specs.Walk.{IsEachKey};
 
 use crate::table::Table;
-use crate::{ByKey, OfKey, Row, Spot};
+use crate::{ByKey, EachKey, OfKey, Row, Spot};
 use agg_types::{Key, NoMemory};
 use std::alloc::Global;
 use std::fmt;
@@ -145,6 +146,16 @@ impl Rows {
     {
         let rows = self.tables[table].by_key()?;
         Ok(rows)
+    }
+
+    /// Lends the keys of a table that have a row, each once with its rows, in no order, in one walk
+    /// of the places as they lie. Takes no memory.
+    pub fn each_key(&self, table: usize) -> EachKey<'_>
+        requires { table < self.now.tables }
+        ensures value { IsEachKey (peers_of self.now table) result }
+        ensures ordered { AreInOrder self.now.entries }
+    {
+        self.tables[table].each_key()
     }
 
     /// Lends the rows of a table and key over all peers, by peer: one search, and then the rows

@@ -6,10 +6,11 @@ ghost use Rattle.std.specs.List.{dedup};
 ghost use Rattle.std.specs.Map.{lookup, remove_entry};
 ghost use Rattle.std.specs.BTreeMap.{insert_entry, is_at};
 ghost use Rattle.peer_rows.specs.Table.{rows_at_peer};
+ghost use Rattle.peer_rows.specs.Walk.{IsEachKey};
 
 use crate::key_rows::KeyRows;
 use crate::keyed::Keyed;
-use crate::{ByKey, OfKey, Row, Spot};
+use crate::{ByKey, EachKey, OfKey, Row, Spot};
 use agg_types::{Key, NoMemory};
 use std::alloc::Global;
 use std::marker::Model;
@@ -189,6 +190,14 @@ impl Table {
             Some(rows) => rows.iter(),
             None => OfKey::none(),
         }
+    }
+
+    /// Each key once with its rows, in no order.
+    pub(crate) fn each_key(&self) -> EachKey<'_>
+        ensures { IsEachKey (λ key. map (λ e. (e.0.1, e.1))
+            (filter (λ e. same_key key e.0.0) self.now.entries)) result }
+    {
+        self.keys.each_key()
     }
 
     /// All rows, by key, then by peer.
