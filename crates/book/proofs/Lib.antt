@@ -9,3 +9,6 @@ pub mod FirstKeys
 pub mod Verdicts
 pub mod Following
 pub mod FewReads
+pub mod Columns
+pub mod Heads
+pub mod Meeting

@@ -521,7 +521,7 @@ sum_by-map : {X Y : Type 0} (f : Y → ℕ) (view : X → Y) (xs : List X)
     → sum_by f (map view xs) ≡ sum_by (λ x. f (view x)) xs
 sum_by-map f view xs = fold-map (λ n y. n + f y) view 0 xs
 
-worth_shown : (table : ℕ) (key : List ℕ) (cols : List (Col × ℕ)) (col : Col) (t : ℕ)
+pub worth_shown : (table : ℕ) (key : List ℕ) (cols : List (Col × ℕ)) (col : Col) (t : ℕ)
     (rows : List (ℕ × Row)) → rows_worth cols col t rows
     ≡ worth_of cols (map (of_peer table key) rows) col t
 worth_shown table key cols col t rows =

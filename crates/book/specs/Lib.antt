@@ -8,3 +8,5 @@ pub mod Leading
 pub mod Held
 pub mod Reads
 pub use Rattle.book_frame.specs.Lent
+pub mod Heads
+pub mod Listing

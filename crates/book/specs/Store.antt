@@ -3,11 +3,17 @@ use Rattle.std.specs.Prelude.{◌≡◌, ℕ, ◌≤◌, ◌==◌, List, [], Opt
 use Rattle.std.specs.Prelude.{filter}
 use Rattle.std.specs.Prelude.{length, map}
 use Rattle.std.specs.Borrow.{Bor}
-use Rattle.std.specs.List.{dedup}
+use Rattle.std.specs.BTreeMap.{is_at}
+use Rattle.std.specs.Cmp.Lexicographic.{slice_cmp}
+use Rattle.std.specs.List.{IsDistinct, dedup}
+use Rattle.std.specs.Map as maps
+use Rattle.std.specs.Ordering.{eq_by_cmp, nat_cmp}
 use Rattle.std.specs.Option.{option_map}
 use Rattle.fleet_model.specs.Keys.{key_rows}
 use Rattle.fleet_model.specs.Values.{same_key}
+use Rattle.peer_rows.specs.Places.{Keys}
 use Rattle.peer_rows.specs.Table.{Spot}
+use Rattle.peer_rows.specs.Walk.{if_any}
 use Rattle.peer_rows.specs.declared.row.Row.{Row}
 use Rattle.book.specs.Shown.{of_peer, of_spot}
 use Rattle.agg_types.specs.declared.config.Config.{Config}
@@ -56,6 +62,13 @@ pub record HasSizes (config : Config) (moment : ℕ) (rows : InForce) : Type 0 w
 abbrev pub IsWalk : List (RowKey × Arrival) → ℕ → Option (List (Spot × Row)) → Type 0
 IsWalk rows table None = filter (λ row. row.0.table == table) rows ≡ []
 IsWalk rows table (Some walk) = map (of_spot table) walk ≡ filter (λ row. row.0.table == table) rows
+
+-- each key of a table that has rows, once with its rows, in whatever order
+pub record IsEachKeyOf (rows : List (RowKey × Arrival)) (table : ℕ) (walk : Keys) : Type 0 where
+  pub once : IsDistinct (eq_by_cmp (slice_cmp nat_cmp)) (maps.keys_of walk)
+  pub exact : (key : List ℕ)
+      → option_map (map (of_peer table key)) (maps.lookup (is_at (slice_cmp nat_cmp key)) walk)
+      ≡ if_any (key_rows rows table key)
 
 -- the keys of a table's rows, each once
 abbrev pub row_keys : List (RowKey × Arrival) → ℕ → List (List ℕ)

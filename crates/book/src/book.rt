@@ -1,6 +1,5 @@
 ghost use Rattle.std.specs.Prelude.{◌≡◌, ◌*◌, ◌<◌, ◌≤◌, ℕ, List, map, length, nat_lt, true};
 ghost use Rattle.std.specs.Prelude.{false, [], ◌∷◌, ◌++◌, IfOk, IsOk, OnOk, OnErr};
-ghost use Rattle.std.specs.List.{filter_map};
 ghost use Rattle.agg_types.specs.Check.{config_faults};
 ghost use Rattle.agg_types.specs.declared.config.Config.{Config};
 ghost use Rattle.agg_types.specs.declared.event.Event.{Event};
@@ -15,17 +14,17 @@ ghost use Rattle.fleet_model.specs.Sound.{IsSound};
 ghost use Rattle.fleet_model.specs.State.{IsStateOf};
 ghost use Rattle.book.specs.Foreseen.{IsFirstOf};
 ghost use Rattle.book.specs.Reads.{IsFewFor, IsQuietTo, MayRenew, pairs_from};
-ghost use Rattle.book_frame.specs.Lent.{key_and_sums, shown_row, with_sums};
+ghost use Rattle.book_frame.specs.Lent.{listed_where, shown_row};
 
 use crate::foreseen::first_change;
 use crate::held::{Held, held_keys};
+use crate::listing::BookRows;
 use crate::machine::Machine;
 use crate::queries;
 use crate::ranking::Ranked;
 use crate::sets::keys_held;
-use agg_types::{Config, Event, Key, NoMemory, What};
+use agg_types::{Cond, Config, Event, Key, NoMemory, What};
 use book_frame::keys::are_same;
-use book_frame::listing::{BookRows, push_found};
 use book_frame::seats;
 use book_frame::seats::has_free_seat;
 use book_frame::standing::{cols_of, filter_at};
@@ -248,28 +247,24 @@ impl Book {
     pub fn rows(&self, alloc: Global, table: usize) -> Result<BookRows<'_>, NoMemory>
         ensures { IfOk result (λ rows. map shown_row rows ≡ listed self.now table) }
     {
-        fleet_model::laws::listed_keys_have_sums();
-        let keys = self.keys(alloc, table)?;
-        Ok(BookRows::new(self.sum_up(alloc, table, keys.as_slice())?))
+        let rows = self.rows_where(alloc, table, &[])?;
+        Ok(rows)
     }
 
-    // Keys of a table, each with its summed row.
-    fn sum_up<'a>(
+    /// The keys of a table whose values meet all conditions, each with its summed row, in order.
+    /// Takes memory for these keys alone, in which they are sorted.
+    pub fn rows_where(
         &self,
         alloc: Global,
         table: usize,
-        keys: &[&'a Key],
-    ) -> Result<Vec<(&'a Key, Summed)>, NoMemory>
-        ensures { IfOk result
-            (λ rows. map key_and_sums rows.items
-            ≡ filter_map (λ key. with_sums key (summed self.now table key))
-            (map (λ key. key.now) keys.now)) }
+        conds: &[Cond],
+    ) -> Result<BookRows<'_>, NoMemory>
+        ensures { IfOk result (λ rows. map shown_row rows
+            ≡ listed_where self.now table conds.now) }
     {
-        let mut rows = Vec::new(alloc);
-        for key in keys {
-            push_found(&mut rows, *key, self.summed(table, *key))?;
-        }
-        Ok(rows)
+        fleet_model::laws::keys::a_key_answers_by_its_rows();
+        fleet_model::laws::keys::a_set_is_the_keys_that_hold();
+        self.machine.meeting(alloc, table, conds)
     }
 
     /// The keys that a standing filter holds, in order, by the verdicts that are kept; where these

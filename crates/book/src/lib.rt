@@ -31,6 +31,8 @@ mod ends;
 mod foreseen;
 mod held;
 mod leaders;
+mod listed;
+mod listing;
 mod machine;
 mod next;
 mod one_key;
@@ -43,7 +45,7 @@ mod store;
 mod values;
 
 pub use book::{Book, Taken};
-pub use book_frame::listing::BookRows;
 pub use fleet_model::Summed;
+pub use listing::BookRows;
 pub use peer_rows::Spot;
 pub use ranking::Ranked;

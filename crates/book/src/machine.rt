@@ -16,6 +16,7 @@ ghost use Rattle.book_frame.specs.Due.{IsDue};
 ghost use Rattle.book.specs.Due.{FitsPlace};
 ghost use Rattle.book.specs.Held.{keys_in};
 ghost use Rattle.book.specs.Leading.{AreLed};
+ghost use Rattle.book.specs.Listing.{ListsMeeting};
 ghost use Rattle.book.specs.Planned.{IsInside, IsShort, place_at};
 ghost use Rattle.book.specs.Store.{row_keys};
 
@@ -23,9 +24,10 @@ use crate::at::At;
 use crate::clears::{clear_key, clear_table, clear_where};
 use crate::ends::Size;
 use crate::leaders::{go_on, put_led};
+use crate::listing::{BookRows, meeting};
 use crate::queries;
 use crate::store::Store;
-use agg_types::{Cells, Config, Filter, Key, NoMemory, Select, What};
+use agg_types::{Cells, Cond, Config, Filter, Key, NoMemory, Select, What};
 use book_frame::seats;
 use book_frame::seats::{
     Seats, Sessions, count_up, end_sessions, is_number, open_session, sit_down, stand_up,
@@ -137,6 +139,20 @@ impl Machine {
     {
         let cols = cols_of(self.config.tables.as_slice(), table);
         queries::summed(&self.rows, cols, table, key, self.moment)
+    }
+
+    /// The keys of a table whose values meet all conditions, each with its summed row.
+    pub(crate) fn meeting(
+        &self,
+        alloc: Global,
+        table: usize,
+        conds: &[Cond],
+    ) -> Result<BookRows<'_>, NoMemory>
+        ensures { IfOk result (λ rows. ListsMeeting self.now.rows table
+            (cols_of self.now.config.tables table) conds.now self.now.moment rows) }
+    {
+        let cols = cols_of(self.config.tables.as_slice(), table);
+        meeting(alloc, &self.rows, cols, table, conds, self.moment)
     }
 
     /// The standing filter at a position.

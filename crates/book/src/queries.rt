@@ -65,8 +65,8 @@ pub fn summed(store: &Store, cols: &[(Col, u32)], table: usize, key: &Key, t: u6
     })
 }
 
-// How many rows there are, and the longest life left of them.
-fn tally(rows: OfKey<'_>, t: u64) -> Option<(usize, Option<u64>)>
+/// How many rows there are, and the longest life left of them.
+pub fn tally(rows: OfKey<'_>, t: u64) -> Option<(usize, Option<u64>)>
     requires { length rows < 2 ^ 64 }
     ensures { result ≡ tally t (map (of_peer 0 []) rows.entry) }
 {
@@ -88,14 +88,15 @@ fn left_of(t: u64, row: &Row) -> Option<u64>
     Some(life.saturating_sub(t.saturating_sub(row.arrived)))
 }
 
-// What rows of one key sum up to, by column.
-fn values(rows: &OfKey<'_>, cols: &[(Col, u32)], t: u64) -> [u128; COLUMNS]
+/// What rows of one key sum up to, by column: nothing in those that the table doesn't store.
+pub fn values(rows: &OfKey<'_>, cols: &[(Col, u32)], t: u64) -> [u128; COLUMNS]
     requires { length rows.now < 2 ^ 64 }
     ensures { result ≡ map (λ col. rows_worth cols.now col t rows.now) all_cols }
 {
     let mut values = [0; COLUMNS];
-    for (i, col) in Col::ALL.iter().enumerate() {
-        values[i] = worth(rows, cols, *col, t);
+    for stored in cols {
+        let col = stored.0;
+        values[col.place()] = worth(rows, cols, col, t);
     }
     values
 }

@@ -2,7 +2,7 @@
 
 ghost use Rattle.std.specs.Prelude.{◌≡◌, ◌<◌, ◌≤◌, ℕ, List, [], Option, ◌==◌, ◌&&◌, not};
 ghost use Rattle.std.specs.Prelude.{length, map, filter, MatchOption, IfSome, IfOk, OnOk};
-ghost use Rattle.std.specs.Prelude.{OnErr};
+ghost use Rattle.std.specs.Prelude.{OnErr, unwrap_or};
 ghost use Rattle.agg_types.specs.declared.column.Col.{Col as ColName};
 ghost use Rattle.agg_types.specs.declared.event.Cell.{Cell as CellValue};
 ghost use Rattle.agg_types.specs.declared.limits.TheConstants.{LAST_MOMENT};
@@ -14,7 +14,7 @@ ghost use Rattle.fleet_model.specs.Values.{same_key, same_place};
 ghost use Rattle.fleet_model.specs.Keys.{AreInOrder, held_rows, key_rows, worth_of};
 ghost use Rattle.book.specs.Shown.{of_peer, of_spot};
 ghost use Rattle.book.specs.Planned.{IsInside, IsShort, place_at};
-ghost use Rattle.book.specs.Store.{AreRowsOf, IsWalk, put_arrival, row_keys};
+ghost use Rattle.book.specs.Store.{AreRowsOf, IsEachKeyOf, IsWalk, put_arrival, row_keys};
 
 use crate::at::At;
 use crate::ends::{Size, end_late, plan_again, set_aside};
@@ -22,7 +22,7 @@ use crate::puts::{drop_key, drop_row, new_row, set_row};
 use crate::values::{arriving_worth, found_worth};
 use agg_types::{Cell, Col, Key, NoMemory, RowKey, Shape};
 use expiry_wheel::Wheel;
-use peer_rows::{ByKey, OfKey, Rows, Spot};
+use peer_rows::{ByKey, EachKey, OfKey, Rows, Spot};
 use std::alloc::Global;
 use std::marker::Model;
 use std::mem;
@@ -91,8 +91,7 @@ impl Store {
         Ok(mem::replace(&mut self.late, Vec::new(self.alloc)))
     }
 
-    /// Where the rows of a key lie, if the hint says so or it was seen lately, for the calls that
-    /// take an `At`.
+    /// Where the rows of a key lie, if it has any, for the calls that take an `At`.
     pub(crate) fn spot_near(&self, hint: Option<Spot>, table: usize, key: &Key) -> Option<Spot>
         requires { table < self.now.tables }
     {
@@ -164,6 +163,17 @@ impl Store {
             Ok(Some(self.rows.by_key(table)?))
         } else {
             Ok(None)
+        }
+    }
+
+    /// The keys of a table, each once with its rows, in no order. None where there is no such table.
+    pub(crate) fn each_key(&self, table: usize) -> Option<EachKey<'_>>
+        ensures { IsEachKeyOf self.now.rows table (unwrap_or result []) }
+    {
+        if table < self.size.tables {
+            Some(self.rows.each_key(table))
+        } else {
+            None
         }
     }
 

@@ -152,8 +152,8 @@ pub fn meets(
     found_meets(store.of_key(table, key).as_ref(), cols, t, conds)
 }
 
-// Whether all conditions hold of what the rows of the key that were found sum up to.
-fn found_meets(rows: Option<&OfKey<'_>>, cols: &[(Col, u32)], t: u64, conds: &[Cond]) -> bool
+/// Whether all conditions hold of what the rows of the key that were found sum up to.
+pub fn found_meets(rows: Option<&OfKey<'_>>, cols: &[(Col, u32)], t: u64, conds: &[Cond]) -> bool
     requires { IfSome rows (λ rows. length rows.now < 2 ^ 64) }
     ensures { result ≡ list_all
         (λ cond. op_holds cond.op (found_worth cols.now cond.col t rows.entry) cond.bound)

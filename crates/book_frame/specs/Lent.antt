@@ -1,7 +1,12 @@
 -- What entries that are lent show.
-use Rattle.std.specs.Prelude.{ℕ, List, Option, Some}
+use Rattle.std.specs.Prelude.{ℕ, List, Option, Some, filter}
 use Rattle.std.specs.Borrow.{Bor}
 use Rattle.std.specs.Option.{option_map}
+use Rattle.agg_types.specs.declared.column.Col.{Col}
+use Rattle.agg_types.specs.declared.config.Cond.{Cond}
+use Rattle.fleet_model.specs.Answers.{listed}
+use Rattle.fleet_model.specs.State.{State}
+use Rattle.fleet_model.specs.Values.{cols_of, meets}
 use Rattle.fleet_model.specs.declared.summed.Summed.{Summed}
 
 -- a key with its value
@@ -19,3 +24,9 @@ shown_row row = (row.0, Some row.1)
 -- a key with its summed row, if it has one
 abbrev pub with_sums : List ℕ → Option Summed → Option (List ℕ × Summed)
 with_sums key sums = option_map (λ found. (key, found)) sums
+
+-- the keys of a table whose values meet all conditions, each with its summed row, in order
+abbrev pub listed_where : State → ℕ → List Cond → List (List ℕ × Option Summed)
+listed_where state table conds =
+    let cols : List (Col × ℕ) = cols_of state.config.tables table in
+    filter (λ row. meets cols state.rows table row.0 state.moment conds) (listed state table)

@@ -1,1 +1,2 @@
 pub mod PutAll
+pub mod Where

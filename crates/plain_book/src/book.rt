@@ -1,6 +1,6 @@
 ghost use Rattle.std.specs.Prelude.{◌≡◌, ◌<◌, ◌≤◌, ℕ, List, map, length, nat_lt, false, []};
 ghost use Rattle.std.specs.Prelude.{◌∷◌, ◌++◌, IfOk, IsOk, OnOk, OnErr};
-ghost use Rattle.std.specs.List.{filter_map};
+ghost use Rattle.std.specs.List.{filter, filter_map};
 ghost use Rattle.agg_types.specs.Check.{config_faults};
 ghost use Rattle.agg_types.specs.declared.config.Config.{Config};
 ghost use Rattle.agg_types.specs.declared.event.Event.{Event};
@@ -13,14 +13,15 @@ ghost use Rattle.fleet_model.specs.Next.{IsNextChange, IsNextChangeBy, table_fla
 ghost use Rattle.fleet_model.specs.Ranking.{rank_of, ranked};
 ghost use Rattle.fleet_model.specs.Sound.{IsSound};
 ghost use Rattle.fleet_model.specs.State.{IsStateOf};
-ghost use Rattle.book_frame.specs.Lent.{key_and_sums, shown_row, with_sums};
+ghost use Rattle.book_frame.specs.Lent.{key_and_sums, listed_where, shown_row, with_sums};
+ghost use Rattle.fleet_model.specs.Values.{cols_of, meets};
 
 use crate::machine::Machine;
 use crate::next::flat_moment;
 use crate::queries;
 use crate::ranking::{Ranked, first_by_rank};
-use crate::sets::keys_held;
-use agg_types::{Config, Event, Key, NoMemory, What};
+use crate::sets::{keys_held, keys_meeting};
+use agg_types::{Cond, Config, Event, Key, NoMemory, What};
 use book_frame::keys::are_same;
 use book_frame::listing::{BookRows, push_found};
 use book_frame::seats;
@@ -175,6 +176,33 @@ impl Book {
         fleet_model::laws::listed_keys_have_sums();
         let keys = self.keys(alloc, table)?;
         Ok(BookRows::new(self.sum_up(alloc, table, keys.as_slice())?))
+    }
+
+    /// The keys of a table whose values meet all conditions, each with its summed row, in order.
+    pub fn rows_where(
+        &self,
+        alloc: Global,
+        table: usize,
+        conds: &[Cond],
+    ) -> Result<BookRows<'_>, NoMemory>
+        ensures { IfOk result (λ rows. map shown_row rows
+            ≡ listed_where self.now table conds.now) }
+    {
+        fleet_model::laws::listed_keys_have_sums();
+        let keys = self.keys_where(alloc, table, conds)?;
+        Ok(BookRows::new(self.sum_up(alloc, table, keys.as_slice())?))
+    }
+
+    // The keys of a table whose values meet all conditions.
+    #[tactic(auto, unfolding(fleet_model::specs::Answers::keys_of))]
+    fn keys_where(&self, alloc: Global, table: usize, conds: &[Cond]) -> Result<Vec<&Key>, NoMemory>
+        ensures { IfOk result (λ keys. map (λ key. key.now) keys.items
+            ≡ filter (λ key. meets (cols_of self.now.config.tables table) self.now.rows table key
+            self.now.moment conds.now) (keys_of self.now table)) }
+    {
+        let held = &self.machine;
+        let cols = cols_of(held.config.tables.as_slice(), table);
+        keys_meeting(alloc, &held.rows, cols, table, conds, held.moment)
     }
 
     // Keys of a table, each with its summed row.
