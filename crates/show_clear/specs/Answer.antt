@@ -59,9 +59,9 @@ rows_text state table (One key) = line_if (shape_of state table) [] (key, summed
 rows_text state table (Conds conds) =
     flat_map (line_if (shape_of state table) conds) (listed state table)
 
--- the lines of rows of which all conditions hold
-abbrev pub row_lines : Shape → List Cond → List (List ℕ × Summed) → List ℕ
-row_lines shape conds rows = flat_map (λ row. line_if shape conds (row.0, Some row.1)) rows
+-- the lines of rows
+abbrev pub row_lines : Shape → List (List ℕ × Summed) → List ℕ
+row_lines shape rows = flat_map (λ row. row_text shape row.0 row.1) rows
 
 -- the heading of a table, with the number of all its keys, and its selected rows
 abbrev pub table_text : State → ℕ → Select → List ℕ

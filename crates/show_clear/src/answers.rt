@@ -5,13 +5,13 @@ ghost use Rattle.agg_types.specs.declared.event.Select.TheVariants.{One, Conds};
 ghost use Rattle.fleet_model.specs.Answers.{filter_of};
 ghost use Rattle.fleet_model.specs.Ranking.{rank_of};
 ghost use Rattle.show_clear.specs.Answer.{Answers, AnswersQuestion, AppendsNext, AskedExists};
-ghost use Rattle.show_clear.specs.Answer.{NamesExist, all_hold, filter_text};
+ghost use Rattle.show_clear.specs.Answer.{NamesExist, filter_text};
 ghost use Rattle.show_clear.specs.Answer.{headings, rank_text, row_lines, rows_text, shape_of};
 ghost use Rattle.show_clear.specs.Answer.{table_text};
 
-use crate::fleet::{Book, BookRows, Summed};
+use crate::fleet::{Book, BookRows};
 use crate::lists::{append_change, append_held, append_ranking};
-use crate::tables::{append_heading, append_row, value_in};
+use crate::tables::{append_heading, append_row};
 use crate::{Command, Question};
 use agg_types::{Cond, Filter, Key, NoMemory, Rank, Select, Shape};
 use key_text::append_text;
@@ -134,7 +134,7 @@ fn append_one(
     }
 }
 
-#[tactic(auto, using(crate::proofs::Lines::lines_listed))]
+#[tactic(auto, using(crate::proofs::Lines::lines_where))]
 fn append_listed(
     alloc: Global,
     book: &Book,
@@ -147,35 +147,20 @@ fn append_listed(
         (out.new.items ≡ out.old.items ++ rows_text book.now table (Conds conds.now)) }
     ensures begins { take (length out.old.items) out.new.items ≡ out.old.items }
 {
-    let rows = book.rows(alloc, table)?;
-    append_rows(shape_of(book, table), conds, rows, out)
+    let rows = book.rows_where(alloc, table, conds)?;
+    append_rows(shape_of(book, table), rows, out)
 }
 
-// Appends the lines of the rows of which all conditions hold.
-fn append_rows(
-    shape: &Shape,
-    conds: &[Cond],
-    rows: BookRows<'_>,
-    out: &mut Vec<u8>,
-) -> Result<(), NoMemory>
+// Appends the lines of rows.
+fn append_rows(shape: &Shape, rows: BookRows<'_>, out: &mut Vec<u8>) -> Result<(), NoMemory>
     ensures ok { OnOk result
-        (out.new.items ≡ out.old.items ++ row_lines shape.now conds.now rows.entry) }
+        (out.new.items ≡ out.old.items ++ row_lines shape.now rows.entry) }
     ensures begins { take (length out.old.items) out.new.items ≡ out.old.items }
 {
     for (key, sums) in rows {
-        if all_hold(conds, &sums) {
-            append_row(shape, key, &sums, out)?;
-        }
+        append_row(shape, key, &sums, out)?;
     }
     Ok(())
-}
-
-fn all_hold(conds: &[Cond], sums: &Summed) -> bool
-    ensures { result ≡ all_hold conds.now sums.now }
-{
-    conds
-        .iter()
-        .all(|cond| cond.op.holds(value_in(sums, cond.col), cond.bound))
 }
 
 // A standing filter. Its table is there, as in every configuration that was checked.

@@ -6,7 +6,7 @@ use Rattle.show_clear.proofs.answers.append_rows.Given as goal
 abbrev pub invariant-loop-key : goal.invariant-loop-key
 invariant-loop-key l =
     record {
-      so_far : l.out.items ++ row_lines l.shape l.conds l.key-iterator ≡ l.fn.out.items
-          ++ row_lines l.shape l.conds l.fn.rows;
+      so_far : l.out.items ++ row_lines l.shape l.key-iterator ≡ l.fn.out.items
+          ++ row_lines l.shape l.fn.rows;
       begins : take (length l.fn.out.items) l.out.items ≡ l.fn.out.items;
     }
