@@ -3,6 +3,7 @@
 use crate::load::{Load, Order};
 use anyhow::Result;
 use book::Book;
+use show_clear::{answer, parse};
 use std::alloc::Global;
 use std::time::Instant;
 
@@ -32,10 +33,16 @@ impl Standing {
     }
 }
 
+/// The commands whose answers are timed: all rows, and those of one key in a thousand.
+const SHOWS: [&[u8]; 2] = [b"show table t", b"show table t data.http_req_rate gt 100"];
+
 /// Asks a book for its rows, for some of its keys, and for each filter and each list, and tells how
 /// long that took.
 pub fn ask(rt: HostRuntime, book: &Book, load: Load) -> Result<()> {
     ask_rows(rt, book)?;
+    for line in SHOWS.iter() {
+        ask_text(rt, book, line)?;
+    }
     ask_keys(rt, book, load)?;
     for filter in 0..book.config().filters.len() {
         ask_filter(rt, book, filter)?;
@@ -55,6 +62,18 @@ fn ask_rows(rt: HostRuntime, book: &Book) -> Result<()> {
     }
     let micros = start.elapsed(&rt)?.as_micros();
     eprintln!(rt; "{} keys: {peers} rows in {micros} us", book.used(0))?;
+    Ok(())
+}
+
+/// Asks for the answer to a command, with its text.
+fn ask_text(rt: HostRuntime, book: &Book, line: &[u8]) -> Result<()> {
+    let start = Instant::now(&rt)?;
+    let mut out = Vec::new(rt.alloc());
+    if let Ok(command) = parse(rt.alloc(), book, line) {
+        answer(rt.alloc(), book, &command, &mut out)?;
+    }
+    let micros = start.elapsed(&rt)?.as_micros();
+    eprintln!(rt; "a text of {} bytes in {micros} us", out.len())?;
     Ok(())
 }
 

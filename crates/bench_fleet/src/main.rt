@@ -7,7 +7,8 @@
 //! 100 ms after each 100,000 updates. With `four` four proxies send the same, in turn by 100,000;
 //! with `texts` keys are texts of 20 bytes. With `rare` a filter stands that holds one key in a
 //! thousand, with `every` one that holds them all, and with `rank` a list of the ten keys with the
-//! greatest rates. At last the rows, some keys, the filters and the list are asked for.
+//! greatest rates. At last the rows are asked for, then their text and that of one row in a
+//! thousand, some keys, the filters and the list.
 //!
 //! What was done goes to standard output; how fast, with the resident memory that a key costs where
 //! the system tells it, to standard error.

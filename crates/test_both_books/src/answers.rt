@@ -2,9 +2,9 @@
 
 use crate::deeds::key;
 use crate::fleet::{PEERS, TABLES};
-use agg_types::{Key, NoMemory};
-use book::Book;
-use plain_book::Book as PlainBook;
+use agg_types::{Col, Cond, Key, NoMemory, Op};
+use book::{Book, BookRows};
+use plain_book::{Book as PlainBook, BookRows as PlainRows};
 use std::alloc::Global;
 
 /// How many seats and keys are asked for.
@@ -12,10 +12,26 @@ const SEATS: u64 = 40;
 
 const KEYS: u16 = 12;
 
-/// What was ever among the answers: rows, keys of a set, and a next change.
+/// What rows are listed by: none, the first, or both of these.
+const CONDS: [Cond; 2] = [
+    Cond {
+        col: Col::Gpc0,
+        op: Op::Gt,
+        bound: 20,
+    },
+    Cond {
+        col: Col::HttpReqRate,
+        op: Op::Le,
+        bound: 40,
+    },
+];
+
+/// What was ever among the answers: rows, some rows of a table but not all, keys of a set, and a
+/// next change.
 #[derive(Clone, Copy, Debug, Default)]
 pub struct Seen {
     pub rows: bool,
+    pub parts: bool,
     pub sets: bool,
     pub changes: bool,
 }
@@ -32,6 +48,8 @@ pub fn differences(
     for table in 0..TABLES {
         let found = table_differs(alloc, fast, plain, table)?;
         differ = differ.saturating_add(found);
+        let parts = parts_differ(alloc, fast, plain, table, seen)?;
+        differ = differ.saturating_add(parts);
         seen.rows |= fast.used(table) > 0;
     }
     for filter in 0..plain.config().filters.len() {
@@ -71,7 +89,7 @@ fn table_differs(
     table: usize,
 ) -> Result<u64, NoMemory> {
     let mut differ = u64::from(fast.used(table) != plain.used(table));
-    if !are_same_rows(alloc, fast, plain, table)? {
+    if same_rows(fast.rows(alloc, table)?, plain.rows(alloc, table)?).is_none() {
         differ = differ.saturating_add(1);
     }
     for number in 0..KEYS {
@@ -83,22 +101,41 @@ fn table_differs(
     Ok(differ)
 }
 
-fn are_same_rows(
+/// How many listings of a table's rows by conditions differ.
+fn parts_differ(
     alloc: Global,
     fast: &Book,
     plain: &PlainBook,
     table: usize,
-) -> Result<bool, NoMemory> {
-    let mut others = plain.rows(alloc, table)?;
-    for (key, sums) in fast.rows(alloc, table)? {
-        let Some((other, other_sums)) = others.next() else {
-            return Ok(false);
-        };
-        if *key != *other || sums != other_sums {
-            return Ok(false);
+    seen: &mut Seen,
+) -> Result<u64, NoMemory> {
+    let mut differ = 0u64;
+    for count in 0..3usize {
+        let conds = &CONDS[..count];
+        let rows = fast.rows_where(alloc, table, conds)?;
+        match same_rows(rows, plain.rows_where(alloc, table, conds)?) {
+            None => differ = differ.saturating_add(1),
+            Some(listed) => seen.parts |= 0 < listed && listed < fast.used(table),
         }
     }
-    Ok(others.next().is_none())
+    Ok(differ)
+}
+
+/// How many rows two listings have, where they have the same.
+fn same_rows(rows: BookRows<'_>, others: PlainRows<'_>) -> Option<u64> {
+    let mut others = others;
+    let mut listed = 0u64;
+    for (key, sums) in rows {
+        let (other, other_sums) = others.next()?;
+        if *key != *other || sums != other_sums {
+            return None;
+        }
+        listed = listed.saturating_add(1);
+    }
+    match others.next() {
+        None => Some(listed),
+        Some(_) => None,
+    }
 }
 
 /// How many answers on a filter differ.

@@ -54,8 +54,8 @@ const SELDOM: Way = Way {
 fn tell(rt: &impl Print, name: &str, pair: &Pair) -> Result<()> {
     let seen = pair.seen;
     println!(rt;
-        "{name}: {} events, {} answers differ; rows {}, sets {}, changes {}",
-        pair.events, pair.differ, seen.rows, seen.sets, seen.changes
+        "{name}: {} events, {} answers differ; rows {}, parts {}, sets {}, changes {}",
+        pair.events, pair.differ, seen.rows, seen.parts, seen.sets, seen.changes
     )?;
     Ok(())
 }
