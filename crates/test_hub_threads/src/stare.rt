@@ -2,13 +2,13 @@
 
 ghost use Rattle.std.specs.Prelude.{◌≡◌};
 
+use crate::crew::Crew;
 use anyhow::{Result, anyhow};
 use hub::{Hub, Lens, Naming};
 use std::alloc::Global;
 use std::sync::Wait;
 use std::sync::atomic::{AtomicBool, AtomicU32, Ordering};
 use std::thread;
-use std::thread::Threads;
 use test_hub_support::{batch, first_sum, post, sit};
 use test_support::{address, alone, put};
 
@@ -18,7 +18,7 @@ const TURNS: u32 = 1000;
 /// How many batches are posted meanwhile.
 const BATCHES: u64 = 50;
 
-/// What two threads tell one another.
+/// What two threads report to one another.
 #[derive(Drop)]
 pub struct Turns {
     // The look has begun.
@@ -30,12 +30,50 @@ pub struct Turns {
 }
 
 impl Turns {
-    fn new() -> Turns {
+    /// Of threads that have yet to begin.
+    pub fn new() -> Turns {
         Turns {
             looks: AtomicBool::new(false),
             same: AtomicU32::new(0),
             posted: AtomicU32::new(0),
         }
+    }
+
+    /// How many turns showed what the first one showed.
+    pub fn same(&self) -> u32 {
+        self.same.load(Ordering::SeqCst)
+    }
+
+    /// How many batches were posted.
+    pub fn posted(&self) -> u32 {
+        self.posted.load(Ordering::SeqCst)
+    }
+}
+
+/// A look of 1,000 turns in one thread, and batches of another at once.
+#[derive(Drop)]
+pub struct Staring<'a, J: Naming, H: Wait + Drop> {
+    pub alloc: Global,
+    pub hub: &'a Hub<J, H>,
+    pub turns: &'a Turns,
+}
+
+/// How many threads they are.
+pub const PARTS: u32 = 2;
+
+impl<J: Naming, H: Wait + Drop> Crew for Staring<'_, J, H> {
+    fn work<W: Wait>(&self, rt: &W, part: u32) {
+        let is_done = match part {
+            0 => look_on(rt, self.alloc, self.hub, self.turns),
+            _ => go_on(rt, self.alloc, self.hub, self.turns).is_ok(),
+        };
+        if !is_done {
+            self.give_up();
+        }
+    }
+
+    fn give_up(&self) {
+        self.turns.looks.store(true, Ordering::SeqCst);
     }
 }
 
@@ -56,6 +94,29 @@ fn stare(alloc: Global, lens: &mut Lens, turns: &Turns) -> Result<()> {
     Ok(())
 }
 
+/// Stares through a lens of its own; whether it could.
+fn look_on<J: Naming, H: Wait + Drop, W: Wait>(
+    rt: &W,
+    alloc: Global,
+    hub: &Hub<J, H>,
+    turns: &Turns,
+) -> bool {
+    match hub.lens(rt) {
+        Ok(mut lens) => stare(alloc, &mut lens, turns).is_ok(),
+        Err(_) => false,
+    }
+}
+
+/// Waits until the look has begun.
+fn wait_for_look<W: Wait>(rt: &W, turns: &Turns) {
+    for _ in rt.forever() {
+        if turns.looks.load(Ordering::SeqCst) {
+            break;
+        }
+        thread::yield_now();
+    }
+}
+
 /// Posts batch after batch, once the look has begun.
 fn go_on<J: Naming, H: Wait + Drop, W: Wait>(
     rt: &W,
@@ -64,43 +125,12 @@ fn go_on<J: Naming, H: Wait + Drop, W: Wait>(
     turns: &Turns,
 ) -> Result<()> {
     let mut pass = sit(rt, hub)?;
-    for _ in rt.forever() {
-        if turns.looks.load(Ordering::SeqCst) {
-            break;
-        }
-        thread::yield_now();
-    }
+    wait_for_look(rt, turns);
     post(rt, alloc, hub, &mut pass, batch(alloc, 1, 1)?)?;
     for count in 0..BATCHES {
-        post(
-            rt,
-            alloc,
-            hub,
-            &mut pass,
-            alone(alloc, put(alloc, 1, 0, count)?)?,
-        )?;
+        let whats = alone(alloc, put(alloc, 1, 0, count)?)?;
+        post(rt, alloc, hub, &mut pass, whats)?;
         turns.posted.fetch_add(1, Ordering::SeqCst);
     }
     Ok(())
-}
-
-/// A look of 1,000 turns in one thread and batches of another at once: how many turns showed the
-/// same, and how many batches were posted.
-pub fn at_once<
-    J: Naming + Send + Sync,
-    H: Wait + Drop + Send,
-    R: Threads + Wait + Copy + Send + Sync,
->(rt: &R, alloc: Global, hub: &Hub<J, H>, lens: &mut Lens) -> (u32, u32) {
-    let turns = Turns::new();
-    let all = &turns;
-    thread::scope(thread::scope_env(), rt, |scope| {
-        let posting = scope.spawn(move || go_on(rt, alloc, hub, all).is_ok());
-        if posting.is_ok() && stare(alloc, lens, all).is_err() {
-            all.looks.store(true, Ordering::SeqCst);
-        }
-    });
-    (
-        turns.same.load(Ordering::SeqCst),
-        turns.posted.load(Ordering::SeqCst),
-    )
 }
