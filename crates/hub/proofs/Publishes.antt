@@ -12,6 +12,7 @@ use Rattle.hub.specs.Kept.{IsTold}
 use Rattle.hub.specs.Posts.{Follows}
 use Rattle.logbook.specs.Pages.{Book}
 use mathlib.Core.List.{IsPrefix}
+use Rattle.hub.proofs.Fronts.{prefix_both}
 
 abbrev View : Type 0
 View = Option Beginning
@@ -111,6 +112,14 @@ follows_on b later of config opening prefix = record {
   };
   events = prefix;
 }
+
+-- two beginnings of one log and fleet that begin with one another are the same
+pub same_beginning : (b other : Beginning) → other.of ≡ b.of → other.config ≡ b.config
+    → other.opening ≡ b.opening → IsPrefix b.events other.events → IsPrefix other.events b.events
+    → other ≡ b
+same_beginning b other of config opening prefix back =
+    let events : other.events ≡ b.events = prefix_both other.events b.events back prefix in
+    λ i. record { of = of i; config = config i; opening = opening i; events = events i }
 
 -- who finds a copy knows of which log it is
 pub log_of : (book : Book) (x : Copied) (v : View) → IsTold book v → Fits x v → x.at.of ≡ book

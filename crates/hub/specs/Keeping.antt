@@ -1,40 +1,45 @@
--- What a post does to all that lies under the lock.
-use Rattle.std.specs.Prelude.{◌≡◌, List, [], ◌∷◌, Option, None, Some}
+-- What an append does to all that lies under the lock.
+use Rattle.std.specs.Prelude.{◌≡◌, ℕ, Bool, false, List, [], ◌∷◌}
 use Rattle.agg_types.specs.declared.event.What.{What}
 use Rattle.agg_types.specs.declared.event.What.TheVariants.{Leave}
-use Rattle.hub.specs.declared.faults.PostFault.{PostFault}
-use Rattle.hub.specs.declared.faults.PostFault.TheVariants.{Replaced, NotNext, NoMemory, Pending}
-use Rattle.hub.specs.declared.faults.PostFault.TheVariants.{Spent}
 use Rattle.hub.specs.History.{Beginning, longer_by}
-use Rattle.hub.specs.Copied.{whole}
 use Rattle.hub.specs.Kept.{Kept}
-use Rattle.hub.specs.Posts.{Follows, Seated, SitsDown}
+use Rattle.hub.specs.Posts.{Follows, IsNotNext, Seated, ShowsBatch, SitsDown}
 use Rattle.logbook.specs.Pages.{Book}
 use Rattle.fleet_model.specs.Seats.{numbered}
+
+-- readers are shown what they were, and nothing was refused to them
+abbrev pub ShowsSame : Kept → Kept → Type 0
+ShowsSame k k' = (k'.shown ≡ k.shown) × (k'.stuck ≡ k.stuck)
 
 -- the history has the batch more, and nothing else
 abbrev pub AddsBatch : Kept → Kept → Seated → List What → Type 0
 AddsBatch k k' p whats = k'.all ≡ longer_by k.all (numbered p.seat p.number whats)
 
--- this list is the whole history, and is shown
-abbrev pub IsShownAll : Kept → Beginning → Type 0
-IsShownAll k b = (k.all ≡ b) × (k.shown ≡ whole b)
+-- no batch is appended while a showing is refused; else it is, and the ticket is for all
+pub record IsAppended (k k' : Kept) (p : Seated) (whats : List What) (ticket : Beginning) : Type 0
+  where
+    pub runs : k.stuck ≡ false
+    pub adds : AddsBatch k k' p whats
+    pub all : k'.all ≡ ticket
 
-abbrev pub KeepsAtOk : Kept → Kept → Seated → List What → Beginning → Type 0
-KeepsAtOk k k' p whats shown = AddsBatch k k' p whats × IsShownAll k' shown
+-- the seat's Leave was appended, and the ticket is for all
+pub record IsLeft (k k' : Kept) (p : Seated) (ticket : Beginning) : Type 0 where
+  pub adds : AddsBatch k k' p (Leave ∷ [])
+  pub all : k'.all ≡ ticket
+  pub shows : ShowsBatch p (Leave ∷ []) ticket
 
--- the seat's Leave was stored; with a receipt it is shown, too
-abbrev pub KeepsAtLeave : Kept → Kept → Seated → Option Beginning → Type 0
-KeepsAtLeave k k' p None = AddsBatch k k' p (Leave ∷ []) × (k'.shown ≡ k.shown)
-KeepsAtLeave k k' p (Some shown) = KeepsAtOk k k' p (Leave ∷ []) shown
+-- the pass came back, and the ticket is for a history that has another number of its events
+pub record IsBehind (k k' : Kept) (p p' : Seated) (found : ℕ) (ticket : Beginning) : Type 0 where
+  pub all : k'.all ≡ k.all
+  pub pass : p' ≡ p
+  pub not_next : IsNotNext p found ticket
 
--- a refusal stores nothing, but for Pending, which stores all and shows nothing
-abbrev pub KeepsAtErr : Kept → Kept → Seated → List What → PostFault → Type 0
-KeepsAtErr k k' p whats (Replaced by shown) = (k'.all ≡ k.all) × IsShownAll k' shown
-KeepsAtErr k k' p whats (NotNext found shown) = (k'.all ≡ k.all) × IsShownAll k' shown
-KeepsAtErr k k' p whats (NoMemory back) = k'.all ≡ k.all
-KeepsAtErr k k' p whats Pending = AddsBatch k k' p whats × (k'.shown ≡ k.shown)
-KeepsAtErr k k' p whats Spent = k'.all ≡ k.all
+-- a fleet that was just opened, with no event
+pub record IsOpened (k : Kept) (b : Beginning) : Type 0 where
+  pub all : k.all ≡ b
+  pub shown : k.shown ≡ b
+  pub runs : k.stuck ≡ false
 
 -- a seat that sat down, and the history that ends with it
 pub record SitsDownIn (k k' : Kept) (book : Book) (p : Seated) : Type 0 where
@@ -42,3 +47,4 @@ pub record SitsDownIn (k k' : Kept) (book : Book) (p : Seated) : Type 0 where
   pub of : p.seen.of ≡ book
   pub follows : Follows k.all p.seen
   pub all : k'.all ≡ p.seen
+  pub runs : k.stuck ≡ false

@@ -12,6 +12,10 @@ use Rattle.fleet_model.specs.Laws.{opens_at}
 use Rattle.fleet_model.specs.Rows.{putter}
 use Rattle.fleet_model.specs.Seats.{is_number, numbered}
 use Rattle.fleet_model.specs.Sessions.{last_opener}
+use Rattle.hub.specs.declared.awaiting.Await.{Await}
+use Rattle.hub.specs.declared.awaiting.Await.TheVariants as awaits
+use Rattle.hub.specs.declared.faults.AppendFault.{AppendFault}
+use Rattle.hub.specs.declared.faults.AppendFault.TheVariants as faults
 use Rattle.hub.specs.declared.faults.PostFault.{PostFault}
 use Rattle.hub.specs.declared.faults.PostFault.TheVariants.{Replaced, NotNext, NoMemory, Pending}
 use Rattle.hub.specs.declared.faults.PostFault.TheVariants.{Spent}
@@ -94,9 +98,34 @@ pub record IsReplaced (p : Seated) (whats : List What) (by : ℕ) (shown : Begin
 abbrev pub advanced : Seated → ℕ → Seated
 advanced p count = record p { number = p.number + count }
 
+-- The batch stands at the end of the ticket's list, as a receipt for it would show, and the pass
+-- goes on behind it.
+abbrev pub Appends : Seated → Seated → List What → Beginning → Type 0
+Appends p p' whats ticket = ShowsBatch p whats ticket × (p' ≡ advanced p (length whats))
+
 -- the numbers of a seat don't go as far
 abbrev pub IsSpent : Seated → List What → Type 0
 IsSpent p whats = NUMBERS_END ≤ p.number + length whats
+
+-- why a batch wasn't appended
+abbrev pub IsRefused : Seated → List What → AppendFault → Type 0
+IsRefused p whats (faults.Replaced by now) = IsReplaced p whats by now
+IsRefused p whats (faults.NotNext found now) = IsNotNext p found now
+IsRefused p whats faults.NoMemory = Unit {0}
+IsRefused p whats faults.Spent = IsSpent p whats
+
+-- the pass after a refused append, and the batch that comes back
+pub record AppendRefused (p p' : Seated) (whats : List What) (fault : AppendFault)
+    (back : List What) : Type 0 where
+  pub pass : p' ≡ p
+  pub refused : IsRefused p whats fault
+  pub back_is : back ≡ whats
+
+-- a ticket's receipt is of its list, and a ticket that comes back is the same
+abbrev pub IsAwaited : Beginning → Await → Type 0
+IsAwaited ticket (awaits.Shown receipt) = receipt ≡ ticket
+IsAwaited ticket (awaits.NotYet same) = same ≡ ticket
+IsAwaited ticket awaits.Pending = Unit {0}
 
 -- the pass after a refusal, and what it tells
 abbrev pub PostRefused : Seated → Seated → List What → PostFault → Type 0

@@ -1,4 +1,4 @@
-use crate::receipt::Receipt;
+use crate::receipt::{Receipt, Ticket};
 use agg_types::What;
 
 /// Why a post was refused.
@@ -15,6 +15,19 @@ pub enum PostFault {
     /// The batch stands in the history, and is shown before any later event. The pass has advanced.
     Pending,
     /// The seat's numbers don't go as far. Nothing was stored.
+    Spent,
+}
+
+/// Why a batch wasn't appended. Nothing was stored, and the pass is as it was.
+#[derive(Drop)]
+pub enum AppendFault {
+    /// A Put of a peer that this seat opened, and that seat `by` opened later, in the list of `now`.
+    Replaced { by: u64, now: Ticket },
+    /// The list of `now` has `found` events of this seat, and the pass's number is another.
+    NotNext { found: u64, now: Ticket },
+    /// An allocation failed, or the last batch that was appended couldn't be shown.
+    NoMemory,
+    /// The seat's numbers don't go as far.
     Spent,
 }
 

@@ -1,6 +1,7 @@
 //! The side of the two copies that writes.
 
 ghost use Rattle.std.specs.Prelude.{◌≡◌, ◌++◌, drop, true, [], Some, MatchResult};
+ghost use Rattle.std.specs.VecDeque.{deque_capacity};
 ghost use Rattle.left_right.specs.Sides.{view};
 ghost use Rattle.hub.specs.Copied.{all_taken, whole};
 
@@ -44,6 +45,7 @@ pub fn hand_over(writer: &mut HubWriter, queue: &mut VecDeque<Op>) -> bool
     ensures kept { drop writer.new.behind writer.new.log.items ++ queue.new.items
         ≡ drop writer.old.behind writer.old.log.items ++ queue.old.items }
     ensures done { result ≡ true → queue.new.items ≡ [] }
+    ensures room { deque_capacity queue.new ≡ deque_capacity queue.old }
 {
     while let Some(op) = queue.pop_front() {
         if let Err(op) = writer.append(op) {

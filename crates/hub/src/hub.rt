@@ -1,29 +1,31 @@
-//! The hub: one lock, one history, and lenses that take no lock.
+//! The hub: one history, a lock that is never held while anybody waits, and lenses that take none.
 
 ghost use Rattle.std.specs.Prelude.{◌≡◌, ◌<◌, ◌≤◌, [], ◌∷◌, ◌↔◌, true, false, IfOk, IfSome};
-ghost use Rattle.std.specs.Prelude.{IsTrue, OnOk, MatchResult};
+ghost use Rattle.std.specs.Prelude.{IsTrue, MatchResult};
 ghost use Rattle.std.specs.List.{All};
 ghost use Rattle.agg_types.specs.Check.{config_faults};
 ghost use Rattle.agg_types.specs.declared.event.What.TheVariants.{Leave};
 ghost use Rattle.agg_types.specs.declared.limits.TheConstants.{LAST_MOMENT};
 ghost use Rattle.hub.specs.Hosting.{IsOpening};
 ghost use Rattle.hub.specs.Posts.{Follows, LeaveRefused, PostRefused, PostsAfter, ShowsBatch};
-ghost use Rattle.hub.specs.Posts.{SitsDown};
+ghost use Rattle.hub.specs.Posts.{IsNotNext, IsRefused, IsReplaced, SitsDown};
 ghost use Rattle.hub.specs.Roll.{MayPost};
 
-use crate::faults::{LensFault, PostFault, SeatFault};
-use crate::keeper::Keeper;
+use crate::desk::Desk;
+use crate::faults::{AppendFault, LensFault, PostFault, SeatFault};
 use crate::lens::Lens;
 use crate::log::{Front, Log};
 use crate::naming::Naming;
 use crate::pass::Pass;
-use crate::receipt::Receipt;
+use crate::receipt::{Receipt, Ticket};
 use crate::store::hang;
 use agg_types::{Config, NoMemory, What};
 use book::Book;
 use std::alloc::Global;
 use std::marker::Model;
-use std::sync::{Mutex, Wait};
+use std::sync::{Condvar, Mutex, Wait};
+
+mod rounds;
 
 /// A fleet that was just opened: its log, whose name a `Naming` takes up, and both copies of its
 /// book.
@@ -79,7 +81,10 @@ pub struct Hub<J: Naming, R: Wait + Drop> {
     config: Config,
     log: Log,
     start: Front,
-    keeper: Mutex<Option<Keeper<J, R>>>,
+    desk: Mutex<Desk<J, R>>,
+    // Who waits for a round waits here, by whether its number is even or odd.
+    even: Condvar,
+    odd: Condvar,
 }
 
 impl<J: Naming, R: Wait + Drop> Model for Hub<J, R> {
@@ -113,13 +118,15 @@ impl<J: Naming, R: Wait + Drop> Hub<J, R> {
             log,
             start,
         } = opening;
-        let keeper = Keeper::new(alloc, own, first, second, start.again(), places)?;
+        let desk = Desk::new(alloc, own, first, second, start.again(), places)?;
         Ok(Hub {
             alloc,
             config,
             log,
             start,
-            keeper: Mutex::new(Some(keeper)),
+            desk: Mutex::new(desk),
+            even: Condvar::new(),
+            odd: Condvar::new(),
         })
     }
 
@@ -149,23 +156,24 @@ impl<J: Naming, R: Wait + Drop> Hub<J, R> {
     }
 
     /// Takes a seat. Seats are numbered from 0, each number is given once, and at most `MOST_SEATS`
-    /// sit at a time.
+    /// sit at a time. It waits for no look, but where the last showing was refused: it tries that
+    /// again first.
     pub fn seat<W: Wait>(&self, rt: &W) -> Result<Pass, SeatFault>
         ensures { IfOk result (λ p. SitsDown p × Follows self.now p.seen) }
     {
-        let mut guard = self.keeper.lock(rt);
-        let Some(keeper) = guard.take() else {
-            hang(rt);
-            unreachable!()
-        };
-        let (keeper, answer) = keeper.seat(rt, self.alloc, &self.log);
-        *guard = Some(keeper);
-        let pass = answer?;
+        if !self.catch_up(rt) {
+            return Err(SeatFault::NoMemory);
+        }
+        let mut desk = self.desk.lock(rt);
+        let seated = desk.seat(rt, self.alloc, &self.log);
+        drop(desk);
+        let pass = seated?;
         self.know(rt, &pass);
         Ok(pass)
     }
 
-    /// Adds a batch to the history as one, and shows it.
+    /// Adds a batch to the history as one, and shows it. It waits for looks that last: never call
+    /// it in a thread that is inside a look.
     pub fn post<W: Wait>(
         &self,
         rt: &W,
@@ -177,15 +185,71 @@ impl<J: Naming, R: Wait + Drop> Hub<J, R> {
         ensures { MatchResult result (PostsAfter pass.old pass.new whats.items)
             (PostRefused pass.old pass.new whats.items) }
     {
-        self.know(rt, pass);
-        let mut guard = self.keeper.lock(rt);
-        let Some(keeper) = guard.take() else {
-            hang(rt);
-            unreachable!()
+        let ticket = match self.append(rt, pass, whats) {
+            Ok(ticket) => ticket,
+            Err((fault, whats)) => return Err(self.refuse(rt, pass, fault, whats)),
         };
-        let (keeper, answer) = keeper.post(rt, &self.log, pass, whats);
-        *guard = Some(keeper);
-        answer
+        let Some(receipt) = self.show(rt, ticket) else {
+            return Err(PostFault::Pending);
+        };
+        pass.see(&receipt);
+        Ok(receipt)
+    }
+
+    // What a post is refused with that wasn't appended, once the list that it tells of is shown.
+    fn refuse<W: Wait>(
+        &self,
+        rt: &W,
+        pass: &Pass,
+        fault: AppendFault,
+        whats: Vec<What>,
+    ) -> PostFault
+        requires of { pass.now.seen.of ≡ self.now.of }
+        requires refused { IsRefused pass.now whats.items fault }
+        ensures { PostRefused pass.now pass.now whats.items result }
+    {
+        match fault {
+            AppendFault::NoMemory => PostFault::NoMemory(whats),
+            AppendFault::Spent => PostFault::Spent,
+            AppendFault::NotNext { found, now } => self.refuse_number(rt, pass, whats, found, now),
+            AppendFault::Replaced { by, now } => self.refuse_late(rt, pass, whats, by, now),
+        }
+    }
+
+    fn refuse_number<W: Wait>(
+        &self,
+        rt: &W,
+        pass: &Pass,
+        whats: Vec<What>,
+        found: u64,
+        now: Ticket,
+    ) -> PostFault
+        requires of { pass.now.seen.of ≡ self.now.of }
+        requires not_next { IsNotNext pass.now found now }
+        ensures { PostRefused pass.now pass.now whats.items result }
+    {
+        let Some(shown) = self.show(rt, now) else {
+            return PostFault::NoMemory(whats);
+        };
+        PostFault::NotNext { found, shown }
+    }
+
+    fn refuse_late<W: Wait>(
+        &self,
+        rt: &W,
+        pass: &Pass,
+        whats: Vec<What>,
+        by: u64,
+        now: Ticket,
+    ) -> PostFault
+        requires of { pass.now.seen.of ≡ self.now.of }
+        requires replaced { IsReplaced pass.now whats.items by now }
+        ensures { PostRefused pass.now pass.now whats.items result }
+    {
+        let Some(shown) = self.show(rt, now) else {
+            return PostFault::NoMemory(whats);
+        };
+        PostFault::Replaced { by, shown }
     }
 
     /// A seat leaves for good. None where that is stored and not shown yet. A refusal gives the
@@ -195,31 +259,35 @@ impl<J: Naming, R: Wait + Drop> Hub<J, R> {
         ensures { MatchResult result (λ r. IfSome r (ShowsBatch pass (Leave ∷ [])))
             (λ refused. LeaveRefused pass refused.0 refused.1) }
     {
-        let mut guard = self.keeper.lock(rt);
-        let Some(keeper) = guard.take() else {
-            hang(rt);
-            unreachable!()
+        let mut desk = self.desk.lock(rt);
+        let left = desk.leave(rt, &self.log, pass);
+        drop(desk);
+        let (pass, found, now) = match left {
+            Ok(ticket) => return Ok(self.show(rt, ticket)),
+            Err(behind) => behind,
         };
-        let (keeper, answer) = keeper.leave(rt, self.alloc, &self.log, pass);
-        *guard = Some(keeper);
-        answer
+        let Some(shown) = self.show(rt, now) else {
+            return Err((pass, PostFault::NoMemory(Vec::new(self.alloc))));
+        };
+        Err((pass, PostFault::NotNext { found, shown }))
     }
 
-    /// A lens, which has seen nothing yet.
+    /// A lens, which has seen nothing yet. It waits for no look, but where no reader is idle and
+    /// somebody publishes.
     pub fn lens<W: Wait>(&self, rt: &W) -> Result<Lens, LensFault>
         ensures { IfOk result (λ l. l ≡ record { seen = self.now; inside = false }) }
     {
-        let mut guard = self.keeper.lock(rt);
-        let Some(keeper) = guard.take() else {
-            hang(rt);
-            unreachable!()
-        };
-        let (keeper, reader) = keeper.reader();
-        *guard = Some(keeper);
-        match reader {
-            None => Err(LensFault::NoPlace),
-            Some(reader) => Ok(Lens::new(reader, self.start.again())),
+        for _ in rt.forever() {
+            let mut desk = self.desk.lock(rt);
+            if let Some(reader) = desk.reader() {
+                return Ok(Lens::new(reader, self.start.again()));
+            }
+            if desk.has_press() {
+                return Err(LensFault::NoPlace);
+            }
+            drop(self.bell(desk.round()).wait(rt, desk));
         }
+        unreachable!()
     }
 }
 

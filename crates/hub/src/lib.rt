@@ -1,36 +1,43 @@
 //! One history of a fleet, which many threads add to and read without a lock.
 //!
 //! The workers of the collector stand on it: each session posts the facts of its bytes at a seat of
-//! its own, and readers look at whole books. One `Mutex` lies over the history; a batch becomes
-//! visible by one exchange of two copies of the book.
+//! its own, and readers look at whole books. A `Mutex` lies over the history, and is held for
+//! microseconds. Batches become visible by one exchange of two copies of the book: one thread
+//! publishes all that was appended, without the lock, and the others wait for it.
 //!
 //! Promised: a look answers for a list of events that begins with all that its lens saw or learned;
 //! a receipt's list ends with exactly the batch that was posted, behind what its pass had seen.
 //! Lists stand in proofs alone and take no bytes.
 //!
+//! A thread that posts inside a look of its own waits for itself for ever.
+//!
 //! No clause says that a call gets on: not that a wait ends, that memory is there, that a seat or a
 //! place is free, nor that a look isn't None.
 #![tactic(auto)]
 
+mod awaiting;
 mod copies;
+mod desk;
 mod entry;
 mod faults;
 mod hand;
 mod hub;
-mod keeper;
+mod idle;
 pub mod laws;
 mod lens;
 mod log;
 mod naming;
 mod pass;
+mod press;
 mod receipt;
 mod roll;
 mod sitting;
 mod store;
 
-pub use faults::{LensFault, PostFault, SeatFault};
+pub use awaiting::Await;
+pub use faults::{AppendFault, LensFault, PostFault, SeatFault};
 pub use hub::{Hub, Opening};
 pub use lens::{Lens, Look};
 pub use naming::Naming;
 pub use pass::Pass;
-pub use receipt::Receipt;
+pub use receipt::{Receipt, Ticket};

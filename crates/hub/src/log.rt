@@ -157,6 +157,17 @@ impl Front {
         self.count <= other.count
     }
 
+    /// Whether two beginnings of one history are the same.
+    pub fn is(&self, other: &Front) -> bool
+        requires { other.now.of ≡ self.now.of }
+        ensures { result ≡ true → other.now ≡ self.now }
+    {
+        if !self.compare(other) {
+            return false;
+        }
+        other.compare(self)
+    }
+
     /// Adds an event to all that was seen, and says whether it did. It did not where the history is
     /// longer.
     pub fn add(&mut self, log: &Log, event: &Event) -> bool

@@ -14,6 +14,7 @@ ghost use Rattle.hub.specs.Sitting.{Recalls};
 
 use crate::copies::Op;
 use crate::log::{Front, Log};
+use crate::receipt::Receipt;
 use crate::roll::Roll;
 use crate::sitting::Sitting;
 use crate::store::{hang, store_all};
@@ -76,12 +77,12 @@ impl Pass {
         &self.front
     }
 
-    // It has seen this list.
-    pub(crate) fn see(&mut self, front: Front)
-        requires { front.of ≡ self.old.seen.of }
-        ensures { self.new ≡ record self.old { seen = front } }
+    /// Has it see the list of a receipt, as `Hub::post` does; for what was appended and awaited.
+    pub fn see(&mut self, receipt: &Receipt)
+        requires { receipt.now.of ≡ self.old.seen.of }
+        ensures { self.new ≡ record self.old { seen = receipt.now } }
     {
-        self.front = front;
+        self.front = receipt.front().again();
     }
 
     // The seat that opened the peer of a posted Put after this seat did, behind all that happened.
@@ -134,6 +135,8 @@ impl Pass {
             ≡ longer_by front.old (numbered self.old.seat self.old.number whats.items) }
         ensures stored { Stores queue.old.items front.old queue.new.items front.new }
         ensures counted { IsCountOf roll.new front.new }
+        ensures len { deque_len queue.new ≡ deque_len queue.old + vec_len whats }
+        ensures capacity { deque_capacity queue.new ≡ deque_capacity queue.old }
         ensures pass { self.new ≡ advanced self.old (vec_len whats) }
     {
         if !self.stored.compare(front) {

@@ -1,8 +1,40 @@
-ghost use Rattle.std.specs.Prelude.{◌≡◌, length};
-ghost use Rattle.hub.specs.History.{AllCount};
+//! What posts are given: tickets for what was appended, and receipts for what is shown.
 
+ghost use Rattle.std.specs.Prelude.{◌≡◌, length, IfSome};
+ghost use Rattle.hub.specs.History.{AllCount};
+ghost use Rattle.hub.specs.Posts.{Follows};
+
+use crate::hand::HubWriter;
 use crate::log::Front;
 use std::marker::Model;
+
+/// Which list of events an append made. It is to be waited for. Contracts see it as that list.
+#[derive(Drop)]
+pub struct Ticket {
+    front: Front,
+}
+
+impl Model for Ticket {
+    ghost use Rattle.hub.specs.History.{Beginning};
+
+    ghost Value = { Beginning };
+
+    ghost view = { λ t. t.front };
+}
+
+impl Ticket {
+    pub(crate) fn of(front: Front) -> Ticket
+        ensures { result ≡ front }
+    {
+        Ticket { front }
+    }
+
+    pub(crate) fn front(&self) -> &Front
+        ensures { result.now ≡ self.now }
+    {
+        &self.front
+    }
+}
 
 /// Which list of events a post showed. Contracts see it as that list.
 #[derive(Drop)]
@@ -19,12 +51,6 @@ impl Model for Receipt {
 }
 
 impl Receipt {
-    pub(crate) fn of(front: Front) -> Receipt
-        ensures { result ≡ front }
-    {
-        Receipt { front }
-    }
-
     pub(crate) fn front(&self) -> &Front
         ensures { result.now ≡ self.now }
     {
@@ -37,5 +63,43 @@ impl Receipt {
         ensures legal { AllCount self.now.config self.now.opening self.now.events }
     {
         self.front.len()
+    }
+}
+
+/// The list that readers are shown. It is made of a writer alone, and receipts of it alone.
+#[derive(Drop)]
+pub struct Showing {
+    front: Front,
+}
+
+impl Model for Showing {
+    ghost use Rattle.hub.specs.History.{Beginning};
+
+    ghost Value = { Beginning };
+
+    ghost view = { λ s. s.front };
+}
+
+impl Showing {
+    /// What this writer shows.
+    pub fn of(writer: &HubWriter) -> Showing
+        ensures { result ≡ writer.now.desk.shown.value.at }
+    {
+        Showing {
+            front: writer.published().at.again(),
+        }
+    }
+
+    /// The receipt for a ticket, if its list is shown.
+    pub fn receipt(&self, ticket: &Ticket) -> Option<Receipt>
+        requires { ticket.now.of ≡ self.now.of }
+        ensures { IfSome result (λ r. (r ≡ ticket.now) × Follows r self.now) }
+    {
+        if !ticket.front.compare(&self.front) {
+            return None;
+        }
+        Some(Receipt {
+            front: ticket.front.again(),
+        })
     }
 }

@@ -75,6 +75,8 @@ pub fn store_all<R: Wait>(
     ensures stored { Stores queue.old.items front.old queue.new.items front.new }
     ensures counted { IsCountOf roll.new front.new }
     ensures recalled { Recalls sitting.new front.new }
+    ensures len { deque_len queue.new ≡ deque_len queue.old + vec_len whats }
+    ensures capacity { deque_capacity queue.new ≡ deque_capacity queue.old }
     ensures seat { sitting.new.seat ≡ sitting.old.seat }
     ensures number { sitting.new.number ≡ sitting.old.number + vec_len whats }
 {

@@ -1,4 +1,4 @@
-use Rattle.std.proofs.Common.{List, subst, arith, ap, length}
+use Rattle.std.proofs.Common.{List, subst, arith, ap, length, ◌∙◌}
 use Rattle.agg_types.specs.declared.event.What.{What}
 use Rattle.std.specs.Vec.Iter.{into_iter_items}
 use Rattle.hub.proofs.Filling.{Filling, filled_one, filling_counts}
@@ -27,5 +27,6 @@ loop-what-preserved g c =
           c.make-event.new.self c.make-event.ensures.event c.store.ensures.front
           c.store.ensures.queue c.count.ensures c.make-event.ensures.recalled,
       (let n = ap length c.in-Some.ensures.steps.0 in
-          omega (arith, c.store.ensures.len, c.store.ensures.capacity, l.invariant.3)),
+          omega (arith, c.store.ensures.len, l.invariant.3)),
+      c.store.ensures.capacity ∙ l.invariant.4,
     )

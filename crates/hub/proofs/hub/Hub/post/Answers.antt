@@ -1,11 +1,6 @@
-use Rattle.std.proofs.Common.{sym, ap, subst}
-use Rattle.std.specs.List.{All}
-use Rattle.agg_types.specs.declared.config.Config.{Config}
-use Rattle.hub.specs.History.{Beginning}
-use Rattle.hub.specs.Roll.{MayPost}
+use Rattle.hub.proofs.Posting.{posted}
 use Rattle.hub.proofs.hub.Hub.post.Goals as goal
 
-pub post-keeper-requires-clause-fits : goal.post-keeper-requires-clause-fits
-post-keeper-requires-clause-fits g c =
-    subst (λ (config : Config). All (MayPost config) c.args.whats.items)
-    (sym (ap (λ (b : Beginning). b.config) c.know.ensures.same)) c.requires.fits
+pub returns : goal.returns
+returns g c = posted c.args.pass.now c.append.new.pass c.see.new.self c.args.whats.items
+    c.in-Ok.ticket c.in-Some.receipt c.in-Ok.ensures c.in-Some.ensures c.see.ensures
