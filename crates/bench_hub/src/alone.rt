@@ -50,8 +50,6 @@ impl Alone {
         Ok(Speed {
             updates: load.updates,
             looks: 0,
-            posts: 0,
-            longest: 0,
             time: start.elapsed(rt)?,
         })
     }

@@ -8,15 +8,15 @@ use std::sync::Wait;
 use std::sync::atomic::{AtomicU32, AtomicU64, Ordering};
 use std::thread;
 use std::thread::Threads;
-use std::time::{Duration, Instant};
+use std::time::Instant;
 
 /// What the threads of a run do.
 pub trait Crew {
     /// Posts the share of the pass of a peer, and says whether all of it was shown.
-    fn speak<W: Wait + Clock>(&self, rt: &W, load: Load, tally: &Tally, peer: u32) -> bool;
+    fn speak<W: Wait>(&self, rt: &W, load: Load, peer: u32) -> bool;
 
     /// Looks again and again until all passes have ended, and says how often.
-    fn watch<W: Wait + Clock>(&self, rt: &W, load: Load, tally: &Tally) -> u64;
+    fn watch<W: Wait>(&self, rt: &W, load: Load, tally: &Tally) -> u64;
 
     /// What is shown in the end, if a last seat could be taken and all is shown.
     fn shown<W: Wait>(&self, rt: &W) -> Option<Shown>;
@@ -30,9 +30,6 @@ pub struct Tally {
     // Passes of which all was shown.
     shown: AtomicU32,
     looks: AtomicU64,
-    posts: AtomicU64,
-    // How long the longest post took, in µs.
-    longest: AtomicU64,
 }
 
 impl Tally {
@@ -41,16 +38,7 @@ impl Tally {
             left: AtomicU32::new(passes),
             shown: AtomicU32::new(0),
             looks: AtomicU64::new(0),
-            posts: AtomicU64::new(0),
-            longest: AtomicU64::new(0),
         }
-    }
-
-    /// A post took so long.
-    pub fn count_post(&self, time: Duration) {
-        self.posts.fetch_add(1, Ordering::SeqCst);
-        let micros = u64::try_from(time.as_micros()).unwrap_or(u64::MAX);
-        self.longest.fetch_max(micros, Ordering::SeqCst);
     }
 
     /// Whether all passes have ended.
@@ -67,19 +55,19 @@ impl Tally {
 }
 
 // A pass, in its thread.
-fn speak<W: Wait + Clock, C: Crew>(rt: &W, crew: &C, load: Load, tally: &Tally, peer: u32) {
-    let shown = crew.speak(rt, load, tally, peer);
+fn speak<W: Wait, C: Crew>(rt: &W, crew: &C, load: Load, tally: &Tally, peer: u32) {
+    let shown = crew.speak(rt, load, peer);
     tally.end(shown);
 }
 
 // A reader, in its thread.
-fn watch<W: Wait + Clock, C: Crew>(rt: &W, crew: &C, load: Load, tally: &Tally) {
+fn watch<W: Wait, C: Crew>(rt: &W, crew: &C, load: Load, tally: &Tally) {
     let looks = crew.watch(rt, load, tally);
     tally.looks.fetch_add(looks, Ordering::SeqCst);
 }
 
 // Runs each pass and each reader in a thread of its own, until the passes have ended.
-fn at_once<R: Threads + Wait + Clock + Copy + Send + Sync, C: Crew + Sync>(
+fn at_once<R: Threads + Wait + Copy + Send + Sync, C: Crew + Sync>(
     rt: &R,
     crew: &C,
     load: Load,
@@ -119,8 +107,6 @@ pub fn timed<R: Threads + Wait + Clock + Copy + Send + Sync, C: Crew + Sync>(
     Ok(Speed {
         updates: load.updates,
         looks: tally.looks.load(Ordering::SeqCst),
-        posts: tally.posts.load(Ordering::SeqCst),
-        longest: tally.longest.load(Ordering::SeqCst),
         time,
     })
 }

@@ -6,20 +6,20 @@ use std::fmt;
 use std::fmt::{Display, Formatter, Write};
 use test_support::{address, scattered};
 
+/// How many updates come in a batch.
+const BATCH: u32 = 900;
+
 /// How long a row lives, in ms.
 const LIFE: u64 = 600_000;
 
-/// One run: how many keys there are, how many updates of them are posted, by how many passes and
-/// beside how many readers, how many ms a reader stays inside each look, and how many updates come
-/// in a batch. No pass stands for one book alone, without a hub.
+/// One run: how many keys there are, how many updates of them are posted, and by how many passes
+/// and beside how many readers. No pass stands for one book alone, without a hub.
 #[derive(Clone, Copy)]
 pub struct Load {
     pub keys: u32,
     pub updates: u32,
     pub passes: u32,
     pub readers: u32,
-    pub hold: u32,
-    pub batch: u32,
 }
 
 /// What one pass posts: so many updates of its share of the keys, in a scattered order.
@@ -29,31 +29,14 @@ pub struct Share {
     passes: u32,
     keys: u32,
     updates: u32,
-    batch: u32,
 }
 
-/// The collector `agg` of twenty proxies, with the table that they send.
+/// The collector `agg` of four proxies, with the table that they send.
 pub const FLEET: &[u8] = b"name agg
 peer lb1
 peer lb2
 peer lb3
 peer lb4
-peer lb5
-peer lb6
-peer lb7
-peer lb8
-peer lb9
-peer lb10
-peer lb11
-peer lb12
-peer lb13
-peer lb14
-peer lb15
-peer lb16
-peer lb17
-peer lb18
-peer lb19
-peer lb20
 table t type ip size 1000000 store gpc0,conn_cnt,http_req_rate(10000)
 ";
 
@@ -62,11 +45,7 @@ impl Display for Load {
         if self.passes == 0 {
             return write!(f, "one book alone");
         }
-        write!(f, "{} passes, {} readers", self.passes, self.readers)?;
-        if self.hold > 0 {
-            write!(f, " that hold looks for {} ms", self.hold)?;
-        }
-        Ok(())
+        write!(f, "{} passes, {} readers", self.passes, self.readers)
     }
 }
 
@@ -96,7 +75,6 @@ impl Load {
             passes,
             keys: (self.keys / passes).max(1),
             updates: self.updates / passes,
-            batch: self.batch.max(1),
         }
     }
 }
@@ -109,13 +87,13 @@ impl Share {
 
     /// How many batches it posts.
     pub fn batches(self) -> u32 {
-        self.updates.div_ceil(self.batch.max(1))
+        self.updates.saturating_add(BATCH - 1) / BATCH
     }
 
     /// One of its batches: the clock goes on by a ms, and then keys are put.
     pub fn batch(self, alloc: Global, number: u32) -> Result<Vec<What>, NoMemory> {
-        let from = number.saturating_mul(self.batch);
-        let to = from.saturating_add(self.batch).min(self.updates);
+        let from = number.saturating_mul(BATCH);
+        let to = from.saturating_add(BATCH).min(self.updates);
         let mut whats = Vec::new(alloc);
         whats.push(What::Moment(u64::from(number)))?;
         for turn in from..to {

@@ -2,12 +2,10 @@
 //!
 //! `bench_hub <keys> <updates>` lets one book alone take one update of each key and then so many
 //! more, and then hubs with one pass and with four, beside no reader, one and eight, each in a
-//! thread of its own. `bench_hub <keys> <updates> <passes> <readers>` runs one hub alone, with up to
-//! 20 passes, and so can tell what a key costs in memory. A fifth number has each reader stay
-//! inside each look for so many ms, and a sixth says how many updates come in a batch, 900
-//! otherwise. Updates are of an address, two counts and a rate, and live for ten minutes; the keys
-//! come in a scattered order. Making them, and asking whether they may be posted, is measured with
-//! them.
+//! thread of its own. `bench_hub <keys> <updates> <passes> <readers>` runs one hub alone, and so
+//! can tell what a key costs in memory. Updates are of an address, two counts and a rate, and live
+//! for ten minutes; they come in batches of 900, and the keys in a scattered order. Making them,
+//! and asking whether they may be posted, is measured with them.
 //!
 //! What was done goes to standard output; how fast, with the resident memory that a key costs where
 //! the system tells it, to standard error.
@@ -93,18 +91,16 @@ fn measure_alone<R: Clock + Print + Eprint>(rt: &R, alloc: Global, load: Load) -
 
 /// What the command line asks for; 0 passes where it doesn't say how many.
 fn asked<R: Env + Alloc>(rt: &R) -> Result<Load> {
-    let mut numbers = [1000, 10_000, 0, 0, 0, 900];
+    let mut numbers = [1000, 10_000, 0, 0];
     for (number, word) in numbers.iter_mut().zip(env::args(rt)?.skip(1)) {
-        *number = word.as_str().parse::<u32>().context("six numbers")?;
+        *number = word.as_str().parse::<u32>().context("four numbers")?;
     }
-    let [keys, updates, passes, readers, hold, batch] = numbers;
+    let [keys, updates, passes, readers] = numbers;
     Ok(Load {
         keys,
         updates,
         passes,
         readers,
-        hold,
-        batch,
     })
 }
 

@@ -8,10 +8,7 @@ use crate::tell::Shown;
 use agg_types::What;
 use hub::{Hub, Lens, Naming, Pass, Receipt};
 use std::alloc::Global;
-use std::rt::Clock;
 use std::sync::Wait;
-use std::thread;
-use std::time::{Duration, Instant};
 use test_support::{address, scattered};
 
 /// The threads of a run over a hub.
@@ -22,13 +19,13 @@ pub struct Shared<'a, J: Naming, H: Wait + Drop> {
 }
 
 impl<J: Naming, H: Wait + Drop> Crew for Shared<'_, J, H> {
-    fn speak<W: Wait + Clock>(&self, rt: &W, load: Load, tally: &Tally, peer: u32) -> bool {
-        post_share(rt, self.alloc, self.hub, load.share(peer), tally).is_some()
+    fn speak<W: Wait>(&self, rt: &W, load: Load, peer: u32) -> bool {
+        post_share(rt, self.alloc, self.hub, load.share(peer)).is_some()
     }
 
-    fn watch<W: Wait + Clock>(&self, rt: &W, load: Load, tally: &Tally) -> u64 {
+    fn watch<W: Wait>(&self, rt: &W, load: Load, tally: &Tally) -> u64 {
         match self.hub.lens(rt) {
-            Ok(mut lens) => look_on(rt, self.alloc, &mut lens, load, tally),
+            Ok(mut lens) => look_on(rt, self.alloc, &mut lens, load.keys, tally),
             Err(_) => 0,
         }
     }
@@ -84,53 +81,42 @@ fn open<J: Naming, H: Wait + Drop, W: Wait>(
 }
 
 // Posts one batch of a share.
-fn post_batch<J: Naming, H: Wait + Drop, W: Wait + Clock>(
+fn post_batch<J: Naming, H: Wait + Drop, W: Wait>(
     rt: &W,
     alloc: Global,
     hub: &Hub<J, H>,
     pass: &mut Pass,
     share: Share,
     number: u32,
-    tally: &Tally,
 ) -> Option<()>
     requires { pass.old.seen.of ≡ hub.now.of }
     ensures { IfSome result (λ _. pass.new.seen.of ≡ hub.now.of) }
 {
     let whats = share.batch(alloc, number).ok()?;
-    let start = Instant::now(rt).ok()?;
     post(rt, hub, pass, whats)?;
-    tally.count_post(start.elapsed(rt).ok()?);
     Some(())
 }
 
 // Posts all batches of a share at a seat of its own.
-fn post_share<J: Naming, H: Wait + Drop, W: Wait + Clock>(
+fn post_share<J: Naming, H: Wait + Drop, W: Wait>(
     rt: &W,
     alloc: Global,
     hub: &Hub<J, H>,
     share: Share,
-    tally: &Tally,
 ) -> Option<()> {
     let mut pass = open(rt, alloc, hub, share.peer())?;
     for number in 0..share.batches() {
-        post_batch(rt, alloc, hub, &mut pass, share, number, tally)?;
+        post_batch(rt, alloc, hub, &mut pass, share, number)?;
     }
     Some(())
 }
 
 // Looks until all passes have ended, and says how often.
-fn look_on<W: Wait + Clock>(
-    rt: &W,
-    alloc: Global,
-    lens: &mut Lens,
-    load: Load,
-    tally: &Tally,
-) -> u64 {
-    let hold = Duration::from_millis(u64::from(load.hold));
+fn look_on<W: Wait>(rt: &W, alloc: Global, lens: &mut Lens, keys: u32, tally: &Tally) -> u64 {
     let mut looks = 0u64;
     for _ in rt.forever() {
         let turn = u32::try_from(looks % u64::from(u32::MAX)).unwrap_or(0);
-        if tally.is_over() || !look(rt, alloc, lens, scattered(turn, load.keys), hold) {
+        if tally.is_over() || !look(alloc, lens, scattered(turn, keys)) {
             break;
         }
         looks = looks.saturating_add(1);
@@ -138,8 +124,8 @@ fn look_on<W: Wait + Clock>(
     looks
 }
 
-// Looks, reads the summed row of a key, and stays for a while; whether there was a look.
-fn look<W: Clock>(rt: &W, alloc: Global, lens: &mut Lens, number: u32, hold: Duration) -> bool {
+// Looks, and reads the summed row of a key; whether there was a look.
+fn look(alloc: Global, lens: &mut Lens, number: u32) -> bool {
     let Ok(key) = address(alloc, number) else {
         return false;
     };
@@ -147,9 +133,6 @@ fn look<W: Clock>(rt: &W, alloc: Global, lens: &mut Lens, number: u32, hold: Dur
         return false;
     };
     look.book().summed(0, &key);
-    if !hold.is_zero() {
-        thread::sleep(rt, hold);
-    }
     true
 }
 

@@ -9,14 +9,11 @@ use std::time::Duration;
 /// How many bytes a page of resident memory has.
 const PAGE_BYTES: u64 = 4096;
 
-/// How long so many updates took, how many looks and posts there were meanwhile, and how long the
-/// longest post took, in µs.
+/// How long so many updates took, and how many looks there were meanwhile.
 #[derive(Clone, Copy)]
 pub struct Speed {
     pub updates: u32,
     pub looks: u64,
-    pub posts: u64,
-    pub longest: u64,
     pub time: Duration,
 }
 
@@ -37,11 +34,6 @@ fn tell_speed<R: Eprint>(rt: &R, load: Load, kind: &str, speed: Speed) -> Result
     let updates = in_a_second(u64::from(speed.updates), speed.time);
     let looks = in_a_second(speed.looks, speed.time);
     eprintln!(rt; "{load}: {updates} {kind} updates/s, {looks} looks/s")?;
-    if speed.posts > 0 {
-        let posts = in_a_second(speed.posts, speed.time);
-        let longest = speed.longest / 1000;
-        eprintln!(rt; "{load}: {posts} posts/s, the longest took {longest} ms")?;
-    }
     Ok(())
 }
 

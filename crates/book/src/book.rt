@@ -42,8 +42,8 @@ pub struct Taken {
     pub spot: Option<Spot>,
     /// How many values of keys were read for the standing filters.
     pub read: u64,
-    /// Whether all verdicts were made anew: those that had been given up for want of memory, or
-    /// where several keys were cleared.
+    /// Whether all verdicts were made anew: those that had been given up as an allocation
+    /// failed, or where several keys were cleared.
     pub anew: bool,
 }
 
