@@ -64,7 +64,7 @@ def main():
             process, address, asked = start_haproxy(options.haproxy, 1, folder)
         elif options.collector:
             config = pathlib.Path(folder) / "collector.conf"
-            config.write_text(COLLECTOR_CONFIG.format(peers="peer lb1"))
+            config.write_text(COLLECTOR_CONFIG.format(peers="peer lb1", more=""))
             peers, admin = free_ports(2)
             collector = Collector(options.collector, peers, admin, config)
             process, address, asked = collector.process, ("127.0.0.1", peers), collector.ask
