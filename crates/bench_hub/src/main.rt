@@ -73,7 +73,7 @@ fn measure<
 >(rt: &R, alloc: Global, opening: Opening, load: Load) -> Result<()>
     requires { opening.of ≡ J.book }
 {
-    let hub = Hub::<J, &R>::new(alloc, rt, opening, PLACES)?;
+    let hub = Hub::<J, R>::new(alloc, *rt, opening, PLACES)?;
     run(rt, &Shared { alloc, hub: &hub }, load)
 }
 

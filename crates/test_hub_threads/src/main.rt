@@ -22,7 +22,7 @@ use test_hub_support::{lens, opening, seen};
 fn show_talk<J: Naming + Send + Sync, R: Print + Threads + Wait + Copy + Send + Sync>(
     rt: &R,
     alloc: Global,
-    hub: &Hub<J, &R>,
+    hub: &Hub<J, R>,
 ) -> Result<()> {
     let tally = Tally::new();
     let talk = Talking {
@@ -40,7 +40,7 @@ fn show_talk<J: Naming + Send + Sync, R: Print + Threads + Wait + Copy + Send + 
 fn show_stare<J: Naming + Send + Sync, R: Print + Threads + Wait + Copy + Send + Sync>(
     rt: &R,
     alloc: Global,
-    hub: &Hub<J, &R>,
+    hub: &Hub<J, R>,
 ) -> Result<()> {
     let turns = Turns::new();
     let stare = Staring {
@@ -62,7 +62,7 @@ fn shared<J: Naming + Send + Sync, R: Print + Threads + Wait + Copy + Send + Syn
 ) -> Result<()>
     requires { opening.of ≡ J.book }
 {
-    let hub = Hub::<J, &R>::new(alloc, rt, opening, 8)?;
+    let hub = Hub::<J, R>::new(alloc, *rt, opening, 8)?;
     let mut lens = lens(rt, &hub)?;
     show_talk(rt, alloc, &hub)?;
     println!(rt; "both have ended: {}", seen(alloc, &mut lens)?)?;
