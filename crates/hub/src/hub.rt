@@ -6,6 +6,7 @@ ghost use Rattle.std.specs.List.{All};
 ghost use Rattle.agg_types.specs.Check.{config_faults};
 ghost use Rattle.agg_types.specs.declared.event.What.TheVariants.{Leave};
 ghost use Rattle.agg_types.specs.declared.limits.TheConstants.{LAST_MOMENT};
+ghost use Rattle.fleet_model.specs.Machine.{opened};
 ghost use Rattle.hub.specs.Hosting.{IsOpening};
 ghost use Rattle.hub.specs.Posts.{Follows, LeaveRefused, PostRefused, PostsAfter, ShowsBatch};
 ghost use Rattle.hub.specs.Posts.{IsNotNext, IsRefused, IsReplaced, SitsDown};
@@ -29,13 +30,25 @@ mod rounds;
 
 /// A fleet that was just opened: its log, whose name a `Naming` takes up, and both copies of its
 /// book.
-#[derive(Drop)]
 pub struct Opening {
     first: Book,
     second: Book,
     config: Config,
     log: Log,
     start: Front,
+}
+
+// By hand, as all that this crate gives away: so a crate that drops it proves nothing of its parts.
+impl Drop for Opening {
+    fn drop(self) {
+        let Opening {
+            first: _,
+            second: _,
+            config: _,
+            log: _,
+            start: _,
+        } = self;
+    }
 }
 
 impl Model for Opening {
@@ -71,11 +84,28 @@ impl Opening {
             start,
         })
     }
+
+    // Both copies, the configuration, the log and its beginning.
+    fn into_parts(self) -> (Book, Book, Config, Log, Front)
+        ensures books { (result.0 ≡ opened self.config self.opening)
+            × (result.1 ≡ opened self.config self.opening) }
+        ensures config { result.2 ≡ self.config }
+        ensures log { result.3 ≡ self.of }
+        ensures start { (result.4 ≡ self) × (self.events ≡ []) }
+    {
+        let Opening {
+            first,
+            second,
+            config,
+            log,
+            start,
+        } = self;
+        (first, second, config, log, start)
+    }
 }
 
 /// What threads share. Contracts see the beginning of its history: its log, configuration and
 /// opening moment.
-#[derive(Drop)]
 pub struct Hub<J: Naming, R: Wait + Drop> {
     alloc: Global,
     config: Config,
@@ -85,6 +115,20 @@ pub struct Hub<J: Naming, R: Wait + Drop> {
     // Who waits for a round waits here, by whether its number is even or odd.
     even: Condvar,
     odd: Condvar,
+}
+
+impl<J: Naming, R: Wait + Drop> Drop for Hub<J, R> {
+    fn drop(self) {
+        let Hub {
+            alloc: _,
+            config: _,
+            log: _,
+            start: _,
+            desk: _,
+            even: _,
+            odd: _,
+        } = self;
+    }
 }
 
 impl<J: Naming, R: Wait + Drop> Model for Hub<J, R> {
@@ -111,13 +155,7 @@ impl<J: Naming, R: Wait + Drop> Hub<J, R> {
         requires places { (0 < places) × (places ≤ 1000) }
         ensures { IfOk result (λ h. h ≡ opening) }
     {
-        let Opening {
-            first,
-            second,
-            config,
-            log,
-            start,
-        } = opening;
+        let (first, second, config, log, start) = opening.into_parts();
         let desk = Desk::new(alloc, own, first, second, start.again(), places)?;
         Ok(Hub {
             alloc,

@@ -37,11 +37,20 @@ impl Visit {
 }
 
 /// What looks at the book. Contracts see the list that it has seen.
-#[derive(Drop)]
 pub struct Lens {
     reader: Option<HubReader>,
     visit: Option<Visit>,
     front: Front,
+}
+
+impl Drop for Lens {
+    fn drop(self) {
+        let Lens {
+            reader: _,
+            visit: _,
+            front: _,
+        } = self;
+    }
 }
 
 impl Model for Lens {

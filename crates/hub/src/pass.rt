@@ -25,12 +25,21 @@ use std::sync::Wait;
 
 /// The right to post at a seat. Contracts see its seat, the number of its next event, and the list
 /// that it has seen.
-#[derive(Drop)]
 pub struct Pass {
     sitting: Sitting,
     // All that was stored of its seat stands here.
     stored: Front,
     front: Front,
+}
+
+impl Drop for Pass {
+    fn drop(self) {
+        let Pass {
+            sitting: _,
+            stored: _,
+            front: _,
+        } = self;
+    }
 }
 
 impl Model for Pass {

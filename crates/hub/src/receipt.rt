@@ -9,9 +9,14 @@ use crate::log::Front;
 use std::marker::Model;
 
 /// Which list of events an append made. It is to be waited for. Contracts see it as that list.
-#[derive(Drop)]
 pub struct Ticket {
     front: Front,
+}
+
+impl Drop for Ticket {
+    fn drop(self) {
+        let Ticket { front: _ } = self;
+    }
 }
 
 impl Model for Ticket {
@@ -37,9 +42,14 @@ impl Ticket {
 }
 
 /// Which list of events a post showed. Contracts see it as that list.
-#[derive(Drop)]
 pub struct Receipt {
     front: Front,
+}
+
+impl Drop for Receipt {
+    fn drop(self) {
+        let Receipt { front: _ } = self;
+    }
 }
 
 impl Model for Receipt {
