@@ -10,3 +10,4 @@ pub mod Filling
 pub mod Held
 pub mod Allowing
 pub mod Posting
+pub mod Showing

@@ -9,3 +9,4 @@ pub mod Keeping
 pub mod Views
 pub mod Looking
 pub mod Hosting
+pub mod Shows
