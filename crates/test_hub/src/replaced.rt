@@ -1,9 +1,12 @@
 //! Two seats that open one peer.
 
 ghost use Rattle.std.specs.Prelude.{◌≡◌, IfOk};
+ghost use Rattle.std.specs.List.{All};
+ghost use Rattle.hub.specs.Roll.{MayPost};
+ghost use Rattle.test_hub.specs.Seen.{IsSessionShown};
 
 use agg_types::What;
-use anyhow::{Result, anyhow};
+use anyhow::{Result, anyhow, ensure};
 use hub::{Hub, Lens, Naming, Pass, PostFault, Receipt};
 use std::alloc::Global;
 use std::sync::Wait;
@@ -87,8 +90,35 @@ fn reopen<J: Naming, H: Wait + Drop, W: Wait + Print>(
     requires pass { pass.seen.of ≡ hub.now.of }
     requires lens { lens.old.seen.of ≡ hub.now.of }
 {
-    let receipt = post(rt, alloc, hub, &mut pass, batch(alloc, 0, 3)?)?;
-    lens.learn(&receipt);
-    println!(rt; "opened anew: in force {:?}", session_of(lens, 0)?)?;
+    let whats = batch(alloc, 0, 3)?;
+    ensure!(hub.allows(whats.as_slice()), "it does not fit");
+    let session = session_behind(rt, hub, &mut pass, lens, whats, 0)?;
+    println!(rt; "opened anew: in force {session:?}")?;
     Ok(())
+}
+
+/// Posts a batch, and has a lens learn the receipt: the session in force of a peer, as its next
+/// look shows it. Whatever other threads post meanwhile, it is that of a list that has the batch.
+fn session_behind<J: Naming, H: Wait + Drop, W: Wait>(
+    rt: &W,
+    hub: &Hub<J, H>,
+    pass: &mut Pass,
+    lens: &mut Lens,
+    whats: Vec<What>,
+    peer: usize,
+) -> Result<Option<u64>>
+    requires pass { pass.old.seen.of ≡ hub.now.of }
+    requires lens { lens.old.seen.of ≡ hub.now.of }
+    requires fits { All (MayPost hub.now.config) whats.items }
+    ensures { IfOk result (IsSessionShown lens.old.seen pass.old whats.items peer) }
+{
+    let Ok(receipt) = hub.post(rt, pass, whats) else {
+        return Err(anyhow!("refused"));
+    };
+    lens.learn(&receipt);
+    let Some(look) = lens.look() else {
+        return Err(anyhow!("no look"));
+    };
+    hub::laws::a_look_shows_what_was_posted();
+    Ok(look.book().session_of(peer))
 }
