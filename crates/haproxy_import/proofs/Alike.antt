@@ -1,0 +1,140 @@
+-- What the test of two configurations says.
+use Rattle.std.proofs.Common.{◌≡◌, ℕ, Bool, true, false, ◌&&◌, eqb, if◌then◌else◌, ◌==◌, List, []}
+use Rattle.std.proofs.Common.{◌∷◌, length, Option, Some, refl, sym, ap, ◌∙◌, arith}
+use Rattle.std.proofs.lemmas.Bool.{and_parts, eqb-true}
+use Rattle.std.proofs.lemmas.Slice.Eq.{bytes_eq-Decides}
+use Rattle.std.specs.Prelude.{slice_get}
+use Rattle.std.specs.Str.{bytes_eq}
+use Rattle.agg_types.specs.Col.{all_cols, place}
+use Rattle.agg_types.specs.declared.column.Col.{Col}
+use Rattle.agg_types.specs.declared.column.Col.TheVariants as cols
+use Rattle.agg_types.specs.declared.config.Config.{Config}
+use Rattle.agg_types.specs.declared.config.Filter.{Filter}
+use Rattle.agg_types.specs.declared.config.KeyKind.{KeyKind}
+use Rattle.agg_types.specs.declared.config.KeyKind.TheVariants.{Integer, Ip, Ipv6, Str, Binary}
+use Rattle.agg_types.specs.declared.config.Rank.{Rank}
+use Rattle.agg_types.specs.declared.config.Shape.{Shape}
+use Rattle.haproxy_import.specs.Same.{is_plain, kind_len, kind_tag, same_cols, same_head}
+use Rattle.haproxy_import.specs.Same.{same_kind, same_names, same_parts, same_peers}
+use Rattle.haproxy_import.specs.Same.{same_stored, same_table, same_tables}
+
+bytes_same : (xs ys : List ℕ) → bytes_eq xs ys ≡ true → xs ≡ ys
+bytes_same xs ys e = (bytes_eq-Decides xs ys).0 e
+
+none : {A : Type 0} → (xs : List A) → (length xs == 0) ≡ true → [] ≡ xs
+none [] e = refl
+none (x ∷ xs) e =
+    let k : length (x ∷ xs) ≡ 0 = eqb-true _ _ e in
+    absurd (omega arith)
+
+at_place : (col : Col) → slice_get all_cols (place col) ≡ Some col
+at_place cols.Gpc0 = refl
+at_place col = refl
+
+col_same : (a b : Col) → place a ≡ place b → a ≡ b
+col_same a b e =
+    let there : Some a ≡ Some b =
+    sym (at_place a) ∙ (ap (λ i. slice_get all_cols i) e ∙ at_place b) in
+    cc
+
+kind_of : ℕ → ℕ → KeyKind
+kind_of tag len =
+    if tag == 0 then Integer else if tag == 1 then Ip else if tag == 2 then Ipv6
+    else if tag == 3 then Str len else Binary len
+
+kind_back : (kind : KeyKind) → kind_of (kind_tag kind) (kind_len kind) ≡ kind
+unfolding kind_of
+kind_back Integer = refl
+kind_back Ip = refl
+kind_back Ipv6 = refl
+kind_back (Str len) = refl
+kind_back (Binary len) = refl
+
+kind_same : (a b : KeyKind) → kind_tag a ≡ kind_tag b → kind_len a ≡ kind_len b → a ≡ b
+kind_same a b tag len =
+    sym (kind_back a) ∙ (ap (λ t. kind_of t (kind_len a)) tag
+    ∙ (ap (λ n. kind_of (kind_tag b) n) len ∙ kind_back b))
+
+stored_same : (a b : Col × ℕ) → same_stored a b ≡ true → a ≡ b
+stored_same a b e =
+    let parts = and_parts (place a.0 == place b.0) (a.1 == b.1) e in
+    let col : a.0 ≡ b.0 = col_same a.0 b.0 (eqb-true _ _ parts.0) in
+    let period : a.1 ≡ b.1 = eqb-true _ _ parts.1 in
+    ap (λ c. (c, a.1)) col ∙ ap (λ p. (b.0, p)) period
+
+cols_same : (xs ys : List (Col × ℕ)) → same_cols xs ys ≡ true → xs ≡ ys
+cols_same [] ys e = none ys e
+cols_same (x ∷ xs) [] e = absurd cc
+cols_same (x ∷ xs) (y ∷ ys) e =
+    let parts = and_parts (same_stored x y) (same_cols xs ys) e in
+    let first : x ≡ y = stored_same x y parts.0 in
+    let rest : xs ≡ ys = cols_same xs ys parts.1 in
+    cc
+
+names_same : (xs ys : List (List ℕ)) → same_names xs ys ≡ true → xs ≡ ys
+names_same [] ys e = none ys e
+names_same (x ∷ xs) [] e = absurd cc
+names_same (x ∷ xs) (y ∷ ys) e =
+    let parts = and_parts (bytes_eq x y) (same_names xs ys) e in
+    let first : x ≡ y = bytes_same x y parts.0 in
+    let rest : xs ≡ ys = names_same xs ys parts.1 in
+    cc
+
+table_of : List ℕ → KeyKind → ℕ → List (Col × ℕ) → Shape
+table_of name kind size cols = record { name = name; kind = kind; size = size; cols = cols }
+
+table_same : (a b : Shape) → same_table a b ≡ true → a ≡ b
+unfolding table_of
+table_same a b e =
+    let two = and_parts (same_head a b && (a.size == b.size)) (same_cols a.cols b.cols) e in
+    let one = and_parts (same_head a b) (a.size == b.size) two.0 in
+    let head = and_parts (bytes_eq a.name b.name) (same_kind a.kind b.kind) one.0 in
+    let both = and_parts (kind_tag a.kind == kind_tag b.kind) (kind_len a.kind == kind_len b.kind)
+    head.1 in
+    let name : a.name ≡ b.name = bytes_same a.name b.name head.0 in
+    let kind : a.kind ≡ b.kind =
+    kind_same a.kind b.kind (eqb-true _ _ both.0) (eqb-true _ _ both.1) in
+    let size : a.size ≡ b.size = eqb-true _ _ one.1 in
+    let cols : a.cols ≡ b.cols = cols_same a.cols b.cols two.1 in
+    ap (λ n. table_of n a.kind a.size a.cols) name
+    ∙ (ap (λ k. table_of b.name k a.size a.cols) kind
+    ∙ (ap (λ s. table_of b.name b.kind s a.cols) size
+    ∙ ap (λ c. table_of b.name b.kind b.size c) cols))
+
+tables_same : (xs ys : List Shape) → same_tables xs ys ≡ true → xs ≡ ys
+tables_same [] ys e = none ys e
+tables_same (x ∷ xs) [] e = absurd cc
+tables_same (x ∷ xs) (y ∷ ys) e =
+    let parts = and_parts (same_table x y) (same_tables xs ys) e in
+    let first : x ≡ y = table_same x y parts.0 in
+    let rest : xs ≡ ys = tables_same xs ys parts.1 in
+    cc
+
+config_of : List ℕ → List (List ℕ) → List Shape → List Filter → List Rank → Config
+config_of me peers tables filters ranks =
+    record { me = me; peers = peers; tables = tables; filters = filters; ranks = ranks }
+
+-- the fields of two configurations
+fields_same : (a b : Config) → a.me ≡ b.me → a.peers ≡ b.peers → a.tables ≡ b.tables
+    → a.filters ≡ b.filters → a.ranks ≡ b.ranks → a ≡ b
+unfolding config_of
+fields_same a b me peers tables filters ranks =
+    ap (λ m. config_of m a.peers a.tables a.filters a.ranks) me
+    ∙ (ap (λ p. config_of b.me p a.tables a.filters a.ranks) peers
+    ∙ (ap (λ t. config_of b.me b.peers t a.filters a.ranks) tables
+    ∙ (ap (λ f. config_of b.me b.peers b.tables f a.ranks) filters
+    ∙ ap (λ r. config_of b.me b.peers b.tables b.filters r) ranks)))
+
+pub parts_same : (a b : Config) → same_parts a b ≡ true → a ≡ b
+parts_same a b e =
+    let two = and_parts (is_plain a && is_plain b && same_peers a b)
+    (same_tables a.tables b.tables) e in
+    let one = and_parts (is_plain a && is_plain b) (same_peers a b) two.0 in
+    let plain = and_parts (is_plain a) (is_plain b) one.0 in
+    let peers = and_parts (bytes_eq a.me b.me) (same_names a.peers b.peers) one.1 in
+    let first = and_parts (length a.filters == 0) (length a.ranks == 0) plain.0 in
+    let second = and_parts (length b.filters == 0) (length b.ranks == 0) plain.1 in
+    fields_same a b (bytes_same a.me b.me peers.0) (names_same a.peers b.peers peers.1)
+    (tables_same a.tables b.tables two.1)
+    (sym (none a.filters first.0) ∙ none b.filters second.0)
+    (sym (none a.ranks first.1) ∙ none b.ranks second.1)

@@ -1,0 +1,64 @@
+-- Whether two configurations are the same, as a test.
+use Rattle.std.specs.Prelude.{ℕ, Bool, true, false, ◌&&◌, ◌==◌, List, [], ◌∷◌, length}
+use Rattle.std.specs.Str.{bytes_eq}
+use Rattle.agg_types.specs.Col.{place}
+use Rattle.agg_types.specs.declared.column.Col.{Col}
+use Rattle.agg_types.specs.declared.config.Config.{Config}
+use Rattle.agg_types.specs.declared.config.KeyKind.{KeyKind}
+use Rattle.agg_types.specs.declared.config.KeyKind.TheVariants.{Integer, Ip, Ipv6, Str, Binary}
+use Rattle.agg_types.specs.declared.config.Shape.{Shape}
+
+-- which kind of keys it is
+abbrev pub kind_tag : KeyKind → ℕ
+kind_tag Integer = 0
+kind_tag Ip = 1
+kind_tag Ipv6 = 2
+kind_tag (Str len) = 3
+kind_tag (Binary len) = 4
+
+-- their length, where they have one
+abbrev pub kind_len : KeyKind → ℕ
+kind_len Integer = 0
+kind_len Ip = 0
+kind_len Ipv6 = 0
+kind_len (Str len) = len
+kind_len (Binary len) = len
+
+abbrev pub same_stored : Col × ℕ → Col × ℕ → Bool
+same_stored one other = (place one.0 == place other.0) && (one.1 == other.1)
+
+abbrev pub same_cols : List (Col × ℕ) → List (Col × ℕ) → Bool
+same_cols [] others = length others == 0
+same_cols (one ∷ some) [] = false
+same_cols (one ∷ some) (other ∷ others) = same_stored one other && same_cols some others
+
+abbrev pub same_kind : KeyKind → KeyKind → Bool
+same_kind one other = (kind_tag one == kind_tag other) && (kind_len one == kind_len other)
+
+abbrev pub same_head : Shape → Shape → Bool
+same_head one other = bytes_eq one.name other.name && same_kind one.kind other.kind
+
+abbrev pub same_table : Shape → Shape → Bool
+same_table one other =
+    same_head one other && (one.size == other.size) && same_cols one.cols other.cols
+
+abbrev pub same_tables : List Shape → List Shape → Bool
+same_tables [] others = length others == 0
+same_tables (one ∷ some) [] = false
+same_tables (one ∷ some) (other ∷ others) = same_table one other && same_tables some others
+
+abbrev pub same_names : List (List ℕ) → List (List ℕ) → Bool
+same_names [] others = length others == 0
+same_names (one ∷ some) [] = false
+same_names (one ∷ some) (other ∷ others) = bytes_eq one other && same_names some others
+
+-- no filters and no ranked lists
+abbrev pub is_plain : Config → Bool
+is_plain config = (length config.filters == 0) && (length config.ranks == 0)
+
+abbrev pub same_peers : Config → Config → Bool
+same_peers one other = bytes_eq one.me other.me && same_names one.peers other.peers
+
+abbrev pub same_parts : Config → Config → Bool
+same_parts one other = is_plain one && is_plain other && same_peers one other
+    && same_tables one.tables other.tables

@@ -1,0 +1,109 @@
+-- The tables of lines, by their words.
+use Rattle.std.specs.Prelude.{ℕ, ◌-◌, Bool, true, false, ◌&&◌, ◌||◌, if◌then◌else◌, ◌==◌, nat_le}
+use Rattle.std.specs.Prelude.{List, [], ◌∷◌, length, take, drop, slice_index, slice_index_or, codes}
+use Rattle.std.specs.Prelude.{option_map, Option, None, Some}
+use Rattle.std.specs.Char.{is_ascii_alphanumeric}
+use Rattle.std.specs.List.{flat_map, list_all}
+use Rattle.std.specs.Option.{option_and_then, option_or}
+use Rattle.std.specs.Result.{result_ok}
+use Rattle.std.specs.Str.{bytes_eq}
+use Rattle.agg_types.specs.Check.{len_fits}
+use Rattle.agg_types.specs.Col.{all_cols, col_name, is_rate}
+use Rattle.agg_types.specs.Name.{is_name}
+use Rattle.agg_types.specs.declared.column.Col.{Col}
+use Rattle.agg_types.specs.declared.config.KeyKind.{KeyKind}
+use Rattle.agg_types.specs.declared.config.KeyKind.TheVariants.{Integer, Ip, Ipv6, Str, Binary}
+use Rattle.agg_types.specs.declared.config.Shape.{Shape}
+use Rattle.line_words.specs.Numbers.{number_of}
+use Rattle.line_words.specs.Words.{parts}
+use Rattle.haproxy_import.specs.Values.{behind_word, ms_of, room_of}
+
+-- the period in parentheses
+abbrev pub inside : List ℕ → Option ℕ
+inside rest =
+    if nat_le 2 (length rest) && (slice_index rest 0 == 40)
+    && (slice_index rest (length rest - 1) == 41)
+    then ms_of (take (length rest - 2) (drop 1 rest)) else None
+
+-- what stands behind a column's name: nothing at a count, its period at a rate
+abbrev pub period_of : Bool → List ℕ → Option ℕ
+period_of true rest = inside rest
+period_of false rest = if length rest == 0 then Some 0 else None
+
+-- the period of an item of a `store` list, if it names this column; 0 for a count
+abbrev pub item_of : Col → List ℕ → Option ℕ
+item_of col item =
+    if bytes_eq (take (length (col_name col)) item) (col_name col)
+    then period_of (is_rate col) (drop (length (col_name col)) item) else None
+
+-- the period of the first of these items that names the column
+abbrev pub in_list : Col → List (List ℕ) → Option ℕ
+in_list col [] = None
+in_list col (item ∷ items) = option_or (item_of col item) (in_list col items)
+
+-- the same of all lists that stand behind a `store`
+abbrev pub period_behind : Col → List (List ℕ) → Option ℕ
+period_behind col [] = None
+period_behind col (first ∷ rest) =
+    if bytes_eq first (codes "store")
+    then option_or (in_list col (parts 44 (slice_index_or rest 0 []))) (period_behind col rest)
+    else period_behind col rest
+
+-- a column with its period, where it has one
+abbrev pub with_period : Col → Option ℕ → List (Col × ℕ)
+with_period col None = []
+with_period col (Some period) = (col, period) ∷ []
+
+-- a column with its period, where the words store it
+abbrev pub put_col : Col → List (List ℕ) → List (Col × ℕ)
+put_col col words = with_period col (period_behind col words)
+
+-- those of these columns that the words store
+abbrev pub cols_by : List Col → List (List ℕ) → List (Col × ℕ)
+cols_by order words = flat_map (λ col. put_col col words) order
+
+-- the stored columns, in ascending order
+unfoldable pub cols_of : List (List ℕ) → List (Col × ℕ)
+cols_of words = cols_by all_cols words
+
+-- a length, or HAProxy's own where none is given
+abbrev pub len_of : ℕ → List (List ℕ) → Option ℕ
+len_of usual words =
+    let word = behind_word (codes "len") words in
+    if length word == 0 then Some usual else result_ok (number_of word)
+
+-- the kind of keys that a word names
+abbrev pub kind_named : List ℕ → List (List ℕ) → Option KeyKind
+kind_named kind words =
+    if bytes_eq kind (codes "integer") then Some Integer
+    else if bytes_eq kind (codes "ip") then Some Ip
+    else if bytes_eq kind (codes "ipv6") then Some Ipv6
+    else if bytes_eq kind (codes "string") then option_map Str (len_of 31 words)
+    else if bytes_eq kind (codes "binary") then option_map Binary (len_of 32 words)
+    else None
+
+abbrev pub kind_of : List (List ℕ) → Option KeyKind
+kind_of words = kind_named (behind_word (codes "type") words) words
+
+-- a table of these parts
+abbrev pub shape : List ℕ → List (Col × ℕ) → KeyKind → ℕ → Shape
+shape name cols kind size = record { name = name; kind = kind; size = size; cols = cols }
+
+-- the table of this name that the words describe
+abbrev pub shape_of : List ℕ → List (List ℕ) → Option Shape
+shape_of name words =
+    option_and_then (λ kind. option_map (shape name (cols_of words) kind)
+    (room_of (behind_word (codes "size") words))) (kind_of words)
+
+-- a byte that a name in haproxy.cfg may have
+abbrev pub is_plain : ℕ → Bool
+is_plain byte = is_ascii_alphanumeric byte || (byte == 45) || (byte == 46) || (byte == 47)
+    || (byte == 58) || (byte == 95)
+
+-- a name without quotes, escapes and variables
+abbrev pub plain_name : List ℕ → Bool
+plain_name name = is_name name && list_all is_plain name
+
+-- a table that the collector may have
+abbrev pub fits : Shape → Bool
+fits shape = plain_name shape.name && len_fits shape.kind

@@ -1,0 +1,21 @@
+//! The configuration of a collector, from a proxy's haproxy.cfg.
+//!
+//! For the program's `import`. It reads what HAProxy's Configuration Manual calls `peers` sections
+//! and `stick-table` lines, and nothing else of the file.
+//!
+//! `import` promises two things of the text that it gives. The collector reads it without a fault,
+//! and what it then has is exactly `imported`, a definition in specs/: the peers and tables of the
+//! file, in its order, with HAProxy's lengths and periods and with room for more rows. So a table
+//! is neither lost nor made up. No clause says what its comments tell, nor that there is memory.
+#![tactic(auto)]
+
+mod found;
+mod notes;
+mod same;
+mod sections;
+mod tables;
+mod text;
+mod values;
+mod whole;
+
+pub use whole::{ImportFault, import};

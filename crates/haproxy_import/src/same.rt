@@ -1,0 +1,124 @@
+//! Whether two configurations are the same.
+
+ghost use Rattle.std.specs.Prelude.{◌≡◌, ◌&&◌, true};
+ghost use Rattle.haproxy_import.specs.Same.{is_plain, kind_len, kind_tag, same_cols, same_head};
+ghost use Rattle.haproxy_import.specs.Same.{same_kind, same_names, same_parts, same_peers};
+ghost use Rattle.haproxy_import.specs.Same.{same_stored, same_table, same_tables};
+
+use agg_types::{Col, Config, KeyKind, Name, Shape};
+
+/// Whether they are, and have neither filters nor ranked lists.
+pub(crate) fn same_config(one: &Config, other: &Config) -> bool
+    ensures { result ≡ true → one.now ≡ other.now }
+{
+    same_parts(one, other)
+}
+
+fn same_parts(one: &Config, other: &Config) -> bool
+    ensures { result ≡ same_parts one.now other.now }
+{
+    are_plain(one, other)
+        && same_peers(one, other)
+        && same_tables(one.tables.as_slice(), other.tables.as_slice())
+}
+
+fn are_plain(one: &Config, other: &Config) -> bool
+    ensures { result ≡ (is_plain one.now && is_plain other.now) }
+{
+    is_plain(one) && is_plain(other)
+}
+
+fn same_peers(one: &Config, other: &Config) -> bool
+    ensures { result ≡ same_peers one.now other.now }
+{
+    one.me.is(other.me.as_slice()) && same_names(one.peers.as_slice(), other.peers.as_slice())
+}
+
+fn is_plain(config: &Config) -> bool
+    ensures { result ≡ is_plain config.now }
+{
+    config.filters.is_empty() && config.ranks.is_empty()
+}
+
+fn same_names(some: &[Name], others: &[Name]) -> bool
+    ensures { result ≡ same_names some.now others.now }
+{
+    match some {
+        [] => others.is_empty(),
+        [one, some @ ..] => match others {
+            [] => false,
+            [other, others @ ..] => one.is(other.as_slice()) && same_names(some, others),
+        },
+    }
+}
+
+fn same_tables(some: &[Shape], others: &[Shape]) -> bool
+    ensures { result ≡ same_tables some.now others.now }
+{
+    match some {
+        [] => others.is_empty(),
+        [one, some @ ..] => match others {
+            [] => false,
+            [other, others @ ..] => same_table(one, other) && same_tables(some, others),
+        },
+    }
+}
+
+fn same_table(one: &Shape, other: &Shape) -> bool
+    ensures { result ≡ same_table one.now other.now }
+{
+    same_head(one, other)
+        && one.size == other.size
+        && same_cols(one.cols.as_slice(), other.cols.as_slice())
+}
+
+fn same_head(one: &Shape, other: &Shape) -> bool
+    ensures { result ≡ same_head one.now other.now }
+{
+    one.name.is(other.name.as_slice()) && same_kind(one.kind, other.kind)
+}
+
+fn same_kind(one: KeyKind, other: KeyKind) -> bool
+    ensures { result ≡ same_kind one other }
+{
+    kind_tag(one) == kind_tag(other) && kind_len(one) == kind_len(other)
+}
+
+fn kind_tag(kind: KeyKind) -> u8
+    ensures { result ≡ kind_tag kind }
+{
+    match kind {
+        KeyKind::Integer => 0,
+        KeyKind::Ip => 1,
+        KeyKind::Ipv6 => 2,
+        KeyKind::Str(_) => 3,
+        KeyKind::Binary(_) => 4,
+    }
+}
+
+fn kind_len(kind: KeyKind) -> u64
+    ensures { result ≡ kind_len kind }
+{
+    match kind {
+        KeyKind::Integer | KeyKind::Ip | KeyKind::Ipv6 => 0,
+        KeyKind::Str(len) | KeyKind::Binary(len) => len,
+    }
+}
+
+fn same_cols(some: &[(Col, u32)], others: &[(Col, u32)]) -> bool
+    ensures { result ≡ same_cols some.now others.now }
+{
+    match some {
+        [] => others.is_empty(),
+        [one, some @ ..] => match others {
+            [] => false,
+            [other, others @ ..] => same_col(*one, *other) && same_cols(some, others),
+        },
+    }
+}
+
+fn same_col(one: (Col, u32), other: (Col, u32)) -> bool
+    ensures { result ≡ same_stored one other }
+{
+    one.0.place() == other.0.place() && one.1 == other.1
+}
