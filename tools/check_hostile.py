@@ -5,11 +5,15 @@
 
 It starts `aggregator listen` (examples/fleet.conf) and speaks to its sockets. Peers send hellos of every verdict,
 broken and cut messages, a byte at a time; they reset, never read, say nothing by the thousand, or drip a hello.
-Admins send lines without an end, or nothing. Signals and ports that are taken are tried too. The last line counts passed and failed; the status is 1
-where one failed. It takes about two minutes.
+Admins send lines without an end, or nothing, drip them, never read, or stay for long. Peers call from elsewhere,
+standard error takes nothing, and the peers' listener breaks. Signals and ports that are taken are tried too. The
+last line counts passed and failed; the status is 1 where one failed. It takes about five minutes.
 """
 
 import argparse
+import ctypes
+import os
+import re
 import resource
 import signal
 import socket
@@ -20,6 +24,8 @@ import time
 
 from check_with_haproxy import Report
 from proxies import COLLECTOR, CONFIG, Collector, free_ports
+
+CHANGELOG = CONFIG.parent.parent / "CHANGELOG.md"
 
 HELLO = b"HAProxyS 2.1\nagg\nlb1 100 1\n"
 ACCEPTED = b"200\n\x00\x00"
@@ -285,6 +291,204 @@ def admins(report, collector):
         admin.close()
 
 
+def ended_after(admin, start):
+    """After how many seconds the other side has closed."""
+    try:
+        while admin.recv(1 << 16):
+            pass
+    except ConnectionResetError:
+        pass
+    return time.monotonic() - start
+
+
+def slow_admins(report, collector):
+    """Admins that drip a line, that read slowly, and that stay while others wait."""
+    def drip():
+        with call(collector.admin, timeout=15) as admin:
+            start = time.monotonic()
+            try:
+                for byte in b"show filter abusers" * 2:
+                    admin.sendall(bytes([byte]))
+                    time.sleep(0.5)
+            except OSError:
+                pass
+            took = ended_after(admin, start)
+        return "" if 9.5 < took < 13 else f"{took:.1f} s"
+    report.check("a line that takes more than 10 s ends its connection", 1, drip)
+
+    def between():
+        with call(collector.admin, timeout=15) as admin:
+            for _ in range(3):
+                admin.sendall(b"show filter abusers\n")
+                time.sleep(4)
+            admin.sendall(b"show filter abusers\n")
+            start = time.monotonic()
+            took = ended_after(admin, start)
+        return "" if 9 < took < 12 else f"{took:.1f} s"
+    report.check("silence between lines ends it after 10 s, and no sooner", 1, between)
+
+    def deaf_admin():
+        admin = socket.socket()
+        admin.setsockopt(socket.SOL_SOCKET, socket.SO_RCVBUF, 4096)
+        admin.settimeout(0.5)
+        admin.connect(("127.0.0.1", collector.admin))
+        stuck, took = None, 0
+        while took < 60:
+            try:
+                admin.send(b"show table\n" * 1000)
+                stuck = None
+            except TimeoutError:
+                stuck = stuck or time.monotonic()
+            except OSError:
+                break
+            took = time.monotonic() - stuck if stuck else 0
+        admin.close()
+        return "" if 25 < took < 36 else f"{took:.1f} s"
+    report.check("an answer that isn't taken within 30 s ends its connection", 1, deaf_admin)
+
+    def busy():
+        """Four admins ask each second; a fifth calls after 50 s."""
+        held, start, took = [call(collector.admin, timeout=5) for _ in range(4)], time.monotonic(), None
+        while took is None and time.monotonic() - start < 80:
+            for admin in held:
+                try:
+                    admin.sendall(b"show filter abusers\n")
+                    admin.recv(1 << 16)
+                except OSError:
+                    pass
+            if len(held) == 4 and time.monotonic() - start > 50:
+                held.append(call(collector.admin, b"show filter abusers\n", timeout=0.5))
+                held[4].setblocking(False)
+            if len(held) == 5:
+                try:
+                    took = time.monotonic() - start if held[4].recv(1 << 16) else None
+                except BlockingIOError:
+                    pass
+            time.sleep(0.5)
+        for admin in held:
+            admin.close()
+        return "" if took and 59 < took < 65 else took
+    report.check("of four busy admins one makes room for a fifth after 60 s", 1, busy)
+
+
+def elsewhere(report, options):
+    """Peers that call from addresses that aren't asked for."""
+    told, log = os.pipe()
+    collector = Collector(options.collector, *free_ports(2), log=log, options=("--from", "127.0.1.7/24"))
+    os.close(log)
+
+    def call_from(address):
+        peer = socket.create_connection(("127.0.0.1", collector.peers), timeout=5, source_address=(address, 0))
+        with peer:
+            try:
+                peer.sendall(HELLO)
+                return read(peer, len(ACCEPTED))
+            except (ConnectionResetError, BrokenPipeError):
+                return b""
+    report.check("a peer from elsewhere is closed without an answer", 1,
+                 lambda: "" if call_from("127.0.0.1") == b"" else "it is answered")
+    report.check("and one from a network that is asked for is accepted", 1,
+                 lambda: "" if call_from("127.0.1.200") == ACCEPTED else "it isn't accepted")
+    for _ in range(500):
+        call_from("127.0.0.1")
+    time.sleep(2.5)
+    collector.stop()
+    with os.fdopen(told) as lines:
+        counts = re.findall(r"warn connections from elsewhere closed count=(\d+)", lines.read())
+        counts = [int(count) for count in counts]
+    report.check("each is counted in the log, in few lines", 1,
+                 lambda: "" if sum(counts) == 501 and len(counts) < 15 else counts)
+
+
+def mute(report, options):
+    """Standard error takes nothing."""
+    told, log = os.pipe()
+    collector = Collector(options.collector, *free_ports(2), log=log)
+    os.close(log)
+    for _ in range(3000):
+        reset(call(collector.peers, b"x\n"))
+    report.check("while standard error takes nothing a peer is accepted within a second", 1,
+                 lambda: accepted_within(collector.peers, 1))
+    text, start = b"", time.monotonic()
+    os.set_blocking(told, False)
+    while time.monotonic() - start < 2:
+        try:
+            text += os.read(told, 1 << 20)
+        except BlockingIOError:
+            time.sleep(0.01)
+    lost = re.search(rb"warn log lines lost count=(\d+)", text)
+    report.check("and lines that were lost are told once it takes some", 1,
+                 lambda: "" if lost and int(lost.group(1)) > 500 else text[-200:])
+    collector.stop()
+    os.close(told)
+
+
+def broken(report, options):
+    """The peers' listener breaks: its socket is shut down from outside."""
+    system = ctypes.CDLL(None, use_errno=True)
+    told, log = os.pipe()
+    collector = Collector(options.collector, *free_ports(2), log=log)
+    os.close(log)
+    held = [call(collector.peers, HELLO), call(collector.peers), call(collector.admin)]
+    handle = os.pidfd_open(collector.process.pid)
+    for name in os.listdir(f"/proc/{collector.process.pid}/fd"):
+        copy = system.syscall(438, handle, int(name), 0)
+        if copy < 0:
+            continue
+        with socket.socket(fileno=copy) if is_socket(copy) else os.fdopen(copy) as found:
+            if is_listener(found, collector.peers):
+                found.shutdown(socket.SHUT_RDWR)
+    start = time.monotonic()
+    try:
+        status = collector.process.wait(timeout=20)
+    except subprocess.TimeoutExpired:
+        status = collector.process.kill()
+    took = time.monotonic() - start
+    with os.fdopen(told) as lines:
+        text = lines.read()
+    report.check("where the peers' listener breaks it ends with status 5 within 6 s, and says so", 1,
+                 lambda: "" if status == 5 and took < 6 and "proxies can connect no more: " in text
+                 else (status, took, text[-200:]))
+    for peer in held:
+        peer.close()
+
+
+def is_socket(descriptor):
+    return os.readlink(f"/proc/self/fd/{descriptor}").startswith("socket:")
+
+
+def is_listener(found, port):
+    """Whether this is the socket that listens at a port."""
+    if not isinstance(found, socket.socket):
+        return False
+    try:
+        return found.getsockopt(socket.SOL_SOCKET, socket.SO_ACCEPTCONN) == 1 and found.getsockname()[1] == port
+    except OSError:
+        return False
+
+
+def checking(report, options):
+    """`--version`, `check` and `--config`."""
+    def run(words, text=b""):
+        done = subprocess.run([str(options.collector)] + words, input=text, capture_output=True, timeout=20)
+        return done.returncode, done.stdout, done.stderr
+    version = re.search(r"^## (\d[\d.]*)", CHANGELOG.read_text(), re.MULTILINE).group(1)
+    report.check("the version is that of the changelog", 1, lambda: "" if
+                 run(["--version"]) == (0, f"aggregator {version}\n".encode(), b"") else run(["--version"]))
+    sound = CONFIG.read_bytes()
+    report.check("a sound configuration is ok", 1,
+                 lambda: "" if run(["check"], sound) == (0, b"ok\n", b"") else run(["check"], sound))
+    named = ["check", "--config", str(CONFIG)]
+    report.check("also one in a file", 1, lambda: "" if run(named) == (0, b"ok\n", b"") else run(named))
+    faulty = b"name agg\npeer\ntable t type ip size 1x\npeer lb1\npeer lb1\n"
+    wanted = b"config line 2: Syntax\nconfig line 3: Number\nconfig line 5: Duplicate\n"
+    report.check("every faulty line is told", 1,
+                 lambda: "" if run(["check"], faulty) == (3, wanted, b"") else run(["check"], faulty))
+    status, printed, told = run(["check", "--config", "/nowhere/fleet.conf"])
+    report.check("a file that isn't there is told with status 5", 1, lambda: "" if status == 5 and not printed
+                 and told.startswith(b"cannot read the configuration: ") else (status, printed, told))
+
+
 def scarce(report, options):
     """Descriptors run out and come back."""
     peers, admin = free_ports(2)
@@ -342,11 +546,11 @@ def main():
     resource.setrlimit(resource.RLIMIT_NOFILE, (4096, resource.getrlimit(resource.RLIMIT_NOFILE)[1]))
     report = Report()
     collector = Collector(options.collector, *free_ports(2))
-    for part in (verdicts, streams, crowd, newer, strangers, deaf, silence, admins):
+    for part in (verdicts, streams, crowd, newer, strangers, deaf, silence, admins, slow_admins):
         part(report, collector)
     collector.stop()
-    scarce(report, options)
-    surroundings(report, options)
+    for part in (scarce, elsewhere, mute, broken, checking, surroundings):
+        part(report, options)
     print(f"{report.passed} passed, {report.failed} failed")
     sys.exit(1 if report.failed else 0)
 

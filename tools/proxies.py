@@ -59,9 +59,9 @@ def rows_of(text):
 class Collector:
     """`aggregator listen` over a configuration, on these ports."""
 
-    def __init__(self, program, peers, admin, config=CONFIG, log=subprocess.DEVNULL):
+    def __init__(self, program, peers, admin, config=CONFIG, log=subprocess.DEVNULL, options=()):
         self.peers, self.admin = peers, admin
-        words = [str(program), "listen", "--peers", f"127.0.0.1:{peers}", "--admin", f"127.0.0.1:{admin}"]
+        words = [str(program), "listen", "--peers", f"127.0.0.1:{peers}", "--admin", f"127.0.0.1:{admin}", *options]
         with open(config, "rb") as text:
             self.process = subprocess.Popen(words, stdin=text, stdout=subprocess.PIPE, stderr=log)
         told = self.process.stdout.readline()

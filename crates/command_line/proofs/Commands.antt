@@ -85,16 +85,6 @@ goes_on word held waiting position is_trailing h (trailing after) _ = tt
 goes_on word held waiting position is_trailing h (subcommand name) bad = absurd bad
 goes_on word held waiting position is_trailing h value _ = tt
 
--- what a word names: one of the three names, or none
-named : (P : Option Text → Type 0) (a b c : Bool) → P (Some (codes "replay"))
-    → P (Some (codes "listen")) → P (Some (codes "help")) → P None
-    → P (option_map (λ (s : Text × List Text). s.0) (cond a (Some (codes "replay", []))
-    (cond b (Some (codes "listen", [])) (cond c (Some (codes "help", [])) None))))
-named P true b c replay listen help none = replay
-named P false true c replay listen help none = listen
-named P false false true replay listen help none = help
-named P false false false replay listen help none = none
-
 -- the walk before one more word
 abbrev walk_at : Held → Waiting → ℕ → Bool → Option (Text × List Text) → Walk
 walk_at held waiting position is_trailing stopped = record {
@@ -131,23 +121,29 @@ no_name word held waiting position = go (bytes_eq word (45 ∷ 45 ∷ []))
     go false = goes_on word held waiting position false _ _
         (other_names_none top.rules waiting word (long_of word) held)
 
-by_name : (word : Text) (held : Held) (position : ℕ) (a b c : Bool) → word_wrong
-    (option_map (λ (s : Text × List Text). s.0) (cond a (Some (codes "replay", []))
-    (cond b (Some (codes "listen", [])) (cond c (Some (codes "help", [])) None)))) word held idle
-    position ≡ []
-    → StopsWell (after_word (option_map (λ (s : Text × List Text). s.0)
-    (cond a (Some (codes "replay", [])) (cond b (Some (codes "listen", []))
-    (cond c (Some (codes "help", [])) None)))) word held idle position).stopped
-by_name word held position true b c e = inl refl
-by_name word held position false true c e = inr refl
-by_name word held position false false true e = absurd (cc)
-by_name word held position false false false e = no_name word held idle position
+-- the first of the five names for which its test holds
+abbrev met_by : (a b c d help : Bool) → Option Text
+met_by a b c d help =
+    option_map (λ (s : Text × List Text). s.0) (cond a (Some (codes "replay", []))
+    (cond b (Some (codes "import", [])) (cond c (Some (codes "check", []))
+    (cond d (Some (codes "listen", [])) (cond help (Some (codes "help", [])) None)))))
+
+by_name : (word : Text) (held : Held) (position : ℕ) (a b c d help : Bool)
+    → word_wrong (met_by a b c d help) word held idle position ≡ []
+    → StopsWell (after_word (met_by a b c d help) word held idle position).stopped
+by_name word held position true b c d help e = inl refl
+by_name word held position false true c d help e = inr (inl refl)
+by_name word held position false false true d help e = inr (inr (inl refl))
+by_name word held position false false false true help e = inr (inr (inr refl))
+by_name word held position false false false false true e = absurd (cc)
+by_name word held position false false false false false e = no_name word held idle position
 
 one_word : (word : Text) (held : Held) (waiting : Waiting) (position : ℕ)
     → word_wrong (subcommand_met names waiting word) word held waiting position ≡ []
     → StopsWell (after_word (subcommand_met names waiting word) word held waiting position).stopped
 one_word word held idle position e =
     by_name word held position (answers_to word (codes "replay", []))
+    (answers_to word (codes "import", [])) (answers_to word (codes "check", []))
     (answers_to word (codes "listen", [])) (answers_to word (codes "help", [])) e
 one_word word held (waits_for id) position e = no_name word held (waits_for id) position
 one_word word held positional position e = no_name word held positional position
@@ -184,9 +180,15 @@ entered_well None well e = absurd (cc)
 entered_well (Some stop) (inl name) e =
     subst (λ (n : Text). EntersCommand (entered (built program) (Some (n, stop.1))))
     (sym name) (inl refl)
-entered_well (Some stop) (inr name) e =
+entered_well (Some stop) (inr (inl name)) e =
     subst (λ (n : Text). EntersCommand (entered (built program) (Some (n, stop.1))))
-    (sym name) (inr refl)
+    (sym name) (inr (inl refl))
+entered_well (Some stop) (inr (inr (inl name))) e =
+    subst (λ (n : Text). EntersCommand (entered (built program) (Some (n, stop.1))))
+    (sym name) (inr (inr (inl refl)))
+entered_well (Some stop) (inr (inr (inr name))) e =
+    subst (λ (n : Text). EntersCommand (entered (built program) (Some (n, stop.1))))
+    (sym name) (inr (inr (inr refl)))
 
 -- where the checks after the walk pass, a command was entered
 checked : (rows : List Row) (has : Bool) → check_fault top rows has ≡ [] → has ≡ true

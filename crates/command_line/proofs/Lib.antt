@@ -1,3 +1,4 @@
 pub mod Addresses
 pub mod Commands
+pub mod NetworkTexts
 pub mod Told

@@ -1,15 +1,24 @@
 -- What the words of a command line ask for, as clap reads them for the command below.
-use Rattle.std.specs.Prelude.{◌≡◌, ◌⊎◌, ⊤, ℕ, true, List, [], codes, Option, None, Some}
-use Rattle.std.specs.Option.{option_and_then}
-use Rattle.clap.specs.Words.{App, Row, Rule, Text, first_of, kind_of, new_app, new_rule}
-use Rattle.clap.specs.Words.{subcommand_of, with_rule, with_subcommand, fault_of, IsAmong}
+use Rattle.std.specs.Prelude.{◌≡◌, ◌⊎◌, ⊤, ℕ, false, true, List, [], codes, map, Option, None, Some}
+use Rattle.std.specs.Borrow.{Bor}
+use Rattle.std.specs.Option.{option_and_then, option_map, option_map_or}
+use Rattle.clap.specs.Words.{App, Row, Rule, Text, all_of, first_of, kind_of, new_app}
+use Rattle.clap.specs.Words.{new_rule, subcommand_of, with_rule, with_subcommand, fault_of, IsAmong}
 use Rattle.clap.specs.Simple.{on_top}
-use Rattle.clap.specs.declared.builder.action.ArgAction.TheVariants.{Set}
+use Rattle.clap.specs.declared.builder.command.Command.{Command}
+use Rattle.clap.specs.declared.builder.command.Command.TheViews.{out-Command as fields_of}
+use Rattle.clap.specs.declared.builder.action.ArgAction.TheVariants.{Append, Set}
 use Rattle.command_line.specs.Address.{address_of, parts_of}
+use Rattle.command_line.specs.Networks.{network_parts, networks_of}
+use Rattle.command_line.specs.declared.job.Endpoints.{Endpoints}
 use Rattle.command_line.specs.declared.job.Job.{Job}
-use Rattle.command_line.specs.declared.job.Job.TheVariants.{Replay, Listen}
+use Rattle.command_line.specs.declared.job.Job.TheVariants.{Replay, Import, Check, Listen}
 use Rattle.command_line.specs.declared.usage.Usage.{Usage}
 use Rattle.command_line.specs.declared.usage.Usage.TheVariants.{Words, BadAddress, NoMemory}
+
+-- no option of the command is one of its subcommands too
+abbrev pub IsLocal : Command → Type 0
+IsLocal command = (fields_of command).has_globals ≡ false
 
 -- an option that has to be there, with its value
 abbrev pub option : Text → Rule
@@ -20,50 +29,94 @@ option name = record (new_rule name) {
   value_names = 1;
 }
 
+-- `--config FILE`, which may be there
+abbrev pub file_option : Rule
+file_option = record (new_rule (codes "config")) {
+  long = Some (codes "config");
+  action = Some Set;
+  value_names = 1;
+}
+
+-- an option that may be there any number of times, each with its value
+abbrev pub many_option : Text → Rule
+many_option name = record (new_rule name) {
+  long = Some name;
+  action = Some Append;
+  value_names = 1;
+}
+
 -- `replay`
 abbrev pub replay : App
 replay = new_app (codes "replay")
 
--- `listen --peers ADDRESS --admin ADDRESS`
-abbrev pub listen : App
-listen = with_rule (with_rule (new_app (codes "listen")) (option (codes "peers")))
-    (option (codes "admin"))
+-- `import`
+abbrev pub import : App
+import = new_app (codes "import")
 
--- the program without its commands
+-- `check --config FILE`
+abbrev pub check : App
+check = with_rule (new_app (codes "check")) file_option
+
+-- `listen --config FILE --peers ADDRESS --admin ADDRESS --from NETWORK ..`
+abbrev pub listen : App
+listen = with_rule (with_rule (with_rule (with_rule (new_app (codes "listen")) file_option)
+    (option (codes "peers"))) (option (codes "admin"))) (many_option (codes "from"))
+
+-- the program without its commands; it tells its version
 abbrev pub bare : App
-bare = on_top (λ s. record s { subcommand_required = true }) (new_app (codes "aggregator"))
+bare = on_top (λ s. record s { has_version = true; subcommand_required = true })
+    (new_app (codes "aggregator"))
 
 -- the program: one of these commands has to be there
 abbrev pub program : App
-program = with_subcommand (with_subcommand bare replay.top) listen.top
+program = with_subcommand (with_subcommand (with_subcommand (with_subcommand bare replay.top)
+    import.top) check.top) listen.top
 
 -- the name of one of the commands
 abbrev pub IsCommand : Text → Type 0
-IsCommand name = (name ≡ codes "replay") ⊎ (name ≡ codes "listen")
+IsCommand name = (name ≡ codes "replay") ⊎ (name ≡ codes "import") ⊎ (name ≡ codes "check")
+    ⊎ (name ≡ codes "listen")
 
 -- the address that an option of a command says
 abbrev pub address_in : Text → List Row → Option (List ℕ × ℕ)
 address_in name rows = option_and_then address_of (first_of name rows)
 
+-- the networks that an option of a command says: none where it isn't there
+abbrev pub networks_in : Text → List Row → Option (List (List ℕ × ℕ))
+networks_in name rows = option_map_or networks_of (all_of name rows) (Some [])
+
+-- the options name this file of a configuration, or none
+abbrev pub SaysFile : List Row → Option (Bor Text) → Type 0
+SaysFile rows config = option_map (λ name. name.now) config ≡ first_of (codes "config") rows
+
+-- the options of `listen` say these addresses
+pub record SaysAddresses (rows : List Row) (addresses : Endpoints) : Type 0 where
+  pub peers : address_in (codes "peers") rows ≡ Some (parts_of addresses.peers)
+  pub admin : address_in (codes "admin") rows ≡ Some (parts_of addresses.admin)
+  pub from : networks_in (codes "from") rows ≡ Some (map network_parts addresses.from.items)
+
 -- a command with its options asks for this job
 abbrev pub IsJob : Option (Text × List Row) → Job → Type 0
 IsJob None job = ⊥
 IsJob (Some command) Replay = command.0 ≡ codes "replay"
-IsJob (Some command) (Listen peers admin) = (command.0 ≡ codes "listen")
-    × (address_in (codes "peers") command.1 ≡ Some (parts_of peers))
-    × (address_in (codes "admin") command.1 ≡ Some (parts_of admin))
+IsJob (Some command) Import = command.0 ≡ codes "import"
+IsJob (Some command) (Check config) =
+    (command.0 ≡ codes "check") × SaysFile command.1 config
+IsJob (Some command) (Listen config endpoints) =
+    (command.0 ≡ codes "listen") × SaysFile command.1 config × SaysAddresses command.1 endpoints
 
 -- clap takes the words, and their command asks for this job
 pub record AsksFor (words : List Text) (job : Job) : Type 0 where
   pub taken : fault_of program words ≡ []
   pub is : IsJob (subcommand_of program words) job
 
--- a `listen` of which an option says no address
+-- a `listen` of which an option says no address, or no network
 abbrev pub SaysNoAddress : Option (Text × List Row) → Type 0
 SaysNoAddress None = ⊥
 SaysNoAddress (Some command) = (command.0 ≡ codes "listen")
     × ((address_in (codes "peers") command.1 ≡ None)
-    ⊎ (address_in (codes "admin") command.1 ≡ None))
+    ⊎ (address_in (codes "admin") command.1 ≡ None)
+    ⊎ (networks_in (codes "from") command.1 ≡ None))
 
 -- why a command that clap takes is no job: an option says no address, or an allocation failed
 abbrev pub IsNoJob : Option (Text × List Row) → Usage → Type 0

@@ -1,8 +1,9 @@
 -- What the lines ask for that the documents show, whatever the program is called.
 use Rattle.std.specs.Prelude.{◌≡◌, ◌++◌, List, [], ◌∷◌, codes, Option, None, Some}
 use Rattle.std.specs.Option.{option_map, option_and_then}
-use Rattle.clap.specs.Words.{Kinds, Row, Text, fault_of, first_of, subcommand_of}
+use Rattle.clap.specs.Words.{Kinds, Row, Text, all_of, fault_of, first_of, subcommand_of}
 use Rattle.clap.specs.declared.error.kind.ErrorKind.TheVariants.{ArgumentConflict, DisplayHelp}
+use Rattle.clap.specs.declared.error.kind.ErrorKind.TheVariants.{DisplayVersion}
 use Rattle.clap.specs.declared.error.kind.ErrorKind.TheVariants.{InvalidSubcommand}
 use Rattle.clap.specs.declared.error.kind.ErrorKind.TheVariants.{MissingRequiredArgument}
 use Rattle.clap.specs.declared.error.kind.ErrorKind.TheVariants.{MissingSubcommand, UnknownArgument}
@@ -11,6 +12,10 @@ use Rattle.command_line.specs.Asked.{program}
 -- the text that an option of the command has
 abbrev pub text_in : Text → Option (Text × List Row) → Option Text
 text_in name = option_and_then (λ command. first_of name command.1)
+
+-- the texts that such an option has where it may be there several times
+abbrev pub texts_in : Text → Option (Text × List Row) → Option (List Text)
+texts_in name = option_and_then (λ command. all_of name command.1)
 
 -- clap takes the words as this command, with these texts for its two options
 pub record IsTaken (words : List Text) (name : Text) (peers admin : Option Text) : Type 0 where
@@ -22,6 +27,10 @@ pub record IsTaken (words : List Text) (name : Text) (peers admin : Option Text)
 -- `replay`
 abbrev pub TakesReplay : Type 0
 TakesReplay = (self : Text) → IsTaken (self ∷ codes "replay" ∷ []) (codes "replay") None None
+
+-- `import`
+abbrev pub TakesImport : Type 0
+TakesImport = (self : Text) → IsTaken (self ∷ codes "import" ∷ []) (codes "import") None None
 
 -- `--peers=` and `--admin=` with these texts
 abbrev pub peers_word : Text → Text
@@ -42,6 +51,40 @@ TakesJoined = (self peers admin : Text)
     × IsTaken (listen_words self (admin_word admin ∷ peers_word peers ∷ []))
     (codes "listen") (Some peers) (Some admin)
 
+-- `--from=` with this text
+abbrev pub from_word : Text → Text
+from_word text = codes "--from=" ++ text
+
+-- `listen` with two networks between the other words
+abbrev pub from_words : (self peers admin one other : Text) → List Text
+from_words self peers admin one other =
+    listen_words self (peers_word peers ∷ from_word one ∷ admin_word admin ∷ from_word other ∷ [])
+
+-- such a line is taken with both, in their order, for all texts
+pub record TakesNetworks (self peers admin one other : Text) : Type 0 where
+  pub taken : IsTaken (from_words self peers admin one other) (codes "listen")
+      (Some peers) (Some admin)
+  pub both : texts_in (codes "from")
+      (subcommand_of program (from_words self peers admin one other)) ≡ Some (one ∷ other ∷ [])
+
+-- `--config=` with this text
+abbrev pub config_word : Text → Text
+config_word text = codes "--config=" ++ text
+
+-- clap takes the words as this command, with this file
+pub record TakesFile (words : List Text) (name file : Text) : Type 0 where
+  pub taken : fault_of program words ≡ []
+  pub named : option_map (λ command. command.0) (subcommand_of program words) ≡ Some name
+  pub file_is : text_in (codes "config") (subcommand_of program words) ≡ Some file
+
+-- `check` alone, and `check` and `listen` with a file, for all texts
+pub record TakesFiles (self file peers admin : Text) : Type 0 where
+  pub alone : IsTaken (self ∷ codes "check" ∷ []) (codes "check") None None
+  pub checked : TakesFile (self ∷ codes "check" ∷ config_word file ∷ []) (codes "check") file
+  pub collected : TakesFile
+      (listen_words self (config_word file ∷ peers_word peers ∷ admin_word admin ∷ []))
+      (codes "listen") file
+
 -- the kinds of error that clap has for these words behind the program's name
 abbrev pub faults : Text → List Text → Kinds
 faults self words = fault_of program (self ∷ words)
@@ -51,6 +94,11 @@ pub record ShowsHelp (self : Text) : Type 0 where
   pub long : faults self (codes "--help" ∷ []) ≡ DisplayHelp ∷ []
   pub short : faults self (codes "-h" ∷ []) ≡ DisplayHelp ∷ []
   pub of_listen : faults self (codes "listen" ∷ codes "--help" ∷ []) ≡ DisplayHelp ∷ []
+
+-- the version, in the two ways to ask for it
+pub record ShowsVersion (self : Text) : Type 0 where
+  pub long : faults self (codes "--version" ∷ []) ≡ DisplayVersion ∷ []
+  pub short : faults self (codes "-V" ∷ []) ≡ DisplayVersion ∷ []
 
 -- no command, another one, one word too many, an option that isn't there, one too few, one twice
 pub record Refuses (self text : Text) : Type 0 where

@@ -36,7 +36,8 @@ pub fn read_address(alloc: Global, text: &[u8]) -> Result<Option<SocketAddrV4>, 
     Ok(Some(SocketAddrV4::new(ip, port)))
 }
 
-fn read_ip(alloc: Global, text: &[u8]) -> Result<Option<Ipv4Addr>, NoMemory>
+/// The IPv4 that a text says.
+pub(crate) fn read_ip(alloc: Global, text: &[u8]) -> Result<Option<Ipv4Addr>, NoMemory>
     ensures { IfOk result (λ found. option_map ipv4_octets found ≡ key_of Ip text.now) }
 {
     let Some(key) = read_key(alloc, KeyKind::Ip, text)? else {

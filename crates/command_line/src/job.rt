@@ -1,15 +1,32 @@
+use crate::network::Network;
 use std::net::SocketAddrV4;
 
-/// What the program is to do.
-#[derive(Clone, Copy, Debug, PartialEq, Eq)]
-pub enum Job {
+/// What the program is to do. A configuration is the text of this file, or of standard input where
+/// none is named.
+#[derive(Debug, Drop)]
+pub enum Job<'a> {
     /// Replay the script on standard input.
     Replay,
-    /// Read the configuration on standard input, and collect what proxies send.
-    Listen {
-        /// Where proxies connect.
-        peers: SocketAddrV4,
-        /// Where operators connect.
-        admin: SocketAddrV4,
+    /// Write a configuration for the haproxy.cfg on standard input.
+    Import,
+    /// Say what is wrong with a configuration.
+    Check {
+        config: Option<&'a str>,
     },
+    /// Read a configuration, and collect what proxies send.
+    Listen {
+        config: Option<&'a str>,
+        endpoints: Endpoints,
+    },
+}
+
+/// Where is to be listened.
+#[derive(Debug, Drop)]
+pub struct Endpoints {
+    /// Where proxies connect.
+    pub peers: SocketAddrV4,
+    /// From which networks they may; from all where this is empty.
+    pub from: Vec<Network>,
+    /// Where operators connect.
+    pub admin: SocketAddrV4,
 }

@@ -1,17 +1,26 @@
 //! What is asked for by the lines that the documents show.
 
 ghost use Rattle.std.specs.Prelude.{ℕ, List};
-ghost use Rattle.command_line.specs.Lines.{Refuses, ShowsHelp, TakesJoined, TakesReplay};
+ghost use Rattle.command_line.specs.Lines.{Refuses, ShowsHelp, ShowsVersion, TakesFiles};
+ghost use Rattle.command_line.specs.Lines.{TakesImport, TakesJoined, TakesNetworks};
+ghost use Rattle.command_line.specs.Lines.{TakesReplay};
 
-/// `replay`, and `listen` with `--peers=` and `--admin=` in either order, are taken for what they
-/// say, whatever the program is called and the two texts are.
+/// `replay`, `import`, and `listen` with `--peers=` and `--admin=` in either order, are taken for
+/// what they say, whatever the program is called and the two texts are. So are each `--from=` beside
+/// them, `check`, and `--config=`.
 pub fn shown_lines()
     ensures replay { TakesReplay }
+    ensures import { TakesImport }
     ensures joined { TakesJoined }
+    ensures networks { (self peers admin one other : List ℕ)
+        → TakesNetworks self peers admin one other }
+    ensures files { (self file peers admin : List ℕ) → TakesFiles self file peers admin }
 {}
 
-/// Help is shown where it is asked for, and the common mistakes are reported as what they are.
+/// Help and the version are shown where they are asked for, and the common mistakes are reported as
+/// what they are.
 pub fn refused_lines()
     ensures help { (self : List ℕ) → ShowsHelp self }
+    ensures version { (self : List ℕ) → ShowsVersion self }
     ensures mistakes { (self text : List ℕ) → Refuses self text }
 {}

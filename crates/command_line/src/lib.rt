@@ -9,10 +9,14 @@
 mod address;
 mod job;
 pub mod laws;
+mod network;
+mod networks;
 mod reading;
 mod usage;
 
 pub use address::read_address;
-pub use job::Job;
-pub use reading::read;
+pub use job::{Endpoints, Job};
+pub use network::Network;
+pub use networks::{admits, read_network};
+pub use reading::{VERSION, read};
 pub use usage::Usage;

@@ -5,22 +5,29 @@ ghost use Rattle.std.specs.Option.{option_map};
 ghost use Rattle.clap.specs.Words.{app_of, found_of, kind_of, rows_of, rule_of};
 ghost use Rattle.command_line.specs.Address.{parts_of};
 ghost use Rattle.command_line.specs.Asked.{AsksFor, IsCommand, IsJob, IsNoJob, IsRefused};
-ghost use Rattle.command_line.specs.Asked.{address_in, option, program};
+ghost use Rattle.command_line.specs.Asked.{IsLocal, SaysFile, address_in, file_option, listen};
+ghost use Rattle.command_line.specs.Asked.{many_option, networks_in, option, program};
+ghost use Rattle.command_line.specs.Networks.{network_parts, networks_of};
 
 use crate::address::read_address;
-use crate::job::Job;
+use crate::job::{Endpoints, Job};
+use crate::network::Network;
+use crate::networks::read_network;
 use crate::usage::Usage;
 use agg_types::NoMemory;
 use clap::error::ErrorKind;
 use clap::{Arg, ArgAction, ArgMatches, Command, Error};
-use std::alloc::Global;
+use std::alloc::{AllocError, Global};
 use std::convert::AsStr;
 use std::net::SocketAddrV4;
+
+/// The version of the program, as CHANGELOG.md has it.
+pub const VERSION: &str = "0.3.0";
 
 /// The job that the words of a command line ask for, the first of them the program's name. Help
 /// that is asked for and words that aren't the program's are `Usage::Words`; of words that are, an
 /// address that is none is `Usage::BadAddress`.
-pub fn read<S: AsStr>(alloc: Global, words: &[S]) -> Result<Job, Usage>
+pub fn read<'a, S: AsStr>(alloc: Global, words: &'a [S]) -> Result<Job<'a>, Usage>
     ensures job { IfOk result (AsksFor (map S.text words.now)) }
     ensures usage { IfErr result (IsRefused (map S.text words.now)) }
 {
@@ -39,54 +46,112 @@ fn program<'a>(alloc: Global) -> Result<Command<'a>, Error>
     let replay = Command::new(alloc, "replay").about(
         "Reads a script on standard input and prints its results",
     );
-    let listen = Command::new(alloc, "listen")
-        .about("Reads a configuration on standard input and collects what proxies send")
-        .arg(address(alloc, "peers"))?
-        .arg(address(alloc, "admin"))?;
+    let import = Command::new(alloc, "import").about(
+        "Reads a haproxy.cfg on standard input and prints a configuration for it",
+    );
+    let check = Command::new(alloc, "check")
+        .about("Reads a configuration and says what is wrong with it")
+        .arg(file(alloc))?;
     let command = Command::new(alloc, "aggregator")
         .about("Collects HAProxy stick tables of a fleet")
+        .version(VERSION)
         .subcommand_required(true)
         .subcommand(replay)?
-        .subcommand(listen)?;
+        .subcommand(import)?
+        .subcommand(check)?
+        .subcommand(listen(alloc)?)?;
     Ok(command)
 }
 
+// The command that collects.
+fn listen<'a>(alloc: Global) -> Result<Command<'a>, AllocError>
+    ensures app { IfOk result (λ command. app_of command ≡ listen) }
+    ensures local { IfOk result IsLocal }
+{
+    Command::new(alloc, "listen")
+        .about("Reads a configuration and collects what proxies send")
+        .arg(file(alloc))?
+        .arg(address(alloc, "peers", "Where proxies connect, as 10.1.0.9:10000"))?
+        .arg(address(alloc, "admin", "Where operators connect, as 127.0.0.1:9999"))?
+        .arg(networks(alloc))
+}
+
+// The file of a configuration.
+fn file<'a>(alloc: Global) -> Arg<'a>
+    ensures rule { rule_of result ≡ file_option }
+    ensures local { result.global ≡ false }
+{
+    Arg::new(alloc, "config")
+        .long("config")
+        .value_name("FILE")
+        .help("The configuration [default: standard input]")
+        .action(ArgAction::Set)
+}
+
 // An address to bind.
-fn address<'a>(alloc: Global, name: &'a str) -> Arg<'a>
+fn address<'a>(alloc: Global, name: &'a str, help: &'a str) -> Arg<'a>
     ensures rule { rule_of result ≡ option name.entry.now }
     ensures local { result.global ≡ false }
 {
     Arg::new(alloc, name)
         .long(name)
         .value_name("ADDRESS")
+        .help(help)
         .required(true)
         .action(ArgAction::Set)
 }
 
+// Networks to take connections from.
+fn networks<'a>(alloc: Global) -> Arg<'a>
+    ensures rule { rule_of result ≡ many_option (codes "from") }
+    ensures local { result.global ≡ false }
+{
+    Arg::new(alloc, "from")
+        .long("from")
+        .value_name("NETWORK")
+        .help("Where proxies may connect from, as 10.1.0.0/24; any number [default: everywhere]")
+        .action(ArgAction::Append)
+}
+
 // What a command with its options asks for.
-fn job(alloc: Global, name: &str, given: &ArgMatches<'_>) -> Result<Job, Usage>
+fn job<'a>(alloc: Global, name: &str, given: &ArgMatches<'a>) -> Result<Job<'a>, Usage>
     requires { IsCommand name.now }
     ensures job { IfOk result (IsJob (Some (name.now, rows_of (found_of given.now)))) }
     ensures none { IfErr result (IsNoJob (Some (name.now, rows_of (found_of given.now)))) }
 {
     if name == "replay" {
         Ok(Job::Replay)
+    } else if name == "import" {
+        Ok(Job::Import)
+    } else if name == "check" {
+        let config = file_in(given);
+        Ok(Job::Check { config })
     } else {
         listening(alloc, given)
     }
 }
 
 // What `listen` asks for.
-fn listening(alloc: Global, given: &ArgMatches<'_>) -> Result<Job, Usage>
+fn listening<'a>(alloc: Global, given: &ArgMatches<'a>) -> Result<Job<'a>, Usage>
     ensures job { IfOk result (IsJob (Some (codes "listen", rows_of (found_of given.now)))) }
     ensures none { IfErr result (IsNoJob (Some (codes "listen", rows_of (found_of given.now)))) }
 {
     let peers = address_in(alloc, given, "peers")?;
     let admin = address_in(alloc, given, "admin")?;
-    let (Some(peers), Some(admin)) = (peers, admin) else {
+    let from = networks_in(alloc, given, "from")?;
+    let (Some(peers), Some(admin), Some(from)) = (peers, admin, from) else {
         return Err(Usage::BadAddress);
     };
-    Ok(Job::Listen { peers, admin })
+    let config = file_in(given);
+    let endpoints = Endpoints { peers, from, admin };
+    Ok(Job::Listen { config, endpoints })
+}
+
+// The file of a configuration that the options name.
+fn file_in<'a>(given: &ArgMatches<'a>) -> Option<&'a str>
+    ensures { SaysFile (rows_of (found_of given.now)) result }
+{
+    given.get_str("config")
 }
 
 // The address that an option says.
@@ -102,4 +167,34 @@ fn address_in(
         None => Ok(None),
         Some(text) => read_address(alloc, text.as_bytes()),
     }
+}
+
+// The networks that an option says.
+fn networks_in(
+    alloc: Global,
+    given: &ArgMatches<'_>,
+    name: &str,
+) -> Result<Option<Vec<Network>>, NoMemory>
+    ensures { IfOk result (λ found. option_map (λ v. map network_parts v.items) found
+        ≡ networks_in name.now (rows_of (found_of given.now))) }
+{
+    match given.get_raw(name) {
+        None => Ok(Some(Vec::new(alloc))),
+        Some(texts) => read_networks(alloc, texts),
+    }
+}
+
+// The networks that texts say, if each says one.
+fn read_networks(alloc: Global, texts: &[&str]) -> Result<Option<Vec<Network>>, NoMemory>
+    ensures { IfOk result (λ found. option_map (λ v. map network_parts v.items) found
+        ≡ networks_of (map (λ text. text.now) texts.now)) }
+{
+    let mut networks = Vec::new(alloc);
+    for text in texts {
+        match read_network(alloc, text.as_bytes())? {
+            None => return Ok(None),
+            Some(network) => networks.push(network)?,
+        }
+    }
+    Ok(Some(networks))
 }

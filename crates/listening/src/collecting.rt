@@ -3,61 +3,67 @@
 ghost use Rattle.std.specs.Prelude.{◌≡◌, []};
 ghost use Rattle.agg_types.specs.Check.{config_faults};
 
+use crate::admins::Admins;
 use crate::connections::Connections;
+use crate::journal::Journal;
 use crate::log::Event;
-use crate::notes::{Notes, write_event};
-use crate::sockets::{Sockets, Ticks};
+use crate::notes::Notes;
+use crate::sockets::Sockets;
+use crate::ticks::Ticks;
+use command_line::Endpoints;
 use hub::{Hub, Naming, Opening};
 use program::{Asked, Fault};
 use serve::serve_all;
-use std::io;
-use std::io::Write;
+use std::alloc::Global;
+use std::io::{ErrorKind, Write};
 use std::marker::Brand;
 use std::net::{Net, SocketAddr, SocketAddrV4, TcpListener, TcpStream};
-use std::sync::Wait;
+use std::sync::{Arc, Wait};
 use std::thread::Threads;
 use std::time::{Clock, Instant};
+use std::{io, thread};
 
 /// How many admin connections may look at once: four are served, and each may be about to end.
 const PLACES: usize = 8;
 
-/// Listens at both addresses, says so on standard output, and collects until both listeners have
-/// failed. Answers why it didn't begin, or ended.
-pub fn collect<R, O>(rt: &R, asked: Asked, output: &mut O) -> Fault
+/// Why it ended, or didn't begin.
+#[derive(Debug, Drop)]
+pub struct Stopped {
+    pub fault: Fault,
+    /// Whether standard error takes lines, as far as is known.
+    pub is_heard: bool,
+}
+
+impl Stopped {
+    // Nothing was logged yet.
+    fn early(fault: Fault) -> Stopped {
+        Stopped {
+            fault,
+            is_heard: true,
+        }
+    }
+}
+
+/// Listens at both addresses, says so on standard output, and collects until the listener of the
+/// proxies has failed. Answers why it didn't begin, or ended.
+pub fn collect<R, O>(rt: &R, asked: Asked, output: &mut O) -> Stopped
 where
-    R: Threads + Wait + Copy + Send + Sync,
+    R: Threads + Wait + Copy + Send + Sync + 'static,
     R: Eprint + AllocGlobal + Clock,
     R: Net<Listener = TcpListener, Stream = TcpStream>,
     O: Write,
     requires { config_faults asked.config ≡ [] }
 {
-    let Asked {
-        config,
-        peers,
-        admin,
-    } = asked;
+    let Asked { config, endpoints } = asked;
     let Ok(opening) = Opening::new(rt.alloc(), config, 0) else {
-        return Fault::NoMemory;
+        return Stopped::early(Fault::NoMemory);
     };
-    let Err(fault) = serve::<Brand, R, O>(rt, opening, peers, admin, output) else {
-        return Fault::Closed;
+    let Ok(journal) = Arc::new(rt.alloc(), Journal::new(rt.alloc())) else {
+        return Stopped::early(Fault::NoMemory);
     };
-    fault
-}
-
-// Begins to listen at both addresses.
-fn listen<'a, R>(
-    rt: &R,
-    peers: SocketAddrV4,
-    admin: SocketAddrV4,
-    connections: &'a Connections,
-) -> Result<Sockets<'a, R>, Fault>
-where
-    R: Copy + AllocGlobal + Net<Listener = TcpListener, Stream = TcpStream>,
-{
-    let peers = listener(rt, peers)?;
-    let admins = listener(rt, admin)?;
-    Ok(Sockets::new(*rt, rt.alloc(), peers, admins, connections))
+    let fault = serve::<Brand, R, O>(rt, opening, &endpoints, &journal, output);
+    let is_heard = journal.finish(rt);
+    Stopped { fault, is_heard }
 }
 
 fn listener<R>(rt: &R, address: SocketAddrV4) -> Result<TcpListener, Fault>
@@ -70,45 +76,101 @@ where
     }
 }
 
+// Begins to listen at both addresses: the listener of the proxies, and the operators.
+fn listen<R>(rt: &R, endpoints: &Endpoints) -> Result<(TcpListener, Admins), Fault>
+where
+    R: Net<Listener = TcpListener, Stream = TcpStream>,
+{
+    let peers = listener(rt, endpoints.peers)?;
+    let admins = listener(rt, endpoints.admin)?;
+    Ok((peers, Admins::new(admins)))
+}
+
+// Has a thread of its own write the log. It isn't waited for at the end: standard error may take
+// nothing any more.
+fn begin_log<R>(rt: &R, journal: &Arc<Journal, Global>) -> io::Result<()>
+where
+    R: Threads + Wait + Copy + Send + Sync + 'static,
+    R: Eprint + Clock,
+{
+    let journal = Arc::try_clone(journal)?;
+    let rt_of_log = *rt;
+    if thread::spawn(rt, move || journal.run(&rt_of_log)).is_err() {
+        return Err(io::Error::from(ErrorKind::OutOfMemory));
+    }
+    Ok(())
+}
+
 // Says that proxies and operators may come.
-fn begin<R: Clock, O: Write>(rt: &R, output: &mut O) -> io::Result<Instant> {
+fn begin<R, O>(
+    rt: &R,
+    endpoints: &Endpoints,
+    journal: &Arc<Journal, Global>,
+    output: &mut O,
+) -> io::Result<Instant>
+where
+    R: Threads + Wait + Copy + Send + Sync + 'static,
+    R: Eprint + Clock,
+    O: Write,
+{
     let start = Instant::now(rt)?;
+    begin_log(rt, journal)?;
     writeln!(output, "listening")?;
     output.flush()?;
+    let Endpoints { peers, admin, .. } = endpoints;
+    let event = Event::Listening {
+        peers: *peers,
+        admin: *admin,
+    };
+    journal.note(rt, event);
     Ok(start)
 }
 
-// Listens at both addresses, and serves until both listeners have failed.
+// Listens at both addresses, and serves until the listener of the proxies has failed.
 fn serve<J: Naming + Send + Sync, R, O>(
     rt: &R,
     opening: Opening,
-    peers: SocketAddrV4,
-    admin: SocketAddrV4,
+    endpoints: &Endpoints,
+    journal: &Arc<Journal, Global>,
     output: &mut O,
-) -> Result<(), Fault>
+) -> Fault
 where
-    R: Threads + Wait + Copy + Send + Sync,
+    R: Threads + Wait + Copy + Send + Sync + 'static,
     R: Eprint + AllocGlobal + Clock,
     R: Net<Listener = TcpListener, Stream = TcpStream>,
     O: Write,
     requires { opening.of ≡ J.book }
 {
     let Ok(hub) = Hub::<J, R>::new(rt.alloc(), *rt, opening, PLACES) else {
-        return Err(Fault::NoMemory);
+        return Fault::NoMemory;
     };
-    let connections = Connections::new(rt.alloc());
-    let doors = listen(rt, peers, admin, &connections)?;
-    let start = match begin(rt, output) {
+    let (peers, admins) = match listen(rt, endpoints) {
+        Ok(listeners) => listeners,
+        Err(fault) => return fault,
+    };
+    let start = match begin(rt, endpoints, journal, output) {
         Ok(start) => start,
-        Err(error) => return Err(Fault::Start(error)),
+        Err(error) => return Fault::Start(error),
     };
-    write_event(rt, Event::Listening { peers, admin });
     let clock = Ticks { rt: *rt, start };
+    let connections = Connections::new(rt.alloc());
+    let doors = Sockets {
+        alloc: rt.alloc(),
+        clock: &clock,
+        peers,
+        from: endpoints.from.as_slice(),
+        admins: &admins,
+        connections: &connections,
+    };
     let notes = Notes {
         rt: *rt,
         config: hub.config(),
         connections: &connections,
+        journal: &**journal,
     };
     let _ended = serve_all(rt, rt.alloc(), &doors, &clock, &hub, &notes);
-    Ok(())
+    match connections.take_fault(rt) {
+        None => Fault::NoMemory,
+        Some(error) => Fault::Closed(error),
+    }
 }

@@ -1,9 +1,13 @@
 //! Who waits at the peers' door, and who sits.
 
+use crate::ticks::is_due;
 use std::alloc::Global;
 use std::collections::BTreeMap;
+use std::io;
 use std::net::{Shutdown, SocketAddr, TcpStream};
+use std::sync::atomic::{AtomicU64, Ordering};
 use std::sync::{Arc, Mutex, Wait};
+use std::time::{Clock, Instant};
 
 /// How many connections may wait for their hello at once.
 const MOST_WAITING: usize = 1024;
@@ -27,6 +31,19 @@ struct Lists {
     seated: BTreeMap<usize, Seated, Global>,
     // those that a newer one ended, until that is told
     replaced: Vec<SocketAddr>,
+    // how many came from an address that isn't asked for, and the last of these, until that is told
+    unasked: u64,
+    last_unasked: Option<SocketAddr>,
+    told_at: Option<Instant>,
+}
+
+/// Connections that were closed since they came from an address that isn't asked for.
+#[derive(Clone, Copy)]
+pub struct Unasked {
+    /// How many.
+    pub count: u64,
+    /// The address of the last one.
+    pub last: Option<SocketAddr>,
 }
 
 /// The connections of peers that wait for their hello, and those that sit.
@@ -37,6 +54,9 @@ struct Lists {
 #[derive(Drop)]
 pub struct Connections {
     lists: Mutex<Lists>,
+    // 1 once the peers' door is closed for good, and why
+    closed: AtomicU64,
+    fault: Mutex<Option<io::Error>>,
 }
 
 impl Connections {
@@ -48,7 +68,12 @@ impl Connections {
                 waiting: BTreeMap::new(alloc),
                 seated: BTreeMap::new(alloc),
                 replaced: Vec::new(alloc),
+                unasked: 0,
+                last_unasked: None,
+                told_at: None,
             }),
+            closed: AtomicU64::new(0),
+            fault: Mutex::new(None),
         }
     }
 
@@ -77,6 +102,30 @@ impl Connections {
     pub fn make_room<R: Wait>(&self, rt: &R) -> bool {
         let mut guard = self.lists.lock(rt);
         close_oldest(&mut guard)
+    }
+
+    /// The peers' door is closed for good by this fault. No connection waits any more.
+    pub fn close<R: Wait>(&self, rt: &R, fault: io::Error) {
+        self.closed.store(1, Ordering::SeqCst);
+        let mut guard = self.fault.lock(rt);
+        *guard = Some(fault);
+        for _ in 0..=MOST_WAITING {
+            if !self.make_room(rt) {
+                return;
+            }
+        }
+    }
+
+    /// Whether the peers' door is closed for good.
+    pub fn are_closed(&self) -> bool {
+        self.closed.load(Ordering::SeqCst) != 0
+    }
+
+    /// Why the peers' door is closed, once.
+    pub fn take_fault<R: Wait>(&self, rt: &R) -> Option<io::Error> {
+        let mut guard = self.fault.lock(rt);
+        let fault = &mut *guard;
+        fault.take()
     }
 
     /// A connection sits for a peer. One that sat for it before is closed.
@@ -127,6 +176,31 @@ impl Connections {
         };
         lists.replaced.swap_remove(at);
         true
+    }
+
+    /// A connection came from an address that isn't asked for.
+    pub fn turn_away<R: Wait>(&self, rt: &R, address: SocketAddr) {
+        let mut guard = self.lists.lock(rt);
+        let lists = &mut *guard;
+        lists.unasked = lists.unasked.saturating_add(1);
+        lists.last_unasked = Some(address);
+    }
+
+    /// What is to be told now of connections from addresses that aren't asked for: at most once a
+    /// second, how many came since it was told.
+    pub fn unasked<R: Clock + Wait>(&self, rt: &R) -> Option<Unasked> {
+        let mut guard = self.lists.lock(rt);
+        let lists = &mut *guard;
+        if lists.unasked == 0 || !is_due(rt, lists.told_at) {
+            return None;
+        }
+        let unasked = Unasked {
+            count: lists.unasked,
+            last: lists.last_unasked,
+        };
+        lists.unasked = 0;
+        lists.told_at = Instant::now(rt).ok();
+        Some(unasked)
     }
 }
 

@@ -6,17 +6,31 @@
 //! socket carried. What the lines of the log say, test_program prints.
 #![tactic(auto)]
 
+mod admins;
 mod collecting;
 mod connections;
+mod disk;
+mod faults;
 mod greeting;
+mod incoming;
+mod journal;
 mod log;
 mod notes;
+mod outgoing;
+mod pace;
 mod running;
 mod sockets;
+mod ticks;
 
-pub use collecting::collect;
-pub use connections::Connections;
+pub use admins::Admins;
+pub use collecting::{Stopped, collect};
+pub use connections::{Connections, Unasked};
+pub use disk::Disk;
+pub use incoming::Incoming;
+pub use journal::Journal;
 pub use log::Event;
-pub use notes::{Notes, write_event};
+pub use notes::Notes;
+pub use outgoing::Outgoing;
 pub use running::{run, run_words};
-pub use sockets::{Incoming, Outgoing, Sockets};
+pub use sockets::Sockets;
+pub use ticks::Ticks;

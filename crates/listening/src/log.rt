@@ -45,6 +45,15 @@ pub enum Event<'a> {
     PeerTurnedAway {
         address: Option<SocketAddr>,
     },
+    /// Connections of peers were closed at once: they came from an address that isn't asked for.
+    PeersUnasked {
+        count: u64,
+        last: Option<SocketAddr>,
+    },
+    /// Lines of the log were lost: standard error took none for long, or memory was lacking.
+    LinesLost {
+        count: u64,
+    },
     /// An operator's connection was closed before it was served: no seat, or out of memory.
     AdminTurnedAway {
         address: Option<SocketAddr>,
@@ -63,6 +72,8 @@ impl<'a> Event<'a> {
             Event::StrangerGone { cause: None, .. } => "info connection closed without a hello",
             Event::StrangerGone { .. } => "warn connection ended",
             Event::PeerTurnedAway { .. } => "error connection turned away",
+            Event::PeersUnasked { .. } => "warn connections from elsewhere closed",
+            Event::LinesLost { .. } => "warn log lines lost",
             Event::AdminTurnedAway { .. } => "warn admin turned away",
         }
     }
@@ -114,6 +125,8 @@ impl<'a> fmt::Display for Line<'a> {
                     From(address)
                 )
             }
+            Event::PeersUnasked { count, last } => write!(f, " count={count}{}", From(last)),
+            Event::LinesLost { count } => write!(f, " count={count}"),
             Event::AdminTurnedAway { address } => {
                 write!(f, "{} reason=\"no seat, or out of memory\"", From(address))
             }

@@ -1,39 +1,22 @@
 //! What is told to an operator while the collector runs.
 
-use crate::connections::Connections;
-use crate::log::{Event, Line};
+use crate::connections::{Connections, Unasked};
+use crate::journal::Journal;
+use crate::log::Event;
 use agg_types::Config;
 use serve::{Gate, Gone, News, Place};
 use std::net::SocketAddr;
 use std::sync::Wait;
-use std::time::{Clock, SystemTime, UNIX_EPOCH};
+use std::time::Clock;
 
-/// The gate of the collector: it lets all pass, and writes the news to standard error.
+/// The gate of the collector: it lets all pass until the peers' door is closed for good, and notes
+/// the news for the log.
 #[derive(Drop)]
 pub struct Notes<'a, R> {
     pub rt: R,
     pub config: &'a Config,
     pub connections: &'a Connections,
-}
-
-// The seconds since 1970. A clock that fails gives 0.
-fn seconds_now(rt: &impl Clock) -> u64 {
-    let Ok(now) = SystemTime::now(rt) else {
-        return 0;
-    };
-    match now.duration_since(UNIX_EPOCH) {
-        Ok(passed) => passed.as_secs(),
-        Err(_) => 0,
-    }
-}
-
-/// Writes the line of an event. A line that can't be written is lost.
-pub fn write_event<R: Eprint + Clock>(rt: &R, event: Event<'_>) {
-    let line = Line {
-        seconds: seconds_now(rt),
-        event,
-    };
-    let _ = eprintln!(rt; "{line}");
+    pub journal: &'a Journal,
 }
 
 impl<'a, R> Notes<'a, R> {
@@ -56,10 +39,18 @@ impl<'a, R> Notes<'a, R> {
         }
     }
 
+    // The line of an event waits for standard error.
+    fn note(&self, event: Event<'_>)
+    where
+        R: Clock + Wait,
+    {
+        self.journal.note(&self.rt, event);
+    }
+
     // Tells of the connection of a session that is over.
     fn gone(&self, gone: Gone<'_>)
     where
-        R: Eprint + Clock + Wait,
+        R: Clock + Wait,
     {
         let address = gone.sender;
         let updates = gone.updates;
@@ -76,7 +67,7 @@ impl<'a, R> Notes<'a, R> {
                     address,
                     updates,
                 };
-                write_event(&self.rt, event);
+                self.note(event);
                 return;
             }
             let event = Event::PeerGone {
@@ -85,7 +76,7 @@ impl<'a, R> Notes<'a, R> {
                 updates,
                 cause,
             };
-            write_event(&self.rt, event);
+            self.note(event);
         } else {
             let name = match gone.name {
                 None => None,
@@ -96,28 +87,36 @@ impl<'a, R> Notes<'a, R> {
                 address,
                 cause,
             };
-            write_event(&self.rt, event);
+            self.note(event);
         }
     }
 }
 
-impl<'a, R: Eprint + Clock + Wait> Gate for Notes<'a, R> {
-    fn turn(&self, _place: Place) {}
+impl<'a, R: Clock + Wait> Gate for Notes<'a, R> {
+    // The timer comes every 100 ms, and tells what was counted.
+    fn turn(&self, place: Place) {
+        if place != Place::Timer {
+            return;
+        }
+        if let Some(Unasked { count, last }) = self.connections.unasked(&self.rt) {
+            self.note(Event::PeersUnasked { count, last });
+        }
+    }
 
     fn stop(&self) -> bool {
-        false
+        self.connections.are_closed()
     }
 
     fn tell(&self, place: Place, news: News<'_>) {
         match news {
             News::Came(peer) => {
                 let peer = self.name(peer);
-                write_event(&self.rt, Event::PeerConnected { peer });
+                self.note(Event::PeerConnected { peer });
             }
             News::Gone(gone) => self.gone(gone),
             News::TurnedAway(address) => match place {
-                Place::Admin => write_event(&self.rt, Event::AdminTurnedAway { address }),
-                _ => write_event(&self.rt, Event::PeerTurnedAway { address }),
+                Place::Admin => self.note(Event::AdminTurnedAway { address }),
+                _ => self.note(Event::PeerTurnedAway { address }),
             },
         }
     }

@@ -1,7 +1,7 @@
 //! The program over its handles and streams.
 
 use crate::collecting::collect;
-use program::{FAULT, Prepared, arguments, prepare, tell};
+use program::{FAULT, Files, Prepared, arguments, prepare, tell};
 use std::convert::AsStr;
 use std::env::Env;
 use std::io;
@@ -12,60 +12,69 @@ use std::thread::Threads;
 use std::time::Clock;
 
 /// Runs the program over its arguments, standard input and standard output, which are the host's,
-/// and answers the exit status. It collects over the threads, the clock and the sockets of `rt`.
-pub fn run<R, H, E>(rt: &R, host: &H, errors: &mut E) -> u8
+/// and these files, and answers the exit status. It collects over the threads, the clock and the
+/// sockets of `rt`.
+pub fn run<R, H, F, E>(rt: &R, host: &H, files: &F, errors: &mut E) -> u8
 where
-    R: Threads + Wait + Copy + Send + Sync,
+    R: Threads + Wait + Copy + Send + Sync + 'static,
     R: Eprint + AllocGlobal + Clock,
     R: Net<Listener = TcpListener, Stream = TcpStream>,
     H: Env + Input + Print + AllocGlobal,
+    F: Files,
     E: Write,
 {
-    match try_run(rt, host, errors) {
+    match try_run(rt, host, files, errors) {
         Ok(status) => status,
         Err(_) => FAULT,
     }
 }
 
 // Runs the program, where its arguments and buffers for its streams can be had.
-fn try_run<R, H, E>(rt: &R, host: &H, errors: &mut E) -> io::Result<u8>
+fn try_run<R, H, F, E>(rt: &R, host: &H, files: &F, errors: &mut E) -> io::Result<u8>
 where
-    R: Threads + Wait + Copy + Send + Sync,
+    R: Threads + Wait + Copy + Send + Sync + 'static,
     R: Eprint + AllocGlobal + Clock,
     R: Net<Listener = TcpListener, Stream = TcpStream>,
     H: Env + Input + Print + AllocGlobal,
+    F: Files,
     E: Write,
 {
     let words = arguments(host)?;
     let words = words.as_slice();
     let mut input = BufReader::new(host.alloc(), host.reader())?;
     let mut output = BufWriter::new(host.alloc(), io::writer(host))?;
-    Ok(run_words(rt, words, &mut input, &mut output, errors))
+    Ok(run_words(rt, words, files, &mut input, &mut output, errors))
 }
 
 /// Runs the program over the words of a command line and its streams, and answers the exit status.
-/// It collects over the threads, the clock and the sockets of `rt`.
-pub fn run_words<R, S, I, O, E>(
+/// It collects over the threads, the clock and the sockets of `rt`. Where standard error takes
+/// nothing any more, it ends without the line that says why.
+pub fn run_words<R, S, F, I, O, E>(
     rt: &R,
     words: &[S],
+    files: &F,
     input: &mut I,
     output: &mut O,
     errors: &mut E,
 ) -> u8
 where
-    R: Threads + Wait + Copy + Send + Sync,
+    R: Threads + Wait + Copy + Send + Sync + 'static,
     R: Eprint + AllocGlobal + Clock,
     R: Net<Listener = TcpListener, Stream = TcpStream>,
     S: AsStr,
+    F: Files,
     I: BufRead,
     O: Write,
     E: Write,
 {
-    match prepare(rt.alloc(), words, input, output, errors) {
+    match prepare(rt.alloc(), words, files, input, output, errors) {
         Prepared::Ended(status) => status,
         Prepared::Collect(asked) => {
-            let fault = collect(rt, asked, output);
-            tell(rt.alloc(), &fault, errors).unwrap_or(FAULT)
+            let stopped = collect(rt, asked, output);
+            if !stopped.is_heard {
+                return FAULT;
+            }
+            tell(rt.alloc(), &stopped.fault, errors).unwrap_or(FAULT)
         }
     }
 }

@@ -1,225 +1,48 @@
-//! Sockets and the clock of the machine, as workers see them.
+//! Both listeners: the doors of a collector.
 
-ghost use Rattle.std.specs.Prelude.{◌≡◌, ◌≤◌, length};
-
+use crate::admins::Admins;
 use crate::connections::Connections;
+use crate::faults::{lacks, passes};
 use crate::greeting::{Greeting, Hello, read_hello};
+use crate::incoming::Incoming;
+use crate::outgoing::Outgoing;
+use crate::pace::{Begun, Pace};
+use crate::ticks::Ticks;
 use agg_types::Config;
-use serve::{Caller, Came, Doors, Faulted, ReadFailed, Served, Source};
+use command_line::{Network, admits};
+use serve::{Caller, Doors, Faulted, Served};
 use std::alloc::Global;
 use std::io;
-use std::io::{ErrorKind, Read, Write};
 use std::net::{SocketAddr, TcpListener, TcpStream};
+use std::sync::atomic::AtomicU64;
 use std::sync::{Arc, Wait};
-use std::time::{Clock, Duration, Instant};
+use std::time::{Clock, Duration};
 
-/// How long a read waits, in ms.
-const READ_LIMIT: u64 = 500;
+/// How long a read waits, and a write before it looks at the time, in ms.
+const SOCKET_LIMIT: u64 = 500;
 
-/// How long a write waits, in ms.
-const WRITE_LIMIT: u64 = 5000;
-
-/// The time between two moments, and before an accept that failed is tried again, in ms.
+/// The time before an accept that failed is tried again, in ms.
 const REST: u64 = 100;
 
 /// The time before an accept is tried again for which a waiting connection was closed, in ms.
 const SHORT_REST: u64 = 1;
 
-/// The moments since the start.
-#[derive(Drop)]
-pub struct Ticks<R> {
-    pub rt: R,
-    pub start: Instant,
-}
+/// The room for what is read of an operator.
+const ROOM: usize = 4096;
 
-impl<R: Clock> serve::Clock for Ticks<R> {
-    ghost gives = { λ clock moment. Unit {0} };
-
-    fn now(&self) -> u64 {
-        match self.start.elapsed(&self.rt) {
-            Ok(passed) => u64::try_from(passed.as_millis()).unwrap_or(u64::MAX),
-            Err(_) => 0,
-        }
-    }
-
-    fn rest(&self) {
-        self.rt.sleep(Duration::from_millis(REST));
-    }
-}
-
-/// What a peer or an admin sends: first what was read before it was served.
-#[derive(Drop)]
-pub struct Incoming {
-    stream: Arc<TcpStream, Global>,
-    sender: SocketAddr,
-    // Its number among the connections of peers, 0 for an admin's.
-    id: u64,
-    // Whose hello was read, by its place in the configuration.
-    peer: Option<usize>,
-    // What was read of it so far, from its end on, and whether nothing is read behind that.
-    read: Vec<u8>,
-    taken: usize,
-    is_over: bool,
-    reads: u64,
-    failed: u64,
-    // Whether a read ends by itself where nothing comes.
-    is_limited: bool,
-    // Whether bytes came in the last read.
-    is_fed: bool,
-    ghost fewer: { failed ≤ reads },
-}
-
-impl Incoming {
-    // Has what was read for its hello be what it gives first.
-    fn begin_with(&mut self, read: Vec<u8>, hello: Hello)
-        ensures { self.new.reads ≡ self.old.reads }
-    {
-        self.peer = match hello {
-            Hello::Of(peer) => Some(peer),
-            _ => None,
-        };
-        self.read = read;
-        self.taken = 0;
-        self.is_over = hello == Hello::Late;
-    }
-}
-
-impl Source for Incoming {
-    ghost use Rattle.std.specs.Prelude.{None};
-
-    ghost reads = { λ s. s.reads };
-
-    ghost failed = { λ s. s.failed };
-
-    ghost given = { λ s. None };
-
-    fn read(&mut self, buffer: &mut [u8]) -> Result<Came, ReadFailed> {
-        self.reads += 1;
-        let count = copy_front(self.read.as_slice(), self.taken, buffer);
-        if count > 0 {
-            self.taken = self.taken.saturating_add(count);
-            self.is_fed = true;
-            return Ok(Came::Bytes(count));
-        }
-        if self.is_over {
-            return Ok(Came::End);
-        }
-        if !self.is_limited && self.is_fed {
-            self.is_fed = false;
-            return Ok(Came::Nothing);
-        }
-        let mut stream = &*self.stream;
-        match stream.read(buffer) {
-            Ok(0) => Ok(Came::End),
-            Ok(count) => {
-                self.is_fed = true;
-                Ok(Came::Bytes(count))
-            }
-            Err(fault) => match fault.kind() {
-                ErrorKind::WouldBlock | ErrorKind::TimedOut | ErrorKind::Interrupted => {
-                    Ok(Came::Nothing)
-                }
-                _ => {
-                    self.failed += 1;
-                    Err(ReadFailed)
-                }
-            },
-        }
-    }
-
-    fn sender(&self) -> Option<SocketAddr> {
-        Some(self.sender)
-    }
-}
-
-// Copies bytes from a place on to the front of a buffer: how many.
-fn copy_front(bytes: &[u8], from: usize, buffer: &mut [u8]) -> usize
-    ensures { result ≤ length buffer.new }
-{
-    let left = match bytes.get(from..) {
-        None => return 0,
-        Some(left) => left,
-    };
-    let count = left.len().min(buffer.len());
-    buffer[..count].copy_from_slice(&left[..count]);
-    count
-}
-
-/// What is sent to a peer or an admin.
-#[derive(Drop)]
-pub struct Outgoing {
-    stream: Arc<TcpStream, Global>,
-}
-
-impl Write for Outgoing {
-    fn write(&mut self, bytes: &[u8]) -> io::Result<usize> {
-        let mut stream = &*self.stream;
-        stream.write(bytes)
-    }
-
-    fn flush(&mut self) -> io::Result<()> {
-        Ok(())
-    }
-}
+/// A connection of either door.
+type Visitor<'a, R> = Caller<Incoming<'a, R>, Outgoing<'a, R>>;
 
 /// Both listeners: the doors of a collector.
 #[derive(Drop)]
 pub struct Sockets<'a, R> {
-    rt: R,
-    alloc: Global,
-    peers: TcpListener,
-    admins: TcpListener,
-    connections: &'a Connections,
-}
-
-/// Whether descriptors, buffers or memory are lacking, so that another connection's end helps.
-fn lacks(fault: &io::Error) -> bool {
-    match fault.kind() {
-        ErrorKind::OutOfMemory => true,
-        // ENOMEM, ENFILE, EMFILE, ENOBUFS
-        _ => matches!(fault.raw_os_error(), Some(12 | 23 | 24 | 105)),
-    }
-}
-
-/// Whether an accept may do better later: the caller is gone, the call was interrupted, or
-/// descriptors, buffers or memory are lacking.
-fn passes(fault: &io::Error) -> bool {
-    match fault.kind() {
-        ErrorKind::ConnectionAborted
-        | ErrorKind::ConnectionReset
-        | ErrorKind::Interrupted
-        | ErrorKind::WouldBlock
-        | ErrorKind::TimedOut
-        | ErrorKind::PermissionDenied
-        | ErrorKind::OutOfMemory
-        | ErrorKind::HostUnreachable
-        | ErrorKind::NetworkUnreachable
-        | ErrorKind::NetworkDown => true,
-        _ => match fault.raw_os_error() {
-            // ENFILE, EMFILE, ENONET, EPROTO, ENOPROTOOPT, EOPNOTSUPP, ENOBUFS, EHOSTDOWN
-            Some(23 | 24 | 64 | 71 | 92 | 95 | 105 | 112) => true,
-            _ => false,
-        },
-    }
-}
-
-impl<'a, R> Sockets<'a, R> {
-    /// The doors of these two listeners, for these connections.
-    pub fn new(
-        rt: R,
-        alloc: Global,
-        peers: TcpListener,
-        admins: TcpListener,
-        connections: &'a Connections,
-    ) -> Sockets<'a, R> {
-        Sockets {
-            rt,
-            alloc,
-            peers,
-            admins,
-            connections,
-        }
-    }
+    pub alloc: Global,
+    pub clock: &'a Ticks<R>,
+    /// Where proxies connect, and from which networks they may: from all where there are none.
+    pub peers: TcpListener,
+    pub from: &'a [Network],
+    pub admins: &'a Admins,
+    pub connections: &'a Connections,
 }
 
 impl<'a, R: Clock + Wait> Sockets<'a, R> {
@@ -229,20 +52,26 @@ impl<'a, R: Clock + Wait> Sockets<'a, R> {
         stream: Arc<TcpStream, Global>,
         sender: SocketAddr,
         id: u64,
-    ) -> io::Result<Caller<Incoming, Outgoing>> {
+        begun: Option<Begun>,
+    ) -> io::Result<Visitor<'a, R>> {
         stream.set_nodelay(true)?;
-        stream.set_write_timeout(Some(Duration::from_millis(WRITE_LIMIT)))?;
-        let limit = stream.set_read_timeout(Some(Duration::from_millis(READ_LIMIT)));
+        stream.set_write_timeout(Some(Duration::from_millis(SOCKET_LIMIT)))?;
+        let limit = stream.set_read_timeout(Some(Duration::from_millis(SOCKET_LIMIT)));
         let writer = Outgoing {
             stream: Arc::try_clone(&stream)?,
+            clock: self.clock,
+            connections: self.connections,
+            begun,
         };
         let source = Incoming {
             stream,
             sender,
             id,
             peer: None,
-            read: Vec::new(self.alloc),
+            pace: None,
+            held: Vec::new(self.alloc),
             taken: 0,
+            end: 0,
             is_over: false,
             reads: 0,
             failed: 0,
@@ -252,27 +81,42 @@ impl<'a, R: Clock + Wait> Sockets<'a, R> {
         Ok(Caller { source, writer })
     }
 
-    // A peer's connection that came, which waits for its hello from now on. None where memory is
-    // lacking, or the connection is gone.
-    fn waiting(&self, stream: TcpStream, sender: SocketAddr) -> Option<Caller<Incoming, Outgoing>> {
+    // Whether a peer may call from here. All addresses here are IPv4's.
+    fn is_asked_for(&self, sender: SocketAddr) -> bool {
+        match sender {
+            SocketAddr::V4(sender) => admits(self.from, *sender.ip()),
+            SocketAddr::V6(_) => self.from.is_empty(),
+        }
+    }
+
+    // A peer's connection that came, which waits for its hello from now on. None where it comes
+    // from elsewhere, where memory is lacking, or the connection is gone.
+    fn waiting(&self, stream: TcpStream, sender: SocketAddr) -> Option<Visitor<'a, R>> {
+        let rt = &self.clock.rt;
+        if !self.is_asked_for(sender) {
+            self.connections.turn_away(rt, sender);
+            return None;
+        }
         let stream = Arc::new(self.alloc, stream).ok()?;
-        let id = self.connections.come(&self.rt, &stream)?;
-        match self.caller(stream, sender, id) {
+        let id = self.connections.come(rt, &stream)?;
+        match self.caller(stream, sender, id, None) {
             Ok(caller) => Some(caller),
             Err(_) => {
-                self.connections.stop_waiting(&self.rt, id);
+                self.connections.stop_waiting(rt, id);
                 None
             }
         }
     }
 
-    fn operator(
-        &self,
-        stream: TcpStream,
-        sender: SocketAddr,
-    ) -> Option<Caller<Incoming, Outgoing>> {
+    // An operator's connection that came. None where memory is lacking, or it is gone.
+    fn operator(&self, stream: TcpStream, sender: SocketAddr) -> Option<Visitor<'a, R>> {
         let stream = Arc::new(self.alloc, stream).ok()?;
-        self.caller(stream, sender, 0).ok()
+        let begun = Arc::new(self.alloc, AtomicU64::new(0)).ok()?;
+        let mine = Arc::try_clone(&begun).ok()?;
+        let Caller { mut source, writer } = self.caller(stream, sender, 0, Some(begun)).ok()?;
+        source.held.resize(ROOM, 0).ok()?;
+        source.pace = Some(Pace::new(self.clock, self.admins, mine));
+        Some(Caller { source, writer })
     }
 
     // What to do about an accept that failed: whether it is tried again. Where a connection waits
@@ -281,25 +125,26 @@ impl<'a, R: Clock + Wait> Sockets<'a, R> {
         if !passes(fault) {
             return false;
         }
-        let rest = if lacks(fault) && self.connections.make_room(&self.rt) {
+        let rt = &self.clock.rt;
+        let rest = if lacks(fault) && self.connections.make_room(rt) {
             SHORT_REST
         } else {
             REST
         };
-        self.rt.sleep(Duration::from_millis(rest));
+        rt.sleep(Duration::from_millis(rest));
         true
     }
 }
 
-impl<'a, R: Clock + Wait> Doors<Incoming, Outgoing> for Sockets<'a, R> {
+impl<'a, R: Clock + Wait> Doors<Incoming<'a, R>, Outgoing<'a, R>> for Sockets<'a, R> {
     ghost use Rattle.std.specs.Prelude.{None};
 
     ghost unread = { None };
 
     ghost blank = { None };
 
-    // The next connection. None after a fault that won't pass.
-    fn peer(&self) -> Option<Caller<Incoming, Outgoing>> {
+    // The next connection. None after a fault that won't pass: then all is over.
+    fn peer(&self) -> Option<Visitor<'a, R>> {
         for _ in 0..u64::MAX {
             match self.peers.accept() {
                 Ok((stream, sender)) => {
@@ -308,52 +153,56 @@ impl<'a, R: Clock + Wait> Doors<Incoming, Outgoing> for Sockets<'a, R> {
                     }
                 }
                 Err(fault) if self.tries_again(&fault) => {}
-                Err(_) => return None,
-            }
-        }
-        None
-    }
-
-    fn admin(&self) -> Option<Caller<Incoming, Outgoing>> {
-        for _ in 0..u64::MAX {
-            match self.admins.accept() {
-                Ok((stream, sender)) => {
-                    if let Some(caller) = self.operator(stream, sender) {
-                        return Some(caller);
-                    }
+                Err(fault) => {
+                    self.connections.close(&self.clock.rt, fault);
+                    return None;
                 }
-                Err(fault) if self.tries_again(&fault) => {}
-                Err(_) => return None,
             }
         }
         None
     }
 
-    fn greet(&self, config: &Config, source: &mut Incoming) -> bool {
-        let Greeting { bytes, hello } = read_hello(&self.rt, self.alloc, config, &source.stream);
-        self.connections.stop_waiting(&self.rt, source.id);
-        let limit = Duration::from_millis(READ_LIMIT);
+    fn admin(&self) -> Option<Visitor<'a, R>> {
+        for _ in 0..u64::MAX {
+            let (stream, sender) = self.admins.next(&self.clock.rt, self.connections)?;
+            if let Some(caller) = self.operator(stream, sender) {
+                return Some(caller);
+            }
+        }
+        None
+    }
+
+    fn greet(&self, config: &Config, source: &mut Incoming<'a, R>) -> bool {
+        let rt = &self.clock.rt;
+        let Greeting { bytes, hello } = read_hello(rt, self.alloc, config, &source.stream);
+        self.connections.stop_waiting(rt, source.id);
+        let limit = Duration::from_millis(SOCKET_LIMIT);
         source.is_limited = source.stream.set_read_timeout(Some(limit)).is_ok();
         source.begin_with(bytes, hello);
         matches!(hello, Hello::Of(_))
     }
 
-    fn seated(&self, source: &Incoming) {
+    fn seated(&self, source: &Incoming<'a, R>) {
         if let Some(peer) = source.peer {
-            self.connections
-                .sit(&self.rt, peer, source.id, source.sender, &source.stream);
+            self.connections.sit(
+                &self.clock.rt,
+                peer,
+                source.id,
+                source.sender,
+                &source.stream,
+            );
         }
     }
 
     fn part_peer(
         &self,
         _config: &Config,
-        source: Incoming,
-        _writer: Outgoing,
+        source: Incoming<'a, R>,
+        _writer: Outgoing<'a, R>,
         _ended: Result<Served, Faulted>,
     ) {
         if let Some(peer) = source.peer {
-            self.connections.rise(&self.rt, peer, source.id);
+            self.connections.rise(&self.clock.rt, peer, source.id);
         }
     }
 }

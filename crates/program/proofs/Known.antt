@@ -1,5 +1,5 @@
 -- What is known of streams behind a read or a write.
-use Rattle.std.proofs.Common.{◌≡◌, ℕ, List, [], ◌++◌, Option, None, Some, Result, Ok, Err, IfSome}
+use Rattle.std.proofs.Common.{◌≡◌, ℕ, List, Option, None, Some, Result, Ok, Err, IfSome}
 use Rattle.std.proofs.Common.{OnOk, subst}
 use Rattle.std.specs.Io.KnownBytes.{Appends, Keeps}
 use Rattle.std.proofs.KnownBytes.{Appends-kept}
@@ -14,6 +14,6 @@ flushed (Err error) before middle after text appends kept = tt
 
 -- what is said of the bytes that were read is said of those that were there
 pub of_known : (known : Option (List ℕ)) (bytes : List ℕ) (Says : List ℕ → Type 0)
-    → IfSome known (λ xs. bytes ≡ [] ++ xs) → Says bytes → IfSome known Says
+    → IfSome known (λ xs. bytes ≡ xs) → Says bytes → IfSome known Says
 of_known None bytes Says knows says = tt
 of_known (Some xs) bytes Says knows says = subst Says knows says

@@ -19,7 +19,8 @@ IsTextOf (Address address error) text =
 IsTextOf (Start error) text =
     (reason : List ℕ) × (text ≡ codes "cannot start: " ++ reason ++ codes "\n")
 IsTextOf NoMemory text = text ≡ codes "out of memory\n"
-IsTextOf Closed text = text ≡ codes "both listeners have failed\n"
+IsTextOf (Closed error) text =
+    (reason : List ℕ) × (text ≡ codes "proxies can connect no more: " ++ reason ++ codes "\n")
 
 -- the line of the first faulty line of a configuration
 abbrev pub line_text : LineFault → List ℕ

@@ -1,2 +1,4 @@
+pub mod Checking
 pub mod Faults
+pub mod Texts
 pub mod Wiring

@@ -1,7 +1,6 @@
 -- What the words of a command line do to the streams, and what is left to do.
-use Rattle.std.specs.Prelude.{◌≡◌, ◌≢◌, ◌⊎◌, ℕ, List, [], Option, IfSome}
+use Rattle.std.specs.Prelude.{◌≡◌, ◌≢◌, ◌⊎◌, ℕ, List, [], codes, Option, IfSome}
 use Rattle.std.specs.Io.KnownBytes.{Appends, Keeps}
-use Rattle.std.specs.declared.net.socket_addr.SocketAddrV4.{SocketAddrV4}
 use Rattle.agg_types.specs.Check.{config_faults}
 use Rattle.agg_types.specs.declared.config.Config.{Config}
 use Rattle.agg_config.specs.Reading.{IsFirstFault, Write}
@@ -11,13 +10,17 @@ use Rattle.line_words.specs.Words.{lines_of}
 use Rattle.clap.specs.Words.{Text}
 use Rattle.command_line.specs.Asked.{AsksFor, IsRefused}
 use Rattle.command_line.specs.Status.{status_of as usage_status, text_of as usage_text}
+use Rattle.command_line.specs.declared.job.Endpoints.{Endpoints}
 use Rattle.command_line.specs.declared.job.Job.{Job}
-use Rattle.command_line.specs.declared.job.Job.TheVariants.{Replay, Listen}
+use Rattle.command_line.specs.declared.job.Job.TheVariants.{Replay, Import, Check, Listen}
 use Rattle.command_line.specs.declared.usage.Usage.{Usage}
+use Rattle.haproxy_import.specs.Found.{Reads, imported}
 use Rattle.replay.specs.Script.{IsReplayed}
 use Rattle.replay.specs.Status.{status_of as ending_status}
 use Rattle.replay.specs.declared.ending.Ending.{Ending}
+use Rattle.program.specs.Checking.{AreFaults, checked_status, checked_text}
 use Rattle.program.specs.Faults.{IsTextOf, line_text}
+use Rattle.program.specs.Texts.{read_from}
 use Rattle.program.specs.declared.fault.Fault.{Fault}
 use Rattle.program.specs.declared.prepared.Prepared.{Prepared}
 use Rattle.program.specs.declared.prepared.Prepared.TheVariants.{Ended, Collect}
@@ -55,12 +58,11 @@ pub record Replays (input : Option (List ℕ)) (s : Streams) (prepared : Prepare
   pub replayed : IfSome input (λ script. IsReplayed script s.output0 s.output ending)
   pub silent : Keeps s.errors0 s.errors
 
--- the configuration on standard input has no fault: by it is to be collected at these addresses
-pub record Collects (input : Option (List ℕ)) (peers admin : SocketAddrV4) (s : Streams)
+-- the configuration has no fault: by it is to be collected at these addresses
+pub record Collects (input : Option (List ℕ)) (endpoints : Endpoints) (s : Streams)
     (prepared : Prepared) : Type 0 where
   pub config : Config
-  pub left : prepared
-      ≡ Collect (record { config = config; peers = peers; admin = admin })
+  pub left : prepared ≡ Collect (record { config = config; endpoints = endpoints })
   pub written : IfSome input (λ text. Write (lines_of text) config)
   pub faultless : config_faults config ≡ []
   pub silent : Prints s []
@@ -81,16 +83,51 @@ pub record Breaks (s : Streams) (prepared : Prepared) : Type 0 where
   pub is : IsTextOf fault text
   pub told : Complains s text
 
--- a job is done, as far as it goes before there is anything to collect
-abbrev pub Does : Option (List ℕ) → Job → Streams → Prepared → Type 0
-Does input Replay s prepared = Replays input s prepared
-Does input (Listen peers admin) s prepared =
-    Collects input peers admin s prepared ⊎ IsFaulty input s prepared ⊎ Breaks s prepared
+-- all faults of the configuration were printed on standard output, or that there is none
+pub record IsChecked (input : Option (List ℕ)) (s : Streams) (prepared : Prepared) : Type 0 where
+  pub faults : List LineFault
+  pub ended : prepared ≡ Ended (checked_status faults)
+  pub all : IfSome input (λ text. AreFaults (lines_of text) faults)
+  pub told : Prints s (checked_text faults)
+
+abbrev pub Checks : Option (List ℕ) → Streams → Prepared → Type 0
+Checks input s prepared = IsChecked input s prepared ⊎ Breaks s prepared
+
+-- a configuration for the haproxy.cfg was printed on standard output
+pub record IsImported (input : Option (List ℕ)) (s : Streams) (prepared : Prepared) : Type 0 where
+  pub text : List ℕ
+  pub ended : prepared ≡ Ended 0
+  pub written : IfSome input (λ file. Reads text (imported file))
+  pub told : Prints s text
+
+-- there is none, which was printed on standard error
+pub record IsUnlike (s : Streams) (prepared : Prepared) : Type 0 where
+  pub ended : prepared ≡ Ended 3
+  pub told : Complains s (codes "the configuration can't be written\n")
+
+abbrev pub Imports : Option (List ℕ) → Streams → Prepared → Type 0
+Imports input s prepared = IsImported input s prepared ⊎ IsUnlike s prepared ⊎ Breaks s prepared
+
+-- it is to be collected, or why not was printed
+abbrev pub Begins : Option (List ℕ) → Endpoints → Streams → Prepared → Type 0
+Begins input endpoints s prepared =
+    Collects input endpoints s prepared ⊎ IsFaulty input s prepared ⊎ Breaks s prepared
+
+-- a job is done, as far as it goes before there is anything to collect. A configuration is read
+-- from the file that is named, or else from standard input
+abbrev pub Does : (holds : List ℕ → Option (List ℕ)) (input : Option (List ℕ)) → Job → Streams
+    → Prepared → Type 0
+Does holds input Replay s prepared = Replays input s prepared
+Does holds input Import s prepared = Imports input s prepared
+Does holds input (Check config) s prepared = Checks (read_from holds config input) s prepared
+Does holds input (Listen config endpoints) s prepared =
+    Begins (read_from holds config input) endpoints s prepared
 
 -- the words ask for a job, which is done; or for none, and why is printed
-abbrev pub Prepares : List Text → Option (List ℕ) → Streams → Prepared → Type 0
-Prepares words input s prepared =
-    ((job : Job) × AsksFor words job × Does input job s prepared)
+abbrev pub Prepares : (words : List Text) (holds : List ℕ → Option (List ℕ))
+    (input : Option (List ℕ)) → Streams → Prepared → Type 0
+Prepares words holds input s prepared =
+    ((job : Job) × AsksFor words job × Does holds input job s prepared)
     ⊎ ((usage : Usage) × IsRefused words usage × Tells usage s prepared)
 
 -- a text was begun on one of the streams, and nothing was written to the other

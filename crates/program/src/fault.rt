@@ -23,8 +23,8 @@ pub enum Fault {
     Start(io::Error),
     /// An allocation failed.
     NoMemory,
-    /// Both listeners have failed.
-    Closed,
+    /// The listener of the proxies has failed for good.
+    Closed(io::Error),
 }
 
 /// Tells a fault on standard error, in a line, and answers the exit status. A fault of the system
@@ -48,7 +48,10 @@ pub fn tell<E: Write>(alloc: Global, fault: &Fault, errors: &mut E) -> io::Resul
             writeln!(errors, "cannot start: {reason}")?;
         }
         Fault::NoMemory => writeln!(errors, "out of memory")?,
-        Fault::Closed => writeln!(errors, "both listeners have failed")?,
+        Fault::Closed(error) => {
+            let reason = format!(in alloc; "{error}")?;
+            writeln!(errors, "proxies can connect no more: {reason}")?;
+        }
     }
     Ok(FAULT)
 }

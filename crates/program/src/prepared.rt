@@ -1,7 +1,7 @@
 //! What is left to do.
 
 use agg_types::Config;
-use std::net::SocketAddrV4;
+use command_line::Endpoints;
 
 /// What is left to do once the words of a command line were read.
 #[derive(Debug, Drop)]
@@ -16,8 +16,5 @@ pub enum Prepared {
 #[derive(Debug, Drop)]
 pub struct Asked {
     pub config: Config,
-    /// Where proxies connect.
-    pub peers: SocketAddrV4,
-    /// Where operators connect.
-    pub admin: SocketAddrV4,
+    pub endpoints: Endpoints,
 }

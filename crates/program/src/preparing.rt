@@ -1,62 +1,101 @@
 //! The words of a command line, and what they ask for.
 
-ghost use Rattle.std.specs.Prelude.{◌⊎◌, ℕ, List, Option, map, IfOk, OnErr, OnOk};
+ghost use Rattle.std.specs.Prelude.{◌≡◌, ◌⊎◌, ℕ, List, Option, map, IfOk, IfSome, OnErr, OnOk};
 ghost use Rattle.std.specs.Io.KnownBytes.{Appends};
-ghost use Rattle.command_line.specs.declared.job.Job.TheVariants.{Listen};
 ghost use Rattle.program.specs.Faults.{line_text};
-ghost use Rattle.program.specs.Wiring.{Breaks, Does, Fails, IsCut, Prepares, Replays, Tells};
-ghost use Rattle.program.specs.Wiring.{streams};
+ghost use Rattle.program.specs.Wiring.{Begins, Breaks, Checks, Does, Fails, Imports, IsCut};
+ghost use Rattle.program.specs.Wiring.{Prepares};
+ghost use Rattle.program.specs.Wiring.{Replays, Tells, streams};
 
+use crate::checking::{faults_of, print_faults, print_line};
 use crate::fault::{FAULT, Fault, tell};
+use crate::files::{Files, read_text};
 use crate::prepared::{Asked, Prepared};
 use agg_config::{LineCause, LineFault};
-use command_line::{Job, Usage};
+use command_line::{Endpoints, Job, Usage};
+use haproxy_import::ImportFault;
 use std::alloc::Global;
 use std::convert::AsStr;
 use std::io;
-use std::io::{BufRead, Read, Write};
-use std::net::SocketAddrV4;
+use std::io::{BufRead, Write};
+
+/// The status of a configuration without a fault.
+const FINE: u8 = 0;
 
 /// The status of a faulty configuration.
 const BAD_CONFIGURATION: u8 = 3;
 
 /// Does what the words of a command line ask for, the first of them the program's name, up to where
 /// proxies would be listened to. Where an allocation or a write failed the status is 5.
-pub fn prepare<S: AsStr, I: BufRead, O: Write, E: Write>(
+pub fn prepare<S: AsStr, F: Files, I: BufRead, O: Write, E: Write>(
     alloc: Global,
     words: &[S],
+    files: &F,
     input: &mut I,
     output: &mut O,
     errors: &mut E,
 ) -> Prepared
     ensures { let s = streams (O.contents output.old) (O.contents output.new)
         (E.contents errors.old) (E.contents errors.new) in
-        Prepares (map S.text words.now) (I.remaining input.old) s result ⊎ Fails s result }
+        Prepares (map S.text words.now) (F.holds files.now) (I.remaining input.old) s result
+        ⊎ Fails s result }
 {
-    match try_prepare(alloc, words, input, output, errors) {
+    match try_prepare(alloc, words, files, input, output, errors) {
         Ok(prepared) => prepared,
         Err(_) => Prepared::Ended(FAULT),
     }
 }
 
 // Does what the words ask for, where no allocation and no write fails.
-fn try_prepare<S: AsStr, I: BufRead, O: Write, E: Write>(
+fn try_prepare<S: AsStr, F: Files, I: BufRead, O: Write, E: Write>(
     alloc: Global,
     words: &[S],
+    files: &F,
     input: &mut I,
     output: &mut O,
     errors: &mut E,
 ) -> io::Result<Prepared>
-    ensures done { IfOk result (Prepares (map S.text words.now) (I.remaining input.old)
-        (streams (O.contents output.old) (O.contents output.new)
+    ensures done { IfOk result (Prepares (map S.text words.now) (F.holds files.now)
+        (I.remaining input.old) (streams (O.contents output.old) (O.contents output.new)
         (E.contents errors.old) (E.contents errors.new))) }
     ensures cut { OnErr result (IsCut (streams (O.contents output.old) (O.contents output.new)
         (E.contents errors.old) (E.contents errors.new))) }
 {
     match command_line::read(alloc, words) {
-        Ok(Job::Replay) => Ok(run_replay(alloc, input, output)),
-        Ok(Job::Listen { peers, admin }) => listen(alloc, input, output, errors, peers, admin),
+        Ok(job) => do_job(alloc, job, files, input, output, errors),
         Err(usage) => tell_usage(&usage, output, errors),
+    }
+}
+
+// Does a job, up to where proxies would be listened to.
+fn do_job<F: Files, I: BufRead, O: Write, E: Write>(
+    alloc: Global,
+    job: Job<'_>,
+    files: &F,
+    input: &mut I,
+    output: &mut O,
+    errors: &mut E,
+) -> io::Result<Prepared>
+    ensures done { IfOk result (Does (F.holds files.now) (I.remaining input.old) job.entry
+        (streams (O.contents output.old) (O.contents output.new)
+        (E.contents errors.old) (E.contents errors.new))) }
+    ensures cut { OnErr result (IsCut (streams (O.contents output.old) (O.contents output.new)
+        (E.contents errors.old) (E.contents errors.new))) }
+{
+    match job {
+        Job::Replay => Ok(run_replay(alloc, input, output)),
+        Job::Import => match read_text(alloc, files, None, input) {
+            Ok(text) => import(alloc, text.as_slice(), output, errors),
+            Err(error) => end(alloc, &Fault::Unread(error), errors),
+        },
+        Job::Check { config } => match read_text(alloc, files, config, input) {
+            Ok(text) => check(alloc, text.as_slice(), output, errors),
+            Err(error) => end(alloc, &Fault::Unread(error), errors),
+        },
+        Job::Listen { config, endpoints } => match read_text(alloc, files, config, input) {
+            Ok(text) => listen(alloc, text.as_slice(), output, errors, endpoints),
+            Err(error) => end(alloc, &Fault::Unread(error), errors),
+        },
     }
 }
 
@@ -85,31 +124,74 @@ fn tell_usage<O: Write, E: Write>(
     Ok(Prepared::Ended(usage.status()))
 }
 
-// Reads the configuration on standard input, and reports what is wrong with it.
-fn listen<I: Read, O: Write, E: Write>(
+// Prints a configuration for a haproxy.cfg.
+fn import<O: Write, E: Write>(
     alloc: Global,
-    input: &mut I,
+    text: &[u8],
     output: &mut O,
     errors: &mut E,
-    peers: SocketAddrV4,
-    admin: SocketAddrV4,
 ) -> io::Result<Prepared>
-    ensures done { IfOk result (Does (I.remaining input.old) (Listen peers admin)
-        (streams (O.contents output.old) (O.contents output.new)
+    ensures done { (known : Option (List ℕ)) → IfSome known (λ bytes. text.now ≡ bytes)
+        → IfOk result (Imports known (streams (O.contents output.old) (O.contents output.new)
         (E.contents errors.old) (E.contents errors.new))) }
     ensures cut { OnErr result (IsCut (streams (O.contents output.old) (O.contents output.new)
         (E.contents errors.old) (E.contents errors.new))) }
 {
-    let mut text = Vec::new(alloc);
-    if let Err(error) = input.read_to_end(&mut text) {
-        return end(alloc, &Fault::Unread(error), errors);
+    match haproxy_import::import(alloc, text) {
+        Ok(written) => {
+            output.write_all(written.as_slice())?;
+            output.flush()?;
+            Ok(Prepared::Ended(FINE))
+        }
+        Err(ImportFault::NoMemory) => end(alloc, &Fault::NoMemory, errors),
+        Err(ImportFault::Unlike) => {
+            errors.write_all(b"the configuration can't be written\n")?;
+            Ok(Prepared::Ended(BAD_CONFIGURATION))
+        }
     }
-    match agg_config::read(alloc, text.as_slice()) {
-        Ok(config) => Ok(Prepared::Collect(Asked {
-            config,
-            peers,
-            admin,
-        })),
+}
+
+// Says what is wrong with a configuration.
+fn check<O: Write, E: Write>(
+    alloc: Global,
+    text: &[u8],
+    output: &mut O,
+    errors: &mut E,
+) -> io::Result<Prepared>
+    ensures done { (known : Option (List ℕ)) → IfSome known (λ bytes. text.now ≡ bytes)
+        → IfOk result (Checks known (streams (O.contents output.old) (O.contents output.new)
+        (E.contents errors.old) (E.contents errors.new))) }
+    ensures cut { OnErr result (IsCut (streams (O.contents output.old) (O.contents output.new)
+        (E.contents errors.old) (E.contents errors.new))) }
+{
+    let Ok(faults) = faults_of(alloc, text) else {
+        return end(alloc, &Fault::NoMemory, errors);
+    };
+    print_faults(faults.as_slice(), output)?;
+    output.flush()?;
+    if faults.is_empty() {
+        Ok(Prepared::Ended(FINE))
+    } else {
+        Ok(Prepared::Ended(BAD_CONFIGURATION))
+    }
+}
+
+// Reads a configuration, and reports what is wrong with it first.
+fn listen<O: Write, E: Write>(
+    alloc: Global,
+    text: &[u8],
+    output: &mut O,
+    errors: &mut E,
+    endpoints: Endpoints,
+) -> io::Result<Prepared>
+    ensures done { (known : Option (List ℕ)) → IfSome known (λ bytes. text.now ≡ bytes)
+        → IfOk result (Begins known endpoints (streams (O.contents output.old)
+        (O.contents output.new) (E.contents errors.old) (E.contents errors.new))) }
+    ensures cut { OnErr result (IsCut (streams (O.contents output.old) (O.contents output.new)
+        (E.contents errors.old) (E.contents errors.new))) }
+{
+    match agg_config::read(alloc, text) {
+        Ok(config) => Ok(Prepared::Collect(Asked { config, endpoints })),
         Err(fault) if fault.cause == LineCause::NoMemory => end(alloc, &Fault::NoMemory, errors),
         Err(fault) => {
             print_fault(fault, output)?;
@@ -131,8 +213,6 @@ fn print_fault<O: Write>(fault: LineFault, output: &mut O) -> io::Result<()>
     ensures { OnOk result
         (Appends (O.contents output.old) (O.contents output.new) (line_text fault)) }
 {
-    let line = fault.line;
-    let name = fault.cause.name();
-    writeln!(output, "config line {line}: {name}")?;
+    print_line(fault, output)?;
     output.flush()
 }

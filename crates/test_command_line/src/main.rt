@@ -2,11 +2,21 @@
 //! asks for no job. Then it reads its own command line so, and ends with that one's status.
 #![tactic(auto)]
 
-use command_line::{Job, Usage};
+use command_line::{Endpoints, Job, Usage, admits};
 use std::alloc::Global;
 use std::env::Env;
 use std::io;
+use std::net::Ipv4Addr;
 use std::process::ExitCode;
+
+/// Addresses that call.
+const ADDRESSES: [[u8; 4]; 5] = [
+    [10, 1, 0, 0],
+    [10, 1, 0, 7],
+    [10, 1, 0, 8],
+    [10, 2, 255, 255],
+    [192, 168, 7, 1],
+];
 
 fn main(rt: HostRuntime) -> anyhow::Result<ExitCode> {
     for line in rt.lines(rt.alloc()) {
@@ -33,7 +43,14 @@ fn print_row(rt: &(impl Print + AllocGlobal), line: &str) -> anyhow::Result<()> 
     }
     match read(rt.alloc(), words.as_slice()) {
         Ok(Job::Replay) => println!(rt; "replay")?,
-        Ok(Job::Listen { peers, admin }) => println!(rt; "listen to {peers} and {admin}")?,
+        Ok(Job::Import) => println!(rt; "import")?,
+        Ok(Job::Check { config }) => println!(rt; "check {}", config.unwrap_or("-"))?,
+        Ok(Job::Listen { config, endpoints }) => {
+            print_endpoints(rt, &endpoints)?;
+            if let Some(config) = config {
+                println!(rt; "by {config}")?;
+            }
+        }
         Err(usage) => {
             let status = usage.status();
             println!(rt; "{usage}status {status}")?;
@@ -42,8 +59,25 @@ fn print_row(rt: &(impl Print + AllocGlobal), line: &str) -> anyhow::Result<()> 
     Ok(())
 }
 
+fn print_endpoints(rt: &(impl Print + AllocGlobal), endpoints: &Endpoints) -> anyhow::Result<()> {
+    let Endpoints { peers, from, admin } = endpoints;
+    println!(rt; "listen to {peers} and {admin}")?;
+    if from.is_empty() {
+        return Ok(());
+    }
+    for [a, b, c, d] in ADDRESSES {
+        let address = Ipv4Addr::new(a, b, c, d);
+        let is_taken = admits(from.as_slice(), address);
+        println!(rt;
+            "{address} {}",
+            if is_taken { "may connect" } else { "is closed" }
+        )?;
+    }
+    Ok(())
+}
+
 // Reads a line, once more where an allocation failed.
-fn read(alloc: Global, words: &[&str]) -> Result<Job, Usage> {
+fn read<'a>(alloc: Global, words: &'a [&'a str]) -> Result<Job<'a>, Usage> {
     match command_line::read(alloc, words) {
         Err(Usage::NoMemory) => command_line::read(alloc, words),
         read => read,

@@ -2,7 +2,7 @@
 
 use agg_types::{KeyKind, Name};
 use anyhow::Result;
-use command_line::Job;
+use command_line::{Endpoints, Job};
 use key_text::{append_key, read_key};
 use std::alloc::Global;
 use test_support::{TWO_PROXIES, config};
@@ -63,7 +63,12 @@ fn read_address(rt: &impl Print, alloc: Global, text: &[u8]) -> Result<()> {
 fn read_words(rt: &impl Print, alloc: Global, words: &[&str]) -> Result<()> {
     match command_line::read(alloc, words) {
         Ok(Job::Replay) => println!(rt; "words: replay")?,
-        Ok(Job::Listen { peers, admin }) => println!(rt; "words: listen to {peers} and {admin}")?,
+        Ok(Job::Import) => println!(rt; "words: import")?,
+        Ok(Job::Check { config }) => println!(rt; "words: check {}", config.unwrap_or("-"))?,
+        Ok(Job::Listen { endpoints, .. }) => {
+            let Endpoints { peers, admin, .. } = endpoints;
+            println!(rt; "words: listen to {peers} and {admin}")?
+        }
         Err(usage) => println!(rt; "words: status {}", usage.status())?,
     }
     Ok(())

@@ -1,9 +1,9 @@
 //! Lines of the log.
 
-use crate::scene::Still;
+use crate::scene::{Few, Still};
 use agg_types::Config;
 use hub::PostFault;
-use listening::{Connections, Event, Notes, write_event};
+use listening::{Connections, Event, Journal, Notes};
 use serve::{Cause, Gate, Gone, News, Place};
 use session_core::{SessionCause, Status};
 use std::io;
@@ -60,18 +60,20 @@ pub fn show<R: Print + Wait + Copy + AllocGlobal>(rt: &R) -> io::Result<()> {
     };
     let peers = address(9000);
     let admin = address(9001);
-    write_event(&morning, Event::Listening { peers, admin });
+    let journal = Journal::new(rt.alloc());
+    journal.note(&morning, Event::Listening { peers, admin });
     let replaced = Event::PeerReplaced {
         peer: b"lb1",
         address: sender(),
         updates: 812,
     };
-    write_event(&morning, replaced);
+    journal.note(&morning, replaced);
     let connections = Connections::new(rt.alloc());
     let notes = Notes {
         rt: morning,
         config: &config,
         connections: &connections,
+        journal: &journal,
     };
     notes.tell(SESSION, News::Came(0));
     notes.tell(SESSION, News::Came(1));
@@ -79,10 +81,18 @@ pub fn show<R: Print + Wait + Copy + AllocGlobal>(rt: &R) -> io::Result<()> {
     notes.tell(SESSION, News::TurnedAway(sender()));
     notes.tell(Place::Admin, News::TurnedAway(sender()));
     notes.tell(SESSION, News::TurnedAway(None));
+    connections.turn_away(rt, SocketAddr::V4(address(41235)));
+    connections.turn_away(rt, SocketAddr::V4(address(41236)));
+    notes.turn(SESSION);
+    notes.turn(Place::Timer);
+    connections.turn_away(rt, SocketAddr::V4(address(41237)));
+    notes.turn(Place::Timer);
     for name in NAMES {
         show_stranger(&notes, Some(name), Some(&Cause::Read));
     }
+    journal.write_out(&notes.rt);
     show_moments(rt, &config);
+    show_crowd(rt);
     Ok(())
 }
 
@@ -127,6 +137,22 @@ fn show_stranger<R: Print + Wait>(
     notes.tell(SESSION, News::Gone(gone));
 }
 
+/// What is written of 1,005 lines that come while standard error takes none: how many were lost,
+/// and then those that waited, of which all but the first two are cut off here.
+fn show_crowd<R: Print + Wait + Copy + AllocGlobal>(rt: &R) {
+    let journal = Journal::new(rt.alloc());
+    let handles = Still {
+        rt: *rt,
+        seconds: Some(MORNING),
+    };
+    for _ in 0..1005 {
+        journal.note(&handles, Event::PeerConnected { peer: b"lb1" });
+    }
+    let few = Few::new(handles, 3);
+    journal.write_out(&few);
+    let _ = println!(rt; "{} more lines", few.refused());
+}
+
 /// The same line at odd moments, and where the clock fails.
 fn show_moments<R: Print + Wait + Copy + AllocGlobal>(rt: &R, config: &Config) {
     for moment in MOMENTS {
@@ -141,10 +167,13 @@ fn show_moment<R: Print + Wait + Copy + AllocGlobal>(
     seconds: Option<u64>,
 ) {
     let connections = Connections::new(rt.alloc());
+    let journal = Journal::new(rt.alloc());
     let notes = Notes {
         rt: Still { rt: *rt, seconds },
         config,
         connections: &connections,
+        journal: &journal,
     };
     notes.tell(SESSION, News::Came(0));
+    journal.write_out(&notes.rt);
 }

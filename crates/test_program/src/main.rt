@@ -8,8 +8,9 @@
 mod log;
 mod scene;
 
+use command_line::Endpoints;
 use program::{Asked, Prepared, prepare};
-use scene::{Scene, Torn};
+use scene::{Scene, Shelf, Torn};
 use std::io;
 use std::io::{BufRead, BufReader, Write};
 use std::net::{Ipv4Addr, Net, SocketAddr, SocketAddrV4, TcpListener, TcpStream};
@@ -26,6 +27,18 @@ const SCRIPT: &[u8] =
 /// A configuration whose second line is faulty.
 const FAULTY: &[u8] = b"name agg\npeer\n";
 
+/// A configuration with three faulty lines, and one that needs the last of them.
+const FAULTS: &[u8] = b"name agg\npeer\n\npeer lb1\ntable t type ip size 1x\r\npeer lb1\ntable u\n\
+filter f u data.gpc0 gt 1\npeer lb2";
+
+/// What `listen` needs, with a file.
+const LISTEN_FILE: &[&[u8]] = &[
+    b"listen",
+    b"--config=faulty.conf",
+    b"--peers=192.0.2.1:1024",
+    b"--admin=192.0.2.2:1025",
+];
+
 /// What `listen` needs, in either order.
 const LISTEN: &[&[u8]] = &[
     b"listen",
@@ -35,13 +48,19 @@ const LISTEN: &[&[u8]] = &[
 
 const LISTEN_TURNED: &[&[u8]] = &[
     b"listen",
+    b"--from=192.0.2.0/24",
     b"--admin=192.0.2.2:1025",
     b"--peers=192.0.2.1:1024",
 ];
 
+/// A proxy's own file.
+const HAPROXY: &[u8] = b"peers fleet\n peer lb1 10.1.0.1:10000\n peer agg 10.1.0.9:10000\n\
+backend clients\n stick-table type ip size 100k store http_req_rate(10s) peers fleet\n";
+
 /// Command lines with what stands on standard input.
-const RUNS: [(&[&[u8]], &[u8]); 12] = [
+const RUNS: [(&[&[u8]], &[u8]); 21] = [
     (&[b"--help"], b""),
+    (&[b"--version"], b""),
     (&[], b""),
     (&[b"replay", b"now"], b""),
     (&[b"listen", b"--peers=192.0.2.1:1024"], b""),
@@ -56,6 +75,14 @@ const RUNS: [(&[&[u8]], &[u8]); 12] = [
     (LISTEN, FAULTY),
     (LISTEN_TURNED, b"peer lb1\n"),
     (&[b"replay", b"\xff"], b""),
+    (&[b"check"], CONFIGURATION),
+    (&[b"check"], FAULTS),
+    (&[b"check"], b"peer lb1\n"),
+    (&[b"check", b"--config=sound.conf"], FAULTY),
+    (&[b"check", b"--config", b"faulty.conf"], CONFIGURATION),
+    (&[b"check", b"--config", b"missing.conf"], CONFIGURATION),
+    (LISTEN_FILE, CONFIGURATION),
+    (&[b"import"], HAPROXY),
 ];
 
 fn main(rt: HostRuntime) -> io::Result<()> {
@@ -86,7 +113,7 @@ fn show_words(rt: &impl Print, words: &[&[u8]]) -> io::Result<()> {
 /// Runs a command line on an input.
 fn show_run<R>(rt: &R, words: &'static [&'static [u8]], input: &'static [u8]) -> io::Result<()>
 where
-    R: Threads + Wait + Copy + Send + Sync,
+    R: Threads + Wait + Copy + Send + Sync + 'static,
     R: Print + Eprint + AllocGlobal + Clock,
     R: Net<Listener = TcpListener, Stream = TcpStream>,
 {
@@ -97,7 +124,7 @@ where
         input,
     };
     let mut errors = Vec::new(rt.alloc());
-    let status = listening::run(rt, &(scene, rt.alloc()), &mut errors);
+    let status = listening::run(rt, &(scene, rt.alloc()), &Shelf, &mut errors);
     show_end(rt, errors.as_slice(), status)
 }
 
@@ -108,13 +135,11 @@ fn show_left(rt: &impl Print, errors: &[u8], left: Prepared) -> io::Result<()> {
         Prepared::Collect(asked) => {
             println!(rt; "-- standard error")?;
             io::writer(rt).write_all(errors)?;
-            let Asked {
-                config,
-                peers,
-                admin,
-            } = asked;
+            let Asked { config, endpoints } = asked;
+            let Endpoints { peers, from, admin } = endpoints;
             let count = config.peers.len();
-            println!(rt; "-- collects: {count} peers at {peers}, operators at {admin}")
+            println!(rt; "-- collects: {count} peers at {peers}, operators at {admin}")?;
+            println!(rt; "-- from {} networks", from.len())
         }
     }
 }
@@ -127,7 +152,7 @@ where
     O: Write,
 {
     let mut errors = Vec::new(rt.alloc());
-    let left = prepare(rt.alloc(), words, input, output, &mut errors);
+    let left = prepare(rt.alloc(), words, &Shelf, input, output, &mut errors);
     show_left(rt, errors.as_slice(), left)
 }
 
@@ -169,6 +194,7 @@ fn show_torn(rt: &(impl Print + AllocGlobal)) -> io::Result<()> {
     let left = prepare(
         rt.alloc(),
         &["aggregator"],
+        &Shelf,
         &mut faulty,
         &mut output,
         &mut Torn,
@@ -179,7 +205,7 @@ fn show_torn(rt: &(impl Print + AllocGlobal)) -> io::Result<()> {
 /// Listens at these addresses.
 fn listen<R, E>(rt: &R, peers: SocketAddrV4, admin: SocketAddrV4, errors: &mut E) -> io::Result<u8>
 where
-    R: Threads + Wait + Copy + Send + Sync,
+    R: Threads + Wait + Copy + Send + Sync + 'static,
     R: Print + Eprint + AllocGlobal + Clock,
     R: Net<Listener = TcpListener, Stream = TcpStream>,
     E: Write,
@@ -189,14 +215,14 @@ where
     let words = ["aggregator", "listen", peers.as_str(), admin.as_str()];
     let mut input = CONFIGURATION;
     let mut output = io::writer(rt);
-    let status = listening::run_words(rt, &words, &mut input, &mut output, errors);
+    let status = listening::run_words(rt, &words, &Shelf, &mut input, &mut output, errors);
     Ok(status)
 }
 
 /// Listens at these addresses, of which one is in use. Its port is printed as PORT.
 fn show_in_use<R>(rt: &R, peers: SocketAddrV4, admin: SocketAddrV4, port: u16) -> io::Result<()>
 where
-    R: Threads + Wait + Copy + Send + Sync,
+    R: Threads + Wait + Copy + Send + Sync + 'static,
     R: Print + Eprint + AllocGlobal + Clock,
     R: Net<Listener = TcpListener, Stream = TcpStream>,
 {
@@ -212,7 +238,7 @@ where
 /// use.
 fn show_addresses_in_use<R>(rt: &R) -> io::Result<()>
 where
-    R: Threads + Wait + Copy + Send + Sync,
+    R: Threads + Wait + Copy + Send + Sync + 'static,
     R: Print + Eprint + AllocGlobal + Clock,
     R: Net<Listener = TcpListener, Stream = TcpStream>,
 {

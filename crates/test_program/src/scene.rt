@@ -2,12 +2,13 @@
 
 ghost use Rattle.std.specs.Prelude.{None};
 
-use std::alloc::Allocator;
+use std::alloc::{Allocator, Global};
 use std::env::{Env, FillError};
 use std::fmt::Display;
 use std::io;
 use std::io::{BufRead, ErrorKind, Input, Lines, Read, Write};
 use std::sync::Wait;
+use std::sync::atomic::{AtomicU64, Ordering};
 use std::time::{Clock, Duration};
 
 /// Arguments and an input in memory, and the standard output of another.
@@ -124,5 +125,73 @@ impl<R> Clock for Still<R> {
             None => Err(io::Error::from(ErrorKind::Unsupported)),
             Some(seconds) => Ok(Duration::from_secs(seconds)),
         }
+    }
+}
+
+/// A standard error that writes a few lines, and counts those behind them.
+#[derive(Drop)]
+pub struct Few<R> {
+    handles: Still<R>,
+    most: u64,
+    lines: AtomicU64,
+}
+
+impl<R> Few<R> {
+    /// Writes so many lines.
+    pub fn new(handles: Still<R>, most: u64) -> Few<R> {
+        Few {
+            handles,
+            most,
+            lines: AtomicU64::new(0),
+        }
+    }
+
+    /// How many lines weren't written.
+    pub fn refused(&self) -> u64 {
+        self.lines.load(Ordering::SeqCst).saturating_sub(self.most)
+    }
+}
+
+impl<R: Print> Eprint for Few<R> {
+    fn eprint<D: Display + Drop>(&self, value: D) -> io::Result<()> {
+        self.handles.eprint(value)
+    }
+
+    fn eprintln<D: Display + Drop>(&self, value: D) -> io::Result<()> {
+        if self.lines.fetch_add(1, Ordering::SeqCst) < self.most {
+            self.handles.eprintln(value)?;
+        }
+        Ok(())
+    }
+}
+
+impl<R: Wait> Wait for Few<R> {}
+
+impl<R> Clock for Few<R> {
+    fn monotonic(&self) -> io::Result<Duration> {
+        self.handles.monotonic()
+    }
+
+    fn since_1970(&self) -> io::Result<Duration> {
+        self.handles.since_1970()
+    }
+}
+
+/// Two files, of a sound and a faulty configuration.
+#[derive(Drop)]
+pub struct Shelf;
+
+impl program::Files for Shelf {
+    ghost holds = { λ shelf name. None };
+
+    fn read(&self, alloc: Global, name: &str) -> io::Result<Vec<u8>> {
+        let text: &[u8] = if name == "sound.conf" {
+            b"name agg\npeer lb1\n"
+        } else if name == "faulty.conf" {
+            b"name agg\npeer\npeer\n"
+        } else {
+            return Err(io::Error::from(ErrorKind::NotFound));
+        };
+        Ok(Vec::from_slice(alloc, text)?)
     }
 }

@@ -8,7 +8,9 @@
 #![tactic(auto)]
 
 use anyhow::{Result, anyhow};
+use listening::Disk;
 use std::alloc::Global;
+use std::fs::Files;
 use std::io::{BufReader, Read, Write};
 use std::net::{Ipv4Addr, Net, SocketAddr, SocketAddrV4, TcpListener, TcpStream};
 use std::sync::Wait;
@@ -98,9 +100,9 @@ fn ask(rt: &impl Print, alloc: Global, stream: &TcpStream, line: &[u8]) -> Resul
 /// Runs the program over `listen` at these addresses.
 fn run<R>(rt: &R, peers: SocketAddr, admin: SocketAddr) -> Result<u8>
 where
-    R: Threads + Wait + Copy + Send + Sync,
+    R: Threads + Wait + Copy + Send + Sync + 'static,
     R: Input + Print + Eprint + AllocGlobal + Clock,
-    R: Net<Listener = TcpListener, Stream = TcpStream>,
+    R: Net<Listener = TcpListener, Stream = TcpStream> + Files,
 {
     let peers = format!(in rt.alloc(); "--peers={peers}")?;
     let admin = format!(in rt.alloc(); "--admin={admin}")?;
@@ -108,7 +110,14 @@ where
     let mut input = BufReader::new(rt.alloc(), rt.reader())?;
     let mut output = io::writer(rt);
     let mut errors = Vec::new(rt.alloc());
-    let status = listening::run_words(rt, &words, &mut input, &mut output, &mut errors);
+    let status = listening::run_words(
+        rt,
+        &words,
+        &Disk { rt: *rt },
+        &mut input,
+        &mut output,
+        &mut errors,
+    );
     Ok(status)
 }
 

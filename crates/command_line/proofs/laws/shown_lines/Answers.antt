@@ -1,11 +1,16 @@
-use Rattle.std.proofs.Common.{refl}
+use Rattle.std.proofs.Common.{List, ℕ, refl}
 use Rattle.clap.proofs.OnLiterals.{clap_on_literals}
-use Rattle.command_line.specs.Lines.{TakesJoined, TakesReplay}
+use Rattle.command_line.specs.Lines.{TakesFiles, TakesImport, TakesJoined, TakesNetworks}
+use Rattle.command_line.specs.Lines.{TakesReplay}
 use Rattle.command_line.proofs.laws.shown_lines.Goals as goal
 
 replays : TakesReplay
 unfolding clap_on_literals
 replays self = record { taken = refl; named = refl; peers_is = refl; admin_is = refl }
+
+imports : TakesImport
+unfolding clap_on_literals
+imports self = record { taken = refl; named = refl; peers_is = refl; admin_is = refl }
 
 joined : TakesJoined
 unfolding clap_on_literals
@@ -14,5 +19,26 @@ joined self peers admin = (
   record { taken = refl; named = refl; peers_is = refl; admin_is = refl },
 )
 
+networks : (self peers admin one other : List ℕ) → TakesNetworks self peers admin one other
+unfolding clap_on_literals
+networks self peers admin one other = record {
+  taken = record { taken = refl; named = refl; peers_is = refl; admin_is = refl };
+  both = refl;
+}
+
+files : (self file peers admin : List ℕ) → TakesFiles self file peers admin
+unfolding clap_on_literals
+files self file peers admin = record {
+  alone = record { taken = refl; named = refl; peers_is = refl; admin_is = refl };
+  checked = record { taken = refl; named = refl; file_is = refl };
+  collected = record { taken = refl; named = refl; file_is = refl };
+}
+
 pub returns : goal.returns
-returns c = record { replay = replays; joined = joined }
+returns c = record {
+  replay = replays;
+  import = imports;
+  joined = joined;
+  networks = networks;
+  files = files;
+}

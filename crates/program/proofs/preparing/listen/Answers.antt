@@ -7,13 +7,13 @@ use Rattle.program.proofs.preparing.listen.Goals as goal
 
 -- there is no fault
 pub returns-in-Ok-clause-done : goal.returns-in-Ok-clause-done
-returns-in-Ok-clause-done g c =
+returns-in-Ok-clause-done g c = λ known read.
     inl (record {
       config = c.in-Ok.config;
       left = refl;
       written =
-          of_known (g.I.Read.remaining c.args.input.now) c.read_to_end.new.buf.items
-          (λ text. Write (lines_of text) c.in-Ok.config) (search rules) (search rules);
+          of_known known c.args.text.now (λ text. Write (lines_of text) c.in-Ok.config) read
+          (search rules);
       faultless = search rules;
       silent = (
         Appends-nil (g.O.Write.contents c.args.output.now),
@@ -23,14 +23,16 @@ returns-in-Ok-clause-done g c =
 
 -- a fault was printed
 pub returns-clause-done : goal.returns-clause-done
-returns-clause-done g c =
+returns-clause-done g c = λ known read.
     inr (inl (record {
-      fault = c.in-Err-read.fault;
+      fault = c.in-Err.fault;
       ended = refl;
       first =
-          of_known (g.I.Read.remaining c.args.input.now) c.read_to_end.new.buf.items
-          (λ text. IsFirstFault (lines_of text) c.in-Err-read.fault) (search rules)
-          (search rules);
+          of_known known c.args.text.now
+          (λ text. IsFirstFault (lines_of text) c.in-Err.fault) read (search rules);
       faulty = search rules;
-      told = (search rules, Keeps-refl (g.E.Write.contents c.args.errors.now));
+      told = (
+        c.in_ok-print_fault-in-Err-2.ensures,
+        Keeps-refl (g.E.Write.contents c.args.errors.now),
+      );
     }))

@@ -1,0 +1,29 @@
+use Rattle.std.proofs.Common.{◌≡◌, ◌∙◌, ◌||◌, false, ap, ap₂}
+use Rattle.std.proofs.lemmas.Result.{IfOk-weaker}
+use Rattle.clap.specs.Words.{app_of, with_rule}
+use Rattle.clap.specs.declared.builder.command.Command.TheViews.{out-Command as fields_of}
+use Rattle.clap.specs.Simple.{app_of_fields}
+use Rattle.command_line.proofs.reading.listen.Goals as goal
+
+pub returns-clause-app : goal.returns-clause-app
+returns-clause-app c =
+    let one = c.in_ok-arg.ensures.shape c.file.ensures.local
+    ∙ ap₂ with_rule (ap app_of_fields c.about.ensures ∙ c.new.ensures.app) c.file.ensures.rule in
+    let two = c.in_ok-arg-2.ensures.shape c.address.ensures.local
+    ∙ ap₂ with_rule one c.address.ensures.rule in
+    let three = c.in_ok-arg-3.ensures.shape c.address-2.ensures.local
+    ∙ ap₂ with_rule two c.address-2.ensures.rule in
+    IfOk-weaker c.arg-4.result _ _ (λ command h. h.shape c.networks.ensures.local
+    ∙ ap₂ with_rule three c.networks.ensures.rule) c.arg-4.ensures
+
+pub returns-clause-local : goal.returns-clause-local
+returns-clause-local c =
+    let one = c.in_ok-arg.ensures.globals
+    ∙ ap₂ (λ x y. x || y) (ap (λ f. f.has_globals) c.about.ensures ∙ c.new.ensures.local)
+    c.file.ensures.local in
+    let two = c.in_ok-arg-2.ensures.globals
+    ∙ ap₂ (λ x y. x || y) one c.address.ensures.local in
+    let three = c.in_ok-arg-3.ensures.globals
+    ∙ ap₂ (λ x y. x || y) two c.address-2.ensures.local in
+    IfOk-weaker c.arg-4.result _ _ (λ command h. h.globals
+    ∙ ap₂ (λ x y. x || y) three c.networks.ensures.local) c.arg-4.ensures

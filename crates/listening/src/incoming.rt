@@ -1,0 +1,222 @@
+//! What peers and operators send.
+
+ghost use Rattle.std.specs.Prelude.{◌≡◌, ◌≤◌, length};
+ghost use Rattle.serve.specs.Sources.{IsWithin};
+
+use crate::greeting::Hello;
+use crate::pace::Pace;
+use serve::{Came, ReadFailed, Source};
+use std::alloc::Global;
+use std::io::{ErrorKind, Read};
+use std::net::{SocketAddr, TcpStream};
+use std::sync::{Arc, Wait};
+use std::time::Clock;
+
+/// What a peer or an admin sends: first what was read before it was served.
+#[derive(Drop)]
+pub struct Incoming<'a, R> {
+    pub(crate) stream: Arc<TcpStream, Global>,
+    pub(crate) sender: SocketAddr,
+    // Its number among the connections of peers, 0 for an admin's.
+    pub(crate) id: u64,
+    // Whose hello was read, by its place in the configuration.
+    pub(crate) peer: Option<usize>,
+    // The time that it has, of an admin's.
+    pub(crate) pace: Option<Pace<'a, R>>,
+    // What was read of it so far and not given, from a place on; an admin's room for that.
+    pub(crate) held: Vec<u8>,
+    pub(crate) taken: usize,
+    pub(crate) end: usize,
+    // Whether nothing is read behind that.
+    pub(crate) is_over: bool,
+    pub(crate) reads: u64,
+    pub(crate) failed: u64,
+    // Whether a read ends by itself where nothing comes.
+    pub(crate) is_limited: bool,
+    // Whether bytes came in the last read.
+    pub(crate) is_fed: bool,
+    ghost fewer: { failed ≤ reads },
+}
+
+impl<'a, R> Incoming<'a, R> {
+    // Has what was read for its hello be what it gives first.
+    pub(crate) fn begin_with(&mut self, held: Vec<u8>, hello: Hello)
+        ensures { self.new.reads ≡ self.old.reads }
+    {
+        self.peer = match hello {
+            Hello::Of(peer) => Some(peer),
+            _ => None,
+        };
+        self.end = held.len();
+        self.held = held;
+        self.taken = 0;
+        self.is_over = hello == Hello::Late;
+    }
+
+    // Gives what is held, of an admin no more than to the end of a line: how many bytes.
+    fn give(&mut self, buffer: &mut [u8]) -> usize
+        ensures reads { self.new.reads ≡ self.old.reads }
+        ensures failed { self.new.failed ≡ self.old.failed }
+        ensures within { result ≤ length buffer.new }
+    {
+        let count = copy_piece(
+            self.held.as_slice(),
+            self.taken,
+            self.end,
+            self.pace.is_some(),
+            buffer,
+        );
+        if count > 0 {
+            self.taken = self.taken.saturating_add(count);
+            self.is_fed = true;
+        }
+        count
+    }
+}
+
+// Copies bytes from one place to another to the front of a buffer, at most to the end of a line
+// where lines are wanted: how many.
+fn copy_piece(bytes: &[u8], from: usize, to: usize, lines: bool, buffer: &mut [u8]) -> usize
+    ensures { result ≤ length buffer.new }
+{
+    let Some(left) = bytes.get(from..to) else {
+        return 0;
+    };
+    let left = if lines { first_line(left) } else { left };
+    let count = left.len().min(buffer.len());
+    buffer[..count].copy_from_slice(&left[..count]);
+    count
+}
+
+// The bytes to the first LF, with it.
+fn first_line(bytes: &[u8]) -> &[u8] {
+    match bytes.iter().position(|byte: &u8| *byte == b'\n') {
+        None => bytes,
+        Some(at) => match bytes.get(..=at) {
+            None => bytes,
+            Some(line) => line,
+        },
+    }
+}
+
+// Reads once from a socket. None where the read failed.
+fn read_once(stream: &TcpStream, buffer: &mut [u8]) -> Result<Came, ReadFailed>
+    ensures { IsWithin result buffer.new }
+{
+    let mut stream = stream;
+    match stream.read(buffer) {
+        Ok(0) => Ok(Came::End),
+        Ok(count) => Ok(Came::Bytes(count)),
+        Err(fault) => match fault.kind() {
+            ErrorKind::WouldBlock | ErrorKind::TimedOut | ErrorKind::Interrupted => {
+                Ok(Came::Nothing)
+            }
+            _ => Err(ReadFailed),
+        },
+    }
+}
+
+impl<'a, R: Clock + Wait> Incoming<'a, R> {
+    // Reads once from the socket: of an admin into the room for that, and gives the first line.
+    fn fetch(&mut self, buffer: &mut [u8]) -> Result<Came, ReadFailed>
+        ensures reads { self.new.reads ≡ self.old.reads }
+        ensures failed { self.new.failed ≡ self.old.failed }
+        ensures within { IsWithin result buffer.new }
+    {
+        if self.pace.is_none() {
+            return read_once(&self.stream, buffer);
+        }
+        let came = read_once(&self.stream, self.held.as_mut_slice())?;
+        let Came::Bytes(count) = came else {
+            return Ok(came);
+        };
+        self.taken = 0;
+        self.end = count;
+        match self.give(buffer) {
+            0 => Ok(Came::Nothing),
+            count => Ok(Came::Bytes(count)),
+        }
+    }
+
+    // Gives what is held, or else reads.
+    fn next(&mut self, buffer: &mut [u8]) -> Result<Came, ReadFailed>
+        ensures reads { self.new.reads ≡ self.old.reads }
+        ensures failed { self.new.failed ≡ self.old.failed }
+        ensures within { IsWithin result buffer.new }
+    {
+        let count = self.give(buffer);
+        if count > 0 {
+            return Ok(Came::Bytes(count));
+        }
+        if self.is_over {
+            return Ok(Came::End);
+        }
+        if !self.is_limited && self.is_fed {
+            self.is_fed = false;
+            return Ok(Came::Nothing);
+        }
+        let came = self.fetch(buffer)?;
+        if let Came::Bytes(_) = came {
+            self.is_fed = true;
+        }
+        Ok(came)
+    }
+
+    // Whether it may be read on, as far as its time goes.
+    fn goes_on(&mut self) -> bool
+        ensures reads { self.new.reads ≡ self.old.reads }
+        ensures failed { self.new.failed ≡ self.old.failed }
+    {
+        match &mut self.pace {
+            None => true,
+            Some(pace) => pace.goes_on(),
+        }
+    }
+
+    // Notes what came, of an admin.
+    fn note(&mut self, came: Came, buffer: &[u8])
+        ensures reads { self.new.reads ≡ self.old.reads }
+        ensures failed { self.new.failed ≡ self.old.failed }
+    {
+        let Came::Bytes(count) = came else {
+            return;
+        };
+        let Some(last) = buffer.get(count.saturating_sub(1)) else {
+            return;
+        };
+        if let Some(pace) = &mut self.pace {
+            pace.take(*last);
+        }
+    }
+}
+
+impl<'a, R: Clock + Wait> Source for Incoming<'a, R> {
+    ghost use Rattle.std.specs.Prelude.{None};
+
+    ghost reads = { λ s. s.reads };
+
+    ghost failed = { λ s. s.failed };
+
+    ghost given = { λ s. None };
+
+    fn read(&mut self, buffer: &mut [u8]) -> Result<Came, ReadFailed> {
+        self.reads += 1;
+        if !self.goes_on() {
+            return Ok(Came::End);
+        }
+        match self.next(buffer) {
+            Ok(came) => {
+                self.note(came, buffer);
+                Ok(came)
+            }
+            Err(ReadFailed) => {
+                self.failed += 1;
+                Err(ReadFailed)
+            }
+        }
+    }
+
+    fn sender(&self) -> Option<SocketAddr> {
+        Some(self.sender)
+    }
+}

@@ -1,0 +1,197 @@
+//! The lines of the log, on their way to standard error.
+
+use crate::log::{Event, Line};
+use crate::ticks::is_due;
+use std::alloc::{AllocError, Global};
+use std::collections::VecDeque;
+use std::sync::{Mutex, Wait};
+use std::time::{Clock, Duration, Instant, SystemTime, UNIX_EPOCH};
+
+/// How many lines may wait.
+const MOST_LINES: usize = 1000;
+
+/// How long is rested where no line waits, in ms.
+const REST: u64 = 20;
+
+/// How often is looked at the end whether all lines are written.
+const LAST_LOOKS: u64 = 50;
+
+/// What waits.
+#[derive(Drop)]
+struct Waiting {
+    lines: VecDeque<String>,
+    // how many lines didn't fit or weren't written, until that is told
+    lost: u64,
+    told_at: Option<Instant>,
+    // whether a line is being written
+    is_writing: bool,
+    // whether no line comes any more
+    is_over: bool,
+}
+
+impl Waiting {
+    // Whether there is room for a line, which then waits behind the others.
+    fn keep(&mut self, line: String) -> bool {
+        if self.lines.len() >= MOST_LINES {
+            return false;
+        }
+        self.lines.push_back(line).is_ok()
+    }
+}
+
+/// The log: lines that wait for standard error.
+///
+/// Whoever notes an event never waits for standard error, only for others that note one. At most
+/// 1,000 lines wait. What doesn't fit is counted, and told once lines can be written again.
+#[derive(Drop)]
+pub struct Journal {
+    alloc: Global,
+    waiting: Mutex<Waiting>,
+}
+
+// The seconds since 1970. A clock that fails gives 0.
+fn seconds_now(rt: &impl Clock) -> u64 {
+    let Ok(now) = SystemTime::now(rt) else {
+        return 0;
+    };
+    match now.duration_since(UNIX_EPOCH) {
+        Ok(passed) => passed.as_secs(),
+        Err(_) => 0,
+    }
+}
+
+impl Journal {
+    /// No line waits. Takes no memory.
+    pub fn new(alloc: Global) -> Journal {
+        Journal {
+            alloc,
+            waiting: Mutex::new(Waiting {
+                lines: VecDeque::new(alloc),
+                lost: 0,
+                told_at: None,
+                is_writing: false,
+                is_over: false,
+            }),
+        }
+    }
+
+    // The line of an event.
+    fn line(&self, seconds: u64, event: Event<'_>) -> Result<String, AllocError> {
+        let line = Line { seconds, event };
+        format!(in self.alloc; "{line}")
+    }
+
+    /// The line of an event waits from now on. It is lost where 1,000 wait, or memory is lacking.
+    pub fn note<R: Clock + Wait>(&self, rt: &R, event: Event<'_>) {
+        let line = self.line(seconds_now(rt), event);
+        let mut guard = self.waiting.lock(rt);
+        let waiting = &mut *guard;
+        let is_kept = match line {
+            Ok(line) => waiting.keep(line),
+            Err(_fault) => false,
+        };
+        if !is_kept {
+            waiting.lost = waiting.lost.saturating_add(1);
+        }
+    }
+
+    // The line that has waited longest.
+    fn take_line<R: Wait>(&self, rt: &R) -> Option<String> {
+        let mut guard = self.waiting.lock(rt);
+        let waiting = &mut *guard;
+        let line = waiting.lines.pop_front();
+        waiting.is_writing = line.is_some();
+        line
+    }
+
+    // How many lines were lost, where that is to be told now.
+    fn take_lost<R: Clock + Wait>(&self, rt: &R) -> Option<u64> {
+        let mut guard = self.waiting.lock(rt);
+        let waiting = &mut *guard;
+        if waiting.lost == 0 || !is_due(rt, waiting.told_at) {
+            return None;
+        }
+        let count = waiting.lost;
+        waiting.lost = 0;
+        waiting.told_at = Instant::now(rt).ok();
+        Some(count)
+    }
+
+    // So many lines weren't written.
+    fn lose<R: Wait>(&self, rt: &R, count: u64) {
+        let mut guard = self.waiting.lock(rt);
+        let waiting = &mut *guard;
+        waiting.lost = waiting.lost.saturating_add(count);
+    }
+
+    // Tells how many lines were lost, where that is to be told now.
+    fn tell_lost<R: Eprint + Clock + Wait>(&self, rt: &R) {
+        let Some(count) = self.take_lost(rt) else {
+            return;
+        };
+        let line = Line {
+            seconds: seconds_now(rt),
+            event: Event::LinesLost { count },
+        };
+        if eprintln!(rt; "{line}").is_err() {
+            self.lose(rt, count);
+        }
+    }
+
+    /// Writes the lines that wait, and how many were lost.
+    pub fn write_out<R: Eprint + Clock + Wait>(&self, rt: &R) {
+        for _ in 0..u64::MAX {
+            self.tell_lost(rt);
+            let Some(line) = self.take_line(rt) else {
+                return;
+            };
+            if eprintln!(rt; "{line}").is_err() {
+                self.lose(rt, 1);
+            }
+        }
+    }
+
+    // Whether no line comes any more.
+    fn is_over<R: Wait>(&self, rt: &R) -> bool {
+        let guard = self.waiting.lock(rt);
+        guard.is_over
+    }
+
+    /// Writes lines as they come, until no more come. One thread does this.
+    pub fn run<R: Eprint + Clock + Wait>(&self, rt: &R) {
+        for _ in rt.forever() {
+            let is_over = self.is_over(rt);
+            self.write_out(rt);
+            if is_over {
+                return;
+            }
+            rt.sleep(Duration::from_millis(REST));
+        }
+        unreachable!()
+    }
+
+    // Whether all lines are written.
+    fn is_written<R: Wait>(&self, rt: &R) -> bool {
+        let guard = self.waiting.lock(rt);
+        guard.lines.is_empty() && !guard.is_writing
+    }
+
+    // No line comes any more.
+    fn end<R: Wait>(&self, rt: &R) {
+        let mut guard = self.waiting.lock(rt);
+        let waiting = &mut *guard;
+        waiting.is_over = true;
+    }
+
+    /// No line comes any more. Waits until all are written, for a second at most: whether they are.
+    pub fn finish<R: Clock + Wait>(&self, rt: &R) -> bool {
+        self.end(rt);
+        for _ in 0..LAST_LOOKS {
+            if self.is_written(rt) {
+                return true;
+            }
+            rt.sleep(Duration::from_millis(REST));
+        }
+        false
+    }
+}

@@ -1,0 +1,79 @@
+//! What is sent to peers and operators.
+
+ghost use Rattle.std.specs.Io.{WritesAtMost};
+
+use crate::connections::Connections;
+use crate::pace::{Begun, is_in_time};
+use crate::ticks::Ticks;
+use std::alloc::Global;
+use std::io;
+use std::io::{ErrorKind, Write};
+use std::net::TcpStream;
+use std::sync::Arc;
+use std::time::Clock;
+
+/// How long a write waits for a peer that takes nothing, in ms.
+const WRITE_LIMIT: u64 = 5000;
+
+/// What is sent to a peer or an admin.
+#[derive(Drop)]
+pub struct Outgoing<'a, R> {
+    pub(crate) stream: Arc<TcpStream, Global>,
+    pub(crate) clock: &'a Ticks<R>,
+    pub(crate) connections: &'a Connections,
+    // When the present answer was begun, of an admin's.
+    pub(crate) begun: Option<Begun>,
+}
+
+impl<'a, R: Clock> Outgoing<'a, R> {
+    // Whether a write that began at a moment may go on.
+    fn may_write(&self, first: u64) -> bool {
+        if self.connections.are_closed() {
+            return false;
+        }
+        let now = self.clock.moment();
+        match &self.begun {
+            None => now.saturating_sub(first) < WRITE_LIMIT,
+            Some(begun) => is_in_time(begun, now),
+        }
+    }
+}
+
+// Whether a write may go on: nothing was taken in the time that a call waits.
+fn is_to_wait(written: &io::Result<usize>) -> bool {
+    match written {
+        Ok(_) => false,
+        Err(fault) => matches!(
+            fault.kind(),
+            ErrorKind::WouldBlock | ErrorKind::TimedOut | ErrorKind::Interrupted
+        ),
+    }
+}
+
+// Writes once to a socket.
+fn write_once(stream: &TcpStream, bytes: &[u8]) -> io::Result<usize>
+    ensures { WritesAtMost result bytes.now }
+{
+    let mut stream = stream;
+    stream.write(bytes)
+}
+
+impl<'a, R: Clock> Write for Outgoing<'a, R> {
+    fn write(&mut self, bytes: &[u8]) -> io::Result<usize> {
+        let first = self.clock.moment();
+        for _ in 0..u64::MAX {
+            if !self.may_write(first) {
+                break;
+            }
+            let written = write_once(&self.stream, bytes);
+            if !is_to_wait(&written) {
+                return written;
+            }
+        }
+        Err(io::Error::from(ErrorKind::TimedOut))
+    }
+
+    fn flush(&mut self) -> io::Result<()> {
+        Ok(())
+    }
+}
