@@ -1,0 +1,32 @@
+# bash completion for aggregator(8)
+
+_aggregator() {
+    local word=${COMP_WORDS[COMP_CWORD]} before=${COMP_WORDS[COMP_CWORD - 1]}
+    COMPREPLY=()
+    if [ "$COMP_CWORD" -eq 1 ]; then
+        COMPREPLY=($(compgen -W "listen check import replay help --help --version" -- "$word"))
+        return
+    fi
+    case $before in
+        --config)
+            compopt -o filenames 2> /dev/null
+            COMPREPLY=($(compgen -f -- "$word"))
+            return
+            ;;
+        --peers | --admin | --from)
+            return
+            ;;
+    esac
+    case ${COMP_WORDS[1]} in
+        listen)
+            COMPREPLY=($(compgen -W "--peers --admin --from --config --help" -- "$word"))
+            ;;
+        check)
+            COMPREPLY=($(compgen -W "--config --help" -- "$word"))
+            ;;
+        import | replay)
+            COMPREPLY=($(compgen -W "--help" -- "$word"))
+            ;;
+    esac
+}
+complete -F _aggregator aggregator

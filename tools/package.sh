@@ -1,0 +1,83 @@
+#!/bin/sh
+# Makes a Debian package of a proved build, and prints its name and its SHA-256.
+#
+#     tools/package.sh [the aggregator program [the folder to write to]]
+#
+# The program is crates/aggregator/out/aggregator unless another is named. The version is what it says of itself
+# (`--version`). Two runs over one program and one commit make the same file: all times are the last commit's, or
+# SOURCE_DATE_EPOCH, and what git doesn't track isn't packed. It wants dpkg-deb and gzip.
+set -eu
+umask 022
+export LC_ALL=C
+here=$PWD
+cd "$(dirname "$0")/.."
+program=${1:-crates/aggregator/out/aggregator}
+to=${2:-.}
+case $program in /*) ;; *) [ $# -eq 0 ] || program=$here/$program ;; esac
+case $to in /*) ;; *) to=$here/$to ;; esac
+[ -x "$program" ] || { echo "$program isn't built: cd crates/aggregator && rt run -- --help" >&2; exit 1; }
+
+version=$("$program" --version | awk 'NR == 1 { print $NF }')
+case $version in
+    [0-9]*) ;;
+    *) echo "$program tells no version: '$version'" >&2; exit 1 ;;
+esac
+SOURCE_DATE_EPOCH=${SOURCE_DATE_EPOCH:-$(git log -1 --format=%ct)}
+export SOURCE_DATE_EPOCH
+# The newest version of the C library of which the program names a symbol.
+libc=$(grep -ao 'GLIBC_2\.[0-9.]*' "$program" | sort -uV | tail -n 1 | sed 's/GLIBC_//')
+
+tree=$(mktemp -d)
+trap 'rm -rf "$tree"' EXIT
+chmod 755 "$tree"
+put() { # mode, file, its place in the package
+    mkdir -p "$tree/$(dirname "$3")"
+    install -m "$1" "$2" "$tree/$3"
+}
+put_zipped() { # file, its place in the package
+    mkdir -p "$tree/$(dirname "$2")"
+    gzip -9n < "$1" > "$tree/$2.gz"
+}
+put 755 "$program" usr/bin/aggregator
+put 644 packaging/sesamejoist.service usr/lib/systemd/system/sesamejoist.service
+put 644 packaging/sesamejoist.default etc/default/sesamejoist
+put 644 packaging/fleet.conf etc/sesamejoist/fleet.conf
+put 644 packaging/aggregator.bash usr/share/bash-completion/completions/aggregator
+put_zipped packaging/aggregator.8 usr/share/man/man8/aggregator.8
+doc=usr/share/doc/sesamejoist
+put_zipped CHANGELOG.md $doc/changelog
+put 644 README.md $doc/README.md
+for page in COMMANDS CONFIGURATION MODEL OPERATIONS PERFORMANCE PROOFS PROTOCOL REPLAY; do
+    put 644 docs/$page.md $doc/docs/$page.md
+done
+for file in $(git ls-files examples); do
+    put 644 "$file" "$doc/$file"
+done
+
+size=$(find "$tree" -type f -printf '%s\n' | awk '{ sum += int(($1 + 1023) / 1024) } END { print sum }')
+mkdir "$tree/DEBIAN"
+for script in postinst prerm postrm; do
+    install -m 755 packaging/$script "$tree/DEBIAN/$script"
+done
+printf '/etc/default/sesamejoist\n/etc/sesamejoist/fleet.conf\n' > "$tree/DEBIAN/conffiles"
+(cd "$tree" && find usr -type f | sort | xargs -d '\n' md5sum) > "$tree/DEBIAN/md5sums"
+cat > "$tree/DEBIAN/control" << CONTROL
+Package: sesamejoist
+Version: $version
+Section: net
+Priority: optional
+Architecture: amd64
+Maintainer: ${MAINTAINER:-$(git log -1 --format='%an <%ae>')}
+Depends: libc6${libc:+ (>= $libc)}
+Suggests: haproxy, netcat-openbsd
+Installed-Size: $size
+Description: collector for the stick tables of a fleet of HAProxy proxies
+ Proxies name it as a peer and push their stick tables to it. It sums them per
+ key, and tells which keys exceed a limit over the whole fleet, who leads, and
+ when the clock alone changes that. Every function of it is proved.
+CONTROL
+find "$tree" -depth -exec touch -h -d "@$SOURCE_DATE_EPOCH" {} +
+
+package="$to/sesamejoist_${version}_amd64.deb"
+dpkg-deb --build --root-owner-group --threads-max=1 -Zxz "$tree" "$package" > /dev/null
+(cd "$to" && sha256sum "$(basename "$package")")

@@ -1,0 +1,87 @@
+#!/bin/sh
+# Tries two collectors that the same two real proxies name: each has the whole answer, and one that is lost leaves
+# the other's as it was. What it tells is checked, and the exit status is 1 where something differs.
+#
+#     tools/try_two_collectors.sh [the aggregator program]
+#
+# It wants Debian's haproxy and curl, and python3 to ask the collectors. It takes examples/fleet.conf and
+# examples/haproxy.cfg, with a second collector added. Nobody else is touched: all addresses are of this machine. A
+# program that isn't built yet is proved and built first, which takes a while.
+set -eu
+cd "$(dirname "$0")/.."
+collector=${1:-crates/aggregator/out/aggregator}
+[ -x "$collector" ] || (cd crates/aggregator && rt run -- --help > /dev/null)
+DIR=$(mktemp -d)
+COLLECTOR_PORT=10930
+SECOND_PORT=10931
+export DIR COLLECTOR_PORT SECOND_PORT
+pids=
+trap 'kill $pids 2>/dev/null; wait; rm -rf "$DIR"' EXIT
+
+# Each collector has a name of its own, and every proxy names both.
+sed 's/^name agg$/name agg2/' examples/fleet.conf > "$DIR/second.conf"
+cp examples/fleet.conf "$DIR/first.conf"
+sed '/peer agg /a\    peer agg2 "127.0.0.1:${SECOND_PORT}"' examples/haproxy.cfg > "$DIR/haproxy.cfg"
+
+started=
+collect() { # its configuration's name, its port for peers, its port for questions
+    "$collector" listen --peers "127.0.0.1:$2" --admin "127.0.0.1:$3" \
+        < "$DIR/$1.conf" > "$DIR/$1.said" 2>> "$DIR/$1.log" &
+    started=$!
+    pids="$pids $started"
+    until grep -q listening "$DIR/$1.said"; do
+        kill -0 "$started" || { cat "$DIR/$1.said" "$DIR/$1.log"; exit 1; }
+        sleep 0.1
+    done
+}
+proxy() { # name, its own port, its frontend's port
+    OWN_PORT=$2 HTTP_PORT=$3 haproxy -db -L "$1" -f "$DIR/haproxy.cfg" 2> "$DIR/$1.log" &
+    pids="$pids $!"
+}
+requests() { # requests through each proxy, all of one client
+    for _ in $(seq "$1"); do
+        for port in 10942 10944; do
+            curl -s -o /dev/null -H "x-forwarded-for: 10.0.0.66" "http://127.0.0.1:$port/"
+        done
+    done
+}
+failed=0
+counts() { # which collector, its port for questions, the count that it is to have
+    for _ in $(seq 100); do
+        has=$(python3 tools/ask.py "127.0.0.1:$2" "show table clients key 10.0.0.66" \
+            | sed -n 's/.*http_req_cnt=\([0-9]*\).*/\1/p')
+        [ "$has" != "$3" ] || break
+        sleep 0.1
+    done
+    echo "the $1 collector counts ${has:-nothing}"
+    [ "$has" = "$3" ] || { echo "it should count $3"; failed=1; }
+}
+
+collect first $COLLECTOR_PORT 10932
+first=$started
+collect second $SECOND_PORT 10933
+proxy lb1 10941 10942
+proxy lb2 10943 10944
+sleep 2
+
+echo "10.0.0.66 sends 60 requests through each proxy."
+requests 60
+counts first 10932 120
+counts second 10933 120
+for port in 10932 10933; do
+    python3 tools/ask.py "127.0.0.1:$port" "show filter abusers"
+done
+
+echo
+echo "The first collector is killed. 10.0.0.66 sends 15 more through each proxy."
+kill -9 "$first"
+wait "$first" 2> /dev/null || true
+requests 15
+counts second 10933 150
+
+echo
+echo "The first collector starts again: the proxies dial it and teach it all that they hold."
+collect first $COLLECTOR_PORT 10932
+counts first 10932 150
+counts second 10933 150
+exit $failed
