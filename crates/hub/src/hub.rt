@@ -234,8 +234,9 @@ impl<J: Naming, R: Wait + Drop> Hub<J, R> {
         Ok(receipt)
     }
 
-    // What a post is refused with that wasn't appended, once the list that it tells of is shown.
-    fn refuse<W: Wait>(
+    /// What a post is refused with that wasn't appended, once the list that it tells of is shown.
+    /// It waits for looks that last, as a post does.
+    pub fn refuse<W: Wait>(
         &self,
         rt: &W,
         pass: &Pass,
