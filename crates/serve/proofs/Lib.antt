@@ -3,6 +3,7 @@ pub mod Later
 pub mod Owns
 pub mod Facts
 pub mod Works
+pub mod Pulses
 pub mod Timed
 pub mod Sent
 pub mod Pieces

@@ -13,10 +13,11 @@ use Rattle.hub.specs.History.{Beginning, longer_by, own}
 use Rattle.hub.specs.declared.faults.PostFault.{PostFault}
 use Rattle.hub.specs.declared.faults.PostFault.TheVariants.{Replaced, NotNext, NoMemory, Pending}
 use Rattle.hub.specs.declared.faults.PostFault.TheVariants.{Spent}
-use Rattle.hub.specs.Posts.{Follows, PostRefused, PostsAfter, Seated, ShowsBatch, advanced}
+use Rattle.hub.specs.Posts.{Appends, Follows, PostRefused, PostsAfter, Seated, ShowsBatch}
+use Rattle.hub.specs.Posts.{advanced}
 use Rattle.serve.specs.declared.desk.Desk.{Desk}
 use Rattle.serve.proofs.Later.{follows_on}
-use Rattle.serve.specs.Told.{HasTold, IsLeft, Tells, stored_of}
+use Rattle.serve.specs.Told.{HasTold, IsLeft, IsWaiting, Tells, stored_of}
 
 same_seat : (seat : ℕ) → (seat == seat) ≡ true
 same_seat seat = grind (arith, nat_tests)
@@ -194,3 +195,43 @@ refused hub p q last whats batch Pending told why =
     } in
     subst (λ (r : Seated). HasTold hub (desk_of r last) whats (length batch)) (sym why) done
 refused hub p q last whats batch Spent told why = same_told hub p q last whats told why.0
+
+-- a desk after a refused append, whose batch came back
+pub refused_back : (hub : Beginning) (p q : Seated) (last : Option Beginning)
+    (whats batch back : List What) (fault : PostFault) → HasTold hub (desk_of p last) whats 0
+    → q ≡ p → back ≡ batch → PostRefused q q back fault
+    → HasTold hub (desk_of q last) whats (stored_of fault (length batch))
+refused_back hub p q last whats batch back fault told same is why =
+    subst (λ (b : List What). HasTold hub (desk_of q last) whats (stored_of fault (length b))) is
+    (refused hub q q last whats back fault (same_told hub p q last whats told same) why)
+
+-- a desk after an append
+pub appended : (hub : Beginning) (p q : Seated) (last : Option Beginning) (whats batch : List What)
+    (ticket : Beginning) → HasTold hub (desk_of p last) whats 0 → Appends p q batch ticket
+    → IsWaiting hub (desk_of q last) whats batch ticket
+appended hub p q last whats batch ticket told after =
+    let tells : Tells p.seat (whats ++ batch) ticket =
+    tells_batch p whats batch ticket told.tells (told.number ∙ omega arith) after.0 in record {
+      told = refused hub p q last whats batch Pending told after.1;
+      tells = subst (λ (r : Seated). Tells r.seat (whats ++ batch) ticket) (sym after.1) tells;
+      shown = shown_follows hub p ticket batch told.seen after.0;
+    }
+
+-- a desk that took up the receipt for what it appended
+pub taken_up : (hub : Beginning) (p q : Seated) (last : Option Beginning) (whats batch : List What)
+    (receipt : Beginning) → q ≡ record p { seen = receipt }
+    → IsWaiting hub (desk_of p last) whats batch receipt
+    → HasTold hub (desk_of q (Some receipt)) (whats ++ batch) 0
+taken_up hub p q last whats batch receipt same waits =
+    let made_of : Desk = desk_of (record p { seen = receipt }) (Some receipt) in
+    let number : p.number ≡ 1 + length (whats ++ batch) + 0 = let n = waits.told.number in
+    omega (arith, length-append whats batch) in
+    let done : HasTold hub made_of (whats ++ batch) 0 = record {
+      seen = waits.shown;
+      number = number;
+      tells = waits.tells;
+      last = waits.tells;
+      shown = waits.shown;
+    } in
+    subst (λ (r : Seated). HasTold hub (desk_of r (Some receipt)) (whats ++ batch) 0) (sym same)
+    done

@@ -1,7 +1,7 @@
 -- How a session at work goes on, and how it stops.
 use Rattle.std.proofs.Common.{is_some, ◌≡◌, ℕ, ◌-◌, ◌≤◌, Bool, List, [], ◌∷◌, ◌++◌, length, drop}
 use Rattle.std.proofs.Common.{Option, None, Some, Result, Ok, Err, refl, sym, ap, ◌∙◌, subst, arith}
-use Rattle.std.proofs.Common.{append-nil, append_assoc, length-append}
+use Rattle.std.proofs.Common.{append-nil, append_assoc, inl, inr, length-append}
 use Rattle.std.proofs.Math.Seq.{drop-append_seam}
 use Rattle.agg_types.specs.declared.event.What.{What}
 use Rattle.session_core.specs.declared.batch.SessionFault.{SessionFault}
@@ -307,7 +307,7 @@ unsettled A hub seated old new start given after taken more piece batch end answ
         took = wrote_more start.taken taken more (answers_in setup seated w.turns) settles.1.front
             w.carried.took settles.1.wrote;
       };
-      ends = record {
+      ends = inl (record {
         turns = w.turns;
         last = Some piece;
         front = settles.1.front;
@@ -317,7 +317,7 @@ unsettled A hub seated old new start given after taken more piece batch end answ
         told = subst (λ facts. DeskTells hub new.desk facts 0) (sym stands.grows.facts) settles.0;
         answer = says ∙ settles.1.split;
         answered = refl;
-      };
+      });
     }
 unsettled A hub seated old new start given after taken more piece batch end
     (answers.Post fault) gives w stands settles =
@@ -344,6 +344,33 @@ unsettled A hub seated old new start given after taken more piece batch end
             (stored_of fault n)) (sym count) settles.0;
         answered = refl;
       };
+    }
+unsettled A hub seated old new start given after taken more piece batch end answers.Beat gives
+    w stands settles =
+    let setup : Setup = setup_of hub.config in
+    let count : length (talk setup seated (taken_in w.turns ++ piece)).facts - length
+    (facts_in setup seated w.turns) ≡ length batch.facts =
+    less_old (facts_in setup seated w.turns) batch.facts
+    (talk setup seated (taken_in w.turns ++ piece)).facts stands.grows.facts in record {
+      bytes = taken_in w.turns ++ piece;
+      written = answers_in setup seated w.turns ++ settles.1.front;
+      carried = record {
+        gave = wrote_more start.given given after (taken_in w.turns) piece w.carried.gave gives;
+        took = wrote_more start.taken taken more (answers_in setup seated w.turns) settles.1.front
+            w.carried.took settles.1.wrote;
+      };
+      ends = inr (record {
+        turns = w.turns;
+        piece = piece;
+        front = settles.1.front;
+        rest = settles.1.rest;
+        goes_on = w.work.goes_on;
+        read = refl;
+        told = subst (λ n. DeskTells hub new.desk (facts_in setup seated w.turns) n) (sym count)
+            settles.0;
+        beat = settles.1.split;
+        answered = refl;
+      });
     }
 
 nothing_in : (whats : List What) → length whats ≤ 0 → whats ≡ []
@@ -434,7 +461,7 @@ ends_as : (setup : Setup) (seated : Bool) (P Q : List What → ℕ → Type 0) (
     → EndsBy setup seated P bytes written cause → EndsBy setup seated Q bytes written cause
 ends_as setup seated P Q bytes written Read f is =
     answered_as setup seated P Q None bytes written f is
-ends_as setup seated P Q bytes written Write f is = record {
+ends_as setup seated P Q bytes written Write f (inl is) = inl (record {
   turns = is.turns;
   last = is.last;
   front = is.front;
@@ -444,7 +471,19 @@ ends_as setup seated P Q bytes written Write f is = record {
   told = f (facts_in setup seated (is.last ∷ is.turns)) 0 is.told;
   answer = is.answer;
   answered = is.answered;
-}
+})
+ends_as setup seated P Q bytes written Write f (inr is) = inr (record {
+  turns = is.turns;
+  piece = is.piece;
+  front = is.front;
+  rest = is.rest;
+  goes_on = is.goes_on;
+  read = is.read;
+  told = f (facts_in setup seated is.turns)
+      (length (talk setup seated bytes).facts - length (facts_in setup seated is.turns)) is.told;
+  beat = is.beat;
+  answered = is.answered;
+})
 ends_as setup seated P Q bytes written (Session cause) f is =
     by_session_as setup seated P Q bytes written cause f is
 ends_as setup seated P Q bytes written (Post fault) f is =
@@ -528,7 +567,7 @@ unbeaten hub seated old new start given taken more desk w sends =
         took = wrote_more start.taken taken more (answers_in setup seated w.turns) sends.front
             w.carried.took sends.wrote;
       };
-      ends = record {
+      ends = inl (record {
         turns = w.turns;
         last = None;
         front = sends.front;
@@ -539,7 +578,7 @@ unbeaten hub seated old new start given taken more desk w sends =
             (sym desk) w.work.told;
         answer = sends.split;
         answered = refl;
-      };
+      });
     }
 
 -- silence ends a session, whatever it keeps then
@@ -675,8 +714,12 @@ desk_of_stops : (hub : Beginning) (seated : Bool) (desk : Option Desk) (bytes wr
     IsDeskOf hub desk
 desk_of_stops hub seated desk bytes written Read ends =
     desk_is_of hub desk (facts_in (setup_of hub.config) seated ends.turns) 0 ends.told
-desk_of_stops hub seated desk bytes written Write ends =
+desk_of_stops hub seated desk bytes written Write (inl ends) =
     desk_is_of hub desk (facts_in (setup_of hub.config) seated (ends.last ∷ ends.turns)) 0 ends.told
+desk_of_stops hub seated desk bytes written Write (inr ends) =
+    desk_is_of hub desk (facts_in (setup_of hub.config) seated ends.turns)
+    (length (talk (setup_of hub.config) seated bytes).facts - length
+    (facts_in (setup_of hub.config) seated ends.turns)) ends.told
 desk_of_stops hub seated desk bytes written (Session cause) ends =
     desk_of_session hub seated desk bytes written cause ends
 desk_of_stops hub seated desk bytes written (Post fault) ends =

@@ -4,6 +4,7 @@ pub mod Told
 pub mod Traffic
 pub mod Turns
 pub mod Working
+pub mod Waiting
 pub mod Moments
 pub mod Commands
 pub mod Commanding

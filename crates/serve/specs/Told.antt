@@ -49,6 +49,20 @@ abbrev pub TellsMore : Beginning → Desk → List What → List What → Result
 TellsMore hub desk whats batch (Ok done) = HasTold hub desk (whats ++ batch) 0
 TellsMore hub desk whats batch (Err fault) = HasTold hub desk whats (stored_of fault (length batch))
 
+-- a batch was appended behind what was told, and isn't shown yet; the ticket's list tells it
+pub record IsWaiting (hub : Beginning) (desk : Desk) (whats batch : List What) (ticket : Beginning)
+    : Type 0 where
+  pub told : HasTold hub desk whats (length batch)
+  pub tells : Tells desk.pass.seat (whats ++ batch) ticket
+  pub shown : Follows hub ticket
+
+-- after an append the batch waits; after a refusal nothing was told
+abbrev pub AppendsMore : Beginning → Desk → List What → List What → Result Beginning PostFault
+    → Type 0
+AppendsMore hub desk whats batch (Ok ticket) = IsWaiting hub desk whats batch ticket
+AppendsMore hub desk whats batch (Err fault) =
+    HasTold hub desk whats (stored_of fault (length batch))
+
 -- the events of a seat that left are what it told, so many more, and its leave
 pub record IsLeft (seat : ℕ) (whats : List What) (waiting : ℕ) (list : Beginning) : Type 0 where
   pub more : List Event

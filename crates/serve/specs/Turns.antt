@@ -1,6 +1,6 @@
 -- What a session reads, tells and writes, turn by turn.
 use Rattle.std.specs.Option.{option_map}
-use Rattle.std.specs.Prelude.{◌≡◌, ℕ, ◌-◌, Bool, List, [], ◌∷◌, ◌++◌, length, drop, Option, None}
+use Rattle.std.specs.Prelude.{◌≡◌, ◌⊎◌, ℕ, ◌-◌, Bool, List, [], ◌∷◌, ◌++◌, length, drop, Option, None}
 use Rattle.std.specs.Prelude.{Some, MatchOption, Result, Ok, Err}
 use Rattle.std.specs.Io.KnownBytes.{Appends}
 use Rattle.agg_types.specs.declared.event.What.{What}
@@ -80,6 +80,21 @@ pub record IsCutShort (setup : Setup) (seated : Bool) (Told : List What → ℕ 
   pub answer : answer_at setup seated turns last ≡ front ++ rest
   pub answered : written ≡ answers_in setup seated turns ++ front
 
+-- The same, but only a beginning of a heartbeat was written, while a last piece waited: its facts
+-- are stored and not shown yet.
+pub record IsCutWaiting (setup : Setup) (seated : Bool) (Told : List What → ℕ → Type 0)
+    (bytes written : List ℕ) : Type 0 where
+  pub turns : List Turn
+  pub piece : List ℕ
+  pub front : List ℕ
+  pub rest : List ℕ
+  pub goes_on : TalkEnds setup seated (taken_in turns) None
+  pub read : bytes ≡ taken_in turns ++ piece
+  pub told : Told (facts_in setup seated turns)
+      (length (talk setup seated bytes).facts - length (facts_in setup seated turns))
+  pub beat : heartbeat ≡ front ++ rest
+  pub answered : written ≡ answers_in setup seated turns ++ front
+
 -- the same, but of a last piece nothing was told nor answered; so many of its facts are stored all
 -- the same
 pub record IsRefused (setup : Setup) (seated : Bool) (Told : List What → ℕ → Type 0)
@@ -110,7 +125,8 @@ EndsBySession setup seated Told bytes written causes.NoMemory =
 -- how a session ends that read and wrote these bytes
 abbrev pub EndsBy : Setup → Bool → (List What → ℕ → Type 0) → List ℕ → List ℕ → Cause → Type 0
 EndsBy setup seated Told bytes written Read = IsAnswered setup seated Told None bytes written
-EndsBy setup seated Told bytes written Write = IsCutShort setup seated Told bytes written
+EndsBy setup seated Told bytes written Write =
+    IsCutShort setup seated Told bytes written ⊎ IsCutWaiting setup seated Told bytes written
 EndsBy setup seated Told bytes written (Session cause) =
     EndsBySession setup seated Told bytes written cause
 EndsBy setup seated Told bytes written (Post fault) =

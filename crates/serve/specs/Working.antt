@@ -8,11 +8,10 @@ use Rattle.session_core.specs.declared.cause.SessionCause.TheVariants as causes
 use Rattle.session_core.specs.Batched.{Batched}
 use Rattle.session_core.specs.Piece.{setup_of}
 use Rattle.session_core.specs.Talk.{stage_of}
-use Rattle.hub.specs.declared.faults.PostFault.{PostFault}
 use Rattle.hub.specs.History.{Beginning}
 use Rattle.serve.specs.declared.desk.Desk.{Desk}
 use Rattle.serve.specs.declared.faults.AnswerFault.{AnswerFault}
-use Rattle.serve.specs.declared.faults.AnswerFault.TheVariants.{Write, Post}
+use Rattle.serve.specs.declared.faults.AnswerFault.TheVariants.{Write, Post, Beat}
 use Rattle.serve.specs.declared.faults.TurnFault.{TurnFault}
 use Rattle.serve.specs.declared.served.Cause.{Cause}
 use Rattle.serve.specs.declared.served.Faulted.{Faulted}
@@ -23,7 +22,7 @@ use Rattle.serve.specs.Faults.{cause_of_turn}
 use Rattle.serve.specs.Told.{stored_of}
 use Rattle.serve.specs.Traffic.{Advances, Traffic, so_far}
 use Rattle.serve.specs.Turns.{DeskTells, EndsBy, IsAnswered, SeatIsServed, Turn, WroteFront}
-use Rattle.serve.specs.Turns.{TalkEnds, answers_in, facts_in, taken_in}
+use Rattle.serve.specs.Turns.{TalkEnds, answers_in, facts_in, heartbeat, taken_in}
 
 -- it stands for the bytes taken in these turns, whose talk goes on, and their facts were told
 pub record IsAtWork (hub : Beginning) (seated : Bool) (worker : Worker) (turns : List Turn)
@@ -74,13 +73,8 @@ Takes hub old new piece before after result =
     → Works hub seated old start (so_far given before)
     → GoesOn hub seated new start (so_far more after) result
 
--- a batch is told behind what was told before it, or refused
-abbrev pub PostsTo : Beginning → Option Desk → List What → List What → Result (Unit {0}) PostFault
-    → Type 0
-PostsTo hub desk whats batch (Ok done) = DeskTells hub desk (whats ++ batch) 0
-PostsTo hub desk whats batch (Err fault) = DeskTells hub desk whats (stored_of fault (length batch))
-
--- the facts of a batch are told, and then its bytes written; where they are refused, nothing is
+-- The facts of a batch are told, and then its bytes written; where they are refused, nothing is.
+-- Where a heartbeat couldn't be written meanwhile, they are stored and not shown yet.
 abbrev pub SettlesTo : {A : Type 0} → Beginning → Option Desk → List What → Batched
     → Option (List ℕ) → Option (List ℕ) → Result A AnswerFault → Type 0
 SettlesTo hub desk whats batch before after (Ok done) =
@@ -91,6 +85,8 @@ SettlesTo hub desk whats batch before after (Err Write) =
     × WroteFront before after (batch.replies ++ batch.acks)
 SettlesTo hub desk whats batch before after (Err (Post fault)) =
     DeskTells hub desk whats (stored_of fault (length batch.facts)) × Appends before after []
+SettlesTo hub desk whats batch before after (Err Beat) =
+    DeskTells hub desk whats (length batch.facts) × WroteFront before after heartbeat
 
 -- out of memory, nothing is posted nor written
 pub record EndsForMemory (old new : Option Desk) (before after : Option (List ℕ))

@@ -1,6 +1,6 @@
 //! A seat at work: what it posts, and what it leaves.
 
-ghost use Rattle.std.specs.Prelude.{◌≡◌, ℕ, List, [], IfSome, OnOk};
+ghost use Rattle.std.specs.Prelude.{◌≡◌, ℕ, List, [], ◌++◌, IfOk, IfSome, OnOk};
 ghost use Rattle.std.specs.List.{All};
 ghost use Rattle.agg_types.specs.declared.event.What.{What};
 ghost use Rattle.hub.specs.History.{Beginning};
@@ -9,7 +9,7 @@ ghost use Rattle.hub.specs.Roll.{MayPost};
 
 use crate::served::Served;
 use agg_types::What;
-use hub::{Hub, Lens, Naming, Pass, PostFault, Receipt};
+use hub::{Hub, Lens, Naming, Pass, PostFault, Receipt, Ticket};
 use std::sync::Wait;
 
 /// A pass, and what its last post at Ok shows.
@@ -20,7 +20,7 @@ pub struct Desk {
 }
 
 impl Desk {
-    ghost use Rattle.serve.specs.Told.{HasTold, IsServed, TellsMore};
+    ghost use Rattle.serve.specs.Told.{AppendsMore, HasTold, IsServed, IsWaiting, TellsMore};
 
     /// A desk at which nothing was posted yet.
     pub fn new(pass: Pass) -> Desk
@@ -71,6 +71,40 @@ impl Desk {
             }
             Err(fault) => Err(fault),
         }
+    }
+
+    /// Appends a batch, and gives a ticket for its list. What an append is refused with is told as
+    /// of a post, once the list that it tells of is shown.
+    pub fn append<J: Naming, H: Wait + Drop, R: Wait>(
+        &mut self,
+        rt: &R,
+        hub: &Hub<J, H>,
+        whats: Vec<What>,
+    ) -> Result<Ticket, PostFault>
+        requires pass { self.old.pass.seen.of ≡ hub.now.of }
+        requires fits { All (MayPost hub.now.config) whats.items }
+        ensures seat { self.new.pass.seat ≡ self.old.pass.seat }
+        ensures of { self.new.pass.seen.of ≡ hub.now.of }
+        ensures ticket { IfOk result (λ ticket. ticket.of ≡ hub.now.of) }
+        ensures appended { (whats_before : List What) → HasTold hub.now self.old whats_before 0
+            → AppendsMore hub.now self.new whats_before whats.items result }
+    {
+        match hub.append(rt, &mut self.pass, whats) {
+            Ok(ticket) => Ok(ticket),
+            Err((fault, whats)) => Err(hub.refuse(rt, &self.pass, fault, whats)),
+        }
+    }
+
+    /// Takes up the receipt for what was appended.
+    pub fn take_up(&mut self, receipt: Receipt)
+        requires pass { receipt.of ≡ self.old.pass.seen.of }
+        ensures seat { self.new.pass.seat ≡ self.old.pass.seat }
+        ensures told { (hub : Beginning) (whats batch : List What)
+            → IsWaiting hub self.old whats batch receipt
+            → HasTold hub self.new (whats ++ batch) 0 }
+    {
+        self.pass.see(&receipt);
+        self.last = Some(receipt);
     }
 
     /// Gives the pass back to the hub. Where that is refused the seat stays taken.

@@ -239,7 +239,7 @@ trait Workers<K> {
     fn turn_away(&self, sender: Option<SocketAddr>);
 
     /// Serves one connection of a peer.
-    fn peer<R: Wait>(&self, rt: &R, caller: K);
+    fn peer<R: Wait + std::rt::Clock>(&self, rt: &R, caller: K);
 
     /// Serves one admin connection.
     fn admin<R: Wait>(&self, rt: &R, caller: K);
@@ -290,7 +290,7 @@ impl<'a, J: Naming, H: Wait + Drop, C, G: Gate, D> House<'a, J, H, C, G, D> {
 
 impl<'a, J: Naming, H: Wait + Drop, C: Clock, G: Gate, D> House<'a, J, H, C, G, D> {
     // Serves a connection of a peer that came through these doors, with its seat if it has one.
-    fn serve_peer<R: Wait, S: Source + Drop, W: Write + Drop>(
+    fn serve_peer<R: Wait + std::rt::Clock, S: Source + Drop, W: Write + Drop>(
         &self,
         rt: &R,
         doors: &D,
@@ -348,7 +348,7 @@ impl<
 
     // A seat is taken only behind a welcome hello: any other is answered without one. Where no seat
     // is free it is closed without an answer, so that the peer calls again.
-    fn peer<R: Wait>(&self, rt: &R, guest: Guest<'a, S, W, D>) {
+    fn peer<R: Wait + std::rt::Clock>(&self, rt: &R, guest: Guest<'a, S, W, D>) {
         let Guest { caller, doors } = guest;
         let Caller { mut source, writer } = caller;
         if !doors.greet(self.hub.config(), &mut source) {
@@ -423,18 +423,23 @@ fn admins<R: Wait, K, U: Workers<K>>(rt: &R, workers: &U, counts: &Counts) {
 }
 
 // One connection of a peer.
-fn peer<R: Wait, K, U: Workers<K>>(rt: &R, workers: &U, counts: &Counts, caller: K) {
+fn peer<R: Wait + std::rt::Clock, K, U: Workers<K>>(
+    rt: &R,
+    workers: &U,
+    counts: &Counts,
+    caller: K,
+) {
     workers.peer(rt, caller);
     counts.end();
 }
 
 // Runs the timer in a thread of its own, as many admins as may be served at once, and each
 // connection of a peer.
-fn open<R: Threads + Wait + Copy + Send + Sync, K: Send + Drop, U: Workers<K> + Sync>(
-    rt: &R,
-    workers: &U,
-    counts: &Counts,
-) {
+fn open<
+    R: Threads + Wait + std::rt::Clock + Copy + Send + Sync,
+    K: Send + Drop,
+    U: Workers<K> + Sync,
+>(rt: &R, workers: &U, counts: &Counts) {
     thread::scope(thread::scope_env(), rt, |scope| {
         if scope.spawn(move || workers.timer(rt)).is_err() {
             counts.give_up();
@@ -477,7 +482,7 @@ fn open<R: Threads + Wait + Copy + Send + Sync, K: Send + Drop, U: Workers<K> + 
 pub fn serve_all<
     J: Naming + Send + Sync,
     H: Wait + Drop + Send,
-    R: Threads + Wait + Copy + Send + Sync,
+    R: Threads + Wait + std::rt::Clock + Copy + Send + Sync,
     S: Source + Send + Drop,
     W: Write + Send + Drop,
     C: Clock + Sync,

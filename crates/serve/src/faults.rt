@@ -13,10 +13,12 @@ pub struct WriteFailed;
 /// Why a batch wasn't posted, or its answer wasn't written whole.
 #[derive(Drop)]
 pub enum AnswerFault {
-    /// A write failed.
+    /// A write of the answer failed.
     Write,
     /// The post was refused.
     Post(PostFault),
+    /// A write of a heartbeat failed, while the batch waited for its list to be shown.
+    Beat,
 }
 
 impl From<PostFault> for AnswerFault {
@@ -70,6 +72,7 @@ impl From<AnswerFault> for TurnFault {
         match unanswered {
             AnswerFault::Write => TurnFault::Write,
             AnswerFault::Post(refusal) => TurnFault::Post(refusal),
+            AnswerFault::Beat => TurnFault::Write,
         }
     }
 }

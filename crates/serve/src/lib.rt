@@ -25,6 +25,7 @@ mod served;
 mod session;
 mod source;
 mod timer;
+mod waiting;
 mod worker;
 mod writing;
 

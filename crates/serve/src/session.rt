@@ -20,7 +20,14 @@ use hub::{Naming, Pass};
 use std::io::Write;
 use std::sync::Wait;
 
-impl<'a, J: Naming, H: Wait + Drop, R: Wait, C: Clock, G: Gate> Context<'a, J, H, R, C, G> {
+impl<'a, J: Naming, H: Wait + Drop, R: Wait + std::rt::Clock, C: Clock, G: Gate> Context<
+    'a,
+    J,
+    H,
+    R,
+    C,
+    G,
+> {
     // Gives the pass of a session that has one back to the hub.
     fn leave(&self, desk: Option<Desk>) -> Served
         requires of { IsDeskOf self.now.hub.now desk }

@@ -17,9 +17,10 @@ use crate::gate::{Gate, Gone, News, Place};
 use crate::hello::Hello;
 use crate::served::Cause;
 use crate::source::{Came, Source, buffer};
+use crate::waiting::{HEARTBEAT, Pulse};
 use crate::writing::{front, send};
 use agg_types::What;
-use hub::{Naming, Pass, PostFault};
+use hub::{Naming, Pass};
 use session_core::{Batch, Idle, Session, SessionCause, SessionFault};
 use std::alloc::Global;
 use std::io::Write;
@@ -29,9 +30,6 @@ use std::sync::Wait;
 /// How many reads a worker makes at most.
 pub const MOST_READS: u64 = 1 << 40;
 
-/// The heartbeat message of the peers protocol.
-const HEARTBEAT: [u8; 2] = [0, 4];
-
 /// A session at work.
 #[derive(Drop)]
 pub struct Worker {
@@ -40,6 +38,7 @@ pub struct Worker {
     hello: Hello,
     peer: Option<usize>,
     told: u64,
+    pulse: Pulse,
 }
 
 impl Worker {
@@ -63,6 +62,7 @@ impl Worker {
             hello: Hello::new(),
             peer: None,
             told: 0,
+            pulse: Pulse::new(),
         }
     }
 
@@ -140,6 +140,7 @@ impl Worker {
             Idle::Nothing => Ok(()),
             Idle::Beat => {
                 send(writer, &HEARTBEAT)?;
+                self.pulse.wrote(HEARTBEAT.len(), now);
                 Ok(())
             }
             Idle::Ended => Err(TurnFault::Session(SessionCause::TimedOut)),
@@ -147,20 +148,34 @@ impl Worker {
     }
 }
 
-impl<'a, J: Naming, H: Wait + Drop, R: Wait, C: Clock, G: Gate> Context<'a, J, H, R, C, G> {
+impl<'a, J: Naming, H: Wait + Drop, R: Wait + std::rt::Clock, C: Clock, G: Gate> Context<
+    'a,
+    J,
+    H,
+    R,
+    C,
+    G,
+> {
     ghost use Rattle.serve.specs.Traffic.{Traffic, so_far};
     ghost use Rattle.serve.specs.Turns.{DeskTells, IsDeskOf, Turn, seat_at};
-    ghost use Rattle.serve.specs.Working.{EndsTo, IsAtWork, PostsTo, SettlesTo, Takes};
-    ghost use Rattle.serve.specs.Working.{Works, WorksOn};
+    ghost use Rattle.serve.specs.Waiting.{BeatsThen, PostsTo};
+    ghost use Rattle.serve.specs.Working.{EndsTo, IsAtWork, SettlesTo, Takes, Works, WorksOn};
 
-    // Posts facts, if there are any and the session has a seat.
-    fn post_facts(&self, worker: &mut Worker, facts: Vec<What>) -> Result<(), PostFault>
+    // Posts facts, if there are any and the session has a seat, and waits until they are shown.
+    fn post_facts<W: Write>(
+        &self,
+        worker: &mut Worker,
+        writer: &mut W,
+        facts: Vec<What>,
+    ) -> Result<(), AnswerFault>
         requires of { IsDeskOf self.now.hub.now worker.old.desk }
         requires fits { All (MayPost self.now.hub.now.config) facts.items }
         ensures session { worker.new.session ≡ worker.old.session }
         ensures seat { seat_at worker.new.desk ≡ seat_at worker.old.desk }
-        ensures told { (whats : List What) → DeskTells self.now.hub.now worker.old.desk whats 0
-            → PostsTo self.now.hub.now worker.new.desk whats facts.items result }
+        ensures told { BeatsThen (W.contents writer.old) (λ written. (whats : List What)
+            → DeskTells self.now.hub.now worker.old.desk whats 0
+            → PostsTo self.now.hub.now worker.new.desk whats facts.items
+            (W.contents writer.new) result written) }
     {
         let Some(desk) = &mut worker.desk else {
             return Ok(());
@@ -169,7 +184,9 @@ impl<'a, J: Naming, H: Wait + Drop, R: Wait, C: Clock, G: Gate> Context<'a, J, H
             return Ok(());
         }
         let count = facts.len() as u64;
-        desk.post(self.rt, self.hub, facts)?;
+        let ticket = desk.append(self.rt, self.hub, facts)?;
+        let receipt = self.await_shown(&mut worker.pulse, writer, ticket)?;
+        desk.take_up(receipt);
         worker.told = worker.told.saturating_add(count);
         Ok(())
     }
@@ -185,13 +202,15 @@ impl<'a, J: Naming, H: Wait + Drop, R: Wait, C: Clock, G: Gate> Context<'a, J, H
         requires fits { All (MayPost self.now.hub.now.config) batch.facts }
         ensures session { worker.new.session ≡ worker.old.session }
         ensures seat { seat_at worker.new.desk ≡ seat_at worker.old.desk }
-        ensures told { (whats : List What) → DeskTells self.now.hub.now worker.old.desk whats 0
-            → SettlesTo self.now.hub.now worker.new.desk whats batch (W.contents writer.old)
-            (W.contents writer.new) result }
+        ensures told { BeatsThen (W.contents writer.old) (λ written. (whats : List What)
+            → DeskTells self.now.hub.now worker.old.desk whats 0
+            → SettlesTo self.now.hub.now worker.new.desk whats batch written
+            (W.contents writer.new) result) }
     {
         let (facts, out) = batch.into_parts();
-        self.post_facts(worker, facts.into_vec())?;
+        self.post_facts(worker, writer, facts.into_vec())?;
         send(writer, out.as_slice())?;
+        worker.pulse.wrote(out.len(), self.clock.now());
         Ok(())
     }
 
@@ -207,9 +226,10 @@ impl<'a, J: Naming, H: Wait + Drop, R: Wait, C: Clock, G: Gate> Context<'a, J, H
         requires fits { All (MayPost self.now.hub.now.config) fault.batch.facts }
         ensures session { worker.new.session ≡ worker.old.session }
         ensures seat { seat_at worker.new.desk ≡ seat_at worker.old.desk }
-        ensures ends { (whats : List What) → DeskTells self.now.hub.now worker.old.desk whats 0
+        ensures ends { BeatsThen (W.contents writer.old) (λ written. (whats : List What)
+            → DeskTells self.now.hub.now worker.old.desk whats 0
             → EndsTo self.now.hub.now worker.old.desk worker.new.desk whats fault
-            (W.contents writer.old) (W.contents writer.new) result }
+            written (W.contents writer.new) result) }
     {
         let SessionFault { cause, batch } = fault;
         match cause {

@@ -9,6 +9,7 @@ use serve::serve_all;
 use std::alloc::Global;
 use std::sync::Wait;
 use std::thread::Threads;
+use std::time::Clock;
 
 /// Who goes when. Each caller's last turn is the end of its connection.
 const TURNS: [Who; 15] = [
@@ -68,7 +69,7 @@ fn say_shown(rt: &impl Print, alloc: Global, lens: Option<Lens>) -> Result<()> {
 pub fn row<
     J: Naming + Send + Sync,
     H: Wait + Drop + Send,
-    R: Threads + Wait + Print + Copy + Send + Sync,
+    R: Threads + Wait + Clock + Print + Copy + Send + Sync,
 >(rt: &R, alloc: Global, hub: &Hub<J, H>, course: Course) -> Result<()> {
     let order = Order::new(course);
     let lobby = Lobby::new(rt, alloc, &order);

@@ -34,10 +34,11 @@ use std::alloc::Global;
 use std::marker::Brand;
 use std::sync::Wait;
 use std::thread::Threads;
+use std::time::Clock;
 use test_hub_support::opening;
 
 /// Does a scene over a hub of its own.
-fn stage<J: Naming, R: Print + Wait>(
+fn stage<J: Naming, R: Print + Wait + Clock>(
     rt: &R,
     alloc: Global,
     opening: Opening,
@@ -50,7 +51,7 @@ fn stage<J: Naming, R: Print + Wait>(
 }
 
 /// Serves all over a hub of its own.
-fn stage_all<J: Naming + Send + Sync, R: Print + Threads + Wait + Copy + Send + Sync>(
+fn stage_all<J: Naming + Send + Sync, R: Print + Threads + Wait + Clock + Copy + Send + Sync>(
     rt: &R,
     alloc: Global,
     opening: Opening,

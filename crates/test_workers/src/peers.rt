@@ -12,6 +12,7 @@ use hub::{Hub, Lens, Naming, Pass};
 use serve::{Context, Faulted, Link, Served};
 use std::alloc::Global;
 use std::sync::Wait;
+use std::time::Clock;
 
 /// A connection: what it sends, how many of its reads work, how many looks find its gate open, and
 /// how it takes what it is sent.
@@ -26,7 +27,7 @@ pub struct Case {
 }
 
 /// Serves a session.
-fn serve<J: Naming, H: Wait + Drop, R: Wait>(
+fn serve<J: Naming, H: Wait + Drop, R: Wait + Clock>(
     context: &Context<'_, J, H, R, Watch, Turnstile>,
     link: &mut Link<Script<'_>, Paper>,
     pass: Option<Pass>,
@@ -45,7 +46,7 @@ fn seat_for<J: Naming, H: Wait + Drop, R: Wait>(rt: &R, hub: &Hub<J, H>, case: C
 }
 
 /// Serves a session, and tells what it wrote and how it ended.
-pub fn talk<J: Naming, H: Wait + Drop, R: Wait>(
+pub fn talk<J: Naming, H: Wait + Drop, R: Wait + Clock>(
     rt: &R,
     alloc: Global,
     hub: &Hub<J, H>,
@@ -88,7 +89,7 @@ pub fn say_sum(rt: &impl Print, alloc: Global, lens: Option<Lens>) -> Result<()>
 }
 
 /// Serves a session over a paper that looks.
-pub fn row<J: Naming, H: Wait + Drop, R: Wait + Print>(
+pub fn row<J: Naming, H: Wait + Drop, R: Wait + Clock + Print>(
     rt: &R,
     alloc: Global,
     hub: &Hub<J, H>,
@@ -100,7 +101,7 @@ pub fn row<J: Naming, H: Wait + Drop, R: Wait + Print>(
 }
 
 /// How many of so many sessions had a seat, and left it.
-pub fn leavers<J: Naming, H: Wait + Drop, R: Wait>(
+pub fn leavers<J: Naming, H: Wait + Drop, R: Wait + Clock>(
     rt: &R,
     alloc: Global,
     hub: &Hub<J, H>,

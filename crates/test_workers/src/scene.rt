@@ -8,6 +8,7 @@ use anyhow::Result;
 use hub::{Hub, Naming};
 use std::alloc::Global;
 use std::sync::Wait;
+use std::time::Clock;
 
 /// What is done over a hub.
 #[derive(Clone, Copy)]
@@ -75,7 +76,7 @@ pub fn unseated(title: &'static str, steps: &'static [Step]) -> Case {
     case
 }
 
-fn next<J: Naming, H: Wait + Drop, R: Wait + Print>(
+fn next<J: Naming, H: Wait + Drop, R: Wait + Clock + Print>(
     rt: &R,
     alloc: Global,
     hub: &Hub<J, H>,
@@ -87,7 +88,7 @@ fn next<J: Naming, H: Wait + Drop, R: Wait + Print>(
     peers::say_sum(rt, alloc, hub.lens(rt).ok())
 }
 
-fn admin<J: Naming, H: Wait + Drop, R: Wait + Print>(
+fn admin<J: Naming, H: Wait + Drop, R: Wait + Clock + Print>(
     rt: &R,
     alloc: Global,
     hub: &Hub<J, H>,
@@ -105,7 +106,7 @@ fn say_left(rt: &impl Print, case: Case, count: u64, left: u64) -> Result<()> {
 }
 
 /// Does a scene.
-pub fn play<J: Naming, H: Wait + Drop, R: Wait + Print>(
+pub fn play<J: Naming, H: Wait + Drop, R: Wait + Clock + Print>(
     rt: &R,
     alloc: Global,
     hub: &Hub<J, H>,

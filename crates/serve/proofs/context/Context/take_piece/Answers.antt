@@ -5,7 +5,9 @@ use Rattle.session_core.specs.State.{SessionState}
 use Rattle.session_core.specs.TalkAnswers.{FaultAnswersTalk, ContinuesTalk}
 use Rattle.serve.proofs.Facts.{fact_may_post, fault_may_post}
 use Rattle.serve.proofs.Works.{ended_by, fault_at, seat_kept, settled, stands_at, unsettled}
+use Rattle.serve.specs.Traffic.{so_far}
 use Rattle.serve.specs.Turns.{facts_in, taken_in}
+use Rattle.serve.specs.Working.{Works}
 use Rattle.serve.proofs.context.Context.take_piece.Goals as goal
 
 pub settle-requires-clause-fits : goal.settle-requires-clause-fits
@@ -32,9 +34,12 @@ end_session-requires-clause-fits g c =
 
 pub returns-in_ok-settle-in-Ok-clause-takes : goal.returns-in_ok-settle-in-Ok-clause-takes
 returns-in_ok-settle-in-Ok-clause-takes g c =
-    λ seated start given more gives w.
+    λ seated start given more gives at_first.
     let hub = c.args.self.now.hub.now in
     let new = c.settle.new.worker in
+    let then = c.in_ok-settle-in-Ok.ensures.told in
+    let w : Works hub seated c.args.worker.now start (so_far given then.written) =
+    then.beats hub seated c.args.worker.now start given at_first in
     let stands : ContinuesTalk (setup_of hub.config) seated (taken_in w.turns) c.args.piece.now
     c.in-Ok.batch None c.feed.new.self.stage =
     stands_at c.config.result.now hub.config c.args.worker.now.session.seated seated
@@ -44,10 +49,9 @@ returns-in_ok-settle-in-Ok-clause-takes g c =
     let same : new.session.seated ≡ seated =
     ap (λ (s : SessionState). s.seated) c.settle.ensures.session
     ∙ (ap (λ (s : SessionState). s.seated) c.in-Ok.ensures.exact.2 ∙ w.work.has_seat) in
-    let told = c.in_ok-settle-in-Ok.ensures.told (facts_in (setup_of hub.config) seated w.turns)
-    w.work.told in
+    let told = then.goes_on (facts_in (setup_of hub.config) seated w.turns) w.work.told in
     settled hub seated c.args.worker.now new start given more
-    (g.W.Write.contents c.args.writer.now) (g.W.Write.contents c.settle.new.writer)
+    then.written (g.W.Write.contents c.settle.new.writer)
     c.args.piece.now c.in-Ok.batch gives w
     (subst (λ stage. ContinuesTalk (setup_of hub.config) seated (taken_in w.turns) c.args.piece.now
     c.in-Ok.batch None stage) (sym
@@ -56,9 +60,12 @@ returns-in_ok-settle-in-Ok-clause-takes g c =
 
 pub returns-in_err-settle-in-Ok-clause-takes : goal.returns-in_err-settle-in-Ok-clause-takes
 returns-in_err-settle-in-Ok-clause-takes g c =
-    λ seated start given more gives w.
+    λ seated start given more gives at_first.
     let hub = c.args.self.now.hub.now in
     let new = c.settle.new.worker in
+    let then = c.in_err-settle-in-Ok.ensures.told in
+    let w : Works hub seated c.args.worker.now start (so_far given then.written) =
+    then.beats hub seated c.args.worker.now start given at_first in
     let stands : ContinuesTalk (setup_of hub.config) seated (taken_in w.turns) c.args.piece.now
     c.in-Ok.batch None c.feed.new.self.stage =
     stands_at c.config.result.now hub.config c.args.worker.now.session.seated seated
@@ -67,19 +74,22 @@ returns-in_err-settle-in-Ok-clause-takes g c =
     c.config.ensures w.work.has_seat w.work.stands c.in-Ok.ensures.talk in
     let p = err_from_is_err_and c.from_residual.result c.from_residual.ensures.1 in
     rw (p.1, p.2) (unsettled (Unit {0}) hub seated c.args.worker.now new start given more
-    (g.W.Write.contents c.args.writer.now) (g.W.Write.contents c.settle.new.writer)
+    then.written (g.W.Write.contents c.settle.new.writer)
     c.args.piece.now c.in-Ok.batch None _ gives w
     (subst (λ stage. ContinuesTalk (setup_of hub.config) seated (taken_in w.turns) c.args.piece.now
     c.in-Ok.batch None stage) (sym
     (ap (λ (s : SessionState). s.stage) c.settle.ensures.session)) stands)
-    (c.in_err-settle-in-Ok.ensures.told (facts_in (setup_of hub.config) seated w.turns) w.work.told))
+    (then.goes_on (facts_in (setup_of hub.config) seated w.turns) w.work.told))
 
 pub returns-in_ok-cause-in-Err-clause-takes : goal.returns-in_ok-cause-in-Err-clause-takes
 returns-in_ok-cause-in-Err-clause-takes g c =
-    λ seated start given more gives w.
+    λ seated start given more gives at_first.
     let hub = c.args.self.now.hub.now in
     let new = c.end_session.new.worker in
     let fault = c.in-Err.fault in
+    let then = c.in_ok-cause-in-Err.ensures.ends in
+    let w : Works hub seated c.args.worker.now start (so_far given then.written) =
+    then.beats hub seated c.args.worker.now start given at_first in
     let answers : FaultAnswersTalk fault.cause fault.batch (setup_of hub.config) seated
     (taken_in w.turns) c.args.piece.now c.feed.new.self.stage =
     fault_at c.config.result.now hub.config c.args.worker.now.session.seated seated
@@ -96,19 +106,22 @@ returns-in_ok-cause-in-Err-clause-takes g c =
     ap (λ (s : SessionState). s.seated) c.end_session.ensures.session
     ∙ (kept ∙ w.work.has_seat) in
     ended_by hub seated c.args.worker.now new start given more
-    (g.W.Write.contents c.args.writer.now) (g.W.Write.contents c.end_session.new.writer)
+    then.written (g.W.Write.contents c.end_session.new.writer)
     c.args.piece.now fault (Ok _) gives w same
     (subst (λ stage. FaultAnswersTalk fault.cause fault.batch (setup_of hub.config) seated
     (taken_in w.turns) c.args.piece.now stage)
     (sym (ap (λ (s : SessionState). s.stage) c.end_session.ensures.session)) answers)
-    (c.in_ok-cause-in-Err.ensures.ends (facts_in (setup_of hub.config) seated w.turns) w.work.told)
+    (then.goes_on (facts_in (setup_of hub.config) seated w.turns) w.work.told)
 
 pub returns-in_err-cause-in-Err-clause-takes : goal.returns-in_err-cause-in-Err-clause-takes
 returns-in_err-cause-in-Err-clause-takes g c =
-    λ seated start given more gives w.
+    λ seated start given more gives at_first.
     let hub = c.args.self.now.hub.now in
     let new = c.end_session.new.worker in
     let fault = c.in-Err.fault in
+    let then = c.in_err-cause-in-Err.ensures.ends in
+    let w : Works hub seated c.args.worker.now start (so_far given then.written) =
+    then.beats hub seated c.args.worker.now start given at_first in
     let answers : FaultAnswersTalk fault.cause fault.batch (setup_of hub.config) seated
     (taken_in w.turns) c.args.piece.now c.feed.new.self.stage =
     fault_at c.config.result.now hub.config c.args.worker.now.session.seated seated
@@ -127,9 +140,9 @@ returns-in_err-cause-in-Err-clause-takes g c =
     let p = err_from_is_err_and c.from_residual-in_err-cause-in-Err.result
     c.from_residual-in_err-cause-in-Err.ensures.1 in
     rw (p.1, p.2) (ended_by hub seated c.args.worker.now new start given more
-    (g.W.Write.contents c.args.writer.now) (g.W.Write.contents c.end_session.new.writer)
+    then.written (g.W.Write.contents c.end_session.new.writer)
     c.args.piece.now fault (Err _) gives w same
     (subst (λ stage. FaultAnswersTalk fault.cause fault.batch (setup_of hub.config) seated
     (taken_in w.turns) c.args.piece.now stage)
     (sym (ap (λ (s : SessionState). s.stage) c.end_session.ensures.session)) answers)
-    (c.in_err-cause-in-Err.ensures.ends (facts_in (setup_of hub.config) seated w.turns) w.work.told))
+    (then.goes_on (facts_in (setup_of hub.config) seated w.turns) w.work.told))

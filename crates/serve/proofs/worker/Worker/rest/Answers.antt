@@ -16,6 +16,7 @@ returns-in_ok-send-in-Beat-clause-takes g c =
       hello = c.args.self.now.hello;
       peer = c.args.self.now.peer;
       told = c.args.self.now.told;
+      pulse = c.wrote.new.self;
     } in
     let after = c.in-Beat.ensures.after
     ∙ ap (λ idle. after_idle c.args.self.now.session c.args.now idle)
@@ -35,6 +36,7 @@ returns-in_err-send-in-Beat-clause-takes g c =
       hello = c.args.self.now.hello;
       peer = c.args.self.now.peer;
       told = c.args.self.now.told;
+      pulse = c.args.self.now.pulse;
     } in
     let p = err_from_is_err_and c.from_residual.result c.from_residual.ensures.1 in
     rw (p.1, p.2) (unbeaten hub seated old new start more before

@@ -1,0 +1,57 @@
+-- Heartbeats of a session that waits.
+use Rattle.std.proofs.Common.{◌≡◌, ℕ, List, [], ◌∷◌, ◌++◌, length, ◌==◌, true, Option, None, Ok}
+use Rattle.std.proofs.Common.{refl, sym, subst, append-nil, arith}
+use Rattle.std.proofs.lemmas.Bool.Decides.{nat_tests}
+use Rattle.std.specs.Io.KnownBytes.{Appends}
+use Rattle.agg_types.specs.declared.event.What.{What}
+use Rattle.session_core.specs.declared.batch.SessionFault.{SessionFault}
+use Rattle.session_core.specs.declared.cause.SessionCause.{SessionCause}
+use Rattle.session_core.specs.declared.cause.SessionCause.TheVariants as causes
+use Rattle.hub.specs.History.{Beginning}
+use Rattle.serve.proofs.Works.{beaten}
+use Rattle.serve.specs.declared.desk.Desk.{Desk}
+use Rattle.serve.specs.Told.{HasTold, IsWaiting}
+use Rattle.serve.specs.Turns.{DeskTells, heartbeat}
+use Rattle.serve.specs.Waiting.{Beats}
+use Rattle.serve.specs.Working.{EndsFor, EndsTo}
+
+pub beats_none : (a : Option (List ℕ)) → Beats a a
+beats_none a = λ hub seated worker start given w. w
+
+pub beats_one : (a b : Option (List ℕ)) → Appends a b heartbeat → Beats a b
+beats_one a b sends =
+    λ hub seated worker start given w.
+    beaten hub seated worker worker start given a b refl refl refl w sends
+
+nothing_in : (whats : List What) → true ≡ (length whats == 0) → whats ≡ []
+nothing_in [] is = refl
+nothing_in (what ∷ whats) is = absurd (grind (arith, nat_tests))
+
+-- nothing was to be posted
+pub posts_empty : (hub : Beginning) (desk : Desk) (whats batch : List What)
+    → true ≡ (length batch == 0) → HasTold hub desk whats 0 → HasTold hub desk (whats ++ batch) 0
+posts_empty hub desk whats batch none told =
+    subst (λ (more : List What). HasTold hub desk (whats ++ more) 0) (sym (nothing_in batch none))
+    (subst (λ (all : List What). HasTold hub desk all 0) (sym (append-nil whats)) told)
+
+-- out of memory, nothing is posted nor written
+pub ends_for_memory : (hub : Beginning) (desk : Option Desk) (whats : List What)
+    (fault : SessionFault) (written : Option (List ℕ)) → fault.cause ≡ causes.NoMemory
+    → EndsTo hub desk desk whats fault written written (Ok causes.NoMemory)
+ends_for_memory hub desk whats fault written is =
+    subst (λ (cause : SessionCause). EndsFor cause hub desk desk whats fault written written
+    (Ok causes.NoMemory)) (sym is) (record { is = refl; desk = refl; kept = refl })
+
+-- a session without a seat posts nothing
+pub posts_nowhere : (hub : Beginning) (desk : Option Desk) (whats batch : List What)
+    (written : Option (List ℕ)) → desk ≡ None
+    → DeskTells hub desk (whats ++ batch) 0 × (written ≡ written)
+posts_nowhere hub desk whats batch written none =
+    (subst (λ (d : Option Desk). DeskTells hub d (whats ++ batch) 0) (sym none) tt, refl)
+
+-- a receipt of the ticket's list is waited for as the ticket was
+pub waits_for : (hub : Beginning) (desk : Desk) (whats batch : List What)
+    (ticket receipt : Beginning) → receipt ≡ ticket → IsWaiting hub desk whats batch ticket
+    → IsWaiting hub desk whats batch receipt
+waits_for hub desk whats batch ticket receipt same waits =
+    subst (IsWaiting hub desk whats batch) (sym same) waits
