@@ -367,7 +367,8 @@ def slow_admins(report, collector):
             time.sleep(0.5)
         for admin in held:
             admin.close()
-        return "" if took and 59 < took < 65 else took
+        # an answer that comes late costs a round 5 s
+        return "" if took and 59 < took < 67 else took
     report.check("of four busy admins one makes room for a fifth after 60 s", 1, busy)
 
 
