@@ -6,8 +6,8 @@ ghost use Rattle.command_line.specs.Lines.{TakesImport, TakesJoined, TakesNetwor
 ghost use Rattle.command_line.specs.Lines.{TakesReplay};
 
 /// `replay`, `import`, and `listen` with `--peers=` and `--admin=` in either order, are taken for
-/// what they say, whatever the program is called and the two texts are. So are each `--from=` beside
-/// them, `check`, and `--config=`.
+/// what they say, whatever the program is called and the two texts are. So are each `--from=`
+/// beside them, `check`, and `--config=`.
 pub fn shown_lines()
     ensures replay { TakesReplay }
     ensures import { TakesImport }
