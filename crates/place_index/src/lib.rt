@@ -24,7 +24,8 @@
 //! Windows are made one by one as places come, each out of one other whose words it parts. Places
 //! and windows lie in segments of 1,024, which never move; the memory of a segment is taken at
 //! once, and written only as items come. So an insert moves eight words, and the list of the
-//! segments' addresses where that grows: at most 48 KB, up to four million places.
+//! segments' addresses where that grows: at most 48 KB, up to four million places. `Segments` is
+//! that list of items by itself.
 //!
 //! No clause says how long a call takes; that keys stand in windows at all, that windows grow, and
 //! that words and entries which name nothing any more are gone (a `remove` that leaves them would
@@ -42,3 +43,4 @@ mod windows;
 
 pub use index::PlaceIndex;
 pub use key::IndexKey;
+pub use segments::Segments;

@@ -89,7 +89,7 @@ impl<T: Drop> Segment<T> {
 ///
 /// No item ever moves: a further one moves at most the addresses of the segments.
 #[derive(Drop)]
-pub(crate) struct Segments<T> {
+pub struct Segments<T> {
     segments: Vec<Segment<T>>,
     // Segments without items, which come next.
     blank: Vec<Segment<T>>,
@@ -116,7 +116,7 @@ impl<T: Drop> Segments<T> {
     ghost use Rattle.place_index.specs.Lending.{lends_joined};
 
     /// No items. Takes no memory.
-    pub(crate) fn new(alloc: Global) -> Segments<T>
+    pub fn new(alloc: Global) -> Segments<T>
         ensures items { result.items ≡ [] }
         ensures room { result.room ≡ 0 }
     {
@@ -130,7 +130,7 @@ impl<T: Drop> Segments<T> {
 
     /// How many items there are.
     #[inline]
-    pub(crate) fn len(&self) -> usize
+    pub fn len(&self) -> usize
         ensures { result ≡ length self.now.items }
     {
         self.len
@@ -143,7 +143,7 @@ impl<T: Drop> Segments<T> {
 
     /// The item of a number.
     #[inline]
-    pub(crate) fn get(&self, at: usize) -> Option<&T>
+    pub fn get(&self, at: usize) -> Option<&T>
         ensures { option_copied result ≡ slice_get self.now.items at }
     {
         get_in(&self.segments, at)
@@ -161,7 +161,7 @@ impl<T: Drop> Segments<T> {
     }
 
     /// Exchanges the item of a number for this one.
-    pub(crate) fn replace(&mut self, at: usize, item: T) -> Option<T>
+    pub fn replace(&mut self, at: usize, item: T) -> Option<T>
         ensures value { result ≡ slice_get self.old.items at }
         ensures after { self.new.items ≡ slice_set self.old.items at item }
         ensures room { self.new.room ≡ self.old.room }
@@ -170,7 +170,7 @@ impl<T: Drop> Segments<T> {
     }
 
     /// Takes the memory of so many further items, or of none.
-    pub(crate) fn reserve(&mut self, items: usize) -> Result<(), NoMemory>
+    pub fn reserve(&mut self, items: usize) -> Result<(), NoMemory>
         ensures items { self.new.items ≡ self.old.items }
         ensures ok { OnOk result (items ≤ self.new.room) }
         ensures room { self.old.room ≤ self.new.room }
@@ -189,7 +189,7 @@ impl<T: Drop> Segments<T> {
     }
 
     /// Adds an item behind the others, in memory that was taken for it.
-    pub(crate) fn push_reserved(&mut self, item: T)
+    pub fn push_reserved(&mut self, item: T)
         requires { 0 < self.old.room }
         ensures items { self.new.items ≡ self.old.items ++ item ∷ [] }
         ensures room { self.new.room + 1 ≡ self.old.room }

@@ -1,0 +1,4 @@
+pub mod Laws
+mod Linked
+mod Links
+mod Raster

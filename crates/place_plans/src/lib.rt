@@ -1,0 +1,29 @@
+//! Planned moments of numbered places: for each place one, or none.
+//!
+//! `peer_rows` plans with it when the rows of a place are looked at, since one may have ended.
+//! Contracts see the list of the places, each with its planned moment or none; a place beyond the
+//! last has none. `plan` gives a place a moment in the stead of the one before, `cancel` takes it,
+//! and `take_due` takes one that has come, if there is any. All other places keep theirs, so no
+//! plan is left behind. `count` is the number of places that have one. `NoMemory` comes where an
+//! allocation failed, or where a place or a moment has too many for a `u32`, and changes nothing.
+//!
+//! Places lie in buckets, one for each planned moment, in no order. A place knows its moment and
+//! where it stands in that bucket, so it leaves it without a search among its fellows: the last one
+//! there takes its stand. The buckets lie in an ordered map by moment. An empty one is given back.
+//!
+//! That map stays small where moments are rounded: `look_at` gives a moment somewhat before an end,
+//! on a raster that is the finer the nearer the end is. Whoever looks then, and finds that the end
+//! hasn't come, plans anew. An end that is t ms away is reached by about log64(t) looks.
+//!
+//! No clause says how long a call takes, that an empty bucket is given back, or how much memory is
+//! used: 12 bytes a place, and 4 to 8 a plan.
+#![tactic(auto)]
+
+mod bucket;
+mod buckets;
+mod link;
+mod plans;
+mod rounding;
+
+pub use plans::PlacePlans;
+pub use rounding::look_at;
