@@ -20,7 +20,6 @@ pub fn row(alloc: Global, id: u32, now: u64) -> Result<Row, NoMemory> {
         cells: RowCells::copy(alloc, &held)?,
         arrived: now,
         ends: Some(now.saturating_add(30_000)),
-        planned: now.saturating_add(30_000),
     })
 }
 

@@ -12,3 +12,5 @@ pub mod Kept
 pub mod Shown
 pub mod Placing
 pub mod Walk
+pub mod InTime
+pub mod Living

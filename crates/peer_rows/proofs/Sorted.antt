@@ -1,6 +1,6 @@
 -- Entries in the order of their keys, and one more among them.
 use Rattle.std.proofs.Common.{◌≡◌, Bool, true, false, cond, List, [], ◌∷◌, ◌++◌, refl, ◌∙◌, ap}
-use Rattle.std.specs.Prelude.{Some, None}
+use Rattle.std.specs.Prelude.{Some, None, filter}
 use Rattle.std.specs.declared.cmp.Ordering.{Ordering}
 use Rattle.std.specs.declared.cmp.Ordering.TheVariants.{Less, Equal, Greater}
 use Rattle.std.specs.Ordering.{match_ordering, ordering_reverse, is_eq}
@@ -133,6 +133,28 @@ module _ {K X : Type 0} (C : K → K → Ordering) where
           → AllAbove k (cond b es (e ∷ remove_entry test es))
       by more true = f.1
       by more false = (f.0, more)
+
+  AllAbove-filter : (k : K) (keep : K × X → Bool) (es : List (K × X)) → AllAbove k es
+      → AllAbove k (filter keep es)
+  AllAbove-filter k keep [] f = tt
+  AllAbove-filter k keep (e ∷ es) f = by (AllAbove-filter k keep es f.1) (keep e)
+    where
+      by : AllAbove k (filter keep es) → (b : Bool)
+          → AllAbove k (cond b (e ∷ filter keep es) (filter keep es))
+      by more true = (f.0, more)
+      by more false = more
+
+  -- so do some entries of all
+  pub sorted-filter : (keep : K × X → Bool) (es : List (K × X))
+      → IsStrictlySortedBy C (keys_of es) → IsStrictlySortedBy C (keys_of (filter keep es))
+  unfolding IsStrictlySortedBy
+  sorted-filter keep [] s = s
+  sorted-filter keep (e ∷ es) s = by (sorted-filter keep es s.1) (keep e)
+    where
+      by : IsStrictlySortedBy C (keys_of (filter keep es)) → (b : Bool)
+          → IsStrictlySortedBy C (keys_of (cond b (e ∷ filter keep es) (filter keep es)))
+      by more true = (AllAbove-filter e.0 keep es s.0, more)
+      by more false = more
 
   -- one entry less keeps the order
   pub sorted-remove_entry : (test : K → Bool) (es : List (K × X))

@@ -9,3 +9,5 @@ pub mod Table
 pub mod Rows
 pub mod Places
 pub mod Walk
+pub mod Ends
+pub mod Changed

@@ -6,6 +6,7 @@ use Rattle.std.specs.List.{AllByRecursion, dedup}
 use Rattle.std.specs.List.Sorted.{IsStrictlySortedBy}
 use Rattle.agg_types.specs.RowKey.{row_key_cmp}
 use Rattle.agg_types.specs.declared.row_key.RowKey.{RowKey}
+use Rattle.peer_rows.specs.Ends.{lives_at}
 use Rattle.peer_rows.specs.Spread.{spread}
 use Rattle.peer_rows.specs.Table.{Spot, TableRows, same_key}
 use Rattle.peer_rows.specs.declared.row.Row.{Row}
@@ -88,3 +89,7 @@ placed tables = spread place (numbered 0 tables)
 pub record AreTables (peers : ℕ) (tables : List TableRows) : Type 0 where
   pub agree : AllByRecursion (λ t. t.peers ≡ peers) tables
   pub ordered : AreInOrder (placed tables)
+
+-- the rows that live at a moment
+abbrev pub living : RowMap → ℕ → RowMap
+living rows t = record rows { entries = filter (λ e. lives_at t e.1) rows.entries }

@@ -5,7 +5,7 @@ ghost use Rattle.peer_rows.specs.Listing.{key_and_rows};
 ghost use Rattle.peer_rows.specs.Places.{by_place};
 
 use crate::OfKey;
-use crate::keyed::Index;
+use crate::index::Index;
 use agg_types::Key;
 use std::marker::Model;
 

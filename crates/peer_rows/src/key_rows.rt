@@ -1,10 +1,12 @@
 ghost use Rattle.std.specs.Prelude.{◌≡◌, ◌≢◌, ◌-◌, List, [], ◌∷◌, length, slice_get};
 ghost use Rattle.std.specs.Prelude.{◌==◌, IsTrue, ◌↔◌, IsOk, IsSome, IfOk, OnOk, OnErr};
-ghost use Rattle.std.specs.Prelude.{MatchBool, MatchResult, Some, is_some};
+ghost use Rattle.std.specs.Prelude.{MatchBool, MatchResult, Some, is_some, IfSome, IfNone, ℕ, true};
 ghost use Rattle.std.specs.Option.{option_copied, option_map};
 ghost use Rattle.std.specs.Ordering.{nat_cmp};
 ghost use Rattle.std.specs.Map.{keys_of, lookup, remove_entry};
 ghost use Rattle.std.specs.BTreeMap.{insert_entry, is_at};
+ghost use Rattle.std.specs.List.Sorted.{IsStrictlySortedBy};
+ghost use Rattle.peer_rows.specs.Ends.{AreLive, HasEnded, IsLeast, is_behind, sooner};
 ghost use Rattle.peer_rows.specs.Peers.{IsFound, IsGap, IsOne, ArePeers, held_by};
 
 use crate::{OfKey, Row};
@@ -35,6 +37,8 @@ enum Peers {
 impl Model for KeyRows {
     ghost use Rattle.std.specs.Prelude.{List, ℕ};
     ghost use Rattle.peer_rows.specs.declared.row.Row.{Row};
+    ghost use Rattle.std.specs.List.Sorted.{IsStrictlySortedBy};
+    ghost use Rattle.peer_rows.specs.Ends.{AreLive, HasEnded, IsLeast, is_behind, sooner};
     ghost use Rattle.peer_rows.specs.Peers.{held_by, ArePeers};
 
     ghost Value = { List (ℕ × Row) };
@@ -142,6 +146,22 @@ impl KeyRows {
                 Some(row)
             }
         }
+    }
+
+    /// When the first of the rows ends, if one does.
+    pub(crate) fn least_end(&self) -> Option<u64>
+        ensures least { IsLeast self.now result }
+        ensures behind { (t : ℕ) → AreLive t self.now → is_behind t result ≡ true }
+    {
+        least_end(self.as_slice())
+    }
+
+    /// A peer whose row has ended at a moment.
+    pub(crate) fn first_ended(&self, t: u64) -> Option<usize>
+        ensures some { IfSome result (HasEnded t self.now) }
+        ensures none { IfNone result (AreLive t self.now) }
+    {
+        first_ended(self.as_slice(), t)
     }
 
     /// How many rows there are.
@@ -258,4 +278,44 @@ fn find(rows: &[PeerRow], peer: usize) -> Result<usize, usize>
         }
     }
     Err(rows.len())
+}
+
+// When the first of some rows ends, if one does.
+fn least_end(rows: &[PeerRow]) -> Option<u64>
+    ensures least { IsLeast rows.now result }
+    ensures behind { (t : ℕ) → AreLive t rows.now → is_behind t result ≡ true }
+{
+    match rows {
+        [] => None,
+        [first, others @ ..] => sooner(first.1.end(), least_end(others)),
+    }
+}
+
+// The sooner of two moments, where there are both, and else the one that there is.
+fn sooner(a: Option<u64>, b: Option<u64>) -> Option<u64>
+    ensures { result ≡ sooner a b }
+{
+    match (a, b) {
+        (Some(first), Some(other)) => Some(first.min(other)),
+        (Some(first), None) => Some(first),
+        (None, other) => other,
+    }
+}
+
+// The first peer whose row has ended at a moment.
+fn first_ended(rows: &[PeerRow], t: u64) -> Option<usize>
+    ensures some { IsStrictlySortedBy nat_cmp (keys_of rows.now)
+        → IfSome result (HasEnded t rows.now) }
+    ensures none { IfNone result (AreLive t rows.now) }
+{
+    match rows {
+        [] => None,
+        [first, others @ ..] => {
+            if first.1.is_live(t) {
+                first_ended(others, t)
+            } else {
+                Some(first.0)
+            }
+        }
+    }
 }

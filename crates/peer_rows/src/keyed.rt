@@ -2,7 +2,7 @@
 //! each key lie, and keeps no order.
 ghost use Rattle.std.specs.Prelude.{◌≡◌, ◌^◌, ◌<◌, ◌↔◌, List, [], ◌∷◌, Some, None, length, IsOk};
 ghost use Rattle.std.specs.Prelude.{IsSome, IfSome, IfNone, IfOk, OnOk, OnErr, IsTrue, MatchBool};
-ghost use Rattle.std.specs.Prelude.{MatchOption, is_some, slice_set};
+ghost use Rattle.std.specs.Prelude.{MatchOption, is_some, slice_set, filter};
 ghost use Rattle.std.specs.Option.{option_copied};
 ghost use Rattle.std.specs.Ordering.{nat_cmp};
 ghost use Rattle.std.specs.Cmp.Lexicographic.{slice_cmp};
@@ -10,32 +10,34 @@ ghost use Rattle.std.specs.Map.{keys_of, lookup, remove_entry};
 ghost use Rattle.std.specs.BTreeMap.{insert_entry, is_at};
 ghost use Rattle.std.specs.List.Sorted.{IsStrictlySortedBy};
 ghost use Rattle.place_index.specs.Places.{item_at, key_at, value_at, AreDistinct, IsAbsent};
+ghost use Rattle.peer_rows.specs.Ends.{lives_at};
 ghost use Rattle.peer_rows.specs.Places.{in_order};
+ghost use Rattle.peer_rows.specs.Table.{IsKept};
 ghost use Rattle.peer_rows.specs.Walk.{AreKeysOf};
 
+use crate::ending::Gone;
+use crate::index::Index;
 use crate::key_rows::KeyRows;
 use crate::listing::sorted;
 use crate::{ByKey, EachKey, Row, Spot};
 use agg_types::{Key, NoMemory};
-use place_index::PlaceIndex;
 use std::alloc::Global;
 use std::marker::Model;
 use std::mem;
 
-/// The places of a table's keys with their rows.
-pub(crate) type Index = PlaceIndex<Key, KeyRows>;
-
 /// The rows of a table, by key. Contracts see the list of the keys in order, with the rows of each.
 #[derive(Drop)]
 pub(crate) struct Keyed {
-    index: PlaceIndex<Key, KeyRows>,
+    index: Index,
     alloc: Global,
 }
 
 impl Model for Keyed {
     ghost use Rattle.std.specs.Prelude.{List, ℕ};
     ghost use Rattle.peer_rows.specs.declared.row.Row.{Row};
+    ghost use Rattle.peer_rows.specs.Ends.{lives_at};
     ghost use Rattle.peer_rows.specs.Places.{in_order};
+    ghost use Rattle.peer_rows.specs.Table.{IsKept};
 
     ghost Value = { List (List ℕ × List (ℕ × Row)) };
 
@@ -50,7 +52,7 @@ impl Keyed {
         ensures { result ≡ [] }
     {
         Keyed {
-            index: PlaceIndex::new(alloc),
+            index: Index::new(alloc),
             alloc,
         }
     }
@@ -111,8 +113,7 @@ impl Keyed {
             insert_new(&mut self.index, self.alloc, peer, key, &mut row)?;
             return Ok(None);
         };
-        let rows = self.index.value_mut(at);
-        rows.put(peer, row)
+        self.index.put(at, peer, row)
     }
 
     /// Exchanges the row of a peer and key for this one, if there is one.
@@ -137,8 +138,7 @@ impl Keyed {
         let Some(at) = find(&self.index, hint, key) else {
             return false;
         };
-        let rows = self.index.value_mut(at);
-        rows.exchange(peer, row)
+        self.index.exchange(at, peer, row)
     }
 
     /// Puts the first row of a key, which is left blank then. Where the key has rows, nothing
@@ -180,8 +180,7 @@ impl Keyed {
             let rows = taken(&mut self.index, at);
             rows.into_last()
         } else {
-            let rows = self.index.value_mut(at);
-            rows.take(peer)
+            self.index.take(at, peer)
         }
     }
 
@@ -194,6 +193,23 @@ impl Keyed {
     {
         let at = find(&self.index, hint, key)?;
         Some(taken(&mut self.index, at))
+    }
+
+    /// Takes the rows out that have ended at a moment, and counts them down at their peers. The
+    /// keys that have none left are told, as far as there is memory for them.
+    pub(crate) fn end_rows(
+        &mut self,
+        counts: &mut Vec<usize>,
+        t: u64,
+        table: usize,
+        gone: &mut Gone,
+    )
+        requires { IsKept self.old counts.old.items }
+        ensures kept { IsKept self.new counts.new.items }
+        ensures peers { length counts.new.items ≡ length counts.old.items }
+        ensures rows { rows_in self.new ≡ filter (λ e. lives_at t e.1) (rows_in self.old) }
+    {
+        self.index.end_rows(counts, t, table, gone);
     }
 
     /// Each key once with its rows, in no order.
@@ -275,8 +291,9 @@ fn insert_new(
 {
     let own = key.duplicate(alloc)?;
     index.reserve(1)?;
+    let now = row.arrived;
     let first = mem::replace(row, Row::blank(alloc));
-    let _at = index.insert(own, KeyRows::new(alloc, peer, first))?;
+    let _at = index.insert(own, KeyRows::new(alloc, peer, first), now)?;
     Ok(())
 }
 

@@ -11,14 +11,24 @@
 //! costs, and the hash needs no secret. `by_key` sorts the keys of its table in memory of its own,
 //! which is given back with the listing. `each_key` walks the places as they lie.
 //!
+//! A key's place is looked at before the first of its rows ends (`place_plans`), and `end_rows`
+//! takes out what has ended by a moment: it looks at what is due and no more. A row that is
+//! exchanged for one that ends no earlier leaves the plan as it is. Where memory for a plan is
+//! refused, the row is put all the same, and the next `end_rows` looks at all places. A place of
+//! whose rows none ends has no plan, so none is left behind.
+//!
 //! No clause says how long a call takes: a look-up is at most one search of a table's keys, `count`
-//! and `used` take constant time, and a row that replaces another takes no memory. Nor does one say
-//! anything of a `Spot` but that no answer depends on it.
+//! and `used` take constant time, and a row that replaces another takes no memory but for its plan.
+//! Nor does one say anything of a `Spot` but that no answer depends on it, or which keys `end_rows`
+//! answers: those of which no row is left, as far as there was memory to tell them.
 #![tactic(auto)]
 
 mod by_key;
 mod each_key;
+mod ending;
+mod ends;
 mod few;
+mod index;
 mod key_rows;
 mod keyed;
 mod listing;

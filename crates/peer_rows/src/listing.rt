@@ -6,8 +6,8 @@ ghost use Rattle.std.specs.Cmp.Lexicographic.{slice_cmp};
 ghost use Rattle.place_index.specs.Places.{item_at};
 ghost use Rattle.peer_rows.specs.Places.{by_place, in_order, one_shown, shown};
 
+use crate::index::Index;
 use crate::key_rows::KeyRows;
-use crate::keyed::Index;
 use agg_types::{Key, NoMemory};
 use std::alloc::Global;
 use std::cmp::Ordering;

@@ -1,6 +1,7 @@
 ghost use Rattle.std.specs.Prelude.{◌≡◌, ◌<◌, ◌==◌, [], ◌∷◌, ◌++◌, length, map, slice_get, IfOk};
 ghost use Rattle.std.specs.Prelude.{OnOk, OnErr};
 ghost use Rattle.peer_rows.specs.Counted.{counted, counted_at};
+ghost use Rattle.peer_rows.specs.Ends.{end_of, lives_at};
 ghost use Rattle.peer_rows.specs.Packed.{held_of};
 
 use crate::few::Few;
@@ -161,8 +162,6 @@ pub struct Row {
     pub cells: RowCells,
     pub arrived: u64,
     pub ends: Option<u64>,
-    /// The moment at which whoever keeps the row looks at it again; 0 where it never ends.
-    pub planned: u64,
 }
 
 impl Row {
@@ -175,7 +174,25 @@ impl Row {
             },
             arrived: 0,
             ends: None,
-            planned: 0,
+        }
+    }
+
+    /// The moment from which it has ended, if it ends: no sooner than it arrived.
+    #[inline]
+    pub fn end(&self) -> Option<u64>
+        ensures { result ≡ end_of self.now }
+    {
+        Some(self.ends?.max(self.arrived))
+    }
+
+    /// Whether it lives at a moment.
+    #[inline]
+    pub fn is_live(&self, t: u64) -> bool
+        ensures { result ≡ lives_at t self.now }
+    {
+        match self.end() {
+            None => true,
+            Some(end) => t < end,
         }
     }
 }

@@ -1,9 +1,11 @@
 ghost use Rattle.std.specs.Prelude.{◌≡◌, ◌<◌, [], length, count_by, IsOk, IsSome, IfNone, IfOk};
 ghost use Rattle.std.specs.Prelude.{OnOk, OnErr, Some, MatchBool, MatchOption, is_some};
-ghost use Rattle.std.specs.Prelude.{if◌then◌else◌};
+ghost use Rattle.std.specs.Prelude.{if◌then◌else◌, map};
 ghost use Rattle.std.specs.Option.{option_copied};
+ghost use Rattle.peer_rows.specs.Ends.{ended};
 ghost use Rattle.peer_rows.specs.Walk.{IsEachKey};
 
+use crate::ending::Gone;
 use crate::table::Table;
 use crate::{ByKey, EachKey, OfKey, Row, Spot};
 use agg_types::{Key, NoMemory};
@@ -19,6 +21,7 @@ use std::marker::Model;
 pub struct Rows {
     peers: usize,
     tables: Vec<Table>,
+    alloc: Global,
 }
 
 impl Model for Rows {
@@ -50,7 +53,7 @@ impl fmt::Debug for Rows {
 impl Rows {
     ghost use Rattle.peer_rows.specs.Rows.{row_at, with_row, without_row, without_key};
     ghost use Rattle.peer_rows.specs.Rows.{rows_of, peers_of, used_in, in_table, of_table_key};
-    ghost use Rattle.peer_rows.specs.Rows.{of_table_peer, AreInOrder};
+    ghost use Rattle.peer_rows.specs.Rows.{of_table_peer, living, AreInOrder};
 
     /// No rows, for these numbers of peers and of tables.
     pub fn new(alloc: Global, peers: usize, tables: usize) -> Result<Rows, NoMemory>
@@ -64,6 +67,7 @@ impl Rows {
         Ok(Rows {
             peers,
             tables: empty,
+            alloc,
         })
     }
 
@@ -166,6 +170,18 @@ impl Rows {
         ensures ordered { AreInOrder self.now.entries }
     {
         self.of_key_at(None, table, key)
+    }
+
+    /// Takes the rows that have ended at a moment out: what is due then is looked at, and no more.
+    /// Answers the keys that have no row left, each with the position of its table, as far as there
+    /// is memory for them. Takes no other memory.
+    pub fn end_rows(&mut self, t: u64) -> Vec<(usize, Key)>
+        ensures after { self.new ≡ living self.old t }
+        ensures ordered { AreInOrder self.new.entries }
+    {
+        let mut gone = Vec::new(self.alloc);
+        end_tables(&mut self.tables, t, &mut gone);
+        gone
     }
 
     // ---- with a hint at where the rows of a key lie
@@ -285,5 +301,14 @@ impl Rows {
         ensures ordered { AreInOrder self.now.entries }
     {
         self.tables[table].of_key(hint, key)
+    }
+}
+
+// Takes the rows that have ended at a moment out of tables.
+fn end_tables(tables: &mut Vec<Table>, t: u64, gone: &mut Gone)
+    ensures { tables.new.items ≡ map (ended t) tables.old.items }
+{
+    for table in 0..tables.len() {
+        tables[table].end_rows(t, table, gone);
     }
 }

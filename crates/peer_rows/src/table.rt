@@ -5,9 +5,11 @@ ghost use Rattle.std.specs.Option.{option_copied};
 ghost use Rattle.std.specs.List.{dedup};
 ghost use Rattle.std.specs.Map.{lookup, remove_entry};
 ghost use Rattle.std.specs.BTreeMap.{insert_entry, is_at};
+ghost use Rattle.peer_rows.specs.Ends.{ended};
 ghost use Rattle.peer_rows.specs.Table.{rows_at_peer};
 ghost use Rattle.peer_rows.specs.Walk.{IsEachKey};
 
+use crate::ending::Gone;
 use crate::key_rows::KeyRows;
 use crate::keyed::Keyed;
 use crate::{ByKey, EachKey, OfKey, Row, Spot};
@@ -179,6 +181,14 @@ impl Table {
             }
             None => 0,
         }
+    }
+
+    /// Takes the rows out that have ended at a moment. The keys that have none left are told with
+    /// the position of the table, as far as there is memory for them.
+    pub(crate) fn end_rows(&mut self, t: u64, table: usize, gone: &mut Gone)
+        ensures { self.new ≡ ended t self.old }
+    {
+        self.keys.end_rows(&mut self.counts, t, table, gone);
     }
 
     /// The rows of a key, by peer.

@@ -35,7 +35,6 @@ fn row(alloc: Global, count: u64) -> Result<Row, NoMemory> {
         cells: RowCells::copy(alloc, &held)?,
         arrived: 7,
         ends: None,
-        planned: 0,
     })
 }
 

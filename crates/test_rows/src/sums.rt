@@ -37,7 +37,6 @@ fn row(alloc: Global, count: u64) -> Result<Row, NoMemory>
         cells: RowCells::copy(alloc, &[Held::Count(count), Held::Rate(rate)])?,
         arrived: 0,
         ends: None,
-        planned: 0,
     })
 }
 

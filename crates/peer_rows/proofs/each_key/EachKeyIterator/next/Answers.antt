@@ -1,6 +1,5 @@
-use Rattle.std.proofs.Common.{◌≡◌, ◌+◌, ℕ, suc, List, ◌∷◌, ap, sym, ◌∙◌, arith}
-use Rattle.std.specs.Prelude.{Option, drop}
-use Rattle.place_index.specs.Places.{item_at}
+use Rattle.std.proofs.Common.{◌≡◌, ◌+◌, ℕ, suc, ◌∷◌, ap, sym, ◌∙◌, arith}
+use Rattle.std.specs.Prelude.{drop}
 use Rattle.peer_rows.specs.Places.{Places, by_place}
 use Rattle.peer_rows.proofs.Walk.{item_of, left_none, left_some, shorter}
 use Rattle.peer_rows.proofs.each_key.EachKeyIterator.next.Goals as goal

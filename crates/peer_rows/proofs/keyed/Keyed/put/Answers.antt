@@ -4,52 +4,53 @@ use Rattle.peer_rows.specs.Table.{EachPeerOnce}
 use Rattle.peer_rows.proofs.Ordered.{sorted-in_order, some_item}
 use Rattle.peer_rows.proofs.Shown.{no_peer-shown, new-shown, new_once-shown, same_once, on_err}
 use Rattle.peer_rows.proofs.Shown.{peers-shown, put-shown, refused-shown, once-shown}
-use Rattle.place_index.specs.Places.{item_at, revalued}
+use Rattle.place_index.specs.Places.{item_at}
 use Rattle.peer_rows.proofs.keyed.Keyed.put.Goals as goal
 
-pub value_mut-rows-requires : goal.value_mut-rows-requires
-value_mut-rows-requires c = some_item (item_at c.self.inside.index.places c.in-Some.at)
+pub put-requires : goal.put-requires
+put-requires c = some_item (item_at c.self.inside.index.places c.in-Some.at)
     c.args.key.now c.in-Some.ensures.some
 
 pub returns-clause-ok : goal.returns-clause-ok
-returns-clause-ok c = rw (← c.self.view_is) (put-shown c.self.inside.index.places
+returns-clause-ok c = rw (← c.self.view_is, c.put.ensures.changed.is)
+    (put-shown c.self.inside.index.places
     c.args.key.now c.in-Some.ensures.distinct c.in-Some.at c.in-Some.ensures.some
-    c.value_mut-rows.result.now c.value_mut-rows.ensures.value c.put.new.self c.args.peer
+    c.put.ensures.rows c.put.ensures.changed.value c.put.ensures.later c.args.peer
     c.args.row c.put.result c.put.ensures.ok)
 
 pub returns-clause-old : goal.returns-clause-old
 returns-clause-old c = rw (
   ← c.self.view_is,
   peers-shown c.self.inside.index.places c.args.key.now c.in-Some.ensures.distinct c.in-Some.at
-      c.in-Some.ensures.some c.value_mut-rows.result.now c.value_mut-rows.ensures.value
+      c.in-Some.ensures.some c.put.ensures.rows c.put.ensures.changed.value
       c.args.peer,
-) c.put.ensures.old
+) c.put.ensures.before
 
 pub returns-clause-held : goal.returns-clause-held
 returns-clause-held c = rw (
   ← c.self.view_is,
   peers-shown c.self.inside.index.places c.args.key.now c.in-Some.ensures.distinct c.in-Some.at
-      c.in-Some.ensures.some c.value_mut-rows.result.now c.value_mut-rows.ensures.value
+      c.in-Some.ensures.some c.put.ensures.rows c.put.ensures.changed.value
       c.args.peer,
 ) c.put.ensures.held
 
 pub returns-clause-err : goal.returns-clause-err
-returns-clause-err c = rw (← c.self.view_is) (refused-shown c.self.inside.index.places
+returns-clause-err c = rw (← c.self.view_is, c.put.ensures.changed.is) (refused-shown c.self.inside.index.places
     c.args.key.now c.in-Some.ensures.distinct c.in-Some.at c.in-Some.ensures.some
-    c.value_mut-rows.result.now c.value_mut-rows.ensures.value c.put.new.self c.put.result
+    c.put.ensures.rows c.put.ensures.changed.value c.put.ensures.later c.put.result
     c.put.ensures.err)
 
 pub returns-clause-once : goal.returns-clause-once
 returns-clause-once c =
     let once : EachPeerOnce (in_order c.self.inside.index.places) =
     rw (← c.self.view_is) at c.requires in
-    once-shown c.self.inside.index.places c.args.key.now c.in-Some.ensures.distinct c.in-Some.at
-    c.in-Some.ensures.some c.value_mut-rows.result.now c.value_mut-rows.ensures.value
-    c.put.new.self once c.put.ensures.are
+    rw c.put.ensures.changed.is (once-shown c.self.inside.index.places c.args.key.now c.in-Some.ensures.distinct c.in-Some.at
+    c.in-Some.ensures.some c.put.ensures.rows c.put.ensures.changed.value
+    c.put.ensures.later once c.put.ensures.changed.are)
 
 pub returns-clause-ordered : goal.returns-clause-ordered
 returns-clause-ordered c =
-    sorted-in_order (revalued c.self.inside.index.places c.in-Some.at c.put.new.self)
+    sorted-in_order c.put.new.self.places
 
 pub returns-in_err-insert_new-clause-held : goal.returns-in_err-insert_new-clause-held
 returns-in_err-insert_new-clause-held c =

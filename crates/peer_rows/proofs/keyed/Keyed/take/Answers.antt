@@ -1,10 +1,11 @@
-use Rattle.std.proofs.Common.{◌≡◌, ◌∙◌, sym, ◌∷◌, [], true, false}
+use Rattle.std.proofs.Common.{◌≡◌, ◌∙◌, sym, ap, ◌∷◌, [], true, false}
 use Rattle.std.specs.Map.{keys_of}
-use Rattle.place_index.specs.Places.{item_at, revalued}
+use Rattle.place_index.specs.Places.{item_at}
 use Rattle.peer_rows.specs.Places.{in_order}
 use Rattle.peer_rows.specs.Table.{EachPeerOnce}
 use Rattle.peer_rows.proofs.Keying.{take_not_held, value_last}
-use Rattle.peer_rows.proofs.Ordered.{sorted-in_order, some_item}
+use Rattle.peer_rows.proofs.InTime.{PeerRows, rows_value}
+use Rattle.peer_rows.proofs.Ordered.{rows_of_item, sorted-in_order, some_item}
 use Rattle.peer_rows.proofs.Shown.{none-shown, no_peer-shown, peers-shown, take-shown}
 use Rattle.peer_rows.proofs.Shown.{once-shown, last-shown, gone_once-shown}
 use Rattle.peer_rows.proofs.keyed.Keyed.take.Goals as goal
@@ -31,14 +32,18 @@ pub taken-rows-requires : goal.taken-rows-requires
 taken-rows-requires c = some_item (item_at c.self.inside.index.places c.in_ok-at.at)
     c.args.key.now c.in_ok-at.ensures.some
 
-pub value_mut-rows-requires : goal.value_mut-rows-requires
-value_mut-rows-requires c = some_item (item_at c.self.inside.index.places c.in_ok-at.at)
+pub take-requires-clause-some : goal.take-requires-clause-some
+take-requires-clause-some c = some_item (item_at c.self.inside.index.places c.in_ok-at.at)
     c.args.key.now c.in_ok-at.ensures.some
 
-pub take-requires : goal.take-requires
-take-requires c = λ last.
+pub take-requires-clause-others : goal.take-requires-clause-others
+take-requires-clause-others c = λ last.
+    let there = rows_of_item (item_at c.self.inside.index.places c.in_ok-at.at) c.args.key.now
+    c.in_ok-at.ensures.some in
     let yes : c.is_only.result ≡ true =
-    (rw c.value_mut-rows.ensures.value at c.is_only.ensures).1 last in
+    (rw there.1 at c.is_only.ensures).1
+    (sym (ap (λ (rows : PeerRows). keys_of rows) (rows_value c.self.inside.index.places
+    c.in_ok-at.at there.0 there.1)) ∙ last) in
     let wrong : true ≡ false = sym yes ∙ c.if-is_only.false in
     cc
 
@@ -73,25 +78,25 @@ returns-then-is_only-clause-once c =
     c.taken-rows.ensures.value once)
 
 pub returns-else-is_only-clause-value : goal.returns-else-is_only-clause-value
-returns-else-is_only-clause-value c = rw (← c.self.view_is) (c.take.ensures.value
+returns-else-is_only-clause-value c = rw (← c.self.view_is) (c.take.ensures.is
     ∙ sym (peers-shown c.self.inside.index.places c.args.key.now c.in_ok-at.ensures.distinct
-    c.in_ok-at.at c.in_ok-at.ensures.some c.value_mut-rows.result.now
-    c.value_mut-rows.ensures.value c.args.peer))
+    c.in_ok-at.at c.in_ok-at.ensures.some c.take.ensures.rows
+    c.take.ensures.changed.value c.args.peer))
 
 pub returns-else-is_only-clause-after : goal.returns-else-is_only-clause-after
-returns-else-is_only-clause-after c = rw (← c.self.view_is)
+returns-else-is_only-clause-after c = rw (← c.self.view_is, c.take.ensures.changed.is)
     (take-shown c.self.inside.index.places c.args.key.now c.in_ok-at.ensures.distinct
-    c.in_ok-at.at c.in_ok-at.ensures.some c.value_mut-rows.result.now
-    c.value_mut-rows.ensures.value c.take.new.self c.args.peer c.take.ensures.after)
+    c.in_ok-at.at c.in_ok-at.ensures.some c.take.ensures.rows
+    c.take.ensures.changed.value c.take.ensures.later c.args.peer c.take.ensures.after)
 
 pub returns-else-is_only-clause-ordered : goal.returns-else-is_only-clause-ordered
 returns-else-is_only-clause-ordered c =
-    sorted-in_order (revalued c.self.inside.index.places c.in_ok-at.at c.take.new.self)
+    sorted-in_order c.take.new.self.places
 
 pub returns-else-is_only-clause-once : goal.returns-else-is_only-clause-once
 returns-else-is_only-clause-once c =
     let once : EachPeerOnce (in_order c.self.inside.index.places) =
     rw (← c.self.view_is) at c.requires in
-    once-shown c.self.inside.index.places c.args.key.now c.in_ok-at.ensures.distinct
-    c.in_ok-at.at c.in_ok-at.ensures.some c.value_mut-rows.result.now
-    c.value_mut-rows.ensures.value c.take.new.self once c.take.ensures.are
+    rw c.take.ensures.changed.is (once-shown c.self.inside.index.places c.args.key.now c.in_ok-at.ensures.distinct
+    c.in_ok-at.at c.in_ok-at.ensures.some c.take.ensures.rows
+    c.take.ensures.changed.value c.take.ensures.later once c.take.ensures.changed.are)
