@@ -25,7 +25,7 @@ use Rattle.fleet_model.proofs.Running.{sum-insert, sum-remove}
 use Rattle.peer_rows.specs.declared.row.Row.{Row}
 use Rattle.book.specs.Shown.{arrivals}
 use Rattle.book.specs.Store.{put_arrival}
-use Rattle.book.proofs.Plans.{with_ended, with_living}
+use Rattle.book.proofs.Inside.{with_ended, with_living}
 use Rattle.fleet_model.specs.Moments.{is_live}
 use Rattle.fleet_model.specs.Ranking.{no_rank}
 use Rattle.fleet_model.specs.Values.{cols_of, column_worth, is_of, same_key, share, value}

@@ -43,6 +43,11 @@ filter-filter p q weaker (x ∷ xs) = by (q x) refl (filter-filter p q weaker xs
         passed true ok off = let on : q x ≡ true = weaker x ok in cc
         passed false ok off = refl
 
+pub all-append : {X : Type 0} (P : X → Type 0) (xs ys : List X) → AllByRecursion P xs
+    → AllByRecursion P ys → AllByRecursion P (xs ++ ys)
+all-append P [] ys front back = back
+all-append P (x ∷ xs) ys front back = (front.0, all-append P xs ys front.1 back)
+
 -- what holds of all, of those that a filter lets through, with the test
 pub all-filter : {X : Type 0} (P Q : X → Type 0) (p : X → Bool) → ((x : X) → p x ≡ true → P x → Q x)
     → (xs : List X) → AllByRecursion P xs → AllByRecursion Q (filter p xs)

@@ -21,7 +21,7 @@ use Rattle.agg_types.specs.declared.config.Config.{Config}
 use Rattle.agg_types.specs.declared.config.Filter.{Filter}
 use Rattle.agg_types.specs.declared.config.Shape.{Shape}
 use Rattle.agg_types.specs.declared.limits.TheConstants.{LAST_MOMENT}
-use Rattle.expiry_wheel.proofs.Lists.{all-append}
+use Rattle.book.proofs.Lists.{all-append}
 use Rattle.fleet_model.specs.Answers.{filter_of, no_filter, set_at}
 use Rattle.fleet_model.specs.Keys.{AreKeysOf, Rows, has_live, holds, key_rows}
 use Rattle.fleet_model.specs.Laws.{is_key_among}

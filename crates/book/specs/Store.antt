@@ -23,19 +23,12 @@ use Rattle.agg_types.specs.declared.limits.TheConstants.{LAST_MOMENT}
 use Rattle.agg_types.specs.declared.row_key.RowKey.{RowKey}
 use Rattle.fleet_model.specs.Normalized.{normalized_cells}
 use Rattle.fleet_model.specs.declared.arrival.Arrival.{Arrival}
-use Rattle.peer_rows.specs.Rows.{RowMap}
-use Rattle.book.specs.Planned.{ArePlanned, AreRows}
 
 -- the rows in force, by place, of so many peers and tables
 pub record InForce : Type 0 where
   pub peers : ℕ
   pub tables : ℕ
   pub rows : List (RowKey × Arrival)
-
--- rows in order, each of which is looked at by its end
-pub record AreKept (peers tables : ℕ) (rows : RowMap) (items : List (ℕ × RowKey)) : Type 0 where
-  pub are : AreRows peers tables rows
-  pub planned : ArePlanned items rows.entries
 
 -- a row as it arrives
 abbrev pub put_arrival : ℕ → Option ℕ → List (Col × ℕ) → List Cell → Arrival

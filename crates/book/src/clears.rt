@@ -31,7 +31,7 @@ pub fn clear_key(
     ensures led { StaysLed ranks.now store.old.rows t leaders.old store.new.rows t leaders.new }
 {
     drop_bounds(leaders, ranks, table, &key);
-    store.clear_key(table, key, t);
+    store.clear_key(table, &key);
 }
 
 /// Takes away the rows of a table, and the bounds of its keys.

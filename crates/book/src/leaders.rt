@@ -18,7 +18,7 @@ ghost use Rattle.book.specs.Planned.{IsInside, IsShort, place_at};
 use crate::at::At;
 use crate::foreseen::live_rows;
 use crate::store::Store;
-use agg_types::{Cell, Config, Key, NoMemory, Rank, RowKey, Shape};
+use agg_types::{Cell, Config, Key, NoMemory, Rank, Shape};
 use book_frame::standing::cols_of;
 use ranked::Leaders;
 
@@ -109,32 +109,21 @@ fn lead_and_put(
 
 /// Takes away the rows that have ended as the clock goes on to a moment, in ms, and the bounds of
 /// keys that have none left.
-pub fn go_on(
-    rows: &mut Store,
-    leaders: &mut Leaders,
-    config: &Config,
-    now: u64,
-    later: u64,
-) -> Result<(), NoMemory>
+pub fn go_on(rows: &mut Store, leaders: &mut Leaders, config: &Config, now: u64, later: u64)
     requires up { now ≤ later }
     requires led { AreLed config.now.tables config.now.ranks rows.old.rows now leaders.old }
-    ensures ok { OnOk result (rows.new
-        ≡ record rows.old { rows = filter (λ row. is_live later row.1) rows.old.rows }) }
-    ensures led { OnOk result
-        (AreLed config.now.tables config.now.ranks rows.new.rows later leaders.new) }
-    ensures err { OnErr result (rows.new ≡ rows.old) }
-    ensures same { OnErr result
-        (AreLed config.now.tables config.now.ranks rows.new.rows now leaders.new) }
+    ensures rows { rows.new
+        ≡ record rows.old { rows = filter (λ row. is_live later row.1) rows.old.rows } }
+    ensures led { AreLed config.now.tables config.now.ranks rows.new.rows later leaders.new }
 {
-    let ended = rows.end_rows(later)?;
+    let gone = rows.end_rows(later);
     drop_ended(
         leaders,
         config.ranks.as_slice(),
         rows,
         later,
-        ended.as_slice(),
+        gone.as_slice(),
     );
-    Ok(())
 }
 
 /// Takes the bounds of a key away.
@@ -173,13 +162,13 @@ pub fn drop_ended(
     ranks: &[Rank],
     rows: &Store,
     t: u64,
-    ended: &[(u64, RowKey)],
+    gone: &[(usize, Key)],
 )
     requires { length ranks.now ≤ length leaders.old }
     ensures { StaysLed ranks.now rows.now.rows t leaders.old rows.now.rows t leaders.new }
 {
-    for (_, place) in ended {
-        drop_gone(leaders, ranks, rows, t, place.table, &place.key);
+    for (table, key) in gone {
+        drop_gone(leaders, ranks, rows, t, *table, key);
     }
 }
 

@@ -22,11 +22,10 @@ ghost use Rattle.book.specs.Store.{row_keys};
 
 use crate::at::At;
 use crate::clears::{clear_key, clear_table, clear_where};
-use crate::ends::Size;
 use crate::leaders::{go_on, put_led};
 use crate::listing::{BookRows, meeting};
 use crate::queries;
-use crate::store::Store;
+use crate::store::{Size, Store};
 use agg_types::{Cells, Cond, Config, Filter, Key, NoMemory, Select, What};
 use book_frame::seats;
 use book_frame::seats::{
@@ -100,7 +99,7 @@ impl Machine {
             peers: config.peers.len(),
             tables: config.tables.len(),
         };
-        let rows = Store::new(alloc, size, moment)?;
+        let rows = Store::new(alloc, size)?;
         let leaders = Leaders::new(alloc, config.ranks.len())?;
         Ok(Machine {
             alloc,
@@ -262,7 +261,7 @@ impl Machine {
                     &self.config,
                     self.moment,
                     later,
-                )?;
+                );
                 self.moment = later;
                 count_up(&mut self.seats, seat, seq);
                 Ok(None)

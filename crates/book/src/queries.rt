@@ -9,7 +9,7 @@ ghost use Rattle.fleet_model.specs.Moments.{is_live};
 ghost use Rattle.fleet_model.specs.Values.{live_keys, same_key};
 ghost use Rattle.book.specs.Shown.{as_arrival, of_peer, rows_worth};
 
-use crate::row::{end_of, is_live};
+use crate::row::is_live;
 use crate::store::Store;
 use crate::values::worth;
 use agg_types::{COLUMNS, Col, Key, NoMemory};

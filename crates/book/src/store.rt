@@ -1,4 +1,4 @@
-//! The rows in force, with their ends planned.
+//! The rows in force.
 
 ghost use Rattle.std.specs.Prelude.{◌≡◌, ◌<◌, ◌≤◌, ℕ, List, [], Option, ◌==◌, ◌&&◌, not};
 ghost use Rattle.std.specs.Prelude.{length, map, filter, MatchOption, IfSome, IfOk, OnOk};
@@ -17,33 +17,32 @@ ghost use Rattle.book.specs.Planned.{IsInside, IsShort, place_at};
 ghost use Rattle.book.specs.Store.{AreRowsOf, IsEachKeyOf, IsWalk, put_arrival, row_keys};
 
 use crate::at::At;
-use crate::ends::{Size, end_late, plan_again, set_aside};
 use crate::puts::{drop_key, drop_row, new_row, set_row};
 use crate::values::{arriving_worth, found_worth};
-use agg_types::{Cell, Col, Key, NoMemory, RowKey, Shape};
-use expiry_wheel::Wheel;
+use agg_types::{Cell, Col, Key, NoMemory, Shape};
 use peer_rows::{ByKey, EachKey, OfKey, Rows, Spot};
 use std::alloc::Global;
 use std::marker::Model;
-use std::mem;
+
+/// How many peers and tables a book has.
+#[derive(Clone, Copy, Debug)]
+pub struct Size {
+    pub peers: usize,
+    pub tables: usize,
+}
 
 /// The rows in force. Contracts see them by place, and how many peers and tables there are.
-///
-/// Each row that ends is looked at by then: its place is planned at its end or before it, or was
-/// set aside in a moment that was refused.
 #[derive(Drop)]
 pub(crate) struct Store {
     alloc: Global,
     pub(crate) size: Size,
     pub(crate) rows: Rows,
-    due: Wheel<RowKey>,
-    late: Vec<(u64, RowKey)>,
 }
 
 impl Model for Store {
-    ghost use Rattle.std.specs.Prelude.{◌++◌};
+    ghost use Rattle.book.specs.Planned.{AreRows};
     ghost use Rattle.book.specs.Shown.{arrivals};
-    ghost use Rattle.book.specs.Store.{AreKept, InForce};
+    ghost use Rattle.book.specs.Store.{InForce};
 
     ghost Value = { InForce };
 
@@ -53,12 +52,12 @@ impl Model for Store {
       rows = arrivals s.rows.entries;
     } };
 
-    ghost invariant = { λ s. AreKept s.size.peers s.size.tables s.rows (s.late.items ++ s.due) };
+    ghost invariant = { λ s. AreRows s.size.peers s.size.tables s.rows };
 }
 
 impl Store {
-    /// No rows, for so many peers and tables. Their ends are counted from a moment, in ms.
-    pub(crate) fn new(alloc: Global, size: Size, moment: u64) -> Result<Store, NoMemory>
+    /// No rows, for so many peers and tables.
+    pub(crate) fn new(alloc: Global, size: Size) -> Result<Store, NoMemory>
         ensures { IfOk result (λ store. store
             ≡ record { peers = size.peers; tables = size.tables; rows = [] }) }
     {
@@ -66,29 +65,17 @@ impl Store {
             alloc,
             size,
             rows: Rows::new(alloc, size.peers, size.tables)?,
-            due: Wheel::new(alloc, moment)?,
-            late: Vec::new(alloc),
         })
     }
 
     /// Takes away the rows that have ended at a moment: what is due then is looked at, and no more.
-    /// Answers what was.
-    pub(crate) fn end_rows(&mut self, t: u64) -> Result<Vec<(u64, RowKey)>, NoMemory>
-        ensures ok { OnOk result (self.new
-            ≡ record self.old { rows = filter (λ row. is_live t row.1) self.old.rows }) }
-        ensures err { OnErr result (self.new ≡ self.old) }
+    /// Answers the keys that have no row left, each with the position of its table, as far as there
+    /// is memory for them.
+    pub(crate) fn end_rows(&mut self, t: u64) -> Vec<(usize, Key)>
+        ensures { self.new
+            ≡ record self.old { rows = filter (λ row. is_live t row.1) self.old.rows } }
     {
-        set_aside(self.alloc, &mut self.due, &mut self.late, t)?;
-        plan_again(
-            self.alloc,
-            &self.rows,
-            self.size,
-            &mut self.due,
-            self.late.as_slice(),
-            t,
-        )?;
-        end_late(&mut self.rows, self.size, self.late.as_slice(), t);
-        Ok(mem::replace(&mut self.late, Vec::new(self.alloc)))
+        self.rows.end_rows(t)
     }
 
     /// Where the rows of a key lie, if it has any, for the calls that take an `At`.
@@ -119,19 +106,11 @@ impl Store {
         ensures err { OnErr result (self.new ≡ self.old) }
     {
         if is_over(life) {
-            drop_row(self.alloc, &mut self.rows, self.size, &mut self.due, at, t)?;
+            drop_row(&mut self.rows, self.size, at);
             return Ok(());
         }
         let mut row = new_row(self.alloc, t, life, cols, cells)?;
-        set_row(
-            self.alloc,
-            &mut self.rows,
-            self.size,
-            &mut self.due,
-            at,
-            t,
-            &mut row,
-        )?;
+        set_row(self.alloc, &mut self.rows, self.size, at, &mut row)?;
         Ok(())
     }
 
@@ -243,15 +222,15 @@ impl Store {
         standing + u128::from(arriving_worth(col, cols, cells))
     }
 
-    /// Takes away the rows of a key, over all peers, and what is planned for them.
-    pub(crate) fn clear_key(&mut self, table: usize, key: Key, t: u64)
+    /// Takes away the rows of a key, over all peers.
+    pub(crate) fn clear_key(&mut self, table: usize, key: &Key)
         ensures { self.new ≡ record self.old {
           rows = filter
-              (λ row. not ((row.0.table == table) && same_key key row.0.key)) self.old.rows;
+              (λ row. not ((row.0.table == table) && same_key key.now row.0.key)) self.old.rows;
         } }
     {
         if table < self.size.tables {
-            drop_key(&mut self.rows, self.size, &mut self.due, table, key, t);
+            drop_key(&mut self.rows, self.size, table, key);
         }
     }
 }

@@ -6,8 +6,8 @@ use Rattle.book.proofs.leaders.go_on.Goals as goal
 pub returns-clause-led : goal.returns-clause-led
 returns-clause-led c =
     led_by c.args.config.now.tables c.args.config.now.ranks c.as_slice.result.now
-    c.end_rows.new.self.rows c.end_rows.new.self.rows c.args.later c.args.later
+    c.end_rows-gone.new.self.rows c.end_rows-gone.new.self.rows c.args.later c.args.later
     c.args.leaders.now c.drop_ended.new.leaders c.as_slice.ensures c.drop_ended.ensures
     (later_led c.args.config.now.tables c.args.config.now.ranks c.args.rows.now.rows
-    c.end_rows.new.self.rows c.args.now c.args.later c.args.leaders.now c.requires.up
-    (ap (λ (s : InForce). s.rows) c.in_ok-ended.ensures.ok) c.requires.led)
+    c.end_rows-gone.new.self.rows c.args.now c.args.later c.args.leaders.now c.requires.up
+    (ap (λ (s : InForce). s.rows) c.end_rows-gone.ensures) c.requires.led)

@@ -1,22 +1,20 @@
-use Rattle.std.proofs.Common.{◌∙◌, ◌++◌, ap}
+use Rattle.std.proofs.Common.{◌∙◌, ap}
 use Rattle.std.specs.BTreeMap.{is_at}
 use Rattle.agg_types.specs.RowKey.{row_key_cmp}
 use Rattle.peer_rows.specs.Rows.{RowMap}
 use Rattle.book.specs.Planned.{place_at}
 use Rattle.book.specs.Shown.{arrivals, as_arrival}
-use Rattle.book.proofs.Forgets.{kept_dropped}
+use Rattle.book.proofs.Inside.{rows_taken}
 use Rattle.book.proofs.Lists.{map-remove_entry}
 use Rattle.book.proofs.puts.drop_row.Goals as goal
 
-pub returns-clause-ok : goal.returns-clause-ok
-returns-clause-ok c =
+pub returns-clause-after : goal.returns-clause-after
+returns-clause-after c =
     ap (λ (rows : RowMap). arrivals rows.entries) c.take_at.ensures.after
     ∙ map-remove_entry row_key_cmp as_arrival (is_at (row_key_cmp (place_at c.args.at)))
     c.args.rows.now.entries
 
 pub returns-clause-kept : goal.returns-clause-kept
-returns-clause-kept c = λ items kept.
-    kept_dropped c.args.size.peers c.args.size.tables c.args.rows.now c.take_at.new.self
-    (items ++ c.args.due.now) (items ++ c.forget.new.due) (place_at c.args.at)
-    c.take_at.ensures.after
-    (λ e apart was. c.forget.ensures.others items e (rw c.in_ok-place.ensures apart) was) kept
+returns-clause-kept c =
+    rows_taken c.args.size.peers c.args.size.tables c.args.rows.now c.take_at.new.self
+    c.requires.rows c.take_at.ensures.ordered (place_at c.args.at) c.take_at.ensures.after

@@ -15,4 +15,4 @@ pub returns-else-table-self : goal.returns-else-table-self
 returns-else-table-self c =
     sym (ap (λ (s : InForce). filter (λ row. row.0.table == c.args.table) s.rows) c.self.view_is)
     ∙ no_spots c.self.inside.size.peers c.self.inside.size.tables c.args.table
-    c.self.inside.rows.entries (omega arith) c.self.invariant.are.inside
+    c.self.inside.rows.entries (omega arith) c.self.invariant.inside

@@ -10,7 +10,7 @@ use Rattle.book.proofs.Reading.{cleared_shown, untouched}
 use Rattle.book.proofs.store.Store.clear_key.Goals as goal
 
 pub invariant_of-self : goal.invariant_of-self
-invariant_of-self c = c.drop_key.ensures.kept c.self.inside.late.items c.self.invariant
+invariant_of-self c = c.drop_key.ensures.kept
 
 pub returns-then-table-self : goal.returns-then-table-self
 returns-then-table-self c =
@@ -30,10 +30,10 @@ returns-then-table-self c =
     let left : InForce → InForce =
     λ s. record s {
       rows = filter (λ (row : RowKey × Arrival). not ((row.0.table == c.args.table)
-          && same_key c.args.key row.0.key)) s.rows;
+          && same_key c.args.key.now row.0.key)) s.rows;
     } in
     ap made c.drop_key.ensures.after
-    ∙ ap kept (cleared_shown c.args.table c.args.key c.self.inside.rows.entries)
+    ∙ ap kept (cleared_shown c.args.table c.args.key.now c.self.inside.rows.entries)
     ∙ ap left c.self.view_is
 
 pub returns-else-table-self : goal.returns-else-table-self
@@ -48,8 +48,8 @@ returns-else-table-self c =
     let left : InForce → InForce =
     λ s. record s {
       rows = filter (λ (row : RowKey × Arrival). not ((row.0.table == c.args.table)
-          && same_key c.args.key row.0.key)) s.rows;
+          && same_key c.args.key.now row.0.key)) s.rows;
     } in
     sym c.self.view_is ∙ ap kept (untouched c.self.inside.size.peers c.self.inside.size.tables
-    c.args.table c.args.key c.self.inside.rows.entries (omega arith)
-    c.self.invariant.are.inside) ∙ ap left c.self.view_is
+    c.args.table c.args.key.now c.self.inside.rows.entries (omega arith)
+    c.self.invariant.inside) ∙ ap left c.self.view_is

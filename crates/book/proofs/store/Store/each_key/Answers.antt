@@ -12,4 +12,4 @@ pub returns-else-table-self : goal.returns-else-table-self
 returns-else-table-self c =
     subst (λ (s : InForce). IsEachKeyOf s.rows c.args.table []) c.self.view_is
     (no_keys c.self.inside.size.peers c.self.inside.size.tables c.args.table
-    c.self.inside.rows.entries (omega arith) c.self.invariant.are.inside)
+    c.self.inside.rows.entries (omega arith) c.self.invariant.inside)

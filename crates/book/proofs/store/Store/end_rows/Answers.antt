@@ -1,51 +1,36 @@
-use Rattle.std.proofs.Common.{◌≡◌, ◌∙◌, ◌++◌, [], List, ℕ, sym, ap, subst}
+use Rattle.std.proofs.Common.{◌∙◌, List, ap}
 use Rattle.std.specs.Prelude.{filter}
 use Rattle.agg_types.specs.declared.row_key.RowKey.{RowKey}
 use Rattle.fleet_model.specs.Moments.{is_live}
 use Rattle.fleet_model.specs.declared.arrival.Arrival.{Arrival}
+use Rattle.peer_rows.specs.Ends.{lives_at}
 use Rattle.peer_rows.specs.Rows.{RowMap}
-use Rattle.book.specs.Planned.{ArePlanned}
-use Rattle.book.specs.Shown.{arrivals, view_of_row}
+use Rattle.book.specs.Shown.{arrivals}
 use Rattle.book.specs.Store.{InForce}
-use Rattle.book.proofs.Lists.{map-filter}
-use Rattle.book.proofs.Plans.{are_late, kept_living}
+use Rattle.book.proofs.Inside.{living_shown, rows_left}
 use Rattle.book.proofs.store.Store.end_rows.Goals as goal
 
-pub end_late-requires-clause-late : goal.end_late-requires-clause-late
-end_late-requires-clause-late c =
-    are_late c.args.t c.as_slice-2.result.now c.plan_again.new.due c.self.inside.rows.entries
-    c.plan_again.ensures.past
-    (subst (λ (late : List (ℕ × RowKey)). ArePlanned (late ++ c.plan_again.new.due)
-    c.self.inside.rows.entries) (c.as_slice.ensures.value ∙ sym c.as_slice-2.ensures.value)
-    c.plan_again.ensures.planned)
+pub invariant_of-self : goal.invariant_of-self
+invariant_of-self c =
+    rows_left c.self.inside.size.peers c.self.inside.size.tables c.self.inside.rows
+    c.end_rows.new.self c.self.invariant c.end_rows.ensures.ordered
+    (λ e. lives_at c.args.t e.1) c.end_rows.ensures.after
 
-pub invariant_of-self-2 : goal.invariant_of-self-2
-invariant_of-self-2 c =
-    let none : c.replace.new.dest.items ≡ [] = rw c.replace.ensures.after c.new.ensures.items in
-    kept_living c.self.inside.size.peers c.self.inside.size.tables c.args.t c.self.inside.rows
-    c.end_late.new.rows c.replace.new.dest.items c.plan_again.new.due c.self.invariant.are
-    c.end_late.ensures c.in_ok-plan_again.ensures.ok none
-
-pub returns-clause-ok : goal.returns-clause-ok
-returns-clause-ok c =
+pub returns : goal.returns
+returns c =
     let made : RowMap → InForce = λ rows. record {
       peers = c.self.inside.size.peers;
-      tables =
-          c.self.inside.size.tables;
+      tables = c.self.inside.size.tables;
       rows = arrivals rows.entries;
     } in
-    let kept : List (RowKey × Arrival) → InForce =
-    λ rows. record {
+    let kept : List (RowKey × Arrival) → InForce = λ rows. record {
       peers = c.self.inside.size.peers;
-      tables =
-          c.self.inside.size.tables;
+      tables = c.self.inside.size.tables;
       rows = rows;
     } in
-    let living : InForce → InForce =
-    λ s. record s {
+    let living : InForce → InForce = λ s. record s {
       rows = filter (λ (row : RowKey × Arrival). is_live c.args.t row.1) s.rows;
     } in
-    ap made c.end_late.ensures
-    ∙ ap kept (map-filter view_of_row (λ (row : RowKey × Arrival). is_live c.args.t row.1)
-    c.self.inside.rows.entries)
+    ap made c.end_rows.ensures.after
+    ∙ ap kept (living_shown c.args.t c.self.inside.rows.entries)
     ∙ ap living c.self.view_is

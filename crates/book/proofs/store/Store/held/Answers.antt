@@ -6,4 +6,4 @@ use Rattle.book.proofs.store.Store.held.Goals as goal
 
 pub returns-clause-ordered : goal.returns-clause-ordered
 returns-clause-ordered c = subst (λ (s : InForce). AreInOrder s.rows) c.self.view_is
-    (ordered_shown c.self.inside.rows.entries c.self.invariant.are.ordered)
+    (ordered_shown c.self.inside.rows.entries c.self.invariant.ordered)

@@ -17,11 +17,11 @@ returns-then-table-self-clause-few c =
     let few : length c.of_key_at.result ≤ c.self.inside.size.peers =
     subst (λ (rows : _). length rows ≤ c.self.inside.size.peers) (sym c.of_key_at.ensures.value)
     (few_peers c.self.inside.size.peers c.self.inside.size.tables c.self.inside.rows
-    c.args.table c.args.key.now c.self.invariant.are) in
+    c.args.table c.args.key.now c.self.invariant) in
     subst (λ (s : InForce). length c.of_key_at.result ≤ s.peers) c.self.view_is few
 
 pub returns-else-table-self-clause-value : goal.returns-else-table-self-clause-value
 returns-else-table-self-clause-value c =
     sym (ap (λ (s : InForce). key_rows s.rows c.args.table c.args.key.now) c.self.view_is)
     ∙ no_rows c.self.inside.size.peers c.self.inside.size.tables c.args.table c.args.key.now
-    c.self.inside.rows.entries (omega arith) c.self.invariant.are.inside
+    c.self.inside.rows.entries (omega arith) c.self.invariant.inside

@@ -8,17 +8,14 @@ use Rattle.fleet_model.specs.declared.arrival.Arrival.{Arrival}
 use Rattle.book.specs.Planned.{place_at}
 use Rattle.book.specs.Shown.{arrivals}
 use Rattle.book.specs.Store.{InForce, put_arrival}
-use Rattle.book.proofs.Plans.{with_ended, with_living}
+use Rattle.book.proofs.Inside.{with_ended, with_living}
 use Rattle.book.proofs.store.Store.put.Goals as goal
 
 pub invariant_of-self : goal.invariant_of-self
-invariant_of-self c = c.drop_row.ensures.kept c.self.inside.late.items c.self.invariant
-
-pub invariant_of-self-then-is_over : goal.invariant_of-self-then-is_over
-invariant_of-self-then-is_over c = c.drop_row.ensures.kept c.self.inside.late.items c.self.invariant
+invariant_of-self c = c.drop_row.ensures.kept
 
 pub invariant_of-self-2 : goal.invariant_of-self-2
-invariant_of-self-2 c = c.set_row.ensures.kept c.self.inside.late.items c.self.invariant
+invariant_of-self-2 c = c.set_row.ensures.kept
 
 pub returns-then-is_over-clause-ok : goal.returns-then-is_over-clause-ok
 returns-then-is_over-clause-ok c =
@@ -32,7 +29,7 @@ returns-then-is_over-clause-ok c =
           c.self.inside.size.tables;
       rows = rows;
     } in
-    ap kept (c.in_ok-drop_row.ensures.ok
+    ap kept (c.drop_row.ensures.after
     ∙ sym (with_ended c.args.t (arrivals c.self.inside.rows.entries)
     (place_at c.args.at) row over))
     ∙ ap (λ (s : InForce). record s { rows = with_row c.args.t s.rows (place_at c.args.at) row })
@@ -59,4 +56,4 @@ returns-clause-ok c =
 
 pub invariant_of-self-in_err-set_row : goal.invariant_of-self-in_err-set_row
 invariant_of-self-in_err-set_row c =
-    c.set_row.ensures.kept c.self.inside.late.items c.self.invariant
+    c.set_row.ensures.kept

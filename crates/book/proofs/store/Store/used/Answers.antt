@@ -19,5 +19,5 @@ returns-else-table-self c =
     sym (ap (λ (rows : List (RowKey × Arrival)). length
     (dedup same_key (map (λ row. row.0.key) rows)))
     (no_spots c.self.inside.size.peers c.self.inside.size.tables c.args.table
-    c.self.inside.rows.entries (omega arith) c.self.invariant.are.inside))
+    c.self.inside.rows.entries (omega arith) c.self.invariant.inside))
     ∙ ap (λ (s : InForce). length (row_keys s.rows c.args.table)) c.self.view_is
