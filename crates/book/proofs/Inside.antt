@@ -1,6 +1,6 @@
 -- Rows of a book's peers and tables, as some come or go.
 use Rattle.std.proofs.Common.{◌≡◌, ℕ, ◌+◌, ◌-◌, nat_lt, Bool, true, false, cond, List, [], ◌∷◌}
-use Rattle.std.proofs.Common.{Option, None, Some, refl, sym, ap, subst, ◌∙◌, arith}
+use Rattle.std.proofs.Common.{Option, None, Some, refl, ap, ◌∙◌, arith}
 use Rattle.std.specs.Prelude.{filter, max}
 use Rattle.std.specs.BTreeMap.{insert_entry, is_at}
 use Rattle.std.specs.List.{AllByRecursion}
@@ -13,7 +13,7 @@ use Rattle.fleet_model.specs.Moments.{is_live, lives}
 use Rattle.fleet_model.specs.declared.arrival.Arrival.{Arrival}
 use Rattle.fleet_model.proofs.InForce.{row_key_cmp_exact}
 use Rattle.peer_rows.specs.Ends.{is_behind, lives_at}
-use Rattle.peer_rows.specs.Rows.{AreInOrder, RowMap, living}
+use Rattle.peer_rows.specs.Rows.{AreInOrder, RowMap}
 use Rattle.peer_rows.specs.declared.row.Row.{Row}
 use Rattle.book.specs.Planned.{AreRows, IsInside}
 use Rattle.book.specs.Shown.{arrivals, as_arrival, view_of_row}

@@ -1,8 +1,7 @@
-use Rattle.std.proofs.Common.{◌≡◌, ◌∙◌, ap, List}
+use Rattle.std.proofs.Common.{◌∙◌, ap}
 use Rattle.std.proofs.lemmas.Result.{on_ok_weaker}
 use Rattle.std.specs.BTreeMap.{insert_entry}
 use Rattle.agg_types.specs.RowKey.{row_key_cmp}
-use Rattle.agg_types.specs.declared.row_key.RowKey.{RowKey}
 use Rattle.peer_rows.specs.Rows.{RowMap}
 use Rattle.peer_rows.specs.declared.row.Row.{Row}
 use Rattle.book.specs.Planned.{place_at}
