@@ -1,16 +1,18 @@
 -- Where a peer stands among the rows of a key, and what is looked up, put in or taken out there.
-use Rattle.std.proofs.Common.{◌≡◌, ◌≢◌, ℕ, zero, suc, ◌+◌, ◌<◌, ◌≤◌, List, [], ◌∷◌, ◌++◌, length}
-use Rattle.std.proofs.Common.{take, drop, cond, Ok, Err, OnOk, OnErr, refl, sym, ◌∙◌, ap, subst}
+use Rattle.std.proofs.Common.{◌≡◌, ◌≢◌, ℕ, zero, suc, ◌<◌, ◌≤◌, List, [], ◌∷◌, ◌++◌, length}
+use Rattle.std.proofs.Common.{take, drop, cond, Ok, Err, OnOk, OnErr, refl, sym, ap, subst}
 use Rattle.std.proofs.Common.{arith, get_or, set, Bool, true, false}
-use Rattle.std.specs.Prelude.{Option, Some, None, Result, MatchBool}
+use Rattle.std.specs.Prelude.{Option, Some, None, Result, MatchBool, MatchResult}
 use Rattle.std.specs.declared.cmp.Ordering.{Ordering}
 use Rattle.std.specs.declared.cmp.Ordering.TheVariants.{Less, Equal, Greater}
-use Rattle.std.specs.Ordering.{match_ordering, is_eq, nat_cmp}
+use Rattle.std.specs.List.{AllByRecursion, HoldsAt}
+use Rattle.std.specs.Ordering.{match_ordering, is_eq, nat_cmp, ordering_index}
 use Rattle.std.specs.Cmp.{nat_cmp_is, nat_cmp_total, ranked}
 use Rattle.std.specs.Map.{keys_of, lookup, remove_entry}
 use Rattle.std.specs.BTreeMap.{insert_entry, is_at}
-use Rattle.std.specs.List.Sorted.{IsStrictlySortedBy}
-use Rattle.std.proofs.lemmas.List.{drop_more, drop_all}
+use Rattle.std.specs.List.Sorted.{IsBinarySearchResult, IsNonDecreasingBy, IsPartitionPoint}
+use Rattle.std.specs.List.Sorted.{IsSearchInRange, IsStrictlySortedBy}
+use Rattle.std.proofs.lemmas.Bool.Decides.{nat_tests}
 use Rattle.agg_types.specs.declared.no_memory.NoMemory.{NoMemory}
 use Rattle.peer_rows.specs.declared.row.Row.{Row}
 use Rattle.peer_rows.specs.Peers.{IsFound, IsGap, ArePeers}
@@ -131,33 +133,63 @@ module _ (peer : ℕ) where
 pub are_one : (peer : ℕ) (row : Row) → ArePeers ((peer, row) ∷ [])
 are_one peer row = record { some = λ e. cc; sorted = sorted_one nat_cmp peer }
 
--- the search for a place, up to a row
-module _ (peer : ℕ) (rows : List (ℕ × Row)) (at : ℕ) (further : (i : ℕ)
-    → (IsFound peer (drop at rows) i → IsFound peer rows (at + i))
-    × (IsGap peer (drop at rows) i → IsGap peer rows (at + i))) where
-  module _ (held : ℕ × Row) (in_range : at < length rows) (is : held ≡ get_or rows at held) where
-    left : drop at rows ≡ held ∷ drop (at + 1) rows
-    left = drop_more rows at held in_range ∙ ap (λ r. r ∷ drop (at + 1) rows) (sym is)
+-- a search among rows by peer
+module _ (peer : ℕ) where
+  less_at : (k : ℕ) (rows : List (ℕ × Row)) (i : ℕ) (d : ℕ × Row)
+      → AllByRecursion (λ y. nat_cmp k y ≡ Less) (keys_of rows) → i < length rows
+      → k < (get_or rows i d).0
+  less_at k [] i d all within = absurd (omega (arith, within))
+  less_at k (r ∷ rows) zero d all within = ranked k r.0 Less (sym all.0)
+  less_at k (r ∷ rows) (suc i) d all within =
+      less_at k rows i d all.1 (omega (arith, within))
 
-    pub found_here : held.0 ≡ peer → IsFound peer rows at
-    found_here e = let first : IsFound peer (drop at rows) 0 = rw left e in
-        subst (λ n. IsFound peer rows n) (omega arith) ((further 0).0 first)
+  keys_rise : (rows : List (ℕ × Row)) (i j : ℕ) (d : ℕ × Row)
+      → IsStrictlySortedBy nat_cmp (keys_of rows) → i ≤ j → j < length rows
+      → (get_or rows i d).0 ≤ (get_or rows j d).0
+  unfolding IsStrictlySortedBy
+  keys_rise [] i j d sorted le within = absurd (omega (arith, within))
+  keys_rise (r ∷ rows) zero zero d sorted le within = omega arith
+  keys_rise (r ∷ rows) zero (suc j) d sorted le within =
+      let less = less_at r.0 rows j d sorted.0 (omega (arith, within)) in omega (arith, less)
+  keys_rise (r ∷ rows) (suc i) zero d sorted le within = absurd (omega (arith, le))
+  keys_rise (r ∷ rows) (suc i) (suc j) d sorted le within =
+      keys_rise rows i j d sorted.1 (omega (arith, le)) (omega (arith, within))
 
-    pub gap_here : peer < held.0 → IsGap peer rows at
-    gap_here e = let first : IsGap peer (drop at rows) 0 = rw left e in
-        subst (λ n. IsGap peer rows n) (omega arith) ((further 0).1 first)
+  comparisons_rise : (rows : List (ℕ × Row)) → IsStrictlySortedBy nat_cmp (keys_of rows)
+      → IsNonDecreasingBy (λ r. ordering_index (nat_cmp r.0 peer)) rows
+  comparisons_rise rows sorted i j d le within =
+      let keys = keys_rise rows i j d sorted le within in grind (arith, nat_tests, keys)
 
-    pub one_further : held.0 < peer → (i : ℕ)
-        → (IsFound peer (drop (at + 1) rows) i → IsFound peer rows (at + 1 + i))
-        × (IsGap peer (drop (at + 1) rows) i → IsGap peer rows (at + 1 + i))
-    one_further e i = (
-      λ found. let next : IsFound peer (drop at rows) (suc i) = rw left (e, found) in
-          subst (λ n. IsFound peer rows n) (omega arith) ((further (suc i)).0 next),
-      λ gap. let next : IsGap peer (drop at rows) (suc i) = rw left (e, gap) in
-          subst (λ n. IsGap peer rows n) (omega arith) ((further (suc i)).1 next),
-    )
+  found_from : (rows : List (ℕ × Row)) (i : ℕ) → IsStrictlySortedBy nat_cmp (keys_of rows)
+      → i < length rows → HoldsAt (λ r. nat_cmp r.0 peer ≡ Equal) rows i → IsFound peer rows i
+  unfolding IsStrictlySortedBy
+  found_from [] i sorted within equal = absurd (omega (arith, within))
+  found_from (r ∷ rows) zero sorted within equal = ranked r.0 peer Equal (sym (equal r))
+  found_from (r ∷ rows) (suc i) sorted within equal =
+      let less = less_at r.0 rows i r sorted.0 (omega (arith, within)) in
+      let same = ranked (get_or rows i r).0 peer Equal (sym (equal r)) in
+      (omega (arith, less, same),
+      found_from rows i sorted.1 (omega (arith, within)) (λ d. equal d))
 
-  pub gap_behind : at ≡ length rows → IsGap peer rows (length rows)
-  gap_behind e = let none : drop at rows ≡ [] = drop_all at rows (omega (arith, e)) in
-      let first : IsGap peer (drop at rows) 0 = rw none tt in
-      subst (λ n. IsGap peer rows n) (omega (arith, e)) ((further 0).1 first)
+  gap_from : (rows : List (ℕ × Row)) (i : ℕ) → i ≤ length rows
+      → IsPartitionPoint (λ r. nat_cmp r.0 peer ≡ Less) (λ r. nat_cmp r.0 peer ≡ Greater) rows i
+      → IsGap peer rows i
+  gap_from [] zero within parted = tt
+  gap_from [] (suc i) within parted = absurd (omega (arith, within))
+  gap_from (r ∷ rows) zero within parted =
+      ranked r.0 peer Greater (sym (parted.1 0 r (omega arith) (omega arith)))
+  gap_from (r ∷ rows) (suc i) within parted = (
+    ranked r.0 peer Less (sym (parted.0 0 r (omega arith) (omega arith))),
+    gap_from rows i (omega (arith, within)) (
+      λ j d low high. parted.0 (suc j) d (omega arith) (omega (arith, high)),
+      λ j d low high. parted.1 (suc j) d (omega (arith, low)) (omega (arith, high)),
+    ),
+  )
+
+  pub searched : (rows : List (ℕ × Row)) → IsStrictlySortedBy nat_cmp (keys_of rows)
+      → (r : Result ℕ ℕ) → IsSearchInRange r (length rows)
+      → IsBinarySearchResult (λ r. nat_cmp r.0 peer) rows r
+      → MatchResult r (IsFound peer rows) (IsGap peer rows)
+  searched rows sorted (Ok at) within equal = found_from rows at sorted within equal
+  searched rows sorted (Err at) within parted =
+      gap_from rows at within (parted (comparisons_rise rows sorted))

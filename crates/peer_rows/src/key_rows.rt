@@ -12,7 +12,6 @@ ghost use Rattle.peer_rows.specs.Peers.{IsFound, IsGap, IsOne, ArePeers, held_by
 use crate::{OfKey, Row};
 use agg_types::NoMemory;
 use std::alloc::Global;
-use std::cmp::Ordering;
 use std::marker::Model;
 use std::{mem, slice};
 
@@ -214,11 +213,22 @@ fn put_among(rows: &mut Vec<PeerRow>, peer: usize, row: Row) -> Result<Option<Ro
     match find(rows.as_slice(), peer) {
         Ok(at) => Ok(Some(mem::replace(&mut rows[at].1, row))),
         Err(at) => {
-            rows.reserve_exact(1)?;
+            make_room(rows)?;
             rows.insert(at, (peer, row))?;
             Ok(None)
         }
     }
+}
+
+// Makes room for one row more, and with it for a quarter of those that there are: so rows are moved
+// seldom, and little room stays unused.
+fn make_room(rows: &mut Vec<PeerRow>) -> Result<(), NoMemory>
+    ensures { rows.new.items ≡ rows.old.items }
+{
+    if rows.len() < rows.capacity() {
+        return Ok(());
+    }
+    Ok(rows.reserve_exact(rows.len() / 4 + 1)?)
 }
 
 // Exchanges a row, if it is the peer's.
@@ -268,16 +278,10 @@ fn take_among(rows: &mut Vec<PeerRow>, peer: usize) -> Option<Row>
 
 // Where the row of a peer stands among rows by peer, or else where it would stand.
 fn find(rows: &[PeerRow], peer: usize) -> Result<usize, usize>
+    requires { IsStrictlySortedBy nat_cmp (keys_of rows.now) }
     ensures { MatchResult result (IsFound peer rows.now) (IsGap peer rows.now) }
 {
-    for (at, held) in rows.iter().enumerate() {
-        match held.0.cmp(&peer) {
-            Ordering::Less => {}
-            Ordering::Equal => return Ok(at),
-            Ordering::Greater => return Err(at),
-        }
-    }
-    Err(rows.len())
+    rows.binary_search_by_key(&peer, |held| held.0)
 }
 
 // When the first of some rows ends, if one does.

@@ -1,4 +1,4 @@
-use Rattle.std.proofs.Common.{◌≡◌, ◌∙◌, sym, ap, arith, ℕ}
+use Rattle.std.proofs.Common.{◌≡◌, ◌∙◌, sym, ap, arith, ℕ, List, length}
 use Rattle.std.specs.Prelude.{Some}
 use Rattle.peer_rows.specs.declared.row.Row.{Row}
 use Rattle.peer_rows.specs.Peers.{IsFound, IsGap}
@@ -32,9 +32,18 @@ returns-in-Ok-clause-old c =
     ∙ ap (λ (r : ℕ × Row). Some r.1) c.index_mut.ensures.value
     ∙ sym (found_value c.args.peer c.args.rows.now.items c.in-Ok.at c.index_mut.result.now found)
 
-pub returns-in_err-reserve_exact-in-Err-clause-held :
-    goal.returns-in_err-reserve_exact-in-Err-clause-held
-returns-in_err-reserve_exact-in-Err-clause-held c = λ held.
+pub returns-in_err-make_room-in-Err-clause-held :
+    goal.returns-in_err-make_room-in-Err-clause-held
+returns-in_err-make_room-in-Err-clause-held c = λ held.
+    let gap : IsGap c.args.peer c.args.rows.now.items c.in-Err.at = rw c.as_slice.ensures.value
+    at c.in-Err.ensures in
+    let none = gap_none c.args.peer c.args.rows.now.items c.in-Err.at c.requires.sorted gap in
+    let nothing = rw none at held in
+    cc
+
+pub returns-in_err-insert-in-Err-clause-held :
+    goal.returns-in_err-insert-in-Err-clause-held
+returns-in_err-insert-in-Err-clause-held c = λ held.
     let gap : IsGap c.args.peer c.args.rows.now.items c.in-Err.at = rw c.as_slice.ensures.value
     at c.in-Err.ensures in
     let none = gap_none c.args.peer c.args.rows.now.items c.in-Err.at c.requires.sorted gap in
@@ -47,7 +56,7 @@ insert-requires c = omega (
   gap_in c.args.peer c.as_slice.result.now c.in-Err.at
       c.in-Err.ensures,
   c.as_slice.ensures.len,
-  c.reserve_exact.ensures.len,
+  ap (λ (rows : List (ℕ × Row)). length rows) c.make_room.ensures,
 )
 
 pub returns-in_ok-insert-in-Err-clause-ok : goal.returns-in_ok-insert-in-Err-clause-ok
@@ -55,7 +64,7 @@ returns-in_ok-insert-in-Err-clause-ok c =
     let gap : IsGap c.args.peer c.args.rows.now.items c.in-Err.at = rw c.as_slice.ensures.value
     at c.in-Err.ensures in
     let put = gap_put c.args.peer c.args.rows.now.items c.in-Err.at c.args.row gap in
-    rw (c.in_ok-insert-in-Err.ensures.items, c.reserve_exact.ensures.items) (sym put)
+    rw (c.in_ok-insert-in-Err.ensures.items, c.make_room.ensures) (sym put)
 
 pub returns-in_ok-insert-in-Err-clause-old : goal.returns-in_ok-insert-in-Err-clause-old
 returns-in_ok-insert-in-Err-clause-old c =
