@@ -14,7 +14,7 @@
 //! they were. It comes where an allocation failed, and would come at the last number that a `usize`
 //! has.
 //!
-//! Words name the places. A key's hash chooses a window of eight words, and a key that finds no
+//! Words name the places. A key's hash chooses a window of 16 words, and a key that finds no
 //! free word there goes to an ordered map. So keys that are made to collide cost what an ordered
 //! map costs, and the hash needs no secret. Where the map has no memory, the place goes to a short
 //! list whose memory was taken with the room, and each search that ends there walks it. Nothing
@@ -23,7 +23,7 @@
 //!
 //! Windows are made one by one as places come, each out of one other whose words it parts. Places
 //! and windows lie in segments of 1,024, which never move; the memory of a segment is taken at
-//! once, and written only as items come. So an insert moves eight words, and the list of the
+//! once, and written only as items come. So an insert moves 16 words, and the list of the
 //! segments' addresses where that grows: at most 48 KB, up to four million places. `Segments` is
 //! that list of items by itself.
 //!

@@ -7,8 +7,12 @@ ghost use Rattle.place_index.specs.Windows.{word_of, home, IsFreeAt, IsIn, Has};
 use crate::segments::Segments;
 use std::alloc::Global;
 
-/// How many words a window has: a line of the cache.
-const WIDTH: usize = 8;
+/// How many words a window has: two lines of the cache.
+const WIDTH: usize = 16;
+
+/// There is a window for so many places. With fewer windows more keys find no free word, and an
+/// ordered map holds them. With so many it is one in 600, and their search costs next to nothing.
+const PLACES: usize = 5;
 
 /// The number of a place that may have a key of this hash, plus one. A word of number 0 is free.
 #[derive(Clone, Copy)]
@@ -141,9 +145,9 @@ impl Windows {
         self.windows.replace(home, window).is_some()
     }
 
-    /// Whether there are fewer windows than so many places want: two for seven places.
+    /// Whether there are fewer windows than so many places want.
     pub(crate) fn is_small(&self, places: usize) -> bool {
-        self.windows.len().saturating_mul(7) < places.saturating_mul(2)
+        self.windows.len().saturating_mul(PLACES) < places
     }
 
     /// Makes a further window, if there is memory for it.
@@ -195,7 +199,7 @@ fn modulo(hash: u32, by: u32) -> u32
 
 // The index of a free word.
 fn free_in(window: &Window) -> Option<usize>
-    ensures within { IfSome result (λ index. index < 8) }
+    ensures within { IfSome result (λ index. index < 16) }
     ensures free { IfSome result (λ index. IsFreeAt window.now index) }
 {
     window.iter().position(|word| word.place == 0)
@@ -203,7 +207,7 @@ fn free_in(window: &Window) -> Option<usize>
 
 // The index of a word.
 fn index_in(window: &Window, word: Word) -> Option<usize>
-    ensures within { IfSome result (λ index. index < 8) }
+    ensures within { IfSome result (λ index. index < 16) }
     ensures is { IfSome result (λ index. slice_get window.now index ≡ Some word) }
 {
     window

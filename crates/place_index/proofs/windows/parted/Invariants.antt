@@ -9,6 +9,6 @@ invariant-loop-index l =
           → (w.hash % l.wide ≡ l.number → ⊥) → slice_get l.stay n ≡ Some w;
       goes : (n : ℕ) (w : Word) → n < l.index → slice_get l.window n ≡ Some w
           → w.hash % l.wide ≡ l.number → slice_get l.go n ≡ Some w;
-      stay_len : length l.stay ≡ 8;
-      go_len : length l.go ≡ 8;
+      stay_len : length l.stay ≡ 16;
+      go_len : length l.go ≡ 16;
     }
