@@ -18,7 +18,7 @@ use Rattle.agg_types.specs.declared.event.Select.{Select}
 use Rattle.agg_types.specs.declared.event.Select.TheVariants.{All, One, Conds}
 use Rattle.agg_types.specs.declared.event.What.{What}
 use Rattle.agg_types.specs.declared.event.What.TheVariants.{Sit, Open, Put, Clear, AddFilter}
-use Rattle.agg_types.specs.declared.event.What.TheVariants.{Moment, Leave}
+use Rattle.agg_types.specs.declared.event.What.TheVariants.{DropFilter, Moment, Leave}
 
 -- whether bytes may be a key of this kind: a string has at most its length, any other exactly
 abbrev pub key_fits : KeyKind → List ℕ → Bool
@@ -79,5 +79,6 @@ fits config (Put peer table key life cells) =
     (λ shape. key_fits shape.kind key && cells_fit shape.cols cells)
 fits config (Clear table sel) = at_table config.tables table (λ shape. select_fits shape sel)
 fits config (AddFilter filter) = filter_fits config.tables filter
+fits config (DropFilter name) = true
 fits config (Moment moment) = nat_le moment LAST_MOMENT
 fits config Leave = true

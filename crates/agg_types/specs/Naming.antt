@@ -1,4 +1,5 @@
-use Rattle.std.specs.Prelude.{◌≡◌, ℕ, cond, List, Option, None, Some, Vec, nat_eq, position}
+use Rattle.std.specs.Prelude.{◌≡◌, ℕ, Bool, true, false, cond, List, Option, None, Some, Vec, is_some}
+use Rattle.std.specs.Prelude.{nat_eq, position}
 use Rattle.std.specs.Cmp.Lexicographic.{pointwise}
 use Rattle.std.specs.Option.{option_or}
 use Rattle.std.specs.Str.{bytes_eq}
@@ -27,3 +28,14 @@ abbrev pub Notes : {V S : Type 0} → IndexMap (Vec ℕ V) ℕ S → List ℕ �
     → Type 0
 Notes old name place new = (other : List ℕ) → kept_at new other
     ≡ option_or (kept_at old other) (cond (bytes_eq name other) (Some place) None)
+
+-- a place that is kept is noted; where there is none, nothing is kept
+abbrev pub IsNoted : Option ℕ → Bool → ℕ → Type 0
+IsNoted None kept noted = kept ≡ false
+IsNoted (Some place) kept noted = (kept ≡ true) × (noted ≡ place)
+
+-- what was noted of a name is its first place among these entries, or nothing where none has it
+abbrev pub NotesAgain : {A V S : Type 0} → (A → List ℕ) → List A → IndexMap (Vec ℕ V) ℕ S
+    → IndexMap (Vec ℕ V) ℕ S → Type 0
+NotesAgain name_of entries old new = (name : List ℕ) → kept_at new name
+    ≡ cond (is_some (kept_at old name)) (place_of name_of entries name) None

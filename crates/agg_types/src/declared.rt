@@ -1,9 +1,11 @@
-ghost use Rattle.std.specs.Prelude.{◌≡◌, ◌==◌, [], ◌∷◌, ◌++◌, length, take, slice_get};
+ghost use Rattle.std.specs.Prelude.{◌≡◌, ◌==◌, [], ◌∷◌, ◌++◌, length, remove, take};
+ghost use Rattle.std.specs.Prelude.{slice_get};
 ghost use Rattle.std.specs.Prelude.{IfOk, IfSome, OnOk, OnErr, ◌<◌};
 ghost use Rattle.std.specs.List.{list_any};
 ghost use Rattle.std.specs.Option.{option_copied};
 ghost use Rattle.std.specs.Str.{bytes_eq};
-ghost use Rattle.agg_types.specs.Naming.{HasLookups, Notes, place_of};
+ghost use Rattle.agg_types.specs.Naming.{HasLookups, IsNoted, Notes, NotesAgain};
+ghost use Rattle.agg_types.specs.Naming.{place_of};
 
 use crate::NoMemory;
 use indexmap::IndexMap;
@@ -72,6 +74,15 @@ impl<T: Named> Declared<T> {
         note(alloc, &mut self.firsts, entry.name(), place)?;
         self.entries.push(entry).unwrap();
         Ok(())
+    }
+
+    /// Takes away the declaration at a place; those behind it move up by one. Takes no memory.
+    pub fn remove(&mut self, place: usize)
+        requires { place < length self.old }
+        ensures { self.new ≡ remove self.old place }
+    {
+        let _gone = self.entries.remove(place);
+        note_again(&mut self.firsts, self.entries.as_slice());
     }
 
     /// The place of the first declaration of a name.
@@ -155,4 +166,35 @@ fn note(
     }
     firsts.insert(Vec::from_slice(alloc, name)?, place)?;
     Ok(())
+}
+
+// Each noted name is noted where it is declared first now, or forgotten where it no longer is.
+fn note_again<T: Named>(firsts: &mut IndexMap<Vec<u8>, usize>, entries: &[T])
+    ensures { NotesAgain T.name_of entries.now firsts.old firsts.new }
+{
+    firsts.retain(
+        |name: &Vec<u8>, first: &mut usize| -> bool
+            ensures { IsNoted (place_of T.name_of entries.entry.now name.now.items) result first.new }
+        { note_place(first, first_of(entries, name.as_slice())) },
+    );
+}
+
+// Notes a place, if there is one, and whether there is.
+fn note_place(noted: &mut usize, place: Option<usize>) -> bool
+    ensures { IsNoted place result noted.new }
+{
+    match place {
+        Some(place) => {
+            *noted = place;
+            true
+        }
+        None => false,
+    }
+}
+
+// The place of the first entry of a name.
+fn first_of<T: Named>(entries: &[T], name: &[u8]) -> Option<usize>
+    ensures { result ≡ place_of T.name_of entries.now name.now }
+{
+    entries.iter().position(|entry| entry.name() == name)
 }

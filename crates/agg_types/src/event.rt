@@ -1,4 +1,4 @@
-use crate::{Cells, Cond, Filter, Items, Key};
+use crate::{Cells, Cond, Filter, Items, Key, Name};
 
 /// A cell of a row as it comes: a count, or a rate with the ms elapsed in its current period and
 /// the events of the current and of the previous period.
@@ -40,6 +40,9 @@ pub enum What {
     },
     /// A standing filter is added behind the others.
     AddFilter(Filter),
+    /// The added filter of a name is taken away; those behind it move up by one. A configured one
+    /// stays.
+    DropFilter(Name),
     /// The clock says this moment.
     Moment(u64),
     /// The seat gets free for good.

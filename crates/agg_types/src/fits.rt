@@ -31,6 +31,7 @@ impl Config {
             }
             What::Clear { table, sel } => selection_fits(tables, *table, sel),
             What::AddFilter(filter) => filter_fits(tables, filter),
+            What::DropFilter(_) => true,
             What::Moment(moment) => *moment <= LAST_MOMENT,
             What::Leave => true,
         }
