@@ -4,7 +4,7 @@ use Rattle.std.proofs.Common.{arith}
 use Rattle.std.proofs.lemmas.Bool.Decides.{nat_tests}
 use Rattle.agg_types.specs.declared.event.What.{What}
 use Rattle.agg_types.specs.declared.event.What.TheVariants.{Sit, Open, Put, Clear, AddFilter}
-use Rattle.agg_types.specs.declared.event.What.TheVariants.{Moment, Leave}
+use Rattle.agg_types.specs.declared.event.What.TheVariants.{DropFilter, Moment, Leave}
 use Rattle.agg_types.specs.declared.limits.TheConstants.{LAST_SEAT, NUMBERS_END}
 use Rattle.fleet_model.specs.Seats.{is_next, is_number}
 use Rattle.book_frame.specs.Due.{HasDueNumber, IsDue, IsFirst}
@@ -37,5 +37,6 @@ due-is_next (Open peer) seat seq free above due next = due-next seq due next
 due-is_next (Put peer table key life cells) seat seq free above due next = due-next seq due next
 due-is_next (Clear table sel) seat seq free above due next = due-next seq due next
 due-is_next (AddFilter filter) seat seq free above due next = due-next seq due next
+due-is_next (DropFilter name) seat seq free above due next = due-next seq due next
 due-is_next (Moment moment) seat seq free above due next = due-next seq due next
 due-is_next Leave seat seq free above due next = due-next seq due next

@@ -1,7 +1,7 @@
 use Rattle.std.specs.Prelude.{◌≡◌, ℕ, ◌<◌, ◌≤◌, Option, IsTrue}
 use Rattle.agg_types.specs.declared.event.What.{What}
 use Rattle.agg_types.specs.declared.event.What.TheVariants.{Sit, Open, Put, Clear, AddFilter}
-use Rattle.agg_types.specs.declared.event.What.TheVariants.{Moment, Leave}
+use Rattle.agg_types.specs.declared.event.What.TheVariants.{DropFilter, Moment, Leave}
 use Rattle.agg_types.specs.declared.limits.TheConstants.{LAST_SEAT, NUMBERS_END}
 use Rattle.fleet_model.specs.Seats.{is_number}
 
@@ -22,5 +22,6 @@ IsDue (Open peer) seat seq due = HasDueNumber seq due
 IsDue (Put peer table key life cells) seat seq due = HasDueNumber seq due
 IsDue (Clear table sel) seat seq due = HasDueNumber seq due
 IsDue (AddFilter filter) seat seq due = HasDueNumber seq due
+IsDue (DropFilter name) seat seq due = HasDueNumber seq due
 IsDue (Moment moment) seat seq due = HasDueNumber seq due
 IsDue Leave seat seq due = HasDueNumber seq due

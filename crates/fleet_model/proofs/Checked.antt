@@ -29,25 +29,25 @@ use Rattle.fleet_model.specs.Filters.{is_new}
 use Rattle.fleet_model.specs.Next.{longest_period}
 use Rattle.fleet_model.specs.Values.{cols_of}
 
-abbrev Faults : Type 0
+abbrev pub Faults : Type 0
 Faults = List ConfigFault
 
 -- ---- no faults in all, none in each part
-front_none : (xs ys : Faults) → xs ++ ys ≡ [] → xs ≡ []
+pub front_none : (xs ys : Faults) → xs ++ ys ≡ [] → xs ≡ []
 front_none [] ys h = refl
 front_none (x ∷ xs) ys h = cc
 
-back_none : (xs ys : Faults) → xs ++ ys ≡ [] → ys ≡ []
+pub back_none : (xs ys : Faults) → xs ++ ys ≡ [] → ys ≡ []
 back_none [] ys h = h
 back_none (x ∷ xs) ys h = cc
 
-both_none : (xs ys : Faults) → xs ≡ [] → ys ≡ [] → xs ++ ys ≡ []
+pub both_none : (xs ys : Faults) → xs ≡ [] → ys ≡ [] → xs ++ ys ≡ []
 both_none xs ys e f = λ i. e i ++ f i
 
-no_fault : (b : Bool) (fault : ConfigFault) → b ≡ false → fault_if b fault ≡ []
+pub no_fault : (b : Bool) (fault : ConfigFault) → b ≡ false → fault_if b fault ≡ []
 no_fault b fault e = ap (λ b. fault_if b fault) e
 
-was_no_fault : (b : Bool) (fault : ConfigFault) → fault_if b fault ≡ [] → b ≡ false
+pub was_no_fault : (b : Bool) (fault : ConfigFault) → fault_if b fault ≡ [] → b ≡ false
 was_no_fault true fault e = cc
 was_no_fault false fault e = refl
 

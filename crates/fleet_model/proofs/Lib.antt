@@ -25,6 +25,7 @@ pub mod Small
 pub mod Cells
 pub mod Every
 pub mod Checked
+pub mod Dropping
 pub mod Sound
 pub mod KeyRows
 pub mod KeyCounts

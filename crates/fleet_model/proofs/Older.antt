@@ -14,7 +14,7 @@ use Rattle.agg_types.specs.declared.config.Config.{Config}
 use Rattle.agg_types.specs.declared.event.Event.{Event}
 use Rattle.agg_types.specs.declared.event.What.{What}
 use Rattle.agg_types.specs.declared.event.What.TheVariants.{Sit, Open, Put, Clear, AddFilter}
-use Rattle.agg_types.specs.declared.event.What.TheVariants.{Moment, Leave}
+use Rattle.agg_types.specs.declared.event.What.TheVariants.{DropFilter, Moment, Leave}
 use Rattle.fleet_model.proofs.Entries.{keep, lookup-filter, lookup-insert}
 use Rattle.fleet_model.proofs.Known.{known-sorted}
 use Rattle.fleet_model.proofs.Seats.{is_eq_back}
@@ -48,6 +48,7 @@ stays_out_at s e peer seat (Open opened) sorted other h =
 stays_out_at s e peer seat (Put from table key life cells) sorted other h = h
 stays_out_at s e peer seat (Clear table sel) sorted other h = h
 stays_out_at s e peer seat (AddFilter added) sorted other h = h
+stays_out_at s e peer seat (DropFilter name) sorted other h = h
 stays_out_at s e peer seat (Moment told) sorted other h = h
 stays_out_at s e peer seat Leave sorted other h =
     λ is. h (kept_was (λ by. not (by == e.seat)) (session_of s peer) seat

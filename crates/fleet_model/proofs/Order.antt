@@ -57,6 +57,7 @@ unfolding state_of opened judged counted_of rows_in by_place in_force now_of sea
     known filters_in
 no_events config opening = λ i. record {
   config = config;
+  configured = length config.filters;
   moment = opening;
   rows = [];
   sessions =

@@ -19,7 +19,7 @@ use Rattle.agg_types.specs.declared.config.Config.{Config}
 use Rattle.agg_types.specs.declared.event.Event.{Event}
 use Rattle.agg_types.specs.declared.event.What.{What}
 use Rattle.agg_types.specs.declared.event.What.TheVariants.{Sit, Open, Put, Clear, AddFilter}
-use Rattle.agg_types.specs.declared.event.What.TheVariants.{Moment, Leave}
+use Rattle.agg_types.specs.declared.event.What.TheVariants.{DropFilter, Moment, Leave}
 use Rattle.agg_types.specs.declared.row_key.RowKey.{RowKey}
 use Rattle.fleet_model.proofs.Entries.{equal_from, keep, lookup-filter, lookup-insert, remove_is}
 use Rattle.fleet_model.proofs.Falls.{lived_before}
@@ -110,6 +110,7 @@ happened_at s e (Clear table sel) q sorted lives =
     ∙ kept_unless (clears_at s.config s.rows s.moment (Clear table sel) q) s.moment
     (row_at q s.rows) (live_kept s.moment q s.rows lives)
 happened_at s e (AddFilter added) q sorted lives = sym (live_kept s.moment q s.rows lives)
+happened_at s e (DropFilter name) q sorted lives = sym (live_kept s.moment q s.rows lives)
 happened_at s e (Moment told) q sorted lives =
     lookup-filter row_key_cmp row_key_cmp_total row_key_cmp_exact q
     (λ row. is_live (max s.moment told) row.1) s.rows sorted
@@ -135,6 +136,7 @@ happened_grows s e (Open peer) = le_refl s.moment
 happened_grows s e (Put peer table key life cells) = le_refl s.moment
 happened_grows s e (Clear table sel) = le_refl s.moment
 happened_grows s e (AddFilter added) = le_refl s.moment
+happened_grows s e (DropFilter name) = le_refl s.moment
 happened_grows s e (Moment told) = omega arith
 happened_grows s e Leave = le_refl s.moment
 

@@ -16,7 +16,7 @@ use Rattle.agg_types.specs.declared.config.Config.{Config}
 use Rattle.agg_types.specs.declared.event.Event.{Event}
 use Rattle.agg_types.specs.declared.event.What.{What}
 use Rattle.agg_types.specs.declared.event.What.TheVariants.{Sit, Open, Put, Clear, AddFilter}
-use Rattle.agg_types.specs.declared.event.What.TheVariants.{Moment, Leave}
+use Rattle.agg_types.specs.declared.event.What.TheVariants.{DropFilter, Moment, Leave}
 use Rattle.agg_types.specs.declared.row_key.RowKey.{RowKey}
 use Rattle.fleet_model.proofs.Bools.{first, less_from, second}
 use Rattle.fleet_model.proofs.Entries.{remove_is}
@@ -194,6 +194,7 @@ happened_within s e (Clear in_table sel) h within table peer =
     filter_within (size_of s.config.tables table) (λ r. (r.0.table == table) && (r.0.peer == peer))
     _ s.rows (within table peer)
 happened_within s e (AddFilter added) h within table peer = within table peer
+happened_within s e (DropFilter name) h within table peer = within table peer
 happened_within s e (Moment told) h within table peer =
     filter_within (size_of s.config.tables table) (λ r. (r.0.table == table) && (r.0.peer == peer))
     _ s.rows (within table peer)

@@ -15,7 +15,7 @@ use Rattle.agg_types.specs.declared.event.Cell.{Cell}
 use Rattle.agg_types.specs.declared.event.Event.{Event}
 use Rattle.agg_types.specs.declared.event.What.{What}
 use Rattle.agg_types.specs.declared.event.What.TheVariants.{Sit, Open, Put, Clear, AddFilter}
-use Rattle.agg_types.specs.declared.event.What.TheVariants.{Moment, Leave}
+use Rattle.agg_types.specs.declared.event.What.TheVariants.{DropFilter, Moment, Leave}
 use Rattle.agg_types.specs.declared.limits.TheConstants.{LAST_MOMENT, MOST_SEATS}
 use Rattle.agg_types.specs.declared.row_key.RowKey.{RowKey}
 use Rattle.fleet_model.proofs.Checked.{periods_short}
@@ -80,6 +80,7 @@ small_happened state e (Put peer table key life cells) fit h =
 small_happened state e (Clear table sel) fit h =
     record { moment = h.moment; rows = every-filter IsSmall _ state.rows h.rows }
 small_happened state e (AddFilter filter) fit h = record { moment = h.moment; rows = h.rows }
+small_happened state e (DropFilter name) fit h = record { moment = h.moment; rows = h.rows }
 small_happened state e (Moment moment) fit h =
     let told : moment ≤ LAST_MOMENT = grind (arith, nat_tests) in
     let now : state.moment ≤ LAST_MOMENT = h.moment in

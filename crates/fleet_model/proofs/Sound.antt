@@ -25,18 +25,19 @@ use Rattle.agg_types.specs.declared.event.Cell.TheVariants.{Count, Rate}
 use Rattle.agg_types.specs.declared.event.Event.{Event}
 use Rattle.agg_types.specs.declared.event.What.{What}
 use Rattle.agg_types.specs.declared.event.What.TheVariants.{Sit, Open, Put, Clear, AddFilter}
-use Rattle.agg_types.specs.declared.event.What.TheVariants.{Moment, Leave}
+use Rattle.agg_types.specs.declared.event.What.TheVariants.{DropFilter, Moment, Leave}
 use Rattle.agg_types.specs.declared.limits.TheConstants.{LAST_MOMENT, MOST_SEATS}
 use Rattle.agg_types.specs.declared.row_key.RowKey.{RowKey}
 use Rattle.fleet_model.proofs.Cells.{normalized_twice}
 use Rattle.fleet_model.proofs.Checked.{checked-add}
+use Rattle.fleet_model.proofs.Dropping.{checked-drop}
 use Rattle.fleet_model.proofs.Every.{every-filter, every-insert, every-map, every-passes}
 use Rattle.fleet_model.proofs.Every.{every-remove, ordered-filter, ordered-insert, ordered-remove}
 use Rattle.fleet_model.proofs.Every.{sorted_from}
 use Rattle.fleet_model.proofs.InForce.{row_key_cmp_exact, row_key_cmp_total}
 use Rattle.fleet_model.proofs.Runs.{along}
 use Rattle.fleet_model.proofs.Sizes.{happened_within}
-use Rattle.fleet_model.specs.Filters.{is_new}
+use Rattle.fleet_model.specs.Filters.{dropped, is_new}
 use Rattle.fleet_model.specs.Normalized.{normalized_cells}
 use Rattle.fleet_model.specs.Laws.{AreLive, IsOrdered, IsWithinSizes}
 use Rattle.fleet_model.specs.Machine.{after, counts_now, happened, number_of, opened, session_of}
@@ -213,6 +214,19 @@ happened_sound s e (AddFilter added) fit h within =
           s.rows h.rows;
     } in
     sound_as (happened s e (AddFilter added)) (checked-add s.config added fit h.checked) h.in_range
+    rows h.ordered.sessions (numbers-insert s.seats e.seat (e.seq + 1) h.ordered.seats) within
+happened_sound s e (DropFilter name) fit h within =
+    let shorter : Config =
+    record s.config { filters = dropped s.configured name s.config.filters } in
+    let rows : AreSound shorter s.moment s.rows = record {
+      ordered = h.ordered.rows;
+      live = h.live;
+      each = every-map (IsSoundRow s.config s.moment) (IsSoundRow shorter s.moment)
+          (λ row own. record { fits = own.fits; kept = own.kept; arrived = own.arrived })
+          s.rows h.rows;
+    } in
+    sound_as (happened s e (DropFilter name)) (checked-drop s.config s.configured name h.checked)
+    h.in_range
     rows h.ordered.sessions (numbers-insert s.seats e.seat (e.seq + 1) h.ordered.seats) within
 happened_sound s e (Moment told) fit h within =
     let small : told ≤ LAST_MOMENT = grind (arith, nat_tests) in

@@ -15,7 +15,7 @@ use Rattle.agg_types.specs.declared.config.Filter.{Filter}
 use Rattle.agg_types.specs.declared.event.Event.{Event}
 use Rattle.agg_types.specs.declared.event.What.{What}
 use Rattle.agg_types.specs.declared.event.What.TheVariants.{Sit, Open, Put, Clear, AddFilter}
-use Rattle.agg_types.specs.declared.event.What.TheVariants.{Moment, Leave}
+use Rattle.agg_types.specs.declared.event.What.TheVariants.{DropFilter, Moment, Leave}
 use Rattle.agg_types.specs.declared.limits.TheConstants.{MOST_SEATS}
 use Rattle.agg_types.specs.declared.row_key.RowKey.{RowKey}
 use Rattle.fleet_model.proofs.InForce.{Clears_none, rows-cleared, rows-later, rows-put, rows-same}
@@ -36,9 +36,10 @@ use Rattle.fleet_model.specs.Sessions.{opens, session, sessions_in}
 use Rattle.fleet_model.specs.State.{IsStateOf, State, state_after, state_of, with_filters}
 use Rattle.fleet_model.specs.declared.arrival.Arrival.{Arrival}
 
-abbrev state : Config → ℕ → List (RowKey × Arrival) → List (ℕ × ℕ) → List (ℕ × ℕ) → ℕ → State
-state c m r s b n = record {
+abbrev state : Config → ℕ → ℕ → List (RowKey × Arrival) → List (ℕ × ℕ) → List (ℕ × ℕ) → ℕ → State
+state c k m r s b n = record {
   config = c;
+  configured = k;
   moment = m;
   rows = r;
   sessions = s;
@@ -47,11 +48,12 @@ state c m r s b n = record {
   next_seat = n;
 }
 
-same_state : {c c' : Config} {m m' : ℕ} {r r' : List (RowKey × Arrival)} {s s' b b' : List (ℕ × ℕ)}
+same_state : {c c' : Config} {k m m' : ℕ} {r r' : List (RowKey × Arrival)} {s s' b b' : List (ℕ × ℕ)}
     {n n' : ℕ} → c ≡ c' → m ≡ m' → r ≡ r' → s ≡ s' → b ≡ b' → n ≡ n'
-    → state c m r s b n ≡ state c' m' r' s' b' n'
-same_state ec em er es eb en = λ i. record {
+    → state c k m r s b n ≡ state c' k m' r' s' b' n'
+same_state {k = k} ec em er es eb en = λ i. record {
   config = ec i;
+  configured = k;
   moment = em i;
   rows = er i;
   sessions =
@@ -67,22 +69,23 @@ now-push opening counted e = fold-append (λ (now : ℕ) (e : Event). moment_aft
     counted (e ∷ [])
 
 filters-push : (config : Config) (counted : List Event) (e : Event)
-    → filters_in config (counted ++ e ∷ []) ≡ filters_after (filters_in config counted) e.what
+    → filters_in config (counted ++ e ∷ []) ≡ filters_after (length config.filters) (filters_in config counted) e.what
 unfolding filters_in
 filters-push config counted e =
-    fold-append (λ (filters : List Filter) (e : Event). filters_after filters e.what) config.filters
+    fold-append (λ (filters : List Filter) (e : Event).
+    filters_after (length config.filters) filters e.what) config.filters
     counted (e ∷ [])
 
 -- the state after one more event that counted, of which the rows are known
 abbrev longer : Config → ℕ → List Judged → Judged → List Event → State
 longer config opening h j counted =
-    state (with_filters config counted) (now_of opening counted)
+    state (with_filters config counted) (length config.filters) (now_of opening counted)
     (by_place (in_force (now_of opening counted) (h ++ j ∷ []))) (sessions_in config counted)
     (seats_in counted) (above_all (seats_of counted))
 
 abbrev shorter : Config → ℕ → List Judged → List Event → State
 shorter config opening h counted =
-    state (with_filters config counted) (now_of opening counted)
+    state (with_filters config counted) (length config.filters) (now_of opening counted)
     (by_place (in_force (now_of opening counted) h)) (sessions_in config counted)
     (seats_in counted) (above_all (seats_of counted))
 
@@ -119,11 +122,13 @@ by_parts : (config : Config) (opening : ℕ) (h : List Judged) (counted : List E
     → sessions_in config (counted ++ e ∷ []) ≡ sessions → seats_in (counted ++ e ∷ []) ≡ seats
     → above_all (seats_of (counted ++ e ∷ [])) ≡ next_seat
     → longer config opening h j (counted ++ e ∷ [])
-    ≡ state (record config { filters = filters_after (filters_in config counted) w })
+    ≡ state (record config {
+      filters = filters_after (length config.filters) (filters_in config counted) w;
+    }) (length config.filters)
     (moment_after (now_of opening counted) w) rows sessions seats next_seat
 by_parts config opening h counted e j w is rows sessions seats next_seat =
     let filters = filters-push config counted e
-    ∙ ap (filters_after (filters_in config counted)) is in
+    ∙ ap (filters_after (length config.filters) (filters_in config counted)) is in
     let moment = now-push opening counted e ∙ ap (moment_after (now_of opening counted)) is in
     same_state (λ i. record config { filters = filters i }) moment
     (ap (λ t. by_place (in_force t (h ++ j ∷ []))) moment ∙ rows) sessions seats next_seat
@@ -187,6 +192,13 @@ by_kind config opening h counted e j (AddFilter added) is row clears first fit n
     (sessions-plain config counted e (ap is_sit is) (ap is_leave is) (λ p. ap (opens p) is))
     (seats-plain counted e (ap is_sit is) (ap is_leave is) due)
     (ap above_all (seats_of-other counted e (ap is_sit is)))
+by_kind config opening h counted e j (DropFilter name) is row clears first fit next =
+    let due = number_due (is_number (number counted e.seat) e.seq) _ next in
+    by_parts config opening h counted e j (DropFilter name) is
+    (rows-same (now_of opening counted) j row clears h)
+    (sessions-plain config counted e (ap is_sit is) (ap is_leave is) (λ p. ap (opens p) is))
+    (seats-plain counted e (ap is_sit is) (ap is_leave is) due)
+    (ap above_all (seats_of-other counted e (ap is_sit is)))
 by_kind config opening h counted e j (Moment told) is row clears first fit next =
     let due = number_due (is_number (number counted e.seat) e.seq) _ next in
     let later : now_of opening counted ≤ max (now_of opening counted) told = omega arith in
@@ -210,6 +222,7 @@ fits_same config filters (Open peer) = refl
 fits_same config filters (Put peer table key life cells) = refl
 fits_same config filters (Clear table sel) = refl
 fits_same config filters (AddFilter filter) = refl
+fits_same config filters (DropFilter name) = refl
 fits_same config filters (Moment moment) = refl
 fits_same config filters Leave = refl
 
@@ -313,6 +326,7 @@ sits_or_sat config counted e does =
         inr (h (number_due _ _ next))
     one_of (Clear table sel) seat seq free above due sat h next = inr (h (number_due _ _ next))
     one_of (AddFilter filter) seat seq free above due sat h next = inr (h (number_due _ _ next))
+    one_of (DropFilter name) seat seq free above due sat h next = inr (h (number_due _ _ next))
     one_of (Moment moment) seat seq free above due sat h next = inr (h (number_due _ _ next))
     one_of Leave seat seq free above due sat h next = inr (h (number_due _ _ next))
 

@@ -8,8 +8,9 @@ use Rattle.agg_types.specs.declared.config.Config.{Config}
 use Rattle.agg_types.specs.declared.event.Event.{Event}
 use Rattle.agg_types.specs.declared.event.What.{What}
 use Rattle.agg_types.specs.declared.event.What.TheVariants.{Sit, Open, Put, Clear, AddFilter}
-use Rattle.agg_types.specs.declared.event.What.TheVariants.{Moment, Leave}
+use Rattle.agg_types.specs.declared.event.What.TheVariants.{DropFilter, Moment, Leave}
 use Rattle.agg_types.specs.declared.row_key.RowKey.{RowKey}
+use Rattle.fleet_model.proofs.Dropping.{dropped-none}
 use Rattle.fleet_model.proofs.Seats.{number_from}
 use Rattle.fleet_model.specs.Answers.{keys_of, rows_of, set_at, summed}
 use Rattle.fleet_model.specs.Laws.{AnswersAlike, AreLive, SaysNothing}
@@ -32,6 +33,7 @@ alike s later config moment rows =
       rows = rows;
       sums = λ table key i. summed (record {
         config = config i;
+        configured = s.configured;
         moment = moment i;
         rows =
             rows i;
@@ -41,6 +43,7 @@ alike s later config moment rows =
       }) table key;
       sets = λ filter t i. set_at (record {
         config = config i;
+        configured = s.configured;
         moment = moment i;
         rows =
             rows i;
@@ -50,6 +53,7 @@ alike s later config moment rows =
       }) filter t;
       rankings = λ rank i. ranked (record {
         config = config i;
+        configured = s.configured;
         moment = moment i;
         rows =
             rows i;
@@ -90,6 +94,10 @@ says_nothing s e (AddFilter added) lives h =
     alike s _ (λ i. record s.config {
       filters =
           cond (h i) (s.config.filters ++ added ∷ []) s.config.filters;
+    }) refl refl
+says_nothing s e (DropFilter name) lives h =
+    alike s _ (λ i. record s.config {
+      filters = dropped-none s.configured name s.config.filters h i;
     }) refl refl
 says_nothing s e (Moment told) lives h =
     let same : max s.moment told ≡ s.moment = omega arith in

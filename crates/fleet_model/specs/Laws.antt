@@ -19,10 +19,10 @@ use Rattle.agg_types.specs.declared.config.Rank.{Rank}
 use Rattle.agg_types.specs.declared.event.Event.{Event}
 use Rattle.agg_types.specs.declared.event.What.{What}
 use Rattle.agg_types.specs.declared.event.What.TheVariants.{Sit, Open, Put, Clear, AddFilter}
-use Rattle.agg_types.specs.declared.event.What.TheVariants.{Moment, Leave}
+use Rattle.agg_types.specs.declared.event.What.TheVariants.{DropFilter, Moment, Leave}
 use Rattle.agg_types.specs.declared.row_key.RowKey.{RowKey}
 use Rattle.fleet_model.specs.Answers.{key_value, left_of, rows_of, set_at, summed}
-use Rattle.fleet_model.specs.Filters.{is_new}
+use Rattle.fleet_model.specs.Filters.{is_added, is_new}
 use Rattle.fleet_model.specs.Machine.{counts_now, session_of}
 use Rattle.fleet_model.specs.Moments.{is_live}
 use Rattle.fleet_model.specs.Ranking.{Entries, rank_cmp, ranked, with_value}
@@ -61,7 +61,7 @@ pub record AnswersAlike (state later : State) : Type 0 where
   pub rankings : (rank : Rank) → ranked later rank ≡ ranked state rank
 
 -- an event that says nothing: a moment that isn't later, a Put that isn't of its peer's session in
--- force or has no room, or a filter that isn't taken
+-- force or has no room, a filter that isn't taken, or one to be dropped that no event added
 abbrev pub SaysNothing : State → ℕ → What → Type 0
 SaysNothing state seat Sit = ⊥
 SaysNothing state seat (Open peer) = ⊥
@@ -70,6 +70,8 @@ SaysNothing state seat (Put peer table key life cells) =
     (session_of state peer ≢ Some seat) ⊎ (has_room state.config.tables state.rows place ≡ false)
 SaysNothing state seat (Clear table sel) = ⊥
 SaysNothing state seat (AddFilter filter) = is_new state.config.filters filter ≡ false
+SaysNothing state seat (DropFilter name) =
+    is_added state.configured state.config.filters name ≡ false
 SaysNothing state seat (Moment moment) = moment ≤ state.moment
 SaysNothing state seat Leave = ⊥
 

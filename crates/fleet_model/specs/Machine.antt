@@ -10,7 +10,7 @@ use Rattle.agg_types.specs.declared.config.Config.{Config}
 use Rattle.agg_types.specs.declared.event.Event.{Event}
 use Rattle.agg_types.specs.declared.event.What.{What}
 use Rattle.agg_types.specs.declared.event.What.TheVariants.{Sit, Open, Put, Clear, AddFilter}
-use Rattle.agg_types.specs.declared.event.What.TheVariants.{Moment, Leave}
+use Rattle.agg_types.specs.declared.event.What.TheVariants.{DropFilter, Moment, Leave}
 use Rattle.agg_types.specs.declared.limits.TheConstants.{MOST_SEATS}
 use Rattle.agg_types.specs.declared.row_key.RowKey.{RowKey}
 use Rattle.fleet_model.specs.declared.arrival.Arrival.{Arrival}
@@ -82,7 +82,17 @@ happened state e (AddFilter filter) =
     record state {
       seats = with_event state e;
       config =
-          record state.config { filters = filters_after state.config.filters (AddFilter filter) };
+          record state.config {
+            filters = filters_after state.configured state.config.filters (AddFilter filter);
+          };
+    }
+happened state e (DropFilter name) =
+    record state {
+      seats = with_event state e;
+      config =
+          record state.config {
+            filters = filters_after state.configured state.config.filters (DropFilter name);
+          };
     }
 happened state e (Moment moment) =
     record state {
@@ -103,4 +113,12 @@ after state e = if counts_now state e then happened state e e.what else state
 -- a fleet in which nothing has happened yet
 unfoldable pub opened : Config → ℕ → State
 opened config moment =
-    record { config = config; moment = moment; rows = []; sessions = []; seats = []; next_seat = 0 }
+    record {
+      config = config;
+      configured = length config.filters;
+      moment = moment;
+      rows = [];
+      sessions = [];
+      seats = [];
+      next_seat = 0;
+    }

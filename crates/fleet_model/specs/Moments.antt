@@ -3,7 +3,7 @@ use Rattle.std.specs.Prelude.{ℕ, ◌+◌, Bool, true, nat_lt, List, Option, No
 use Rattle.agg_types.specs.declared.event.Event.{Event}
 use Rattle.agg_types.specs.declared.event.What.{What}
 use Rattle.agg_types.specs.declared.event.What.TheVariants.{Sit, Open, Put, Clear, AddFilter}
-use Rattle.agg_types.specs.declared.event.What.TheVariants.{Moment, Leave}
+use Rattle.agg_types.specs.declared.event.What.TheVariants.{DropFilter, Moment, Leave}
 use Rattle.fleet_model.specs.declared.arrival.Arrival.{Arrival}
 
 -- the moment after something happened: a later one that it says, else the same
@@ -13,6 +13,7 @@ moment_after now (Open peer) = now
 moment_after now (Put peer table key life cells) = now
 moment_after now (Clear table sel) = now
 moment_after now (AddFilter filter) = now
+moment_after now (DropFilter name) = now
 moment_after now (Moment moment) = max now moment
 moment_after now Leave = now
 

@@ -13,7 +13,7 @@ use Rattle.agg_types.specs.declared.event.Cell.{Cell}
 use Rattle.agg_types.specs.declared.event.Event.{Event}
 use Rattle.agg_types.specs.declared.event.What.{What}
 use Rattle.agg_types.specs.declared.event.What.TheVariants.{Sit, Open, Put, Clear, AddFilter}
-use Rattle.agg_types.specs.declared.event.What.TheVariants.{Moment, Leave}
+use Rattle.agg_types.specs.declared.event.What.TheVariants.{DropFilter, Moment, Leave}
 use Rattle.agg_types.specs.declared.row_key.RowKey.{RowKey}
 use Rattle.fleet_model.specs.declared.arrival.Arrival.{Arrival}
 use Rattle.fleet_model.specs.Normalized.{normalized_cells}
@@ -66,6 +66,7 @@ row_of config seated rows t e (Put peer table key life cells) =
     (place, arrival_of config.tables table t life cells)
 row_of config seated rows t e (Clear table sel) = None
 row_of config seated rows t e (AddFilter filter) = None
+row_of config seated rows t e (DropFilter name) = None
 row_of config seated rows t e (Moment moment) = None
 row_of config seated rows t e Leave = None
 
@@ -76,6 +77,7 @@ putter (Open peer) = 0
 putter (Put peer table key life cells) = peer
 putter (Clear table sel) = 0
 putter (AddFilter filter) = 0
+putter (DropFilter name) = 0
 putter (Moment moment) = 0
 putter Leave = 0
 
@@ -87,6 +89,7 @@ clears_at config rows t (Put peer table key life cells) place = false
 clears_at config rows t (Clear table sel) place =
     (place.table == table) && selects (cols_of config.tables table) rows table t sel place.key
 clears_at config rows t (AddFilter filter) place = false
+clears_at config rows t (DropFilter name) place = false
 clears_at config rows t (Moment moment) place = false
 clears_at config rows t Leave place = false
 

@@ -11,7 +11,7 @@ use Rattle.agg_types.specs.declared.config.Config.{Config}
 use Rattle.agg_types.specs.declared.event.Event.{Event}
 use Rattle.agg_types.specs.declared.event.What.{What}
 use Rattle.agg_types.specs.declared.event.What.TheVariants.{Sit, Open, Put, Clear, AddFilter}
-use Rattle.agg_types.specs.declared.event.What.TheVariants.{Moment, Leave}
+use Rattle.agg_types.specs.declared.event.What.TheVariants.{DropFilter, Moment, Leave}
 use Rattle.agg_types.specs.declared.limits.TheConstants.{LAST_SEAT, MOST_SEATS, NUMBERS_END}
 
 abbrev pub is_sit : What → Bool
@@ -20,6 +20,7 @@ is_sit (Open peer) = false
 is_sit (Put peer table key life cells) = false
 is_sit (Clear table sel) = false
 is_sit (AddFilter filter) = false
+is_sit (DropFilter name) = false
 is_sit (Moment moment) = false
 is_sit Leave = false
 
@@ -29,6 +30,7 @@ is_leave (Open peer) = false
 is_leave (Put peer table key life cells) = false
 is_leave (Clear table sel) = false
 is_leave (AddFilter filter) = false
+is_leave (DropFilter name) = false
 is_leave (Moment moment) = false
 is_leave Leave = true
 

@@ -7,7 +7,7 @@ use Rattle.agg_types.specs.declared.config.Config.{Config}
 use Rattle.agg_types.specs.declared.event.Event.{Event}
 use Rattle.agg_types.specs.declared.event.What.{What}
 use Rattle.agg_types.specs.declared.event.What.TheVariants.{Sit, Open, Put, Clear, AddFilter}
-use Rattle.agg_types.specs.declared.event.What.TheVariants.{Moment, Leave}
+use Rattle.agg_types.specs.declared.event.What.TheVariants.{DropFilter, Moment, Leave}
 use Rattle.fleet_model.specs.Seats.{sits, known}
 
 abbrev pub opens : ℕ → What → Bool
@@ -16,6 +16,7 @@ opens peer (Open opened) = opened == peer
 opens peer (Put from table key life cells) = false
 opens peer (Clear table sel) = false
 opens peer (AddFilter filter) = false
+opens peer (DropFilter name) = false
 opens peer (Moment moment) = false
 opens peer Leave = false
 

@@ -1,5 +1,5 @@
 -- What a list of events leaves.
-use Rattle.std.specs.Prelude.{◌≡◌, ℕ, List}
+use Rattle.std.specs.Prelude.{◌≡◌, ℕ, List, length}
 use Rattle.agg_types.specs.declared.config.Config.{Config}
 use Rattle.agg_types.specs.declared.event.Event.{Event}
 use Rattle.agg_types.specs.declared.row_key.RowKey.{RowKey}
@@ -15,6 +15,8 @@ use Rattle.fleet_model.specs.Sessions.{sessions_in}
 pub record State : Type 0 where
   -- the configuration, with the filters that stand
   pub config : Config
+  -- how many of them were configured: those stand first
+  pub configured : ℕ
   pub moment : ℕ
   -- the rows in force, by place
   pub rows : List (RowKey × Arrival)
@@ -32,6 +34,7 @@ abbrev pub state_after : Config → ℕ → List Judged → List Event → State
 state_after config opening history counted =
     record {
       config = with_filters config counted;
+      configured = length config.filters;
       moment = now_of opening counted;
       rows = rows_in opening history;
       sessions = sessions_in config counted;

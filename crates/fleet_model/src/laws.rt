@@ -8,6 +8,7 @@ ghost use Rattle.std.specs.BTreeMap.{insert_entry, is_at};
 ghost use Rattle.std.specs.List.{AllByRecursion, IsDistinct, list_any};
 ghost use Rattle.std.specs.List.Sorted.{IsStrictlySortedBy};
 ghost use Rattle.std.specs.Map.{keys_of, lookup, remove_entry};
+ghost use Rattle.std.specs.Str.{bytes_eq};
 ghost use Rattle.agg_types.specs.Check.{config_faults};
 ghost use Rattle.agg_types.specs.RowKey.{row_key_cmp};
 ghost use Rattle.agg_types.specs.declared.column.Col.{Col};
@@ -16,12 +17,13 @@ ghost use Rattle.agg_types.specs.declared.config.Filter.{Filter};
 ghost use Rattle.agg_types.specs.declared.config.Rank.{Rank};
 ghost use Rattle.agg_types.specs.declared.event.Cell.{Cell};
 ghost use Rattle.agg_types.specs.declared.event.Event.{Event};
-ghost use Rattle.agg_types.specs.declared.event.What.TheVariants.{Open, Moment, Leave};
+ghost use Rattle.agg_types.specs.declared.event.What.TheVariants.{Open, DropFilter, Moment};
+ghost use Rattle.agg_types.specs.declared.event.What.TheVariants.{Leave};
 ghost use Rattle.agg_types.specs.declared.limits.TheConstants.{LAST_MOMENT, MOST_FILTERS};
 ghost use Rattle.agg_types.specs.declared.row_key.RowKey.{RowKey};
 ghost use Rattle.fleet_model.specs.Answers.{set_at, summed};
 ghost use Rattle.fleet_model.specs.Answers as answers;
-ghost use Rattle.fleet_model.specs.Filters.{added_by, first_named};
+ghost use Rattle.fleet_model.specs.Filters.{added_by, first_named, is_added, is_drop};
 ghost use Rattle.fleet_model.specs.History.{judged};
 ghost use Rattle.fleet_model.specs.Normalized.{GivesElapsedBack, normalized_cells};
 ghost use Rattle.fleet_model.specs.Laws.{AnswersAlike, AreLive, IsInForce, IsKeyList, IsOrdered};
@@ -83,13 +85,34 @@ pub fn counting_is_of_the_list()
         ≡ counts config (counted_of (judged config opening events)) e }
 {}
 
-/// The active filters are the configured ones, and behind them the first of each name that was
-/// added and isn't configured, while fewer are active than may be.
+/// Over events among which none that counts drops a filter, those that stood stay, and behind them
+/// stands the first added one of each name that none of these has, while fewer are active than may
+/// be.
 pub fn filters_are_the_first_of_each_name()
-    ensures { (config : Config) (opening : ℕ) (events : List Event)
-        → (state_of config opening events).config.filters
-        ≡ config.filters ++ take (MOST_FILTERS - length config.filters)
-        (first_named config.filters (added_by (counted_of (judged config opening events)))) }
+    ensures { (config : Config) (opening : ℕ) (events later some : List Event)
+        → counted_of (judged config opening (events ++ later))
+        ≡ counted_of (judged config opening events) ++ some
+        → list_any (λ e. is_drop e.what) some ≡ false
+        → let before = (state_of config opening events).config.filters in
+        (state_of config opening (events ++ later)).config.filters
+        ≡ before ++ take (MOST_FILTERS - length before) (first_named before (added_by some)) }
+{}
+
+/// The configured filters stand first, whatever happens. A drop takes the added filter of its name
+/// away and no other, and its place is free again.
+pub fn a_drop_takes_one_added_filter()
+    ensures configured { (config : Config) (opening : ℕ) (events : List Event)
+        → take (length config.filters) (state_of config opening events).config.filters
+        ≡ config.filters }
+    ensures gone { (state : State) (e : Event) (name : List ℕ) → IsSound state
+        → counts_now state e ≡ true → e.what ≡ DropFilter name
+        → is_added (after state e).configured (after state e).config.filters name ≡ false }
+    ensures others { (state : State) (e : Event) (name : List ℕ) → e.what ≡ DropFilter name
+        → filter (λ f. not (bytes_eq f.name name)) (after state e).config.filters
+        ≡ filter (λ f. not (bytes_eq f.name name)) state.config.filters }
+    ensures freed { (state : State) (e : Event) (name : List ℕ) → counts_now state e ≡ true
+        → e.what ≡ DropFilter name → is_added state.configured state.config.filters name ≡ true
+        → length (after state e).config.filters + 1 ≡ length state.config.filters }
 {}
 
 /// What a state says of a seat is the number of its next event, which is how many of its events
@@ -141,7 +164,8 @@ pub fn sizes_hold()
 {}
 
 /// A moment that isn't later, a row of a seat that isn't its peer's session in force, a row past
-/// the table's size, and a filter that isn't taken change no summed row, set or ranked list.
+/// the table's size, a filter that isn't taken, and one to be dropped that no event added, change no
+/// summed row, set or ranked list.
 pub fn some_events_say_nothing()
     ensures { (state : State) (e : Event)
         → AreLive state → SaysNothing state e.seat e.what → AnswersAlike state (after state e) }

@@ -1,13 +1,13 @@
 //! Small runs, each with what it leaves: the definitions computed on them, as laws of functions
 //! that do nothing.
 
-ghost use Rattle.std.specs.Prelude.{◌≡◌, ℕ, List, [], ◌∷◌, ◌++◌, Option, None, Some};
+ghost use Rattle.std.specs.Prelude.{◌≡◌, ℕ, List, [], ◌∷◌, ◌++◌, Option, None, Some, codes};
 ghost use Rattle.agg_types.specs.declared.column.Col.TheVariants.{Gpc0, HttpReqRate};
 ghost use Rattle.agg_types.specs.declared.config.Op.TheVariants.{Eq, Ge, Gt};
 ghost use Rattle.agg_types.specs.declared.event.Cell.TheVariants.{Count, Rate};
 ghost use Rattle.agg_types.specs.declared.event.Select.TheVariants.{All, Conds};
 ghost use Rattle.agg_types.specs.declared.event.What.TheVariants.{Sit, Open, Clear, AddFilter};
-ghost use Rattle.agg_types.specs.declared.event.What.TheVariants.{Moment, Leave};
+ghost use Rattle.agg_types.specs.declared.event.What.TheVariants.{DropFilter, Moment, Leave};
 ghost use Rattle.fleet_model.specs.Answers.{filter_of, set_at};
 ghost use Rattle.fleet_model.specs.Machine.{session_of};
 ghost use Rattle.fleet_model.specs.Ranking.{ranked, ranking};
@@ -116,6 +116,23 @@ pub fn added_filters()
         ≡ filter_on Gpc0 Ge 1 ∷ [] }
     ensures twice { (left_by (fleet_of 100 Gpc0 0 (filter_on Gpc0 Eq 5 ∷ []))
         ((0, Sit) ∷ (0, AddFilter (filter_on Gpc0 Ge 1)) ∷ [])).config.filters
+        ≡ filter_on Gpc0 Eq 5 ∷ [] }
+{}
+
+/// A filter that was added is gone once it is dropped, and another one of its name may be added. A
+/// configured one stays.
+pub fn dropped_filters()
+    ensures gone { (left_by (fleet_of 100 Gpc0 0 [])
+        ((0, Sit) ∷ (0, AddFilter (filter_on Gpc0 Ge 1))
+        ∷ (0, DropFilter (codes "f")) ∷ [])).config.filters ≡ [] }
+    ensures again { (left_by (fleet_of 100 Gpc0 0 [])
+        ((0, Sit) ∷ (0, AddFilter (filter_on Gpc0 Ge 1)) ∷ (0, DropFilter (codes "f"))
+        ∷ (0, AddFilter (filter_on Gpc0 Ge 7)) ∷ [])).config.filters ≡ filter_on Gpc0 Ge 7 ∷ [] }
+    ensures other { (left_by (fleet_of 100 Gpc0 0 [])
+        ((0, Sit) ∷ (0, AddFilter (filter_on Gpc0 Ge 1))
+        ∷ (0, DropFilter (codes "g")) ∷ [])).config.filters ≡ filter_on Gpc0 Ge 1 ∷ [] }
+    ensures configured { (left_by (fleet_of 100 Gpc0 0 (filter_on Gpc0 Eq 5 ∷ []))
+        ((0, Sit) ∷ (0, DropFilter (codes "f")) ∷ [])).config.filters
         ≡ filter_on Gpc0 Eq 5 ∷ [] }
 {}
 

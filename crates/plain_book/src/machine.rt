@@ -18,7 +18,7 @@ use book_frame::seats;
 use book_frame::seats::{
     Seats, Sessions, count_up, end_sessions, is_number, open_session, sit_down, stand_up,
 };
-use book_frame::standing::{add_filter, cols_of};
+use book_frame::standing::{add_filter, cols_of, drop_filter};
 use fleet_model::Arrival;
 use std::alloc::Global;
 use std::collections::BTreeMap;
@@ -30,6 +30,8 @@ use std::marker::Model;
 pub(crate) struct Machine {
     pub(crate) alloc: Global,
     pub(crate) config: Config,
+    // How many of its filters were configured.
+    pub(crate) configured: usize,
     pub(crate) moment: u64,
     pub(crate) rows: Rows,
     pub(crate) sessions: Sessions,
@@ -44,6 +46,7 @@ impl Model for Machine {
 
     ghost view = { λ b. record {
       config = b.config;
+      configured = b.configured;
       moment = b.moment;
       rows = b.rows.entries;
       sessions = b.sessions.entries;
@@ -58,9 +61,11 @@ impl Machine {
     pub(crate) fn new(alloc: Global, config: Config, moment: u64) -> Machine
         ensures { result ≡ opened config moment }
     {
+        let configured = config.filters.len();
         Machine {
             alloc,
             config,
+            configured,
             moment,
             rows: BTreeMap::new(alloc),
             sessions: BTreeMap::new(alloc),
@@ -141,6 +146,11 @@ impl Machine {
             }
             What::AddFilter(filter) => {
                 add_filter(self.alloc, &mut self.config.filters, filter)?;
+                count_up(&mut self.seats, seat, seq);
+                Ok(())
+            }
+            What::DropFilter(name) => {
+                drop_filter(&mut self.config.filters, self.configured, name);
                 count_up(&mut self.seats, seat, seq);
                 Ok(())
             }
