@@ -7,3 +7,4 @@ pub mod Touched
 pub mod Ahead
 pub mod Walking
 pub mod Added
+pub mod Removed

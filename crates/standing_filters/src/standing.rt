@@ -1,7 +1,7 @@
 //! The standing filters of a collector.
 
 ghost use Rattle.std.specs.Prelude.{◌≡◌, ◌≤◌, ◌<◌, ◌+◌, ◌*◌, ◌==◌, ◌++◌, ◌∷◌, [], ℕ, List};
-ghost use Rattle.std.specs.Prelude.{length, map, IfOk, IsOk, OnOk, OnErr};
+ghost use Rattle.std.specs.Prelude.{length, map, remove, IfOk, IsOk, OnOk, OnErr};
 ghost use Rattle.std.specs.List.{All, AllByRecursion, list_any};
 ghost use Rattle.std.specs.List.Sorted.{IsStrictlySortedBy};
 ghost use Rattle.std.specs.BTreeMap.{is_at};
@@ -135,6 +135,14 @@ impl Standing {
         let watch = watch_keys(self.alloc, filter, keys, values, now, meter)?;
         self.watches.push(watch)?;
         Ok(())
+    }
+
+    /// Takes a filter and its verdicts away; those behind it move up by one. Takes no memory.
+    pub fn remove(&mut self, filter: usize)
+        requires { filter < length self.old.filters }
+        ensures { self.new.filters ≡ remove self.old.filters filter }
+    {
+        let _gone = self.watches.remove(filter);
     }
 
     /// The keys that a filter holds, in order.
