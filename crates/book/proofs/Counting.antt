@@ -8,7 +8,7 @@ use Rattle.agg_types.specs.declared.config.Shape.{Shape}
 use Rattle.agg_types.specs.declared.event.Event.{Event}
 use Rattle.agg_types.specs.declared.event.What.{What}
 use Rattle.agg_types.specs.declared.event.What.TheVariants.{Sit, Open, Put, Clear, AddFilter}
-use Rattle.agg_types.specs.declared.event.What.TheVariants.{Moment, Leave}
+use Rattle.agg_types.specs.declared.event.What.TheVariants.{DropFilter, Moment, Leave}
 use Rattle.agg_types.specs.declared.limits.TheConstants.{MOST_SEATS}
 use Rattle.fleet_model.specs.Machine.{counts_now, number_of}
 use Rattle.fleet_model.specs.Seats.{is_next}
@@ -47,6 +47,7 @@ placed config (Put peer table key life cells) fit =
     }
 placed config (Clear table sel) fit = tt
 placed config (AddFilter filter) fit = tt
+placed config (DropFilter name) fit = tt
 placed config (Moment moment) fit = grind (arith, nat_tests)
 placed config Leave fit = tt
 

@@ -13,7 +13,7 @@ use Rattle.agg_types.specs.declared.config.Filter.{Filter}
 use Rattle.agg_types.specs.declared.event.Event.{Event}
 use Rattle.agg_types.specs.declared.event.What.{What}
 use Rattle.agg_types.specs.declared.event.What.TheVariants.{Sit, Open, Put, Clear, AddFilter}
-use Rattle.agg_types.specs.declared.event.What.TheVariants.{Moment, Leave}
+use Rattle.agg_types.specs.declared.event.What.TheVariants.{DropFilter, Moment, Leave}
 use Rattle.crossing.specs.First.{IsFirstAt, IsFirstFrom, IsFlatSoon}
 use Rattle.fleet_model.proofs.Every.{every-map}
 use Rattle.fleet_model.proofs.Small.{key_flat_soon}
@@ -243,6 +243,7 @@ rows_stay state e (Open peer) quiet = refl
 rows_stay state e (Put peer table key life cells) quiet = absurd quiet
 rows_stay state e (Clear table sel) quiet = absurd quiet
 rows_stay state e (AddFilter filtering) quiet = absurd quiet
+rows_stay state e (DropFilter name) quiet = refl
 rows_stay state e (Moment told) quiet =
     all_stay (λ row. is_live (max state.moment told) row.1) state.rows quiet.rows
 rows_stay state e Leave quiet = refl
@@ -255,6 +256,7 @@ tables_stay state e (Open peer) = refl
 tables_stay state e (Put peer table key life cells) = refl
 tables_stay state e (Clear table sel) = refl
 tables_stay state e (AddFilter filtering) = refl
+tables_stay state e (DropFilter name) = refl
 tables_stay state e (Moment told) = refl
 tables_stay state e Leave = refl
 
@@ -287,6 +289,7 @@ calm_what state e (Open peer) counts quiet = tt
 calm_what state e (Put peer table key life cells) counts quiet = absurd quiet
 calm_what state e (Clear table sel) counts quiet = absurd quiet
 calm_what state e (AddFilter filtering) counts quiet = absurd quiet
+calm_what state e (DropFilter name) counts quiet = tt
 calm_what state e (Moment told) true quiet = quiet.sets
 calm_what state e (Moment told) false quiet =
     still_before state state.moment (max state.moment told) (omega arith) state.config.filters

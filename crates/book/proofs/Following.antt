@@ -12,7 +12,7 @@ use Rattle.agg_types.specs.declared.event.Select.{Select}
 use Rattle.agg_types.specs.declared.event.Select.TheVariants.{All, One, Conds}
 use Rattle.agg_types.specs.declared.event.What.{What}
 use Rattle.agg_types.specs.declared.event.What.TheVariants.{Sit, Open, Put, Clear, AddFilter}
-use Rattle.agg_types.specs.declared.event.What.TheVariants.{Moment, Leave}
+use Rattle.agg_types.specs.declared.event.What.TheVariants.{DropFilter, Moment, Leave}
 use Rattle.agg_types.specs.declared.row_key.RowKey.{RowKey}
 use Rattle.fleet_model.specs.Filters.{is_new}
 use Rattle.fleet_model.specs.Keys.{AreInOrder, Rows, holds, key_rows}
@@ -50,6 +50,12 @@ nothing (AddFilter filtering) state = record {
   moment = refl;
   rows = refl;
   filters = take_all (length state.config.filters) state.config.filters (omega arith);
+}
+nothing (DropFilter name) state = record {
+  tables = refl;
+  moment = refl;
+  rows = refl;
+  filters = inr refl;
 }
 nothing (Moment told) state = record {
   config = refl;
@@ -167,6 +173,12 @@ done state e (AddFilter filtering) sound is counts = record {
   moment = refl;
   rows = refl;
   filters = first_stay (is_new state.config.filters filtering) state.config.filters filtering;
+}
+done state e (DropFilter name) sound is counts = record {
+  tables = refl;
+  moment = refl;
+  rows = refl;
+  filters = inl refl;
 }
 done state e (Moment told) sound is counts = record {
   config = refl;

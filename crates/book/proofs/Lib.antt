@@ -6,6 +6,7 @@ pub mod Foresight
 pub mod Leading
 pub mod FirstKeys
 pub mod Verdicts
+pub mod Dropped
 pub mod Following
 pub mod FewReads
 pub mod Columns

@@ -61,7 +61,7 @@ judged_by tables rows moment w = AreVerdicts
     (λ table key col t. worth_within (cols_of tables table) (key_rows rows table key) col t)
     (λ table key t. living_within (key_rows rows table key) t) moment w
 
-still_judged : (state later : State) → later.config.tables ≡ state.config.tables
+pub still_judged : (state later : State) → later.config.tables ≡ state.config.tables
     → later.rows ≡ state.rows → later.moment ≡ state.moment → (w : Watched) → IsJudged state w
     → IsJudged later w
 unfolding judged_by
@@ -70,7 +70,7 @@ still_judged state later tables rows moment w judged =
     (subst (λ (rs : Rows). judged_by state.config.tables rs later.moment w) (sym rows)
     (subst (λ (t : ℕ). judged_by state.config.tables state.rows t w) (sym moment) judged))
 
-all_judged : (P Q : Watched → Type 0) → ((w : Watched) → P w → Q w) → (ws : List Watched)
+pub all_judged : (P Q : Watched → Type 0) → ((w : Watched) → P w → Q w) → (ws : List Watched)
     → AllByRecursion P ws → AllByRecursion Q ws
 all_judged P Q h [] all = tt
 all_judged P Q h (w ∷ ws) all = (h w all.0, all_judged P Q h ws all.1)

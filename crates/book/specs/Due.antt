@@ -1,7 +1,7 @@
 use Rattle.std.specs.Prelude.{ℕ, ◌<◌, ◌≤◌, Option, length}
 use Rattle.agg_types.specs.declared.event.What.{What}
 use Rattle.agg_types.specs.declared.event.What.TheVariants.{Sit, Open, Put, Clear, AddFilter}
-use Rattle.agg_types.specs.declared.event.What.TheVariants.{Moment, Leave}
+use Rattle.agg_types.specs.declared.event.What.TheVariants.{DropFilter, Moment, Leave}
 use Rattle.agg_types.specs.declared.config.Config.{Config}
 use Rattle.agg_types.specs.declared.limits.TheConstants.{LAST_MOMENT}
 use Rattle.book.specs.Planned.{IsShort}
@@ -19,5 +19,6 @@ FitsPlace config (Open peer) = Unit {0}
 FitsPlace config (Put peer table key life cells) = IsPlaced config peer table life
 FitsPlace config (Clear table sel) = Unit {0}
 FitsPlace config (AddFilter filter) = Unit {0}
+FitsPlace config (DropFilter name) = Unit {0}
 FitsPlace config (Moment moment) = moment ≤ LAST_MOMENT
 FitsPlace config Leave = Unit {0}

@@ -1,6 +1,7 @@
 -- Kept verdicts of a book's standing filters, and what an event leaves of what they rest on.
 use Rattle.std.specs.Prelude.{◌≡◌, ◌≢◌, ◌⊎◌, ℕ, zero, suc, ◌+◌, ◌-◌, ◌^◌, ◌≤◌, ◌++◌, ◌∷◌, List}
-use Rattle.std.specs.Prelude.{[], Option, IfSome, length, map, min, take}
+use Rattle.std.specs.Prelude.{◌<◌, [], Option, IfSome, length, map, min, remove, take}
+use Rattle.std.specs.Option.{option_map_or}
 use Rattle.std.specs.List.{AllByRecursion}
 use Rattle.agg_types.specs.declared.column.Col.{Col}
 use Rattle.agg_types.specs.declared.config.Filter.{Filter}
@@ -8,8 +9,9 @@ use Rattle.agg_types.specs.declared.event.Select.{Select}
 use Rattle.agg_types.specs.declared.event.Select.TheVariants.{All, One, Conds}
 use Rattle.agg_types.specs.declared.event.What.{What}
 use Rattle.agg_types.specs.declared.event.What.TheVariants.{Sit, Open, Put, Clear, AddFilter}
-use Rattle.agg_types.specs.declared.event.What.TheVariants.{Moment, Leave}
+use Rattle.agg_types.specs.declared.event.What.TheVariants.{DropFilter, Moment, Leave}
 use Rattle.fleet_model.specs.Changes.{NoKeyChangesBefore}
+use Rattle.fleet_model.specs.Filters.{dropped}
 use Rattle.fleet_model.specs.Keys.{Rows, holds, key_rows}
 use Rattle.fleet_model.specs.Sound.{IsSound}
 use Rattle.fleet_model.specs.State.{State}
@@ -95,6 +97,31 @@ pub record HasMore (state later : State) : Type 0 where
   pub rows : later.rows ≡ state.rows
   pub filters : take (length state.config.filters) later.config.filters ≡ state.config.filters
 
+-- nothing but an added filter of a name, which is gone
+pub record HasFewer (name : List ℕ) (state later : State) : Type 0 where
+  pub tables : later.config.tables ≡ state.config.tables
+  pub moment : later.moment ≡ state.moment
+  pub rows : later.rows ≡ state.rows
+  pub filters : (later.config.filters ≡ dropped state.configured name state.config.filters)
+      ⊎ (later.config.filters ≡ state.config.filters)
+
+-- the place of the added filter of a name
+pub record IsAddedPlace (state : State) (name : List ℕ) (place : Option ℕ) : Type 0 where
+  pub within : IfSome place (λ p. p < length state.config.filters)
+  pub gone : dropped state.configured name state.config.filters
+      ≡ option_map_or (λ p. remove state.config.filters p) place state.config.filters
+
+-- the place of the filter that an event drops
+abbrev pub IsLeaving : State → What → Option ℕ → Type 0
+IsLeaving state Sit place = Unit {0}
+IsLeaving state (Open peer) place = Unit {0}
+IsLeaving state (Put peer table key life cells) place = Unit {0}
+IsLeaving state (Clear table sel) place = Unit {0}
+IsLeaving state (AddFilter filtering) place = Unit {0}
+IsLeaving state (DropFilter name) place = IsAddedPlace state name place
+IsLeaving state (Moment moment) place = Unit {0}
+IsLeaving state Leave place = Unit {0}
+
 -- what a clear leaves
 abbrev pub FollowsClear : ℕ → Select → State → State → Type 0
 FollowsClear table All state later = ChangesTable table state later
@@ -108,6 +135,7 @@ Follows (Open peer) state later = Stays state later
 Follows (Put peer table key life cells) state later = ChangesKey table key state later
 Follows (Clear table sel) state later = FollowsClear table sel state later
 Follows (AddFilter filtering) state later = HasMore state later
+Follows (DropFilter name) state later = HasFewer name state later
 Follows (Moment moment) state later = GoesOn state later
 Follows Leave state later = Stays state later
 
@@ -125,6 +153,7 @@ IsCalm state later (Open peer) = Unit {0}
 IsCalm state later (Put peer table key life cells) = ⊥
 IsCalm state later (Clear table sel) = ⊥
 IsCalm state later (AddFilter filtering) = ⊥
+IsCalm state later (DropFilter name) = Unit {0}
 IsCalm state later (Moment moment) = AreStill state later
 IsCalm state later Leave = Unit {0}
 

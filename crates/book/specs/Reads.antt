@@ -6,7 +6,7 @@ use Rattle.std.specs.List.{AllByRecursion, AllZip, IsDistinct}
 use Rattle.agg_types.specs.declared.config.Filter.{Filter}
 use Rattle.agg_types.specs.declared.event.What.{What}
 use Rattle.agg_types.specs.declared.event.What.TheVariants.{Sit, Open, Put, Clear, AddFilter}
-use Rattle.agg_types.specs.declared.event.What.TheVariants.{Moment, Leave}
+use Rattle.agg_types.specs.declared.event.What.TheVariants.{DropFilter, Moment, Leave}
 use Rattle.fleet_model.specs.Answers.{keys_of}
 use Rattle.fleet_model.specs.Changes.{NoKeyChangesBefore}
 use Rattle.fleet_model.specs.Keys.{holds}
@@ -21,13 +21,14 @@ pub record IsQuietUntil (state : State) (t : ℕ) : Type 0 where
   pub sets : AllByRecursion (λ filtering. NoKeyChangesBefore state filtering (t + 1))
       state.config.filters
 
--- whether an event says nothing of rows and filters
+-- whether an event says nothing of rows, and no filter is added
 abbrev pub IsQuietTo : State → What → Type 0
 IsQuietTo state Sit = Unit {0}
 IsQuietTo state (Open peer) = Unit {0}
 IsQuietTo state (Put peer table key life cells) = ⊥
 IsQuietTo state (Clear table sel) = ⊥
 IsQuietTo state (AddFilter filtering) = ⊥
+IsQuietTo state (DropFilter name) = Unit {0}
 IsQuietTo state (Moment moment) = IsQuietUntil state (max state.moment moment)
 IsQuietTo state Leave = Unit {0}
 
@@ -68,6 +69,7 @@ IsFewFor state later (Put peer table key life cells) read = read ≤ 505 * filte
 IsFewFor state later (Clear table sel) read = read ≤ 505 * filters_at state table
 IsFewFor state later (AddFilter filtering) read =
     read ≤ 505 * pairs_from later (length state.config.filters)
+IsFewFor state later (DropFilter name) read = read ≡ 0
 IsFewFor state later (Moment moment) read = IsForDue state later.moment read
 IsFewFor state later Leave read = read ≡ 0
 
@@ -78,5 +80,6 @@ MayRenew (Open peer) = ⊥
 MayRenew (Put peer table key life cells) = ⊥
 MayRenew (Clear table sel) = Unit {0}
 MayRenew (AddFilter filtering) = Unit {0}
+MayRenew (DropFilter name) = ⊥
 MayRenew (Moment moment) = Unit {0}
 MayRenew Leave = ⊥

@@ -6,6 +6,7 @@ ghost use Rattle.agg_types.specs.declared.event.Event.{Event};
 ghost use Rattle.agg_types.specs.declared.event.What.TheVariants.{Leave};
 ghost use Rattle.agg_types.specs.declared.limits.TheConstants.{LAST_MOMENT, MOST_SEATS};
 ghost use Rattle.fleet_model.specs.Answers.{filter_of, keys_of, listed, set_at, summed};
+ghost use Rattle.fleet_model.specs.Filters.{is_added};
 ghost use Rattle.fleet_model.specs.Machine.{after, counts_now, event_of, number_of, opened};
 ghost use Rattle.fleet_model.specs.Machine.{session_of};
 ghost use Rattle.fleet_model.specs.Next.{IsNextChange, IsNextChangeBy};
@@ -27,7 +28,7 @@ use agg_types::{Cond, Config, Event, Key, NoMemory, What};
 use book_frame::keys::are_same;
 use book_frame::seats;
 use book_frame::seats::has_free_seat;
-use book_frame::standing::{cols_of, filter_at};
+use book_frame::standing::{added_at, cols_of, filter_at};
 use crossing::Meter;
 use fleet_model::Summed;
 use peer_rows::Spot;
@@ -170,11 +171,12 @@ impl Book {
     {
         fleet_model::laws::states_are_sound();
         let before = self.held.keys_used(&self.machine);
+        let leaving = self.machine.leaving(what);
         let spot = self.machine.apply(seat, seq, what, hint)?;
         let mut meter = Meter::new();
         let anew = self
             .held
-            .follow(&self.machine, what, spot, before, &mut meter);
+            .follow(&self.machine, what, spot, leaving, before, &mut meter);
         Ok(Taken {
             spot,
             read: meter.evals,
@@ -195,6 +197,15 @@ impl Book {
         ensures sound { IsSound self.now }
     {
         &self.machine.config
+    }
+
+    /// Whether a filter of a name stands that was added, and isn't one of the configuration. Takes
+    /// no memory.
+    pub fn has_added(&self, name: &[u8]) -> bool
+        ensures { result ≡ is_added self.now.configured self.now.config.filters name.now }
+    {
+        let held = &self.machine;
+        added_at(held.config.filters.as_slice(), held.configured, name).is_some()
     }
 
     /// The moment, in ms. Takes no memory.

@@ -7,7 +7,7 @@
 //! them, and a moment by which nothing changes reads nothing.
 
 ghost use Rattle.std.specs.Prelude.{◌≡◌, ◌+◌, ◌*◌, ◌<◌, ◌≤◌, ◌==◌, [], length, map, IfOk, OnOk};
-ghost use Rattle.std.specs.Prelude.{true, false};
+ghost use Rattle.std.specs.Prelude.{true, false, if◌then◌else◌, ◌&&◌, nat_lt, remove, ℕ, List};
 ghost use Rattle.std.specs.List.{list_any};
 ghost use Rattle.agg_types.specs.declared.limits.TheConstants.{MOST_CONDS};
 ghost use Rattle.fleet_model.specs.Answers.{keys_of};
@@ -16,7 +16,8 @@ ghost use Rattle.fleet_model.specs.Sound.{IsSound};
 ghost use Rattle.fleet_model.specs.State.{State};
 ghost use Rattle.standing_filters.specs.Watched.{verdicts_of, verdict_at};
 ghost use Rattle.book.specs.Held.{AreAll, AreFirst, AreHeld, ChangesKey, ChangesTable, Follows};
-ghost use Rattle.book.specs.Held.{AreStill, GoesOn, HasMore, IsCalm, IsOneMore, keys_in};
+ghost use Rattle.book.specs.Held.{AreStill, GoesOn, HasFewer, HasMore, IsAddedPlace, IsCalm};
+ghost use Rattle.book.specs.Held.{IsLeaving, IsOneMore, keys_in};
 ghost use Rattle.book.specs.Reads.{IsFewFor, IsForDue, MayRenew, filters_at, pairs_from};
 
 use crate::machine::Machine;
@@ -58,19 +59,22 @@ impl Held {
     }
 
     /// Something has happened to the machine: judges what it touched, and answers whether all keys
-    /// were judged anew. The spot is a hint at where the rows of a Put's key lie. So many keys had
-    /// rows before, where verdicts were given up.
+    /// were judged anew. The spot is a hint at where the rows of a Put's key lie. A filter that the
+    /// event may have dropped stood at the place that leaves. So many keys had rows before, where
+    /// verdicts were given up.
     pub(crate) fn follow(
         &mut self,
         machine: &Machine,
         what: &What,
         spot: Option<Spot>,
+        leaving: Option<usize>,
         before: u64,
         meter: &mut Meter,
     ) -> bool
         requires sound { IsSound machine.now }
         requires fresh { meter.old.evals ≡ 0 }
         ensures held { (state : State) → IsSound state → Follows what.now state machine.now
+            → IsLeaving state what.now leaving
             → AreHeld state self.old.standing → AreHeld machine.now self.new.standing }
         ensures few { (state : State) → IsSound state → Follows what.now state machine.now
             → AreHeld state self.old.standing → result ≡ false
@@ -96,6 +100,10 @@ impl Held {
                 Select::All | Select::Conds(_) => self.clear(machine, *table, meter),
             },
             What::AddFilter(_) => self.add(machine, meter),
+            What::DropFilter(_) => {
+                self.drop_one(machine, leaving);
+                false
+            }
             What::Moment(_) => self.go_on(machine, before, meter),
             What::Sit => false,
             What::Open(_) => false,
@@ -246,6 +254,21 @@ impl Held {
         }
     }
 
+    // An added filter may be gone, which stood at this place: then its verdicts go as well.
+    fn drop_one(&mut self, machine: &Machine, place: Option<usize>)
+        ensures held { (state : State) (name : List ℕ) → HasFewer name state machine.now
+            → IsAddedPlace state name place
+            → AreHeld state self.old.standing → AreHeld machine.now self.new.standing }
+    {
+        let Some(place) = place else {
+            return;
+        };
+        let Some(standing) = &mut self.standing else {
+            return;
+        };
+        drop_at(standing, place, machine.config.filters.len());
+    }
+
     // All keys are judged anew.
     fn renew(&mut self, machine: &Machine, meter: &mut Meter)
         requires sound { IsSound machine.now }
@@ -286,6 +309,18 @@ fn no_filters(alloc: Global) -> Result<Config, NoMemory>
         filters: Declared::new(alloc),
         ranks: Declared::new(alloc),
     })
+}
+
+// Takes away the filter at a place, if there are more than this many.
+fn drop_at(standing: &mut Standing, place: usize, count: usize)
+    ensures { standing.new.filters
+        ≡ (if nat_lt place (length standing.old.filters)
+        && nat_lt count (length standing.old.filters)
+        then remove standing.old.filters place else standing.old.filters) }
+{
+    if place < standing.len() && count < standing.len() {
+        standing.remove(place);
+    }
 }
 
 // Adds the filters that stand behind the first ones.

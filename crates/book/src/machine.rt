@@ -14,7 +14,7 @@ ghost use Rattle.fleet_model.specs.Seats.{is_number};
 ghost use Rattle.fleet_model.specs.Values.{cols_of, selects};
 ghost use Rattle.book_frame.specs.Due.{IsDue};
 ghost use Rattle.book.specs.Due.{FitsPlace};
-ghost use Rattle.book.specs.Held.{keys_in};
+ghost use Rattle.book.specs.Held.{IsLeaving, keys_in};
 ghost use Rattle.book.specs.Leading.{AreLed};
 ghost use Rattle.book.specs.Listing.{ListsMeeting};
 ghost use Rattle.book.specs.Planned.{IsInside, IsShort, place_at};
@@ -31,7 +31,7 @@ use book_frame::seats;
 use book_frame::seats::{
     Seats, Sessions, count_up, end_sessions, is_number, open_session, sit_down, stand_up,
 };
-use book_frame::standing::{add_filter, cols_of, filter_at};
+use book_frame::standing::{add_filter, added_at, cols_of, drop_filter, filter_at};
 use fleet_model::Summed;
 use peer_rows::Spot;
 use ranked::Leaders;
@@ -44,6 +44,8 @@ use std::marker::Model;
 pub(crate) struct Machine {
     pub(crate) alloc: Global,
     pub(crate) config: Config,
+    // How many of its filters were configured.
+    pub(crate) configured: usize,
     pub(crate) moment: u64,
     pub(crate) rows: Store,
     // Bounds for each ranked list, by its position.
@@ -59,6 +61,7 @@ impl Drop for Machine {
         let Machine {
             alloc: _,
             config: _,
+            configured: _,
             moment: _,
             rows: _,
             leaders: _,
@@ -76,6 +79,7 @@ impl Model for Machine {
 
     ghost view = { λ b. record {
       config = b.config;
+      configured = b.configured;
       moment = b.moment;
       rows = b.rows.rows;
       sessions = b.sessions.entries;
@@ -101,9 +105,11 @@ impl Machine {
         };
         let rows = Store::new(alloc, size)?;
         let leaders = Leaders::new(alloc, config.ranks.len())?;
+        let configured = config.filters.len();
         Ok(Machine {
             alloc,
             config,
+            configured,
             moment,
             rows,
             leaders,
@@ -160,6 +166,25 @@ impl Machine {
         ensures { result.now ≡ filter_of self.now position }
     {
         filter_at(self.config.filters.as_slice(), position)
+    }
+
+    /// The place of the filter that an event drops, if it counts.
+    pub(crate) fn leaving(&self, what: &What) -> Option<usize>
+        ensures { IsLeaving self.now what.now result }
+    {
+        match what {
+            What::DropFilter(name) => {
+                let filters = self.config.filters.as_slice();
+                added_at(filters, self.configured, name.as_slice())
+            }
+            What::Sit => None,
+            What::Open(_) => None,
+            What::Put { .. } => None,
+            What::Clear { .. } => None,
+            What::AddFilter(_) => None,
+            What::Moment(_) => None,
+            What::Leave => None,
+        }
     }
 
     #[tactic(auto, unfolding(fleet_model::specs::Machine::counts_now))]
@@ -250,6 +275,11 @@ impl Machine {
             }
             What::AddFilter(filter) => {
                 add_filter(self.alloc, &mut self.config.filters, filter)?;
+                count_up(&mut self.seats, seat, seq);
+                Ok(None)
+            }
+            What::DropFilter(name) => {
+                drop_filter(&mut self.config.filters, self.configured, name);
                 count_up(&mut self.seats, seat, seq);
                 Ok(None)
             }

@@ -7,7 +7,7 @@ use Rattle.agg_types.specs.Fits.{fits}
 use Rattle.agg_types.specs.declared.config.Config.{Config}
 use Rattle.agg_types.specs.declared.event.What.{What}
 use Rattle.agg_types.specs.declared.event.What.TheVariants.{Sit, Open, Put, Clear, AddFilter}
-use Rattle.agg_types.specs.declared.event.What.TheVariants.{Moment, Leave}
+use Rattle.agg_types.specs.declared.event.What.TheVariants.{DropFilter, Moment, Leave}
 use Rattle.session_core.specs.declared.batch.SessionFault.{SessionFault}
 use Rattle.session_core.specs.declared.cause.SessionCause.{SessionCause}
 use Rattle.session_core.specs.declared.cause.SessionCause.TheVariants as cause
@@ -64,5 +64,6 @@ is_open_or_put (Open peer) = true
 is_open_or_put (Put peer table key life cells) = true
 is_open_or_put (Clear table selected) = false
 is_open_or_put (AddFilter filter) = false
+is_open_or_put (DropFilter name) = false
 is_open_or_put (Moment moment) = false
 is_open_or_put Leave = false

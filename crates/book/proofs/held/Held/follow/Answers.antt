@@ -6,17 +6,17 @@ use Rattle.book.proofs.Verdicts.{stays_kept}
 use Rattle.book.proofs.held.Held.follow.Goals as goal
 
 pub returns-in-Sit-clause-held : goal.returns-in-Sit-clause-held
-returns-in-Sit-clause-held c = λ state sound follows held.
+returns-in-Sit-clause-held c = λ state sound follows leaving held.
     stays_kept state c.args.machine.now c.args.self.now.standing
     (subst (λ (w : What). Follows w state c.args.machine.now) c.in-Sit.is follows) held
 
 pub returns-in-Open-clause-held : goal.returns-in-Open-clause-held
-returns-in-Open-clause-held c = λ state sound follows held.
+returns-in-Open-clause-held c = λ state sound follows leaving held.
     stays_kept state c.args.machine.now c.args.self.now.standing
     (subst (λ (w : What). Follows w state c.args.machine.now) c.in-Open.is follows) held
 
 pub returns-in-Leave-clause-held : goal.returns-in-Leave-clause-held
-returns-in-Leave-clause-held c = λ state sound follows held.
+returns-in-Leave-clause-held c = λ state sound follows leaving held.
     stays_kept state c.args.machine.now c.args.self.now.standing
     (subst (λ (w : What). Follows w state c.args.machine.now) c.in-Leave.is follows) held
 
