@@ -1,10 +1,11 @@
 -- A command that is written out is read as that command.
 use Rattle.std.proofs.Common.{◌≡◌, ℕ, zero, suc, ◌<◌, ◌≤◌, ◌+◌, ◌*◌, Bool, true, false, eqb, leb}
-use Rattle.std.proofs.Common.{ltb, ◌&&◌, not, List, [], ◌∷◌, ◌++◌, length, Option, None, Some, Ok}
+use Rattle.std.proofs.Common.{ltb, ◌&&◌, ◌||◌, not, List, [], ◌∷◌, ◌++◌, length, Option, None, Some, Ok}
 use Rattle.std.proofs.Common.{codes, refl, ap, sym, subst, ◌∙◌, arith}
 use Rattle.std.specs.Prelude.{slice_get, slice_index_or}
 use Rattle.std.specs.Option.{option_map_or}
 use Rattle.std.proofs.lemmas.Bool.{leb-true, ltb-true}
+use Rattle.std.proofs.lemmas.Slice.Eq.{bytes_eq-Decides}
 use Rattle.std.specs.List.{flat_map, list_all, list_any}
 use Rattle.std.specs.Str.{bytes_eq}
 use Rattle.agg_types.specs.Check.{config_faults, each, len_fits, table_faults}
@@ -21,6 +22,7 @@ use Rattle.agg_types.specs.declared.event.Select.TheVariants.{All, One, Conds}
 use Rattle.agg_types.specs.declared.limits.TheConstants.{LONGEST_COMMAND_LINE}
 use Rattle.agg_types.specs.declared.limits.TheConstants.{MOST_CONDS, MOST_FILTERS}
 use Rattle.fleet_model.specs.Answers.{filter_of, no_filter}
+use Rattle.fleet_model.specs.Filters.{is_added}
 use Rattle.fleet_model.specs.Ranking.{no_rank, rank_of}
 use Rattle.fleet_model.specs.State.{State}
 use Rattle.line_words.proofs.Checked.{both_none, faultless, filter_stands, rank_stands}
@@ -33,7 +35,7 @@ use Rattle.show_clear.specs.Parse.{some_conds, table_and_sel, table_named}
 use Rattle.show_clear.specs.Written.{can_add, can_ask, can_pick, can_select, command_line}
 use Rattle.show_clear.specs.Written.{command_words, condition_words, have_bounds, selector_words}
 use Rattle.show_clear.specs.Written.{table_words}
-use Rattle.show_clear.specs.declared.command.Change.TheVariants.{Clear, AddFilter}
+use Rattle.show_clear.specs.declared.command.Change.TheVariants.{Clear, AddFilter, DropFilter}
 use Rattle.show_clear.specs.declared.command.Command.{Command}
 use Rattle.show_clear.specs.declared.command.Command.TheVariants.{Ask, Change as Changes}
 use Rattle.show_clear.specs.declared.command.Question.TheVariants.{Tables, Table, FilterKeys}
@@ -314,6 +316,57 @@ filter_added state filter none can =
       );
     }
 
+-- a filter that was added under a name
+record AddedFilter (filters : List Filter) (name : List ℕ) : Type 0 where
+  pub at : ℕ
+  pub filter : Filter
+  pub there : slice_get filters at ≡ Some filter
+  pub named : bytes_eq filter.name name ≡ true
+
+some_added : (filters : List Filter) (name : List ℕ)
+    → list_any (λ f. bytes_eq f.name name) filters ≡ true → AddedFilter filters name
+some_added [] name any = absurd cc
+some_added (filter ∷ filters) name any =
+    by (bytes_eq filter.name name) refl any (some_added filters name)
+  where
+    by : (b : Bool) → bytes_eq filter.name name ≡ b
+        → (b || list_any (λ f. bytes_eq f.name name) filters) ≡ true
+        → (list_any (λ f. bytes_eq f.name name) filters ≡ true → AddedFilter filters name)
+        → AddedFilter (filter ∷ filters) name
+    by true e any rest = record { at = 0; filter = filter; there = refl; named = e }
+    by false e any rest = let found = rest any in record {
+      at = suc found.at;
+      filter = found.filter;
+      there = found.there;
+      named = found.named;
+    }
+
+added_there : (configured : ℕ) (filters : List Filter) (name : List ℕ)
+    → is_added configured filters name ≡ true → AddedFilter filters name
+added_there zero filters name any = some_added filters name any
+added_there (suc n) [] name any = absurd cc
+added_there (suc n) (filter ∷ filters) name any =
+    let found = added_there n filters name any in record {
+      at = suc found.at;
+      filter = found.filter;
+      there = found.there;
+      named = found.named;
+    }
+
+filter_gone : (state : State) (name : List ℕ) → config_faults state.config ≡ []
+    → can_ask state (Changes (DropFilter name)) ≡ true → Asks state (Changes (DropFilter name))
+filter_gone state name none can =
+    let found = added_there state.configured state.config.filters name can in
+    let stands = filter_stands state.config.tables state.config.filters found.at found.filter
+    (faultless state.config none).filters found.there in
+    let is : is_name name ≡ true = subst (λ n. is_name n ≡ true)
+    ((bytes_eq-Decides found.filter.name name).0 found.named) stands.name in
+    record {
+      back = rw can refl;
+      are_words = rw (name_is_word name is) refl;
+      short = omega (arith, name_short name is);
+    }
+
 asks : (state : State) (command : Command) → config_faults state.config ≡ []
     → can_ask state command ≡ true → Asks state command
 asks state (Ask Tables) none can = record { back = refl; are_words = refl; short = omega arith }
@@ -324,6 +377,7 @@ asks state (Ask (NextChange at)) none can = next_asked state at (filter_is_named
 asks state (Changes (Clear table sel)) none can =
     cleared state table sel (picks state table sel none can)
 asks state (Changes (AddFilter filter)) none can = filter_added state filter none can
+asks state (Changes (DropFilter name)) none can = filter_gone state name none can
 
 pub command_back : (state : State) (command : Command) → config_faults state.config ≡ []
     → can_ask state command ≡ true

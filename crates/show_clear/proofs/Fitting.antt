@@ -27,14 +27,15 @@ use Rattle.line_words.specs.Operators.{operator_of}
 use Rattle.line_words.specs.Words.{words}
 use Rattle.show_clear.specs.Answer.{AskedExists, ChangedExists, NamesExist, no_shape, shape_of}
 use Rattle.show_clear.specs.Change.{ChangeFits, event_of}
-use Rattle.show_clear.specs.Parse.{Read, Tells, added, asked, at_end, cleared, command_of, cond_col}
-use Rattle.show_clear.specs.Parse.{cond_of, conds_of, filter_added, filter_named, filter_on}
+use Rattle.show_clear.specs.Parse.{Read, Tells, added, added_named, asked, at_end, cleared}
+use Rattle.show_clear.specs.Parse.{command_of, cond_col, cond_of, conds_of, dropped, filter_added}
+use Rattle.show_clear.specs.Parse.{filter_dropped, filter_named, filter_on}
 use Rattle.show_clear.specs.Parse.{filter_shown, is_data, new_name, next_shown, one_key, or_fault}
 use Rattle.show_clear.specs.Parse.{rank_named, rank_shown, sel_of, shown, some_conds, stored_col}
 use Rattle.show_clear.specs.Parse.{table_and_sel, table_cleared, table_named, table_shown}
 use Rattle.show_clear.specs.Parse.{with_bound, with_fault, with_op, without_returns, ◌>>=◌}
 use Rattle.show_clear.specs.declared.command.Change.{Change}
-use Rattle.show_clear.specs.declared.command.Change.TheVariants.{Clear, AddFilter}
+use Rattle.show_clear.specs.declared.command.Change.TheVariants.{Clear, AddFilter, DropFilter}
 use Rattle.show_clear.specs.declared.command.Command.{Command}
 use Rattle.show_clear.specs.declared.command.Command.TheVariants.{Ask, Change as Changes}
 use Rattle.show_clear.specs.declared.command.Question.{Question}
@@ -379,7 +380,17 @@ pub record IsGoodChange (state : State) (change : Change) : Type 0 where
   pub stands : ChangedExists state change
   pub fits : fits state.config (event_of change) ≡ true
 
-table_cleared_good : (state : State) (ws : List (List ℕ)) (change : Change)
+table_filter_dropped_good : (state : State) (ws : List (List ℕ)) (change : Change)
+    → filter_dropped state ws ≡ Ok change → IsGoodChange state change
+filter_dropped_good state [] change h = none_read Unknown change h
+filter_dropped_good state (name ∷ ws) change h =
+    let named = bind_ok (added_named state name) (λ _. at_end ws >>= λ _. Ok (DropFilter name))
+    change h in
+    let ended = bind_ok (at_end ws) (λ _. Ok (DropFilter name)) change named.2 in
+    subst (IsGoodChange state) (ok_same (DropFilter name) change ended.2)
+    (record { stands = tt; fits = refl })
+
+cleared_good : (state : State) (ws : List (List ℕ)) (change : Change)
     → table_cleared state ws ≡ Ok change → IsGoodChange state change
 table_cleared_good state [] change h = none_read Unknown change h
 table_cleared_good state (name ∷ ws) change h =
@@ -417,6 +428,13 @@ added_good state (word ∷ ws) change h =
     either (bytes_eq word (codes "filter")) (filter_added state ws) (Err Unknown) change h
     (filter_added_good state ws change) (none_read Unknown change)
 
+dropped_good : (state : State) (ws : List (List ℕ)) (change : Change)
+    → dropped state ws ≡ Ok change → IsGoodChange state change
+dropped_good state [] change h = none_read Unknown change h
+dropped_good state (word ∷ ws) change h =
+    either (bytes_eq word (codes "filter")) (filter_dropped state ws) (Err Unknown) change h
+    (filter_dropped_good state ws change) (none_read Unknown change)
+
 -- ---- commands
 
 -- a command names what stands, and what it changes fits
@@ -453,9 +471,12 @@ asked_good state (word ∷ ws) command h =
     command h (asking_good state (shown state ws) command (shown_good state ws)) (λ h.
     either (bytes_eq word (codes "clear")) (cleared state ws >>= λ change. Ok (Changes change)) _
     command h (changing_good state (cleared state ws) command (cleared_good state ws)) (λ h.
-    either (bytes_eq word (codes "add")) (added state ws >>= λ change. Ok (Changes change))
-    (Err Unknown) command h (changing_good state (added state ws) command (added_good state ws))
-    (none_read Unknown command)))
+    either (bytes_eq word (codes "add")) (added state ws >>= λ change. Ok (Changes change)) _
+    command h (changing_good state (added state ws) command (added_good state ws)) (λ h.
+    either (bytes_eq word (codes "del")) (dropped state ws >>= λ change. Ok (Changes change))
+    (Err Unknown) command h
+    (changing_good state (dropped state ws) command (dropped_good state ws))
+    (none_read Unknown command))))
 
 -- what a line says names what stands, and what it changes fits
 command_good : (state : State) (line : List ℕ) (command : Command)

@@ -22,7 +22,7 @@ use Rattle.key_text.specs.Printed.{key_text}
 use Rattle.show_clear.specs.Tables.{cell_text, column_text, heading, ms_or_never, row_text}
 use Rattle.show_clear.specs.Tables.{value_in}
 use Rattle.show_clear.specs.declared.command.Change.{Change}
-use Rattle.show_clear.specs.declared.command.Change.TheVariants.{Clear, AddFilter}
+use Rattle.show_clear.specs.declared.command.Change.TheVariants.{Clear, AddFilter, DropFilter}
 use Rattle.show_clear.specs.declared.command.Command.{Command}
 use Rattle.show_clear.specs.declared.command.Command.TheVariants.{Ask, Change as Changes}
 use Rattle.show_clear.specs.declared.command.Question.{Question}
@@ -163,6 +163,7 @@ AskedExists state (NextChange filter) = filter < length state.config.filters
 abbrev pub ChangedExists : State → Change → Type 0
 ChangedExists state (Clear table sel) = table < length state.config.tables
 ChangedExists state (AddFilter filter) = ⊤
+ChangedExists state (DropFilter name) = ⊤
 
 -- a command names what is in a configuration
 abbrev pub NamesExist : State → Command → Type 0

@@ -4,8 +4,9 @@ use Rattle.agg_types.specs.Fits.{fits}
 use Rattle.fleet_model.specs.State.{State}
 use Rattle.agg_types.specs.declared.event.What.{What}
 use Rattle.agg_types.specs.declared.event.What.TheVariants.{Clear as Clears, AddFilter as Adds}
+use Rattle.agg_types.specs.declared.event.What.TheVariants.{DropFilter as Drops}
 use Rattle.show_clear.specs.declared.command.Change.{Change}
-use Rattle.show_clear.specs.declared.command.Change.TheVariants.{Clear, AddFilter}
+use Rattle.show_clear.specs.declared.command.Change.TheVariants.{Clear, AddFilter, DropFilter}
 use Rattle.show_clear.specs.declared.command.Command.{Command}
 use Rattle.show_clear.specs.declared.command.Command.TheVariants.{Ask, Change as Changes}
 
@@ -18,6 +19,7 @@ change_of (Changes change) = Some change
 abbrev pub event_of : Change → What
 event_of (Clear table sel) = Clears table sel
 event_of (AddFilter filter) = Adds filter
+event_of (DropFilter name) = Drops name
 
 -- the event that a command asks for
 abbrev pub asked_event : Command → Option What

@@ -1,5 +1,5 @@
 -- What a line asks for, word by word from the left.
-use Rattle.std.specs.Prelude.{◌≡◌, ◌≢◌, ℕ, zero, suc, ◌==◌, Bool, not, if◌then◌else◌}
+use Rattle.std.specs.Prelude.{◌≡◌, ◌≢◌, ℕ, zero, suc, ◌==◌, Bool, false, not, if◌then◌else◌}
 use Rattle.std.specs.Prelude.{nat_eq, nat_le, nat_lt, List, [], ◌∷◌, codes, length, drop, position}
 use Rattle.std.specs.Prelude.{slice_index_or, find, Option, None, Some, Result, Ok, Err}
 use Rattle.std.specs.List.{list_all, list_any, starts_with}
@@ -17,6 +17,7 @@ use Rattle.agg_types.specs.declared.event.Select.{Select}
 use Rattle.agg_types.specs.declared.event.Select.TheVariants.{All, One, Conds}
 use Rattle.agg_types.specs.declared.limits.TheConstants.{LONGEST_COMMAND_LINE}
 use Rattle.agg_types.specs.declared.limits.TheConstants.{MOST_CONDS, MOST_FILTERS}
+use Rattle.fleet_model.specs.Filters.{is_added}
 use Rattle.fleet_model.specs.State.{State}
 use Rattle.key_text.specs.Read.{key_of}
 use Rattle.line_words.specs.Numbers.{number_of}
@@ -24,7 +25,7 @@ use Rattle.line_words.specs.Operators.{operator_of}
 use Rattle.line_words.specs.Words.{words}
 use Rattle.show_clear.specs.Answer.{shape_of}
 use Rattle.show_clear.specs.declared.command.Change.{Change}
-use Rattle.show_clear.specs.declared.command.Change.TheVariants.{Clear, AddFilter}
+use Rattle.show_clear.specs.declared.command.Change.TheVariants.{Clear, AddFilter, DropFilter}
 use Rattle.show_clear.specs.declared.command.Command.{Command}
 use Rattle.show_clear.specs.declared.command.Command.TheVariants.{Ask, Change as Changes}
 use Rattle.show_clear.specs.declared.command.Question.{Question}
@@ -187,6 +188,17 @@ filter_added state [] = Err Unknown
 filter_added state (word ∷ ws) =
     new_name state word >>= λ _. filter_on state word ws >>= λ filter. Ok (AddFilter filter)
 
+-- the name of a filter that was added; one that was configured stands for good
+abbrev pub added_named : State → List ℕ → Read (Unit {0})
+added_named state name =
+    if is_added state.configured state.config.filters name then Ok tt else Err NoTable
+
+-- behind `del filter`
+abbrev pub filter_dropped : State → List (List ℕ) → Read Change
+filter_dropped state [] = Err Unknown
+filter_dropped state (name ∷ ws) =
+    added_named state name >>= λ _. at_end ws >>= λ _. Ok (DropFilter name)
+
 -- behind `show`
 abbrev pub shown : State → List (List ℕ) → Read Question
 shown state [] = Err Unknown
@@ -209,6 +221,17 @@ added state [] = Err Unknown
 added state (word ∷ ws) = if bytes_eq word (codes "filter")
     then filter_added state ws else Err Unknown
 
+-- behind `del`
+abbrev pub dropped : State → List (List ℕ) → Read Change
+dropped state [] = Err Unknown
+dropped state (word ∷ ws) = if bytes_eq word (codes "filter")
+    then filter_dropped state ws else Err Unknown
+
+-- whether the first word is `del`
+abbrev pub begins_del : List (List ℕ) → Bool
+begins_del [] = false
+begins_del (word ∷ ws) = bytes_eq word (codes "del")
+
 -- the command that words say
 abbrev pub asked : State → List (List ℕ) → Read Command
 asked state [] = Err Empty
@@ -216,6 +239,7 @@ asked state (word ∷ ws) =
     if bytes_eq word (codes "show") then (shown state ws >>= λ question. Ok (Ask question))
     else if bytes_eq word (codes "clear") then (cleared state ws >>= λ change. Ok (Changes change))
     else if bytes_eq word (codes "add") then (added state ws >>= λ change. Ok (Changes change))
+    else if bytes_eq word (codes "del") then (dropped state ws >>= λ change. Ok (Changes change))
     else Err Unknown
 
 -- a line without the CRs at its end

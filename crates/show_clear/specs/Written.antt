@@ -13,13 +13,14 @@ use Rattle.agg_types.specs.declared.event.Select.{Select}
 use Rattle.agg_types.specs.declared.event.Select.TheVariants.{All, One, Conds}
 use Rattle.agg_types.specs.declared.limits.TheConstants.{MOST_FILTERS}
 use Rattle.fleet_model.specs.Answers.{filter_of}
+use Rattle.fleet_model.specs.Filters.{is_added}
 use Rattle.fleet_model.specs.Ranking.{rank_of}
 use Rattle.fleet_model.specs.State.{State}
 use Rattle.key_text.specs.Printed.{key_text}
 use Rattle.line_words.specs.Operators.{operator_word}
 use Rattle.show_clear.specs.Answer.{shape_of}
 use Rattle.show_clear.specs.declared.command.Change.{Change}
-use Rattle.show_clear.specs.declared.command.Change.TheVariants.{Clear, AddFilter}
+use Rattle.show_clear.specs.declared.command.Change.TheVariants.{Clear, AddFilter, DropFilter}
 use Rattle.show_clear.specs.declared.command.Command.{Command}
 use Rattle.show_clear.specs.declared.command.Command.TheVariants.{Ask, Change as Changes}
 use Rattle.show_clear.specs.declared.command.Question.{Question}
@@ -56,6 +57,7 @@ change_words state (Clear table sel) =
 change_words state (AddFilter filter) =
     codes "add" ∷ codes "filter" ∷ filter.name ∷ (shape_of state filter.table).name
     ∷ flat_map condition_words filter.conds
+change_words state (DropFilter name) = codes "del" ∷ codes "filter" ∷ name ∷ []
 
 abbrev pub command_words : State → Command → List (List ℕ)
 command_words state (Ask question) = question_words state question
@@ -99,3 +101,4 @@ can_ask state (Ask (NextChange at)) = nat_lt at (length state.config.filters)
 can_ask state (Changes (Clear table sel)) = can_pick state table sel
 can_ask state (Changes (AddFilter filter)) = filter_fits state.config.tables filter
     && have_bounds filter.conds && can_add state filter.name
+can_ask state (Changes (DropFilter name)) = is_added state.configured state.config.filters name

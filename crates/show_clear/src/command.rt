@@ -3,7 +3,7 @@
 ghost use Rattle.std.specs.Prelude.{◌≡◌, None, Some, IfNone, IfSome};
 ghost use Rattle.show_clear.specs.Change.{asked_event, change_of, event_of};
 
-use agg_types::{Filter, Select, What};
+use agg_types::{Filter, Name, Select, What};
 
 /// What a line asks for (Management Guide, "show table" and "clear table"; the others are this
 /// project's own). Tables, standing filters and ranked lists are named by position.
@@ -37,6 +37,8 @@ pub enum Change {
     Clear { table: usize, sel: Select },
     /// A standing filter is added behind the others.
     AddFilter(Filter),
+    /// The added filter of a name is taken away.
+    DropFilter(Name),
 }
 
 impl Command {
@@ -70,6 +72,7 @@ impl Change {
         match self {
             Change::Clear { table, sel } => What::Clear { table, sel },
             Change::AddFilter(filter) => What::AddFilter(filter),
+            Change::DropFilter(name) => What::DropFilter(name),
         }
     }
 }

@@ -1,8 +1,9 @@
 //! Commands from their lines.
 
-ghost use Rattle.std.specs.Prelude.{◌≡◌, ◌≢◌, ◌<◌, ◌≤◌, length, IfOk, Err};
+ghost use Rattle.std.specs.Prelude.{◌≡◌, ◌≢◌, ◌<◌, ◌≤◌, length, false, IfOk, Err};
 ghost use Rattle.line_words.specs.Words.{words};
-ghost use Rattle.show_clear.specs.Parse.{Tells, added, asked, at_end, cleared, command_of};
+ghost use Rattle.show_clear.specs.Parse.{Tells, added, added_named, asked, at_end, begins_del};
+ghost use Rattle.show_clear.specs.Parse.{cleared, command_of, dropped, filter_dropped};
 ghost use Rattle.show_clear.specs.Parse.{filter_added, filter_named, filter_on, filter_shown};
 ghost use Rattle.show_clear.specs.Parse.{new_name, next_shown, one_key, rank_named, rank_shown};
 ghost use Rattle.show_clear.specs.Parse.{sel_of, shown, table_and_sel, table_cleared, table_named};
@@ -30,15 +31,17 @@ pub fn parse(alloc: Global, book: &Book, line: &[u8]) -> Result<Command, Command
     ensures stands { IfOk result (NamesExist book.now) }
     ensures fits { IfOk result (ChangeFits book.now) }
 
-    // A line of up to three words takes no memory.
-    ensures spare { result ≡ Err Refused → 4 ≤ length (words (without_returns line.now)) }
+    // A line of up to three words takes no memory, but for the name of a filter to be dropped.
+    ensures spare { result ≡ Err Refused → begins_del (words (without_returns line.now)) ≡ false
+        → 4 ≤ length (words (without_returns line.now)) }
 {
     parse_line(alloc, book, line)
 }
 
 fn parse_line(alloc: Global, book: &Book, line: &[u8]) -> Result<Command, CommandFault>
     ensures read { Tells (command_of book.now line.now) result }
-    ensures spare { result ≡ Err Refused → 4 ≤ length (words (without_returns line.now)) }
+    ensures spare { result ≡ Err Refused → begins_del (words (without_returns line.now)) ≡ false
+        → 4 ≤ length (words (without_returns line.now)) }
 {
     let line = without_returns(line);
     if line.len() > LONGEST_COMMAND_LINE {
@@ -60,7 +63,8 @@ fn without_returns(line: &[u8]) -> &[u8]
 
 fn parse_words(alloc: Global, book: &Book, line: &[u8]) -> Result<Command, CommandFault>
     ensures read { Tells (asked book.now (words line.now)) result }
-    ensures spare { result ≡ Err Refused → 4 ≤ length (words line.now) }
+    ensures spare { result ≡ Err Refused → begins_del (words line.now) ≡ false
+        → 4 ≤ length (words line.now) }
 {
     let Some((word, rest)) = next_word(line) else {
         return Err(CommandFault::Empty);
@@ -69,6 +73,7 @@ fn parse_words(alloc: Global, book: &Book, line: &[u8]) -> Result<Command, Comma
         b"show" => Ok(Command::Ask(parse_show(alloc, book, rest)?)),
         b"clear" => Ok(Command::Change(parse_clear(alloc, book, rest)?)),
         b"add" => Ok(Command::Change(parse_add(alloc, book, rest)?)),
+        b"del" => Ok(Command::Change(parse_del(alloc, book, rest)?)),
         _ => Err(CommandFault::Unknown),
     }
 }
@@ -108,6 +113,17 @@ fn parse_add(alloc: Global, book: &Book, line: &[u8]) -> Result<Change, CommandF
     let (word, rest) = some_word(line)?;
     match word {
         b"filter" => parse_add_filter(alloc, book, rest),
+        _ => Err(CommandFault::Unknown),
+    }
+}
+
+// Behind `del`.
+fn parse_del(alloc: Global, book: &Book, line: &[u8]) -> Result<Change, CommandFault>
+    ensures { Tells (dropped book.now (words line.now)) result }
+{
+    let (word, rest) = some_word(line)?;
+    match word {
+        b"filter" => parse_del_filter(alloc, book, rest),
         _ => Err(CommandFault::Unknown),
     }
 }
@@ -260,6 +276,27 @@ fn parse_add_filter(alloc: Global, book: &Book, line: &[u8]) -> Result<Change, C
     let (name, rest) = some_word(line)?;
     check_new_name(book, name)?;
     Ok(Change::AddFilter(filter_on(alloc, book, name, rest)?))
+}
+
+// Behind `del filter`.
+fn parse_del_filter(alloc: Global, book: &Book, line: &[u8]) -> Result<Change, CommandFault>
+    ensures { Tells (filter_dropped book.now (words line.now)) result }
+{
+    let (name, rest) = some_word(line)?;
+    check_added(book, name)?;
+    at_end(rest)?;
+    Ok(Change::DropFilter(Name::copy(alloc, name)?))
+}
+
+// Whether an added filter has this name.
+fn check_added(book: &Book, name: &[u8]) -> Result<(), CommandFault>
+    ensures { result ≡ added_named book.now name.now }
+{
+    if book.has_added(name) {
+        Ok(())
+    } else {
+        Err(CommandFault::NoTable)
+    }
 }
 
 // Whether a filter of this name may be added.
