@@ -12,7 +12,7 @@ use Rattle.agg_types.specs.declared.event.What.{What}
 use Rattle.agg_types.specs.declared.event.What.TheVariants.{Leave, Sit}
 use Rattle.fleet_core.specs.declared.step.Step.{Step}
 use Rattle.fleet_core.specs.declared.step.Step.TheVariants.{Connect, Bytes, Lost, Clear, AddFilter}
-use Rattle.fleet_core.specs.declared.step.Step.TheVariants.{Moment}
+use Rattle.fleet_core.specs.declared.step.Step.TheVariants.{DropFilter, Moment}
 use Rattle.fleet_core.specs.Events.{added, at_seat, count_of, events_of, has_free_seat, is_seated}
 use Rattle.fleet_model.specs.Seats.{numbered}
 use Rattle.fleet_core.specs.Steps.{connects, is_lost, names, stream}
@@ -72,6 +72,7 @@ stream_other (Bytes of piece) past conn other =
 stream_other (Lost of) past conn other = append-nil (stream past conn)
 stream_other (Clear table sel) past conn other = append-nil (stream past conn)
 stream_other (AddFilter filter) past conn other = append-nil (stream past conn)
+stream_other (DropFilter name) past conn other = append-nil (stream past conn)
 stream_other (Moment moment) past conn other = append-nil (stream past conn)
 
 pub lost_other : (step : Step) (past : List Step) (conn : ℕ) → names conn step ≡ false
@@ -81,6 +82,7 @@ lost_other (Bytes of piece) past conn other = refl
 lost_other (Lost of) past conn other = ap (λ b. b || is_lost past conn) other
 lost_other (Clear table sel) past conn other = refl
 lost_other (AddFilter filter) past conn other = refl
+lost_other (DropFilter name) past conn other = refl
 lost_other (Moment moment) past conn other = refl
 
 -- a connection that no step names has no stream, and isn't lost
@@ -148,6 +150,13 @@ count-to_come config opening (Clear table sel ∷ past) conn later =
           (apart_from_lt 0 conn (omega (arith, later))),
     ) refl
 count-to_come config opening (AddFilter filter ∷ past) conn later =
+    count-append conn (events_of config opening past) _
+    ∙ rw (
+      count-to_come config opening past conn later,
+      count-other 0 conn (count_of 0 (events_of config opening past)) (_ ∷ [])
+          (apart_from_lt 0 conn (omega (arith, later))),
+    ) refl
+count-to_come config opening (DropFilter name ∷ past) conn later =
     count-append conn (events_of config opening past) _
     ∙ rw (
       count-to_come config opening past conn later,

@@ -1,4 +1,4 @@
--- What a clear, an added filter or a moment leaves.
+-- What a clear, a filter that is added or dropped, or a moment leaves.
 use Rattle.std.proofs.Common.{◌≡◌, ℕ, zero, suc, ◌+◌, false, true, ◌||◌, List, [], ◌∷◌, ◌++◌}
 use Rattle.std.proofs.Common.{Option, None, Some, if◌then◌else◌, sym, ap, ◌∙◌, refl, add-zero}
 use Rattle.std.proofs.Common.{arith}
@@ -9,7 +9,7 @@ use Rattle.agg_types.specs.declared.event.What.{What}
 use Rattle.fleet_model.specs.Seats.{numbered}
 use Rattle.fleet_core.specs.declared.step.Step.{Step}
 use Rattle.fleet_core.specs.declared.step.Step.TheVariants.{Connect, Bytes, Lost, Clear, AddFilter}
-use Rattle.fleet_core.specs.declared.step.Step.TheVariants.{Moment}
+use Rattle.fleet_core.specs.declared.step.Step.TheVariants.{DropFilter, Moment}
 use Rattle.fleet_core.specs.Events.{added, at_front, count_of, events_of}
 use Rattle.fleet_core.specs.Links.{link_of, linked}
 use Rattle.fleet_core.specs.Possible.{is_possible}
@@ -38,6 +38,12 @@ some_events config opening past (AddFilter filter) what is =
     if_some : Option What → List Event
     if_some None = []
     if_some (Some what) = at_front (events_of config opening past) what
+some_events config opening past (DropFilter name) what is =
+    ap (λ o. events_of config opening past ++ (if_some o)) is
+  where
+    if_some : Option What → List Event
+    if_some None = []
+    if_some (Some what) = at_front (events_of config opening past) what
 some_events config opening past (Moment moment) what is =
     ap (λ o. events_of config opening past ++ (if_some o)) is
   where
@@ -52,6 +58,7 @@ front_quiet (Bytes conn piece) what is = cc
 front_quiet (Lost conn) what is = cc
 front_quiet (Clear table sel) what is = (refl, λ conn. refl)
 front_quiet (AddFilter filter) what is = (refl, λ conn. refl)
+front_quiet (DropFilter name) what is = (refl, λ conn. refl)
 front_quiet (Moment moment) what is = (refl, λ conn. refl)
 
 pub front_done : (f g : Collected) (config : Config) (opening : ℕ) (past : List Step) (step : Step)

@@ -16,7 +16,7 @@ use Rattle.fleet_core.specs.declared.step.FleetFault.TheVariants.{NoConn, Spent,
 use Rattle.fleet_core.specs.declared.step.Replies.{Replies}
 use Rattle.fleet_core.specs.declared.step.Step.{Step}
 use Rattle.fleet_core.specs.declared.step.Step.TheVariants.{Connect, Bytes, Lost, Clear, AddFilter}
-use Rattle.fleet_core.specs.declared.step.Step.TheVariants.{Moment}
+use Rattle.fleet_core.specs.declared.step.Step.TheVariants.{DropFilter, Moment}
 use Rattle.fleet_core.specs.Answers.{Answers}
 use Rattle.fleet_core.specs.Possible.{can_be, does_fit, end_by, sent_by, spends_at}
 use Rattle.fleet_core.specs.Runs.{Goes, IsAdvanced, IsFault, done, fault_at, late_fault, run_answer}
@@ -35,6 +35,7 @@ session_conn config opening past (Bytes conn piece) cause is = refl
 session_conn config opening past (Lost conn) cause is = cc
 session_conn config opening past (Clear table sel) cause is = cc
 session_conn config opening past (AddFilter filter) cause is = cc
+session_conn config opening past (DropFilter name) cause is = cc
 session_conn config opening past (Moment moment) cause is = cc
 
 -- what is known behind the answer of a step

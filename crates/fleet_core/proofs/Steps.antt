@@ -22,7 +22,7 @@ use Rattle.fleet_core.specs.declared.step.FleetFault.TheVariants.{Session}
 use Rattle.fleet_core.specs.declared.step.Replies.{Replies}
 use Rattle.fleet_core.specs.declared.step.Step.{Step}
 use Rattle.fleet_core.specs.declared.step.Step.TheVariants.{Connect, Bytes, Lost, Clear, AddFilter}
-use Rattle.fleet_core.specs.declared.step.Step.TheVariants.{Moment}
+use Rattle.fleet_core.specs.declared.step.Step.TheVariants.{DropFilter, Moment}
 use Rattle.fleet_core.specs.Adds.{Adds, IsFed}
 use Rattle.fleet_core.specs.Answers.{Answers}
 use Rattle.fleet_core.specs.Events.{count_of, events_of, is_seated}
@@ -61,6 +61,7 @@ fits_then config opening taken (Bytes conn piece) = refl
 fits_then config opening taken (Lost conn) = refl
 fits_then config opening taken (Clear table sel) = refl
 fits_then config opening taken (AddFilter filter) = refl
+fits_then config opening taken (DropFilter name) = refl
 fits_then config opening taken (Moment moment) = refl
 
 pub fits_now : (fleet : Collected) (config : Config) (opening : ℕ) (past : List Step) (step : Step)
@@ -87,6 +88,8 @@ front_tells config opening past (Lost conn) some = cc
 front_tells config opening past (Clear table sel) some =
     record { could_be = refl; numbers = refl; ended = refl; out = refl; conn = refl }
 front_tells config opening past (AddFilter filter) some =
+    record { could_be = refl; numbers = refl; ended = refl; out = refl; conn = refl }
+front_tells config opening past (DropFilter name) some =
     record { could_be = refl; numbers = refl; ended = refl; out = refl; conn = refl }
 front_tells config opening past (Moment moment) some =
     record { could_be = refl; numbers = refl; ended = refl; out = refl; conn = refl }

@@ -13,7 +13,7 @@ use Rattle.session_core.specs.Talk.{Talk, talk}
 use Rattle.session_core.specs.declared.cause.End.{End}
 use Rattle.fleet_core.specs.declared.step.Step.{Step}
 use Rattle.fleet_core.specs.declared.step.Step.TheVariants.{Connect, Bytes, Lost, Clear, AddFilter}
-use Rattle.fleet_core.specs.declared.step.Step.TheVariants.{Moment}
+use Rattle.fleet_core.specs.declared.step.Step.TheVariants.{DropFilter, Moment}
 use Rattle.fleet_core.specs.Steps.{connects, stream}
 
 -- how many events a seat has
@@ -66,10 +66,11 @@ added config opening past events (Bytes conn piece) =
 added config opening past events (Lost conn) = at_seat events conn (whats.Leave ∷ [])
 added config opening past events (Clear table sel) = at_front events (whats.Clear table sel)
 added config opening past events (AddFilter filter) = at_front events (whats.AddFilter filter)
+added config opening past events (DropFilter name) = at_front events (whats.DropFilter name)
 added config opening past events (Moment moment) = at_front events (whats.Moment moment)
 
--- the events of a list of steps: first the Sit of seat 0, at which clears, added filters and
--- moments happen
+-- the events of a list of steps: first the Sit of seat 0, at which rows are cleared, filters added
+-- and dropped, and moments told
 unfoldable pub events_of : Config → ℕ → List Step → List Event
 events_of config opening [] = numbered 0 0 (whats.Sit ∷ [])
 events_of config opening (step ∷ past) =

@@ -11,7 +11,7 @@ use Rattle.session_core.specs.declared.cause.SessionCause.{SessionCause}
 use Rattle.fleet_core.specs.declared.step.Replies.{Replies}
 use Rattle.fleet_core.specs.declared.step.Step.{Step}
 use Rattle.fleet_core.specs.declared.step.Step.TheVariants.{Connect, Bytes, Lost, Clear, AddFilter}
-use Rattle.fleet_core.specs.declared.step.Step.TheVariants.{Moment}
+use Rattle.fleet_core.specs.declared.step.Step.TheVariants.{DropFilter, Moment}
 use Rattle.fleet_core.specs.Events.{count_of, events_of, is_seated, talk_of, talk_with}
 use Rattle.fleet_core.specs.Links.{is_open}
 use Rattle.fleet_core.specs.Steps.{connects, what_at}
@@ -31,6 +31,7 @@ can_be config opening past (Bytes conn piece) = is_open_after config opening pas
 can_be config opening past (Lost conn) = is_open_after config opening past conn
 can_be config opening past (Clear table sel) = true
 can_be config opening past (AddFilter filter) = true
+can_be config opening past (DropFilter name) = true
 can_be config opening past (Moment moment) = true
 
 -- whether a seat has no numbers left for so many events
@@ -52,6 +53,7 @@ is_spent config opening past (Bytes conn piece) =
 is_spent config opening past (Lost conn) = false
 is_spent config opening past (Clear table sel) = is_seat_full config opening past 0 1
 is_spent config opening past (AddFilter filter) = is_seat_full config opening past 0 1
+is_spent config opening past (DropFilter name) = is_seat_full config opening past 0 1
 is_spent config opening past (Moment moment) = is_seat_full config opening past 0 1
 
 -- whether a step finds its connection open and numbers spent
@@ -90,6 +92,7 @@ sent_by config opening past (Bytes conn piece) =
 sent_by config opening past (Lost conn) = record { conn = conn; out = [] }
 sent_by config opening past (Clear table sel) = record { conn = 0; out = [] }
 sent_by config opening past (AddFilter filter) = record { conn = 0; out = [] }
+sent_by config opening past (DropFilter name) = record { conn = 0; out = [] }
 sent_by config opening past (Moment moment) = record { conn = 0; out = [] }
 
 -- why the stream ends that a step brings bytes of, if it ends there
@@ -100,4 +103,5 @@ end_by config opening past (Bytes conn piece) =
 end_by config opening past (Lost conn) = None
 end_by config opening past (Clear table sel) = None
 end_by config opening past (AddFilter filter) = None
+end_by config opening past (DropFilter name) = None
 end_by config opening past (Moment moment) = None

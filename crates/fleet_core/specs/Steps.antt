@@ -6,7 +6,7 @@ use Rattle.agg_types.specs.declared.event.What.{What}
 use Rattle.agg_types.specs.declared.event.What.TheVariants as whats
 use Rattle.fleet_core.specs.declared.step.Step.{Step}
 use Rattle.fleet_core.specs.declared.step.Step.TheVariants.{Connect, Bytes, Lost, Clear, AddFilter}
-use Rattle.fleet_core.specs.declared.step.Step.TheVariants.{Moment}
+use Rattle.fleet_core.specs.declared.step.Step.TheVariants.{DropFilter, Moment}
 
 abbrev pub is_connect : Step → Bool
 is_connect Connect = true
@@ -14,6 +14,7 @@ is_connect (Bytes conn piece) = false
 is_connect (Lost conn) = false
 is_connect (Clear table sel) = false
 is_connect (AddFilter filter) = false
+is_connect (DropFilter name) = false
 is_connect (Moment moment) = false
 
 -- how many connections came; they are numbered from 1
@@ -28,6 +29,7 @@ piece_of conn (Bytes of piece) = if of == conn then piece else []
 piece_of conn (Lost of) = []
 piece_of conn (Clear table sel) = []
 piece_of conn (AddFilter filter) = []
+piece_of conn (DropFilter name) = []
 piece_of conn (Moment moment) = []
 
 -- the bytes of a connection's stream
@@ -42,6 +44,7 @@ loses conn (Bytes of piece) = false
 loses conn (Lost of) = of == conn
 loses conn (Clear table sel) = false
 loses conn (AddFilter filter) = false
+loses conn (DropFilter name) = false
 loses conn (Moment moment) = false
 
 abbrev pub is_lost : List Step → ℕ → Bool
@@ -54,15 +57,17 @@ names conn (Bytes of piece) = of == conn
 names conn (Lost of) = of == conn
 names conn (Clear table sel) = false
 names conn (AddFilter filter) = false
+names conn (DropFilter name) = false
 names conn (Moment moment) = false
 
--- what a step makes happen at seat 0: a clear, an added filter or a moment
+-- what a step makes happen at seat 0: a clear, a filter that is added or dropped, or a moment
 abbrev pub what_at : Step → Option What
 what_at Connect = None
 what_at (Bytes conn piece) = None
 what_at (Lost conn) = None
 what_at (Clear table sel) = Some (whats.Clear table sel)
 what_at (AddFilter filter) = Some (whats.AddFilter filter)
+what_at (DropFilter name) = Some (whats.DropFilter name)
 what_at (Moment moment) = Some (whats.Moment moment)
 
 -- the connection that a step names
@@ -72,4 +77,5 @@ conn_of (Bytes conn piece) = conn
 conn_of (Lost conn) = conn
 conn_of (Clear table sel) = 0
 conn_of (AddFilter filter) = 0
+conn_of (DropFilter name) = 0
 conn_of (Moment moment) = 0

@@ -28,9 +28,9 @@ use std::marker::Model;
 
 /// A collector in one thread: the connections of its peers, and the book of what they push.
 ///
-/// Seat 0 sits for clears, added filters and moments. A connection's seat has its number. A fleet
-/// stands for the steps that were done, and its book answers what recomputing from all their events
-/// gives, but for the last of them, which wait where an allocation failed.
+/// Seat 0 sits for clears, filters that are added or dropped, and moments. A connection's seat has
+/// its number. A fleet stands for the steps that were done, and its book answers what recomputing
+/// from all their events gives, but for the last of them, which wait where an allocation failed.
 #[derive(Drop)]
 pub struct Fleet {
     alloc: Global,
@@ -91,8 +91,8 @@ impl Fleet {
         self.waiting.len()
     }
 
-    /// Does a step. A clear, an added filter or a moment fits the configuration that stands, which
-    /// `Step::fits` tells. Faults, in this order: NoConn, Spent, NoMemory, Session. Where an
+    /// Does a step. A clear, a filter that is added or dropped, or a moment fits the configuration
+    /// that stands, which `Step::fits` tells. Faults, in this order: NoConn, Spent, NoMemory, Session. Where an
     /// allocation fails after the step is done, what the book has yet to take waits.
     ///
     /// A connection is open if it came, wasn't lost, and its stream hasn't ended.
@@ -140,7 +140,10 @@ impl Fleet {
             Step::Connect => self.connect(),
             Step::Bytes(conn, piece) => self.bytes(*conn, piece.as_slice()),
             Step::Lost(conn) => self.lose(*conn),
-            Step::Clear { .. } | Step::AddFilter(_) | Step::Moment(_) => self.happen(step),
+            Step::Clear { .. }
+            | Step::AddFilter(_)
+            | Step::DropFilter(_)
+            | Step::Moment(_) => self.happen(step),
         }
     }
 
@@ -256,7 +259,7 @@ impl Fleet {
         Ok(())
     }
 
-    // A clear, an added filter or a moment happens at seat 0.
+    // A clear, a filter that is added or dropped, or a moment happens at seat 0.
     fn happen(&mut self, step: &Step) -> Result<Replies, FleetFault>
         requires own { IsSome (what_at step.now) }
         requires fits { IsTrue (does_fit self.old.book.config step.now) }

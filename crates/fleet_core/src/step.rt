@@ -1,6 +1,6 @@
 ghost use Rattle.std.specs.Prelude.{◌≡◌, IfOk};
 
-use agg_types::{Config, Filter, Items, NoMemory, Select, What};
+use agg_types::{Config, Filter, Items, Name, NoMemory, Select, What};
 use session_core::SessionCause;
 use std::alloc::Global;
 use thiserror::Error;
@@ -18,6 +18,8 @@ pub enum Step {
     Clear { table: usize, sel: Select },
     /// A standing filter is added behind the others.
     AddFilter(Filter),
+    /// The added filter of a name is taken away.
+    DropFilter(Name),
     /// The clock says this moment, in ms.
     Moment(u64),
 }
@@ -26,8 +28,8 @@ impl Step {
     ghost use Rattle.fleet_core.specs.Possible.{does_fit};
     ghost use Rattle.fleet_core.specs.Steps.{conn_of, what_at};
 
-    /// What it makes happen at the fleet's own seat: a clear, an added filter or a moment; none
-    /// where it is a connection's step.
+    /// What it makes happen at the fleet's own seat: a clear, a filter that is added or
+    /// dropped, or a moment; none where it is a connection's step.
     pub fn what(&self, alloc: Global) -> Result<Option<What>, NoMemory>
         ensures { IfOk result (λ what. what ≡ what_at self.now) }
     {
@@ -38,6 +40,7 @@ impl Step {
                 sel: duplicate_select(alloc, sel)?,
             })),
             Step::AddFilter(filter) => Ok(Some(What::AddFilter(filter.duplicate(alloc)?))),
+            Step::DropFilter(name) => Ok(Some(What::DropFilter(name.duplicate(alloc)?))),
             Step::Moment(moment) => Ok(Some(What::Moment(*moment))),
         }
     }

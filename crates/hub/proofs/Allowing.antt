@@ -4,7 +4,7 @@ use Rattle.agg_types.specs.Fits.{fits}
 use Rattle.agg_types.specs.declared.config.Config.{Config}
 use Rattle.agg_types.specs.declared.event.What.{What}
 use Rattle.agg_types.specs.declared.event.What.TheVariants.{Sit, Open, Put, Clear, AddFilter}
-use Rattle.agg_types.specs.declared.event.What.TheVariants.{Moment, Leave}
+use Rattle.agg_types.specs.declared.event.What.TheVariants.{DropFilter, Moment, Leave}
 use Rattle.fleet_model.specs.Seats.{is_leave, is_sit}
 use Rattle.hub.specs.Roll.{MayPost}
 
@@ -14,6 +14,7 @@ other_than_sit (Open peer) apart = refl
 other_than_sit (Put peer table key life cells) apart = refl
 other_than_sit (Clear table sel) apart = refl
 other_than_sit (AddFilter filter) apart = refl
+other_than_sit (DropFilter name) apart = refl
 other_than_sit (Moment moment) apart = refl
 other_than_sit Leave apart = refl
 
@@ -23,6 +24,7 @@ other_than_leave (Open peer) apart = refl
 other_than_leave (Put peer table key life cells) apart = refl
 other_than_leave (Clear table sel) apart = refl
 other_than_leave (AddFilter filter) apart = refl
+other_than_leave (DropFilter name) apart = refl
 other_than_leave (Moment moment) apart = refl
 other_than_leave Leave apart = absurd (apart refl)
 

@@ -16,7 +16,7 @@ use Rattle.agg_types.specs.declared.config.Config.{Config}
 use Rattle.agg_types.specs.declared.event.Event.{Event}
 use Rattle.agg_types.specs.declared.event.What.{What}
 use Rattle.agg_types.specs.declared.event.What.TheVariants.{Sit, Open, Put, Clear, AddFilter}
-use Rattle.agg_types.specs.declared.event.What.TheVariants.{Moment, Leave}
+use Rattle.agg_types.specs.declared.event.What.TheVariants.{DropFilter, Moment, Leave}
 use Rattle.agg_types.specs.declared.limits.TheConstants.{LAST_SEAT, MOST_SEATS, NUMBERS_END}
 use Rattle.fleet_model.proofs.Entries.{keep, lookup-filter, lookup-insert, remove_is, sorted-filter}
 use Rattle.fleet_model.proofs.Entries.{sorted-insert}
@@ -156,6 +156,7 @@ plain_seats s e (Open peer) sits leaves = (refl, refl)
 plain_seats s e (Put peer table key life cells) sits leaves = (refl, refl)
 plain_seats s e (Clear table sel) sits leaves = (refl, refl)
 plain_seats s e (AddFilter filter) sits leaves = (refl, refl)
+plain_seats s e (DropFilter name) sits leaves = (refl, refl)
 plain_seats s e (Moment moment) sits leaves = (refl, refl)
 plain_seats s e Leave sits leaves = absurd (cc leaves)
 
@@ -213,6 +214,8 @@ happened_more s events e (Clear table sel) h next =
     plain_more s.seats s.next_seat events e h (due_from s e (Clear table sel) refl next)
 happened_more s events e (AddFilter filter) h next =
     plain_more s.seats s.next_seat events e h (due_from s e (AddFilter filter) refl next)
+happened_more s events e (DropFilter name) h next =
+    plain_more s.seats s.next_seat events e h (due_from s e (DropFilter name) refl next)
 happened_more s events e (Moment moment) h next =
     plain_more s.seats s.next_seat events e h (due_from s e (Moment moment) refl next)
 happened_more s events e Leave h next =

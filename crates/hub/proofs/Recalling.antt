@@ -15,7 +15,7 @@ use Rattle.agg_types.specs.Fits.{fits}
 use Rattle.agg_types.specs.declared.event.Event.{Event}
 use Rattle.agg_types.specs.declared.event.What.{What}
 use Rattle.agg_types.specs.declared.event.What.TheVariants.{Sit, Open, Put, Clear, AddFilter}
-use Rattle.agg_types.specs.declared.event.What.TheVariants.{Moment, Leave}
+use Rattle.agg_types.specs.declared.event.What.TheVariants.{DropFilter, Moment, Leave}
 use Rattle.fleet_model.specs.Laws.{opens_at}
 use Rattle.fleet_model.specs.Sessions.{opens}
 use Rattle.hub.specs.History.{AllCount, Beginning, own}
@@ -77,6 +77,7 @@ length-opened_after opened (Open peer) = length-set opened peer true
 length-opened_after opened (Put peer table key life cells) = refl
 length-opened_after opened (Clear table sel) = refl
 length-opened_after opened (AddFilter filter) = refl
+length-opened_after opened (DropFilter name) = refl
 length-opened_after opened (Moment moment) = refl
 length-opened_after opened Leave = refl
 
@@ -102,6 +103,7 @@ opened_by opened what within (Open new) is peer = by_test (new == peer) refl
 opened_by opened what within (Put from table key life cells) is peer = sym (or_false _)
 opened_by opened what within (Clear table sel) is peer = sym (or_false _)
 opened_by opened what within (AddFilter filter) is peer = sym (or_false _)
+opened_by opened what within (DropFilter name) is peer = sym (or_false _)
 opened_by opened what within (Moment moment) is peer = sym (or_false _)
 opened_by opened what within Leave is peer = sym (or_false _)
 

@@ -16,7 +16,7 @@ use Rattle.agg_types.specs.declared.config.Filter.{Filter}
 use Rattle.agg_types.specs.declared.event.Event.{Event}
 use Rattle.agg_types.specs.declared.event.What.{What}
 use Rattle.agg_types.specs.declared.event.What.TheVariants.{Sit, Open, Put, Clear, AddFilter}
-use Rattle.agg_types.specs.declared.event.What.TheVariants.{Moment, Leave}
+use Rattle.agg_types.specs.declared.event.What.TheVariants.{DropFilter, Moment, Leave}
 use Rattle.agg_types.specs.declared.limits.TheConstants.{LAST_SEAT, MOST_SEATS, NUMBERS_END}
 use Rattle.fleet_model.proofs.Step.{one_more}
 use Rattle.fleet_model.specs.Machine.{counts_now, happened}
@@ -43,6 +43,7 @@ fits_with config filters (Open peer) = refl
 fits_with config filters (Put peer table key life cells) = refl
 fits_with config filters (Clear table sel) = refl
 fits_with config filters (AddFilter filter) = refl
+fits_with config filters (DropFilter name) = refl
 fits_with config filters (Moment moment) = refl
 fits_with config filters Leave = refl
 
@@ -146,6 +147,7 @@ last_by last events seat seq what n len within old (Put peer' table key life cel
     old peer
 last_by last events seat seq what n len within old (Clear table sel) is peer = old peer
 last_by last events seat seq what n len within old (AddFilter filter) is peer = old peer
+last_by last events seat seq what n len within old (DropFilter name) is peer = old peer
 last_by last events seat seq what n len within old (Moment moment) is peer = old peer
 last_by last events seat seq what n len within old Leave is peer = old peer
 
@@ -156,6 +158,7 @@ length-last_after last seat (Open peer) = length-set last peer (Some seat)
 length-last_after last seat (Put peer table key life cells) = refl
 length-last_after last seat (Clear table sel) = refl
 length-last_after last seat (AddFilter filter) = refl
+length-last_after last seat (DropFilter name) = refl
 length-last_after last seat (Moment moment) = refl
 length-last_after last seat Leave = refl
 

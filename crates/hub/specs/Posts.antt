@@ -6,7 +6,7 @@ use mathlib.Core.List.{IsPrefix}
 use Rattle.agg_types.specs.declared.event.Event.{Event}
 use Rattle.agg_types.specs.declared.event.What.{What}
 use Rattle.agg_types.specs.declared.event.What.TheVariants.{Sit, Open, Put, Clear, AddFilter}
-use Rattle.agg_types.specs.declared.event.What.TheVariants.{Moment, Leave}
+use Rattle.agg_types.specs.declared.event.What.TheVariants.{DropFilter, Moment, Leave}
 use Rattle.agg_types.specs.declared.limits.TheConstants.{NUMBERS_END}
 use Rattle.fleet_model.specs.Laws.{opens_at}
 use Rattle.fleet_model.specs.Rows.{putter}
@@ -38,6 +38,7 @@ is_put (Open peer) = false
 is_put (Put peer table key life cells) = true
 is_put (Clear table sel) = false
 is_put (AddFilter filter) = false
+is_put (DropFilter name) = false
 is_put (Moment moment) = false
 is_put Leave = false
 

@@ -5,7 +5,7 @@ use Rattle.agg_types.specs.Fits.{fits}
 use Rattle.agg_types.specs.declared.config.Config.{Config}
 use Rattle.agg_types.specs.declared.event.What.{What}
 use Rattle.agg_types.specs.declared.event.What.TheVariants.{Sit, Open, Put, Clear, AddFilter}
-use Rattle.agg_types.specs.declared.event.What.TheVariants.{Moment, Leave}
+use Rattle.agg_types.specs.declared.event.What.TheVariants.{DropFilter, Moment, Leave}
 use Rattle.fleet_model.specs.Seats.{is_leave, is_sit}
 use Rattle.fleet_model.specs.Sessions.{last_opener}
 use Rattle.fleet_model.specs.State.{state_of}
@@ -38,5 +38,6 @@ last_after last seat (Open peer) = slice_set last peer (Some seat)
 last_after last seat (Put peer table key life cells) = last
 last_after last seat (Clear table sel) = last
 last_after last seat (AddFilter filter) = last
+last_after last seat (DropFilter name) = last
 last_after last seat (Moment moment) = last
 last_after last seat Leave = last

@@ -4,7 +4,7 @@ use Rattle.std.specs.Prelude.{length, replicate, Option, None, Some, slice_index
 use Rattle.std.specs.List.{list_any}
 use Rattle.agg_types.specs.declared.event.What.{What}
 use Rattle.agg_types.specs.declared.event.What.TheVariants.{Sit, Open, Put, Clear, AddFilter}
-use Rattle.agg_types.specs.declared.event.What.TheVariants.{Moment, Leave}
+use Rattle.agg_types.specs.declared.event.What.TheVariants.{DropFilter, Moment, Leave}
 use Rattle.fleet_model.specs.Laws.{opens_at}
 use Rattle.fleet_model.specs.Rows.{putter}
 use Rattle.fleet_model.specs.Sessions.{opens}
@@ -41,6 +41,7 @@ opened_after opened (Open peer) = slice_set opened peer true
 opened_after opened (Put peer table key life cells) = opened
 opened_after opened (Clear table sel) = opened
 opened_after opened (AddFilter filter) = opened
+opened_after opened (DropFilter name) = opened
 opened_after opened (Moment moment) = opened
 opened_after opened Leave = opened
 

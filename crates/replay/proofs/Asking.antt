@@ -18,7 +18,7 @@ use Rattle.show_clear.specs.declared.command.Command.{Command}
 use Rattle.show_clear.specs.declared.command.Command.TheVariants.{Ask, Change as Changes}
 use Rattle.show_clear.specs.declared.command.Question.{Question}
 use Rattle.show_clear.specs.declared.command.Change.{Change}
-use Rattle.show_clear.specs.declared.command.Change.TheVariants.{Clear, AddFilter}
+use Rattle.show_clear.specs.declared.command.Change.TheVariants.{Clear, AddFilter, DropFilter}
 use Rattle.show_clear.specs.declared.fault.CommandFault.{CommandFault}
 use Rattle.show_clear.specs.declared.fault.CommandFault.TheVariants.{Empty, Unknown, NoTable}
 use Rattle.show_clear.specs.declared.fault.CommandFault.TheVariants.{BadColumn, BadOperator}
@@ -158,3 +158,4 @@ pub step_fits : (state : State) (change : Change) → ChangeFits state (Changes 
     → does_fit state.config (step_of change) ≡ true
 step_fits state (Clear table sel) fits = fits
 step_fits state (AddFilter filter) fits = fits
+step_fits state (DropFilter name) fits = fits

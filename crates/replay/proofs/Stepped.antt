@@ -15,7 +15,7 @@ use Rattle.fleet_core.specs.declared.step.FleetFault.TheVariants.{NoConn, Spent,
 use Rattle.fleet_core.specs.declared.step.Replies.{Replies}
 use Rattle.fleet_core.specs.declared.step.Step.{Step}
 use Rattle.fleet_core.specs.declared.step.Step.TheVariants.{Connect, Bytes, Lost, Clear, AddFilter}
-use Rattle.fleet_core.specs.declared.step.Step.TheVariants.{Moment}
+use Rattle.fleet_core.specs.declared.step.Step.TheVariants.{DropFilter, Moment}
 use Rattle.replay.specs.Given.{Did, IsSettled, answer_ending, answer_text, done_text}
 use Rattle.replay.specs.Given.{step_given}
 use Rattle.replay.specs.Texts.{end_text, sent_text}
@@ -66,6 +66,7 @@ session_text config opening past (Bytes conn piece) cause out ended sent = rw (e
 session_text config opening past (Lost conn) cause out ended sent = cc
 session_text config opening past (Clear table sel) cause out ended sent = cc
 session_text config opening past (AddFilter filter) cause out ended sent = cc
+session_text config opening past (DropFilter name) cause out ended sent = cc
 session_text config opening past (Moment moment) cause out ended sent = cc
 
 pub stepped : (answer : Result Replies FleetFault) (old new : Collected) (config : Config)

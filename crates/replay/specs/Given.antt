@@ -11,7 +11,7 @@ use Rattle.fleet_core.specs.declared.step.FleetFault.TheVariants as fault
 use Rattle.fleet_core.specs.declared.step.Replies.{Replies}
 use Rattle.fleet_core.specs.declared.step.Step.{Step}
 use Rattle.fleet_core.specs.declared.step.Step.TheVariants.{Connect, Bytes, Lost, Clear, AddFilter}
-use Rattle.fleet_core.specs.declared.step.Step.TheVariants.{Moment}
+use Rattle.fleet_core.specs.declared.step.Step.TheVariants.{DropFilter, Moment}
 use Rattle.replay.specs.Texts.{conn_text, end_text, sent_text}
 use Rattle.replay.specs.declared.ending.Ending.{Ending}
 use Rattle.replay.specs.declared.ending.Ending.TheVariants.{Failed}
@@ -29,6 +29,7 @@ came_text (Bytes of piece) conn = []
 came_text (Lost of) conn = []
 came_text (Clear table sel) conn = []
 came_text (AddFilter filter) conn = []
+came_text (DropFilter name) conn = []
 came_text (Moment moment) conn = []
 
 -- the line of a session that ended, if it did

@@ -15,7 +15,7 @@ use Rattle.show_clear.specs.Refusal.{refusal_text}
 use Rattle.show_clear.specs.declared.command.Command.{Command}
 use Rattle.show_clear.specs.declared.command.Command.TheVariants.{Ask, Change as Changes}
 use Rattle.show_clear.specs.declared.command.Change.{Change}
-use Rattle.show_clear.specs.declared.command.Change.TheVariants.{Clear, AddFilter}
+use Rattle.show_clear.specs.declared.command.Change.TheVariants.{Clear, AddFilter, DropFilter}
 use Rattle.show_clear.specs.declared.fault.CommandFault.TheVariants as refused
 use Rattle.replay.specs.Given.{Did, Given, step_given}
 use Rattle.replay.specs.Meaning.{meaning_of}
@@ -45,7 +45,7 @@ abbrev pub ok_if : Option Ending → List ℕ
 ok_if None = codes "ok\n"
 ok_if (Some ending) = []
 
--- a clear or an added filter is a step, and then `ok`
+-- a clear, or a filter that is added or dropped, is a step, and then `ok`
 abbrev pub change_given : Given → Given
 change_given given =
     record { past = given.past; text = given.text ++ ok_if given.ending; ending = given.ending }
@@ -54,6 +54,7 @@ change_given given =
 abbrev pub step_of : Change → Step
 step_of (Clear table sel) = steps.Clear table sel
 step_of (AddFilter filter) = steps.AddFilter filter
+step_of (DropFilter name) = steps.DropFilter name
 
 -- what a command does: a question prints its answer, and a change is a step
 abbrev pub CommandGives : Config → ℕ → List Step → Command → Given → Type 0

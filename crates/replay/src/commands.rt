@@ -73,6 +73,7 @@ fn step_of(change: Change) -> Step
     match change {
         Change::Clear { table, sel } => Step::Clear { table, sel },
         Change::AddFilter(filter) => Step::AddFilter(filter),
+        Change::DropFilter(name) => Step::DropFilter(name),
     }
 }
 

@@ -16,7 +16,7 @@ use Rattle.fleet_model.specs.Seats.{numbered}
 use Rattle.fleet_model.specs.State.{IsStateOf, State}
 use Rattle.show_clear.specs.Change.{ChangeFits, asked_event}
 use Rattle.show_clear.specs.declared.command.Command.{Command}
-use Rattle.show_clear.specs.declared.command.Change.TheVariants.{Clear, AddFilter}
+use Rattle.show_clear.specs.declared.command.Change.TheVariants.{Clear, AddFilter, DropFilter}
 use Rattle.show_clear.specs.declared.command.Command.TheVariants.{Ask, Change as Changes}
 use Rattle.hub.proofs.Fronts.{prefix_trans}
 use Rattle.hub.proofs.Rolling.{fits_at}
@@ -59,6 +59,11 @@ asked_may_post book (Changes (Clear table sel)) fit = record {
   leaves = refl;
 }
 asked_may_post book (Changes (AddFilter filter)) fit = record {
+  fits = fit;
+  sits = refl;
+  leaves = refl;
+}
+asked_may_post book (Changes (DropFilter name)) fit = record {
   fits = fit;
   sits = refl;
   leaves = refl;

@@ -7,7 +7,7 @@ use Rattle.agg_types.specs.Fits.{fits}
 use Rattle.agg_types.specs.declared.config.Config.{Config}
 use Rattle.agg_types.specs.declared.event.What.{What}
 use Rattle.agg_types.specs.declared.event.What.TheVariants.{Sit, Open, Put, Clear, AddFilter}
-use Rattle.agg_types.specs.declared.event.What.TheVariants.{Moment, Leave}
+use Rattle.agg_types.specs.declared.event.What.TheVariants.{DropFilter, Moment, Leave}
 use Rattle.hub.proofs.Counting.{and_left, and_right}
 use Rattle.hub.specs.Roll.{MayPost}
 use Rattle.session_core.proofs.FactLemmas.{facts_are}
@@ -30,6 +30,7 @@ may_post_one config (Put peer table key life cells) fit is =
     record { fits = fit; sits = refl; leaves = refl }
 may_post_one config (Clear table sel) fit is = absurd (cc is)
 may_post_one config (AddFilter filter) fit is = absurd (cc is)
+may_post_one config (DropFilter name) fit is = absurd (cc is)
 may_post_one config (Moment moment) fit is = absurd (cc is)
 may_post_one config Leave fit is = absurd (cc is)
 
