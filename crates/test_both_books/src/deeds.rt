@@ -30,6 +30,10 @@ pub enum Deed {
     ClearAbove(usize, u64),
     /// A filter of this name on a table's rate, which is at least a bound.
     Add(u8, usize, u64),
+    /// The added filter of this name goes.
+    Drop(u8),
+    /// The filter of the configuration is to go, which stays.
+    DropConfigured,
     Moment(u64),
     Leave(u64),
 }
@@ -94,7 +98,7 @@ fn added(alloc: Global, name: u8, table: usize, bound: u64) -> Result<What, NoMe
     }))
 }
 
-/// The seat at which it happens. The clock, and who clears and adds, sits at 0.
+/// The seat at which it happens. The clock, and who clears, adds and drops, sits at 0.
 pub fn seat_of(deed: Deed) -> u64 {
     match deed {
         Deed::Sit(seat) | Deed::Open(seat, _) | Deed::Put(seat, _) | Deed::Leave(seat) => seat,
@@ -123,6 +127,8 @@ pub fn what(alloc: Global, deed: Deed) -> Result<What, NoMemory> {
             sel: Select::Conds(above(alloc, Col::Gpc0, Op::Gt, bound)?),
         }),
         Deed::Add(name, table, bound) => added(alloc, name, table, bound),
+        Deed::Drop(name) => Ok(What::DropFilter(Name::copy(alloc, &[name])?)),
+        Deed::DropConfigured => Ok(What::DropFilter(Name::copy(alloc, b"standing")?)),
         Deed::Moment(moment) => Ok(What::Moment(moment)),
         Deed::Leave(_) => Ok(What::Leave),
     }

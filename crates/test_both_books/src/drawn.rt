@@ -63,6 +63,7 @@ impl Draw {
             18 => self.clear(),
             19 => Deed::ClearKey(self.table(), self.key()),
             20 => self.add(),
+            21 => self.drop_one(),
             _ => self.reconnect(),
         }
     }
@@ -131,6 +132,14 @@ impl Draw {
             Deed::ClearAll(table)
         } else {
             Deed::ClearAbove(table, self.below(60))
+        }
+    }
+
+    /// A filter of one of these names goes, or that of the configuration is to.
+    fn drop_one(&mut self) -> Deed {
+        match self.below(5) as u8 {
+            4 => Deed::DropConfigured,
+            name => Deed::Drop(name.saturating_add(b'a')),
         }
     }
 

@@ -150,6 +150,7 @@ fn falling(rt: &impl Print, alloc: Global) -> Result<()> {
 fn runs_again(rt: &impl Print, alloc: Global) -> Result<()> {
     play(rt, alloc, "reconnect", SELDOM, worked::RECONNECT)?;
     play(rt, alloc, "size limit", SELDOM, worked::SIZE_LIMIT)?;
+    play(rt, alloc, "drops", SELDOM, worked::DROPS)?;
     draw(rt, alloc, "drawn, near", SELDOM)
 }
 
@@ -158,6 +159,7 @@ fn all_runs(rt: &impl Print, alloc: Global) -> Result<()> {
     play(rt, alloc, "size limit", NEAR, worked::SIZE_LIMIT)?;
     play(rt, alloc, "lives", FAR, worked::LIVES)?;
     play(rt, alloc, "clears", NEAR, worked::CLEARS)?;
+    play(rt, alloc, "drops", NEAR, worked::DROPS)?;
     draw(rt, alloc, "drawn, near", NEAR)?;
     draw(rt, alloc, "drawn, far", FAR)?;
     falling(rt, alloc)?;

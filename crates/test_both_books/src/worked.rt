@@ -101,6 +101,42 @@ pub const LIVES: &[Deed] = &[
     Deed::Moment(1 << 62),
 ];
 
+/// Filters are added and dropped: the one in the middle of three, one of another name that nothing
+/// has, that of the configuration, and one that is added anew on another table; the others hold
+/// what they held, before the clock goes on and behind it.
+pub const DROPS: &[Deed] = &[
+    Deed::Sit(0),
+    Deed::Sit(1),
+    Deed::Sit(2),
+    Deed::Open(1, 0),
+    Deed::Open(2, 1),
+    put!(1, 0, 1, Some(30), 41),
+    put!(2, 1, 1, Some(10), 24),
+    put!(1, 0, 2, Some(30), 48),
+    put!(2, 1, 3, None, 59),
+    Deed::Drop(b'a'),
+    Deed::Add(b'a', 0, 1),
+    Deed::Add(b'b', 0, 3),
+    Deed::Add(b'c', 0, 5),
+    Deed::Drop(b'b'),
+    put!(1, 0, 4, Some(12), 44),
+    Deed::Moment(3),
+    Deed::Drop(b'z'),
+    Deed::DropConfigured,
+    Deed::Add(b'b', 0, 2),
+    Deed::Add(b'b', 0, 6),
+    Deed::Moment(9),
+    Deed::Drop(b'a'),
+    Deed::Add(b'a', 1, 1),
+    put!(1, 0, 2, Some(30), 13),
+    Deed::ClearKey(0, 4),
+    Deed::Drop(b'c'),
+    Deed::Drop(b'b'),
+    Deed::Drop(b'a'),
+    Deed::Drop(b'a'),
+    Deed::Moment(40),
+];
+
 /// Clears of all, of one key and by sums, and rows put again behind them whose ends come earlier or
 /// later than those that were planned before.
 pub const CLEARS: &[Deed] = &[
