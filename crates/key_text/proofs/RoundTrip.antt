@@ -20,6 +20,7 @@ use Rattle.hex.specs.Hex.{IsBytes, decode_of, encode_lower, encode_with, lower_d
 use Rattle.hex.proofs.HexLemmas.{IsDigits-lower_digits, decode_of-encode_lower}
 use Rattle.line_words.specs.Words.{parts}
 use Rattle.key_text.specs.declared.parts.Part.TheVariants.{Octet, Group}
+use Rattle.key_text.specs.Elided.{is_part}
 use Rattle.key_text.specs.Printed.{escaped, groups, hex_of, integer_text, is_plain, signed_text}
 use Rattle.key_text.specs.Read.{all_bytes, before, hex_byte, integer_of, number_up_to, octet}
 use Rattle.key_text.specs.Read.{part_bytes, string_of}
@@ -57,7 +58,8 @@ split_last c (x ∷ front) free =
           rw (other, split_last c front less) refl
     ]
 
-both : (a b : Bool) → (a && b) ≡ true → (a ≡ true) × (b ≡ true)
+-- what two tests say together
+pub both : (a b : Bool) → (a && b) ≡ true → (a ≡ true) × (b ≡ true)
 both true b h = (refl, h)
 both false b h = absurd cc
 
@@ -103,7 +105,7 @@ number_up_to-decimal most n within fits =
 
 -- digits don't begin with a minus
 plain_number : (text : List ℕ) (n : ℕ) → 0 < length text → AllDigits 10 text
-    → number_up_to 10 (2 ^ 31 - 1) text ≡ Some n → integer_of text ≡ Some n
+    → number_up_to 10 (2 ^ 32 - 1) text ≡ Some n → integer_of text ≡ Some n
 plain_number [] n some digits h = absurd (omega arith)
 plain_number (c ∷ cs) n some digits h =
     let range = digit_from_value c digits.0 in
@@ -118,7 +120,7 @@ integer_of-signed n fits =
           let small : ltb n (2 ^ 31) ≡ true = grind (arith, nat_tests) in
           let h = decimal_is_IsNumeral n (omega arith) in
           rw small (plain_number (decimal n) n h.0.0 h.0.1
-          (number_up_to-decimal (2 ^ 31 - 1) n (omega arith) (omega arith)))
+          (number_up_to-decimal (2 ^ 32 - 1) n (omega arith) (omega arith)))
       | inr high ↦
           let large : ltb n (2 ^ 31) ≡ false = grind (arith, nat_tests) in
           let back : (2 ^ 32 - (2 ^ 32 - n)) % 2 ^ 32 ≡ n = omega arith in
@@ -235,7 +237,8 @@ group_read high low hh hl =
     (ap Some (be_bytes_2 (high ∷ low ∷ []) (high * 256 + low) refl (two_bytes high low hh hl)
     (omega arith)))
 
-groups_read : (key : List ℕ) (k : ℕ) → IsBytes key → length key ≡ 2 * k
+-- groups are read as their bytes
+pub groups_read : (key : List ℕ) (k : ℕ) → IsBytes key → length key ≡ 2 * k
     → all_bytes Group (groups key) ≡ Some key
 groups_read [] k bytes even = refl
 groups_read (high ∷ []) k bytes even = absurd (omega arith)
@@ -256,7 +259,8 @@ all_append : (p : ℕ → Bool) (a b : List ℕ) → list_all p a ≡ true → l
     → list_all p (a ++ b) ≡ true
 all_append p a b ha hb = grind (arith, common_steps)
 
-groups_free : (key : List ℕ) → IsBytes key → list_all (list_all (differs 58)) (groups key) ≡ true
+-- groups have digits, and no colon
+pub groups_free : (key : List ℕ) → IsBytes key → list_all is_part (groups key) ≡ true
 groups_free [] bytes = refl
 groups_free (last ∷ []) bytes = rw (digits_free last (bytes 0)) refl
 groups_free (high ∷ low ∷ key) bytes =
@@ -265,15 +269,6 @@ groups_free (high ∷ low ∷ key) bytes =
           (digits_free low (bytes 1)),
       groups_free key (λ i. bytes (suc (suc i))),
     ) refl
-
--- groups joined by colons are read back
-pub groups_back : (key : List ℕ) → IsBytes key → length key ≡ 16
-    → all_bytes Group (parts 58 (join_with_byte 58 (groups key))) ≡ Some key
-groups_back [] bytes sixteen = absurd (omega arith)
-groups_back (high ∷ []) bytes sixteen = absurd (omega arith)
-groups_back (high ∷ low ∷ key) bytes sixteen =
-    rw (parts-join 58 (hex_of high ++ hex_of low) (groups key)
-    (groups_free (high ∷ low ∷ key) bytes)) (groups_read (high ∷ low ∷ key) 8 bytes sixteen)
 
 -- ---- strings
 

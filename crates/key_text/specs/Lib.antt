@@ -1,2 +1,3 @@
+pub mod Elided
 pub mod Printed
 pub mod Read

@@ -5,6 +5,7 @@
 //! are this project's own, close to those of HAProxy's `show table` (Management Guide).
 #![tactic(auto)]
 
+mod ipv6;
 pub mod laws;
 mod parts;
 mod printing;

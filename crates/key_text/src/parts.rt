@@ -5,14 +5,30 @@ ghost use Rattle.line_words.specs.Words.{parts};
 ghost use Rattle.key_text.specs.Read.{all_bytes, between, group, number_up_to, octet, part_bytes};
 ghost use Rattle.key_text.specs.Read.{put_behind};
 
-use agg_types::NoMemory;
+use agg_types::{Items, NoMemory};
 use line_words::next_part;
+use std::alloc::Global;
 
 /// A part of an address: a byte of an IPv4 address, or two bytes of an IPv6 address.
 #[derive(Clone, Copy)]
 pub(crate) enum Part {
     Octet,
     Group,
+}
+
+/// The bytes of an address's parts, if each part has some.
+pub(crate) fn part_list(
+    alloc: Global,
+    part: Part,
+    text: &[u8],
+) -> Result<Option<Items<u8>>, NoMemory>
+    ensures { IfOk result (λ found. found ≡ all_bytes part (parts (between part) text.now)) }
+{
+    let mut bytes = Vec::new(alloc);
+    if !push_parts(part, text, &mut bytes)? {
+        return Ok(None);
+    }
+    Ok(Some(Items::from_vec(bytes)))
 }
 
 /// Puts the bytes of an address's parts behind others, if each part has some.
@@ -31,7 +47,8 @@ pub(crate) fn push_parts(part: Part, text: &[u8], bytes: &mut Vec<u8>) -> Result
     }
 }
 
-fn push_part(part: Part, text: &[u8], bytes: &mut Vec<u8>) -> Result<bool, NoMemory>
+/// Puts the bytes of a part behind others, if it has some.
+pub(crate) fn push_part(part: Part, text: &[u8], bytes: &mut Vec<u8>) -> Result<bool, NoMemory>
     ensures { IfOk result (λ all. put_behind bytes.old.items (part_bytes part text.now)
         ≡ (if all then Some bytes.new.items else None)) }
 {
@@ -70,7 +87,8 @@ fn octet(text: &[u8]) -> Option<u8>
     Some(number_up_to(10, 255, text)? as u8)
 }
 
-fn group(text: &[u8]) -> Option<u16>
+/// Two bytes of an IPv6 address, of 1 to 4 hexadecimal digits.
+pub(crate) fn group(text: &[u8]) -> Option<u16>
     ensures { result ≡ group text.now }
 {
     if text.len() > 4 {

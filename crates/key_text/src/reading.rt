@@ -3,13 +3,12 @@
 ghost use Rattle.std.specs.Prelude.{◌≡◌, ◌≢◌, ◌<◌, [], length, Some, None, IfOk, IfSome};
 ghost use Rattle.std.specs.Prelude.{MatchOption};
 ghost use Rattle.agg_types.specs.declared.config.KeyKind.TheVariants.{Integer};
-ghost use Rattle.line_words.specs.Words.{parts};
 ghost use Rattle.std.specs.Result.{result_ok};
 ghost use Rattle.hex.specs.Hex.{decode_of, hex_digit_value};
-ghost use Rattle.key_text.specs.Read.{all_bytes, before, between, bytes_of, hex_byte, integer_of};
-ghost use Rattle.key_text.specs.Read.{key_of, string_of};
+ghost use Rattle.key_text.specs.Read.{before, bytes_of, hex_byte, integer_of, key_of, string_of};
 
-use crate::parts::{Part, number_up_to, push_parts};
+use crate::ipv6::ipv6_bytes;
+use crate::parts::{Part, number_up_to, part_list};
 use crate::printing::is_plain;
 use agg_types::{Items, Key, KeyKind, NoMemory};
 use hex::FromHexError;
@@ -17,10 +16,16 @@ use std::alloc::Global;
 
 /// The key that a text is read as, or none where the text is no key of this kind.
 ///
-/// An integer is an optional `-` and one or more digits; an IPv4 address four numbers of 1 to 3
-/// digits joined by dots; an IPv6 address eight groups of 1 to 4 hexadecimal digits joined by
-/// colons; a string the bytes 33 to 126 but `%`, and `%` with two hexadecimal digits for any byte,
-/// up to the kind's length; a binary key the hexadecimal digits of as many bytes as its kind has.
+/// - An integer is one or more digits, up to 2^32 - 1, or `-` and digits up to 2^31; what is above
+///   2^31 - 1 is the negative number of the same 32 bits.
+/// - An IPv4 address is four numbers of 1 to 3 digits joined by dots.
+/// - An IPv6 address is eight groups of 1 to 4 hexadecimal digits joined by colons; an IPv4 address
+///   may stand in the place of the last two, and one `::` for one or more groups of zeros (RFC 4291,
+///   2.2).
+/// - A string is the bytes 33 to 126 but `%`, and `%` with two hexadecimal digits for any byte, up to
+///   the kind's length.
+/// - A binary key is the hexadecimal digits of as many bytes as its kind has.
+///
 /// Hexadecimal digits are read in either case.
 pub fn read_key(alloc: Global, kind: KeyKind, text: &[u8]) -> Result<Option<Key>, NoMemory>
     ensures { IfOk result (λ found. found ≡ key_of kind text.now) }
@@ -40,8 +45,8 @@ fn bytes_of(alloc: Global, kind: KeyKind, text: &[u8]) -> Result<Option<Items<u8
 {
     match kind {
         KeyKind::Integer => integer_bytes(alloc, text),
-        KeyKind::Ip => address_bytes(alloc, Part::Octet, text),
-        KeyKind::Ipv6 => address_bytes(alloc, Part::Group, text),
+        KeyKind::Ip => part_list(alloc, Part::Octet, text),
+        KeyKind::Ipv6 => ipv6_bytes(alloc, text),
         KeyKind::Str(_) => string_bytes(alloc, text),
         KeyKind::Binary(_) => binary_bytes(alloc, text),
     }
@@ -56,7 +61,7 @@ fn integer_bytes(alloc: Global, text: &[u8]) -> Result<Option<Items<u8>>, NoMemo
     }
 }
 
-// A signed number, as its 32 bits.
+// A number of 32 bits, or a negative one, as its 32 bits.
 fn integer(text: &[u8]) -> Option<u32>
     ensures { result ≡ integer_of text.now }
 {
@@ -66,20 +71,10 @@ fn integer(text: &[u8]) -> Option<u32>
             if *first == b'-' {
                 Some(number_up_to(10, 1 << 31, digits)?.wrapping_neg())
             } else {
-                number_up_to(10, (1 << 31) - 1, text)
+                number_up_to(10, u32::MAX, text)
             }
         }
     }
-}
-
-fn address_bytes(alloc: Global, part: Part, text: &[u8]) -> Result<Option<Items<u8>>, NoMemory>
-    ensures { IfOk result (λ found. found ≡ all_bytes part (parts (between part) text.now)) }
-{
-    let mut bytes = Vec::new(alloc);
-    if !push_parts(part, text, &mut bytes)? {
-        return Ok(None);
-    }
-    Ok(Some(Items::from_vec(bytes)))
 }
 
 fn binary_bytes(alloc: Global, text: &[u8]) -> Result<Option<Items<u8>>, NoMemory>

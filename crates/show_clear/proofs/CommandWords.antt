@@ -1,7 +1,7 @@
 -- The words of commands, how long they are, and how a line of them is read.
 use Rattle.std.proofs.Common.{◌≡◌, ℕ, zero, suc, ◌+◌, ◌*◌, ◌-◌, ◌/◌, ◌%◌, ◌^◌, ◌<◌, ◌≤◌, Bool}
 use Rattle.std.proofs.Common.{true, false, eqb, leb, ltb, ◌&&◌, not, List, [], ◌∷◌, ◌++◌, length}
-use Rattle.std.proofs.Common.{map, get_or, Some, Ok, Err, codes, refl, ap, sym, ◌∙◌, arith, inl, inr}
+use Rattle.std.proofs.Common.{map, get_or, Some, Err, codes, refl, ap, ◌∙◌, arith, inl, inr}
 use Rattle.std.proofs.Common.{length-append}
 use Rattle.std.specs.Prelude.{if◌then◌else◌, nat_lt}
 use Rattle.std.proofs.lemmas.Bool.{cases_Bool, eqb-true, leb-true, ltb-true}
@@ -25,15 +25,14 @@ use Rattle.agg_types.specs.declared.limits.TheConstants.{LONGEST_NAME}
 use Rattle.fleet_model.specs.State.{State}
 use Rattle.key_text.specs.Printed.{escaped, groups, hex_of, integer_text, is_plain, key_text}
 use Rattle.key_text.specs.Printed.{signed_text}
-use Rattle.key_text.specs.Read.{bytes_of, key_of}
-use Rattle.key_text.proofs.RoundTrip.{binary_back, groups_back, integer_back, octets_back}
-use Rattle.key_text.proofs.RoundTrip.{string_back}
+use Rattle.key_text.specs.Read.{key_of}
+use Rattle.key_text.proofs.KeyBack.{key_back as printed_back}
 use Rattle.line_words.specs.Operators.{operator_word}
 use Rattle.line_words.specs.Words.{words}
 use Rattle.line_words.proofs.NamesBack.{data_is_word, operator_is_word}
 use Rattle.line_words.proofs.TextLines.{is_line_byte, line_bytes}
-use Rattle.line_words.proofs.WordsBack.{both, decimal_prints, differs, is_word, join_some}
-use Rattle.line_words.proofs.WordsBack.{list_all-weaker, number_is_word, some_byte, words_back}
+use Rattle.line_words.proofs.WordsBack.{both, differs, is_word, join_some}
+use Rattle.line_words.proofs.WordsBack.{number_is_word, some_byte, words_back}
 use Rattle.show_clear.specs.Parse.{asked, command_of, without_returns}
 use Rattle.show_clear.specs.declared.fault.CommandFault.TheVariants.{Unknown}
 use Rattle.show_clear.specs.Written.{can_name, condition_words, have_bounds}
@@ -262,20 +261,10 @@ each_byte (byte ∷ key) all zero =
 each_byte (byte ∷ key) all (suc i) =
     each_byte key (both (is_byte byte) (list_all is_byte key) all).1 i
 
-bytes_back : (kind : KeyKind) (key : List ℕ) → key_fits kind key ≡ true
-    → ((i : ℕ) → get_or key i 0 < 256) → bytes_of kind (key_text kind key) ≡ Some key
-bytes_back Integer key fits bytes = integer_back key bytes (eqb-true (length key) 4 fits)
-bytes_back Ip key fits bytes =
-    let four = eqb-true (length key) 4 fits in
-    octets_back key bytes (omega (arith, four))
-bytes_back Ipv6 key fits bytes = groups_back key bytes (eqb-true (length key) 16 fits)
-bytes_back (Str n) key fits bytes = string_back key bytes
-bytes_back (Binary n) key fits bytes = binary_back key bytes
-
 pub key_back : (kind : KeyKind) (key : List ℕ) → key_fits kind key ≡ true → can_name key ≡ true
     → key_of kind (key_text kind key) ≡ Some key
 key_back kind key fits can =
-    rw (bytes_back kind key fits (each_byte key (names_key key can).bytes)) (rw fits refl)
+    printed_back kind key fits (each_byte key (names_key key can).bytes)
 
 -- ---- the words of conditions
 
