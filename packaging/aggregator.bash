@@ -13,13 +13,17 @@ _aggregator() {
             COMPREPLY=($(compgen -f -- "$word"))
             return
             ;;
+        --unknown-peers)
+            COMPREPLY=($(compgen -W "refuse wait" -- "$word"))
+            return
+            ;;
         --peers | --admin | --from)
             return
             ;;
     esac
     case ${COMP_WORDS[1]} in
         listen)
-            COMPREPLY=($(compgen -W "--peers --admin --from --config --help" -- "$word"))
+            COMPREPLY=($(compgen -W "--peers --admin --from --unknown-peers --config --help" -- "$word"))
             ;;
         check)
             COMPREPLY=($(compgen -W "--config --help" -- "$word"))

@@ -5,9 +5,9 @@
 
 It starts `aggregator listen` (examples/fleet.conf) and speaks to its sockets. Peers send hellos of every verdict,
 broken and cut messages, a byte at a time; they reset, never read, say nothing by the thousand, or drip a hello.
-Admins send lines without an end, or nothing, drip them, never read, or stay for long. Peers call from elsewhere,
-standard error takes nothing, and the peers' listener breaks. Signals and ports that are taken are tried too. The
-last line counts passed and failed; the status is 1 where one failed. It takes about five minutes.
+Admins send lines without an end, or nothing, drip them, never read, or stay for long. Peers call from elsewhere, or
+aren't configured, standard error takes nothing, and the peers' listener breaks. Signals and ports that are taken are
+tried too. The last line counts passed and failed; the status is 1 where one failed. It takes about five minutes.
 """
 
 import argparse
@@ -401,6 +401,27 @@ def elsewhere(report, options):
                  lambda: "" if sum(counts) == 501 and len(counts) < 15 else counts)
 
 
+def unknown(report, options):
+    """Peers that aren't configured, where they are to wait: closed without a status, each told once a minute."""
+    told, log = os.pipe()
+    collector = Collector(options.collector, *free_ports(2), log=log, options=("--unknown-peers", "wait"))
+    os.close(log)
+    for name in (b"lbx", b"lby", b"lbx"):
+        hello = b"HAProxyS 2.1\nagg\n" + name + b" 1 1\n"
+        report.check(f"an unknown {name.decode()} that may wait is closed without a status", 1,
+                     lambda: answered(collector.peers, hello, b""))
+    for hello, wanted in ((b"Foo 2.1\n", b"501\n"), (b"HAProxyS 3.0\n", b"502\n"),
+                          (b"HAProxyS 2.1\nother\nlbx 1 1\n", b"503\n"), (HELLO, ACCEPTED)):
+        report.check(f"beside them hello {hello[:24]!r} is answered {wanted!r}", 1,
+                     lambda: answered(collector.peers, hello, wanted))
+    collector.stop()
+    with os.fdopen(told) as lines:
+        text = lines.read()
+    names = re.findall(r"warn unknown peer closed name=(\w+)", text)
+    report.check("each of their names is told once, and no 504", 1,
+                 lambda: "" if names == ["lbx", "lby"] and "504" not in text else text)
+
+
 def mute(report, options):
     """Standard error takes nothing."""
     told, log = os.pipe()
@@ -550,7 +571,7 @@ def main():
     for part in (verdicts, streams, crowd, newer, strangers, deaf, silence, admins, slow_admins):
         part(report, collector)
     collector.stop()
-    for part in (scarce, elsewhere, mute, broken, checking, surroundings):
+    for part in (scarce, elsewhere, unknown, mute, broken, checking, surroundings):
         part(report, options)
     print(f"{report.passed} passed, {report.failed} failed")
     sys.exit(1 if report.failed else 0)

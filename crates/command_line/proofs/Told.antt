@@ -1,17 +1,21 @@
 -- From what clap's matches tell to what the words ask for.
 use Rattle.std.proofs.Common.{◌≡◌, ◌∙◌, true, List, [], Option, None, Some, option_map, ap, sym}
-use Rattle.std.proofs.Common.{subst}
-use Rattle.std.specs.Prelude.{Box}
+use Rattle.std.proofs.Common.{subst, inl, inr}
+use Rattle.std.specs.Prelude.{Box, IfErr, IsErrAnd, Result, Ok, Err}
 use Rattle.std.specs.Box.{box_value}
 use Rattle.clap.specs.Words.{App, HasMatchesOf, Row, Text, fault_of, is_simple, is_simple_and_free}
-use Rattle.clap.specs.Words.{subcommand_of, subcommand_rows_of}
+use Rattle.clap.specs.Words.{HasKind, IsAmong, kind_of, subcommand_of, subcommand_rows_of}
+use Rattle.clap.specs.declared.error.Error.{Error}
+use Rattle.command_line.specs.Status.{IsUsageOf}
 use Rattle.clap.specs.Simple.{subcommand_rows}
 use Rattle.clap.specs.declared.parser.matches.ArgMatches.{ArgMatches}
 use Rattle.clap.specs.declared.parser.matches.ArgMatches.TheViews.{out-SubCommand}
 use Rattle.clap.specs.declared.parser.matches.SubCommand.{SubCommand}
-use Rattle.command_line.specs.Asked.{IsNoJob, IsRefused, SaysNoAddress, program}
+use Rattle.command_line.specs.Asked.{IsNoJob, IsRefused, SaysNoAddress, SaysNoChoice}
+use Rattle.command_line.specs.Asked.{program}
 use Rattle.command_line.specs.declared.usage.Usage.{Usage}
-use Rattle.command_line.specs.declared.usage.Usage.TheVariants.{Words, BadAddress, NoMemory}
+use Rattle.command_line.specs.declared.usage.Usage.TheVariants.{Words, BadAddress, BadUnknownPeers}
+use Rattle.command_line.specs.declared.usage.Usage.TheVariants.{NoMemory}
 use Rattle.command_line.proofs.Commands.{EntersCommand, is_plain, is_read}
 
 module _ {Z : Type 0} where
@@ -44,4 +48,26 @@ pub is_refused : (words : List Text) (found : Option (Text × List Row)) (usage 
     → IsRefused words usage
 is_refused words found (Words error) taken is none = absurd none
 is_refused words found BadAddress taken is none = (taken, subst SaysNoAddress is none)
+is_refused words found BadUnknownPeers taken is none = (taken, subst SaysNoChoice is none)
 is_refused words found NoMemory taken is none = tt
+
+-- an error that clap has for the words, as it is reported
+pub told_refused : (words : List Text) (app : App) (error : Error) (usage : Usage) → app ≡ program
+    → (is_simple_and_free app ≡ true → HasKind (fault_of app words) error)
+    → IsUsageOf error usage → IsRefused words usage
+told_refused words app error (Words told) is kinds (same, other) =
+    elim (kinds (ap is_simple_and_free is ∙ is_read)) [
+      | inl want ↦ absurd (other want)
+      | inr among ↦
+          let here = subst (λ (a : App). IsAmong (kind_of error) (fault_of a words)) is among in
+          subst (λ (e : Error). IsAmong (kind_of e) (fault_of program words)) (sym same) here
+    ]
+told_refused words app error BadAddress is kinds told = absurd told
+told_refused words app error BadUnknownPeers is kinds told = absurd told
+told_refused words app error NoMemory is kinds told = tt
+
+-- what holds of a fault that a result has
+pub err_only : {T E : Type 0} {P Q : E → Type 0} (r : Result T E) → IsErrAnd r P
+    → ((e : E) → P e → Q e) → IfErr r Q
+err_only (Ok value) h f = absurd h
+err_only (Err e) h f = f e h

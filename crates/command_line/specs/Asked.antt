@@ -1,5 +1,7 @@
 -- What the words of a command line ask for, as clap reads them for the command below.
 use Rattle.std.specs.Prelude.{◌≡◌, ◌⊎◌, ⊤, ℕ, false, true, List, [], codes, map, Option, None, Some}
+use Rattle.std.specs.Prelude.{if◌then◌else◌}
+use Rattle.std.specs.Str.{bytes_eq}
 use Rattle.std.specs.Borrow.{Bor}
 use Rattle.std.specs.Option.{option_and_then, option_map, option_map_or}
 use Rattle.clap.specs.Words.{App, Row, Rule, Text, all_of, first_of, kind_of, new_app}
@@ -13,8 +15,11 @@ use Rattle.command_line.specs.Networks.{network_parts, networks_of}
 use Rattle.command_line.specs.declared.job.Endpoints.{Endpoints}
 use Rattle.command_line.specs.declared.job.Job.{Job}
 use Rattle.command_line.specs.declared.job.Job.TheVariants.{Replay, Import, Check, Listen}
+use Rattle.command_line.specs.declared.job.UnknownPeers.{UnknownPeers}
+use Rattle.command_line.specs.declared.job.UnknownPeers.TheVariants.{Refuse, Wait}
 use Rattle.command_line.specs.declared.usage.Usage.{Usage}
-use Rattle.command_line.specs.declared.usage.Usage.TheVariants.{Words, BadAddress, NoMemory}
+use Rattle.command_line.specs.declared.usage.Usage.TheVariants.{Words, BadAddress, BadUnknownPeers}
+use Rattle.command_line.specs.declared.usage.Usage.TheVariants.{NoMemory}
 
 -- no option of the command is one of its subcommands too
 abbrev pub IsLocal : Command → Type 0
@@ -29,10 +34,10 @@ option name = record (new_rule name) {
   value_names = 1;
 }
 
--- `--config FILE`, which may be there
-abbrev pub file_option : Rule
-file_option = record (new_rule (codes "config")) {
-  long = Some (codes "config");
+-- an option that may be there, with its value
+abbrev pub value_option : Text → Rule
+value_option name = record (new_rule name) {
+  long = Some name;
   action = Some Set;
   value_names = 1;
 }
@@ -55,12 +60,13 @@ import = new_app (codes "import")
 
 -- `check --config FILE`
 abbrev pub check : App
-check = with_rule (new_app (codes "check")) file_option
+check = with_rule (new_app (codes "check")) (value_option (codes "config"))
 
--- `listen --config FILE --peers ADDRESS --admin ADDRESS --from NETWORK ..`
+-- `listen --config FILE --peers ADDRESS --admin ADDRESS --from NETWORK .. --unknown-peers WHAT`
 abbrev pub listen : App
-listen = with_rule (with_rule (with_rule (with_rule (new_app (codes "listen")) file_option)
-    (option (codes "peers"))) (option (codes "admin"))) (many_option (codes "from"))
+listen = with_rule (with_rule (with_rule (with_rule (with_rule (new_app (codes "listen"))
+    (value_option (codes "config"))) (option (codes "peers"))) (option (codes "admin")))
+    (many_option (codes "from"))) (value_option (codes "unknown-peers"))
 
 -- the program without its commands; it tells its version
 abbrev pub bare : App
@@ -85,15 +91,27 @@ address_in name rows = option_and_then address_of (first_of name rows)
 abbrev pub networks_in : Text → List Row → Option (List (List ℕ × ℕ))
 networks_in name rows = option_map_or networks_of (all_of name rows) (Some [])
 
+-- what a text says of unknown peers
+abbrev pub choice_of : Text → Option UnknownPeers
+choice_of text =
+    if bytes_eq text (codes "refuse") then Some Refuse
+    else if bytes_eq text (codes "wait") then Some Wait
+    else None
+
+-- what the options say of unknown peers: that they are refused where the option isn't there
+abbrev pub choice_in : List Row → Option UnknownPeers
+choice_in rows = option_map_or choice_of (first_of (codes "unknown-peers") rows) (Some Refuse)
+
 -- the options name this file of a configuration, or none
 abbrev pub SaysFile : List Row → Option (Bor Text) → Type 0
 SaysFile rows config = option_map (λ name. name.now) config ≡ first_of (codes "config") rows
 
--- the options of `listen` say these addresses
+-- the options of `listen` say these addresses, and this of unknown peers
 pub record SaysAddresses (rows : List Row) (addresses : Endpoints) : Type 0 where
   pub peers : address_in (codes "peers") rows ≡ Some (parts_of addresses.peers)
   pub admin : address_in (codes "admin") rows ≡ Some (parts_of addresses.admin)
   pub from : networks_in (codes "from") rows ≡ Some (map network_parts addresses.from.items)
+  pub unknown_peers : choice_in rows ≡ Some addresses.unknown_peers
 
 -- a command with its options asks for this job
 abbrev pub IsJob : Option (Text × List Row) → Job → Type 0
@@ -118,10 +136,17 @@ SaysNoAddress (Some command) = (command.0 ≡ codes "listen")
     ⊎ (address_in (codes "admin") command.1 ≡ None)
     ⊎ (networks_in (codes "from") command.1 ≡ None))
 
--- why a command that clap takes is no job: an option says no address, or an allocation failed
+-- a `listen` that doesn't say what is done about unknown peers
+abbrev pub SaysNoChoice : Option (Text × List Row) → Type 0
+SaysNoChoice None = ⊥
+SaysNoChoice (Some command) = (command.0 ≡ codes "listen") × (choice_in command.1 ≡ None)
+
+-- why a command that clap takes is no job: an option says no address, or nothing of unknown peers,
+-- or an allocation failed
 abbrev pub IsNoJob : Option (Text × List Row) → Usage → Type 0
 IsNoJob command (Words error) = ⊥
 IsNoJob command BadAddress = SaysNoAddress command
+IsNoJob command BadUnknownPeers = SaysNoChoice command
 IsNoJob command NoMemory = ⊤
 
 -- why the words ask for no job: an error of a kind that clap has for them, or what is wrong with a
@@ -130,4 +155,6 @@ abbrev pub IsRefused : List Text → Usage → Type 0
 IsRefused words (Words error) = IsAmong (kind_of error) (fault_of program words)
 IsRefused words BadAddress =
     (fault_of program words ≡ []) × SaysNoAddress (subcommand_of program words)
+IsRefused words BadUnknownPeers =
+    (fault_of program words ≡ []) × SaysNoChoice (subcommand_of program words)
 IsRefused words NoMemory = ⊤

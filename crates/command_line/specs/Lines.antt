@@ -85,6 +85,22 @@ pub record TakesFiles (self file peers admin : Text) : Type 0 where
       (listen_words self (config_word file ∷ peers_word peers ∷ admin_word admin ∷ []))
       (codes "listen") file
 
+-- `--unknown-peers=` with this text
+abbrev pub unknown_word : Text → Text
+unknown_word text = codes "--unknown-peers=" ++ text
+
+-- `listen` with it behind the other words
+abbrev pub unknown_words : (self peers admin what : Text) → List Text
+unknown_words self peers admin what =
+    listen_words self (peers_word peers ∷ admin_word admin ∷ unknown_word what ∷ [])
+
+-- such a line is taken with it, for all texts
+pub record TakesUnknownPeers (self peers admin what : Text) : Type 0 where
+  pub taken : IsTaken (unknown_words self peers admin what) (codes "listen")
+      (Some peers) (Some admin)
+  pub what_is : text_in (codes "unknown-peers")
+      (subcommand_of program (unknown_words self peers admin what)) ≡ Some what
+
 -- the kinds of error that clap has for these words behind the program's name
 abbrev pub faults : Text → List Text → Kinds
 faults self words = fault_of program (self ∷ words)

@@ -5,7 +5,8 @@ use Rattle.clap.specs.declared.error.Error.{Error}
 use Rattle.clap.specs.declared.error.kind.ErrorKind.{ErrorKind}
 use Rattle.clap.specs.declared.error.kind.ErrorKind.TheVariants as kind
 use Rattle.command_line.specs.declared.usage.Usage.{Usage}
-use Rattle.command_line.specs.declared.usage.Usage.TheVariants.{Words, BadAddress, NoMemory}
+use Rattle.command_line.specs.declared.usage.Usage.TheVariants.{Words, BadAddress, BadUnknownPeers}
+use Rattle.command_line.specs.declared.usage.Usage.TheVariants.{NoMemory}
 
 -- help and the version are no mistake
 abbrev pub kind_status : ErrorKind → ℕ
@@ -16,12 +17,14 @@ kind_status _ = 2
 abbrev pub status_of : Usage → ℕ
 status_of (Words error) = kind_status (kind_of error)
 status_of BadAddress = 2
+status_of BadUnknownPeers = 2
 status_of NoMemory = 5
 
 -- what is printed of a command line that asks for no job. The texts of `Words` are clap's
 abbrev pub text_of : Usage → Option (List ℕ)
 text_of (Words error) = None
 text_of BadAddress = Some (codes "bad address\n")
+text_of BadUnknownPeers = Some (codes "bad --unknown-peers\n")
 text_of NoMemory = Some []
 
 -- what is reported of a failed allocation
@@ -32,4 +35,5 @@ IsWant usage = usage ≡ NoMemory
 abbrev pub IsUsageOf : Error → Usage → Type 0
 IsUsageOf error (Words told) = (told ≡ error) × (kind_of error ≢ kind.OutOfMemory)
 IsUsageOf error BadAddress = ⊥
+IsUsageOf error BadUnknownPeers = ⊥
 IsUsageOf error NoMemory = kind_of error ≡ kind.OutOfMemory

@@ -20,13 +20,24 @@ pub enum Job<'a> {
     },
 }
 
-/// Where is to be listened.
+/// What is done about a hello whose peer isn't in the configuration.
+#[derive(Clone, Copy, Debug, PartialEq, Eq)]
+pub enum UnknownPeers {
+    /// It is answered 504, which HAProxy takes as final until it is reloaded.
+    Refuse,
+    /// Its connection is closed without a status, so that the proxy calls again.
+    Wait,
+}
+
+/// Where is to be listened, and for whom.
 #[derive(Debug, Drop)]
 pub struct Endpoints {
     /// Where proxies connect.
     pub peers: SocketAddrV4,
     /// From which networks they may; from all where this is empty.
     pub from: Vec<Network>,
+    /// What is done about peers that aren't in the configuration.
+    pub unknown_peers: UnknownPeers,
     /// Where operators connect.
     pub admin: SocketAddrV4,
 }

@@ -3,17 +3,19 @@
 ghost use Rattle.std.specs.Prelude.{ℕ, List};
 ghost use Rattle.command_line.specs.Lines.{Refuses, ShowsHelp, ShowsVersion, TakesFiles};
 ghost use Rattle.command_line.specs.Lines.{TakesImport, TakesJoined, TakesNetworks};
-ghost use Rattle.command_line.specs.Lines.{TakesReplay};
+ghost use Rattle.command_line.specs.Lines.{TakesReplay, TakesUnknownPeers};
 
 /// `replay`, `import`, and `listen` with `--peers=` and `--admin=` in either order, are taken for
 /// what they say, whatever the program is called and the two texts are. So are each `--from=`
-/// beside them, `check`, and `--config=`.
+/// and `--unknown-peers=` beside them, `check`, and `--config=`.
 pub fn shown_lines()
     ensures replay { TakesReplay }
     ensures import { TakesImport }
     ensures joined { TakesJoined }
     ensures networks { (self peers admin one other : List ℕ)
         → TakesNetworks self peers admin one other }
+    ensures unknown_peers { (self peers admin what : List ℕ)
+        → TakesUnknownPeers self peers admin what }
     ensures files { (self file peers admin : List ℕ) → TakesFiles self file peers admin }
 {}
 

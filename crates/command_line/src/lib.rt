@@ -15,7 +15,7 @@ mod reading;
 mod usage;
 
 pub use address::read_address;
-pub use job::{Endpoints, Job};
+pub use job::{Endpoints, Job, UnknownPeers};
 pub use network::Network;
 pub use networks::{admits, read_network};
 pub use reading::{VERSION, read};

@@ -5,12 +5,13 @@ ghost use Rattle.std.specs.Option.{option_map};
 ghost use Rattle.clap.specs.Words.{app_of, found_of, kind_of, rows_of, rule_of};
 ghost use Rattle.command_line.specs.Address.{parts_of};
 ghost use Rattle.command_line.specs.Asked.{AsksFor, IsCommand, IsJob, IsNoJob, IsRefused};
-ghost use Rattle.command_line.specs.Asked.{IsLocal, SaysFile, address_in, file_option, listen};
-ghost use Rattle.command_line.specs.Asked.{many_option, networks_in, option, program};
+ghost use Rattle.command_line.specs.Asked.{IsLocal, SaysFile, address_in, choice_in, choice_of};
+ghost use Rattle.command_line.specs.Asked.{listen, many_option, networks_in, option, program};
+ghost use Rattle.command_line.specs.Asked.{value_option};
 ghost use Rattle.command_line.specs.Networks.{network_parts, networks_of};
 
 use crate::address::read_address;
-use crate::job::{Endpoints, Job};
+use crate::job::{Endpoints, Job, UnknownPeers};
 use crate::network::Network;
 use crate::networks::read_network;
 use crate::usage::Usage;
@@ -26,7 +27,8 @@ pub const VERSION: &str = "0.3.0";
 
 /// The job that the words of a command line ask for, the first of them the program's name. Help
 /// that is asked for and words that aren't the program's are `Usage::Words`; of words that are, an
-/// address that is none is `Usage::BadAddress`.
+/// address that is none is `Usage::BadAddress`, and another word for unknown peers
+/// `Usage::BadUnknownPeers`.
 pub fn read<'a, S: AsStr>(alloc: Global, words: &'a [S]) -> Result<Job<'a>, Usage>
     ensures job { IfOk result (AsksFor (map S.text words.now)) }
     ensures usage { IfErr result (IsRefused (map S.text words.now)) }
@@ -73,12 +75,13 @@ fn listen<'a>(alloc: Global) -> Result<Command<'a>, AllocError>
         .arg(file(alloc))?
         .arg(address(alloc, "peers", "Where proxies connect, as 10.1.0.9:10000"))?
         .arg(address(alloc, "admin", "Where operators connect, as 127.0.0.1:9999"))?
-        .arg(networks(alloc))
+        .arg(networks(alloc))?
+        .arg(unknown_peers(alloc))
 }
 
 // The file of a configuration.
 fn file<'a>(alloc: Global) -> Arg<'a>
-    ensures rule { rule_of result ≡ file_option }
+    ensures rule { rule_of result ≡ value_option (codes "config") }
     ensures local { result.global ≡ false }
 {
     Arg::new(alloc, "config")
@@ -113,6 +116,18 @@ fn networks<'a>(alloc: Global) -> Arg<'a>
         .action(ArgAction::Append)
 }
 
+// What is done about a hello of a peer that isn't in the configuration.
+fn unknown_peers<'a>(alloc: Global) -> Arg<'a>
+    ensures rule { rule_of result ≡ value_option (codes "unknown-peers") }
+    ensures local { result.global ≡ false }
+{
+    Arg::new(alloc, "unknown-peers")
+        .long("unknown-peers")
+        .value_name("WHAT")
+        .help("Peers that aren't configured: refuse, or wait until they are [default: refuse]")
+        .action(ArgAction::Set)
+}
+
 // What a command with its options asks for.
 fn job<'a>(alloc: Global, name: &str, given: &ArgMatches<'a>) -> Result<Job<'a>, Usage>
     requires { IsCommand name.now }
@@ -142,8 +157,16 @@ fn listening<'a>(alloc: Global, given: &ArgMatches<'a>) -> Result<Job<'a>, Usage
     let (Some(peers), Some(admin), Some(from)) = (peers, admin, from) else {
         return Err(Usage::BadAddress);
     };
+    let Some(unknown_peers) = choice_in(given) else {
+        return Err(Usage::BadUnknownPeers);
+    };
     let config = file_in(given);
-    let endpoints = Endpoints { peers, from, admin };
+    let endpoints = Endpoints {
+        peers,
+        from,
+        unknown_peers,
+        admin,
+    };
     Ok(Job::Listen { config, endpoints })
 }
 
@@ -152,6 +175,28 @@ fn file_in<'a>(given: &ArgMatches<'a>) -> Option<&'a str>
     ensures { SaysFile (rows_of (found_of given.now)) result }
 {
     given.get_str("config")
+}
+
+// What the options say of unknown peers.
+fn choice_in(given: &ArgMatches<'_>) -> Option<UnknownPeers>
+    ensures { result ≡ choice_in (rows_of (found_of given.now)) }
+{
+    match given.get_str("unknown-peers") {
+        None => Some(UnknownPeers::Refuse),
+        Some(text) => choice_of(text),
+    }
+}
+
+fn choice_of(text: &str) -> Option<UnknownPeers>
+    ensures { result ≡ choice_of text.now }
+{
+    if text == "refuse" {
+        Some(UnknownPeers::Refuse)
+    } else if text == "wait" {
+        Some(UnknownPeers::Wait)
+    } else {
+        None
+    }
 }
 
 // The address that an option says.

@@ -15,6 +15,8 @@ pub enum Usage {
     Words(Error),
     /// `--peers` or `--admin` names no address.
     BadAddress,
+    /// `--unknown-peers` says neither `refuse` nor `wait`.
+    BadUnknownPeers,
     /// An allocation failed.
     NoMemory,
 }
@@ -28,7 +30,7 @@ impl Usage {
         match self {
             Usage::Words(error) if error.use_stderr() => 2,
             Usage::Words(_) => 0,
-            Usage::BadAddress => 2,
+            Usage::BadAddress | Usage::BadUnknownPeers => 2,
             Usage::NoMemory => 5,
         }
     }
@@ -59,6 +61,7 @@ impl fmt::Display for Usage {
         match self {
             Usage::Words(error) => fmt::Display::fmt(error, f),
             Usage::BadAddress => f.write_str("bad address\n"),
+            Usage::BadUnknownPeers => f.write_str("bad --unknown-peers\n"),
             Usage::NoMemory => Ok(()),
         }
     }

@@ -159,6 +159,7 @@ where
         clock: &clock,
         peers,
         from: endpoints.from.as_slice(),
+        unknown_peers: endpoints.unknown_peers,
         admins: &admins,
         connections: &connections,
     };

@@ -1,6 +1,7 @@
 //! Who waits at the peers' door, and who sits.
 
 use crate::ticks::is_due;
+use crate::unknown::{Call, Unknown};
 use std::alloc::Global;
 use std::collections::BTreeMap;
 use std::io;
@@ -54,6 +55,7 @@ pub struct Unasked {
 #[derive(Drop)]
 pub struct Connections {
     lists: Mutex<Lists>,
+    unknown: Unknown,
     // 1 once the peers' door is closed for good, and why
     closed: AtomicU64,
     fault: Mutex<Option<io::Error>>,
@@ -72,6 +74,7 @@ impl Connections {
                 last_unasked: None,
                 told_at: None,
             }),
+            unknown: Unknown::new(alloc),
             closed: AtomicU64::new(0),
             fault: Mutex::new(None),
         }
@@ -184,6 +187,16 @@ impl Connections {
         let lists = &mut *guard;
         lists.unasked = lists.unasked.saturating_add(1);
         lists.last_unasked = Some(address);
+    }
+
+    /// The connection from this address is closed, since the peer of its hello isn't configured.
+    pub fn turn_away_unknown<R: Clock + Wait>(&self, rt: &R, hello: &[u8], address: SocketAddr) {
+        self.unknown.call(rt, hello, address);
+    }
+
+    /// The connection from this address, if it was closed so. It is forgotten with that.
+    pub(crate) fn take_unknown<R: Wait>(&self, rt: &R, address: SocketAddr) -> Option<Call> {
+        self.unknown.take(rt, address)
     }
 
     /// What is to be told now of connections from addresses that aren't asked for: at most once a

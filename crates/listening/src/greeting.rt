@@ -1,7 +1,7 @@
 //! What a peer's connection says before it may sit down.
 
 use agg_types::Config;
-use session_core::{Session, SessionCause};
+use session_core::{Session, SessionCause, Status};
 use std::alloc::Global;
 use std::io::{ErrorKind, Read};
 use std::net::TcpStream;
@@ -18,6 +18,8 @@ const PIECE: usize = 512;
 pub enum Hello {
     /// It is the hello of a peer, by its place in the configuration.
     Of(usize),
+    /// It names a peer that isn't configured.
+    Unknown,
     /// It is refused, or the connection ended before it was whole.
     Refused,
     /// It wasn't whole in time, or memory was lacking.
@@ -107,6 +109,7 @@ fn take_piece(
     }
     match ended?.cause {
         SessionCause::NoMemory => Some(Hello::Late),
+        SessionCause::Refused(Status::RemoteName) => Some(Hello::Unknown),
         _ => Some(Hello::Refused),
     }
 }

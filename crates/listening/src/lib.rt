@@ -21,6 +21,7 @@ mod pace;
 mod running;
 mod sockets;
 mod ticks;
+mod unknown;
 
 pub use admins::Admins;
 pub use collecting::{Stopped, collect};

@@ -41,6 +41,11 @@ pub enum Event<'a> {
         address: Option<SocketAddr>,
         cause: Option<&'a Cause>,
     },
+    /// A connection was closed since the peer of its hello isn't configured.
+    PeerUnknown {
+        name: &'a [u8],
+        address: SocketAddr,
+    },
     /// A peer's connection was closed before it was served: no thread, no seat, or out of memory.
     PeerTurnedAway {
         address: Option<SocketAddr>,
@@ -71,6 +76,7 @@ impl<'a> Event<'a> {
             Event::PeerReplaced { .. } => "info peer replaced",
             Event::StrangerGone { cause: None, .. } => "info connection closed without a hello",
             Event::StrangerGone { .. } => "warn connection ended",
+            Event::PeerUnknown { .. } => "warn unknown peer closed",
             Event::PeerTurnedAway { .. } => "error connection turned away",
             Event::PeersUnasked { .. } => "warn connections from elsewhere closed",
             Event::LinesLost { .. } => "warn log lines lost",
@@ -118,6 +124,9 @@ impl<'a> fmt::Display for Line<'a> {
                 address,
                 cause,
             } => write!(f, "{}{}{}", Named(name), From(address), Why(cause)),
+            Event::PeerUnknown { name, address } => {
+                write!(f, " name={} address={address}", Value(name))
+            }
             Event::PeerTurnedAway { address } => {
                 write!(
                     f,

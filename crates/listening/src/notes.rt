@@ -39,6 +39,24 @@ impl<'a, R> Notes<'a, R> {
         }
     }
 
+    // Tells of the connection from this address, if it was closed since its peer isn't configured.
+    fn tells_unknown(&self, address: Option<SocketAddr>) -> bool
+    where
+        R: Clock + Wait,
+    {
+        let Some(address) = address else {
+            return false;
+        };
+        let Some(call) = self.connections.take_unknown(&self.rt, address) else {
+            return false;
+        };
+        if let Some(name) = &call.name {
+            let name = name.as_slice();
+            self.note(Event::PeerUnknown { name, address });
+        }
+        true
+    }
+
     // The line of an event waits for standard error.
     fn note(&self, event: Event<'_>)
     where
@@ -77,7 +95,7 @@ impl<'a, R> Notes<'a, R> {
                 cause,
             };
             self.note(event);
-        } else {
+        } else if !self.tells_unknown(address) {
             let name = match gone.name {
                 None => None,
                 Some(name) => Some(name),

@@ -9,7 +9,7 @@ use crate::outgoing::Outgoing;
 use crate::pace::{Begun, Pace};
 use crate::ticks::Ticks;
 use agg_types::Config;
-use command_line::{Network, admits};
+use command_line::{Network, UnknownPeers, admits};
 use serve::{Caller, Doors, Faulted, Served};
 use std::alloc::Global;
 use std::io;
@@ -41,6 +41,8 @@ pub struct Sockets<'a, R> {
     /// Where proxies connect, and from which networks they may: from all where there are none.
     pub peers: TcpListener,
     pub from: &'a [Network],
+    /// What is done about peers that aren't configured.
+    pub unknown_peers: UnknownPeers,
     pub admins: &'a Admins,
     pub connections: &'a Connections,
 }
@@ -178,6 +180,12 @@ impl<'a, R: Clock + Wait> Doors<Incoming<'a, R>, Outgoing<'a, R>> for Sockets<'a
         self.connections.stop_waiting(rt, source.id);
         let limit = Duration::from_millis(SOCKET_LIMIT);
         source.is_limited = source.stream.set_read_timeout(Some(limit)).is_ok();
+        if hello == Hello::Unknown && self.unknown_peers == UnknownPeers::Wait {
+            let hello = bytes.as_slice();
+            self.connections.turn_away_unknown(rt, hello, source.sender);
+            source.begin_with(Vec::new(self.alloc), Hello::Late);
+            return false;
+        }
         source.begin_with(bytes, hello);
         matches!(hello, Hello::Of(_))
     }

@@ -10,11 +10,16 @@ const TELLING: u64 = 1;
 
 /// Whether what was counted is to be told: it was told a second ago or longer, or never.
 pub fn is_due(rt: &impl Clock, told_at: Option<Instant>) -> bool {
-    let Some(told_at) = told_at else {
-        return true;
-    };
-    match told_at.elapsed(rt) {
-        Ok(passed) => passed.as_secs() >= TELLING,
+    match told_at {
+        None => true,
+        Some(told_at) => has_passed(rt, told_at, TELLING),
+    }
+}
+
+/// Whether so many seconds have passed since a time. A clock that fails says so.
+pub fn has_passed(rt: &impl Clock, since: Instant, seconds: u64) -> bool {
+    match since.elapsed(rt) {
+        Ok(passed) => passed.as_secs() >= seconds,
         Err(_) => true,
     }
 }

@@ -2,7 +2,7 @@
 //! asks for no job. Then it reads its own command line so, and ends with that one's status.
 #![tactic(auto)]
 
-use command_line::{Endpoints, Job, Usage, admits};
+use command_line::{Endpoints, Job, UnknownPeers, Usage, admits};
 use std::alloc::Global;
 use std::env::Env;
 use std::io;
@@ -60,8 +60,16 @@ fn print_row(rt: &(impl Print + AllocGlobal), line: &str) -> anyhow::Result<()> 
 }
 
 fn print_endpoints(rt: &(impl Print + AllocGlobal), endpoints: &Endpoints) -> anyhow::Result<()> {
-    let Endpoints { peers, from, admin } = endpoints;
+    let Endpoints {
+        peers,
+        from,
+        unknown_peers,
+        admin,
+    } = endpoints;
     println!(rt; "listen to {peers} and {admin}")?;
+    if *unknown_peers == UnknownPeers::Wait {
+        println!(rt; "unknown peers wait")?;
+    }
     if from.is_empty() {
         return Ok(());
     }

@@ -90,10 +90,27 @@ pub fn show<R: Print + Wait + Copy + AllocGlobal>(rt: &R) -> io::Result<()> {
     for name in NAMES {
         show_stranger(&notes, Some(name), Some(&Cause::Read));
     }
+    show_unknown(&connections, &notes);
     journal.write_out(&notes.rt);
     show_moments(rt, &config);
     show_crowd(rt);
     Ok(())
+}
+
+/// Connections that are closed since their peers aren't configured: a name is told once.
+fn show_unknown<R: Print + Wait>(connections: &Connections, notes: &Notes<'_, Still<R>>) {
+    let caller = SocketAddr::V4(address(41234));
+    for hello in [
+        b"HAProxyS 2.1\nagg\nlb9 1 1\n".as_slice(),
+        b"HAProxyS 2.1\r\nagg\r\nlb9 2 2\r\n".as_slice(),
+        b"HAProxyS 2.1\nagg\na b\xff\n".as_slice(),
+        b"HAProxyS 2.1\nagg\n\xff=\n".as_slice(),
+        b"".as_slice(),
+    ] {
+        connections.turn_away_unknown(&notes.rt, hello, caller);
+        show_stranger(notes, None, None);
+    }
+    show_stranger(notes, None, None);
 }
 
 /// Connections that are over, by each cause, of a peer and of a stranger.

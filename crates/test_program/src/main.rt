@@ -49,6 +49,7 @@ const LISTEN: &[&[u8]] = &[
 const LISTEN_TURNED: &[&[u8]] = &[
     b"listen",
     b"--from=192.0.2.0/24",
+    b"--unknown-peers=wait",
     b"--admin=192.0.2.2:1025",
     b"--peers=192.0.2.1:1024",
 ];
@@ -136,10 +137,18 @@ fn show_left(rt: &impl Print, errors: &[u8], left: Prepared) -> io::Result<()> {
             println!(rt; "-- standard error")?;
             io::writer(rt).write_all(errors)?;
             let Asked { config, endpoints } = asked;
-            let Endpoints { peers, from, admin } = endpoints;
+            let Endpoints {
+                peers,
+                from,
+                unknown_peers,
+                admin,
+            } = endpoints;
             let count = config.peers.len();
             println!(rt; "-- collects: {count} peers at {peers}, operators at {admin}")?;
-            println!(rt; "-- from {} networks", from.len())
+            println!(rt;
+                "-- from {} networks; unknown peers: {unknown_peers:?}",
+                from.len()
+            )
         }
     }
 }

@@ -1,7 +1,7 @@
 use Rattle.std.proofs.Common.{List, ℕ, refl}
 use Rattle.clap.proofs.OnLiterals.{clap_on_literals}
 use Rattle.command_line.specs.Lines.{TakesFiles, TakesImport, TakesJoined, TakesNetworks}
-use Rattle.command_line.specs.Lines.{TakesReplay}
+use Rattle.command_line.specs.Lines.{TakesReplay, TakesUnknownPeers}
 use Rattle.command_line.proofs.laws.shown_lines.Goals as goal
 
 replays : TakesReplay
@@ -34,11 +34,19 @@ files self file peers admin = record {
   collected = record { taken = refl; named = refl; file_is = refl };
 }
 
+unknown : (self peers admin what : List ℕ) → TakesUnknownPeers self peers admin what
+unfolding clap_on_literals
+unknown self peers admin what = record {
+  taken = record { taken = refl; named = refl; peers_is = refl; admin_is = refl };
+  what_is = refl;
+}
+
 pub returns : goal.returns
 returns c = record {
   replay = replays;
   import = imports;
   joined = joined;
   networks = networks;
+  unknown_peers = unknown;
   files = files;
 }

@@ -1,7 +1,6 @@
-use Rattle.std.proofs.Common.{◌≡◌, ◌∙◌, ◌||◌, false, ap, ap₂}
+use Rattle.std.proofs.Common.{◌∙◌, ◌||◌, ap, ap₂}
 use Rattle.std.proofs.lemmas.Result.{IfOk-weaker}
-use Rattle.clap.specs.Words.{app_of, with_rule}
-use Rattle.clap.specs.declared.builder.command.Command.TheViews.{out-Command as fields_of}
+use Rattle.clap.specs.Words.{with_rule}
 use Rattle.clap.specs.Simple.{app_of_fields}
 use Rattle.command_line.proofs.reading.listen.Goals as goal
 
@@ -13,8 +12,10 @@ returns-clause-app c =
     ∙ ap₂ with_rule one c.address.ensures.rule in
     let three = c.in_ok-arg-3.ensures.shape c.address-2.ensures.local
     ∙ ap₂ with_rule two c.address-2.ensures.rule in
-    IfOk-weaker c.arg-4.result _ _ (λ command h. h.shape c.networks.ensures.local
-    ∙ ap₂ with_rule three c.networks.ensures.rule) c.arg-4.ensures
+    let four = c.in_ok-arg-4.ensures.shape c.networks.ensures.local
+    ∙ ap₂ with_rule three c.networks.ensures.rule in
+    IfOk-weaker c.arg-5.result _ _ (λ command h. h.shape c.unknown_peers.ensures.local
+    ∙ ap₂ with_rule four c.unknown_peers.ensures.rule) c.arg-5.ensures
 
 pub returns-clause-local : goal.returns-clause-local
 returns-clause-local c =
@@ -25,5 +26,7 @@ returns-clause-local c =
     ∙ ap₂ (λ x y. x || y) one c.address.ensures.local in
     let three = c.in_ok-arg-3.ensures.globals
     ∙ ap₂ (λ x y. x || y) two c.address-2.ensures.local in
-    IfOk-weaker c.arg-4.result _ _ (λ command h. h.globals
-    ∙ ap₂ (λ x y. x || y) three c.networks.ensures.local) c.arg-4.ensures
+    let four = c.in_ok-arg-4.ensures.globals
+    ∙ ap₂ (λ x y. x || y) three c.networks.ensures.local in
+    IfOk-weaker c.arg-5.result _ _ (λ command h. h.globals
+    ∙ ap₂ (λ x y. x || y) four c.unknown_peers.ensures.local) c.arg-5.ensures

@@ -2,7 +2,7 @@ use Rattle.std.proofs.Common.{◌≡◌, ◌∙◌, ◌||◌, codes, false, ap, 
 use Rattle.clap.specs.Words.{App, Shape, app_of, new_app, with_rule, with_subcommand}
 use Rattle.clap.specs.declared.builder.command.Command.TheViews.{out-Command as fields_of}
 use Rattle.clap.specs.Simple.{app_of_fields, on_top}
-use Rattle.command_line.specs.Asked.{bare, check, import, listen, replay}
+use Rattle.command_line.specs.Asked.{bare, check, import, replay}
 use Rattle.command_line.proofs.reading.program.Goals as goal
 
 pub returns-clause-ok : goal.returns-clause-ok

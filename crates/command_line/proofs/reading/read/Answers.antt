@@ -3,7 +3,8 @@ use Rattle.std.proofs.lemmas.Result.{IfErr-weaker, IfOk-weaker}
 use Rattle.clap.specs.Words.{Row, Text, app_of}
 use Rattle.command_line.specs.Asked.{IsJob}
 use Rattle.command_line.proofs.Commands.{EntersCommand, command_entered}
-use Rattle.command_line.proofs.Told.{both_told, is_refused, none_entered, words_taken}
+use Rattle.command_line.proofs.Told.{both_told, err_only, is_refused, none_entered}
+use Rattle.command_line.proofs.Told.{told_refused, words_taken}
 use Rattle.command_line.proofs.reading.read.Goals as goal
 
 pub unreachable-requires : goal.unreachable-requires
@@ -41,3 +42,10 @@ returns-clause-usage g c =
     let found = sym (both_told _ _ _ c.in-Some.ensures.name c.in-Some.ensures.rows) ∙ told.1 in
     IfErr-weaker c.job.result _ _ (λ usage none. is_refused words _ usage told.0 found none)
     c.job.ensures.none
+
+pub returns-in_err-matches-clause-usage : goal.returns-in_err-matches-clause-usage
+returns-in_err-matches-clause-usage g c =
+    err_only c.from_residual-in_err-matches.result c.from_residual-in_err-matches.ensures.1
+    (λ usage told. told_refused (map g.S.AsStr.text c.args.words.now)
+    (app_of c.in_ok-program.field-0) c.in_err-matches.field-0.0 usage c.in_ok-program.ensures.ok
+    c.in_err-matches.ensures.kinds told)
