@@ -85,10 +85,21 @@ fewer_kept state later name place old fewer added held =
         (sym (and_false (nat_lt place (length old)) _ none))
         (others_held state later name old fewer (held.filters ∙ sym filters) held.judged)
 
+pub fewer_kept_by : (state later : State) (name : List ℕ) (place count : ℕ)
+    (old new : List Watched) → HasFewer name state later → IsAddedPlace state name (Some place)
+    → AreAll state old → count ≡ length later.config.filters
+    → new ≡ cond (nat_lt place (length old) && nat_lt count (length old)) (remove old place) old
+    → AreAll later new
+fewer_kept_by state later name place count old new fewer added held same is =
+    subst (AreAll later) (sym (is ∙ ap (λ n. cond (nat_lt place (length old)
+    && nat_lt n (length old)) (remove old place) old) same))
+    (fewer_kept state later name place old fewer added held)
+
 -- where no added filter has the name, all stay
 pub none_kept : (state later : State) (name : List ℕ) (standing : Option AllWatched)
     → HasFewer name state later → IsAddedPlace state name None → AreHeld state standing
     → AreHeld later standing
+unfolding filters_in
 none_kept state later name None fewer added held = tt
 none_kept state later name (Some watched) fewer added held =
     others_held state later name watched.filters fewer

@@ -8,6 +8,7 @@
 
 ghost use Rattle.std.specs.Prelude.{◌≡◌, ◌+◌, ◌*◌, ◌<◌, ◌≤◌, ◌==◌, [], length, map, IfOk, OnOk};
 ghost use Rattle.std.specs.Prelude.{true, false, if◌then◌else◌, ◌&&◌, nat_lt, remove, ℕ, List};
+ghost use Rattle.std.specs.Prelude.{Some};
 ghost use Rattle.std.specs.List.{list_any};
 ghost use Rattle.agg_types.specs.declared.limits.TheConstants.{MOST_CONDS};
 ghost use Rattle.fleet_model.specs.Answers.{keys_of};
@@ -260,9 +261,18 @@ impl Held {
             → IsAddedPlace state name place
             → AreHeld state self.old.standing → AreHeld machine.now self.new.standing }
     {
-        let Some(place) = place else {
-            return;
-        };
+        match place {
+            None => {}
+            Some(place) => self.drop_place(machine, place),
+        }
+    }
+
+    // The same of a place that there is.
+    fn drop_place(&mut self, machine: &Machine, place: usize)
+        ensures held { (state : State) (name : List ℕ) → HasFewer name state machine.now
+            → IsAddedPlace state name (Some place)
+            → AreHeld state self.old.standing → AreHeld machine.now self.new.standing }
+    {
         let Some(standing) = &mut self.standing else {
             return;
         };

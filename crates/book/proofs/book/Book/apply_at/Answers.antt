@@ -20,7 +20,7 @@ invariant_of-self-2 c =
       held = c.follow-anew.ensures.held state c.self.invariant.sound
           (subst (Follows c.args.what.now state) (sym turned)
           (follows state e c.self.invariant.sound))
-          c.leaving.ensures c.self.invariant.held;
+          c.leaving-leaving.ensures c.self.invariant.held;
     }
 
 pub returns-clause-quiet : goal.returns-clause-quiet
