@@ -1,0 +1,68 @@
+-- The lines of a configuration, and words behind spaces.
+use Rattle.std.specs.Prelude.{ℕ, List, [], ◌∷◌, ◌++◌, codes}
+use Rattle.std.specs.Fmt.{decimal}
+use Rattle.std.specs.List.{flat_map, join_with_byte}
+use Rattle.agg_types.specs.declared.column.Col.{Col}
+use Rattle.agg_types.specs.declared.config.Config.{Config}
+use Rattle.agg_types.specs.declared.config.Filter.{Filter}
+use Rattle.agg_types.specs.declared.config.Rank.{Rank}
+use Rattle.agg_types.specs.declared.config.Shape.{Shape}
+use Rattle.agg_config.specs.Written.{column_text, condition_words, declaration_line, filter_of}
+use Rattle.agg_config.specs.Written.{kind_words, rank_of, store_words}
+
+-- words, each behind a space
+abbrev pub spaced : List (List ℕ) → List ℕ
+spaced words = flat_map (λ word. 32 ∷ word) words
+
+-- a column behind a comma
+abbrev pub column_behind : Col × ℕ → List ℕ
+column_behind col = 44 ∷ column_text col
+
+-- a line that declares a name
+abbrev pub named_line : List ℕ → List ℕ → List ℕ
+named_line label name = label ++ 32 ∷ (name ++ 10 ∷ [])
+
+-- the line of a table
+abbrev pub table_line : Shape → List ℕ
+table_line shape = join_with_byte 32 (codes "table" ∷ shape.name ∷ codes "type" ∷
+    (kind_words shape.kind ++ codes "size" ∷ decimal shape.size ∷ store_words shape.cols)) ++ 10 ∷ []
+
+-- the line of a standing filter of these tables
+abbrev pub filter_line : List Shape → Filter → List ℕ
+filter_line tables filter = declaration_line (filter_of tables filter) ++ 10 ∷ []
+
+-- the line of a ranked list of these tables
+abbrev pub rank_line : List Shape → Rank → List ℕ
+rank_line tables rank = declaration_line (rank_of tables rank) ++ 10 ∷ []
+
+-- what stands behind the kind of a table's keys
+abbrev pub table_end : Shape → List ℕ
+table_end shape = 32 ∷ (codes "size" ++ 32 ∷ (decimal shape.size
+    ++ (spaced (store_words shape.cols) ++ 10 ∷ [])))
+
+-- the same, piece by piece
+abbrev pub table_words : Shape → List ℕ
+table_words shape = codes "table" ++ 32 ∷ (shape.name ++ 32 ∷ (codes "type"
+    ++ (spaced (kind_words shape.kind) ++ table_end shape)))
+
+abbrev pub stored_words : Col × ℕ → List (Col × ℕ) → List ℕ
+stored_words first rest =
+    32 ∷ (codes "store" ++ 32 ∷ (column_text first ++ flat_map column_behind rest))
+
+abbrev pub filter_words : Filter → List ℕ → List ℕ
+filter_words filter table = codes "filter" ++ (32 ∷ (filter.name ++ (32 ∷ (table
+    ++ (spaced (flat_map condition_words filter.conds) ++ 10 ∷ [])))))
+
+-- the lines of the standing filters
+abbrev pub filter_lines : Config → List ℕ
+filter_lines config = flat_map (filter_line config.tables) config.filters
+
+-- the lines of the ranked lists
+abbrev pub rank_lines : Config → List ℕ
+rank_lines config = flat_map (rank_line config.tables) config.ranks
+
+-- the lines of a configuration, kind by kind
+abbrev pub parts_text : Config → List ℕ
+parts_text config = named_line (codes "name") config.me
+    ++ (flat_map (named_line (codes "peer")) config.peers
+    ++ (flat_map table_line config.tables ++ (filter_lines config ++ rank_lines config)))
