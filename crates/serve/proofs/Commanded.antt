@@ -1,6 +1,6 @@
 -- An admin at work: how it goes on, and how it stops.
 use Rattle.std.proofs.Common.{◌≡◌, Bool, true, false, ℕ, ◌==◌, inl, inr, List, [], ◌∷◌, ◌++◌}
-use Rattle.std.proofs.Common.{Option, None, Some, Result, Ok, Err, IfSome, refl, sym, ap, ◌∙◌}
+use Rattle.std.proofs.Common.{Option, None, Some, Err, IfSome, refl, sym, ap, ◌∙◌}
 use Rattle.std.proofs.Common.{subst, append-nil, append_assoc}
 use Rattle.std.specs.Io.KnownBytes.{Appends}
 use Rattle.std.specs.Bool.{if◌then◌else◌}
@@ -26,15 +26,18 @@ use Rattle.hub.specs.Roll.{MayPost}
 use Rattle.hub.specs.Views.{IsBookOf, Seeing}
 use Rattle.hub.specs.declared.faults.PostFault.{PostFault}
 use Rattle.serve.proofs.Later.{follows_on, follows_self}
-use Rattle.serve.proofs.Kept.{kept_says}
+use Rattle.serve.proofs.Kept.{kept_asks, kept_says}
 use Rattle.serve.proofs.Pieces.{none_in_both}
 use Rattle.serve.proofs.Works.{wrote_more, wrote_none}
-use Rattle.serve.specs.Commands.{AllAnswered, EndsCommands, HasNoEnd, IsCommandedUntil}
+use Rattle.serve.specs.Commands.{AllAnswered, AnsweredToQuit, EndsCommands, HasNoEnd}
+use Rattle.serve.specs.Commands.{IsCommandedUntil, RepliesTo}
 use Rattle.serve.specs.Commands.{IsCommandedWhole, IsReply, LastCutShort, LaterRefused, Replies}
 use Rattle.serve.specs.Commands.{Reply, ShowsTold, changes_in, lines_in, seen_by, texts_in}
-use Rattle.serve.specs.Commanding.{HasLearned, HasLooked, HasObeyed, ObeysTo, Stops, Works}
+use Rattle.serve.specs.Commanding.{HasLearned, HasLooked, HasObeyed, HasQuit, IsDone, ObeysTo}
+use Rattle.serve.specs.Commanding.{Stops, Works, WorksIf}
 use Rattle.serve.specs.Commanding.{kept_of, reply_of}
 use Rattle.serve.specs.Faults.{cause_of_line}
+use Rattle.serve.specs.Status.{asked_in, quits}
 use Rattle.serve.specs.Told.{HasTold, IsServed, TellsLast, stored_of}
 use Rattle.serve.specs.Traffic.{Traffic, so_far}
 use Rattle.serve.specs.Turns.{WroteFront}
@@ -47,6 +50,7 @@ use Rattle.serve.specs.declared.served.Cause.{Cause}
 use Rattle.serve.specs.declared.served.Cause.TheVariants.{Read, Write, Session, Post, Look}
 use Rattle.serve.specs.declared.served.Faulted.{Faulted}
 use Rattle.serve.specs.declared.served.Served.{Served}
+use Rattle.serve.specs.declared.status.Asked.{Asked}
 
 -- ---- what may be posted
 
@@ -189,10 +193,12 @@ pushed_one batch old what ok pushed none is =
     pushed ∙ (ap (λ (b : Bool). if b then old ++ what ∷ [] else old) is
     ∙ ap (λ (os : List What). os ++ what ∷ []) none)
 
-replied_kept : (book : State) (line : List ℕ) (change : Option What) (text : List ℕ)
-    → Replies book (kept_of line) change text
-    → Replies book line change text
-replied_kept book line change text says =
+-- what a line is answered that asks for this
+replied_to : (asked : Option Asked) (book : State) (line : List ℕ) (change : Option What)
+    (text : List ℕ) → RepliesTo asked book (kept_of line) change text
+    → RepliesTo asked book line change text
+replied_to (Some asked) book line change text says = says
+replied_to None book line change text says =
     elim says [
       | inl is ↦ inl (record {
         command = is.command;
@@ -210,21 +216,30 @@ replied_kept book line change text says =
       })
     ]
 
+replied_kept : (book : State) (line : List ℕ) (change : Option What) (text : List ℕ)
+    → Replies book (kept_of line) change text
+    → Replies book line change text
+replied_kept book line change text says =
+    replied_to (asked_in book.config line) book line change text
+    (subst (λ (asked : Option Asked). RepliesTo asked book (kept_of line) change text)
+    (kept_asks book.config line) says)
+
 -- a line that was answered over a look
 pub looked : (hub since : Beginning) (seat : ℕ) (old new : Worker) (whats : List What)
     (line : List ℕ) (book : State) (answered : Answered) (seen : Beginning)
     → new.desk ≡ old.desk → new.lens.seen ≡ seen → Follows old.lens.seen seen → IsBookOf book seen
     → Replies book (kept_of line) answered.change answered.text.items → HasNoEnd line
-    → HasLearned hub since seat old whats
+    → quits line ≡ false → HasLearned hub since seat old whats
     → HasLooked hub since seat new whats line answered
 looked hub since seat old new whats line book answered seen desk same later stands says whole
-    learned =
+    stays learned =
     let now : HasLearned hub since seat new whats =
     learned_later hub since seat old new whats desk
     (subst (λ (b : Beginning). Follows old.lens.seen b) (sym same) later) learned in record {
       learned = learned_here hub since seat new whats now;
       is = record {
         whole = whole;
+        stays = stays;
         follows = now.sees;
         shows = now.shows;
         book = book;
@@ -448,6 +463,34 @@ works_obeyed hub seat old mid new bytes rest start given before after reply desk
       };
     }
 
+-- a line that ended asks to quit
+pub has_quit : (hub : Beginning) (seat : ℕ) (old new : Worker) (bytes rest : List ℕ)
+    (start : Traffic) (given taken : Option (List ℕ)) → new.desk ≡ old.desk
+    → HasNoEnd bytes → (w : Works hub seat old (bytes ++ 10 ∷ rest) start (so_far given taken))
+    → quits (w.line ++ bytes) ≡ true → HasQuit hub seat new start (so_far given taken)
+has_quit hub seat old new bytes rest start given taken desk whole w leaves = record {
+  bytes = lines_in w.replies ++ (w.line ++ (bytes ++ 10 ∷ rest));
+  written = texts_in w.replies;
+  carried = w.carried;
+  ends = record {
+    replies = w.replies;
+    line = w.line ++ bytes;
+    later = rest;
+    are = w.are;
+    read = ap (λ xs. lines_in w.replies ++ xs) (sym (append_assoc w.line bytes (10 ∷ rest)));
+    whole = none_in_both w.line bytes w.unended whole;
+    leaves = leaves;
+    told = subst (λ (d : Desk). HasTold hub d (changes_in w.replies) 0) (sym desk) w.learned.told;
+    answered = refl;
+  };
+}
+
+-- an admin that works on may end as well
+pub works_if : (goes : Bool) (hub : Beginning) (seat : ℕ) (worker : Worker) (start now : Traffic)
+    → Works hub seat worker [] start now → WorksIf goes hub seat worker [] start now
+works_if true hub seat worker start now w = w
+works_if false hub seat worker start now w = inl w
+
 -- of the answer only a beginning was written
 pub stops_cut : (hub : Beginning) (seat : ℕ) (old new : Worker) (bytes rest : List ℕ)
     (start : Traffic) (given before after : Option (List ℕ))
@@ -586,21 +629,45 @@ ends_served hub seat Told Shown bytes written (Post fault) f ends =
 ends_served hub seat Told Shown bytes written Look f ends =
     refused_served hub seat Told Shown bytes written 0 f ends
 
+quit_served : (hub : Beginning) (seat : ℕ) (Told Shown : List What → ℕ → Type 0)
+    (bytes written : List ℕ)
+    → ((whats : List What) (waiting : ℕ) → Told whats waiting → Shown whats waiting)
+    → AnsweredToQuit hub seat Told bytes written → AnsweredToQuit hub seat Shown bytes written
+quit_served hub seat Told Shown bytes written f a = record {
+  replies = a.replies;
+  line = a.line;
+  later = a.later;
+  are = a.are;
+  read = a.read;
+  whole = a.whole;
+  leaves = a.leaves;
+  told = f (changes_in a.replies) 0 a.told;
+  answered = a.answered;
+}
+
 pub commanded_whole : (hub : Beginning) (seat : ℕ) (worker : Worker)
     (start now : Traffic) (served : Served)
     → ((whats : List What) (waiting : ℕ) → HasTold hub worker.desk whats waiting
     → IsServed hub seat whats waiting served)
-    → Works hub seat worker [] start now
+    → IsDone hub seat worker start now
     → IsCommandedWhole hub seat start now served
-commanded_whole hub seat worker start now served f w =
+commanded_whole hub seat worker start now served f (inl w) =
     let stops = stops_failed hub seat worker start now w in record {
       bytes = stops.bytes;
       written = stops.written;
       carried = stops.carried;
-      ends = all_served hub seat (HasTold hub worker.desk)
+      ends = inl (all_served hub seat (HasTold hub worker.desk)
           (λ whats waiting. IsServed hub seat whats waiting served) stops.bytes
-          stops.written f stops.ends;
+          stops.written f stops.ends);
     }
+commanded_whole hub seat worker start now served f (inr quit) = record {
+  bytes = quit.bytes;
+  written = quit.written;
+  carried = quit.carried;
+  ends = inr (quit_served hub seat (HasTold hub worker.desk)
+      (λ whats waiting. IsServed hub seat whats waiting served) quit.bytes quit.written f
+      quit.ends);
+}
 
 pub commanded_until : (hub : Beginning) (seat : ℕ) (worker : Worker)
     (start now : Traffic) (faulted : Faulted)

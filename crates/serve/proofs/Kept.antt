@@ -1,10 +1,9 @@
 -- What is kept of a line.
-use Rattle.std.proofs.Common.{◌≡◌, ℕ, zero, suc, ◌+◌, ◌-◌, ◌<◌, ◌≤◌, Bool, true, false, not, subst}
+use Rattle.std.proofs.Common.{◌≡◌, ℕ, zero, suc, ◌+◌, ◌<◌, ◌≤◌, true, false, not, subst}
 use Rattle.std.proofs.Common.{eqb, ltb, List, [], ◌∷◌, ◌++◌, length, take, drop, Option, Some, None}
-use Rattle.std.proofs.Common.{refl, ap, sym, ◌∙◌, inl, inr, arith, append-nil, append_assoc}
+use Rattle.std.proofs.Common.{refl, ap, sym, ◌∙◌, inl, inr, arith, append-nil}
 use Rattle.std.proofs.Common.{length-take-le, Err}
 use Rattle.std.specs.Prelude.{if◌then◌else◌, nat_lt}
-use Rattle.std.specs.List.{find, list_all}
 use Rattle.std.specs.Option.{option_or, option_to_list}
 use Rattle.std.proofs.Math.Seq.{take-append-add, drop-append-add}
 use Rattle.std.proofs.lemmas.Bool.{cases_Bool, cases_lt}
@@ -12,6 +11,7 @@ use Rattle.std.proofs.lemmas.Bool.Decides.{nat_tests}
 use Rattle.std.proofs.lemmas.List.{take-append-drop, take-append-le, drop-append-le, length-drop}
 use Rattle.std.proofs.lemmas.List.{length-append}
 use Rattle.std.proofs.lemmas.List.Folds.{find-append}
+use Rattle.agg_types.specs.declared.config.Config.{Config}
 use Rattle.agg_types.specs.declared.limits.TheConstants.{LONGEST_COMMAND_LINE as longest}
 use Rattle.fleet_model.specs.State.{State}
 use Rattle.show_clear.proofs.Returns.{are_returns, returns_before, returns_behind}
@@ -19,6 +19,7 @@ use Rattle.line_words.specs.Words.{words}
 use Rattle.show_clear.specs.Parse.{asked, command_of, without_returns}
 use Rattle.show_clear.specs.declared.fault.CommandFault.TheVariants.{Unknown}
 use Rattle.serve.specs.Commanding.{kept_of, text_byte}
+use Rattle.serve.specs.Status.{asked_by, asked_in, by_words, is_quit, quits}
 
 -- ---- what a line says stands in what is kept of it
 
@@ -60,23 +61,22 @@ some_there : (xs : List ℕ) → are_returns xs ≡ false → 1 ≤ length xs
 some_there [] some = absurd cc
 some_there (x ∷ xs) some = omega arith
 
--- what a command is told by is the line without the CRs at its end
-same_text : (book : State) (a b : List ℕ) → without_returns a ≡ without_returns b
-    → command_of book a ≡ command_of book b
-same_text book a b same =
-    ap (λ (text : List ℕ). if nat_lt longest (length text) then Err Unknown else asked book
-    (words text)) same
+-- what a line says is told by the line without the CRs at its end
+same_text : {A : Type 0} (long : A) (says : List (List ℕ) → A) (a b : List ℕ)
+    → without_returns a ≡ without_returns b → by_words long says a ≡ by_words long says b
+same_text long says a b same =
+    ap (λ (text : List ℕ). if nat_lt longest (length text) then long else says (words text)) same
 
 -- what a line says stands in what is kept of it
-pub kept_says : (book : State) (line : List ℕ) → command_of book (kept_of line)
-    ≡ command_of book line
-kept_says book line = by (text_byte (drop longest line)) refl
+kept_words : {A : Type 0} (long : A) (says : List (List ℕ) → A) (line : List ℕ)
+    → by_words long says (kept_of line) ≡ by_words long says line
+kept_words {A} long says line = by (text_byte (drop longest line)) refl
   where
     by : (found : Option ℕ) → text_byte (drop longest line) ≡ found
-        → command_of book (take longest line ++ option_to_list found) ≡ command_of book line
+        → by_words long says (take longest line ++ option_to_list found) ≡ by_words long says line
     by None none =
-        ap (λ l. command_of book l) (append-nil (take longest line))
-        ∙ same_text book (take longest line) line
+        ap (λ l. by_words long says l) (append-nil (take longest line))
+        ∙ same_text long says (take longest line) line
         (sym (returns_behind (take longest line) (drop longest line)
         (only_returns (drop longest line) none))
         ∙ ap without_returns (take-append-drop longest line))
@@ -93,6 +93,19 @@ kept_says book line = by (text_byte (drop longest line)) refl
         (take-append-drop longest line)
         (too_long (take longest line) (drop longest line) full facts.0) in
         rw (kept, whole) refl
+
+pub kept_says : (book : State) (line : List ℕ) → command_of book (kept_of line)
+    ≡ command_of book line
+kept_says book line = kept_words (Err Unknown) (asked book) line
+
+pub kept_asks : (config : Config) (line : List ℕ) → asked_in config (kept_of line)
+    ≡ asked_in config line
+unfolding asked_in
+kept_asks config line = kept_words None (asked_by config) line
+
+pub kept_quits : (line : List ℕ) → quits (kept_of line) ≡ quits line
+unfolding quits
+kept_quits line = kept_words false is_quit line
 
 -- ---- what is kept of a line that goes on
 

@@ -1,5 +1,6 @@
 -- An admin at work.
-use Rattle.std.specs.Prelude.{◌≡◌, ℕ, ◌==◌, not, List, [], ◌++◌, drop, find, take, Option, Some}
+use Rattle.std.specs.Prelude.{◌≡◌, ◌⊎◌, ℕ, ◌==◌, Bool, true, false, not, List, [], ◌++◌, drop, find}
+use Rattle.std.specs.Prelude.{take, Option, Some}
 use Rattle.std.specs.Prelude.{None, Result, Ok, Err}
 use Rattle.std.specs.Io.KnownBytes.{Appends}
 use Rattle.std.specs.Option.{option_to_list}
@@ -14,8 +15,8 @@ use Rattle.serve.specs.declared.admin.Worker.{Worker}
 use Rattle.serve.specs.declared.faults.LineFault.{LineFault}
 use Rattle.serve.specs.declared.faults.LineFault.TheVariants.{Write, Post, Look}
 use Rattle.serve.specs.declared.served.Cause.{Cause}
-use Rattle.serve.specs.Commands.{AreReplies, EndsCommands, HasNoEnd, IsReply, Reply, ShowsTold}
-use Rattle.serve.specs.Commands.{changes_in, lines_in, seen_by, texts_in}
+use Rattle.serve.specs.Commands.{AnsweredToQuit, AreReplies, EndsCommands, HasNoEnd, IsReply}
+use Rattle.serve.specs.Commands.{Reply, ShowsTold, changes_in, lines_in, seen_by, texts_in}
 use Rattle.serve.specs.Faults.{cause_of_line}
 use Rattle.serve.specs.Told.{HasTold, stored_of}
 use Rattle.serve.specs.Traffic.{Advances, Traffic, so_far}
@@ -119,26 +120,47 @@ pub record Stops (hub : Beginning) (seat : ℕ) (worker : Worker)
   pub carried : Advances start now bytes written
   pub ends : EndsCommands hub seat (HasTold hub worker.desk) bytes written cause
 
--- it works on, or has ended
-abbrev pub WorksOn : {A : Type 0} → Beginning → ℕ → Worker → List ℕ → Traffic → Traffic
-    → Result A Cause → Type 0
-WorksOn hub seat worker rest start now (Ok done) =
-    Works hub seat worker rest start now
+-- a line asked to quit
+pub record HasQuit (hub : Beginning) (seat : ℕ) (worker : Worker) (start now : Traffic)
+    : Type 0 where
+  pub bytes : List ℕ
+  pub written : List ℕ
+  pub carried : Advances start now bytes written
+  pub ends : AnsweredToQuit hub seat (HasTold hub worker.desk) bytes written
+
+-- it has done all that it read asks for, up to a line that asks to quit if there is one
+abbrev pub IsDone : Beginning → ℕ → Worker → Traffic → Traffic → Type 0
+IsDone hub seat worker start now =
+    Works hub seat worker [] start now ⊎ HasQuit hub seat worker start now
+
+-- it works on, or is done
+abbrev pub WorksIf : Bool → Beginning → ℕ → Worker → List ℕ → Traffic → Traffic → Type 0
+WorksIf true hub seat worker rest start now = Works hub seat worker rest start now
+WorksIf false hub seat worker rest start now = IsDone hub seat worker start now
+
+-- it works on, is done, or has ended for a cause
+abbrev pub WorksOn : Beginning → ℕ → Worker → List ℕ → Traffic → Traffic → Result Bool Cause
+    → Type 0
+WorksOn hub seat worker rest start now (Ok goes) = WorksIf goes hub seat worker rest start now
 WorksOn hub seat worker rest start now (Err cause) =
     Stops hub seat worker start now cause
 
 -- the same after a step, which can't fail for every cause
-abbrev pub GoesOn : {A : Type 0} → Beginning → ℕ → Worker → List ℕ → Traffic → Traffic
-    → Result A LineFault → Type 0
-GoesOn hub seat worker rest start now (Ok done) =
-    Works hub seat worker rest start now
+abbrev pub GoesOn : Beginning → ℕ → Worker → List ℕ → Traffic → Traffic → Result Bool LineFault
+    → Type 0
+GoesOn hub seat worker rest start now (Ok goes) = WorksIf goes hub seat worker rest start now
 GoesOn hub seat worker rest start now (Err fault) =
     Stops hub seat worker start now (cause_of_line fault)
 
+-- it is done, or has ended for a cause
+abbrev pub RunsOut : Beginning → ℕ → Worker → Traffic → Traffic → Result (Unit {0}) Cause → Type 0
+RunsOut hub seat worker start now (Ok done) = IsDone hub seat worker start now
+RunsOut hub seat worker start now (Err cause) = Stops hub seat worker start now cause
+
 -- a step that takes bytes which were read, and leaves some of them, whatever was read and written
 -- before
-abbrev pub Takes : {A : Type 0} → Beginning → Worker → Worker → List ℕ → List ℕ
-    → Option (List ℕ) → Option (List ℕ) → Result A LineFault → Type 0
+abbrev pub Takes : Beginning → Worker → Worker → List ℕ → List ℕ
+    → Option (List ℕ) → Option (List ℕ) → Result Bool LineFault → Type 0
 Takes hub old new bytes rest before after result =
     (seat : ℕ) (start : Traffic) (given : Option (List ℕ))
     → Works hub seat old bytes start (so_far given before)

@@ -1,6 +1,6 @@
 -- What an admin reads, tells and answers, line by line.
-use Rattle.std.specs.Prelude.{◌≡◌, ◌≢◌, ℕ, ◌==◌, ◌⊎◌, ⊤, false, List, [], ◌∷◌, ◌++◌, codes, Option}
-use Rattle.std.specs.Prelude.{None, Ok, Err}
+use Rattle.std.specs.Prelude.{◌≡◌, ◌≢◌, ℕ, ◌==◌, ◌⊎◌, ⊤, true, false, List, [], ◌∷◌, ◌++◌, codes, Option}
+use Rattle.std.specs.Prelude.{None, Some, Ok, Err}
 use Rattle.std.specs.List.{list_any}
 use Rattle.std.specs.Option.{option_to_list}
 use mathlib.Core.List.{IsPrefix}
@@ -22,6 +22,8 @@ use Rattle.serve.specs.declared.served.Cause.{Cause}
 use Rattle.serve.specs.declared.served.Cause.TheVariants.{Read, Write, Session, Post, Look}
 use Rattle.serve.specs.declared.served.Faulted.{Faulted}
 use Rattle.serve.specs.declared.served.Served.{Served}
+use Rattle.serve.specs.declared.status.Asked.{Asked}
+use Rattle.serve.specs.Status.{IsStatus, asked_in, quits}
 use Rattle.serve.specs.Told.{IsServed, stored_of}
 use Rattle.serve.specs.Traffic.{Advances, Traffic}
 
@@ -52,9 +54,24 @@ pub record IsRefusedLine (book : State) (line : List ℕ) (change : Option What)
   pub none : change ≡ None
   pub tells : text ≡ refusal_text fault ++ codes "\n"
 
+-- a line that asks for no command on the book asks for no change: the text is the answer to what it
+-- asks for, and an empty line
+pub record IsTold (book : State) (asked : Asked) (change : Option What) (text : List ℕ)
+    : Type 0 where
+  pub answer : List ℕ
+  pub is : IsStatus book.config asked answer
+  pub none : change ≡ None
+  pub ends : text ≡ answer ++ codes "\n"
+
+-- what a line is answered that asks for this; for nothing, it is a command on the book
+abbrev pub RepliesTo : Option Asked → State → List ℕ → Option What → List ℕ → Type 0
+RepliesTo None book line change text =
+    IsObeyed book line change text ⊎ IsRefusedLine book line change text
+RepliesTo (Some asked) book line change text = IsTold book asked change text
+
 -- what a line is answered over a book, and what it changes
 abbrev pub Replies : State → List ℕ → Option What → List ℕ → Type 0
-Replies book line change text = IsObeyed book line change text ⊎ IsRefusedLine book line change text
+Replies book line change text = RepliesTo (asked_in book.config line) book line change text
 
 -- a line without its LF, what it changed if it asked for a change, the text that answers it, and
 -- the list whose book answered
@@ -69,10 +86,11 @@ abbrev pub ShowsTold : ℕ → List What → Beginning → Type 0
 ShowsTold seat whats list = whats ≢ []
     → IsPrefix (numbered seat 0 (Sit ∷ whats)) (own seat list.events)
 
--- a line is answered over the book of a list that begins with an earlier one, and shows all that
--- its seat told before
+-- a line that doesn't ask to quit is answered over the book of a list that begins with an earlier
+-- one, and shows all that its seat told before
 pub record IsReply (since : Beginning) (seat : ℕ) (told : List What) (reply : Reply) : Type 0 where
   pub whole : HasNoEnd reply.line
+  pub stays : quits reply.line ≡ false
   pub follows : Follows since reply.seen
   pub shows : ShowsTold seat told reply.seen
   pub book : State
@@ -117,6 +135,20 @@ pub record AllAnswered (hub : Beginning) (seat : ℕ) (Told : List What → ℕ 
   pub told : Told (changes_in replies) 0
   pub answered : written ≡ texts_in replies
 
+-- all lines before the first that asks to quit were answered, and what they changed was told; that
+-- one and what follows it are dropped
+pub record AnsweredToQuit (hub : Beginning) (seat : ℕ) (Told : List What → ℕ → Type 0)
+    (bytes written : List ℕ) : Type 0 where
+  pub replies : List Reply
+  pub line : List ℕ
+  pub later : List ℕ
+  pub are : AreReplies hub seat replies
+  pub read : bytes ≡ lines_in replies ++ (line ++ 10 ∷ later)
+  pub whole : HasNoEnd line
+  pub leaves : quits line ≡ true
+  pub told : Told (changes_in replies) 0
+  pub answered : written ≡ texts_in replies
+
 -- the first lines were answered, and what they changed was told; but of the last one's answer only
 -- a beginning was written
 pub record LastCutShort (hub : Beginning) (seat : ℕ) (Told : List What → ℕ → Type 0)
@@ -153,13 +185,16 @@ EndsCommands hub seat Told bytes written (Post fault) =
     LaterRefused hub seat Told bytes written (stored_of fault 1)
 EndsCommands hub seat Told bytes written Look = LaterRefused hub seat Told bytes written 0
 
--- how an admin was served at Ok: all lines that its source gave were answered
+-- how an admin was served at Ok: all lines that its source gave were answered, or all before the
+-- first that asks to quit
 pub record IsCommandedWhole (hub : Beginning) (seat : ℕ)
     (start now : Traffic) (served : Served) : Type 0 where
   pub bytes : List ℕ
   pub written : List ℕ
   pub carried : Advances start now bytes written
   pub ends : AllAnswered hub seat (λ whats waiting. IsServed hub seat whats waiting served) bytes
+      written
+      ⊎ AnsweredToQuit hub seat (λ whats waiting. IsServed hub seat whats waiting served) bytes
       written
 
 -- how an admin was served that ended for a cause

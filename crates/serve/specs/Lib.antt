@@ -1,5 +1,6 @@
 pub mod Faults
 pub mod Sources
+pub mod Status
 pub mod Told
 pub mod Traffic
 pub mod Turns

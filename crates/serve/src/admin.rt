@@ -1,7 +1,7 @@
 //! One admin connection: commands of a line each, and their answers.
 
 ghost use Rattle.std.specs.Prelude.{◌≡◌, ◌<◌, ◌≤◌, ◌+◌, ◌^◌, ◌⊎◌, ◌++◌, ℕ, List, [], ◌∷◌};
-ghost use Rattle.std.specs.Prelude.{codes, Option, None, IfOk, IfSome, IfErr, OnOk, Err};
+ghost use Rattle.std.specs.Prelude.{codes, false, Option, None, IfOk, IfSome, IfErr, OnOk, Err};
 ghost use Rattle.std.specs.Prelude.{MatchResult};
 ghost use Rattle.std.specs.Option.{option_to_list};
 ghost use Rattle.agg_types.specs.declared.config.Config.{Config};
@@ -10,7 +10,8 @@ ghost use Rattle.hub.specs.History.{Beginning};
 ghost use Rattle.hub.specs.Posts.{Follows, SitsDown};
 ghost use Rattle.hub.specs.Roll.{MayPost};
 ghost use Rattle.serve.specs.Commands.{AnswersWith, HasNoEnd, IsCommandedUntil, IsCommandedWhole};
-ghost use Rattle.serve.specs.Commands.{Replies};
+ghost use Rattle.serve.specs.Commands.{IsTold, Replies, RepliesTo};
+ghost use Rattle.serve.specs.Status.{IsStatus, quits};
 ghost use Rattle.serve.specs.Told.{stored_of};
 ghost use Rattle.serve.specs.Traffic.{Traffic, so_far};
 ghost use Rattle.show_clear.specs.Answer.{NamesExist};
@@ -25,10 +26,12 @@ use crate::gate::{Gate, Place};
 use crate::lines::{Line, split_line};
 use crate::served::{Cause, Faulted, Served};
 use crate::source::{Came, Source, buffer};
+use crate::status::{Asked, asked_in, quits};
 use crate::worker::MOST_READS;
 use crate::writing::{front, send};
 use agg_types::{NoMemory, What};
 use book::Book;
+use config_text::{append_config, append_filters, append_ranks};
 use hub::{Lens, Naming, Pass, PostFault};
 use show_clear::{Command, CommandFault, answer, parse, refusal};
 use std::alloc::Global;
@@ -78,15 +81,62 @@ fn refused_line(alloc: Global, fault: CommandFault) -> Result<Answered, NoMemory
     Ok(Answered { change: None, text })
 }
 
-/// What a line is answered over a book.
-fn answer_to(alloc: Global, book: &Book, line: &[u8]) -> Result<Answered, NoMemory>
-    ensures replies { IfOk result (λ a. Replies book.now line.now a.change a.text.items) }
+/// What a command's line is answered over a book.
+fn answer_to_command(alloc: Global, book: &Book, line: &[u8]) -> Result<Answered, NoMemory>
+    ensures replies { IfOk result (λ a. RepliesTo None book.now line.now a.change a.text.items) }
     ensures fits { (config : Config) → config.tables ≡ book.now.config.tables
         → IfOk result (λ a. IfSome a.change (MayPost config)) }
 {
     match parse(alloc, book, line) {
         Ok(command) => obeyed(alloc, book, command),
         Err(fault) => refused_line(alloc, fault),
+    }
+}
+
+/// The answer to what is asked for beside commands.
+fn status_text<G: Gate>(
+    alloc: Global,
+    gate: &G,
+    book: &Book,
+    asked: Asked,
+) -> Result<Vec<u8>, NoMemory>
+    ensures { IfOk result (λ text. IsStatus book.now.config asked text.items) }
+{
+    let mut text = Vec::new(alloc);
+    match asked {
+        Asked::Status(status) => gate.status(book, status, &mut text)?,
+        Asked::Config => append_config(book.config(), &mut text)?,
+        Asked::Filters => append_filters(book.config(), &mut text)?,
+        Asked::Ranks => append_ranks(book.config(), &mut text)?,
+        Asked::NoPeer => refusal(&CommandFault::NoTable, &mut text)?,
+    }
+    Ok(text)
+}
+
+/// What is answered to what is asked for beside commands.
+fn told<G: Gate>(alloc: Global, gate: &G, book: &Book, asked: Asked) -> Result<Answered, NoMemory>
+    ensures change { IfOk result (λ a. a.change ≡ None) }
+    ensures told { IfOk result (λ a. IsTold book.now asked a.change a.text.items) }
+{
+    let mut text = status_text(alloc, gate, book, asked)?;
+    text.push(b'\n')?;
+    Ok(Answered { change: None, text })
+}
+
+/// What a line is answered over a book.
+fn answer_to<G: Gate>(
+    alloc: Global,
+    gate: &G,
+    book: &Book,
+    line: &[u8],
+) -> Result<Answered, NoMemory>
+    ensures replies { IfOk result (λ a. Replies book.now line.now a.change a.text.items) }
+    ensures fits { (config : Config) → config.tables ≡ book.now.config.tables
+        → IfOk result (λ a. IfSome a.change (MayPost config)) }
+{
+    match asked_in(book.config(), line) {
+        None => answer_to_command(alloc, book, line),
+        Some(asked) => told(alloc, gate, book, asked),
     }
 }
 
@@ -122,19 +172,20 @@ impl Worker {
 
     // Answers the line that is kept, over a look that has all that was posted and learned. None
     // where no copy of the book could be entered.
-    fn look(&mut self, alloc: Global) -> Result<Option<Answered>, NoMemory>
+    fn look<G: Gate>(&mut self, alloc: Global, gate: &G) -> Result<Option<Answered>, NoMemory>
         ensures desk { self.new.desk ≡ self.old.desk }
         ensures lens { Follows self.old.lens.seen self.new.lens.seen }
         ensures fits { (hub : Beginning) → Follows hub self.old.lens.seen
             → IfOk result (λ o. IfSome o (λ a. IfSome a.change (MayPost hub.config))) }
         ensures looks { (hub since : Beginning) (seat : ℕ) (whats : List What) (line : List ℕ)
             → HasLearned hub since seat self.old whats → self.old.line.bytes.items ≡ kept_of line
-            → HasNoEnd line → LooksTo hub since seat self.new whats line result }
+            → HasNoEnd line → quits line ≡ false
+            → LooksTo hub since seat self.new whats line result }
     {
         let Some(look) = self.lens.look() else {
             return Ok(None);
         };
-        let answered = answer_to(alloc, look.book(), self.line.as_slice())?;
+        let answered = answer_to(alloc, gate, look.book(), self.line.as_slice())?;
         Ok(Some(answered))
     }
 
@@ -169,7 +220,7 @@ impl Worker {
 
 impl<'a, J: Naming, H: Wait + Drop, R: Wait, C: Clock, G: Gate> Context<'a, J, H, R, C, G> {
     ghost use Rattle.serve.specs.Commanding.{ChangesTo, HasLearned, HasLooked, IsAtHub};
-    ghost use Rattle.serve.specs.Commanding.{KeepsDesk, ObeysTo, Takes, Works, WorksOn};
+    ghost use Rattle.serve.specs.Commanding.{KeepsDesk, ObeysTo, RunsOut, Takes, Works, WorksOn};
     ghost use Rattle.serve.specs.Commanding.{kept_of};
 
     // Posts a change, and learns that it is shown.
@@ -233,25 +284,25 @@ impl<'a, J: Naming, H: Wait + Drop, R: Wait, C: Clock, G: Gate> Context<'a, J, H
         ensures keeps { KeepsDesk self.now.hub.now worker.old worker.new }
         ensures obeys { (since : Beginning) (seat : ℕ) (whats : List What) (line : List ℕ)
             → HasLearned self.now.hub.now since seat worker.old whats
-            → worker.old.line.bytes.items ≡ kept_of line → HasNoEnd line
+            → worker.old.line.bytes.items ≡ kept_of line → HasNoEnd line → quits line ≡ false
             → ObeysTo self.now.hub.now since seat worker.new whats line (W.contents writer.old)
             (W.contents writer.new) result }
     {
         self.gate.turn(Place::Admin);
-        match worker.look(self.alloc) {
+        match worker.look(self.alloc, self.gate) {
             Ok(Some(answered)) => self.reply(worker, writer, answered),
             Ok(None) => Err(LineFault::Look),
             Err(NoMemory) => Err(LineFault::Post(refused(self.alloc))),
         }
     }
 
-    // Obeys the line that these bytes end.
+    // Obeys the line that these bytes end, unless it asks to quit. Whether the connection goes on.
     fn end_line<W: Write>(
         &self,
         worker: &mut Worker,
         writer: &mut W,
         bytes: &[u8],
-    ) -> Result<(), LineFault>
+    ) -> Result<bool, LineFault>
         requires { IsAtHub self.now.hub.now worker.old }
         ensures keeps { KeepsDesk self.now.hub.now worker.old worker.new }
         ensures takes { (rest : List ℕ) → HasNoEnd bytes.now
@@ -261,18 +312,22 @@ impl<'a, J: Naming, H: Wait + Drop, R: Wait, C: Clock, G: Gate> Context<'a, J, H
         if worker.keep(bytes).is_err() {
             return Err(LineFault::Post(refused(self.alloc)));
         }
+        if quits(worker.line.as_slice()) {
+            return Ok(false);
+        }
         self.obey(worker, writer)?;
         worker.line.clear();
-        Ok(())
+        Ok(true)
     }
 
-    // Takes a piece: each line that ends in it is obeyed.
+    // Takes a piece: each line that ends in it is obeyed, up to one that asks to quit. Whether the
+    // connection goes on.
     fn take_lines<W: Write>(
         &self,
         worker: &mut Worker,
         writer: &mut W,
         piece: &[u8],
-    ) -> Result<(), LineFault>
+    ) -> Result<bool, LineFault>
         requires { IsAtHub self.now.hub.now worker.old }
         ensures keeps { KeepsDesk self.now.hub.now worker.old worker.new }
         ensures takes { Takes self.now.hub.now worker.old worker.new piece.now []
@@ -280,13 +335,16 @@ impl<'a, J: Naming, H: Wait + Drop, R: Wait, C: Clock, G: Gate> Context<'a, J, H
     {
         let mut rest = piece;
         while let Some((front, behind)) = split_line(rest) {
-            self.end_line(worker, writer, front)?;
+            let goes = self.end_line(worker, writer, front)?;
+            if !goes {
+                return Ok(false);
+            }
             rest = behind;
         }
         if worker.keep(rest).is_err() {
             return Err(LineFault::Post(refused(self.alloc)));
         }
-        Ok(())
+        Ok(true)
     }
 
     // Reads once, and does what that asks for. Whether the connection goes on.
@@ -315,13 +373,12 @@ impl<'a, J: Naming, H: Wait + Drop, R: Wait, C: Clock, G: Gate> Context<'a, J, H
             Ok(Came::Nothing) => Ok(worker.wait()),
             Ok(Came::Bytes(count)) => {
                 worker.silent = 0;
-                self.take_lines(worker, &mut link.writer, front(buffer, count))?;
-                Ok(true)
+                Ok(self.take_lines(worker, &mut link.writer, front(buffer, count))?)
             }
         }
     }
 
-    // Reads until the source ends, the gate says so, or a fault comes.
+    // Reads until the source ends, a line asks to quit, the gate says so, or a fault comes.
     fn run_admin<S: Source, W: Write>(
         &self,
         worker: &mut Worker,
@@ -333,7 +390,7 @@ impl<'a, J: Naming, H: Wait + Drop, R: Wait, C: Clock, G: Gate> Context<'a, J, H
         requires learned { HasLearned self.now.hub.now self.now.hub.now worker.old.desk.pass.seat
             worker.old [] }
         ensures keeps { KeepsDesk self.now.hub.now worker.old worker.new }
-        ensures works { WorksOn self.now.hub.now worker.old.desk.pass.seat worker.new []
+        ensures works { RunsOut self.now.hub.now worker.old.desk.pass.seat worker.new
             (so_far (S.given link.old.source) (W.contents link.old.writer))
             (so_far (S.given link.new.source) (W.contents link.new.writer)) result }
         ensures read { result ≡ Err Cause.Read
@@ -347,7 +404,8 @@ impl<'a, J: Naming, H: Wait + Drop, R: Wait, C: Clock, G: Gate> Context<'a, J, H
             if self.gate.stop() {
                 return Ok(());
             }
-            if !self.turn_admin(worker, link, buffer.as_mut_slice())? {
+            let goes = self.turn_admin(worker, link, buffer.as_mut_slice())?;
+            if !goes {
                 return Ok(());
             }
         }
@@ -358,8 +416,8 @@ impl<'a, J: Naming, H: Wait + Drop, R: Wait, C: Clock, G: Gate> Context<'a, J, H
     ///
     /// A line ends with LF; one that hasn't ended when the connection does is dropped. Its answer
     /// has an empty line behind it, and is made whole, and the look given up, before anything is
-    /// posted or written. A change is posted and learned, and then answered `ok`. After 20 reads in
-    /// a row that gave nothing the connection is over.
+    /// posted or written. A change is posted and learned, and then answered `ok`. A line `quit` ends
+    /// the connection, without an answer; so do 20 reads in a row that gave nothing.
     pub fn serve_admin<S: Source, W: Write>(
         &self,
         link: &mut Link<S, W>,

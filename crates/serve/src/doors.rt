@@ -7,32 +7,23 @@ ghost use Rattle.serve.specs.Traffic.{so_far};
 
 use crate::clock::Clock;
 use crate::context::{Context, Link};
+use crate::counts::{ADMINS, Counts, Ended};
 use crate::gate::{Gate, News, Place};
 use crate::served::{Faulted, Served};
 use crate::source::Source;
-use agg_types::Config;
+use crate::status::Status;
+use agg_types::{Config, NoMemory};
+use book::Book;
 use hub::{Hub, Naming, Pass};
 use std::alloc::Global;
 use std::io::Write;
 use std::net::SocketAddr;
 use std::sync::Wait;
-use std::sync::atomic::{AtomicU64, Ordering};
 use std::thread;
 use std::thread::Threads;
 
 /// How many connections a door takes at most.
 const MOST_CALLERS: u64 = 1 << 40;
-
-/// How many admin connections are served at once.
-const ADMINS: u64 = 4;
-
-/// How far the start has got: nothing is known yet; the timer has its seat, and the doors serve; or
-/// a thread or that seat was refused, and all end.
-const WAITS: u64 = 0;
-
-const SERVES: u64 = 1;
-
-const GIVES_UP: u64 = 2;
 
 /// A connection that came in, of which nothing was read yet.
 #[derive(Drop)]
@@ -99,110 +90,6 @@ struct Guest<'a, S: Source + Drop, W: Write + Drop, D: Doors<S, W>> {
     ghost blank: { W.contents caller.writer ≡ D.blank },
 }
 
-/// How many connections ended.
-#[derive(Clone, Copy, Debug, PartialEq, Eq)]
-pub struct Ended {
-    /// By themselves, or because the gate said so.
-    pub ended: u64,
-    /// With a fault.
-    pub faulted: u64,
-    /// Before they were served, for want of a thread, a seat, a lens or memory.
-    pub refused: u64,
-}
-
-/// The counts of `Ended`, which all workers share.
-#[derive(Drop)]
-struct Counts {
-    ended: AtomicU64,
-    faulted: AtomicU64,
-    refused: AtomicU64,
-    // how many threads have found their door closed: one for peers, and each that serves admins
-    closed: AtomicU64,
-    // how many connections of peers are being served
-    serving: AtomicU64,
-    // how far the start has got
-    begun: AtomicU64,
-}
-
-impl Counts {
-    fn new() -> Counts {
-        Counts {
-            ended: AtomicU64::new(0),
-            faulted: AtomicU64::new(0),
-            refused: AtomicU64::new(0),
-            closed: AtomicU64::new(0),
-            serving: AtomicU64::new(0),
-            begun: AtomicU64::new(WAITS),
-        }
-    }
-
-    fn count(&self, is_ok: bool) {
-        let counter = if is_ok { &self.ended } else { &self.faulted };
-        counter.fetch_add(1, Ordering::SeqCst);
-    }
-
-    fn refuse(&self) {
-        self.refused.fetch_add(1, Ordering::SeqCst);
-    }
-
-    fn close(&self) {
-        self.closed.fetch_add(1, Ordering::SeqCst);
-    }
-
-    // The timer has its seat. Nothing is served all the same where all have given up.
-    fn begin_to_serve(&self) {
-        let _ = self
-            .begun
-            .compare_exchange(WAITS, SERVES, Ordering::SeqCst, Ordering::SeqCst);
-    }
-
-    // Nothing is served, for want of a thread or a seat: all threads end.
-    fn give_up(&self) {
-        self.refuse();
-        self.begun.store(GIVES_UP, Ordering::SeqCst);
-    }
-
-    fn has_given_up(&self) -> bool {
-        self.begun.load(Ordering::SeqCst) == GIVES_UP
-    }
-
-    // Waits until the timer has its seat, or all have given up. Whether connections are served.
-    fn are_served<R: Wait>(&self, rt: &R) -> bool {
-        for _ in rt.forever() {
-            let begun = self.begun.load(Ordering::SeqCst);
-            if begun != WAITS {
-                return begun == SERVES;
-            }
-            thread::yield_now();
-        }
-        unreachable!()
-    }
-
-    // A connection of a peer is about to be served, or was.
-    fn begin(&self) {
-        self.serving.fetch_add(1, Ordering::SeqCst);
-    }
-
-    fn end(&self) {
-        self.serving.fetch_sub(1, Ordering::SeqCst);
-    }
-
-    // Whether all have given up, or both doors have closed and their workers have ended.
-    fn are_done(&self) -> bool {
-        let have_ended = self.closed.load(Ordering::SeqCst) > ADMINS
-            && self.serving.load(Ordering::SeqCst) == 0;
-        have_ended || self.has_given_up()
-    }
-
-    fn so_far(&self) -> Ended {
-        Ended {
-            ended: self.ended.load(Ordering::SeqCst),
-            faulted: self.faulted.load(Ordering::SeqCst),
-            refused: self.refused.load(Ordering::SeqCst),
-        }
-    }
-}
-
 /// The gate of the timer, which also ends once both doors have closed.
 #[derive(Drop)]
 struct TimerGate<'a, G> {
@@ -221,6 +108,10 @@ impl<'a, G: Gate> Gate for TimerGate<'a, G> {
 
     fn tell(&self, place: Place, news: News<'_>) {
         self.gate.tell(place, news);
+    }
+
+    fn status(&self, book: &Book, status: Status, out: &mut Vec<u8>) -> Result<(), NoMemory> {
+        self.gate.status(book, status, out)
     }
 }
 
@@ -246,6 +137,14 @@ trait Workers<K> {
 
     /// Posts moments until both doors have closed.
     fn timer<R: Wait>(&self, rt: &R);
+}
+
+// Whether a worker that has ended gave its seat back.
+fn has_left(ended: &Result<Served, Faulted>) -> bool {
+    match ended {
+        Ok(served) => served.left.is_some(),
+        Err(faulted) => faulted.served.left.is_some(),
+    }
 }
 
 /// What all workers of a collector share.
@@ -307,6 +206,9 @@ impl<'a, J: Naming, H: Wait + Drop, C: Clock, G: Gate, D> House<'a, J, H, C, G, 
         let mut link = Link { source, writer };
         let ended = self.context(rt).serve_session(&mut link, pass);
         self.counts.count(ended.is_ok());
+        if has_left(&ended) {
+            self.gate.tell(Place::Session(None), News::Left);
+        }
         let Link { source, writer } = link;
         doors.part_peer(self.hub.config(), source, writer, ended);
     }
@@ -358,6 +260,7 @@ impl<
         match self.hub.seat(rt) {
             Ok(pass) => {
                 doors.seated(&source);
+                self.gate.tell(Place::Session(None), News::Sat);
                 self.serve_peer(rt, doors, Caller { source, writer }, Some(pass));
             }
             Err(_) => self.close_peer(source.sender()),
@@ -378,8 +281,12 @@ impl<
             self.close_admin(link.source.sender());
             return;
         };
+        self.gate.tell(Place::Admin, News::Sat);
         let ended = self.context(rt).serve_admin(&mut link, lens, pass);
         self.counts.count(ended.is_ok());
+        if has_left(&ended) {
+            self.gate.tell(Place::Admin, News::Left);
+        }
         let Link { source, writer } = link;
         doors.part_admin(self.hub.config(), source, writer, ended);
     }
@@ -391,6 +298,7 @@ impl<
             self.counts.give_up();
             return;
         };
+        self.gate.tell(Place::Timer, News::Sat);
         self.counts.begin_to_serve();
         let gate = TimerGate {
             gate: self.gate,

@@ -1,6 +1,10 @@
 //! What stands between workers and their turns.
 
 use crate::served::Cause;
+use crate::status::Status;
+use agg_types::NoMemory;
+use book::Book;
+use peers_msg::Definition;
 use std::net::SocketAddr;
 
 /// Who comes to a gate.
@@ -19,8 +23,17 @@ pub enum Place {
 pub enum News<'a> {
     /// A peer's hello was accepted. The peer goes by its place in the configuration.
     Came(usize),
+    /// A peer's session posted a batch with so many updates; the first batch may have none. The
+    /// peer goes by its place in the configuration.
+    Posted(usize, u64),
+    /// A peer's session defined a table, whether it is followed or not.
+    Defined(usize, &'a Definition),
     /// The connection of a session is over.
     Gone(Gone<'a>),
+    /// A worker has a seat from now on.
+    Sat,
+    /// A worker gave its seat back.
+    Left,
     /// A connection was closed before it was served, for want of a thread, a seat or a lens. Who
     /// sends its bytes, where that has an address.
     TurnedAway(Option<SocketAddr>),
@@ -52,6 +65,15 @@ pub trait Gate {
     /// before each turn of a timer.
     fn stop(&self) -> bool;
 
-    /// A session tells who came and who went, once each; and which connections weren't served.
+    /// What happened at a place: who came and who went, once each; what was posted and defined in
+    /// between; and which connections weren't served.
     fn tell(&self, _place: Place, _news: News<'_>) {}
+
+    /// Appends the answer to what an admin asks of the collector itself, each line with its LF and
+    /// none empty. The book is the one of the admin's look, in which nothing may be posted.
+    ///
+    /// No clause says what it tells. After `NoMemory` the connection is over.
+    fn status(&self, _book: &Book, _status: Status, _out: &mut Vec<u8>) -> Result<(), NoMemory> {
+        Ok(())
+    }
 }

@@ -15,6 +15,7 @@ use crate::desk::Desk;
 use crate::faults::{AnswerFault, TurnFault};
 use crate::gate::{Gate, Gone, News, Place};
 use crate::hello::Hello;
+use crate::scout::Scout;
 use crate::served::Cause;
 use crate::source::{Came, Source, buffer};
 use crate::waiting::{HEARTBEAT, Pulse};
@@ -36,9 +37,17 @@ pub struct Worker {
     session: Session,
     desk: Option<Desk>,
     hello: Hello,
+    scout: Scout,
     peer: Option<usize>,
     told: u64,
+    // how much of that the gate was told
+    reported: u64,
     pulse: Pulse,
+}
+
+// How many updates a session posted that posted so many facts: the first opens it.
+fn updates_of(told: u64) -> u64 {
+    told.saturating_sub(1)
 }
 
 impl Worker {
@@ -60,8 +69,10 @@ impl Worker {
             session: Session::accept(alloc, desk.is_some(), now),
             desk,
             hello: Hello::new(),
+            scout: Scout::new(alloc),
             peer: None,
             told: 0,
+            reported: 0,
             pulse: Pulse::new(),
         }
     }
@@ -81,7 +92,7 @@ impl Worker {
         })
     }
 
-    // Keeps what it hears of a hello.
+    // Keeps what it hears of a hello, and finds the tables that are defined.
     fn listen(&mut self, piece: &[u8])
         ensures session { self.new.session ≡ self.old.session }
         ensures desk { self.new.desk ≡ self.old.desk }
@@ -89,9 +100,10 @@ impl Worker {
         if self.peer.is_none() {
             self.hello.add(piece);
         }
+        self.scout.take(piece);
     }
 
-    // Tells that a peer's hello was accepted, once.
+    // Tells that a peer's hello was accepted, once, and what was posted and defined since it told.
     fn greet<G: Gate>(&mut self, gate: &G)
         ensures session { self.new.session ≡ self.old.session }
         ensures desk { self.new.desk ≡ self.old.desk }
@@ -102,9 +114,24 @@ impl Worker {
                 gate.tell(self.place(), News::Came(peer));
             }
         }
+        let place = self.place();
+        if let Some(peer) = self.peer {
+            self.report(gate, peer);
+            self.reported = self.told;
+            self.scout.tell(gate, place, peer);
+        }
     }
 
-    /// Tells how the connection of a sender ended, and who came if that wasn't told yet.
+    // Tells what was posted since it told.
+    fn report<G: Gate>(&self, gate: &G, peer: usize) {
+        if self.told > self.reported {
+            let updates = updates_of(self.told).saturating_sub(updates_of(self.reported));
+            gate.tell(self.place(), News::Posted(peer, updates));
+        }
+    }
+
+    /// Tells how the connection of a sender ended, and before that who came and what was posted,
+    /// as far as that wasn't told yet.
     pub fn bid_farewell<G: Gate>(
         &self,
         gate: &G,
@@ -115,6 +142,9 @@ impl Worker {
         if let (None, Some(peer)) = (self.peer, peer) {
             gate.tell(self.place(), News::Came(peer));
         }
+        if let Some(peer) = peer {
+            self.report(gate, peer);
+        }
         let name = if peer.is_none() {
             self.hello.name()
         } else {
@@ -124,7 +154,7 @@ impl Worker {
             sender,
             peer,
             name,
-            updates: self.told.saturating_sub(1),
+            updates: updates_of(self.told),
             cause: ended.as_ref().err(),
         };
         gate.tell(self.place(), News::Gone(gone));

@@ -6,7 +6,7 @@ use Rattle.serve.specs.Commands.{Replies}
 use Rattle.serve.proofs.admin.Worker.look.Goals as goal
 
 pub returns-clause-fits : goal.returns-clause-fits
-returns-clause-fits c =
+returns-clause-fits g c =
     λ hub follows.
     change_may_post hub c.in-Some.look.lens.now.seen c.book.result.now
     c.in_ok-answered.answered.change
@@ -15,12 +15,12 @@ returns-clause-fits c =
     (c.in_ok-answered.ensures.fits c.book.result.now.config refl)
 
 pub returns-clause-looks : goal.returns-clause-looks
-returns-clause-looks c =
-    λ hub since seat whats line learned kept whole.
+returns-clause-looks g c =
+    λ hub since seat whats line learned kept whole stays.
     let answered = c.in_ok-answered.answered in
     let says : Replies c.book.result.now (kept_of line) answered.change answered.text.items =
     subst (λ (bytes : List ℕ). Replies c.book.result.now bytes answered.change answered.text.items)
     (c.as_slice.ensures ∙ kept) c.in_ok-answered.ensures.replies in
     looked hub since seat c.args.self.now _ whats line c.book.result.now answered
     c.in-Some.look.lens.now.seen refl (search rules) c.in-Some.ensures.some.2 c.book.ensures
-    says whole learned
+    says whole stays learned

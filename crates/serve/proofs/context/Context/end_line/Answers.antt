@@ -1,12 +1,33 @@
-use Rattle.std.proofs.Common.{◌≡◌, ◌∷◌, ◌++◌, refl, ap, sym, ◌∙◌}
+use Rattle.std.proofs.Common.{◌≡◌, ℕ, Bool, true, false, List, ◌++◌, refl, ap, sym, inr}
+use Rattle.std.proofs.Common.{◌∙◌}
 use Rattle.std.proofs.lemmas.Result.{err_from_is_err_and}
 use Rattle.book.proofs.Verdicts.{from_ok}
 use Rattle.hub.specs.Views.{Seeing}
-use Rattle.serve.proofs.Commanded.{learned_same, stops_obeying, works_obeyed}
+use Rattle.serve.proofs.Commanded.{has_quit, learned_same, stops_obeying, works_obeyed}
+use Rattle.serve.proofs.Kept.{kept_quits}
 use Rattle.serve.proofs.Pieces.{none_in_both}
 use Rattle.serve.specs.Commanding.{HasLearned, kept_of}
 use Rattle.serve.specs.Commands.{changes_in, seen_by}
+use Rattle.serve.specs.Status.{quits}
 use Rattle.serve.proofs.context.Context.end_line.Goals as goal
+
+-- what is told of what is kept holds of the line
+asks_same : (line kept text : List ℕ) (asked is : Bool) → kept ≡ kept_of line → text ≡ kept
+    → asked ≡ quits text → asked ≡ is → quits line ≡ is
+asks_same line kept text asked is of same asks value =
+    sym (kept_quits line) ∙ (ap quits (sym (same ∙ of)) ∙ (sym asks ∙ value))
+
+pub returns-then-quits-clause-takes : goal.returns-then-quits-clause-takes
+returns-then-quits-clause-takes g c =
+    λ rest whole seat start given w.
+    let hub = c.args.self.now.hub.now in
+    let kept : c.keep.new.self.line.bytes.items ≡ kept_of (w.line ++ c.args.bytes.now) =
+    from_ok c.keep.result (sym c.is_err.ensures.value ∙ c.if-is_err.false)
+    (c.keep.ensures.keeps w.line w.keeps) in
+    inr (has_quit hub seat c.args.worker.now c.keep.new.self c.args.bytes.now rest start given
+    (g.W.Write.contents c.args.writer.now) c.keep.ensures.desk whole w
+    (asks_same (w.line ++ c.args.bytes.now) c.keep.new.self.line.bytes.items c.as_slice.result.now
+    c.quits.result true kept c.as_slice.ensures c.quits.ensures c.if-quits.true))
 
 pub returns-in_err-obey-clause-takes : goal.returns-in_err-obey-clause-takes
 returns-in_err-obey-clause-takes g c =
@@ -23,7 +44,9 @@ returns-in_err-obey-clause-takes g c =
     rw (p.1, p.2) (stops_obeying hub seat c.args.worker.now c.obey.new.worker c.args.bytes.now rest
     start given (g.W.Write.contents c.args.writer.now) (g.W.Write.contents c.obey.new.writer) _ w
     (c.in_err-obey.ensures.obeys since seat (changes_in w.replies) (w.line ++ c.args.bytes.now) learned
-    kept (none_in_both w.line c.args.bytes.now w.unended whole)))
+    kept (none_in_both w.line c.args.bytes.now w.unended whole) (asks_same (w.line ++ c.args.bytes.now)
+    c.keep.new.self.line.bytes.items c.as_slice.result.now c.quits.result false kept
+    c.as_slice.ensures c.quits.ensures c.if-quits.false)))
 
 pub returns-clause-takes : goal.returns-clause-takes
 returns-clause-takes g c =
@@ -38,7 +61,9 @@ returns-clause-takes g c =
     (c.keep.ensures.keeps w.line w.keeps) in
     let obeyed = c.in_ok-obey.ensures.obeys since seat (changes_in w.replies)
     (w.line ++ c.args.bytes.now) learned kept
-    (none_in_both w.line c.args.bytes.now w.unended whole) in
+    (none_in_both w.line c.args.bytes.now w.unended whole)
+    (asks_same (w.line ++ c.args.bytes.now) c.keep.new.self.line.bytes.items c.as_slice.result.now
+    c.quits.result false kept c.as_slice.ensures c.quits.ensures c.if-quits.false) in
     works_obeyed hub seat c.args.worker.now c.obey.new.worker _ c.args.bytes.now rest start given
     (g.W.Write.contents c.args.writer.now) (g.W.Write.contents c.obey.new.writer) obeyed.0 refl refl
     c.clear.ensures w obeyed.1 obeyed.2

@@ -9,23 +9,23 @@ reply-requires-clause-fits g c =
 
 pub returns-in-Ok-Some-clause-obeys : goal.returns-in-Ok-Some-clause-obeys
 returns-in-Ok-Some-clause-obeys g c =
-    λ since seat whats line learned kept whole.
+    λ since seat whats line learned kept whole stays.
     let looks = rw c.in-Ok-Some.field-0-is at c.in-Ok-Some.ensures.looks in
     c.reply.ensures.obeys since seat whats line
-    (looks c.args.self.now.hub.now since seat whats line learned kept whole)
+    (looks c.args.self.now.hub.now since seat whats line learned kept whole stays)
 
 pub returns-in-Ok-None-clause-obeys : goal.returns-in-Ok-None-clause-obeys
 returns-in-Ok-None-clause-obeys g c =
-    λ since seat whats line learned kept whole.
+    λ since seat whats line learned kept whole stays.
     let looks = rw c.in-Ok-None.field-0-is at c.in-Ok-None.ensures.looks in (
-      looks c.args.self.now.hub.now since seat whats line learned kept whole,
+      looks c.args.self.now.hub.now since seat whats line learned kept whole stays,
       wrote_none (g.W.Write.contents c.args.writer.now),
     )
 
 pub returns-in-Err-clause-obeys : goal.returns-in-Err-clause-obeys
 returns-in-Err-clause-obeys g c =
-    λ since seat whats line learned kept whole.
+    λ since seat whats line learned kept whole stays.
     let hub = c.args.self.now.hub.now in
     obeys_unlooked hub c.look.new.self.desk whats (g.W.Write.contents c.args.writer.now)
     c.refused.result c.refused.ensures
-    (c.in-Err.ensures.looks hub since seat whats line learned kept whole)
+    (c.in-Err.ensures.looks hub since seat whats line learned kept whole stays)

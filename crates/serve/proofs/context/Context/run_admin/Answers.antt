@@ -1,5 +1,6 @@
-use Rattle.std.proofs.Common.{◌+◌, refl, ap, ◌∙◌, arith}
+use Rattle.std.proofs.Common.{◌+◌, Bool, [], refl, ap, subst, inl, ◌∙◌, arith}
 use Rattle.serve.proofs.Commanded.{works_none}
+use Rattle.serve.specs.Commanding.{WorksIf}
 use Rattle.serve.specs.Traffic.{so_far}
 use Rattle.serve.proofs.context.Context.run_admin.Goals as goal
 
@@ -17,9 +18,15 @@ pub loop-made-preserved : goal.loop-made-preserved
 loop-made-preserved g c =
     let i = c.loop-made.invariant in
     let turned = c.turn_admin.ensures in record {
-      works = c.in_ok-turn_admin.ensures.works c.args.worker.now.desk.pass.seat
+      works = subst (λ (goes : Bool). WorksIf goes c.args.self.now.hub.now
+          c.args.worker.now.desk.pass.seat c.turn_admin.new.worker []
           (so_far (g.S.Source.given c.args.link.now.source)
-          (g.W.Write.contents c.args.link.now.writer)) i.works;
+          (g.W.Write.contents c.args.link.now.writer))
+          (so_far (g.S.Source.given c.turn_admin.new.link.source)
+          (g.W.Write.contents c.turn_admin.new.link.writer))) c.if-not-goes.false
+          (c.in_ok-goes.ensures.works c.args.worker.now.desk.pass.seat
+          (so_far (g.S.Source.given c.args.link.now.source)
+          (g.W.Write.contents c.args.link.now.writer)) i.works);
       keeps = record {
         of = turned.keeps.of;
         lens = turned.keeps.lens;
@@ -28,3 +35,18 @@ loop-made-preserved g c =
       counted = turned.reads ∙ ap (λ n. n + 1) i.counted;
       fails = omega (arith, i.fails, turned.failed);
     }
+
+pub returns-then-stop-clause-works : goal.returns-then-stop-clause-works
+returns-then-stop-clause-works g c = inl c.loop-made.invariant.works
+
+pub returns-then-not-goes-clause-works : goal.returns-then-not-goes-clause-works
+returns-then-not-goes-clause-works g c =
+    subst (λ (goes : Bool). WorksIf goes c.args.self.now.hub.now
+    c.args.worker.now.desk.pass.seat c.turn_admin.new.worker []
+    (so_far (g.S.Source.given c.args.link.now.source)
+    (g.W.Write.contents c.args.link.now.writer))
+    (so_far (g.S.Source.given c.turn_admin.new.link.source)
+    (g.W.Write.contents c.turn_admin.new.link.writer))) c.if-not-goes.true
+    (c.in_ok-goes.ensures.works c.args.worker.now.desk.pass.seat
+    (so_far (g.S.Source.given c.args.link.now.source)
+    (g.W.Write.contents c.args.link.now.writer)) c.loop-made.invariant.works)

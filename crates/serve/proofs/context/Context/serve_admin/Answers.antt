@@ -1,7 +1,7 @@
 use Rattle.std.proofs.Common.{◌≡◌, ℕ, [], Result, Ok, Err, ap, sym, subst, ◌∙◌}
 use Rattle.hub.specs.Posts.{Seated}
 use Rattle.serve.proofs.Commanded.{commanded_until, commanded_whole}
-use Rattle.serve.specs.Commanding.{HasLearned, WorksOn}
+use Rattle.serve.specs.Commanding.{HasLearned, RunsOut}
 use Rattle.serve.specs.Told.{HasTold, IsServed}
 use Rattle.serve.specs.Traffic.{so_far}
 use Rattle.serve.specs.declared.desk.Desk.{Desk}
@@ -24,8 +24,8 @@ returns-in-Ok-clause-served g c =
     let left : c.into_desk.result.pass.seat ≡ c.args.pass.seat =
     ap (λ (d : Desk). d.pass.seat) c.into_desk.ensures ∙
     (c.run_admin-ended.ensures.keeps.seat ∙ seat0) in
-    let works = subst (λ (r : Result (Unit {0}) Cause). WorksOn hub
-    c.new-worker.result.desk.pass.seat c.run_admin-ended.new.worker []
+    let works = subst (λ (r : Result (Unit {0}) Cause). RunsOut hub
+    c.new-worker.result.desk.pass.seat c.run_admin-ended.new.worker
     (so_far (g.S.Source.given c.args.link.now.source)
     (g.W.Write.contents c.args.link.now.writer))
     (so_far (g.S.Source.given c.run_admin-ended.new.link.source)
@@ -41,7 +41,7 @@ returns-in-Ok-clause-served g c =
     subst (λ (s : ℕ). IsServed hub s whats n c.leave-served.result) left
     (c.leave-served.ensures whats n (subst (λ (desk : Desk). HasTold hub desk whats n)
     (sym c.into_desk.ensures) told)))
-    (subst (λ (s : ℕ). WorksOn hub s c.run_admin-ended.new.worker []
+    (subst (λ (s : ℕ). RunsOut hub s c.run_admin-ended.new.worker
     (so_far (g.S.Source.given c.args.link.now.source)
     (g.W.Write.contents c.args.link.now.writer))
     (so_far (g.S.Source.given c.run_admin-ended.new.link.source)
@@ -56,8 +56,8 @@ returns-in-Err-clause-served g c =
     let left : c.into_desk.result.pass.seat ≡ c.args.pass.seat =
     ap (λ (d : Desk). d.pass.seat) c.into_desk.ensures ∙
     (c.run_admin-ended.ensures.keeps.seat ∙ seat0) in
-    let works = subst (λ (r : Result (Unit {0}) Cause). WorksOn hub
-    c.new-worker.result.desk.pass.seat c.run_admin-ended.new.worker []
+    let works = subst (λ (r : Result (Unit {0}) Cause). RunsOut hub
+    c.new-worker.result.desk.pass.seat c.run_admin-ended.new.worker
     (so_far (g.S.Source.given c.args.link.now.source)
     (g.W.Write.contents c.args.link.now.writer))
     (so_far (g.S.Source.given c.run_admin-ended.new.link.source)
@@ -73,7 +73,7 @@ returns-in-Err-clause-served g c =
     subst (λ (s : ℕ). IsServed hub s whats n c.leave-served.result) left
     (c.leave-served.ensures whats n (subst (λ (desk : Desk). HasTold hub desk whats n)
     (sym c.into_desk.ensures) told)))
-    (subst (λ (s : ℕ). WorksOn hub s c.run_admin-ended.new.worker []
+    (subst (λ (s : ℕ). RunsOut hub s c.run_admin-ended.new.worker
     (so_far (g.S.Source.given c.args.link.now.source)
     (g.W.Write.contents c.args.link.now.writer))
     (so_far (g.S.Source.given c.run_admin-ended.new.link.source)

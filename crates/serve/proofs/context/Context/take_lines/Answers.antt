@@ -1,18 +1,18 @@
-use Rattle.std.proofs.Common.{ℕ, List, ◌∙◌, ap, subst, sym}
+use Rattle.std.proofs.Common.{ℕ, Bool, List, ◌∙◌, ap, subst, sym}
 use Rattle.std.proofs.lemmas.Result.{err_from_is_err_and}
 use Rattle.book.proofs.Verdicts.{from_ok}
 use Rattle.hub.specs.Views.{Seeing}
 use Rattle.serve.proofs.Commanded.{stops_unkept, works_kept}
-use Rattle.serve.specs.Commanding.{Works}
+use Rattle.serve.specs.Commanding.{Works, WorksIf}
 use Rattle.serve.specs.Traffic.{so_far}
 use Rattle.serve.proofs.context.Context.take_lines.Goals as goal
 
-pub returns-in_err-end_line-clause-takes : goal.returns-in_err-end_line-clause-takes
-returns-in_err-end_line-clause-takes g c =
+pub returns-in_err-goes-clause-takes : goal.returns-in_err-goes-clause-takes
+returns-in_err-goes-clause-takes g c =
     λ seat start given w.
     let before = g.W.Write.contents c.loop-front.writer in
     let p = err_from_is_err_and c.from_residual.result c.from_residual.ensures.1 in
-    rw (p.1, p.2) (c.in_err-end_line.ensures.takes c.in-Some.behind.now c.in-Some.ensures.line seat
+    rw (p.1, p.2) (c.in_err-goes.ensures.takes c.in-Some.behind.now c.in-Some.ensures.line seat
     start given
     (subst (λ (rest : List ℕ). Works c.args.self.now.hub.now seat c.loop-front.worker rest start
     (so_far given before)) c.in-Some.ensures.parts (c.loop-front.invariant.works seat start given w)))
@@ -34,17 +34,31 @@ returns-clause-takes g c =
     (λ line is. from_ok c.keep.result (sym c.is_err.ensures.value ∙ c.if-is_err.false)
     (c.keep.ensures.keeps line is)) (c.loop-front.invariant.works seat start given w)
 
+pub returns-then-not-goes-clause-takes : goal.returns-then-not-goes-clause-takes
+returns-then-not-goes-clause-takes g c =
+    λ seat start given w.
+    let before = g.W.Write.contents c.loop-front.writer in
+    let after = g.W.Write.contents c.end_line.new.writer in
+    subst (λ (goes : Bool). WorksIf goes c.args.self.now.hub.now seat c.end_line.new.worker
+    c.in-Some.behind.now start (so_far given after)) c.if-not-goes.true
+    (c.in_ok-goes.ensures.takes c.in-Some.behind.now c.in-Some.ensures.line seat start given
+    (subst (λ (rest : List ℕ). Works c.args.self.now.hub.now seat c.loop-front.worker rest start
+    (so_far given before)) c.in-Some.ensures.parts (c.loop-front.invariant.works seat start given w)))
+
 pub loop-front-preserved : goal.loop-front-preserved
 loop-front-preserved g c =
     let i = c.loop-front.invariant in
-    let before = g.W.Write.contents c.loop-front.writer in record {
+    let before = g.W.Write.contents c.loop-front.writer in
+    let after = g.W.Write.contents c.end_line.new.writer in record {
       keeps = record {
         of = c.end_line.ensures.keeps.of;
         lens = c.end_line.ensures.keeps.lens;
         seat = c.end_line.ensures.keeps.seat ∙ i.keeps.seat;
       };
       works = λ seat start given w.
-          c.in_ok-end_line.ensures.takes c.in-Some.behind.now c.in-Some.ensures.line seat start given
+          subst (λ (goes : Bool). WorksIf goes c.args.self.now.hub.now seat
+          c.end_line.new.worker c.in-Some.behind.now start (so_far given after)) c.if-not-goes.false
+          (c.in_ok-goes.ensures.takes c.in-Some.behind.now c.in-Some.ensures.line seat start given
           (subst (λ (rest : List ℕ). Works c.args.self.now.hub.now seat c.loop-front.worker rest
-          start (so_far given before)) c.in-Some.ensures.parts (i.works seat start given w));
+          start (so_far given before)) c.in-Some.ensures.parts (i.works seat start given w)));
     }

@@ -1,8 +1,8 @@
-use Rattle.std.proofs.Common.{ℕ, List, [], ap, refl, sym, subst}
+use Rattle.std.proofs.Common.{ℕ, List, [], ap, refl, sym, subst, inl}
 use Rattle.std.proofs.lemmas.Result.{err_from_is_err_and}
 use Rattle.std.specs.Io.KnownBytes.{Appends}
 use Rattle.hub.specs.Views.{Seeing}
-use Rattle.serve.proofs.Commanded.{stops_failed, works_alike, works_piece}
+use Rattle.serve.proofs.Commanded.{stops_failed, works_alike, works_if, works_piece}
 use Rattle.serve.specs.Traffic.{so_far}
 use Rattle.serve.specs.declared.lines.Line.{Line}
 use Rattle.serve.proofs.context.Context.turn_admin.Goals as goal
@@ -23,8 +23,8 @@ returns-in-Ok-End-clause-works g c =
     let before = g.S.Source.given c.args.link.now.source in
     let after = g.S.Source.given c.read.new.self in
     let gives = rw c.in-Ok-End.field-0-is at c.in-Ok-End.ensures.gives in
-    works_piece c.args.self.now.hub.now seat c.args.worker.now [] start before after
-    (g.W.Write.contents c.args.link.now.writer) gives w
+    inl (works_piece c.args.self.now.hub.now seat c.args.worker.now [] start before after
+    (g.W.Write.contents c.args.link.now.writer) gives w)
 
 pub returns-in-Ok-Nothing-clause-works : goal.returns-in-Ok-Nothing-clause-works
 returns-in-Ok-Nothing-clause-works g c =
@@ -34,11 +34,12 @@ returns-in-Ok-Nothing-clause-works g c =
     let after = g.S.Source.given c.read.new.self in
     let wrote = g.W.Write.contents c.args.link.now.writer in
     let gives = rw c.in-Ok-Nothing.field-0-is at c.in-Ok-Nothing.ensures.gives in
-    works_alike hub seat c.args.worker.now c.wait.new.self [] start (so_far after wrote)
+    works_if c.wait.result hub seat c.wait.new.self start (so_far after wrote)
+    (works_alike hub seat c.args.worker.now c.wait.new.self [] start (so_far after wrote)
     c.wait.ensures.desk
     (ap (λ (s : Seeing). s.seen) c.wait.ensures.lens)
     (ap (λ (l : Line). l.bytes.items) c.wait.ensures.line)
-    (works_piece hub seat c.args.worker.now [] start before after wrote gives w)
+    (works_piece hub seat c.args.worker.now [] start before after wrote gives w))
 
 pub returns-in_err-take_lines-in-Ok-Bytes-clause-works :
     goal.returns-in_err-take_lines-in-Ok-Bytes-clause-works

@@ -1,4 +1,4 @@
-use Rattle.std.proofs.Common.{◌-◌, arith, length, sym}
+use Rattle.std.proofs.Common.{◌-◌, arith}
 use Rattle.agg_types.specs.declared.limits.TheConstants.{LONGEST_COMMAND_LINE}
 use Rattle.serve.proofs.Kept.{kept_full, kept_marked, kept_whole}
 use Rattle.serve.proofs.lines.Line.add.Goals as goal

@@ -14,8 +14,10 @@ returns-in_ok-send-in-Beat-clause-takes g c =
       session = c.idle.new.self;
       desk = c.args.self.now.desk;
       hello = c.args.self.now.hello;
+      scout = c.args.self.now.scout;
       peer = c.args.self.now.peer;
       told = c.args.self.now.told;
+      reported = c.args.self.now.reported;
       pulse = c.wrote.new.self;
     } in
     let after = c.in-Beat.ensures.after
@@ -34,8 +36,10 @@ returns-in_err-send-in-Beat-clause-takes g c =
       session = c.idle.new.self;
       desk = c.args.self.now.desk;
       hello = c.args.self.now.hello;
+      scout = c.args.self.now.scout;
       peer = c.args.self.now.peer;
       told = c.args.self.now.told;
+      reported = c.args.self.now.reported;
       pulse = c.args.self.now.pulse;
     } in
     let p = err_from_is_err_and c.from_residual.result c.from_residual.ensures.1 in
