@@ -1,56 +1,28 @@
 -- Texts of whole lines, and the pieces of answers that may stand in a line.
-use Rattle.std.proofs.Common.{◌≡◌, ℕ, zero, suc, ◌+◌, ◌/◌, ◌%◌, ◌≤◌, Bool, true, false, eqb, leb, ◌&&◌, not}
-use Rattle.std.proofs.Common.{List, [], ◌∷◌, ◌++◌, length, map, get_or, Option, None, Some, codes}
-use Rattle.std.proofs.Common.{refl, ap, sym, subst, ◌∙◌, append_assoc, append-nil, arith, inl, inr}
-use Rattle.std.specs.Prelude.{nat_eq, slice_index_or}
+use Rattle.std.proofs.Common.{◌≡◌, ℕ, zero, suc, ◌/◌, ◌%◌, Bool, true, false, eqb, leb, ◌&&◌}
+use Rattle.std.proofs.Common.{List, [], ◌∷◌, ◌++◌, length, get_or, Option, None, Some, codes}
+use Rattle.std.proofs.Common.{refl, ap, sym, ◌∙◌, append_assoc, append-nil, arith, inl, inr}
 use Rattle.std.proofs.lemmas.Bool.{cases_Bool, ne_eqb}
-use Rattle.std.proofs.lemmas.Bool.Decides.{nat_tests}
 use Rattle.std.proofs.lemmas.List.Folds.{list_all-append}
-use Rattle.std.specs.Fmt.{decimal, digits}
-use Rattle.std.specs.List.{flat_map, list_all, starts_with}
-use Rattle.agg_types.specs.Check.{config_faults, each, filter_faults, rank_faults, table_faults}
+use Rattle.std.specs.Fmt.{decimal}
+use Rattle.std.specs.List.{flat_map, list_all}
+use Rattle.agg_types.specs.Check.{each}
 use Rattle.agg_types.specs.Col.{col_name, is_rate}
 use Rattle.agg_types.specs.Name.{is_name, is_printable}
-use Rattle.agg_types.specs.declared.check.ConfigFault.{ConfigFault}
 use Rattle.agg_types.specs.declared.column.Col.{Col}
 use Rattle.agg_types.specs.declared.column.Col.TheVariants as column
-use Rattle.agg_types.specs.declared.config.Cond.{Cond}
-use Rattle.agg_types.specs.declared.config.Config.{Config}
-use Rattle.agg_types.specs.declared.config.Filter.{Filter}
 use Rattle.agg_types.specs.declared.config.KeyKind.{KeyKind}
 use Rattle.agg_types.specs.declared.config.KeyKind.TheVariants.{Integer, Ip, Ipv6, Str, Binary}
-use Rattle.agg_types.specs.declared.config.Rank.{Rank}
-use Rattle.agg_types.specs.declared.config.Shape.{Shape}
-use Rattle.agg_types.specs.declared.event.Select.{Select}
-use Rattle.agg_types.specs.declared.event.Select.TheVariants.{All, One, Conds}
-use Rattle.fleet_model.specs.Answers.{filter_of, keys_of, listed, no_filter, set_at, summed}
-use Rattle.fleet_model.specs.Ranking.{no_rank, rank_of, ranked}
-use Rattle.fleet_model.specs.State.{State}
 use Rattle.fleet_model.specs.declared.summed.Summed.{Summed}
 use Rattle.key_text.specs.Printed.{hex_of, key_text}
-use Rattle.line_words.specs.Numbers.{is_decimal}
 use Rattle.line_words.specs.Words.{lines_of}
-use Rattle.line_words.proofs.Checked.{HasName, both_none, faultless, filter_fits, rank_fits}
-use Rattle.line_words.proofs.Checked.{table_fits}
 use Rattle.line_words.proofs.TextLines.{is_line_byte, lines_back, printed_bytes}
 use Rattle.line_words.proofs.WordsBack.{both}
-use Rattle.show_clear.specs.Answer.{IsAnswer, IsAnswerTo, all_hold, change_text, filter_text}
-use Rattle.show_clear.specs.Answer.{headings, held_text, key_line, line_if, no_shape, period_of}
-use Rattle.show_clear.specs.Answer.{place_text, places_text, rank_text, ranking_text, rows_text}
-use Rattle.show_clear.specs.Answer.{shape_of, table_text, title_text}
 use Rattle.show_clear.specs.AnswerLines.{AreAnswerLines, is_answer_line}
-use Rattle.show_clear.specs.Refusal.{refusal_text}
-use Rattle.show_clear.specs.Tables.{cell_text, cells_text, column_text, counts_text, heading}
-use Rattle.show_clear.specs.Tables.{kind_name, ms_or_never, row_text, sums_text, value_in}
-use Rattle.show_clear.specs.declared.command.Command.{Command}
-use Rattle.show_clear.specs.declared.command.Command.TheVariants.{Ask, Change as Changes}
-use Rattle.show_clear.specs.declared.command.Question.{Question}
-use Rattle.show_clear.specs.declared.command.Question.TheVariants.{Tables, Table, FilterKeys}
-use Rattle.show_clear.specs.declared.command.Question.TheVariants.{Ranking, NextChange}
-use Rattle.show_clear.specs.declared.fault.CommandFault.{CommandFault}
-use Rattle.show_clear.specs.declared.fault.CommandFault.TheVariants as faults
-use Rattle.show_clear.proofs.KeyBytes.{Prints, all_of, and_true, decimal_digits, decimal_passes}
-use Rattle.show_clear.proofs.KeyBytes.{decimal_some, key_passes, lower_digits}
+use Rattle.show_clear.specs.Tables.{cell_text, cells_text, column_text}
+use Rattle.show_clear.specs.Tables.{kind_name, ms_or_never, value_in}
+use Rattle.show_clear.proofs.KeyBytes.{Prints, all_of, and_true, decimal_passes}
+use Rattle.show_clear.proofs.KeyBytes.{key_passes, lower_digits}
 
 -- ---- texts of lines
 

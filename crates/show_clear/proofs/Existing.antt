@@ -1,13 +1,13 @@
 -- What a checked configuration names is there.
-use Rattle.std.proofs.Common.{◌≡◌, ℕ, zero, suc, ◌<◌, ◌≤◌, Bool, true, false, cond, not, List, []}
-use Rattle.std.proofs.Common.{◌∷◌, ◌++◌, length, get_or, Option, None, Some, refl, arith, ◌||◌, leb}
+use Rattle.std.proofs.Common.{◌≡◌, ℕ, zero, suc, ◌<◌, not, List, []}
+use Rattle.std.proofs.Common.{◌∷◌, ◌++◌, length, get_or, refl, arith, ◌||◌, leb}
 use Rattle.std.proofs.Common.{ltb, eqb}
 use Rattle.std.specs.Option.{is_none}
 use Rattle.std.specs.Str.{bytes_eq}
 use Rattle.agg_types.specs.Fits.{at_table, stores}
 use Rattle.agg_types.specs.Name.{is_name}
 use Rattle.agg_types.specs.declared.check.ConfigFault.TheVariants.{Duplicate, TooMany, UnknownTable}
-use Rattle.agg_types.specs.declared.check.ConfigFault.TheVariants.{UnknownColumn, BadPeriod}
+use Rattle.agg_types.specs.declared.check.ConfigFault.TheVariants.{UnknownColumn}
 use Rattle.agg_types.specs.declared.check.ConfigFault.TheVariants.{BadSize, BadName}
 use Rattle.std.specs.List.{slice_get, list_all, list_any}
 use Rattle.agg_types.specs.Check.{config_faults, each, fault_if, filter_faults, is_within}

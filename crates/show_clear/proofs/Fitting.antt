@@ -380,7 +380,7 @@ pub record IsGoodChange (state : State) (change : Change) : Type 0 where
   pub stands : ChangedExists state change
   pub fits : fits state.config (event_of change) ≡ true
 
-table_filter_dropped_good : (state : State) (ws : List (List ℕ)) (change : Change)
+filter_dropped_good : (state : State) (ws : List (List ℕ)) (change : Change)
     → filter_dropped state ws ≡ Ok change → IsGoodChange state change
 filter_dropped_good state [] change h = none_read Unknown change h
 filter_dropped_good state (name ∷ ws) change h =
@@ -390,7 +390,7 @@ filter_dropped_good state (name ∷ ws) change h =
     subst (IsGoodChange state) (ok_same (DropFilter name) change ended.2)
     (record { stands = tt; fits = refl })
 
-cleared_good : (state : State) (ws : List (List ℕ)) (change : Change)
+table_cleared_good : (state : State) (ws : List (List ℕ)) (change : Change)
     → table_cleared state ws ≡ Ok change → IsGoodChange state change
 table_cleared_good state [] change h = none_read Unknown change h
 table_cleared_good state (name ∷ ws) change h =

@@ -1,7 +1,7 @@
 -- What a line asks for, word by word from the left.
 use Rattle.std.specs.Prelude.{◌≡◌, ◌≢◌, ℕ, zero, suc, ◌==◌, Bool, false, not, if◌then◌else◌}
-use Rattle.std.specs.Prelude.{nat_eq, nat_le, nat_lt, List, [], ◌∷◌, codes, length, drop, position}
-use Rattle.std.specs.Prelude.{slice_index_or, find, Option, None, Some, Result, Ok, Err}
+use Rattle.std.specs.Prelude.{nat_eq, nat_lt, List, [], ◌∷◌, codes, length, drop, position}
+use Rattle.std.specs.Prelude.{find, Option, None, Some, Result, Ok, Err}
 use Rattle.std.specs.List.{list_all, list_any, starts_with}
 use Rattle.std.specs.Str.{bytes_eq}
 use Rattle.agg_types.specs.Col.{all_cols, col_name}
