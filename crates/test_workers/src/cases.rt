@@ -94,7 +94,7 @@ const SPACES: [u8; 4086] = [b' '; 4086];
 const RETURNS: [u8; 5000] = [b'\r'; 5000];
 
 /// What an admin sends behind the sessions of both peers.
-pub const ADMINS: [(&str, &[Step]); 15] = [
+pub const ADMINS: [(&str, &[Step]); 20] = [
     (
         "two commands in one piece",
         &[Step::Bytes(b"show table\nshow table t\n")],
@@ -127,6 +127,31 @@ pub const ADMINS: [(&str, &[Step]); 15] = [
         ],
     ),
     ("no commands", &[Step::Bytes(b"\nx\n\r\nshow table x\n")]),
+    (
+        "what the gate tells",
+        &[Step::Bytes(b"help\n show  info\r\nshow peers\nshow peers lb1\nshow peers lb2\n")],
+    ),
+    (
+        "what is configured, with a filter that was added",
+        &[Step::Bytes(b"show config\nadd filter f t data.gpc0 ge 13\nshow filters\nshow ranks\n")],
+    ),
+    (
+        "an unknown peer, and words that are one too many",
+        &[Step::Bytes(b"show peers lb9\nshow peers lb1 x\nhelp x\nshow info x\nquit x\nshow\n")],
+    ),
+    (
+        "a line behind one that quits",
+        &[Step::Bytes(b"show table\nquit\r\nshow table\n")],
+    ),
+    (
+        "pieces of a line that quits",
+        &[
+            Step::Bytes(b"qu"),
+            Step::Bytes(b"it"),
+            Step::Bytes(b"\n"),
+            SHOW,
+        ],
+    ),
     ("a CR before its LF", &[Step::Bytes(b"show table\r\n")]),
     (
         "several CRs before its LF",

@@ -3,7 +3,9 @@
 ghost use Rattle.std.specs.Prelude.{◌≡◌, ◌≤◌, Ok};
 ghost use Rattle.serve.specs.Sources.{IsWithin};
 
-use serve::{Came, Clock, Gate, Place, ReadFailed, Source};
+use agg_types::NoMemory;
+use book::Book;
+use serve::{Came, Clock, Gate, Place, ReadFailed, Source, Status};
 use std::sync::atomic::{AtomicU64, Ordering};
 
 /// What a read of a script gives.
@@ -143,5 +145,22 @@ impl Gate for Turnstile {
 
     fn stop(&self) -> bool {
         self.looks.fetch_add(1, Ordering::SeqCst) >= self.open
+    }
+
+    // What it was asked, and of which moment.
+    fn status(&self, book: &Book, status: Status, out: &mut Vec<u8>) -> Result<(), NoMemory> {
+        let asked: &[u8] = match status {
+            Status::Help => b"help",
+            Status::Info => b"info",
+            Status::Peers => b"peers",
+            Status::Tables(0) => b"tables of the first peer",
+            Status::Tables(_) => b"tables of another peer",
+        };
+        out.extend_from_slice(asked)?;
+        if book.moment() == 0 {
+            out.extend_from_slice(b" at 0")?;
+        }
+        out.push(b'\n')?;
+        Ok(())
     }
 }
