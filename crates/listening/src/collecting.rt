@@ -4,6 +4,7 @@ ghost use Rattle.std.specs.Prelude.{◌≡◌, []};
 ghost use Rattle.agg_types.specs.Check.{config_faults};
 
 use crate::admins::Admins;
+use crate::board::Board;
 use crate::connections::Connections;
 use crate::journal::Journal;
 use crate::log::Event;
@@ -144,6 +145,9 @@ where
     let Ok(hub) = Hub::<J, R>::new(rt.alloc(), *rt, opening, PLACES) else {
         return Fault::NoMemory;
     };
+    let Ok(board) = Board::new(rt.alloc(), hub.config().peers.len()) else {
+        return Fault::NoMemory;
+    };
     let (peers, admins) = match listen(rt, endpoints) {
         Ok(listeners) => listeners,
         Err(fault) => return fault,
@@ -165,9 +169,12 @@ where
     };
     let notes = Notes {
         rt: *rt,
+        alloc: rt.alloc(),
         config: hub.config(),
         connections: &connections,
         journal: &**journal,
+        clock: &clock,
+        board: &board,
     };
     let _ended = serve_all(rt, rt.alloc(), &doors, &clock, &hub, &notes);
     match connections.take_fault(rt) {

@@ -101,6 +101,19 @@ impl Connections {
         lists.waiting.remove(&id);
     }
 
+    /// How many connections wait for their hello.
+    pub fn count_waiting<R: Wait>(&self, rt: &R) -> usize {
+        let guard = self.lists.lock(rt);
+        guard.waiting.len()
+    }
+
+    /// Where the connection that sits for a peer comes from.
+    pub fn address_of<R: Wait>(&self, rt: &R, peer: usize) -> Option<SocketAddr> {
+        let guard = self.lists.lock(rt);
+        let seated = guard.seated.get(&peer)?;
+        Some(seated.address)
+    }
+
     /// Closes the connection that has waited longest, if one waits.
     pub fn make_room<R: Wait>(&self, rt: &R) -> bool {
         let mut guard = self.lists.lock(rt);

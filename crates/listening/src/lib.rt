@@ -7,6 +7,7 @@
 #![tactic(auto)]
 
 mod admins;
+mod board;
 mod collecting;
 mod connections;
 mod disk;
@@ -14,24 +15,29 @@ mod faults;
 mod greeting;
 mod incoming;
 mod journal;
+mod judging;
 mod log;
 mod notes;
 mod outgoing;
 mod pace;
 mod running;
 mod sockets;
+mod telling;
 mod ticks;
 mod unknown;
 
 pub use admins::Admins;
+pub use board::{Board, PeerStatus, Totals};
 pub use collecting::{Stopped, collect};
 pub use connections::{Connections, Unasked};
 pub use disk::Disk;
 pub use incoming::Incoming;
 pub use journal::Journal;
+pub use judging::{Because, Verdict, judge};
 pub use log::Event;
 pub use notes::Notes;
 pub use outgoing::Outgoing;
 pub use running::{run, run_words};
 pub use sockets::Sockets;
+pub use telling::{HELP, append_info, append_peers, append_tables};
 pub use ticks::Ticks;

@@ -4,6 +4,7 @@
 //! `key=value`. A value that could be taken for anything else is quoted, and its bytes outside
 //! printable ASCII are escaped, so that a line break that a sender chose begins no line.
 
+use crate::judging::Because;
 use hub::PostFault;
 use jiff::Timestamp;
 use serve::Cause;
@@ -21,6 +22,16 @@ pub enum Event<'a> {
     /// A peer's hello was accepted.
     PeerConnected {
         peer: &'a [u8],
+    },
+    /// A peer's session defined a table that isn't followed.
+    TableUnfollowed {
+        peer: &'a [u8],
+        because: Because<'a>,
+    },
+    /// A peer's session defined a table that is followed without one of its rates.
+    RateUnfollowed {
+        peer: &'a [u8],
+        because: Because<'a>,
     },
     /// The connection of a peer is over, after so many updates.
     PeerGone {
@@ -71,6 +82,8 @@ impl<'a> Event<'a> {
         match self {
             Event::Listening { .. } => "info listening",
             Event::PeerConnected { .. } => "info peer connected",
+            Event::TableUnfollowed { .. } => "warn table not followed",
+            Event::RateUnfollowed { .. } => "warn rate not followed",
             Event::PeerGone { cause: None, .. } => "info peer disconnected",
             Event::PeerGone { .. } => "warn peer ended",
             Event::PeerReplaced { .. } => "info peer replaced",
@@ -99,6 +112,10 @@ impl<'a> fmt::Display for Line<'a> {
         match self.event {
             Event::Listening { peers, admin } => write!(f, " peers={peers} admin={admin}"),
             Event::PeerConnected { peer } => write!(f, " peer={}", Value(peer)),
+            Event::TableUnfollowed { peer, because } | Event::RateUnfollowed { peer, because } => {
+                let (peer, table) = (Value(peer), Value(because.name));
+                write!(f, " peer={peer} table={table} reason=\"{because}\"")
+            }
             Event::PeerGone {
                 peer,
                 address,

@@ -1,22 +1,32 @@
 //! What is told to an operator while the collector runs.
 
+use crate::board::Board;
 use crate::connections::{Connections, Unasked};
 use crate::journal::Journal;
+use crate::judging::{Because, Verdict, judge};
 use crate::log::Event;
-use agg_types::Config;
-use serve::{Gate, Gone, News, Place};
+use crate::telling::{HELP, append_info, append_peers, append_tables};
+use crate::ticks::Ticks;
+use agg_types::{Config, NoMemory};
+use book::Book;
+use peers_msg::Definition;
+use serve::{Gate, Gone, News, Place, Status};
+use std::alloc::Global;
 use std::net::SocketAddr;
 use std::sync::Wait;
 use std::time::Clock;
 
-/// The gate of the collector: it lets all pass until the peers' door is closed for good, and notes
-/// the news for the log.
+/// The gate of the collector: it lets all pass until the peers' door is closed for good, notes the
+/// news for the log and on the board, and tells what stands there.
 #[derive(Drop)]
 pub struct Notes<'a, R> {
     pub rt: R,
+    pub alloc: Global,
     pub config: &'a Config,
     pub connections: &'a Connections,
     pub journal: &'a Journal,
+    pub clock: &'a Ticks<R>,
+    pub board: &'a Board,
 }
 
 impl<'a, R> Notes<'a, R> {
@@ -65,11 +75,53 @@ impl<'a, R> Notes<'a, R> {
         self.journal.note(&self.rt, event);
     }
 
+    // A peer's hello was accepted.
+    fn came(&self, peer: usize)
+    where
+        R: Clock + Wait,
+    {
+        let address = self.connections.address_of(&self.rt, peer);
+        self.board
+            .come(&self.rt, peer, address, self.clock.moment());
+        let peer = self.name(peer);
+        self.note(Event::PeerConnected { peer });
+    }
+
+    // A peer's session defined a table: what comes of it is logged where that is new and isn't what
+    // is configured.
+    fn defined(&self, peer: usize, definition: &Definition)
+    where
+        R: Clock + Wait,
+    {
+        let verdict = judge(self.config, definition);
+        let table = definition.name.as_slice();
+        let is_news = self.board.define(&self.rt, peer, table, verdict);
+        if !is_news || verdict == Verdict::Followed {
+            return;
+        }
+        let peer = self.name(peer);
+        let because = Because {
+            config: self.config,
+            name: table,
+            verdict,
+        };
+        let event = if verdict.is_followed() {
+            Event::RateUnfollowed { peer, because }
+        } else {
+            Event::TableUnfollowed { peer, because }
+        };
+        self.note(event);
+    }
+
     // Tells of the connection of a session that is over.
     fn gone(&self, gone: Gone<'_>)
     where
         R: Clock + Wait,
     {
+        match gone.peer {
+            None => self.board.refuse(1),
+            Some(peer) => self.board.go(&self.rt, peer, self.clock.moment()),
+        }
         let address = gone.sender;
         let updates = gone.updates;
         // made anew, to live as long as the name of a peer
@@ -117,6 +169,7 @@ impl<'a, R: Clock + Wait> Gate for Notes<'a, R> {
             return;
         }
         if let Some(Unasked { count, last }) = self.connections.unasked(&self.rt) {
+            self.board.refuse(count);
             self.note(Event::PeersUnasked { count, last });
         }
     }
@@ -127,15 +180,37 @@ impl<'a, R: Clock + Wait> Gate for Notes<'a, R> {
 
     fn tell(&self, place: Place, news: News<'_>) {
         match news {
-            News::Came(peer) => {
-                let peer = self.name(peer);
-                self.note(Event::PeerConnected { peer });
-            }
+            News::Came(peer) => self.came(peer),
+            News::Posted(peer, updates) => self.board.post(peer, updates, self.clock.moment()),
+            News::Defined(peer, definition) => self.defined(peer, definition),
             News::Gone(gone) => self.gone(gone),
-            News::TurnedAway(address) => match place {
-                Place::Admin => self.note(Event::AdminTurnedAway { address }),
-                _ => self.note(Event::PeerTurnedAway { address }),
-            },
+            News::Sat => self.board.sit(),
+            News::Left => self.board.leave(),
+            News::TurnedAway(address) => {
+                self.board.refuse(1);
+                match place {
+                    Place::Admin => self.note(Event::AdminTurnedAway { address }),
+                    _ => self.note(Event::PeerTurnedAway { address }),
+                }
+            }
+        }
+    }
+
+    fn status(&self, book: &Book, status: Status, out: &mut Vec<u8>) -> Result<(), NoMemory> {
+        let rt = &self.rt;
+        let now = self.clock.moment();
+        match status {
+            Status::Help => {
+                out.extend_from_slice(HELP)?;
+                Ok(())
+            }
+            Status::Info => {
+                append_info(rt, self.alloc, self.board, self.connections, now, book, out)
+            }
+            Status::Peers => append_peers(rt, self.alloc, self.board, self.config, now, out),
+            Status::Tables(peer) => {
+                append_tables(rt, self.alloc, self.board, self.config, peer, out)
+            }
         }
     }
 }

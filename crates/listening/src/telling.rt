@@ -1,0 +1,213 @@
+//! The answers to what operators ask of the collector itself.
+
+use crate::board::{Board, PeerStatus};
+use crate::connections::Connections;
+use crate::judging::{Because, Verdict};
+use agg_types::{Config, NoMemory};
+use book::Book;
+use command_line::VERSION;
+use std::alloc::Global;
+use std::fmt;
+use std::net::SocketAddr;
+use std::sync::Wait;
+
+/// The commands, a line each.
+pub const HELP: &[u8] = b"add filter <filter> <table> data.<column> <operator> <value> ..
+clear table <table> [key <key> | data.<column> <operator> <value> ..]
+del filter <filter>
+help
+quit
+show config
+show filter <filter>
+show filters
+show info
+show next <filter>
+show peers [<peer>]
+show rank <rank>
+show ranks
+show table [<table> [key <key> | data.<column> <operator> <value> ..]]
+";
+
+// Appends a counter's line.
+fn append_line<V: fmt::Display + Drop>(
+    alloc: Global,
+    name: &str,
+    value: V,
+    out: &mut Vec<u8>,
+) -> Result<(), NoMemory> {
+    let line = format!(in alloc; "{name}: {value}\n")?;
+    out.extend_from_slice(line.as_bytes())?;
+    Ok(())
+}
+
+// How many keys all tables have.
+fn keys_in(book: &Book) -> u64 {
+    let mut keys = 0u64;
+    for table in 0..book.config().tables.len() {
+        keys = keys.saturating_add(book.used(table));
+    }
+    keys
+}
+
+// Appends what a book and its configuration tell.
+fn append_book(alloc: Global, book: &Book, out: &mut Vec<u8>) -> Result<(), NoMemory> {
+    let config = book.config();
+    append_line(alloc, "tables", config.tables.len(), out)?;
+    append_line(alloc, "filters", config.filters.len(), out)?;
+    append_line(alloc, "ranks", config.ranks.len(), out)?;
+    append_line(alloc, "keys", keys_in(book), out)
+}
+
+/// Appends the collector's counters, so many ms after its start.
+pub fn append_info<R: Wait>(
+    rt: &R,
+    alloc: Global,
+    board: &Board,
+    connections: &Connections,
+    uptime: u64,
+    book: &Book,
+    out: &mut Vec<u8>,
+) -> Result<(), NoMemory> {
+    let totals = board.totals(rt);
+    append_line(alloc, "version", VERSION, out)?;
+    append_line(alloc, "uptime_ms", uptime, out)?;
+    append_line(alloc, "now_ms", book.moment(), out)?;
+    append_line(alloc, "peers_connected", totals.connected, out)?;
+    append_line(alloc, "updates", totals.updates, out)?;
+    append_line(alloc, "posts", totals.posts, out)?;
+    append_book(alloc, book, out)?;
+    append_line(alloc, "seats", totals.seats, out)?;
+    append_line(alloc, "waiting", connections.count_waiting(rt), out)?;
+    append_line(alloc, "refused", totals.refused, out)
+}
+
+// The address of a connection, or a dash.
+#[derive(Clone, Copy)]
+struct From(Option<SocketAddr>);
+
+impl fmt::Display for From {
+    fn fmt<W: fmt::Write>(&self, f: &mut fmt::Formatter<W>) -> fmt::Result {
+        match self.0 {
+            None => f.write_str("-"),
+            Some(address) => write!(f, "{address}"),
+        }
+    }
+}
+
+// How long ago a moment was, or a dash.
+#[derive(Clone, Copy)]
+struct Ago {
+    moment: Option<u64>,
+    now: u64,
+}
+
+impl fmt::Display for Ago {
+    fn fmt<W: fmt::Write>(&self, f: &mut fmt::Formatter<W>) -> fmt::Result {
+        match self.moment {
+            None => f.write_str("-"),
+            Some(moment) => write!(f, "{}", self.now.saturating_sub(moment)),
+        }
+    }
+}
+
+// A peer's state in a word.
+fn state_of(peer: &PeerStatus) -> &'static str {
+    if peer.is_connected {
+        "connected"
+    } else if peer.since.is_some() {
+        "away"
+    } else {
+        "never"
+    }
+}
+
+// The line of a peer. One that never came is in that state since the start.
+#[derive(Clone, Copy)]
+struct PeerLine<'a> {
+    name: &'a [u8],
+    peer: PeerStatus,
+    now: u64,
+}
+
+impl<'a> fmt::Display for PeerLine<'a> {
+    fn fmt<W: fmt::Write>(&self, f: &mut fmt::Formatter<W>) -> fmt::Result {
+        let PeerLine { name, peer, now } = *self;
+        let since = now.saturating_sub(peer.since.unwrap_or(0));
+        let name = name.escape_ascii();
+        write!(f, "peer={name} state={}", state_of(&peer))?;
+        write!(f, " from={} since_ms={since}", From(peer.address))?;
+        let last = Ago {
+            moment: peer.last_update,
+            now,
+        };
+        write!(f, " updates={} last_update_ms={last}", peer.updates)?;
+        write!(f, " unknown_tables={}", peer.unfollowed)
+    }
+}
+
+/// Appends a line for each peer of a configuration, at a moment, in ms.
+pub fn append_peers<R: Wait>(
+    rt: &R,
+    alloc: Global,
+    board: &Board,
+    config: &Config,
+    now: u64,
+    out: &mut Vec<u8>,
+) -> Result<(), NoMemory> {
+    for (place, name) in config.peers.as_slice().iter().enumerate() {
+        let Some(peer) = board.peer(rt, place) else {
+            return Ok(());
+        };
+        let line = PeerLine {
+            name: name.as_slice(),
+            peer,
+            now,
+        };
+        let line = format!(in alloc; "{line}\n")?;
+        out.extend_from_slice(line.as_bytes())?;
+    }
+    Ok(())
+}
+
+// The line of a table.
+#[derive(Clone, Copy)]
+struct TableLine<'a>(Because<'a>);
+
+impl<'a> fmt::Display for TableLine<'a> {
+    fn fmt<W: fmt::Write>(&self, f: &mut fmt::Formatter<W>) -> fmt::Result {
+        let because = self.0;
+        let name = because.name.escape_ascii();
+        match because.verdict {
+            Verdict::Followed => write!(f, "table={name} state=followed"),
+            Verdict::Period { .. } => {
+                write!(f, "table={name} state=followed reason=\"{because}\"")
+            }
+            _ => write!(f, "table={name} state=unknown reason=\"{because}\""),
+        }
+    }
+}
+
+/// Appends a line for each table that a peer's present or last connection defined.
+pub fn append_tables<R: Wait>(
+    rt: &R,
+    alloc: Global,
+    board: &Board,
+    config: &Config,
+    peer: usize,
+    out: &mut Vec<u8>,
+) -> Result<(), NoMemory> {
+    for place in 0..u64::MAX {
+        let Some((name, verdict)) = board.table(rt, peer, place as usize)? else {
+            return Ok(());
+        };
+        let name = name.as_slice();
+        let line = TableLine(Because {
+            config,
+            name,
+            verdict,
+        });
+        let line = format!(in alloc; "{line}\n")?;
+        out.extend_from_slice(line.as_bytes())?;
+    }
+    Ok(())
+}
