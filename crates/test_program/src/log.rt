@@ -1,17 +1,20 @@
 //! Lines of the log.
 
 use crate::scene::{Few, Still};
-use agg_types::Config;
+use crate::status;
 use hub::PostFault;
-use listening::{Connections, Event, Journal, Notes};
+use listening::{Board, Connections, Event, Journal, Notes, Ticks};
 use serve::{Cause, Gate, Gone, News, Place};
 use session_core::{SessionCause, Status};
 use std::io;
 use std::net::{Ipv4Addr, SocketAddr, SocketAddrV4};
 use std::sync::Wait;
+use std::time::Instant;
 
-/// Two peers, so that a line with the other's name shows.
-const CONFIGURATION: &[u8] = b"name agg\npeer lb1\npeer lb2\n";
+/// Two peers, so that a line with the other's name shows, and two tables.
+const CONFIGURATION: &[u8] = b"name agg\npeer lb1\npeer lb2\n\
+table clients type ip size 100 store gpc0,http_req_rate(10000)\n\
+table names type binary len 8 size 100 store gpc0\n";
 
 /// 2026-11-24 at 09:45:12 in UTC.
 const MORNING: u64 = 1_795_513_512;
@@ -69,14 +72,28 @@ pub fn show<R: Print + Wait + Copy + AllocGlobal>(rt: &R) -> io::Result<()> {
     };
     journal.note(&morning, replaced);
     let connections = Connections::new(rt.alloc());
+    let Ok(board) = Board::new(rt.alloc(), 2) else {
+        return println!(rt; "no board");
+    };
+    let clock = Ticks {
+        rt: Still {
+            rt: *rt,
+            seconds: Some(MORNING),
+        },
+        start: Instant::now(&morning)?,
+    };
     let notes = Notes {
         rt: morning,
+        alloc: rt.alloc(),
         config: &config,
         connections: &connections,
         journal: &journal,
+        clock: &clock,
+        board: &board,
     };
     notes.tell(SESSION, News::Came(0));
     notes.tell(SESSION, News::Came(1));
+    status::define(rt, &notes)?;
     show_ends(rt, &notes);
     notes.tell(SESSION, News::TurnedAway(sender()));
     notes.tell(Place::Admin, News::TurnedAway(sender()));
@@ -92,9 +109,13 @@ pub fn show<R: Print + Wait + Copy + AllocGlobal>(rt: &R) -> io::Result<()> {
     }
     show_unknown(&connections, &notes);
     journal.write_out(&notes.rt);
-    show_moments(rt, &config);
+    show_moments(rt);
     show_crowd(rt);
-    Ok(())
+    println!(rt; "== what operators ask")?;
+    match agg_config::read(rt.alloc(), CONFIGURATION) {
+        Ok(config) => status::show(rt, &notes, config),
+        Err(_) => println!(rt; "no configuration"),
+    }
 }
 
 /// Connections that are closed since their peers aren't configured: a name is told once.
@@ -171,26 +192,16 @@ fn show_crowd<R: Print + Wait + Copy + AllocGlobal>(rt: &R) {
 }
 
 /// The same line at odd moments, and where the clock fails.
-fn show_moments<R: Print + Wait + Copy + AllocGlobal>(rt: &R, config: &Config) {
+fn show_moments<R: Print + Wait + Copy + AllocGlobal>(rt: &R) {
     for moment in MOMENTS {
-        show_moment(rt, config, Some(moment));
+        show_moment(rt, Some(moment));
     }
-    show_moment(rt, config, None);
+    show_moment(rt, None);
 }
 
-fn show_moment<R: Print + Wait + Copy + AllocGlobal>(
-    rt: &R,
-    config: &Config,
-    seconds: Option<u64>,
-) {
-    let connections = Connections::new(rt.alloc());
+fn show_moment<R: Print + Wait + Copy + AllocGlobal>(rt: &R, seconds: Option<u64>) {
     let journal = Journal::new(rt.alloc());
-    let notes = Notes {
-        rt: Still { rt: *rt, seconds },
-        config,
-        connections: &connections,
-        journal: &journal,
-    };
-    notes.tell(SESSION, News::Came(0));
-    journal.write_out(&notes.rt);
+    let handles = Still { rt: *rt, seconds };
+    journal.note(&handles, Event::PeerConnected { peer: b"lb1" });
+    journal.write_out(&handles);
 }

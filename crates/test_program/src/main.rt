@@ -7,6 +7,7 @@
 
 mod log;
 mod scene;
+mod status;
 
 use command_line::Endpoints;
 use program::{Asked, Prepared, prepare};

@@ -2,7 +2,7 @@
 //!
 //! The collector runs in a thread, with the configuration on standard input. A peer says hello,
 //! defines a table and sends three updates, each once the one before it is acknowledged; then an
-//! admin asks for the table. A stranger that says nothing is connected all the while, and a newer
+//! admin asks for the table and what else stands, and quits. A stranger that says nothing is connected all the while, and a newer
 //! connection of the peer ends the older one. What each is answered is printed. The collector
 //! doesn't end by itself: the program ends while it runs.
 #![tactic(auto)]
@@ -80,8 +80,8 @@ fn say(rt: &impl Print, stream: &TcpStream, piece: &[u8], count: usize) -> Resul
     Ok(())
 }
 
-/// Asks, and prints the answer up to its empty line.
-fn ask(rt: &impl Print, alloc: Global, stream: &TcpStream, line: &[u8]) -> Result<()> {
+/// Asks: the answer up to its empty line, or to the end of the connection.
+fn answer(alloc: Global, stream: &TcpStream, line: &[u8]) -> Result<Vec<u8>> {
     send(stream, line)?;
     let mut answer = Vec::new(alloc);
     let mut from = stream;
@@ -93,7 +93,72 @@ fn ask(rt: &impl Print, alloc: Global, stream: &TcpStream, line: &[u8]) -> Resul
             break;
         }
     }
+    Ok(answer)
+}
+
+/// Asks, and prints the answer.
+fn ask(rt: &impl Print, alloc: Global, stream: &TcpStream, line: &[u8]) -> Result<()> {
+    let answer = answer(alloc, stream, line)?;
     io::writer(rt).write_all(answer.as_slice())?;
+    Ok(())
+}
+
+/// What begins a line or a word whose value isn't the same each time.
+const VARYING: [&[u8]; 5] = [
+    b"uptime_ms: ",
+    b"now_ms: ",
+    b"from=",
+    b"since_ms=",
+    b"last_update_ms=",
+];
+
+/// Asks, and prints the answer, with a # for each value that isn't the same each time.
+fn ask_varying(rt: &impl Print, alloc: Global, stream: &TcpStream, line: &[u8]) -> Result<()> {
+    let answer = answer(alloc, stream, line)?;
+    let mut rest = answer.as_slice();
+    for _ in 0..answer.len() {
+        let Some((first, behind)) = rest.split_first() else {
+            break;
+        };
+        if let Some(label) = VARYING.iter().find(|label| rest.starts_with(label)) {
+            io::writer(rt).write_all(label)?;
+            io::writer(rt).write_all(b"#")?;
+            rest = behind_value(rest, label.len());
+        } else {
+            io::writer(rt).write_all(&[*first])?;
+            rest = behind;
+        }
+    }
+    Ok(())
+}
+
+/// What follows the value behind so many bytes.
+fn behind_value(bytes: &[u8], label: usize) -> &[u8] {
+    let Some(value) = bytes.get(label..) else {
+        return b"";
+    };
+    match value
+        .iter()
+        .position(|byte: &u8| *byte == b' ' || *byte == b'\n')
+    {
+        None => b"",
+        Some(end) => match value.get(end..) {
+            None => b"",
+            Some(rest) => rest,
+        },
+    }
+}
+
+/// What an operator asks of the collector itself, and the end of the connection.
+fn ask_status(rt: &impl Print, alloc: Global, asking: &TcpStream) -> Result<()> {
+    for line in [b"help\n".as_slice(), b"show config\n", b"show peers lb1\n"] {
+        ask(rt, alloc, asking, line)?;
+    }
+    for line in [b"show info\n".as_slice(), b"show peers\n"] {
+        ask_varying(rt, alloc, asking, line)?;
+    }
+    ask(rt, alloc, asking, b"quit\n")?;
+    println!(rt; "the admin connection is over")?;
     Ok(())
 }
 
@@ -148,5 +213,6 @@ fn main(rt: HostRuntime) -> Result<()> {
     ask(&rt, rt.alloc(), &asking, b"show table t\n")?;
     ask(&rt, rt.alloc(), &asking, b"clear table t key 10.0.0.2\n")?;
     ask(&rt, rt.alloc(), &asking, b"show table\n")?;
+    ask_status(&rt, rt.alloc(), &asking)?;
     call_again(&rt, peers, &peer)
 }
