@@ -92,8 +92,9 @@ impl Fleet {
     }
 
     /// Does a step. A clear, a filter that is added or dropped, or a moment fits the configuration
-    /// that stands, which `Step::fits` tells. Faults, in this order: NoConn, Spent, NoMemory, Session. Where an
-    /// allocation fails after the step is done, what the book has yet to take waits.
+    /// that stands, which `Step::fits` tells. Faults, in this order: NoConn, Spent, NoMemory,
+    /// Session. Where an allocation fails after the step is done, what the book has yet to take
+    /// waits.
     ///
     /// A connection is open if it came, wasn't lost, and its stream hasn't ended.
     pub fn step(&mut self, step: &Step) -> Result<Replies, FleetFault>
@@ -140,10 +141,8 @@ impl Fleet {
             Step::Connect => self.connect(),
             Step::Bytes(conn, piece) => self.bytes(*conn, piece.as_slice()),
             Step::Lost(conn) => self.lose(*conn),
-            Step::Clear { .. }
-            | Step::AddFilter(_)
-            | Step::DropFilter(_)
-            | Step::Moment(_) => self.happen(step),
+            Step::Clear { .. } | Step::AddFilter(_) | Step::DropFilter(_) | Step::Moment(_) =>
+                self.happen(step),
         }
     }
 

@@ -159,13 +159,7 @@ impl Board {
 
     /// A peer's session defined a table: whether that is news, since it didn't define it before, or
     /// another came of it. At most 256 tables of a connection are kept.
-    pub fn define<R: Wait>(
-        &self,
-        rt: &R,
-        peer: usize,
-        name: &[u8],
-        verdict: Verdict,
-    ) -> bool {
+    pub fn define<R: Wait>(&self, rt: &R, peer: usize, name: &[u8], verdict: Verdict) -> bool {
         let mut guard = self.peers.lock(rt);
         let peers = &mut *guard;
         let Some(standing) = peers.get_mut(peer) else {

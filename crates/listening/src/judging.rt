@@ -10,26 +10,16 @@ pub enum Verdict {
     /// It is followed.
     Followed,
     /// It is followed without this rate, since the peer's has another period, in ms, or none.
-    Period {
-        col: Col,
-        sent: u64,
-        here: u32,
-    },
+    Period { col: Col, sent: u64, here: u32 },
     /// No table has its name.
     NoTable,
     /// No table has its name, but one has it with a slash before it, or without the one before it.
     /// The table goes by its place in the configuration.
     Near(usize),
     /// The table of its name has keys of another type.
-    Kind {
-        sent: u64,
-        here: KeyKind,
-    },
+    Kind { sent: u64, here: KeyKind },
     /// The table of its name has keys of another length.
-    Length {
-        sent: u64,
-        here: u64,
-    },
+    Length { sent: u64, here: u64 },
 }
 
 impl Verdict {

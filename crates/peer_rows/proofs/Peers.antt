@@ -167,9 +167,10 @@ module _ (peer : ℕ) where
   found_from (r ∷ rows) zero sorted within equal = ranked r.0 peer Equal (sym (equal r))
   found_from (r ∷ rows) (suc i) sorted within equal =
       let less = less_at r.0 rows i r sorted.0 (omega (arith, within)) in
-      let same = ranked (get_or rows i r).0 peer Equal (sym (equal r)) in
-      (omega (arith, less, same),
-      found_from rows i sorted.1 (omega (arith, within)) (λ d. equal d))
+      let same = ranked (get_or rows i r).0 peer Equal (sym (equal r)) in (
+        omega (arith, less, same),
+        found_from rows i sorted.1 (omega (arith, within)) (λ d. equal d),
+      )
 
   gap_from : (rows : List (ℕ × Row)) (i : ℕ) → i ≤ length rows
       → IsPartitionPoint (λ r. nat_cmp r.0 peer ≡ Less) (λ r. nat_cmp r.0 peer ≡ Greater) rows i
