@@ -414,6 +414,7 @@ def unknown(report, options):
                           (b"HAProxyS 2.1\nother\nlbx 1 1\n", b"503\n"), (HELLO, ACCEPTED)):
         report.check(f"beside them hello {hello[:24]!r} is answered {wanted!r}", 1,
                      lambda: answered(collector.peers, hello, wanted))
+    time.sleep(1)  # the log is written by a thread of its own
     collector.stop()
     with os.fdopen(told) as lines:
         text = lines.read()
