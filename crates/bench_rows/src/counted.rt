@@ -3,7 +3,7 @@ ghost use Rattle.std.specs.Prelude.{◌≡◌};
 use crate::measure::{print_memory, print_time, resident, time_used};
 use agg_types::{Key, NoMemory};
 use anyhow::Result;
-use peer_rows::{Held, Row, RowCells, Rows};
+use peer_rows::{Held, Row, RowCells, RowEnd, Rows};
 use period_rate::Rate;
 use std::alloc::Global;
 
@@ -19,7 +19,7 @@ pub fn row(alloc: Global, id: u32, now: u64) -> Result<Row, NoMemory> {
     Ok(Row {
         cells: RowCells::copy(alloc, &held)?,
         arrived: now,
-        ends: Some(now.saturating_add(30_000)),
+        ends: RowEnd::from(now.min(1 << 40) + 30_000),
     })
 }
 

@@ -17,7 +17,8 @@ use Rattle.std.specs.declared.cmp.Ordering.TheVariants.{Less, Equal, Greater}
 use Rattle.place_index.specs.Places.{item_at, laid, revalued, value_at}
 use Rattle.place_plans.specs.Plans.{is_due, plan_at}
 use Rattle.peer_rows.specs.Ends.{end_of, any_ends, sooner, rows_at, IsFrom, EndFrom, IsLeast}
-use Rattle.peer_rows.specs.Ends.{IsInTime, IsPlanned, ArePlanned, AreElse, IsEndBy, HasEnded, is_behind}
+use Rattle.peer_rows.specs.Ends.{IsInTime, IsPlanned, ArePlanned, AreElse}
+use Rattle.peer_rows.specs.Ends.{IsEndBy, HasEnded, is_behind}
 use Rattle.peer_rows.specs.Places.{Places}
 use Rattle.peer_rows.specs.declared.ends.Ends.{Ends}
 use Rattle.peer_rows.specs.declared.row.Row.{Row}

@@ -1,6 +1,6 @@
 -- Where a peer stands among the rows of a key, and what is looked up, put in or taken out there.
 use Rattle.std.proofs.Common.{◌≡◌, ◌≢◌, ℕ, zero, suc, ◌<◌, ◌≤◌, List, [], ◌∷◌, ◌++◌, length}
-use Rattle.std.proofs.Common.{take, drop, cond, Ok, Err, OnOk, OnErr, refl, sym, ap, subst}
+use Rattle.std.proofs.Common.{take, drop, cond, Ok, Err, OnOk, OnErr, refl, sym, ap, subst, ◌∙◌}
 use Rattle.std.proofs.Common.{arith, get_or, set, Bool, true, false}
 use Rattle.std.specs.Prelude.{Option, Some, None, Result, MatchBool, MatchResult}
 use Rattle.std.specs.declared.cmp.Ordering.{Ordering}
@@ -13,6 +13,7 @@ use Rattle.std.specs.BTreeMap.{insert_entry, is_at}
 use Rattle.std.specs.List.Sorted.{IsBinarySearchResult, IsNonDecreasingBy, IsPartitionPoint}
 use Rattle.std.specs.List.Sorted.{IsSearchInRange, IsStrictlySortedBy}
 use Rattle.std.proofs.lemmas.Bool.Decides.{nat_tests}
+use Rattle.std.proofs.lemmas.Option.{slice_get-get_or}
 use Rattle.agg_types.specs.declared.no_memory.NoMemory.{NoMemory}
 use Rattle.peer_rows.specs.declared.row.Row.{Row}
 use Rattle.peer_rows.specs.Peers.{IsFound, IsGap, ArePeers}
@@ -171,6 +172,24 @@ module _ (peer : ℕ) where
         omega (arith, less, same),
         found_from rows i sorted.1 (omega (arith, within)) (λ d. equal d),
       )
+
+  -- a row that stands at the number of its peer
+  pub found_own : (rows : List (ℕ × Row)) (i : ℕ) (d : ℕ × Row)
+      → IsStrictlySortedBy nat_cmp (keys_of rows) → i < length rows
+      → (get_or rows i d).0 ≡ peer → IsFound peer rows i
+  found_own rows i d sorted within own =
+      found_from rows i sorted within (λ e.
+      sym (nat_cmp_is (get_or rows i e).0 peer Equal
+      (ap (λ r. r.0) (any_default rows i d e within) ∙ own)))
+    where
+      some_same : (x y : ℕ × Row) → Some x ≡ Some y → x ≡ y
+      some_same x y e = cc
+
+      any_default : (rs : List (ℕ × Row)) (n : ℕ) (x y : ℕ × Row) → n < length rs
+          → get_or rs n y ≡ get_or rs n x
+      any_default rs n x y inside =
+          some_same (get_or rs n y) (get_or rs n x)
+          (sym (slice_get-get_or rs n y inside) ∙ slice_get-get_or rs n x inside)
 
   gap_from : (rows : List (ℕ × Row)) (i : ℕ) → i ≤ length rows
       → IsPartitionPoint (λ r. nat_cmp r.0 peer ≡ Less) (λ r. nat_cmp r.0 peer ≡ Greater) rows i

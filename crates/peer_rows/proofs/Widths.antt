@@ -1,22 +1,25 @@
 -- Cells whose words stand one behind the other, as one is added and as they are read.
-use Rattle.std.proofs.Common.{◌≡◌, ℕ, zero, suc, ◌+◌, ◌<◌, ◌≤◌, Bool, true, false, List, [], ◌∷◌}
-use Rattle.std.proofs.Common.{◌++◌, length, refl, sym, ◌∙◌, ap, arith, get_or, set, take, add_assoc}
-use Rattle.std.proofs.Common.{add-zero, zero-add, add-one}
+use Rattle.std.proofs.Common.{◌≡◌, ◌≢◌, ℕ, zero, suc, ◌+◌, ◌-◌, ◌*◌}
+use Rattle.std.proofs.Common.{◌/◌, ◌%◌, ◌<◌, ◌≤◌, List, [], ◌∷◌}
+use Rattle.std.proofs.Common.{◌++◌, length, refl, sym, ◌∙◌, ap}
+use Rattle.std.proofs.Common.{arith, get_or, take, add-zero, add-one}
+use Rattle.std.proofs.Common.{length-append}
 use Rattle.std.specs.Prelude.{Some, None, map, slice_get}
-use Rattle.std.proofs.lemmas.List.{map-append, take_more_set}
-use Rattle.std.proofs.lemmas.Option.{slice_get-get_or, slice_get_past}
+use Rattle.std.proofs.lemmas.List.{map-append}
 use Rattle.peer_rows.specs.declared.row.Held.{Held}
-use Rattle.peer_rows.specs.Few.{width, total_width, cell_at, cells_from}
+use Rattle.peer_rows.specs.Few.{cell_at, cells_of, kind_of, total_width, width}
+use Rattle.peer_rows.specs.declared.few.Kind.{Kind}
+use Rattle.peer_rows.specs.declared.few.Kind.TheVariants.{Small, Large, Rated}
 use Rattle.peer_rows.specs.declared.packed.Packed.{Packed}
-use Rattle.peer_rows.specs.declared.packed.Packed.TheVariants.{Count, Rate}
-use Rattle.peer_rows.specs.Packed.{held_of, is_rate, words_of}
+use Rattle.peer_rows.specs.Packed.{held_of}
 
 -- a cell is what its own words say
-cell_at-same : (rate : Bool) (words more : List ℕ) (at : ℕ)
-    → ((k : ℕ) → k < at + width rate → get_or more k 0 ≡ get_or words k 0)
-    → cell_at rate more at ≡ cell_at rate words at
-cell_at-same false words more at same = rw (same at (omega arith), same (at + 1) (omega arith)) refl
-cell_at-same true words more at same = rw (
+cell_at-same : (kind : Kind) (words more : List ℕ) (at : ℕ)
+    → ((k : ℕ) → k < at + width kind → get_or more k 0 ≡ get_or words k 0)
+    → cell_at kind more at ≡ cell_at kind words at
+cell_at-same Small words more at same = rw (same at (omega arith)) refl
+cell_at-same Large words more at same = rw (same at (omega arith), same (at + 1) (omega arith)) refl
+cell_at-same Rated words more at same = rw (
   same at (omega arith),
   same (at + 1) (omega arith),
   same (at + 2) (omega arith),
@@ -24,40 +27,17 @@ cell_at-same true words more at same = rw (
   same (at + 4) (omega arith),
 ) refl
 
-cells_from-same : (at : ℕ) (rates : List Bool) (words more : List ℕ)
-    → ((k : ℕ) → k < at + total_width rates → get_or more k 0 ≡ get_or words k 0)
-    → cells_from at rates more ≡ cells_from at rates words
-cells_from-same at [] words more same = refl
-cells_from-same at (rate ∷ rates) words more same =
-    rw (
-      cell_at-same rate words more at (λ k below. same k (omega (arith, below))),
-      cells_from-same (at + width rate) rates words more
-          (λ k below. same k (omega (arith, below))),
-    ) refl
-
-cells_from-one_more : (at : ℕ) (rates : List Bool) (rate : Bool) (words : List ℕ)
-    → cells_from at (rates ++ rate ∷ []) words ≡ cells_from at rates words ++ cell_at rate words
-    (at + total_width rates) ∷ []
-cells_from-one_more at [] rate words = rw add-zero refl
-cells_from-one_more at (r ∷ rates) rate words =
-    rw (
-      cells_from-one_more (at + width r) rates rate words,
-      add_assoc at (width r) (total_width rates),
-    ) refl
-
-pub total_width-one_more : (rates : List Bool) (rate : Bool) → total_width (rates ++ rate ∷ [])
-    ≡ total_width rates + width rate
-total_width-one_more [] rate = omega arith
-total_width-one_more (r ∷ rates) rate = omega (arith, total_width-one_more rates rate)
-
--- the words of a cell say it
-cell_at-packed : (cell : Packed) (words : List ℕ) (at : ℕ)
-    → ((k : ℕ) → k < width (is_rate cell) → get_or words (at + k) 0 ≡ get_or (words_of cell) k 0)
-    → cell_at (is_rate cell) words at ≡ held_of cell
-cell_at-packed (Count own) words at same = let first : get_or words at 0 ≡ get_or own 0 0 =
+-- the words of a cell say it wherever they stand
+cell_at-moved : (kind : Kind) (words own : List ℕ) (at : ℕ)
+    → ((k : ℕ) → k < width kind → get_or words (at + k) 0 ≡ get_or own k 0)
+    → cell_at kind words at ≡ cell_at kind own 0
+cell_at-moved Small words own at same = let first : get_or words at 0 ≡ get_or own 0 0 =
+    ap (λ n. get_or words n 0) (sym (add-zero at)) ∙ same 0 (omega arith) in
+    rw first refl
+cell_at-moved Large words own at same = let first : get_or words at 0 ≡ get_or own 0 0 =
     ap (λ n. get_or words n 0) (sym (add-zero at)) ∙ same 0 (omega arith) in
     rw (first, same 1 (omega arith)) refl
-cell_at-packed (Rate own) words at same = let first : get_or words at 0 ≡ get_or own 0 0 =
+cell_at-moved Rated words own at same = let first : get_or words at 0 ≡ get_or own 0 0 =
     ap (λ n. get_or words n 0) (sym (add-zero at)) ∙ same 0 (omega arith) in
     rw (
       first,
@@ -67,114 +47,73 @@ cell_at-packed (Rate own) words at same = let first : get_or words at 0 ≡ get_
       same 4 (omega arith),
     ) refl
 
--- a cell behind the others
-pub cells_from-pushed : (rates : List Bool) (cell : Packed) (words more : List ℕ)
-    → ((k : ℕ) → k < total_width rates → get_or more k 0 ≡ get_or words k 0)
-    → ((k : ℕ) → k < width (is_rate cell) → get_or more (total_width rates + k) 0
-    ≡ get_or (words_of cell) k 0) → cells_from 0 (rates ++ is_rate cell ∷ []) more
-    ≡ cells_from 0 rates words ++ held_of cell ∷ []
-cells_from-pushed rates cell words more before here =
-    cells_from-one_more 0 rates (is_rate cell) more
-    ∙ rw (
-      zero-add,
-      cells_from-same 0 rates words more
-          (λ k below. before k (omega (arith, below))),
-      cell_at-packed cell more (total_width rates) here,
-    ) refl
-
--- the cell of a column
-pub cells_from-get : (at : ℕ) (rates : List Bool) (words : List ℕ) (col : ℕ) (rate : Bool)
-    → slice_get rates col ≡ Some rate → slice_get (cells_from at rates words) col
-    ≡ Some (cell_at rate words (at + total_width (take col rates)))
-cells_from-get at [] words col rate found = cc
-cells_from-get at (r ∷ rates) words zero rate found = let same : r ≡ rate = cc in
-    rw (same, add-zero) refl
-cells_from-get at (r ∷ rates) words (suc col) rate found =
+cells_of-same : (len kinds : ℕ) (words more : List ℕ)
+    → ((k : ℕ) → k < total_width len kinds → get_or more k 0 ≡ get_or words k 0)
+    → cells_of len kinds more ≡ cells_of len kinds words
+cells_of-same zero kinds words more same = refl
+cells_of-same (suc len) kinds words more same =
     rw (
-      cells_from-get (at + width r) rates words col rate found,
-      add_assoc at (width r) (total_width (take col rates)),
+      cells_of-same len (kinds / 4) words more (λ k below. same k (omega (arith, below))),
+      cell_at-same (kind_of (kinds % 4)) words more (total_width len (kinds / 4))
+          (λ k below. same k below),
     ) refl
 
-pub length-cells_from : (at : ℕ) (rates : List Bool) (words : List ℕ)
-    → length (cells_from at rates words) ≡ length rates
-length-cells_from at [] words = refl
-length-cells_from at (rate ∷ rates) words = ap suc (length-cells_from (at + width rate) rates words)
+pub length-cells_of : (len kinds : ℕ) (words : List ℕ) → length (cells_of len kinds words) ≡ len
+length-cells_of zero kinds words = refl
+length-cells_of (suc len) kinds words =
+    length-append (cells_of len (kinds / 4) words) _
+    ∙ (rw (length-cells_of len (kinds / 4) words) (omega arith))
 
--- a cell and those before it take no more words than all
-pub total_width-with : (rates : List Bool) (col : ℕ) (rate : Bool) → slice_get rates col ≡ Some rate
-    → total_width (take col rates) + width rate ≤ total_width rates
-total_width-with [] col rate found = cc
-total_width-with (r ∷ rates) zero rate found = let same : r ≡ rate = cc in rw same (omega arith)
-total_width-with (r ∷ rates) (suc col) rate found =
-    omega (arith, total_width-with rates col rate found)
+-- ---- the cell of a column
+get-last : (cells : List Held) (cell : Held) → slice_get (cells ++ cell ∷ []) (length cells)
+    ≡ Some cell
+get-last [] cell = refl
+get-last (c ∷ cells) cell = get-last cells cell
 
-pub total_width-within : (rates : List Bool) (col : ℕ) → col < length rates
-    → total_width (take col rates) + width (get_or rates col false) ≤ total_width rates
-total_width-within rates col in_range = total_width-with rates col (get_or rates col false)
-    (slice_get-get_or rates col false in_range)
+get-others : (cells : List Held) (cell : Held) (col : ℕ) → col ≢ length cells
+    → slice_get (cells ++ cell ∷ []) col ≡ slice_get cells col
+get-others [] cell zero apart = absurd (apart refl)
+get-others [] cell (suc col) apart = refl
+get-others (c ∷ cells) cell zero apart = refl
+get-others (c ∷ cells) cell (suc col) apart =
+    get-others cells cell col (λ same. apart (ap suc same))
 
-total_width-suc : (rates : List Bool) (i : ℕ) → i < length rates → total_width (take (suc i) rates)
-    ≡ total_width (take i rates) + width (get_or rates i false)
-total_width-suc [] i in_range = absurd (omega arith)
-total_width-suc (r ∷ rates) zero in_range = omega arith
-total_width-suc (r ∷ rates) (suc i) in_range = omega (arith, total_width-suc rates i (omega arith))
+pub few-last : (len kinds : ℕ) (words : List ℕ) (col : ℕ) (held : Held) → 0 < len → col ≡ len - 1
+    → held ≡ cell_at (kind_of (kinds % 4)) words (total_width (len - 1) (kinds / 4))
+    → Some held ≡ slice_get (cells_of len kinds words) col
+few-last zero kinds words col held some last is = absurd (omega (arith, some))
+few-last (suc len) kinds words col held some last is =
+    let same : suc len - 1 ≡ len = omega arith in
+    let at : col ≡ length (cells_of len (kinds / 4) words) =
+    last ∙ same ∙ sym (length-cells_of len (kinds / 4) words) in
+    let own = rw same at is in
+    sym (rw (at, own) (get-last (cells_of len (kinds / 4) words) _))
 
--- one cell more of those that are counted
-pub total_width-more : (rates : List Bool) (i : ℕ) → i < length rates
-    → total_width (take (i + 1) rates) ≡ total_width (take i rates) + width (get_or rates i false)
-total_width-more rates i in_range = rw add-one (total_width-suc rates i in_range)
+pub few-others : (len kinds : ℕ) (words : List ℕ) (col : ℕ) → 0 < len → col ≢ len - 1
+    → slice_get (cells_of (len - 1) (kinds / 4) words) col
+    ≡ slice_get (cells_of len kinds words) col
+few-others zero kinds words col some apart = absurd (omega (arith, some))
+few-others (suc len) kinds words col some apart =
+    let same : suc len - 1 ≡ len = omega arith in
+    rw same (sym (get-others (cells_of len (kinds / 4) words) _ col
+    (λ at. apart (at ∙ length-cells_of len (kinds / 4) words ∙ sym same))))
 
--- ---- what few cells answer
-length-take_within : (n : ℕ) (rates : List Bool) → n ≤ length rates → length (take n rates) ≡ n
-length-take_within zero rates within = refl
-length-take_within (suc n) [] within = absurd (omega arith)
-length-take_within (suc n) (r ∷ rates) within = ap suc (length-take_within n rates (omega arith))
-
-pub few-len : (len : ℕ) (rates : List Bool) (words : List ℕ) → len ≤ length rates
-    → len ≡ length (cells_from 0 (take len rates) words)
-few-len len rates words within = sym (length-cells_from 0 (take len rates) words
-    ∙ length-take_within len rates within)
-
-pub few-past : (rates : List Bool) (words : List ℕ) (col : ℕ) → length rates ≤ col
-    → None ≡ slice_get (cells_from 0 rates words) col
-few-past rates words col past =
-    sym (slice_get_past (cells_from 0 rates words) col
-    (omega (arith, length-cells_from 0 rates words)))
-
-pub few-get : (rates : List Bool) (words : List ℕ) (col at : ℕ) (held : Held) → col < length rates
-    → at ≡ total_width (take col rates) → held ≡ cell_at (get_or rates col false) words at
-    → Some held ≡ slice_get (cells_from 0 rates words) col
-few-get rates words col at held in_range start is =
-    ap Some (is ∙ ap (λ n. cell_at (get_or rates col false) words n) (start
-    ∙ sym (zero-add (total_width (take col rates)))))
-    ∙ sym (cells_from-get 0 rates words col (get_or rates col false)
-    (slice_get-get_or rates col false in_range))
-
-pub few-pushed : (len used : ℕ) (rates : List Bool) (words more own : List ℕ) (cell : Packed)
-    (rate : Bool) → len < length rates → total_width (take len rates) ≡ used → rate ≡ is_rate cell
-    → own ≡ words_of cell → length own ≡ width (is_rate cell)
+-- ---- one cell more
+pub few-pushed : (len kinds later digit used : ℕ) (words more own : List ℕ) (kind : Kind)
+    → later ≡ kinds * 4 + digit → digit < 4 → kind_of digit ≡ kind → used ≡ total_width len kinds
+    → length own ≡ width kind
     → ((k : ℕ) → k < length own → get_or more (used + k) 0 ≡ get_or own k 0)
     → ((k : ℕ) → k < used → get_or more k 0 ≡ get_or words k 0)
-    → cells_from 0 (take (len + 1) (set rates len rate)) more ≡ cells_from 0 (take len rates) words
-    ++ held_of cell ∷ []
-few-pushed len used rates words more own cell rate in_range fit is are long here before =
-    let same : (k : ℕ) → k < total_width (take len rates) → get_or more k 0 ≡ get_or words k 0 =
-    λ k below. before k (rw fit at below) in
-    let added : (k : ℕ) → k < width (is_rate cell) → get_or more (total_width (take len rates) + k)
-    0 ≡ get_or (words_of cell) k 0 = λ k below. ap (λ n. get_or more (n + k) 0) fit
-    ∙ here k (rw (← long) at below) ∙ ap (λ (ws : List ℕ). get_or ws k 0) are in
-    rw (take_more_set rates len rate in_range, is) (cells_from-pushed (take len rates) cell words
-    more same added)
-
-pub few-fit : (len used : ℕ) (rates : List Bool) (rate : Bool) (n : ℕ) → len < length rates
-    → total_width (take len rates) ≡ used → n ≡ width rate
-    → total_width (take (len + 1) (set rates len rate)) ≡ used + n
-few-fit len used rates rate n in_range fit wide = rw (
-  take_more_set rates len rate in_range,
-  total_width-one_more (take len rates) rate,
-  fit,
-  wide,
-) refl
+    → cells_of (len + 1) later more ≡ cells_of len kinds words ++ cell_at kind own 0 ∷ []
+few-pushed len kinds later digit used words more own kind is small are start long here before =
+    let others : later / 4 ≡ kinds = omega (arith, is, small) in
+    let last : later % 4 ≡ digit = omega (arith, is, small) in
+    let same : cells_of len kinds more ≡ cells_of len kinds words =
+    cells_of-same len kinds words more (λ k below. before k (rw start below)) in
+    let cell : cell_at kind more (total_width len kinds) ≡ cell_at kind own 0 =
+    cell_at-moved kind more own (total_width len kinds)
+    (λ k below. rw (← start) (here k (rw long below))) in
+    rw (add-one, others, last, are, same, cell) refl
 
 -- ---- cells that are packed one by one
 take-found : (cells : List Held) (col : ℕ) (held : Held) → slice_get cells col ≡ Some held

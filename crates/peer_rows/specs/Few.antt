@@ -1,38 +1,43 @@
-use Rattle.std.specs.Prelude.{◌≡◌, ℕ, ◌+◌, ◌*◌, ◌^◌, ◌≤◌, Bool, true, false, List, [], ◌∷◌}
-use Rattle.std.specs.Prelude.{slice_index as word, take}
+use Rattle.std.specs.Prelude.{ℕ, zero, suc, ◌+◌, ◌*◌, ◌/◌, ◌%◌, ◌^◌, List, [], ◌∷◌, ◌++◌}
+use Rattle.std.specs.Prelude.{slice_index as word}
 use Rattle.period_rate.specs.Words.{rate_of}
+use Rattle.peer_rows.specs.declared.few.Kind.{Kind}
+use Rattle.peer_rows.specs.declared.few.Kind.TheVariants.{Small, Large, Rated}
 use Rattle.peer_rows.specs.declared.row.Held.{Held}
 use Rattle.peer_rows.specs.declared.row.Held.TheVariants.{Count, Rate}
 
--- how many words a cell takes: a rate five, a count two
-abbrev pub width : Bool → ℕ
-width true = 5
-width false = 2
+-- the kind of a cell by its digit
+abbrev pub kind_of : ℕ → Kind
+kind_of zero = Small
+kind_of (suc zero) = Large
+kind_of (suc (suc n)) = Rated
 
--- how many words cells take
-abbrev pub total_width : List Bool → ℕ
-total_width [] = 0
-total_width (rate ∷ rates) = width rate + total_width rates
+-- how many words a cell takes
+abbrev pub width : Kind → ℕ
+width Small = 1
+width Large = 2
+width Rated = 5
+
+-- how many words so many cells take. Their kinds are the digits of a number to the base of four,
+-- the last cell's the least digit.
+abbrev pub total_width : ℕ → ℕ → ℕ
+total_width zero kinds = 0
+total_width (suc len) kinds = total_width len (kinds / 4) + width (kind_of (kinds % 4))
 
 -- the five words from a place on
 abbrev pub five_from : List ℕ → ℕ → List ℕ
 five_from ws at =
     word ws at ∷ word ws (at + 1) ∷ word ws (at + 2) ∷ word ws (at + 3) ∷ word ws (at + 4) ∷ []
 
--- the cell, a rate or a count, whose words begin at a place
-abbrev pub cell_at : Bool → List ℕ → ℕ → Held
-cell_at false ws at = Count (word ws at + 2 ^ 32 * word ws (at + 1))
-cell_at true ws at = Rate (rate_of (five_from ws at))
+-- the cell of a kind whose words begin at a place
+abbrev pub cell_at : Kind → List ℕ → ℕ → Held
+cell_at Small ws at = Count (word ws at)
+cell_at Large ws at = Count (word ws at + 2 ^ 32 * word ws (at + 1))
+cell_at Rated ws at = Rate (rate_of (five_from ws at))
 
--- cells whose words stand one behind the other, from a place on; of each is said whether it is a
--- rate
-abbrev pub cells_from : ℕ → List Bool → List ℕ → List Held
-cells_from at [] words = []
-cells_from at (rate ∷ rates) words =
-    cell_at rate words at ∷ cells_from (at + width rate) rates words
-
--- so many cells use so many words of ten
-pub record IsFew (len used : ℕ) (rates : List Bool) : Type 0 where
-  pub cells : len ≤ 5
-  pub words : used ≤ 10
-  pub fit : total_width (take len rates) ≡ used
+-- so many cells, whose words stand one behind the other
+abbrev pub cells_of : ℕ → ℕ → List ℕ → List Held
+cells_of zero kinds words = []
+cells_of (suc len) kinds words =
+    cells_of len (kinds / 4) words
+    ++ cell_at (kind_of (kinds % 4)) words (total_width len (kinds / 4)) ∷ []

@@ -10,4 +10,5 @@ pub mod Rows
 pub mod Places
 pub mod Walk
 pub mod Ends
+pub mod RowEnd
 pub mod Changed

@@ -1,4 +1,4 @@
-use Rattle.std.specs.Prelude.{ℕ, List, [], Option, Some, None}
+use Rattle.std.specs.Prelude.{ℕ, List, [], ◌∷◌, Option, Some, None}
 use Rattle.std.specs.Borrow.{Bor}
 use Rattle.peer_rows.specs.declared.row.Row.{Row}
 use Rattle.peer_rows.specs.Spread.{part}
@@ -20,3 +20,8 @@ key_and_rows p = (p.0.now, p.1)
 abbrev pub left_at : Option (Bor (List ℕ) × List (ℕ × Row)) → List (Spot × Row)
 left_at None = []
 left_at (Some p) = part spot p.0.now p.1
+
+-- the one row, if there is one
+abbrev pub one_of : Option (ℕ × Bor Row) → List (ℕ × Row)
+one_of None = []
+one_of (Some p) = peer_and_row p ∷ []

@@ -1,4 +1,4 @@
-use Rattle.std.specs.Prelude.{◌+◌, ◌*◌, ◌^◌, ℕ, Bool, true, false, List, slice_index}
+use Rattle.std.specs.Prelude.{◌+◌, ◌*◌, ◌^◌, slice_index}
 use Rattle.period_rate.specs.Words.{rate_of}
 use Rattle.peer_rows.specs.declared.row.Held.{Held}
 use Rattle.peer_rows.specs.declared.row.Held.TheVariants as held
@@ -10,13 +10,3 @@ use Rattle.peer_rows.specs.declared.packed.Packed.TheVariants.{Count, Rate}
 abbrev pub held_of : Packed → Held
 held_of (Count words) = held.Count (slice_index words 0 + 2 ^ 32 * slice_index words 1)
 held_of (Rate words) = held.Rate (rate_of words)
-
--- whether packed words are a rate's
-abbrev pub is_rate : Packed → Bool
-is_rate (Count words) = false
-is_rate (Rate words) = true
-
--- the packed words
-abbrev pub words_of : Packed → List ℕ
-words_of (Count words) = words
-words_of (Rate words) = words

@@ -8,12 +8,12 @@ use Rattle.peer_rows.specs.declared.key_rows.Peers.TheVariants.{One, Many}
 
 -- the rows, each with the peer that holds it
 abbrev pub held_by : Peers → List (ℕ × Row)
-held_by (One held) = held ∷ []
+held_by (One peer row) = (peer, row) ∷ []
 held_by (Many rows) = rows.items
 
 -- a single row that lies in the value itself
 abbrev pub IsOne : Peers → Type 0
-IsOne (One held) = Unit {0}
+IsOne (One peer row) = Unit {0}
 IsOne (Many rows) = ⊥
 
 -- the rows of a key: at least one, by peer, each peer once

@@ -1,143 +1,178 @@
-ghost use Rattle.std.specs.Prelude.{◌≡◌, ◌+◌, ◌≤◌, ◌<◌, ℕ, [], ◌∷◌, ◌++◌, length, slice_get};
-ghost use Rattle.std.specs.Prelude.{slice_index, if◌then◌else◌};
-ghost use Rattle.peer_rows.specs.Few.{width, total_width, cell_at};
-ghost use Rattle.peer_rows.specs.Packed.{held_of, is_rate, words_of};
+//! Cells in words of 32 bits that lie in the row itself, one cell behind the other.
+ghost use Rattle.std.specs.Prelude.{◌≡◌, ◌+◌, ◌*◌, ◌<◌, ◌≤◌, ◌%◌, ℕ, [], ◌∷◌, ◌++◌, length};
+ghost use Rattle.std.specs.Prelude.{slice_get, slice_index, if◌then◌else◌};
+ghost use Rattle.peer_rows.specs.Few.{cell_at, cells_of, kind_of, total_width, width};
 
 use crate::Held;
 use crate::packed::{Packed, halves};
-use std::marker::Model;
 
-// How many cells there are at most.
-const CELLS: usize = 5;
+/// How many words there are: as many as two rates take, or a rate and five small counts.
+pub(crate) const WORDS: usize = 10;
 
-// How many words there are.
-const WORDS: usize = 10;
+/// The words of a few cells.
+pub(crate) type Words = [u32; WORDS];
 
-/// Up to five cells in up to ten words of 32 bits, a count in two and a rate in five, one behind
-/// the other. Contracts see the list of the cells.
-#[derive(Debug, Drop)]
-pub(crate) struct Few {
-    len: u8,
-    used: u8,
-    rates: [bool; CELLS],
-    words: [u32; WORDS],
+// What a cell is, and so how many words it takes: a count below 2^32 one, another two, a rate five.
+#[derive(Clone, Copy)]
+enum Kind {
+    Small,
+    Large,
+    Rated,
 }
 
-impl Model for Few {
-    ghost use Rattle.std.specs.Prelude.{List, take};
-    ghost use Rattle.peer_rows.specs.declared.row.Held.{Held};
-    ghost use Rattle.peer_rows.specs.Few.{cells_from, IsFew};
-
-    ghost Value = { List Held };
-
-    ghost view = { λ few. cells_from 0 (take few.len few.rates) few.words };
-
-    ghost invariant = { λ few. IsFew few.len few.used few.rates };
-}
-
-impl Few {
-    /// No cells.
-    pub(crate) fn new() -> Few
-        ensures { result ≡ [] }
+impl Kind {
+    // The kind of the last cell, of those whose kinds are the digits of a number.
+    fn last(kinds: u16) -> Kind
+        ensures { result ≡ kind_of (kinds % 4) }
     {
-        Few {
-            len: 0,
-            used: 0,
-            rates: [false; CELLS],
-            words: [0; WORDS],
+        match kinds % 4 {
+            0 => Kind::Small,
+            1 => Kind::Large,
+            _ => Kind::Rated,
         }
     }
 
-    /// How many cells there are.
-    pub(crate) fn len(&self) -> usize
-        ensures { result ≡ length self.now }
+    // Its digit.
+    fn digit(self) -> u16
+        ensures digit { result < 4 }
+        ensures kind { kind_of result ≡ self }
     {
-        self.len as usize
-    }
-
-    /// The cell of a column, if there is one.
-    pub(crate) fn get(&self, col: usize) -> Option<Held>
-        ensures { result ≡ slice_get self.now col }
-    {
-        let rates = &self.rates[..self.len as usize];
-        if col >= rates.len() {
-            return None;
-        }
-        let at = total(&rates[..col]);
-        Some(cell(&self.words, at, rates[col]))
-    }
-
-    /// Adds a cell, if there is room for it.
-    #[inline]
-    pub(crate) fn push(&mut self, held: &Held) -> bool
-        ensures { self.new ≡ (if result then self.old ++ held.now ∷ [] else self.old) }
-    {
-        match held {
-            Held::Count(count) => self.push_words(&halves(*count), false),
-            Held::Rate(rate) => self.push_words(&rate.to_words(), true),
+        match self {
+            Kind::Small => 0,
+            Kind::Large => 1,
+            Kind::Rated => 2,
         }
     }
 
-    // Adds the words of a count or of a rate.
-    #[inline]
-    fn push_words(&mut self, words: &[u32], rate: bool) -> bool
-        requires { length words.now ≡ width rate }
-        ensures { (cell : Packed) → is_rate cell ≡ rate → words_of cell ≡ words.now
-            → self.new ≡ (if result then self.old ++ held_of cell ∷ [] else self.old) }
+    // How many words it takes.
+    fn width(self) -> usize
+        ensures value { result ≡ width self }
+        ensures small { result ≤ 5 }
     {
-        let len = self.len as usize;
-        let used = self.used as usize;
-        if len >= CELLS || WORDS - used < words.len() {
-            return false;
+        match self {
+            Kind::Small => 1,
+            Kind::Large => 2,
+            Kind::Rated => 5,
         }
-        write(&mut self.words, used, words);
-        self.rates[len] = rate;
-        self.len += 1;
-        self.used += words.len() as u8;
-        true
     }
 }
 
-// How many words cells take, of which is said whether they are rates.
-fn total(rates: &[bool]) -> usize
-    requires { length rates.now ≤ 5 }
-    ensures { result ≡ total_width rates.now }
+/// How many cells there are.
+pub(crate) fn count(len: u8, kinds: u16, words: &Words) -> usize
+    ensures { result ≡ length (cells_of len kinds words.now) }
 {
-    let mut total = 0;
-    for rate in rates {
-        total += if *rate { 5 } else { 2 };
-    }
-    total
+    len as usize
 }
 
-// The cell whose words begin at a place.
-fn cell(words: &[u32; WORDS], at: usize, rate: bool) -> Held
-    requires { at + width rate ≤ 10 }
-    ensures { result ≡ cell_at rate words.now at }
+/// The cell of a column, if there is one.
+pub(crate) fn get(len: u8, kinds: u16, words: &Words, col: usize) -> Option<Held>
+    ensures { result ≡ slice_get (cells_of len kinds words.now) col }
 {
-    let cell = if rate {
-        Packed::Rate([
-            words[at],
-            words[at + 1],
-            words[at + 2],
-            words[at + 3],
-            words[at + 4],
-        ])
+    if len == 0 {
+        return None;
+    }
+    let before = len - 1;
+    if col == before as usize {
+        let at = total(before, kinds / 4);
+        return Some(cell(Kind::last(kinds), words, at));
+    }
+    get(before, kinds / 4, words, col)
+}
+
+/// Adds a cell, if there is room for it.
+pub(crate) fn push(len: &mut u8, kinds: &mut u16, words: &mut Words, held: &Held) -> bool
+    ensures { cells_of len.new kinds.new words.new ≡ (if result
+        then cells_of len.old kinds.old words.old ++ held.now ∷ []
+        else cells_of len.old kinds.old words.old) }
+{
+    match held {
+        Held::Count(count) => push_count(len, kinds, words, *count),
+        Held::Rate(rate) => push_words(len, kinds, words, Kind::Rated, &rate.to_words()),
+    }
+}
+
+// Adds a count, in one word if it fits there.
+fn push_count(len: &mut u8, kinds: &mut u16, words: &mut Words, count: u64) -> bool
+    ensures { cells_of len.new kinds.new words.new ≡ (if result
+        then cells_of len.old kinds.old words.old ++ Held.Count count ∷ []
+        else cells_of len.old kinds.old words.old) }
+{
+    let [low, high] = halves(count);
+    if high == 0 {
+        push_words(len, kinds, words, Kind::Small, &[low])
     } else {
-        Packed::Count([words[at], words[at + 1]])
-    };
-    cell.held()
+        push_words(len, kinds, words, Kind::Large, &[low, high])
+    }
 }
 
-// Writes a cell's words from a place on: one by one where there are as many as a count or a rate
-// has, since a copy of a few words is dearer.
-fn write(words: &mut [u32; WORDS], at: usize, cell: &[u32])
+// Adds a cell of these words.
+fn push_words(len: &mut u8, kinds: &mut u16, words: &mut Words, kind: Kind, own: &[u32]) -> bool
+    requires { length own.now ≡ width kind }
+    ensures { cells_of len.new kinds.new words.new ≡ (if result
+        then cells_of len.old kinds.old words.old ++ cell_at kind own.now 0 ∷ []
+        else cells_of len.old kinds.old words.old) }
+{
+    let used = total(*len, *kinds);
+    if *len as usize >= WORDS || WORDS.saturating_sub(used) < own.len() {
+        return false;
+    }
+    let Some(before) = kinds.checked_mul(4) else {
+        return false;
+    };
+    write(words, used, own);
+    *kinds = before + kind.digit();
+    *len += 1;
+    true
+}
+
+// How many words cells take, whose kinds are the digits of a number.
+fn total(len: u8, kinds: u16) -> usize
+    ensures value { result ≡ total_width len kinds }
+    ensures small { result ≤ 5 * len }
+{
+    if len == 0 {
+        return 0;
+    }
+    total(len - 1, kinds / 4) + Kind::last(kinds).width()
+}
+
+// The cell of a kind whose words begin at a place.
+fn cell(kind: Kind, words: &Words, at: usize) -> Held
+    requires { at < 4294967296 }
+    ensures { result ≡ cell_at kind words.now at }
+{
+    let first = word(words, at);
+    match kind {
+        Kind::Small => Held::Count(u64::from(first)),
+        Kind::Large => Packed::Count([first, word(words, at + 1)]).held(),
+        Kind::Rated => Packed::Rate([
+            first,
+            word(words, at + 1),
+            word(words, at + 2),
+            word(words, at + 3),
+            word(words, at + 4),
+        ])
+        .held(),
+    }
+}
+
+// The word at a place, and 0 behind the last.
+fn word(words: &Words, at: usize) -> u32
+    ensures { result ≡ slice_index words.now at }
+{
+    if at < WORDS { words[at] } else { 0 }
+}
+
+// Writes a cell's words from a place on: one by one where there are as many as a cell has, since a
+// copy of a few words is dearer.
+fn write(words: &mut Words, at: usize, cell: &[u32])
     requires { at + length cell.now ≤ 10 }
     ensures here { (k : ℕ) → k < length cell.now
         → slice_index words.new (at + k) ≡ slice_index cell.now k }
     ensures before { (k : ℕ) → k < at → slice_index words.new k ≡ slice_index words.old k }
 {
     match cell {
+        [only] => words[at] = *only,
         [low, high] => {
             words[at] = *low;
             words[at + 1] = *high;

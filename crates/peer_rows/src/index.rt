@@ -29,6 +29,8 @@ pub(crate) type KeyPlaces = PlaceIndex<Key, KeyRows>;
 pub(crate) struct Index {
     pub(crate) keys: PlaceIndex<Key, KeyRows>,
     pub(crate) ends: Ends,
+    // How many peers there are, and so rows in a place at most.
+    peers: usize,
 }
 
 impl Model for Index {
@@ -45,13 +47,14 @@ impl Model for Index {
 }
 
 impl Index {
-    /// No places.
-    pub(crate) fn new(alloc: Global) -> Index
+    /// No places, for the rows of so many peers.
+    pub(crate) fn new(alloc: Global, peers: usize) -> Index
         ensures places { result.places ≡ [] }
     {
         Index {
             keys: PlaceIndex::new(alloc),
             ends: Ends::new(alloc),
+            peers,
         }
     }
 
@@ -144,8 +147,9 @@ impl Index {
         ensures { IsPut peer row result at self.old.places self.new.places }
     {
         let now = row.arrived;
+        let most = self.peers;
         let rows = self.keys.value_mut(at);
-        let old = rows.put(peer, row);
+        let old = rows.put(peer, row, most);
         settle(&self.keys, &mut self.ends, at, now);
         old
     }

@@ -13,10 +13,12 @@ use crate::{OfKey, Row};
 use agg_types::NoMemory;
 use std::alloc::Global;
 use std::marker::Model;
-use std::{mem, slice};
+use std::mem;
 
 /// A row with the peer that holds it.
 pub(crate) type PeerRow = (usize, Row);
+
+const _: () = prove!(size_of::<KeyRows>() == 72);
 
 /// The rows of one key: at least one, each with the peer that holds it, by peer.
 ///
@@ -29,7 +31,8 @@ pub(crate) struct KeyRows {
 
 #[derive(Drop)]
 enum Peers {
-    One(PeerRow),
+    // In this order the peer lies beside the tag.
+    One(u32, Row),
     Many(Vec<PeerRow>),
 }
 
@@ -49,23 +52,12 @@ impl Model for KeyRows {
 
 impl KeyRows {
     /// The one row of a key.
-    pub(crate) fn new(alloc: Global, peer: usize, row: Row) -> KeyRows
+    pub(crate) fn new(alloc: Global, peer: u32, row: Row) -> KeyRows
         ensures { result ≡ (peer, row) ∷ [] }
     {
         KeyRows {
-            peers: Peers::One((peer, row)),
+            peers: Peers::One(peer, row),
             alloc,
-        }
-    }
-
-    /// The rows, by peer.
-    fn as_slice(&self) -> &[PeerRow]
-        ensures rows { result.now ≡ self.now }
-        ensures are { ArePeers self.now }
-    {
-        match &self.peers {
-            Peers::One(held) => slice::from_ref(held),
-            Peers::Many(rows) => rows.as_slice(),
         }
     }
 
@@ -73,15 +65,26 @@ impl KeyRows {
     pub(crate) fn get(&self, peer: usize) -> Option<&Row>
         ensures { option_copied result ≡ lookup (is_at (nat_cmp peer)) self.now }
     {
-        let rows = self.as_slice();
-        match find(rows, peer) {
-            Ok(at) => Some(&rows[at].1),
-            Err(_) => None,
+        match &self.peers {
+            Peers::One(own, row) => {
+                if *own as usize == peer {
+                    Some(row)
+                } else {
+                    None
+                }
+            }
+            Peers::Many(rows) => row_among(rows, peer),
         }
     }
 
-    /// Puts a peer's row in the place of an older one, which comes back.
-    pub(crate) fn put(&mut self, peer: usize, row: Row) -> Result<Option<Row>, NoMemory>
+    /// Puts a peer's row in the place of an older one, which comes back. There are at most so many
+    /// rows, and any number is right.
+    pub(crate) fn put(
+        &mut self,
+        peer: usize,
+        row: Row,
+        most: usize,
+    ) -> Result<Option<Row>, NoMemory>
         ensures ok { OnOk result (self.new ≡ insert_entry nat_cmp self.old peer row) }
         ensures old { IfOk result (λ old. old ≡ lookup (is_at (nat_cmp peer)) self.old) }
         ensures held { IsSome (lookup (is_at (nat_cmp peer)) self.old) → IsOk result }
@@ -89,12 +92,12 @@ impl KeyRows {
         ensures are { ArePeers self.new }
     {
         match &mut self.peers {
-            Peers::One(held) if held.0 == peer => Ok(Some(mem::replace(&mut held.1, row))),
-            Peers::One(_) => {
+            Peers::One(own, held) if *own as usize == peer => Ok(Some(mem::replace(held, row))),
+            Peers::One(_, _) => {
                 put_second(self.alloc, &mut self.peers, (peer, row))?;
                 Ok(None)
             }
-            Peers::Many(rows) => put_among(rows, peer, row),
+            Peers::Many(rows) => put_among(rows, peer, row, most),
         }
     }
 
@@ -108,7 +111,7 @@ impl KeyRows {
         ensures are { ArePeers self.new }
     {
         match &mut self.peers {
-            Peers::One(held) => exchange_one(held, peer, row),
+            Peers::One(own, held) => exchange_one(*own, held, peer, row),
             Peers::Many(rows) => exchange_among(rows, peer, row),
         }
     }
@@ -117,7 +120,10 @@ impl KeyRows {
     pub(crate) fn is_only(&self, peer: usize) -> bool
         ensures { IsTrue result ↔ (keys_of self.now ≡ peer ∷ []) }
     {
-        matches!(self.as_slice(), [only] if only.0 == peer)
+        match &self.peers {
+            Peers::One(own, _) => *own as usize == peer,
+            Peers::Many(rows) => is_only(rows, peer),
+        }
     }
 
     /// Takes a peer's row out, which isn't the only one.
@@ -139,7 +145,7 @@ impl KeyRows {
     {
         let KeyRows { peers, .. } = self;
         match peers {
-            Peers::One((_, row)) => Some(row),
+            Peers::One(_, row) => Some(row),
             Peers::Many(mut rows) => {
                 let (_, row) = rows.pop()?;
                 Some(row)
@@ -152,7 +158,10 @@ impl KeyRows {
         ensures least { IsLeast self.now result }
         ensures behind { (t : ℕ) → AreLive t self.now → is_behind t result ≡ true }
     {
-        least_end(self.as_slice())
+        match &self.peers {
+            Peers::One(_, row) => row.end(),
+            Peers::Many(rows) => least_end(rows),
+        }
     }
 
     /// A peer whose row has ended at a moment.
@@ -160,14 +169,26 @@ impl KeyRows {
         ensures some { IfSome result (HasEnded t self.now) }
         ensures none { IfNone result (AreLive t self.now) }
     {
-        first_ended(self.as_slice(), t)
+        match &self.peers {
+            Peers::One(own, row) => {
+                if row.is_live(t) {
+                    None
+                } else {
+                    Some(*own as usize)
+                }
+            }
+            Peers::Many(rows) => first_ended(rows, t),
+        }
     }
 
     /// How many rows there are.
     pub(crate) fn len(&self) -> usize
         ensures { result ≡ length self.now }
     {
-        self.as_slice().len()
+        match &self.peers {
+            Peers::One(_, _) => 1,
+            Peers::Many(rows) => rows.len(),
+        }
     }
 
     /// The rows with their peers, by peer.
@@ -175,7 +196,10 @@ impl KeyRows {
         ensures rows { result ≡ self.now }
         ensures some { self.now ≢ [] }
     {
-        OfKey::new(self.as_slice())
+        match &self.peers {
+            Peers::One(peer, row) => OfKey::one(*peer as usize, row),
+            Peers::Many(rows) => OfKey::new(rows),
+        }
     }
 }
 
@@ -188,9 +212,10 @@ fn put_second(alloc: Global, peers: &mut Peers, new: PeerRow) -> Result<(), NoMe
     ensures err { OnErr result (peers.new ≡ peers.old) }
 {
     let mut rows = Vec::with_capacity(alloc, 2)?;
-    let Peers::One(held) = mem::replace(peers, Peers::Many(Vec::new(alloc))) else {
+    let Peers::One(own, held) = mem::replace(peers, Peers::Many(Vec::new(alloc))) else {
         unreachable!();
     };
+    let held = (own as usize, held);
     let (first, second) = if held.0 < new.0 {
         (held, new)
     } else {
@@ -203,7 +228,12 @@ fn put_second(alloc: Global, peers: &mut Peers, new: PeerRow) -> Result<(), NoMe
 }
 
 // Puts a row among those of several peers.
-fn put_among(rows: &mut Vec<PeerRow>, peer: usize, row: Row) -> Result<Option<Row>, NoMemory>
+fn put_among(
+    rows: &mut Vec<PeerRow>,
+    peer: usize,
+    row: Row,
+    most: usize,
+) -> Result<Option<Row>, NoMemory>
     requires { ArePeers rows.old.items }
     ensures ok { OnOk result (rows.new.items ≡ insert_entry nat_cmp rows.old.items peer row) }
     ensures old { IfOk result (λ old. old ≡ lookup (is_at (nat_cmp peer)) rows.old.items) }
@@ -213,35 +243,37 @@ fn put_among(rows: &mut Vec<PeerRow>, peer: usize, row: Row) -> Result<Option<Ro
     match find(rows.as_slice(), peer) {
         Ok(at) => Ok(Some(mem::replace(&mut rows[at].1, row))),
         Err(at) => {
-            make_room(rows)?;
+            make_room(rows, most)?;
             rows.insert(at, (peer, row))?;
             Ok(None)
         }
     }
 }
 
-// Makes room for one row more, and with it for a quarter of those that there are: so rows are moved
-// seldom, and little room stays unused.
-fn make_room(rows: &mut Vec<PeerRow>) -> Result<(), NoMemory>
+// Makes room for one row more: for all that may come once half of them are there, else for half as
+// many again. So rows are moved seldom, and where each peer holds the key no room stays unused.
+fn make_room(rows: &mut Vec<PeerRow>, most: usize) -> Result<(), NoMemory>
     ensures { rows.new.items ≡ rows.old.items }
 {
-    if rows.len() < rows.capacity() {
+    let len = rows.len();
+    if len < rows.capacity() {
         return Ok(());
     }
-    Ok(rows.reserve_exact(rows.len() / 4 + 1)?)
+    let left = most.saturating_sub(len);
+    let more = if left <= len { left } else { len / 2 };
+    Ok(rows.reserve_exact(more.max(1))?)
 }
 
 // Exchanges a row, if it is the peer's.
-fn exchange_one(held: &mut PeerRow, peer: usize, row: &mut Row) -> bool
-    ensures same { held.new.0 ≡ held.old.0 }
-    ensures found { result ≡ (held.old.0 == peer) }
-    ensures rows { MatchBool result (held.new.1 ≡ row.old) (held.new ≡ held.old) }
-    ensures row { MatchBool result (row.new ≡ held.old.1) (row.new ≡ row.old) }
+fn exchange_one(own: u32, held: &mut Row, peer: usize, row: &mut Row) -> bool
+    ensures found { result ≡ (own == peer) }
+    ensures rows { MatchBool result (held.new ≡ row.old) (held.new ≡ held.old) }
+    ensures row { MatchBool result (row.new ≡ held.old) (row.new ≡ row.old) }
 {
-    if held.0 != peer {
+    if own as usize != peer {
         return false;
     }
-    mem::swap(&mut held.1, row);
+    mem::swap(held, row);
     true
 }
 
@@ -276,12 +308,42 @@ fn take_among(rows: &mut Vec<PeerRow>, peer: usize) -> Option<Row>
     }
 }
 
-// Where the row of a peer stands among rows by peer, or else where it would stand.
+// The row of a peer among those of several.
+fn row_among(rows: &[PeerRow], peer: usize) -> Option<&Row>
+    requires { ArePeers rows.now }
+    ensures { option_copied result ≡ lookup (is_at (nat_cmp peer)) rows.now }
+{
+    match find(rows, peer) {
+        Ok(at) => Some(&rows[at].1),
+        Err(_) => None,
+    }
+}
+
+// Whether a peer's row is the only one of several.
+fn is_only(rows: &[PeerRow], peer: usize) -> bool
+    ensures { IsTrue result ↔ (keys_of rows.now ≡ peer ∷ []) }
+{
+    matches!(rows, [only] if only.0 == peer)
+}
+
+// Where the row of a peer stands among rows by peer, or else where it would stand. Where all peers
+// hold the key, that is at its own number.
 fn find(rows: &[PeerRow], peer: usize) -> Result<usize, usize>
     requires { IsStrictlySortedBy nat_cmp (keys_of rows.now) }
     ensures { MatchResult result (IsFound peer rows.now) (IsGap peer rows.now) }
 {
+    if is_own(rows, peer) {
+        return Ok(peer);
+    }
     rows.binary_search_by_key(&peer, |held| held.0)
+}
+
+// Whether the row of a peer stands at its own number.
+fn is_own(rows: &[PeerRow], peer: usize) -> bool
+    requires { IsStrictlySortedBy nat_cmp (keys_of rows.now) }
+    ensures { IsTrue result → IsFound peer rows.now peer }
+{
+    peer < rows.len() && rows[peer].0 == peer
 }
 
 // When the first of some rows ends, if one does.

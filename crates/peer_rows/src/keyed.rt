@@ -47,12 +47,12 @@ impl Model for Keyed {
 impl Keyed {
     ghost use Rattle.peer_rows.specs.Table.{spot_cmp, rows_in, EachPeerOnce};
 
-    /// No rows.
-    pub(crate) fn new(alloc: Global) -> Keyed
+    /// No rows, for so many peers.
+    pub(crate) fn new(alloc: Global, peers: usize) -> Keyed
         ensures { result ≡ [] }
     {
         Keyed {
-            index: Index::new(alloc),
+            index: Index::new(alloc, peers),
             alloc,
         }
     }
@@ -289,12 +289,23 @@ fn insert_new(
         (in_order index.old.places) key.now ((peer, row.old) ∷ [])) }
     ensures err { OnErr result (index.new.places ≡ index.old.places) }
 {
+    let number = narrow(peer)?;
     let own = key.duplicate(alloc)?;
     index.reserve(1)?;
     let now = row.arrived;
     let first = mem::replace(row, Row::blank(alloc));
-    let _at = index.insert(own, KeyRows::new(alloc, peer, first), now)?;
+    let _at = index.insert(own, KeyRows::new(alloc, number, first), now)?;
     Ok(())
+}
+
+// The number of a peer in 32 bits: no memory has the counts of more peers.
+fn narrow(peer: usize) -> Result<u32, NoMemory>
+    ensures { IfOk result (λ number. number ≡ peer) }
+{
+    match u32::try_from(peer) {
+        Ok(number) => Ok(number),
+        Err(_) => Err(NoMemory),
+    }
 }
 
 // Empties a place, and answers the rows that lay there.

@@ -1,4 +1,4 @@
-ghost use Rattle.std.specs.Prelude.{◌≡◌, ◌==◌, [], length};
+ghost use Rattle.std.specs.Prelude.{◌≡◌, ◌==◌, [], ◌∷◌, length};
 ghost use Rattle.std.specs.Iterator.{at_most};
 ghost use Rattle.std.specs.Map.Iter.{TakesFirst};
 ghost use Rattle.peer_rows.specs.Listing.{peer_and_row};
@@ -12,16 +12,19 @@ use std::marker::Model;
 /// Contracts see the list of what it has left.
 #[derive(Drop)]
 pub struct OfKey<'a> {
+    one: Option<(usize, &'a Row)>,
     rows: &'a [PeerRow],
 }
 
 impl<'a> Model for OfKey<'a> {
     ghost use Rattle.std.specs.Prelude.{List, ℕ};
     ghost use Rattle.peer_rows.specs.declared.row.Row.{Row};
+    ghost use Rattle.peer_rows.specs.Listing.{one_of};
+    ghost use Rattle.std.specs.Prelude.{◌++◌};
 
     ghost Value = { List (ℕ × Row) };
 
-    ghost view = { λ rows. rows.rows.now };
+    ghost view = { λ rows. one_of rows.one ++ rows.rows.now };
 }
 
 impl<'a> OfKey<'a> {
@@ -29,35 +32,55 @@ impl<'a> OfKey<'a> {
     pub(crate) fn none() -> OfKey<'a>
         ensures { result ≡ [] }
     {
-        OfKey { rows: &[] }
+        OfKey {
+            one: None,
+            rows: &[],
+        }
+    }
+
+    // This row of a peer.
+    pub(crate) fn one(peer: usize, row: &'a Row) -> OfKey<'a>
+        ensures { result ≡ (peer, row.now) ∷ [] }
+    {
+        OfKey {
+            one: Some((peer, row)),
+            rows: &[],
+        }
     }
 
     // These rows.
     pub(crate) fn new(rows: &'a [PeerRow]) -> OfKey<'a>
         ensures { result ≡ rows.now }
     {
-        OfKey { rows }
+        OfKey { one: None, rows }
     }
 
     /// The same rows once more: those that this has left.
     pub fn duplicate(&self) -> OfKey<'a>
         ensures { result ≡ self.now }
     {
-        OfKey { rows: self.rows }
+        OfKey {
+            one: self.one,
+            rows: self.rows,
+        }
     }
 
     /// How many rows are left.
     pub fn len(&self) -> usize
         ensures { result ≡ length self.now }
     {
-        self.rows.len()
+        if self.one.is_some() {
+            self.rows.len() + 1
+        } else {
+            self.rows.len()
+        }
     }
 
     /// Whether no row is left.
     pub fn is_empty(&self) -> bool
         ensures { result ≡ (length self.now == 0) }
     {
-        self.rows.is_empty()
+        self.one.is_none() && self.rows.is_empty()
     }
 }
 
@@ -69,6 +92,10 @@ impl<'a> Iterator for OfKey<'a> {
     ghost remaining = { λ rows. at_most (length rows) };
 
     fn next(&mut self) -> Option<(usize, &'a Row)> {
+        if let Some(one) = self.one {
+            self.one = None;
+            return Some(one);
+        }
         let (first, others) = self.rows.split_first()?;
         self.rows = others;
         Some((first.0, &first.1))

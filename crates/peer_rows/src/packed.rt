@@ -1,6 +1,5 @@
-ghost use Rattle.std.specs.Prelude.{◌≡◌, length};
-ghost use Rattle.peer_rows.specs.Few.{width};
-ghost use Rattle.peer_rows.specs.Packed.{held_of, is_rate, words_of};
+ghost use Rattle.std.specs.Prelude.{◌≡◌};
+ghost use Rattle.peer_rows.specs.Packed.{held_of};
 
 use crate::Held;
 use period_rate::Rate;
@@ -39,24 +38,6 @@ impl Packed {
                 Held::Count(u64::from(low) + WORD * u64::from(high))
             }
             Packed::Rate(words) => Held::Rate(Rate::from_words(words)),
-        }
-    }
-
-    /// Whether it is a rate.
-    pub(crate) fn is_rate(&self) -> bool
-        ensures { result ≡ is_rate self.now }
-    {
-        matches!(self, Packed::Rate(_))
-    }
-
-    /// Its words.
-    pub(crate) fn words(&self) -> &[u32]
-        ensures words { result.now ≡ words_of self.now }
-        ensures width { length result.now ≡ width (is_rate self.now) }
-    {
-        match self {
-            Packed::Count(words) => words,
-            Packed::Rate(words) => words,
         }
     }
 }

@@ -2,9 +2,12 @@ ghost use Rattle.std.specs.Prelude.{◌≡◌, ◌<◌, ◌==◌, [], ◌∷◌,
 ghost use Rattle.std.specs.Prelude.{OnOk, OnErr};
 ghost use Rattle.peer_rows.specs.Counted.{counted, counted_at};
 ghost use Rattle.peer_rows.specs.Ends.{end_of, lives_at};
+ghost use Rattle.peer_rows.specs.Few.{cells_of};
+ghost use Rattle.peer_rows.specs.Form.{cells_in};
 ghost use Rattle.peer_rows.specs.Packed.{held_of};
 
-use crate::few::Few;
+use crate::RowEnd;
+use crate::few::{self, WORDS, Words};
 use crate::packed::Packed;
 use agg_types::NoMemory;
 use period_rate::Rate;
@@ -35,18 +38,34 @@ impl Held {
 
 /// The cells of a row, in the order of its table's columns. Contracts see the list of them.
 ///
-/// Cells of up to ten words, a count of two and a rate of five, lie in the value itself and take no
-/// memory beside it; others lie in a block.
+/// Cells of up to ten words lie in the value itself and take no memory beside it: a count below
+/// 2^32 takes one, another two, a rate five. Others lie in a block.
 #[derive(Debug, Drop)]
 pub struct RowCells {
     form: Form,
     alloc: Global,
 }
 
+const _: () = prove!(size_of::<RowCells>() == 48);
+
 #[derive(Debug, Drop)]
 enum Form {
-    Few(Few),
+    // How many cells there are, the digits that say their kinds, and their words.
+    Few { len: u8, kinds: u16, words: Words },
     Many(Vec<Packed>),
+}
+
+impl Form {
+    // No cells.
+    fn none() -> Form
+        ensures { cells_in result ≡ [] }
+    {
+        Form::Few {
+            len: 0,
+            kinds: 0,
+            words: [0; WORDS],
+        }
+    }
 }
 
 impl Model for RowCells {
@@ -66,7 +85,7 @@ impl RowCells {
         ensures { IfOk result (λ cells. cells ≡ []) }
     {
         let form = if cells <= FEW {
-            Form::Few(Few::new())
+            Form::none()
         } else {
             Form::Many(Vec::with_capacity(alloc, cells)?)
         };
@@ -78,18 +97,13 @@ impl RowCells {
         ensures ok { OnOk result (self.new ≡ self.old ++ held ∷ []) }
         ensures err { OnErr result (self.new ≡ self.old) }
     {
-        match &mut self.form {
-            Form::Few(few) => {
-                if few.push(&held) {
-                    return Ok(());
-                }
-                let mut cells = spread(self.alloc, few)?;
-                cells.push(Packed::new(&held))?;
-                self.form = Form::Many(cells);
-                Ok(())
-            }
-            Form::Many(cells) => Ok(cells.push(Packed::new(&held))?),
+        if let Form::Many(cells) = &mut self.form {
+            return Ok(cells.push(Packed::new(&held))?);
         }
+        if let Form::Few { len, kinds, words } = &self.form {
+            self.form = with_cell(self.alloc, *len, *kinds, *words, &held)?;
+        }
+        Ok(())
     }
 
     /// A copy of these cells.
@@ -108,7 +122,7 @@ impl RowCells {
         ensures { result ≡ slice_get self.now col }
     {
         match &self.form {
-            Form::Few(few) => few.get(col),
+            Form::Few { len, kinds, words } => few::get(*len, *kinds, words, col),
             Form::Many(cells) => Some(cells.get(col)?.held()),
         }
     }
@@ -129,7 +143,7 @@ impl RowCells {
         ensures { result ≡ length self.now }
     {
         match &self.form {
-            Form::Few(few) => few.len(),
+            Form::Few { len, kinds, words } => few::count(*len, *kinds, words),
             Form::Many(cells) => cells.len(),
         }
     }
@@ -142,13 +156,32 @@ impl RowCells {
     }
 }
 
+// Few cells and another one, in a block if they don't fit else.
+fn with_cell(
+    alloc: Global,
+    len: u8,
+    kinds: u16,
+    words: Words,
+    held: &Held,
+) -> Result<Form, NoMemory>
+    ensures { IfOk result (λ form. cells_in form ≡ cells_of len kinds words ++ held.now ∷ []) }
+{
+    let (mut len, mut kinds, mut words) = (len, kinds, words);
+    if few::push(&mut len, &mut kinds, &mut words, held) {
+        return Ok(Form::Few { len, kinds, words });
+    }
+    let mut cells = spread(alloc, len, kinds, &words)?;
+    cells.push(Packed::new(held))?;
+    Ok(Form::Many(cells))
+}
+
 // The same cells, packed one by one, with room for one more.
-fn spread(alloc: Global, few: &Few) -> Result<Vec<Packed>, NoMemory>
-    ensures { IfOk result (λ cells. map held_of cells.items ≡ few.now) }
+fn spread(alloc: Global, len: u8, kinds: u16, words: &Words) -> Result<Vec<Packed>, NoMemory>
+    ensures { IfOk result (λ cells. map held_of cells.items ≡ cells_of len kinds words.now) }
 {
     let mut cells = Vec::with_capacity(alloc, FEW + 1)?;
-    for col in 0..few.len() {
-        if let Some(held) = few.get(col) {
+    for col in 0..few::count(len, kinds, words) {
+        if let Some(held) = few::get(len, kinds, words, col) {
             cells.push(Packed::new(&held))?;
         }
     }
@@ -161,19 +194,21 @@ fn spread(alloc: Global, few: &Few) -> Result<Vec<Packed>, NoMemory>
 pub struct Row {
     pub cells: RowCells,
     pub arrived: u64,
-    pub ends: Option<u64>,
+    pub ends: RowEnd,
 }
+
+const _: () = prove!(size_of::<Row>() == 64);
 
 impl Row {
     /// A row without cells, which never ends, to be left where one is taken. Takes no memory.
     pub fn blank(alloc: Global) -> Row {
         Row {
             cells: RowCells {
-                form: Form::Few(Few::new()),
+                form: Form::none(),
                 alloc,
             },
             arrived: 0,
-            ends: None,
+            ends: RowEnd::never(),
         }
     }
 
@@ -182,7 +217,7 @@ impl Row {
     pub fn end(&self) -> Option<u64>
         ensures { result ≡ end_of self.now }
     {
-        Some(self.ends?.max(self.arrived))
+        Some(self.ends.get()?.max(self.arrived))
     }
 
     /// Whether it lives at a moment.

@@ -47,7 +47,7 @@ impl Table {
         ensures { IfOk result (λ table. table ≡ record { peers = peers; entries = [] }) }
     {
         Ok(Table {
-            keys: Keyed::new(alloc),
+            keys: Keyed::new(alloc, peers),
             counts: vec![in alloc; 0; peers]?,
         })
     }

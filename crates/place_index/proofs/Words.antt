@@ -13,7 +13,8 @@ use Rattle.std.specs.Option.{is_some, option_map}
 use Rattle.std.specs.Prelude.{◌≢◌, slice_set, slice_index_or}
 use Rattle.place_index.proofs.Lists.{slice_get-set_same, slice_get-set_other}
 use Rattle.place_index.proofs.Joined.{past_from_none}
-use Rattle.place_index.specs.Windows.{word_of, home, IsFreeAt, IsIn, Has}
+use Rattle.place_index.specs.Windows.{word_of, home, hash_in, place_in, short_of, IsFreeAt, IsIn}
+use Rattle.place_index.specs.Windows.{Has}
 use Rattle.place_index.specs.declared.windows.Windows.{Windows}
 use Rattle.place_index.specs.declared.windows.Word.{Word}
 
@@ -74,16 +75,16 @@ placed f (Some x) y P is then = then x refl (same_Some (f x) y is)
 
 free_within : (window : List Word) (index : ℕ) → IsFreeAt window index → index < length window
 free_within window index free =
-    placed (λ (w : Word). w.place) (slice_get window index) 0 (index < length window) free
+    placed place_in (slice_get window index) 0 (index < length window) free
     (λ x is _. slice_get_within window index x is)
 
 names_nothing : (window : List Word) (index hash at : ℕ) → IsFreeAt window index
     → slice_get window index ≡ Some (word_of hash at) → ⊥
 names_nothing window index hash at free is =
-    placed (λ (w : Word). w.place) (slice_get window index) 0 ⊥ free
+    placed place_in (slice_get window index) 0 ⊥ free
     (λ x same nought.
     let e : x ≡ word_of hash at = same_Some x (word_of hash at) (sym same ∙ is) in
-    let f : at + 1 ≡ 0 = ap (λ (w : Word). w.place) (sym e) ∙ nought in omega arith)
+    let f : place_in (word_of hash at) ≡ 0 = ap place_in (sym e) ∙ nought in omega (arith, f))
 
 stays_in : (window : List Word) (at : ℕ) (x word : Word)
     → (slice_get window at ≡ Some word → ⊥) → IsIn window word → IsIn (slice_set window at x) word
@@ -168,17 +169,17 @@ kept_by_clear wide half at index windows after window x own cleared hash q is co
     (λ e.
     let f : word_of own cleared ≡ word_of hash q =
     same_Some (word_of own cleared) (word_of hash q) (sym here ∙ e) in
-    let g : cleared + 1 ≡ q + 1 = ap (λ (w : Word). w.place) f in
-    let h : q ≡ cleared = omega arith in other h))
+    let g : place_in (word_of own cleared) ≡ place_in (word_of hash q) = ap place_in f in
+    let h : q ≡ cleared = omega (arith, g) in other h))
 
 -- a further window, and the one that its words come from
 pub kept_by_grow : (wide half from : ℕ) (windows after : List (List Word))
     (window stay go : List Word) (hash : ℕ) (word : Word)
     → after ≡ slice_set (windows ++ go ∷ []) from stay → from ≡ length windows - half
-    → word.hash ≡ hash
+    → hash_in word ≡ hash
     → ((w : Word) → IsIn (slice_index_or windows from []) w → IsIn window w)
-    → ((w : Word) → IsIn window w → w.hash % wide ≢ length windows → IsIn stay w)
-    → ((w : Word) → IsIn window w → w.hash % wide ≡ length windows → IsIn go w)
+    → ((w : Word) → IsIn window w → hash_in w % wide ≢ length windows → IsIn stay w)
+    → ((w : Word) → IsIn window w → hash_in w % wide ≡ length windows → IsIn go w)
     → IsIn (slice_index_or windows (home wide half (length windows) hash) []) word
     → IsIn (slice_index_or after (home wide half (length after) hash) []) word
 kept_by_grow wide half from windows after window stay go hash word is chosen own covers stays goes
@@ -188,7 +189,7 @@ kept_by_grow wide half from windows after window stay go hash word is chosen own
     length-set (windows ++ go ∷ []) from stay ∙ length_push windows go in
     let n = home wide half (length windows) hash in
     let within : n < length windows = in_within windows n word there in
-    let choice : word.hash % wide ≡ hash % wide = ap (λ h. h % wide) own in
+    let choice : hash_in word % wide ≡ hash % wide = ap (λ h. h % wide) own in
     rw (is, longer) (
     elim (cases_eq (hash % wide) (length windows)) [
       | inl e ↦
@@ -271,7 +272,7 @@ none_there windows n word none there =
 pub in_window : (windows : Windows) (window : List Word) (hash h at : ℕ)
     → window ≡ slice_index_or windows.windows.items
     (home windows.wide windows.half (length windows.windows.items) hash) []
-    → hash ≡ h → Has windows h at → IsIn window (word_of hash at)
+    → hash ≡ short_of h → Has windows h at → IsIn window (word_of hash at)
 in_window windows window hash h at is same has =
     subst (λ w. IsIn w (word_of hash at)) (sym is)
     (subst (λ x. IsIn (slice_index_or windows.windows.items

@@ -14,12 +14,14 @@
 //! they were. It comes where an allocation failed, and would come at the last number that a `usize`
 //! has.
 //!
-//! Words name the places. A key's hash chooses a window of 16 words, and a key that finds no
-//! free word there goes to an ordered map. So keys that are made to collide cost what an ordered
-//! map costs, and the hash needs no secret. Where the map has no memory, the place goes to a short
-//! list whose memory was taken with the room, and each search that ends there walks it. Nothing
-//! that a word, the map or the list says is believed before the place's key was looked at. So all
-//! that is proved of them is one direction: each filled place is reached from its key.
+//! Words name the places. A key's hash chooses a window of 16 words, and a key that finds no free
+//! word there goes to an ordered map. A word has 24 bits of the hash and 24 of the place's number,
+//! so a key beyond the first 16,777,215 places goes there too. So keys that are made to collide
+//! cost what an ordered map costs, and the hash needs no secret. Where the map has no memory, the
+//! place goes to a short list whose memory was taken with the room, and each search that ends there
+//! walks it. Nothing that a word, the map or the list says is believed before the place's key was
+//! looked at. So all that is proved of them is one direction: each filled place is reached from its
+//! key.
 //!
 //! Windows are made one by one as places come, each out of one other whose words it parts. Places
 //! and windows lie in segments of 1,024, which never move; the memory of a segment is taken at

@@ -12,7 +12,7 @@ ghost use Rattle.place_index.specs.Reach.{Leads, spare};
 
 use crate::IndexKey;
 use crate::slots::Slots;
-use crate::windows::{Windows, Word, word_at};
+use crate::windows::{Windows, Word, short, word_at};
 use agg_types::NoMemory;
 use std::alloc::Global;
 use std::collections::BTreeMap;
@@ -45,7 +45,7 @@ impl<K: IndexKey> Reach<K> {
             → key_at (held slots.now.slots.items) at ≡ Some key.now
             → Leads K.cmp K.hashed self.now key.now at → ⊥) }
     {
-        let hash = key.hash_of();
+        let hash = short(key.hash_of());
         if let Some(at) = named_in(self.windows.window(hash), slots, hash, key) {
             return Some(at);
         }

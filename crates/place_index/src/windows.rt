@@ -2,46 +2,97 @@
 ghost use Rattle.std.specs.Prelude.{◌≡◌, ◌≢◌, ℕ, ◌<◌, ◌%◌, [], Some, length, slice_get, IfSome};
 ghost use Rattle.std.specs.Prelude.{IsTrue, slice_index_or};
 ghost use Rattle.std.specs.Option.{option_copied};
-ghost use Rattle.place_index.specs.Windows.{word_of, home, IsFreeAt, IsIn, Has};
+ghost use Rattle.place_index.specs.Windows.{word_of, home, hash_in, place_in};
+ghost use Rattle.place_index.specs.Windows.{short_of, IsFreeAt, IsIn, Has};
 
 use crate::segments::Segments;
 use std::alloc::Global;
 
-/// How many words a window has: two lines of the cache.
+/// How many words a window has: with 6 bytes each they take less than two lines of the cache.
 const WIDTH: usize = 16;
 
 /// There is a window for so many places. With fewer windows more keys find no free word, and an
-/// ordered map holds them. With so many it is one in 600, and their search costs next to nothing.
-const PLACES: usize = 5;
+/// ordered map holds them. With so many it is one in 150.
+const PLACES: usize = 6;
 
-/// The number of a place that may have a key of this hash, plus one. A word of number 0 is free.
-#[derive(Clone, Copy)]
-pub(crate) struct Word {
-    hash: u32,
-    place: u32,
+/// So many places have a number that fits a word, and so many short hashes there are.
+const NUMBERS: u32 = 1 << 24;
+
+// The same for the lower half of a number.
+const LOW: u32 = 1 << 16;
+
+/// The 24 bits of a hash that words have.
+#[inline]
+pub(crate) fn short(hash: u32) -> u32
+    ensures value { result ≡ short_of hash }
+    ensures small { result < 16777216 }
+{
+    hash / 256 % NUMBERS
 }
 
+/// The number of a place that may have a key of this short hash, plus one, in 6 bytes. A word of
+/// number 0 is free.
+#[derive(Clone, Copy)]
+pub(crate) struct Word {
+    hash_low: u16,
+    hash_high: u8,
+    place_high: u8,
+    place_low: u16,
+}
+
+const _: () = prove!(size_of::<Window>() == 96);
+
 /// A word that names nothing.
-const FREE: Word = Word { hash: 0, place: 0 };
+const FREE: Word = Word {
+    hash_low: 0,
+    hash_high: 0,
+    place_high: 0,
+    place_low: 0,
+};
 
 impl Word {
-    /// The word that names a place for keys of a hash, if its number fits.
+    /// The word that names a place for keys of a short hash, if its number fits.
     pub(crate) fn naming(hash: u32, at: usize) -> Option<Word>
+        requires { hash < 16777216 }
         ensures { IfSome result (λ word. word ≡ word_of hash at) }
     {
         let place = u32::try_from(at.checked_add(1)?).ok()?;
-        Some(Word { hash, place })
+        if place >= NUMBERS {
+            return None;
+        }
+        Some(Word {
+            hash_low: (hash % LOW) as u16,
+            hash_high: (hash / LOW) as u8,
+            place_high: (place / LOW) as u8,
+            place_low: (place % LOW) as u16,
+        })
     }
 
-    /// The place that the word names for keys of a hash.
+    // The short hash.
+    #[inline]
+    fn hash(self) -> u32
+        ensures { result ≡ hash_in self }
+    {
+        u32::from(self.hash_high) * LOW + u32::from(self.hash_low)
+    }
+
+    // The number.
+    #[inline]
+    fn place(self) -> u32
+        ensures { result ≡ place_in self }
+    {
+        u32::from(self.place_high) * LOW + u32::from(self.place_low)
+    }
+
+    /// The place that the word names for keys of a short hash.
     #[inline]
     pub(crate) fn named(self, hash: u32) -> Option<usize>
         ensures { (at : ℕ) → self ≡ word_of hash at → result ≡ Some at }
     {
-        if self.hash != hash {
+        if self.hash() != hash {
             return None;
         }
-        (self.place as usize).checked_sub(1)
+        (self.place() as usize).checked_sub(1)
     }
 }
 
@@ -76,7 +127,7 @@ impl Windows {
         self.windows.allocator()
     }
 
-    // The number of the window of a hash.
+    // The number of the window of a short hash.
     #[inline]
     fn home(&self, hash: u32) -> usize
         ensures { result ≡ home self.now.wide self.now.half (length self.now.windows.items) hash }
@@ -89,7 +140,7 @@ impl Windows {
         }
     }
 
-    /// The window of a hash.
+    /// The window of a short hash.
     #[inline]
     pub(crate) fn window(&self, hash: u32) -> &[Word]
         ensures { result.now ≡ slice_index_or self.now.windows.items
@@ -117,10 +168,11 @@ impl Windows {
         ensures has { IsTrue result → Has self.new hash at }
         ensures others { (h q : ℕ) → Has self.old h q → Has self.new h q }
     {
-        let Some(word) = Word::naming(hash, at) else {
+        let short = short(hash);
+        let Some(word) = Word::naming(short, at) else {
             return false;
         };
-        let home = self.home(hash);
+        let home = self.home(short);
         let mut window = self.window_at(home);
         let Some(free) = free_in(&window) else {
             return false;
@@ -133,10 +185,11 @@ impl Windows {
     pub(crate) fn clear(&mut self, hash: u32, at: usize) -> bool
         ensures { (h q : ℕ) → q ≢ at → Has self.old h q → Has self.new h q }
     {
-        let Some(word) = Word::naming(hash, at) else {
+        let short = short(hash);
+        let Some(word) = Word::naming(short, at) else {
             return false;
         };
-        let home = self.home(hash);
+        let home = self.home(short);
         let mut window = self.window_at(home);
         let Some(index) = index_in(&window, word) else {
             return false;
@@ -202,7 +255,9 @@ fn free_in(window: &Window) -> Option<usize>
     ensures within { IfSome result (λ index. index < 16) }
     ensures free { IfSome result (λ index. IsFreeAt window.now index) }
 {
-    window.iter().position(|word| word.place == 0)
+    window
+        .iter()
+        .position(|word| word.place_high == 0 && word.place_low == 0)
 }
 
 // The index of a word.
@@ -210,16 +265,24 @@ fn index_in(window: &Window, word: Word) -> Option<usize>
     ensures within { IfSome result (λ index. index < 16) }
     ensures is { IfSome result (λ index. slice_get window.now index ≡ Some word) }
 {
-    window
-        .iter()
-        .position(|own| own.hash == word.hash && own.place == word.place)
+    window.iter().position(|own| is_same(own, &word))
+}
+
+// Whether two words are the same.
+fn is_same(own: &Word, word: &Word) -> bool
+    ensures { IsTrue result → own.now ≡ word.now }
+{
+    own.hash_low == word.hash_low
+        && own.hash_high == word.hash_high
+        && own.place_low == word.place_low
+        && own.place_high == word.place_high
 }
 
 // The words of a window that stay, and those that go to a new one: whose hash chooses that number.
 fn parted(window: &Window, wide: u32, number: usize) -> (Window, Window)
-    ensures stay { (word : Word) → IsIn window.now word → word.hash % wide ≢ number
+    ensures stay { (word : Word) → IsIn window.now word → hash_in word % wide ≢ number
         → IsIn result.0 word }
-    ensures go { (word : Word) → IsIn window.now word → word.hash % wide ≡ number
+    ensures go { (word : Word) → IsIn window.now word → hash_in word % wide ≡ number
         → IsIn result.1 word }
 {
     let mut stay = [FREE; WIDTH];
@@ -235,9 +298,9 @@ fn parted(window: &Window, wide: u32, number: usize) -> (Window, Window)
 // The word of an index on the side of those that stay, or of those that go.
 fn sides(window: &Window, index: usize, wide: u32, number: usize) -> (Word, Word)
     ensures stay { (word : Word) → slice_get window.now index ≡ Some word
-        → word.hash % wide ≢ number → result.0 ≡ word }
+        → hash_in word % wide ≢ number → result.0 ≡ word }
     ensures go { (word : Word) → slice_get window.now index ≡ Some word
-        → word.hash % wide ≡ number → result.1 ≡ word }
+        → hash_in word % wide ≡ number → result.1 ≡ word }
 {
     match word_at(window, index) {
         Some(word) => side_of(*word, wide, number),
@@ -246,10 +309,10 @@ fn sides(window: &Window, index: usize, wide: u32, number: usize) -> (Word, Word
 }
 
 fn side_of(word: Word, wide: u32, number: usize) -> (Word, Word)
-    ensures stay { word.hash % wide ≢ number → result.0 ≡ word }
-    ensures go { word.hash % wide ≡ number → result.1 ≡ word }
+    ensures stay { hash_in word % wide ≢ number → result.0 ≡ word }
+    ensures go { hash_in word % wide ≡ number → result.1 ≡ word }
 {
-    if modulo(word.hash, wide) as usize == number {
+    if modulo(word.hash(), wide) as usize == number {
         (FREE, word)
     } else {
         (word, FREE)

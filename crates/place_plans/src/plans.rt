@@ -95,8 +95,8 @@ impl PlacePlans {
         self.count -= 1;
     }
 
-    /// Takes the plan of a place away whose moment is at most `t`, one of the least, and answers the
-    /// place. None says that there is no such place. Takes no memory.
+    /// Takes the plan of a place away whose moment is at most `t`, one of the least, and answers
+    /// the place. None says that there is no such place. Takes no memory.
     pub fn take_due(&mut self, t: u64) -> Option<usize>
         ensures due { IfSome result (λ place. is_due t (plan_at self.old place) ≡ true) }
         ensures after { IfSome result (λ place. self.new ≡ cancelled self.old place) }

@@ -3,7 +3,7 @@ ghost use Rattle.std.specs.Prelude.{◌≡◌, ◌<◌};
 
 use agg_types::{Key, NoMemory};
 use anyhow::Result;
-use peer_rows::{Held, Row, RowCells, Rows};
+use peer_rows::{Held, Row, RowCells, RowEnd, Rows};
 use period_rate::Rate;
 use std::alloc::Global;
 
@@ -34,7 +34,7 @@ fn row(alloc: Global, count: u64) -> Result<Row, NoMemory> {
     Ok(Row {
         cells: RowCells::copy(alloc, &held)?,
         arrived: 7,
-        ends: None,
+        ends: RowEnd::never(),
     })
 }
 

@@ -4,7 +4,7 @@ ghost use Rattle.std.specs.Prelude.{◌≡◌, ◌∷◌, [], IfOk};
 use agg_types::{Col, Items, Key, KeyKind, Name, NoMemory, Shape};
 use anyhow::Result;
 use fleet_sums::Sums;
-use peer_rows::{Held, Row, RowCells};
+use peer_rows::{Held, Row, RowCells, RowEnd};
 use period_rate::Rate;
 use std::alloc::Global;
 
@@ -36,7 +36,7 @@ fn row(alloc: Global, count: u64) -> Result<Row, NoMemory>
     Ok(Row {
         cells: RowCells::copy(alloc, &[Held::Count(count), Held::Rate(rate)])?,
         arrived: 0,
-        ends: None,
+        ends: RowEnd::never(),
     })
 }
 

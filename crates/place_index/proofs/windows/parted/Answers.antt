@@ -2,6 +2,7 @@ use Rattle.std.proofs.Common.{◌≡◌, ◌<◌, ◌%◌, ◌∙◌, length, ar
 use Rattle.std.proofs.lemmas.List.{length-set}
 use Rattle.std.proofs.lemmas.Option.{slice_get_within}
 use Rattle.place_index.proofs.Words.{parted_more}
+use Rattle.place_index.specs.Windows.{hash_in}
 use Rattle.place_index.specs.declared.windows.Word.{Word}
 use Rattle.place_index.proofs.windows.parted.Goals as goal
 
@@ -9,11 +10,11 @@ pub loop-index-preserved : goal.loop-index-preserved
 loop-index-preserved c =
     record {
       stays = parted_more c.args.window.now c.loop-index.stay
-          (λ (w : Word). w.hash % c.args.wide ≡ c.args.number → ⊥) c.loop-index.index
+          (λ (w : Word). hash_in w % c.args.wide ≡ c.args.number → ⊥) c.loop-index.index
           c.sides-sides.result.0 (omega arith) c.sides-sides.ensures.stay
           c.loop-index.invariant.stays;
       goes = parted_more c.args.window.now c.loop-index.go
-          (λ (w : Word). w.hash % c.args.wide ≡ c.args.number) c.loop-index.index
+          (λ (w : Word). hash_in w % c.args.wide ≡ c.args.number) c.loop-index.index
           c.sides-sides.result.1 (omega arith) c.sides-sides.ensures.go
           c.loop-index.invariant.goes;
       stay_len = length-set c.loop-index.stay c.loop-index.index c.sides-sides.result.0

@@ -1,4 +1,5 @@
 use Rattle.std.proofs.Common.{◌≡◌, ◌<◌, ◌%◌, ℕ, Some, length, slice_get}
+use Rattle.place_index.specs.Windows.{hash_in}
 use Rattle.place_index.specs.declared.windows.Word.{Word}
 use Rattle.place_index.proofs.windows.parted.Given as goal
 
@@ -6,9 +7,9 @@ abbrev pub invariant-loop-index : goal.invariant-loop-index
 invariant-loop-index l =
     record {
       stays : (n : ℕ) (w : Word) → n < l.index → slice_get l.window n ≡ Some w
-          → (w.hash % l.wide ≡ l.number → ⊥) → slice_get l.stay n ≡ Some w;
+          → (hash_in w % l.wide ≡ l.number → ⊥) → slice_get l.stay n ≡ Some w;
       goes : (n : ℕ) (w : Word) → n < l.index → slice_get l.window n ≡ Some w
-          → w.hash % l.wide ≡ l.number → slice_get l.go n ≡ Some w;
+          → hash_in w % l.wide ≡ l.number → slice_get l.go n ≡ Some w;
       stay_len : length l.stay ≡ 16;
       go_len : length l.go ≡ 16;
     }

@@ -8,7 +8,7 @@ invariant_of-self c =
     let are : ArePeers (held_by c.self.inside.peers) = c.self.invariant in
     elim c.match-self.branch [
       | in-One w ↦ rw w.self-inside-is
-          (are_one w.exchange_one.new.held.0 w.exchange_one.new.held.1)
+          (are_one w.in-One.own w.exchange_one.new.held)
       | in-Many w ↦ rw w.self-inside-is (are-exchanged c.args.peer w.in-Many.rows.items
           w.exchange_among.new.rows.items c.args.row.now w.exchange_among.result
           (rw w.in-Many.is at are) w.exchange_among.ensures.rows)

@@ -1,7 +1,8 @@
-use Rattle.std.proofs.Common.{sym, subst, inl, inr}
+use Rattle.std.proofs.Common.{sym, ap, ◌∙◌, subst, inl, inr}
 use Rattle.place_index.proofs.Leading.{if_none, if_none_at}
 use Rattle.place_index.proofs.Words.{in_window}
 use Rattle.place_index.specs.Loose.{IsLoose}
+use Rattle.place_index.specs.Windows.{short_of}
 use Rattle.place_index.proofs.reach.Reach.find.Goals as goal
 
 pub returns-clause-none : goal.returns-clause-none
@@ -12,8 +13,8 @@ returns-clause-none g c =
       | inl has ↦
           if_none_at c.named_in.result c.named_in.ensures.none c.in_default.is at is_held
           (in_window c.args.self.now.windows c.window.result.now
-          c.hash_of-hash.result (g.K.IndexKey.hashed c.args.key.now) at
-          c.window.ensures c.hash_of-hash.ensures has)
+          c.short-hash.result (g.K.IndexKey.hashed c.args.key.now) at
+          c.window.ensures (c.short-hash.ensures.value ∙ ap short_of c.hash_of.ensures) has)
       | inr rest ↦
           elim rest [
             | inl is ↦

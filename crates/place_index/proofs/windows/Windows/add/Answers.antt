@@ -1,7 +1,7 @@
-use Rattle.std.proofs.Common.{◌≡◌, ◌-◌, ◌++◌, ◌∷◌, [], length, ap, sym, ◌∙◌, refl, arith}
+use Rattle.std.proofs.Common.{◌≡◌, ◌-◌, ◌++◌, ◌∷◌, [], length, ap, sym, ◌∙◌, arith}
 use Rattle.std.specs.Prelude.{slice_set}
 use Rattle.place_index.proofs.Words.{kept_by_grow}
-use Rattle.place_index.specs.Windows.{word_of}
+use Rattle.place_index.specs.Windows.{short_of, word_of}
 use Rattle.place_index.proofs.windows.Windows.add.Goals as goal
 
 pub returns : goal.returns
@@ -19,7 +19,8 @@ returns c =
     record {
       word = kept_by_grow c.args.self.now.wide c.args.self.now.half
           c.saturating_sub-from.result ws c.replace.new.self.items c.window_at-window.result
-          c.parted-sides.result.0 c.parted-sides.result.1 h (word_of h q) after from refl
+          c.parted-sides.result.0 c.parted-sides.result.1 (short_of h) (word_of (short_of h) q)
+          after from (omega arith)
           c.window_at-window.ensures
           (λ w there other. c.parted-sides.ensures.stay w there
           (λ e. other (e ∙ c.len-count.ensures)))
