@@ -11,15 +11,15 @@ TOP = Path(__file__).resolve().parent.parent
 WORDS = {"four": 4}
 
 # limits that no document tells as a number
-UNTOLD = {"PERIOD_END"}
+UNTOLD = {"PERIOD_END", "HOLD_END"}
 
 # a constant, a document, and a pattern whose group is the number
 PLACES = [
     ("MOST_PEERS", "README.md", r"peers; seated connections at once \| (\d+);"),
     ("MOST_SEATS", "README.md", r"peers; seated connections at once \| \d+; (\d+)"),
-    ("MOST_TABLES", "README.md", r"tables, standing filters, ranked lists \| (\d+),"),
-    ("MOST_FILTERS", "README.md", r"tables, standing filters, ranked lists \| \d+, (\d+),"),
-    ("MOST_RANKS", "README.md", r"tables, standing filters, ranked lists \| \d+, \d+, (\d+)"),
+    ("MOST_TABLES", "README.md", r"ranked lists, pushed filters \| (\d+),"),
+    ("MOST_FILTERS", "README.md", r"ranked lists, pushed filters \| \d+, (\d+),"),
+    ("MOST_RANKS", "README.md", r"ranked lists, pushed filters \| \d+, \d+, (\d+)"),
     ("MOST_CONDS", "README.md", r"conditions of a filter or command \| (\d+)"),
     ("LONGEST_RANK", "README.md", r"keys of a ranked list \| ([\d,]+)"),
     ("LARGEST_SIZE", "README.md", r"rows of one peer in one table \(`size`\) \| ([\d,]+)"),
@@ -32,6 +32,10 @@ PLACES = [
     ("LONGEST_KEY", "docs/CONFIGURATION.md", r"exactly `len` of a binary key; 1 to (\d+)"),
     ("LONGEST_RANK", "docs/CONFIGURATION.md", r"keys by a column, 1 to ([\d,]+)"),
     ("MOST_RANKS", "docs/CONFIGURATION.md", r"keys by a column, 1 to [\d,]+. At most (\d+)"),
+    ("MOST_PUSHES", "README.md", r"ranked lists, pushed filters \| \d+, \d+, \d+, (\d+)"),
+    ("MOST_PUSHES", "docs/CONFIGURATION.md", r"after its last telling. At most (\d+)"),
+    ("SHORTEST_HOLD", "docs/CONFIGURATION.md", r"With a hold of ([\d,]+) to"),
+    ("SHORTEST_HOLD", "docs/CONFIGURATION.md", r"a hold below ([\d,]+)"),
     ("MOST_CONDS", "docs/CONFIGURATION.md", r"standing filter of one to (\w+) conditions"),
     ("MOST_FILTERS", "docs/CONFIGURATION.md", r"At most (\d+), with those that are added"),
     ("LARGEST_SIZE", "docs/CONFIGURATION.md", r"in the table, 1 to ([\d,]+)"),

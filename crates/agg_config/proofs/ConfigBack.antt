@@ -4,12 +4,13 @@ use Rattle.std.proofs.Common.{Option, None, Some, refl, ap, subst, sym, ◌∙�
 use Rattle.std.proofs.Common.{append-nil}
 use Rattle.std.specs.Prelude.{is_none, slice_get}
 use Rattle.std.specs.List.{list_all}
-use Rattle.agg_types.specs.Check.{config_faults, each, filter_faults, peer_faults, rank_faults}
-use Rattle.agg_types.specs.Check.{table_faults}
+use Rattle.agg_types.specs.Check.{all_faults, config_faults, each, filter_faults, hold_fits}
+use Rattle.agg_types.specs.Check.{peer_faults, push_faults, rank_faults, table_faults}
 use Rattle.agg_types.specs.Name.{is_name}
 use Rattle.agg_types.specs.declared.check.ConfigFault.{ConfigFault}
 use Rattle.agg_types.specs.declared.config.Config.{Config}
 use Rattle.agg_types.specs.declared.config.Filter as Filters
+use Rattle.agg_types.specs.declared.config.Push as Pushes
 use Rattle.agg_types.specs.declared.config.Rank as Ranks
 use Rattle.agg_types.specs.declared.config.Shape.{Shape}
 use Rattle.line_words.proofs.Checked.{Faultless, both_none, faultless, filter_fits, no_faults}
@@ -20,8 +21,9 @@ use Rattle.agg_config.specs.Reading.{Write, declaring, is_me, opening, table_at}
 use Rattle.agg_config.specs.Written.{filter_of, have_bounds, is_valid, is_valid_table, rank_of}
 use Rattle.agg_config.specs.Written.{table_name, text_of}
 use Rattle.agg_config.specs.declared.declarations.Declaration.{Declaration}
-use Rattle.agg_config.specs.declared.declarations.Declaration.TheVariants.{Me, Peer, Table}
+use Rattle.agg_config.specs.declared.declarations.Declaration.TheVariants.{Me, Peer, Push, Table}
 use Rattle.agg_config.proofs.Finished.{read_none}
+use Rattle.agg_config.proofs.Pushing.{named_filter, push_fits}
 use Rattle.agg_config.proofs.TextBack.{Lead, text_back}
 
 -- ---- lists of faults
@@ -56,7 +58,7 @@ record Section {A : Type 0} (at : List A → Config) (says : A → Declaration)
   pub other : (x : A) → is_me (says x) ≡ false
   pub makes : (before : List A) (x : A) → faults before x ≡ []
       → declaring (at before) (says x) ≡ at (before ++ x ∷ [])
-  pub faultless : (xs : List A) → each faults [] xs ≡ [] → config_faults (at xs) ≡ []
+  pub faultless : (xs : List A) → each faults [] xs ≡ [] → all_faults (at xs) ≡ []
 
 section : {A : Type 0} (at : List A → Config) (says : A → Declaration)
     (faults : List A → A → List ConfigFault) (fine : A → Bool) → Section at says faults fine
@@ -75,7 +77,7 @@ section at says faults fine s before (x ∷ xs) rest after all none lead =
       record {
         valid = s.valid before x h.0 here;
         other = s.other x;
-        faultless = ap config_faults makes
+        faultless = ap all_faults makes
             ∙ s.faultless (before ++ x ∷ []) (each-front faults [] (before ++ x ∷ []) xs none_on);
       },
       subst (λ c. Lead c (map says xs ++ rest) after) (sym makes)
@@ -116,16 +118,30 @@ found tables table some none = found_some tables table (slice_get tables table) 
 
 -- the beginnings of a configuration
 abbrev with_peers : List ℕ → List (List ℕ) → Config
-with_peers me peers = record { me = me; peers = peers; tables = []; filters = []; ranks = [] }
+with_peers me peers =
+    record { me = me; peers = peers; tables = []; filters = []; ranks = []; pushes = [] }
 
 abbrev with_tables : Config → List Shape → Config
-with_tables config tables = record config { tables = tables; filters = []; ranks = [] }
+with_tables config tables =
+    record config { tables = tables; filters = []; ranks = []; pushes = [] }
 
 abbrev with_filters : Config → List Filters.Filter → Config
-with_filters config filters = record config { filters = filters; ranks = [] }
+with_filters config filters = record config { filters = filters; ranks = []; pushes = [] }
 
 abbrev with_ranks : Config → List Ranks.Rank → Config
-with_ranks config ranks = record config { ranks = ranks }
+with_ranks config ranks = record config { ranks = ranks; pushes = [] }
+
+abbrev with_pushes : Config → List Pushes.Push → Config
+with_pushes config pushes = record config { pushes = pushes }
+
+-- what is followed and what is pushed has no fault
+none_pushed : (config : Config) → Faultless config → config.pushes ≡ [] → all_faults config ≡ []
+none_pushed config h none = rw (no_faults config h, none) refl
+
+all_pushed : (config : Config) → Faultless config
+    → each (push_faults config.tables config.filters) [] config.pushes ≡ []
+    → all_faults config ≡ []
+all_pushed config h none = rw (no_faults config h, none) refl
 
 peers_section : (me : List ℕ) → is_name me ≡ true
     → Section (with_peers me) Peer peer_faults (λ name. true)
@@ -133,13 +149,13 @@ peers_section me is = record {
   valid = λ before name fine none. (peer_named before name none).valid;
   other = λ name. refl;
   makes = λ before name none. refl;
-  faultless = λ peers none. no_faults (with_peers me peers) (record {
+  faultless = λ peers none. none_pushed (with_peers me peers) (record {
     me = is;
     peers = none;
     tables = refl;
     filters = refl;
     ranks = refl;
-  });
+  }) refl;
 }
 
 tables_section : (config : Config) → Faultless config
@@ -148,13 +164,13 @@ tables_section config h = record {
   valid = λ before shape fine none. table_valid before shape none;
   other = λ shape. refl;
   makes = λ before shape none. refl;
-  faultless = λ tables none. no_faults (with_tables config tables) (record {
+  faultless = λ tables none. none_pushed (with_tables config tables) (record {
     me = h.me;
     peers = h.peers;
     tables = none;
     filters = refl;
     ranks = refl;
-  });
+  }) refl;
 }
 
 filter_valid : (tables : List Shape) (before : List Filters.Filter) (filter : Filters.Filter)
@@ -201,13 +217,13 @@ filters_section config h = record {
   valid = λ before filter fine none. filter_valid config.tables before filter h.tables fine none;
   other = λ filter. refl;
   makes = λ before filter none. filter_makes config before filter h.tables none;
-  faultless = λ filters none. no_faults (with_filters config filters) (record {
+  faultless = λ filters none. none_pushed (with_filters config filters) (record {
     me = h.me;
     peers = h.peers;
     tables = h.tables;
     filters = none;
     ranks = refl;
-  });
+  }) refl;
 }
 
 ranks_section : (config : Config) → Faultless config
@@ -217,46 +233,72 @@ ranks_section config h = record {
   valid = λ before rank fine none. rank_valid config.tables before rank h.tables none;
   other = λ rank. refl;
   makes = λ before rank none. rank_makes config before rank h.tables none;
-  faultless = λ ranks none. no_faults (with_ranks config ranks) (record {
+  faultless = λ ranks none. none_pushed (with_ranks config ranks) (record {
     me = h.me;
     peers = h.peers;
     tables = h.tables;
     filters = h.filters;
     ranks = none;
-  });
+  }) refl;
+}
+
+-- a push whose filter is named by that name has a name that may stand
+push_valid : (config : Config) → Faultless config → (before : List Pushes.Push)
+    → (push : Pushes.Push) → push_faults config.tables config.filters before push ≡ []
+    → is_valid (Push push) ≡ true
+push_valid config h before push none =
+    let fits = push_fits config.tables config.filters before push none in
+    rw (named_filter config.tables config.filters push.name h.filters fits.named, fits.hold) refl
+
+pushes_section : (config : Config) → Faultless config
+    → Section (with_pushes config) Push (push_faults config.tables config.filters) (λ push. true)
+pushes_section config h = record {
+  valid = λ before push fine none. push_valid config h before push none;
+  other = λ push. refl;
+  makes = λ before push none. refl;
+  faultless = λ pushes none. all_pushed (with_pushes config pushes) (record {
+    me = h.me;
+    peers = h.peers;
+    tables = h.tables;
+    filters = h.filters;
+    ranks = h.ranks;
+  }) none;
 }
 
 behind_name : (config : Config) → Faultless config
+    → each (push_faults config.tables config.filters) [] config.pushes ≡ []
     → list_all (λ filter. have_bounds filter.conds) config.filters ≡ true
     → Lead (with_peers config.me []) (map Peer config.peers ++ (map Table config.tables
     ++ (map (filter_of config.tables) config.filters
-    ++ map (rank_of config.tables) config.ranks))) config
-behind_name config h bounds =
-    let ranks : Lead (with_ranks config []) (map (rank_of config.tables) config.ranks ++ [])
-    config =
-    section (with_ranks config) (rank_of config.tables) (rank_faults config.tables)
-    (λ rank. true) (ranks_section config h) [] config.ranks [] config
-    (all_fine config.ranks) h.ranks refl in
-    let last = subst (λ more. Lead (with_ranks config []) more config)
-    (append-nil (map (rank_of config.tables) config.ranks)) ranks in
+    ++ (map (rank_of config.tables) config.ranks ++ map Push config.pushes)))) config
+behind_name config h pushed bounds =
+    let pushes : Lead (with_pushes config []) (map Push config.pushes ++ []) config =
+    section (with_pushes config) Push (push_faults config.tables config.filters) (λ push. true)
+    (pushes_section config h) [] config.pushes [] config (all_fine config.pushes) pushed refl in
+    let last = subst (λ more. Lead (with_pushes config []) more config)
+    (append-nil (map Push config.pushes)) pushes in
     section (with_peers config.me) Peer peer_faults (λ name. true)
     (peers_section config.me h.me) [] config.peers _ config (all_fine config.peers) h.peers
     (section (with_tables config) Table table_faults (λ shape. true) (tables_section config h) []
     config.tables _ config (all_fine config.tables) h.tables
     (section (with_filters config) (filter_of config.tables) (filter_faults config.tables)
     (λ filter. have_bounds filter.conds) (filters_section config h) [] config.filters _ config
-    bounds h.filters last))
+    bounds h.filters
+    (section (with_ranks config) (rank_of config.tables) (rank_faults config.tables)
+    (λ rank. true) (ranks_section config h) [] config.ranks _ config (all_fine config.ranks)
+    h.ranks last)))
 
-pub config_back : (config : Config) → config_faults config ≡ []
+pub config_back : (config : Config) → all_faults config ≡ []
     → list_all (λ filter. have_bounds filter.conds) config.filters ≡ true
     → Write (lines_of (text_of config)) config
 config_back config none bounds =
-    let h = faultless config none in
+    let parts = both_none (config_faults config) _ none in
+    let h = faultless config parts.0 in
     text_back (with_peers config.me []) opening (Me config.me) _ config (read_none opening refl)
-    refl h.me refl (no_faults (with_peers config.me []) (record {
+    refl h.me refl (none_pushed (with_peers config.me []) (record {
       me = h.me;
       peers = refl;
       tables = refl;
       filters = refl;
       ranks = refl;
-    })) (behind_name config h bounds)
+    }) refl) (behind_name config h parts.1 bounds)

@@ -6,4 +6,5 @@ pub mod Ordered
 pub mod ColumnsBack
 pub mod LinesBack
 pub mod TextBack
+pub mod Pushing
 pub mod ConfigBack

@@ -15,7 +15,7 @@ use Rattle.agg_config.specs.Declarations.{declared}
 use Rattle.agg_config.specs.Reading.{AreSound, FailsFirst, FaultBehind, Meaning, behind, declaring}
 use Rattle.agg_config.specs.Reading.{faults_behind, is_me, is_named, line_fault, names, written}
 use Rattle.agg_config.specs.Reading.{takes_memory, wrong_check, wrong_word}
-use Rattle.agg_types.specs.Check.{config_faults, fault_if}
+use Rattle.agg_types.specs.Check.{all_faults, fault_if}
 use Rattle.agg_types.specs.declared.check.ConfigFault.{ConfigFault}
 use Rattle.agg_types.specs.declared.check.ConfigFault.TheVariants.{Duplicate}
 use Rattle.agg_types.specs.declared.config.Config.{Config}
@@ -97,7 +97,7 @@ syntax_has_word config named (Err misread) e =
     absurd cc
 syntax_has_word config named (Ok None) e = absurd cc
 syntax_has_word config named (Ok (Some declaration)) e =
-    checks_first (config_faults (declaring config declaration)
+    checks_first (all_faults (declaring config declaration)
     ++ fault_if (named && is_me declaration) Duplicate) e
 
 -- a line's first fault is that of the lines

@@ -1,12 +1,13 @@
 -- What a line declares is read back from the line that is written of it.
 use Rattle.std.proofs.Common.{◌&&◌}
 use Rattle.std.proofs.Common.{◌≡◌, ℕ, zero, suc, ◌+◌, ◌^◌, ◌<◌, ◌≤◌, true, false, eqb, leb}
-use Rattle.std.proofs.Common.{ltb, List, [], ◌∷◌, ◌++◌, length, map, Some, Result, Ok}
+use Rattle.std.proofs.Common.{ltb, List, [], ◌∷◌, ◌++◌, length, map, Option, None, Some, Result}
+use Rattle.std.proofs.Common.{Ok}
 use Rattle.std.proofs.Common.{codes, refl, arith}
 use Rattle.std.proofs.lemmas.Bool.{leb-true, ltb-true, ne_eqb}
 use Rattle.std.specs.Fmt.{decimal}
 use Rattle.std.specs.List.{flat_map, join_with_byte, list_all}
-use Rattle.agg_types.specs.Check.{ascends, is_within, len_fits, period_fits}
+use Rattle.agg_types.specs.Check.{ascends, hold_fits, is_within, len_fits, period_fits}
 use Rattle.agg_types.specs.Col.{col_id, col_name}
 use Rattle.agg_types.specs.Name.{is_name}
 use Rattle.agg_types.specs.declared.column.Col.{Col}
@@ -15,21 +16,21 @@ use Rattle.agg_types.specs.declared.config.Op.{Op}
 use Rattle.agg_types.specs.declared.config.KeyKind.{KeyKind}
 use Rattle.agg_types.specs.declared.config.KeyKind.TheVariants.{Integer, Ip, Ipv6, Str, Binary}
 use Rattle.agg_types.specs.declared.config.Shape.{Shape}
-use Rattle.agg_types.specs.declared.limits.TheConstants.{LARGEST_SIZE, LONGEST_KEY, LONGEST_RANK}
-use Rattle.agg_types.specs.declared.limits.TheConstants.{MOST_CONDS}
+use Rattle.agg_types.specs.declared.limits.TheConstants.{HOLD_END, LARGEST_SIZE, LONGEST_KEY}
+use Rattle.agg_types.specs.declared.limits.TheConstants.{LONGEST_RANK, MOST_CONDS, SHORTEST_HOLD}
 use Rattle.line_words.specs.Operators.{operator_word}
 use Rattle.line_words.specs.Words.{are_comment}
 use Rattle.line_words.specs.declared.misread.Misread.{Misread}
-use Rattle.agg_config.specs.Declarations.{declared, filter_line, key_kind, length_of}
-use Rattle.agg_config.specs.Declarations.{line_declaration, me_line, peer_line, rank_line, shape}
-use Rattle.agg_config.specs.Declarations.{table_line}
+use Rattle.agg_config.specs.Declarations.{declared, filter_line, hold, key_kind, length_of}
+use Rattle.agg_config.specs.Declarations.{line_declaration, me_line, peer_line, push_line}
+use Rattle.agg_config.specs.Declarations.{rank_line, shape, table_line}
 use Rattle.agg_config.specs.Filters.{condition, conditions, known_bound}
 use Rattle.agg_config.specs.ReadResults.{read_each}
 use Rattle.agg_config.specs.Written.{condition_words, declaration_line, have_bounds, is_valid}
 use Rattle.agg_config.specs.Written.{is_valid_table, words_of}
 use Rattle.agg_config.specs.declared.declarations.Declaration.{Declaration}
 use Rattle.agg_config.specs.declared.declarations.Declaration.TheVariants.{Me, Peer, Table, Filter}
-use Rattle.agg_config.specs.declared.declarations.Declaration.TheVariants.{Rank}
+use Rattle.agg_config.specs.declared.declarations.Declaration.TheVariants.{Rank, Push}
 use Rattle.agg_config.proofs.ColumnsBack.{in_order_same, periods_back, store_are_words}
 use Rattle.agg_config.proofs.ColumnsBack.{stored_back}
 use Rattle.line_words.proofs.NamesBack.{column_back, column_is_word, data_back, data_is_word}
@@ -81,6 +82,28 @@ rank_words name table col n is_one is_its fits =
       column_is_word col,
       number_is_word n fits,
     ) refl
+
+-- ---- pushes
+
+hold_below : (hold : ℕ) → hold_fits (Some hold) ≡ true → hold < 2 ^ 64
+hold_below hold fits =
+    let last = ltb-true hold HOLD_END (both (leb SHORTEST_HOLD hold) _ fits).1 in
+    omega (arith, last)
+
+push_read : (name : List ℕ) (ms : Option ℕ) → hold_fits ms ≡ true
+    → line_declaration (record {
+      number = 1;
+      words = words_of (Push (record { name = name; hold = ms }));
+    }) ≡ Ok (Push (record { name = name; hold = ms }))
+unfolding line_declaration push_line hold
+push_read name None fits = refl
+push_read name (Some ms) fits = rw (number_back ms (hold_below ms fits)) refl
+
+push_words : (name : List ℕ) (ms : Option ℕ) → is_name name ≡ true → hold_fits ms ≡ true
+    → list_all is_word (words_of (Push (record { name = name; hold = ms }))) ≡ true
+push_words name None is fits = rw (name_is_word name is) refl
+push_words name (Some ms) is fits =
+    rw (name_is_word name is, number_is_word ms (hold_below ms fits)) refl
 
 -- ---- filters
 
@@ -269,6 +292,9 @@ line_words (Rank name table col n) valid =
     let two = both (is_name name && is_name table) (is_within n LONGEST_RANK) valid in
     let one = both (is_name name) (is_name table) two.0 in
     rank_words name table col n one.0 one.1 (omega (arith, within_most n LONGEST_RANK two.1))
+line_words (Push push) valid =
+    let two = both (is_name push.name) (hold_fits push.hold) valid in
+    push_words push.name push.hold two.0 two.1
 
 line_read : (declaration : Declaration) → is_valid declaration ≡ true
     → line_declaration (record { number = 1; words = words_of declaration }) ≡ Ok declaration
@@ -285,6 +311,9 @@ line_read (Filter name table conds) valid =
 line_read (Rank name table col n) valid =
     let two = both (is_name name && is_name table) (is_within n LONGEST_RANK) valid in
     rank_read name table col n (omega (arith, within_most n LONGEST_RANK two.1))
+line_read (Push push) valid =
+    let two = both (is_name push.name) (hold_fits push.hold) valid in
+    push_read push.name push.hold two.1
 
 says_something : (declaration : Declaration) → are_comment (words_of declaration) ≡ false
 says_something (Me name) = refl
@@ -292,6 +321,7 @@ says_something (Peer name) = refl
 says_something (Table table) = refl
 says_something (Filter name table conds) = refl
 says_something (Rank name table col n) = refl
+says_something (Push push) = refl
 
 pub line_back : (declaration : Declaration) → is_valid declaration ≡ true
     → declared (declaration_line declaration) ≡ Ok (Some declaration)

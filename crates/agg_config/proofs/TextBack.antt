@@ -2,7 +2,7 @@
 use Rattle.std.proofs.Common.{◌≡◌, ℕ, Bool, true, false, ◌&&◌, ◌||◌, List, [], ◌∷◌, ◌++◌, length}
 use Rattle.std.proofs.Common.{map, refl, ap, subst, sym, ◌∙◌, append_assoc, append-nil}
 use Rattle.std.specs.List.{flat_map, list_all}
-use Rattle.agg_types.specs.Check.{config_faults}
+use Rattle.agg_types.specs.Check.{all_faults}
 use Rattle.agg_types.specs.declared.config.Config.{Config}
 use Rattle.line_words.specs.Words.{lines_of}
 use Rattle.line_words.proofs.Splitting.{lines_of_empty}
@@ -34,7 +34,7 @@ lines_back (d ∷ declarations) all =
 
 -- a line of a declaration passes
 pub passes : (config : Config) (named : Bool) (d : Declaration) → is_valid d ≡ true
-    → config_faults (declaring config d) ≡ [] → (named && is_me d) ≡ false
+    → all_faults (declaring config d) ≡ [] → (named && is_me d) ≡ false
     → Passes config named (meaning (declaration_line d)) (declaring config d) (named || is_me d)
 passes config named d valid faultless second = record {
   faultless = rw (line_back d valid, faultless, second) refl;
@@ -46,7 +46,7 @@ passes config named d valid faultless second = record {
 pub record Follows (config : Config) (d : Declaration) : Type 0 where
   pub valid : is_valid d ≡ true
   pub other : is_me d ≡ false
-  pub faultless : config_faults (declaring config d) ≡ []
+  pub faultless : all_faults (declaring config d) ≡ []
 
 -- these declarations, one after the other, make this of a configuration that has its name
 abbrev pub Lead : Config → List Declaration → Config → Type 0
@@ -59,7 +59,7 @@ Named lines config = AreWritten lines config true (length lines)
 
 one_line : (lines : List (List ℕ)) (config : Config) (named : Bool) (d : Declaration)
     → AreWritten lines config named (length lines) → is_valid d ≡ true
-    → config_faults (declaring config d) ≡ [] → (named && is_me d) ≡ false
+    → all_faults (declaring config d) ≡ [] → (named && is_me d) ≡ false
     → (named || is_me d) ≡ true
     → Named (lines ++ declaration_line d ∷ []) (declaring config d)
 one_line lines config named d h valid faultless second has =
@@ -95,11 +95,11 @@ valid_lead config (d ∷ more) after p =
 -- the first line gives the name, and the others lead to the configuration
 pub text_back : (first : Config) (before : Config) (me : Declaration) (more : List Declaration)
     (after : Config) → AreWritten [] before false 0 → is_me me ≡ true → is_valid me ≡ true
-    → declaring before me ≡ first → config_faults first ≡ [] → Lead first more after
+    → declaring before me ≡ first → all_faults first ≡ [] → Lead first more after
     → Write (lines_of (text_for (me ∷ more))) after
 text_back first before me more after none is valid makes faultless lead =
     let start : Named (declaration_line me ∷ []) (declaring before me) =
-    one_line [] before false me none valid (ap config_faults makes ∙ faultless) refl is in
+    one_line [] before false me none valid (ap all_faults makes ∙ faultless) refl is in
     let whole : Named (map declaration_line (me ∷ more)) after =
     lead_on (declaration_line me ∷ []) first more after (subst (λ c.
     Named (declaration_line me ∷ []) c) makes start) lead in

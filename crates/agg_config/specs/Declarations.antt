@@ -1,5 +1,6 @@
 -- What a line declares, by its words. A number that is none is a fault only behind the last word.
 use Rattle.std.specs.Prelude.{ℕ, ◌==◌, if◌then◌else◌, List, length, codes, Option, None, Some}
+use Rattle.std.specs.Prelude.{nat_eq}
 use Rattle.std.specs.Prelude.{Result, Ok, Err}
 use Rattle.std.specs.Str.{bytes_eq}
 use Rattle.agg_types.specs.declared.column.Col.{Col}
@@ -15,7 +16,7 @@ use Rattle.agg_config.specs.Filters.{conditions, known_bound}
 use Rattle.agg_config.specs.ReadResults.{read_each}
 use Rattle.agg_config.specs.declared.declarations.Declaration.{Declaration}
 use Rattle.agg_config.specs.declared.declarations.Declaration.TheVariants.{Me, Peer, Table, Filter}
-use Rattle.agg_config.specs.declared.declarations.Declaration.TheVariants.{Rank}
+use Rattle.agg_config.specs.declared.declarations.Declaration.TheVariants.{Rank, Push}
 
 -- `name <name>`, behind its first word
 unfoldable pub me_line : Left → Result Declaration Misread
@@ -101,6 +102,22 @@ rank_line left = do
   n ← n.0
   Ok (Rank name.0 table.0 col.0 n)
 
+-- `hold <ms>`, or nothing
+unfoldable pub hold : Left → Result (Result (Option ℕ) Misread × Left) Misread
+hold left = if nat_eq (length left.words) 0 then Ok (Ok None, left) else do
+  hold ← keyword (codes "hold") left
+  ms ← number hold.1
+  Ok (ms.0 >>= λ ms. Ok (Some ms), ms.1)
+
+-- `push <filter>`, and `hold <ms>` where there is one
+unfoldable pub push_line : Left → Result Declaration Misread
+push_line left = do
+  name ← word Name left
+  hold ← hold name.1
+  none ← end hold.1
+  hold ← hold.0
+  Ok (Push (record { name = name.0; hold = hold }))
+
 -- what the words of a line declare, by the first of them, which stands at this place
 abbrev pub line_named : ℕ → List ℕ → Left → Result Declaration Misread
 line_named place kind left =
@@ -109,6 +126,7 @@ line_named place kind left =
     else if bytes_eq kind (codes "table") then table_line left
     else if bytes_eq kind (codes "filter") then filter_line left
     else if bytes_eq kind (codes "rank") then rank_line left
+    else if bytes_eq kind (codes "push") then push_line left
     else Err (wrong place Keyword)
 
 unfoldable pub line_declaration : Left → Result Declaration Misread

@@ -6,7 +6,7 @@ use Rattle.std.specs.Prelude.{slice_index_or, codes, Option, None, Some, Result,
 use Rattle.std.specs.Fmt.{decimal}
 use Rattle.std.specs.List.{list_any}
 use Rattle.std.specs.Str.{bytes_eq}
-use Rattle.agg_types.specs.Check.{config_faults, fault_if}
+use Rattle.agg_types.specs.Check.{all_faults, fault_if}
 use Rattle.agg_types.specs.FaultName.{config_fault_name}
 use Rattle.agg_types.specs.declared.check.ConfigFault.{ConfigFault}
 use Rattle.agg_types.specs.declared.check.ConfigFault.TheVariants.{Duplicate}
@@ -27,7 +27,7 @@ use Rattle.agg_config.specs.declared.causes.Unread.TheVariants as unread
 use Rattle.agg_config.specs.declared.causes.Wrong.{Wrong}
 use Rattle.agg_config.specs.declared.declarations.Declaration.{Declaration}
 use Rattle.agg_config.specs.declared.declarations.Declaration.TheVariants.{Me, Peer, Table, Filter}
-use Rattle.agg_config.specs.declared.declarations.Declaration.TheVariants.{Rank}
+use Rattle.agg_config.specs.declared.declarations.Declaration.TheVariants.{Rank, Push}
 
 -- the position of the table of this name; past the last where there is none
 abbrev pub table_at : List Shape → List ℕ → ℕ
@@ -47,6 +47,7 @@ declaring config (Rank name table col n) =
     let at = table_at config.tables table in
     let rank : Ranks.Rank = record { name = name; table = at; col = col; n = n } in
     record config { ranks = config.ranks ++ rank ∷ [] }
+declaring config (Push push) = record config { pushes = config.pushes ++ push ∷ [] }
 
 -- whether it is the collector's name
 abbrev pub is_me : Declaration → Bool
@@ -55,6 +56,7 @@ is_me (Peer name) = false
 is_me (Table shape) = false
 is_me (Filter name table conds) = false
 is_me (Rank name table col n) = false
+is_me (Push push) = false
 
 -- a cause's name
 abbrev pub cause_name : LineCause → List ℕ
@@ -116,7 +118,8 @@ names (Ok (Some declaration)) = is_me declaration
 
 -- before the first line: nothing, under the name `-` until it has one
 abbrev pub opening : Config
-opening = record { me = 45 ∷ []; peers = []; tables = []; filters = []; ranks = [] }
+opening =
+    record { me = 45 ∷ []; peers = []; tables = []; filters = []; ranks = []; pushes = [] }
 
 -- what lines write
 unfoldable pub written : List (List ℕ) → Config
@@ -132,7 +135,7 @@ faults_behind config named (Err misread) = wrong_word misread ∷ []
 faults_behind config named (Ok None) = []
 faults_behind config named (Ok (Some declaration)) =
     let second = fault_if (named && is_me declaration) Duplicate in
-    map wrong_check (config_faults (declaring config declaration) ++ second)
+    map wrong_check (all_faults (declaring config declaration) ++ second)
 
 -- a line is read without a fault: what it leaves
 pub record Passes (config : Config) (named : Bool) (line : Meaning) (after : Config)

@@ -1,10 +1,10 @@
 -- A configuration written out: a line for each thing that it declares.
 use Rattle.std.specs.Prelude.{ℕ, ◌^◌, Bool, ◌&&◌, if◌then◌else◌, nat_lt, List, [], ◌∷◌, ◌++◌}
-use Rattle.std.specs.Prelude.{length, map, slice_get, codes}
+use Rattle.std.specs.Prelude.{length, map, slice_get, codes, Option, None, Some}
 use Rattle.std.specs.Fmt.{decimal}
 use Rattle.std.specs.List.{flat_map, join_with_byte, list_all}
 use Rattle.std.specs.Option.{option_map_or}
-use Rattle.agg_types.specs.Check.{ascends, is_within, len_fits, period_fits}
+use Rattle.agg_types.specs.Check.{ascends, hold_fits, is_within, len_fits, period_fits}
 use Rattle.agg_types.specs.Col.{col_id, col_name, is_rate}
 use Rattle.agg_types.specs.Name.{is_name}
 use Rattle.agg_types.specs.declared.column.Col.{Col}
@@ -19,7 +19,7 @@ use Rattle.agg_types.specs.declared.limits.TheConstants.{LARGEST_SIZE, LONGEST_R
 use Rattle.line_words.specs.Operators.{operator_word}
 use Rattle.agg_config.specs.declared.declarations.Declaration.{Declaration}
 use Rattle.agg_config.specs.declared.declarations.Declaration.TheVariants.{Me, Peer, Table, Filter}
-use Rattle.agg_config.specs.declared.declarations.Declaration.TheVariants.{Rank}
+use Rattle.agg_config.specs.declared.declarations.Declaration.TheVariants.{Rank, Push}
 
 -- the words for a kind of keys
 abbrev pub kind_words : KeyKind → List (List ℕ)
@@ -45,6 +45,11 @@ abbrev pub condition_words : Cond → List (List ℕ)
 condition_words cond =
     (codes "data." ++ col_name cond.col) ∷ operator_word cond.op ∷ decimal cond.bound ∷ []
 
+-- `hold` and its ms, where there is a hold
+abbrev pub hold_words : Option ℕ → List (List ℕ)
+hold_words None = []
+hold_words (Some hold) = codes "hold" ∷ decimal hold ∷ []
+
 -- the words of a declaration's line
 abbrev pub words_of : Declaration → List (List ℕ)
 words_of (Me name) = codes "name" ∷ name ∷ []
@@ -53,6 +58,7 @@ words_of (Table shape) = codes "table" ∷ shape.name ∷ codes "type" ∷ (kind
     ++ codes "size" ∷ decimal shape.size ∷ store_words shape.cols)
 words_of (Filter name table conds) = codes "filter" ∷ name ∷ table ∷ flat_map condition_words conds
 words_of (Rank name table col n) = codes "rank" ∷ name ∷ table ∷ col_name col ∷ decimal n ∷ []
+words_of (Push push) = codes "push" ∷ push.name ∷ hold_words push.hold
 
 -- the line: its words, with one space between them
 abbrev pub declaration_line : Declaration → List ℕ
@@ -76,6 +82,7 @@ is_valid (Table shape) = is_valid_table shape
 is_valid (Filter name table conds) = is_name name && is_name table
     && is_within (length conds) MOST_CONDS && have_bounds conds
 is_valid (Rank name table col n) = is_name name && is_name table && is_within n LONGEST_RANK
+is_valid (Push push) = is_name push.name && hold_fits push.hold
 
 -- the name of the table at a position
 abbrev pub table_name : List Shape → ℕ → List ℕ
@@ -89,11 +96,12 @@ filter_of tables filter = Filter filter.name (table_name tables filter.table) fi
 abbrev pub rank_of : List Shape → Ranks.Rank → Declaration
 rank_of tables rank = Rank rank.name (table_name tables rank.table) rank.col rank.n
 
--- what a configuration declares: its name, then peers, tables, filters and ranked lists
+-- what a configuration declares: its name, then peers, tables, filters, ranked lists and what it
+-- pushes
 abbrev pub declarations_of : Config → List Declaration
 declarations_of config = Me config.me ∷ (map Peer config.peers ++ (map Table config.tables
     ++ (map (filter_of config.tables) config.filters
-    ++ map (rank_of config.tables) config.ranks)))
+    ++ (map (rank_of config.tables) config.ranks ++ map Push config.pushes))))
 
 -- the text of a configuration: a line for each, ended by LF
 abbrev pub text_of : Config → List ℕ

@@ -2,9 +2,9 @@
 
 ghost use Rattle.std.specs.Prelude.{◌≡◌, ◌||◌, true, Err, is_ok};
 ghost use Rattle.line_words.specs.Reader.{Reads};
-ghost use Rattle.agg_config.specs.Declarations.{declared, filter_line, key_kind, length_of};
-ghost use Rattle.agg_config.specs.Declarations.{line_declaration, me_line, peer_line, rank_line};
-ghost use Rattle.agg_config.specs.Declarations.{shape, table_line};
+ghost use Rattle.agg_config.specs.Declarations.{declared, filter_line, hold, key_kind, length_of};
+ghost use Rattle.agg_config.specs.Declarations.{line_declaration, me_line, peer_line, push_line};
+ghost use Rattle.agg_config.specs.Declarations.{rank_line, shape, table_line};
 ghost use Rattle.agg_config.specs.ReadResults.{Gives, GivesWhole};
 ghost use Rattle.agg_config.specs.Reading.{has_list, takes_memory};
 ghost use Rattle.agg_config.specs.declared.causes.Unread.TheVariants.{NoMemory as Refused};
@@ -12,11 +12,11 @@ ghost use Rattle.agg_config.specs.declared.causes.Unread.TheVariants.{NoMemory a
 use crate::Unread;
 use crate::columns::{Stored, in_order, known_periods, stored};
 use crate::filters::{conditions, known_bounds};
-use agg_types::{Col, Cond, Items, KeyKind, Name, Shape};
+use agg_types::{Col, Cond, Items, KeyKind, Name, Push, Shape};
 use line_words::{Expected, Misread, Words, is_comment};
 use std::alloc::Global;
 
-/// What a line declares. A filter and a ranked list name their table.
+/// What a line declares. A filter and a ranked list name their table, a push its filter.
 #[derive(Drop)]
 pub(crate) enum Declaration {
     Me(Name),
@@ -33,6 +33,7 @@ pub(crate) enum Declaration {
         col: Col,
         n: u64,
     },
+    Push(Push),
 }
 
 /// What a line declares, or nothing where it is blank or a comment.
@@ -55,13 +56,21 @@ fn line_declaration(alloc: Global, words: &mut Words<'_>) -> Result<Declaration,
         || has_list words.old.words) ≡ true }
 {
     let place = words.place();
-    match words.word(Expected::Keyword)? {
-        b"name" => me_line(alloc, words),
-        b"peer" => peer_line(alloc, words),
-        b"table" => table_line(alloc, words),
-        b"filter" => filter_line(alloc, words),
-        b"rank" => rank_line(alloc, words),
-        _ => Err(Unread::Misread(Misread::wrong(place, Expected::Keyword))),
+    let kind = words.word(Expected::Keyword)?;
+    if kind == b"name".as_slice() {
+        me_line(alloc, words)
+    } else if kind == b"peer".as_slice() {
+        peer_line(alloc, words)
+    } else if kind == b"table".as_slice() {
+        table_line(alloc, words)
+    } else if kind == b"filter".as_slice() {
+        filter_line(alloc, words)
+    } else if kind == b"rank".as_slice() {
+        rank_line(alloc, words)
+    } else if kind == b"push".as_slice() {
+        push_line(alloc, words)
+    } else {
+        Err(Unread::Misread(Misread::wrong(place, Expected::Keyword)))
     }
 }
 
@@ -183,4 +192,29 @@ fn rank_line(alloc: Global, words: &mut Words<'_>) -> Result<Declaration, Unread
         table: Name::copy(alloc, table)?,
         col,
     })
+}
+
+#[tactic(auto, unfolding(crate::specs::Declarations::push_line))]
+fn push_line(alloc: Global, words: &mut Words<'_>) -> Result<Declaration, Unread>
+    ensures { GivesWhole (λ x. x) result (push_line words.old) }
+{
+    let name = words.word(Expected::Name)?;
+    let hold = hold(words)?;
+    words.end()?;
+    Ok(Declaration::Push(Push {
+        hold: hold?,
+        name: Name::copy(alloc, name)?,
+    }))
+}
+
+// The hold, if there is one, or why it is no number.
+#[tactic(auto, unfolding(crate::specs::Declarations::hold))]
+fn hold(words: &mut Words<'_>) -> Result<Result<Option<u64>, Misread>, Misread>
+    ensures { Reads (λ x. x) (hold words.old) result words.new }
+{
+    if words.is_empty() {
+        return Ok(Ok(None));
+    }
+    words.keyword(b"hold")?;
+    Ok(words.number()?.map(Some))
 }

@@ -3,7 +3,7 @@
 
 ghost use Rattle.std.specs.Prelude.{◌≡◌, true, [], Ok, Some};
 ghost use Rattle.std.specs.List.{list_all};
-ghost use Rattle.agg_types.specs.Check.{config_faults};
+ghost use Rattle.agg_types.specs.Check.{all_faults};
 ghost use Rattle.agg_types.specs.declared.config.Config.{Config};
 ghost use Rattle.line_words.specs.Words.{lines_of};
 ghost use Rattle.agg_config.specs.Columns.{in_order, of_column};
@@ -38,7 +38,7 @@ pub fn written_line_is_read()
 /// bound of 2^64 or more would be written as a number that no line may have; a program's bounds
 /// are `u64`, and so always below that.
 pub fn written_configuration_is_read()
-    ensures { (config : Config) → config_faults config ≡ []
+    ensures { (config : Config) → all_faults config ≡ []
         → list_all (λ filter. have_bounds filter.conds) config.filters ≡ true
         → Write (lines_of (text_of config)) config }
 {}

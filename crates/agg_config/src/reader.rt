@@ -2,7 +2,7 @@
 
 ghost use Rattle.std.specs.Prelude.{◌≡◌, ◌≤◌, ◌<◌, ◌+◌, ◌^◌, ◌++◌, ℕ, true, List, [], ◌∷◌, None};
 ghost use Rattle.std.specs.Prelude.{OnOk, IfOk, IfErr};
-ghost use Rattle.agg_types.specs.Check.{config_faults};
+ghost use Rattle.agg_types.specs.Check.{all_faults, config_faults};
 ghost use Rattle.line_words.specs.Words.{lines_of};
 ghost use Rattle.agg_config.specs.Reading.{FailsFirst, IsFirstFault, Passes, Write, declaring};
 ghost use Rattle.agg_config.specs.Reading.{faults_behind, is_me, meaning, opening, table_at};
@@ -61,14 +61,15 @@ fn declare(config: &mut Config, declaration: Declaration) -> Result<(), NoMemory
                 n,
             })?
         }
+        Declaration::Push(push) => config.pushes.push(push)?,
     }
     Ok(())
 }
 
 // Reads a line behind the others. After a fault the configuration is of no use.
 fn read_line(alloc: Global, config: &mut Config, named: &mut bool, line: &[u8]) -> Result<(), Wrong>
-    requires { config_faults config.old ≡ [] }
-    ensures sound { OnOk result (config_faults config.new ≡ []) }
+    requires { all_faults config.old ≡ [] }
+    ensures sound { OnOk result (all_faults config.new ≡ []) }
     ensures ok { OnOk result (Passes config.old named.old (meaning line.now) config.new named.new) }
     ensures err { IfErr result (λ wrong. FailsFirst wrong
         (faults_behind config.old named.old (meaning line.now))) }
@@ -100,7 +101,7 @@ fn wrong_check(fault: ConfigFault) -> Wrong
     }
 }
 
-// No peer, table, filter or ranked list, under a name that isn't the collector's yet.
+// No peer, table, filter, ranked list or push, under a name that isn't the collector's yet.
 fn opening(alloc: Global) -> Result<Config, NoMemory>
     ensures { IfOk result (λ config. config ≡ opening) }
 {
@@ -110,6 +111,7 @@ fn opening(alloc: Global) -> Result<Config, NoMemory>
         tables: Declared::new(alloc),
         filters: Declared::new(alloc),
         ranks: Declared::new(alloc),
+        pushes: Declared::new(alloc),
     })
 }
 
@@ -122,7 +124,7 @@ pub struct Reader {
     named: bool,
     count: usize,
     fault: Option<LineFault>,
-    ghost sound: { fault ≡ None → config_faults config ≡ [] },
+    ghost sound: { fault ≡ None → all_faults config ≡ [] },
     ghost counted: { count ≤ 2 ^ 63 },
 }
 
@@ -169,6 +171,7 @@ impl Reader {
     /// line behind the last.
     pub fn finish(self) -> Result<Config, LineFault>
         ensures finished { (lines : List (List ℕ)) → HasRead self lines → Finishes lines result }
+        ensures faultless { IfOk result (λ config. all_faults config ≡ []) }
         ensures sound { IfOk result (λ config. config_faults config ≡ []) }
     {
         let Reader {
@@ -199,6 +202,7 @@ impl Reader {
 /// is HAProxy's `peers` section and its `stick-table` lines (Configuration Manual).
 pub fn read(alloc: Global, text: &[u8]) -> Result<Config, LineFault>
     ensures written { IfOk result (Write (lines_of text.now)) }
+    ensures faultless { IfOk result (λ config. all_faults config ≡ []) }
     ensures sound { IfOk result (λ config. config_faults config ≡ []) }
     ensures fault { IfErr result (IsFirstFault (lines_of text.now)) }
 {

@@ -1,25 +1,28 @@
 use Rattle.std.specs.Prelude.{◌≡◌, ℕ, ◌^◌, Bool, true, ◌&&◌, ◌||◌, not, if◌then◌else◌, ◌==◌}
 use Rattle.std.specs.Prelude.{nat_le, nat_lt, List, [], ◌∷◌, ◌++◌, length, map, Some}
-use Rattle.std.specs.Prelude.{is_none, slice_get, Result, MatchResult}
+use Rattle.std.specs.Prelude.{is_none, slice_get, Option, None, Result, MatchResult}
 use Rattle.std.specs.List.{list_all, list_any}
 use Rattle.std.specs.Str.{bytes_eq}
 use Rattle.agg_types.specs.Col.{col_id, is_rate}
 use Rattle.agg_types.specs.Fits.{at_table, stores}
 use Rattle.agg_types.specs.Name.{is_name}
 use Rattle.agg_types.specs.declared.column.Col.{Col}
-use Rattle.agg_types.specs.declared.limits.TheConstants.{LARGEST_SIZE, LONGEST_KEY, LONGEST_RANK}
+use Rattle.agg_types.specs.declared.limits.TheConstants.{HOLD_END, LARGEST_SIZE, LONGEST_KEY}
+use Rattle.agg_types.specs.declared.limits.TheConstants.{LONGEST_RANK, SHORTEST_HOLD}
 use Rattle.agg_types.specs.declared.limits.TheConstants.{MOST_CONDS, MOST_FILTERS, MOST_PEERS}
-use Rattle.agg_types.specs.declared.limits.TheConstants.{MOST_RANKS, MOST_TABLES, PERIOD_END}
+use Rattle.agg_types.specs.declared.limits.TheConstants.{MOST_PUSHES, MOST_RANKS, MOST_TABLES}
+use Rattle.agg_types.specs.declared.limits.TheConstants.{PERIOD_END}
 use Rattle.agg_types.specs.declared.config.Config.{Config}
 use Rattle.agg_types.specs.declared.config.Filter.{Filter}
 use Rattle.agg_types.specs.declared.config.KeyKind.{KeyKind}
 use Rattle.agg_types.specs.declared.config.KeyKind.TheVariants.{Integer, Ip, Ipv6, Str, Binary}
+use Rattle.agg_types.specs.declared.config.Push.{Push}
 use Rattle.agg_types.specs.declared.config.Rank.{Rank}
 use Rattle.agg_types.specs.declared.config.Shape.{Shape}
 use Rattle.agg_types.specs.declared.check.ConfigFault.{ConfigFault}
 use Rattle.agg_types.specs.declared.check.ConfigFault.TheVariants.{Duplicate, TooMany, UnknownTable}
 use Rattle.agg_types.specs.declared.check.ConfigFault.TheVariants.{UnknownColumn, BadPeriod}
-use Rattle.agg_types.specs.declared.check.ConfigFault.TheVariants.{BadSize, BadName}
+use Rattle.agg_types.specs.declared.check.ConfigFault.TheVariants.{BadSize, BadName, UnknownFilter}
 
 -- a fault, where the test says that it is there
 abbrev pub fault_if : Bool → ConfigFault → List ConfigFault
@@ -98,7 +101,22 @@ rank_faults tables before rank =
     UnknownColumn
     ++ fault_if (not (is_within rank.n LONGEST_RANK)) BadSize
 
--- the faults of a configuration, in the order in which they count
+-- a hold is 1 s to 2^31 - 1 ms, where there is one
+abbrev pub hold_fits : Option ℕ → Bool
+hold_fits None = true
+hold_fits (Some hold) = nat_le SHORTEST_HOLD hold && nat_lt hold HOLD_END
+
+-- the faults of a pushed filter, which follow from those before it: its name is that of a filter,
+-- and of no table, since proxies know the set under that name
+unfoldable pub push_faults : List Shape → List Filter → List Push → Push → List ConfigFault
+push_faults tables filters before push =
+    fault_if (nat_le MOST_PUSHES (length before)) TooMany
+    ++ fault_if (list_any (λ other. bytes_eq other.name push.name) before
+    || list_any (λ shape. bytes_eq shape.name push.name) tables) Duplicate
+    ++ fault_if (not (list_any (λ filter. bytes_eq filter.name push.name) filters)) UnknownFilter
+    ++ fault_if (not (hold_fits push.hold)) BadPeriod
+
+-- the faults of what a fleet is followed by, in the order in which they count
 abbrev pub config_faults : Config → List ConfigFault
 config_faults config =
     fault_if (not (is_name config.me)) BadName
@@ -106,6 +124,12 @@ config_faults config =
     ++ each table_faults [] config.tables
     ++ each (filter_faults config.tables) [] config.filters
     ++ each (rank_faults config.tables) [] config.ranks
+
+-- the faults of a configuration, in the order in which they count: those of what it follows, and
+-- those of what it pushes
+abbrev pub all_faults : Config → List ConfigFault
+all_faults config =
+    config_faults config ++ each (push_faults config.tables config.filters) [] config.pushes
 
 -- Ok where there are no faults, else the first of them
 abbrev pub FindsFirst : Result (Unit {0}) ConfigFault → List ConfigFault → Type 0

@@ -3,7 +3,7 @@ use Rattle.std.specs.Prelude.{ℕ, List, codes}
 use Rattle.agg_types.specs.declared.check.ConfigFault.{ConfigFault}
 use Rattle.agg_types.specs.declared.check.ConfigFault.TheVariants.{Duplicate, TooMany, UnknownTable}
 use Rattle.agg_types.specs.declared.check.ConfigFault.TheVariants.{UnknownColumn, BadPeriod}
-use Rattle.agg_types.specs.declared.check.ConfigFault.TheVariants.{BadSize, BadName}
+use Rattle.agg_types.specs.declared.check.ConfigFault.TheVariants.{BadSize, BadName, UnknownFilter}
 
 -- a fault's name
 abbrev pub config_fault_name : ConfigFault → List ℕ
@@ -14,3 +14,4 @@ config_fault_name UnknownColumn = codes "UnknownColumn"
 config_fault_name BadPeriod = codes "BadPeriod"
 config_fault_name BadSize = codes "BadSize"
 config_fault_name BadName = codes "BadName"
+config_fault_name UnknownFilter = codes "UnknownFilter"

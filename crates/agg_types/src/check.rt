@@ -3,36 +3,40 @@ ghost use Rattle.std.specs.List.{list_all, list_any};
 ghost use Rattle.std.specs.Str.{bytes_eq};
 ghost use Rattle.agg_types.specs.Col.{col_id};
 ghost use Rattle.agg_types.specs.FaultName.{config_fault_name};
-ghost use Rattle.agg_types.specs.Check.{FindsFirst, ascends, config_faults, each, filter_faults};
-ghost use Rattle.agg_types.specs.Check.{is_within, len_fits, peer_faults, period_fits, rank_faults};
-ghost use Rattle.agg_types.specs.Check.{table_faults};
+ghost use Rattle.agg_types.specs.Check.{FindsFirst, all_faults, ascends, each, filter_faults};
+ghost use Rattle.agg_types.specs.Check.{hold_fits, is_within, len_fits, peer_faults, period_fits};
+ghost use Rattle.agg_types.specs.Check.{push_faults, rank_faults, table_faults};
 
 use crate::fits::all_stored;
 use crate::limits::{
-    LARGEST_SIZE, LONGEST_KEY, LONGEST_RANK, MOST_CONDS, MOST_FILTERS, MOST_PEERS, MOST_RANKS,
-    MOST_TABLES, PERIOD_END,
+    HOLD_END, LARGEST_SIZE, LONGEST_KEY, LONGEST_RANK, MOST_CONDS, MOST_FILTERS, MOST_PEERS,
+    MOST_PUSHES, MOST_RANKS, MOST_TABLES, PERIOD_END, SHORTEST_HOLD,
 };
-use crate::{Col, Config, Declared, Filter, KeyKind, Name, Named, Rank, Shape};
+use crate::{Col, Config, Declared, Filter, KeyKind, Name, Named, Push, Rank, Shape};
 use std::error::Error;
 use std::fmt;
 
 /// What is wrong with a configuration. Its text is its name.
 #[derive(Clone, Copy, Debug, PartialEq, Eq)]
 pub enum ConfigFault {
-    /// A name stands twice among its kind, or a table's columns don't ascend.
+    /// A name stands twice among its kind, a table's columns don't ascend, or a pushed filter has
+    /// the name of a table.
     Duplicate,
-    /// More peers, tables, filters, conditions or ranked lists than there may be.
+    /// More peers, tables, filters, conditions, ranked lists or pushed filters than there may be.
     TooMany,
     /// A filter or a ranked list of a table that isn't there.
     UnknownTable,
     /// A condition or a ranked list on a column that its table doesn't store.
     UnknownColumn,
-    /// A rate without a period of 1 to 2^31 - 1 ms, or a count with one.
+    /// A rate without a period of 1 to 2^31 - 1 ms, or a count with one; a hold outside 1,000 to
+    /// 2^31 - 1 ms.
     BadPeriod,
     /// A table's size or key length, a list's length or a filter's conditions out of range.
     BadSize,
     /// A name that is empty, has more than 128 bytes, or a byte outside 33 to 126.
     BadName,
+    /// A push of a filter that isn't there.
+    UnknownFilter,
 }
 
 impl ConfigFault {
@@ -48,6 +52,7 @@ impl ConfigFault {
             ConfigFault::BadPeriod => "BadPeriod",
             ConfigFault::BadSize => "BadSize",
             ConfigFault::BadName => "BadName",
+            ConfigFault::UnknownFilter => "UnknownFilter",
         }
     }
 }
@@ -63,19 +68,20 @@ impl Error for ConfigFault {}
 
 impl Config {
     /// Whether the configuration is sound. The fault is the first, in the order of the collector's
-    /// name, peers, tables, filters and ranked lists; in an entry TooMany comes first, then
-    /// BadName, Duplicate, UnknownTable, UnknownColumn, BadPeriod, BadSize.
+    /// name, peers, tables, filters, ranked lists and pushed filters; in an entry TooMany comes
+    /// first, then BadName, Duplicate, UnknownTable, UnknownColumn, UnknownFilter, BadPeriod,
+    /// BadSize.
     pub fn check(&self) -> Result<(), ConfigFault>
-        ensures { FindsFirst result (config_faults self.now) }
+        ensures { FindsFirst result (all_faults self.now) }
     {
         if !self.me.is_valid() {
             return Err(ConfigFault::BadName);
         }
-        let tables = self.tables.as_slice();
-        check_each(tables, &self.peers)?;
-        check_each(tables, &self.tables)?;
-        check_each(tables, &self.filters)?;
-        check_each(tables, &self.ranks)?;
+        check_each(self, &self.peers)?;
+        check_each(self, &self.tables)?;
+        check_each(self, &self.filters)?;
+        check_each(self, &self.ranks)?;
+        check_each(self, &self.pushes)?;
         Ok(())
     }
 }
@@ -84,30 +90,25 @@ impl Config {
 trait Checked: Named {
     ghost use Rattle.std.specs.Prelude.{List};
     ghost use Rattle.agg_types.specs.declared.check.ConfigFault.{ConfigFault};
-    ghost use Rattle.agg_types.specs.declared.config.Shape.{Shape};
+    ghost use Rattle.agg_types.specs.declared.config.Config.{Config};
 
-    // The faults of an entry, which follow from the tables and the entries before it.
-    ghost faults: { List Shape → List Self → Self → List ConfigFault };
+    // The faults of an entry, which follow from its configuration and the entries before it.
+    ghost faults: { Config → List Self → Self → List ConfigFault };
 
     // The first fault of an entry, where `named` says whether one before it has its name.
-    fn check_behind(
-        &self,
-        tables: &[Shape],
-        before: &[Self],
-        named: bool,
-    ) -> Result<(), ConfigFault>
+    fn check_behind(&self, config: &Config, before: &[Self], named: bool) -> Result<(), ConfigFault>
         requires { named ≡ list_any (λ other. bytes_eq (Self.name_of other) (Self.name_of self.now))
             before.now }
-        ensures { FindsFirst result (faults tables.now before.now self.now) };
+        ensures { FindsFirst result (faults config.now before.now self.now) };
 }
 
-fn check_each<T: Checked>(tables: &[Shape], entries: &Declared<T>) -> Result<(), ConfigFault>
-    ensures { FindsFirst result (each (T.faults tables.now) [] entries.now) }
+fn check_each<T: Checked>(config: &Config, entries: &Declared<T>) -> Result<(), ConfigFault>
+    ensures { FindsFirst result (each (T.faults config.now) [] entries.now) }
 {
     let listed = entries.as_slice();
     for (i, entry) in listed.iter().enumerate() {
         let named = entries.has_before(i, entry.name());
-        entry.check_behind(tables, &listed[..i], named)?;
+        entry.check_behind(config, &listed[..i], named)?;
     }
     Ok(())
 }
@@ -118,7 +119,7 @@ impl Checked for Name {
     #[tactic(auto, unfolding(crate::specs::Check::peer_faults))]
     fn check_behind(
         &self,
-        _tables: &[Shape],
+        _config: &Config,
         before: &[Name],
         named: bool,
     ) -> Result<(), ConfigFault> {
@@ -141,7 +142,7 @@ impl Checked for Shape {
     #[tactic(auto, unfolding(crate::specs::Check::table_faults))]
     fn check_behind(
         &self,
-        _tables: &[Shape],
+        _config: &Config,
         before: &[Shape],
         named: bool,
     ) -> Result<(), ConfigFault> {
@@ -165,12 +166,12 @@ impl Checked for Shape {
 }
 
 impl Checked for Filter {
-    ghost faults = { filter_faults };
+    ghost faults = { λ config. filter_faults config.tables };
 
     #[tactic(auto, unfolding(crate::specs::Check::filter_faults))]
     fn check_behind(
         &self,
-        tables: &[Shape],
+        config: &Config,
         before: &[Filter],
         named: bool,
     ) -> Result<(), ConfigFault> {
@@ -184,7 +185,7 @@ impl Checked for Filter {
         if named {
             return Err(ConfigFault::Duplicate);
         }
-        let Some(shape) = tables.get(self.table) else {
+        let Some(shape) = config.tables.get(self.table) else {
             return Err(ConfigFault::UnknownTable);
         };
         if !all_stored(shape.cols.as_slice(), conds) {
@@ -198,12 +199,12 @@ impl Checked for Filter {
 }
 
 impl Checked for Rank {
-    ghost faults = { rank_faults };
+    ghost faults = { λ config. rank_faults config.tables };
 
     #[tactic(auto, unfolding(crate::specs::Check::rank_faults))]
     fn check_behind(
         &self,
-        tables: &[Shape],
+        config: &Config,
         before: &[Rank],
         named: bool,
     ) -> Result<(), ConfigFault> {
@@ -216,7 +217,7 @@ impl Checked for Rank {
         if named {
             return Err(ConfigFault::Duplicate);
         }
-        let Some(shape) = tables.get(self.table) else {
+        let Some(shape) = config.tables.get(self.table) else {
             return Err(ConfigFault::UnknownTable);
         };
         if !shape.stores(self.col) {
@@ -226,6 +227,41 @@ impl Checked for Rank {
             return Err(ConfigFault::BadSize);
         }
         Ok(())
+    }
+}
+
+impl Checked for Push {
+    ghost faults = { λ config. push_faults config.tables config.filters };
+
+    #[tactic(auto, unfolding(crate::specs::Check::push_faults))]
+    fn check_behind(
+        &self,
+        config: &Config,
+        before: &[Push],
+        named: bool,
+    ) -> Result<(), ConfigFault> {
+        if before.len() >= MOST_PUSHES {
+            return Err(ConfigFault::TooMany);
+        }
+        if named || config.tables.contains(self.name.as_slice()) {
+            return Err(ConfigFault::Duplicate);
+        }
+        if !config.filters.contains(self.name.as_slice()) {
+            return Err(ConfigFault::UnknownFilter);
+        }
+        if !hold_fits(self.hold) {
+            return Err(ConfigFault::BadPeriod);
+        }
+        Ok(())
+    }
+}
+
+fn hold_fits(hold: Option<u64>) -> bool
+    ensures { result ≡ hold_fits hold }
+{
+    match hold {
+        None => true,
+        Some(hold) => SHORTEST_HOLD <= hold && hold < HOLD_END,
     }
 }
 

@@ -81,8 +81,18 @@ pub struct Rank {
     pub n: u64,
 }
 
+/// A filter whose set every proxy is told, under the filter's name.
+///
+/// With a hold, in ms, a key that has left the set stays told until so long after its last
+/// telling; without one it is taken away at once.
+#[derive(Debug, Drop)]
+pub struct Push {
+    pub name: Name,
+    pub hold: Option<u64>,
+}
+
 /// A collector's configuration: its own name, and its peers, tables, filters and ranked lists,
-/// which events name by position.
+/// which events name by position, and the filters that it pushes.
 #[derive(Debug, Drop)]
 pub struct Config {
     pub me: Name,
@@ -90,6 +100,7 @@ pub struct Config {
     pub tables: Declared<Shape>,
     pub filters: Declared<Filter>,
     pub ranks: Declared<Rank>,
+    pub pushes: Declared<Push>,
 }
 
 impl Named for Shape {
@@ -169,6 +180,30 @@ impl Rank {
     }
 }
 
+impl Named for Push {
+    ghost name_of = { λ push. push.name };
+
+    fn name(&self) -> &[u8] {
+        self.name.as_slice()
+    }
+
+    fn again(&self, alloc: Global) -> Result<Push, NoMemory> {
+        self.duplicate(alloc)
+    }
+}
+
+impl Push {
+    /// An equal push.
+    pub fn duplicate(&self, alloc: Global) -> Result<Push, NoMemory>
+        ensures { IfOk result (λ copied. copied ≡ self.now) }
+    {
+        Ok(Push {
+            name: self.name.duplicate(alloc)?,
+            hold: self.hold,
+        })
+    }
+}
+
 impl Config {
     /// An equal configuration: every field agrees.
     pub fn duplicate(&self, alloc: Global) -> Result<Config, NoMemory>
@@ -180,6 +215,7 @@ impl Config {
             tables: self.tables.duplicate(alloc)?,
             filters: self.filters.duplicate(alloc)?,
             ranks: self.ranks.duplicate(alloc)?,
+            pushes: self.pushes.duplicate(alloc)?,
         })
     }
 }

@@ -30,14 +30,14 @@ mod short_key;
 pub use cells::Cells;
 pub use check::ConfigFault;
 pub use column::{COLUMNS, Col, ColInfo, ColKind, LAST_TYPE};
-pub use config::{Cond, Config, Filter, KeyKind, Op, Rank, Shape};
+pub use config::{Cond, Config, Filter, KeyKind, Op, Push, Rank, Shape};
 pub use declared::{Declared, Named};
 pub use event::{Cell, Event, Select, What};
 pub use items::Items;
 pub use key::Key;
 pub use limits::{
-    LAST_MOMENT, LAST_SEAT, MOST_CONDS, MOST_FILTERS, MOST_PEERS, MOST_RANKS, MOST_SEATS,
-    MOST_TABLES, NUMBERS_END,
+    LAST_MOMENT, LAST_SEAT, MOST_CONDS, MOST_FILTERS, MOST_PEERS, MOST_PUSHES, MOST_RANKS,
+    MOST_SEATS, MOST_TABLES, NUMBERS_END,
 };
 pub use name::{Name, is_name};
 pub use no_memory::NoMemory;

@@ -12,6 +12,15 @@ pub const MOST_FILTERS: usize = 32;
 /// The most ranked lists.
 pub const MOST_RANKS: usize = 16;
 
+/// The most filters that are pushed.
+pub const MOST_PUSHES: usize = 16;
+
+/// The shortest hold of a pushed filter, in ms.
+pub const SHORTEST_HOLD: u64 = 1000;
+
+/// The first hold, in ms, that is too long.
+pub const HOLD_END: u64 = 1 << 31;
+
 /// The most conditions of a filter or of a command.
 pub const MOST_CONDS: usize = 4;
 

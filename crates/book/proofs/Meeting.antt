@@ -1,6 +1,7 @@
 -- The listed rows of a table: a walk in no order, filtered and sorted.
 use Rattle.std.proofs.Common.{◌≡◌, ℕ, zero, suc, Bool, true, false, cond, ◌&&◌, ◌==◌, not, List, []}
-use Rattle.std.proofs.Common.{◌∷◌, Option, None, Some, is_some, length, refl, sym, ap, ◌∙◌, ◌≤◌, arith}
+use Rattle.std.proofs.Common.{◌∷◌, Option, None, Some, is_some, length}
+use Rattle.std.proofs.Common.{refl, sym, ap, ◌∙◌, ◌≤◌, arith}
 use Rattle.std.specs.Prelude.{filter, map, slice_get, unwrap_or, ◌≢◌}
 use Rattle.std.specs.BTreeMap.{is_at}
 use Rattle.std.specs.Cmp.{eq_by_cmp_equiv}
@@ -43,7 +44,8 @@ use Rattle.book.specs.Planned.{IsInside}
 use Rattle.book.specs.Shown.{arrivals, of_peer, rows_worth}
 use Rattle.book.specs.Store.{IsEachKeyOf}
 use Rattle.book.proofs.Lists.{all-filter}
-use Rattle.book.proofs.Reading.{no_rows, peers_shown, summed_from, tally_same, worth_shown, worths_shown}
+use Rattle.book.proofs.Reading.{no_rows, peers_shown, summed_from}
+use Rattle.book.proofs.Reading.{tally_same, worth_shown, worths_shown}
 
 abbrev Shown : Type 0
 Shown = RowKey × Arrival

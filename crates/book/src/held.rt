@@ -318,6 +318,7 @@ fn no_filters(alloc: Global) -> Result<Config, NoMemory>
         tables: Declared::new(alloc),
         filters: Declared::new(alloc),
         ranks: Declared::new(alloc),
+        pushes: Declared::new(alloc),
     })
 }
 

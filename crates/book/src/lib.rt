@@ -2,8 +2,8 @@
 //! gives, and its answers.
 //!
 //! Contracts see a book as `fleet_model`'s state, with the clauses of `plain_book`, which it is
-//! compared with. Inside, rows lie by table, key and peer in `peer_rows`, which looks at them before
-//! they end, for each ranked list bounds are kept on the values of its table's keys, and
+//! compared with. Inside, rows lie by table, key and peer in `peer_rows`, which looks at them
+//! before they end, for each ranked list bounds are kept on the values of its table's keys, and
 //! for each standing filter verdicts on its table's keys (`standing_filters`). An update is a
 //! search and a row replaced, and its key is judged by the filters of its table. A moment looks at
 //! what is due and no more: rows that end, and verdicts that change. A filter's keys and its next

@@ -15,7 +15,7 @@ ghost use Rattle.book.specs.Store.{put_arrival};
 use crate::at::At;
 use crate::store::Size;
 use agg_types::{Cell, Col, Key, NoMemory};
-use peer_rows::{Held, Row, RowCells, Rows};
+use peer_rows::{Held, Row, RowCells, RowEnd, Rows};
 use period_rate::Rate;
 use std::alloc::Global;
 use std::mem;
@@ -38,8 +38,8 @@ pub fn new_row(
         cells: held,
         arrived: t,
         ends: match life {
-            None => None,
-            Some(life) => Some(t + life),
+            None => RowEnd::never(),
+            Some(life) => RowEnd::from(t + life),
         },
     })
 }

@@ -10,7 +10,7 @@ use peer_rows::Row;
 pub fn is_live(t: u64, row: &Row) -> bool
     ensures { result ≡ is_live t (as_arrival row.now) }
 {
-    match row.ends {
+    match row.ends.get() {
         None => true,
         Some(ends) => t < ends.max(row.arrived),
     }

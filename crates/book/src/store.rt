@@ -145,7 +145,8 @@ impl Store {
         }
     }
 
-    /// The keys of a table, each once with its rows, in no order. None where there is no such table.
+    /// The keys of a table, each once with its rows, in no order. None where there is no such
+    /// table.
     pub(crate) fn each_key(&self, table: usize) -> Option<EachKey<'_>>
         ensures { IsEachKeyOf self.now.rows table (unwrap_or result []) }
     {

@@ -8,11 +8,12 @@ use Rattle.std.specs.List.{flat_map, join_with_byte}
 use Rattle.agg_types.specs.declared.column.Col.{Col}
 use Rattle.agg_types.specs.declared.config.Config.{Config}
 use Rattle.agg_types.specs.declared.config.Filter.{Filter}
+use Rattle.agg_types.specs.declared.config.Push.{Push}
 use Rattle.agg_types.specs.declared.config.Shape.{Shape}
-use Rattle.agg_config.specs.Written.{column_text, condition_words, kind_words, store_words}
-use Rattle.agg_config.specs.Written.{table_name, text_of}
-use Rattle.config_text.specs.Spaced.{filter_line, filter_words, parts_text, spaced}
-use Rattle.config_text.specs.Spaced.{stored_words, table_line, table_words}
+use Rattle.agg_config.specs.Written.{column_text, condition_words, hold_words, kind_words}
+use Rattle.agg_config.specs.Written.{store_words, table_name, text_of}
+use Rattle.config_text.specs.Spaced.{filter_line, filter_words, parts_text, push_line, push_words}
+use Rattle.config_text.specs.Spaced.{spaced, stored_words, table_line, table_words}
 
 -- what is joined by a byte is the first, and each other behind that byte
 joined : (c : ℕ) (first : List ℕ) (rest : List (List ℕ))
@@ -42,6 +43,13 @@ filter_ended tables filter =
     ++ spaced (flat_map condition_words filter.conds))) (10 ∷ [])
     ∙ ap (λ xs. filter.name ++ 32 ∷ xs) (append_assoc (table_name tables filter.table)
     (spaced (flat_map condition_words filter.conds)) (10 ∷ [])))
+
+-- the line of a pushed filter
+pub push_ended : (push : Push) → push_line push ≡ push_words push
+push_ended push =
+    ap (λ xs. xs ++ 10 ∷ []) (joined 32 (codes "push") (push.name ∷ hold_words push.hold))
+    ∙ ap (λ xs. codes "push" ++ 32 ∷ xs)
+    (append_assoc push.name (spaced (hold_words push.hold)) (10 ∷ []))
 
 -- the line of a table
 pub table_ended : (shape : Shape) → table_line shape ≡ table_words shape

@@ -5,10 +5,11 @@ use Rattle.std.specs.List.{flat_map, join_with_byte}
 use Rattle.agg_types.specs.declared.column.Col.{Col}
 use Rattle.agg_types.specs.declared.config.Config.{Config}
 use Rattle.agg_types.specs.declared.config.Filter.{Filter}
+use Rattle.agg_types.specs.declared.config.Push.{Push}
 use Rattle.agg_types.specs.declared.config.Rank.{Rank}
 use Rattle.agg_types.specs.declared.config.Shape.{Shape}
 use Rattle.agg_config.specs.Written.{column_text, condition_words, declaration_line, filter_of}
-use Rattle.agg_config.specs.Written.{kind_words, rank_of, store_words}
+use Rattle.agg_config.specs.Written.{hold_words, kind_words, rank_of, store_words}
 
 -- words, each behind a space
 abbrev pub spaced : List (List ℕ) → List ℕ
@@ -25,7 +26,8 @@ named_line label name = label ++ 32 ∷ (name ++ 10 ∷ [])
 -- the line of a table
 abbrev pub table_line : Shape → List ℕ
 table_line shape = join_with_byte 32 (codes "table" ∷ shape.name ∷ codes "type" ∷
-    (kind_words shape.kind ++ codes "size" ∷ decimal shape.size ∷ store_words shape.cols)) ++ 10 ∷ []
+    (kind_words shape.kind ++ codes "size" ∷ decimal shape.size ∷ store_words shape.cols))
+    ++ 10 ∷ []
 
 -- the line of a standing filter of these tables
 abbrev pub filter_line : List Shape → Filter → List ℕ
@@ -34,6 +36,11 @@ filter_line tables filter = declaration_line (filter_of tables filter) ++ 10 ∷
 -- the line of a ranked list of these tables
 abbrev pub rank_line : List Shape → Rank → List ℕ
 rank_line tables rank = declaration_line (rank_of tables rank) ++ 10 ∷ []
+
+-- the line of a pushed filter
+abbrev pub push_line : Push → List ℕ
+push_line push =
+    join_with_byte 32 (codes "push" ∷ push.name ∷ hold_words push.hold) ++ 10 ∷ []
 
 -- what stands behind the kind of a table's keys
 abbrev pub table_end : Shape → List ℕ
@@ -53,6 +60,10 @@ abbrev pub filter_words : Filter → List ℕ → List ℕ
 filter_words filter table = codes "filter" ++ (32 ∷ (filter.name ++ (32 ∷ (table
     ++ (spaced (flat_map condition_words filter.conds) ++ 10 ∷ [])))))
 
+abbrev pub push_words : Push → List ℕ
+push_words push =
+    codes "push" ++ (32 ∷ (push.name ++ (spaced (hold_words push.hold) ++ 10 ∷ [])))
+
 -- the lines of the standing filters
 abbrev pub filter_lines : Config → List ℕ
 filter_lines config = flat_map (filter_line config.tables) config.filters
@@ -61,8 +72,13 @@ filter_lines config = flat_map (filter_line config.tables) config.filters
 abbrev pub rank_lines : Config → List ℕ
 rank_lines config = flat_map (rank_line config.tables) config.ranks
 
+-- the lines of the pushed filters
+abbrev pub push_lines : Config → List ℕ
+push_lines config = flat_map push_line config.pushes
+
 -- the lines of a configuration, kind by kind
 abbrev pub parts_text : Config → List ℕ
 parts_text config = named_line (codes "name") config.me
     ++ (flat_map (named_line (codes "peer")) config.peers
-    ++ (flat_map table_line config.tables ++ (filter_lines config ++ rank_lines config)))
+    ++ (flat_map table_line config.tables
+    ++ (filter_lines config ++ (rank_lines config ++ push_lines config))))

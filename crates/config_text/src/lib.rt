@@ -10,4 +10,4 @@ mod lines;
 mod tables;
 mod words;
 
-pub use lines::{append_config, append_filters, append_ranks};
+pub use lines::{append_config, append_filters, append_pushes, append_ranks};

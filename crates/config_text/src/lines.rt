@@ -2,14 +2,15 @@
 
 ghost use Rattle.std.specs.Prelude.{◌≡◌, ◌++◌, codes, OnOk};
 ghost use Rattle.std.specs.List.{flat_map};
-ghost use Rattle.agg_config.specs.Written.{table_name, text_of};
+ghost use Rattle.agg_config.specs.Written.{hold_words, table_name, text_of};
 ghost use Rattle.config_text.specs.Spaced.{filter_line, filter_lines, filter_words, named_line};
-ghost use Rattle.config_text.specs.Spaced.{parts_text, rank_line, rank_lines, table_line};
-ghost use Rattle.config_text.specs.Spaced.{table_end, table_words};
+ghost use Rattle.config_text.specs.Spaced.{parts_text, push_line, push_lines, push_words};
+ghost use Rattle.config_text.specs.Spaced.{rank_line, rank_lines, table_end, table_line};
+ghost use Rattle.config_text.specs.Spaced.{spaced, table_words};
 
 use crate::tables::{append_conditions, append_kind, append_store};
 use crate::words::{append_figure, append_word};
-use agg_types::{Config, Declared, Filter, Name, NoMemory, Rank, Shape};
+use agg_types::{Config, Declared, Filter, Name, NoMemory, Push, Rank, Shape};
 use key_text::append_text;
 
 /// Appends the text of a configuration: a line for each thing that it declares, with its LF.
@@ -26,7 +27,8 @@ fn append_parts(config: &Config, out: &mut Vec<u8>) -> Result<(), NoMemory>
     append_peers(config.peers.as_slice(), out)?;
     append_tables(config.tables.as_slice(), out)?;
     append_filters(config, out)?;
-    append_ranks(config, out)
+    append_ranks(config, out)?;
+    append_pushes(config, out)
 }
 
 /// Appends the lines of the standing filters.
@@ -45,6 +47,16 @@ pub fn append_ranks(config: &Config, out: &mut Vec<u8>) -> Result<(), NoMemory>
 {
     for rank in config.ranks.as_slice() {
         append_rank(&config.tables, rank, out)?;
+    }
+    Ok(())
+}
+
+/// Appends the lines of the pushed filters.
+pub fn append_pushes(config: &Config, out: &mut Vec<u8>) -> Result<(), NoMemory>
+    ensures { OnOk result (out.new.items ≡ out.old.items ++ push_lines config.now) }
+{
+    for push in config.pushes.as_slice() {
+        append_push(push, out)?;
     }
     Ok(())
 }
@@ -146,4 +158,31 @@ fn append_rank(tables: &Declared<Shape>, rank: &Rank, out: &mut Vec<u8>) -> Resu
     append_word(rank.col.name().as_bytes(), out)?;
     append_figure(rank.n, out)?;
     append_text(b"\n", out)
+}
+
+fn append_push(push: &Push, out: &mut Vec<u8>) -> Result<(), NoMemory>
+    ensures { OnOk result (out.new.items ≡ out.old.items ++ push_line push.now) }
+{
+    append_push_words(push, out)
+}
+
+fn append_push_words(push: &Push, out: &mut Vec<u8>) -> Result<(), NoMemory>
+    ensures { OnOk result (out.new.items ≡ out.old.items ++ push_words push.now) }
+{
+    append_text(b"push", out)?;
+    append_word(push.name.as_slice(), out)?;
+    append_hold(push.hold, out)?;
+    append_text(b"\n", out)
+}
+
+fn append_hold(hold: Option<u64>, out: &mut Vec<u8>) -> Result<(), NoMemory>
+    ensures { OnOk result (out.new.items ≡ out.old.items ++ spaced (hold_words hold)) }
+{
+    match hold {
+        None => Ok(()),
+        Some(ms) => {
+            append_word(b"hold", out)?;
+            append_figure(ms, out)
+        }
+    }
 }

@@ -37,6 +37,7 @@ fleet_of size col period filters =
       tables = table_of size col period ∷ [];
       filters = filters;
       ranks = [];
+      pushes = [];
     }
 
 -- the key 10.0.0.n

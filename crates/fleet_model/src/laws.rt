@@ -164,8 +164,8 @@ pub fn sizes_hold()
 {}
 
 /// A moment that isn't later, a row of a seat that isn't its peer's session in force, a row past
-/// the table's size, a filter that isn't taken, and one to be dropped that no event added, change no
-/// summed row, set or ranked list.
+/// the table's size, a filter that isn't taken, and one to be dropped that no event added, change
+/// no summed row, set or ranked list.
 pub fn some_events_say_nothing()
     ensures { (state : State) (e : Event)
         → AreLive state → SaysNothing state e.seat e.what → AnswersAlike state (after state e) }

@@ -12,6 +12,7 @@ use Rattle.agg_types.specs.declared.config.Config.{Config}
 use Rattle.agg_types.specs.declared.config.Filter.{Filter}
 use Rattle.agg_types.specs.declared.config.KeyKind.{KeyKind}
 use Rattle.agg_types.specs.declared.config.KeyKind.TheVariants.{Integer, Ip, Ipv6, Str, Binary}
+use Rattle.agg_types.specs.declared.config.Push.{Push}
 use Rattle.agg_types.specs.declared.config.Rank.{Rank}
 use Rattle.agg_types.specs.declared.config.Shape.{Shape}
 use Rattle.haproxy_import.specs.Same.{is_plain, kind_len, kind_tag, same_cols, same_head}
@@ -110,20 +111,28 @@ tables_same (x ∷ xs) (y ∷ ys) e =
     let rest : xs ≡ ys = tables_same xs ys parts.1 in
     cc
 
-config_of : List ℕ → List (List ℕ) → List Shape → List Filter → List Rank → Config
-config_of me peers tables filters ranks =
-    record { me = me; peers = peers; tables = tables; filters = filters; ranks = ranks }
+config_of : List ℕ → List (List ℕ) → List Shape → List Filter → List Rank → List Push → Config
+config_of me peers tables filters ranks pushes =
+    record {
+      me = me;
+      peers = peers;
+      tables = tables;
+      filters = filters;
+      ranks = ranks;
+      pushes = pushes;
+    }
 
 -- the fields of two configurations
 fields_same : (a b : Config) → a.me ≡ b.me → a.peers ≡ b.peers → a.tables ≡ b.tables
-    → a.filters ≡ b.filters → a.ranks ≡ b.ranks → a ≡ b
+    → a.filters ≡ b.filters → a.ranks ≡ b.ranks → a.pushes ≡ b.pushes → a ≡ b
 unfolding config_of
-fields_same a b me peers tables filters ranks =
-    ap (λ m. config_of m a.peers a.tables a.filters a.ranks) me
-    ∙ (ap (λ p. config_of b.me p a.tables a.filters a.ranks) peers
-    ∙ (ap (λ t. config_of b.me b.peers t a.filters a.ranks) tables
-    ∙ (ap (λ f. config_of b.me b.peers b.tables f a.ranks) filters
-    ∙ ap (λ r. config_of b.me b.peers b.tables b.filters r) ranks)))
+fields_same a b me peers tables filters ranks pushes =
+    ap (λ m. config_of m a.peers a.tables a.filters a.ranks a.pushes) me
+    ∙ (ap (λ p. config_of b.me p a.tables a.filters a.ranks a.pushes) peers
+    ∙ (ap (λ t. config_of b.me b.peers t a.filters a.ranks a.pushes) tables
+    ∙ (ap (λ f. config_of b.me b.peers b.tables f a.ranks a.pushes) filters
+    ∙ (ap (λ r. config_of b.me b.peers b.tables b.filters r a.pushes) ranks
+    ∙ ap (λ p. config_of b.me b.peers b.tables b.filters b.ranks p) pushes))))
 
 pub parts_same : (a b : Config) → same_parts a b ≡ true → a ≡ b
 parts_same a b e =
@@ -132,9 +141,14 @@ parts_same a b e =
     let one = and_parts (is_plain a && is_plain b) (same_peers a b) two.0 in
     let plain = and_parts (is_plain a) (is_plain b) one.0 in
     let peers = and_parts (bytes_eq a.me b.me) (same_names a.peers b.peers) one.1 in
-    let first = and_parts (length a.filters == 0) (length a.ranks == 0) plain.0 in
-    let second = and_parts (length b.filters == 0) (length b.ranks == 0) plain.1 in
+    let a_followed = and_parts ((length a.filters == 0) && (length a.ranks == 0))
+    (length a.pushes == 0) plain.0 in
+    let b_followed = and_parts ((length b.filters == 0) && (length b.ranks == 0))
+    (length b.pushes == 0) plain.1 in
+    let first = and_parts (length a.filters == 0) (length a.ranks == 0) a_followed.0 in
+    let second = and_parts (length b.filters == 0) (length b.ranks == 0) b_followed.0 in
     fields_same a b (bytes_same a.me b.me peers.0) (names_same a.peers b.peers peers.1)
     (tables_same a.tables b.tables two.1)
     (sym (none a.filters first.0) ∙ none b.filters second.0)
     (sym (none a.ranks first.1) ∙ none b.ranks second.1)
+    (sym (none a.pushes a_followed.1) ∙ none b.pushes b_followed.1)

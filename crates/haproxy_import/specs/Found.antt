@@ -6,7 +6,7 @@ use Rattle.std.specs.Prelude.{Option, None, Some}
 use Rattle.std.specs.List.{list_any}
 use Rattle.std.specs.Str.{bytes_eq}
 use Rattle.agg_config.specs.Reading.{Write}
-use Rattle.agg_types.specs.Check.{config_faults}
+use Rattle.agg_types.specs.Check.{all_faults}
 use Rattle.agg_types.specs.declared.config.Config.{Config}
 use Rattle.agg_types.specs.declared.config.Shape.{Shape}
 use Rattle.agg_types.specs.declared.limits.TheConstants.{MOST_PEERS, MOST_TABLES}
@@ -116,6 +116,7 @@ config_of state = record {
   tables = state.tables;
   filters = [];
   ranks = [];
+  pushes = [];
 }
 
 -- a tab and a CR separate words as a space does
@@ -132,4 +133,4 @@ imported text = declared (map as_space text)
 
 -- the collector reads this text without a fault, as this configuration
 unfoldable pub Reads : List ℕ → Config → Type 0
-Reads text config = Write (lines_of text) config × (config_faults config ≡ [])
+Reads text config = Write (lines_of text) config × (all_faults config ≡ [])

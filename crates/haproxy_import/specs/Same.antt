@@ -52,9 +52,10 @@ same_names [] others = length others == 0
 same_names (one ∷ some) [] = false
 same_names (one ∷ some) (other ∷ others) = bytes_eq one other && same_names some others
 
--- no filters and no ranked lists
+-- no filters and no ranked lists, and nothing pushed
 abbrev pub is_plain : Config → Bool
 is_plain config = (length config.filters == 0) && (length config.ranks == 0)
+    && (length config.pushes == 0)
 
 abbrev pub same_peers : Config → Config → Bool
 same_peers one other = bytes_eq one.me other.me && same_names one.peers other.peers

@@ -184,6 +184,7 @@ impl<'a> Found<'a> {
             tables: self.tables.duplicate(self.alloc)?,
             filters: Declared::new(self.alloc),
             ranks: Declared::new(self.alloc),
+            pushes: Declared::new(self.alloc),
         })
     }
 

@@ -37,7 +37,7 @@ fn same_peers(one: &Config, other: &Config) -> bool
 fn is_plain(config: &Config) -> bool
     ensures { result ≡ is_plain config.now }
 {
-    config.filters.is_empty() && config.ranks.is_empty()
+    config.filters.is_empty() && config.ranks.is_empty() && config.pushes.is_empty()
 }
 
 fn same_names(some: &[Name], others: &[Name]) -> bool

@@ -1,6 +1,7 @@
 //! IPv6 addresses.
 
-ghost use Rattle.std.specs.Prelude.{◌≡◌, ◌==◌, ◌&&◌, ◌+◌, ◌≤◌, Some, None, if◌then◌else◌, IfSome, IfOk, length};
+ghost use Rattle.std.specs.Prelude.{◌≡◌, ◌==◌, ◌&&◌, ◌+◌, ◌≤◌, if◌then◌else◌, length};
+ghost use Rattle.std.specs.Prelude.{Some, None, IfSome, IfOk};
 ghost use Rattle.line_words.specs.Words.{parts};
 ghost use Rattle.key_text.specs.Read.{back_bytes, elision, front_bytes, groups_of, ipv6_of};
 ghost use Rattle.key_text.specs.Read.{octets_of, part_bytes, put_behind, with_zeros};

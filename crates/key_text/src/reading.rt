@@ -20,10 +20,10 @@ use std::alloc::Global;
 ///   2^31 - 1 is the negative number of the same 32 bits.
 /// - An IPv4 address is four numbers of 1 to 3 digits joined by dots.
 /// - An IPv6 address is eight groups of 1 to 4 hexadecimal digits joined by colons; an IPv4 address
-///   may stand in the place of the last two, and one `::` for one or more groups of zeros (RFC 4291,
-///   2.2).
-/// - A string is the bytes 33 to 126 but `%`, and `%` with two hexadecimal digits for any byte, up to
-///   the kind's length.
+///   may stand in the place of the last two, and one `::` for one or more groups of zeros
+///   (RFC 4291, 2.2).
+/// - A string is the bytes 33 to 126 but `%`, and `%` with two hexadecimal digits for any byte, up
+///   to the kind's length.
 /// - A binary key is the hexadecimal digits of as many bytes as its kind has.
 ///
 /// Hexadecimal digits are read in either case.

@@ -25,15 +25,15 @@ pub both_none : {A : Type 0} (xs ys : List A) → xs ++ ys ≡ [] → (xs ≡ []
 both_none [] ys none = (refl, none)
 both_none (x ∷ xs) ys none = absurd cc
 
-no_fault : (there : Bool) (fault : ConfigFault) → fault_if there fault ≡ [] → there ≡ false
+pub no_fault : (there : Bool) (fault : ConfigFault) → fault_if there fault ≡ [] → there ≡ false
 no_fault true fault none = absurd cc
 no_fault false fault none = refl
 
-not_not : (b : Bool) → not b ≡ false → b ≡ true
+pub not_not : (b : Bool) → not b ≡ false → b ≡ true
 not_not true h = refl
 not_not false h = absurd cc
 
-neither : (a b : Bool) → (a || b) ≡ false → (a ≡ false) × (b ≡ false)
+pub neither : (a b : Bool) → (a || b) ≡ false → (a ≡ false) × (b ≡ false)
 neither true b h = absurd cc
 neither false b h = (refl, h)
 

@@ -166,7 +166,8 @@ pub hex_stays : (byte : ℕ) → true ≡ true → list_all is_line_byte (hex_of
 hex_stays byte any =
     and_true (is_line_byte (get_or lower_digits (byte / 16) 0))
     (list_all is_line_byte (get_or lower_digits (byte % 16) 0 ∷ [])) (digit_stays (byte / 16))
-    (and_true (is_line_byte (get_or lower_digits (byte % 16) 0)) true (digit_stays (byte % 16)) refl)
+    (and_true (is_line_byte (get_or lower_digits (byte % 16) 0)) true (digit_stays (byte % 16))
+    refl)
 
 pub line_prints : Prints is_line_byte (λ byte. true)
 line_prints = record {

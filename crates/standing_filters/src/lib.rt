@@ -12,11 +12,11 @@
 //! most 505 values are read for it where they stay from 2^33 ms on. A touch gives the key's
 //! verdicts at its moment and leaves all others, `moment` gives each key whose change has come its
 //! verdict then, however many changes were passed, and `add` adds a last filter. Each changes
-//! nothing where it runs out of memory; `remove`, which takes a filter away, needs none. `keys` lends the keys whose verdict is that they are held,
-//! `planned` the moments at which verdicts change, each with its key, and `next_change` is the
-//! least of them. That a key which can't come into a set again is known by one value of each
-//! condition is meant for speed, and no clause says so; nor that a verdict is searched for once
-//! where a filter is the last of its table.
+//! nothing where it runs out of memory; `remove`, which takes a filter away, needs none. `keys`
+//! lends the keys whose verdict is that they are held, `planned` the moments at which verdicts
+//! change, each with its key, and `next_change` is the least of them. That a key which can't come
+//! into a set again is known by one value of each condition is meant for speed, and no clause says
+//! so; nor that a verdict is searched for once where a filter is the last of its table.
 #![tactic(auto)]
 
 mod adding;

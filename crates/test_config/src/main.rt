@@ -5,7 +5,7 @@
 #![tactic(auto)]
 
 use agg_config::{LineCause, LineFault};
-use agg_types::{Col, Config, Filter, KeyKind, Rank, Shape};
+use agg_types::{Col, Config, Filter, KeyKind, Push, Rank, Shape};
 use line_words::{next_line, next_part};
 use std::alloc::Global;
 use std::io;
@@ -75,6 +75,9 @@ fn print_config<W: Write>(config: &Config, out: &mut W) -> io::Result<()> {
     for rank in config.ranks.as_slice() {
         print_rank(rank, out)?;
     }
+    for push in config.pushes.as_slice() {
+        print_push(push, out)?;
+    }
     Ok(())
 }
 
@@ -124,4 +127,12 @@ fn print_rank<W: Write>(rank: &Rank, out: &mut W) -> io::Result<()> {
     let name = rank.col.name();
     let n = rank.n;
     writeln!(out, " of table {table}: {n} by {name}")
+}
+
+fn print_push<W: Write>(push: &Push, out: &mut W) -> io::Result<()> {
+    print_named("push ", push.name.as_slice(), out)?;
+    match push.hold {
+        None => writeln!(out, " while it holds"),
+        Some(hold) => writeln!(out, " hold {hold}"),
+    }
 }

@@ -63,6 +63,7 @@ fn config(alloc: Global, filters: Declared<Filter>) -> Result<Config, NoMemory>
         tables: Declared::new(alloc),
         filters,
         ranks: Declared::new(alloc),
+        pushes: Declared::new(alloc),
     })
 }
 

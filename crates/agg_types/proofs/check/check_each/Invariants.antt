@@ -4,5 +4,5 @@ use Rattle.agg_types.proofs.check.check_each.Given as goal
 
 abbrev pub invariant-loop-i : goal.invariant-loop-i
 invariant-loop-i g l = (l.listed ≡ l.entries)
-    × (each (g.T.Checked.faults l.tables) [] l.listed
-    ≡ each (g.T.Checked.faults l.tables) (take l.i l.listed) (drop l.i l.listed))
+    × (each (g.T.Checked.faults l.config) [] l.listed
+    ≡ each (g.T.Checked.faults l.config) (take l.i l.listed) (drop l.i l.listed))

@@ -9,3 +9,16 @@ invariant_of-result c = record {
       c.requires.in_range);
   held = c.new-held.ensures;
 }
+
+pub new-held-requires : goal.new-held-requires
+new-held-requires c = record {
+  sound = subst IsSound (sym c.in_ok-machine.ensures)
+      (c.states_are_sound.ensures.opened c.args.config c.args.moment c.requires.checked
+      c.requires.in_range);
+}
+
+pub returns-clause-sound : goal.returns-clause-sound
+returns-clause-sound c =
+    subst IsSound (sym c.in_ok-machine.ensures)
+    (c.states_are_sound.ensures.opened c.args.config c.args.moment c.requires.checked
+    c.requires.in_range)
