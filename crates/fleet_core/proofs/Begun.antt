@@ -57,6 +57,7 @@ opened_stands fleet book config opening taken stands waiting links connected fro
       links = λ conn. ap (λ some. linked some conn) links ∙ sym (no_links config (first ∷ []) conn);
       connected = connected;
       next_seq = front;
+      told = λ conn. rw links tt;
       strangers = λ conn later. refl;
       possible = refl;
     }

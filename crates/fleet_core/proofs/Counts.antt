@@ -12,7 +12,7 @@ use Rattle.agg_types.specs.declared.event.What.{What}
 use Rattle.agg_types.specs.declared.event.What.TheVariants.{Leave, Sit}
 use Rattle.fleet_core.specs.declared.step.Step.{Step}
 use Rattle.fleet_core.specs.declared.step.Step.TheVariants.{Connect, Bytes, Lost, Clear, AddFilter}
-use Rattle.fleet_core.specs.declared.step.Step.TheVariants.{DropFilter, Moment}
+use Rattle.fleet_core.specs.declared.step.Step.TheVariants.{DropFilter, Moment, Told}
 use Rattle.fleet_core.specs.Events.{added, at_seat, count_of, events_of, has_free_seat, is_seated}
 use Rattle.fleet_model.specs.Seats.{numbered}
 use Rattle.fleet_core.specs.Steps.{connects, is_lost, names, stream}
@@ -74,6 +74,7 @@ stream_other (Clear table sel) past conn other = append-nil (stream past conn)
 stream_other (AddFilter filter) past conn other = append-nil (stream past conn)
 stream_other (DropFilter name) past conn other = append-nil (stream past conn)
 stream_other (Moment moment) past conn other = append-nil (stream past conn)
+stream_other (Told of) past conn other = append-nil (stream past conn)
 
 pub lost_other : (step : Step) (past : List Step) (conn : ℕ) → names conn step ≡ false
     → is_lost (step ∷ past) conn ≡ is_lost past conn
@@ -84,6 +85,7 @@ lost_other (Clear table sel) past conn other = refl
 lost_other (AddFilter filter) past conn other = refl
 lost_other (DropFilter name) past conn other = refl
 lost_other (Moment moment) past conn other = refl
+lost_other (Told of) past conn other = refl
 
 -- a connection that no step names has no stream, and isn't lost
 pub none-stream : (past : List Step) (conn : ℕ) → list_any (names conn) past ≡ false
@@ -137,6 +139,9 @@ count-to_come config opening (Bytes of piece ∷ past) conn later =
     ∙ rw (count-to_come config opening past conn later) (zero-add _
     ∙ count-at_to_come (events_of config opening past) of conn _
     (count-to_come config opening past conn later))
+count-to_come config opening (Told of ∷ past) conn later =
+    ap (count_of conn) (append-nil (events_of config opening past))
+    ∙ count-to_come config opening past conn later
 count-to_come config opening (Lost of ∷ past) conn later =
     count-append conn (events_of config opening past) _
     ∙ rw (count-to_come config opening past conn later) (zero-add _

@@ -1,7 +1,8 @@
 -- What a piece of a connection's stream, and a loss, leave.
 use Rattle.std.proofs.Common.{◌≡◌, inl, inr, ℕ, subst, ◌-◌, ◌+◌, ◌<◌, ◌≤◌, Bool, true, false, ◌==◌}
 use Rattle.std.proofs.Common.{◌&&◌, not, is_none, is_some, List, [], ◌∷◌, ◌++◌, length, drop}
-use Rattle.std.proofs.Common.{Option, None, Some, if◌then◌else◌, nat_le, nat_lt, sym, ap, ◌∙◌, refl}
+use Rattle.std.proofs.Common.{Option, None, Some, IfSome, if◌then◌else◌, nat_le}
+use Rattle.std.proofs.Common.{nat_lt, sym, ap, ◌∙◌, refl}
 use Rattle.std.proofs.Common.{add-zero, append-nil, arith, option_map}
 use Rattle.std.proofs.lemmas.Bool.{and_parts, eqb-true, leb-true, lt-ltb, ltb-true}
 use Rattle.std.specs.Bool.{then_some}
@@ -27,13 +28,16 @@ use Rattle.fleet_core.specs.Events.{talk_of, talk_with}
 use Rattle.fleet_core.specs.Feeding.{Feeds, FeedsAt, IsClosedIf, IsSet}
 use Rattle.fleet_core.specs.Links.{Link, as_link, found, is_open, link_of, linked, open_link}
 use Rattle.fleet_core.specs.Links.{next_seq_of}
-use Rattle.fleet_core.specs.Represents.{Collected, Represents}
+use Rattle.fleet_core.specs.Represents.{Collected, Represents, WasTold}
+use Rattle.fleet_core.specs.Telling.{is_asked, told_of}
+use Rattle.telling.specs.Telling.{Told as WasToldOf, asked}
 use Rattle.fleet_core.specs.Steps.{connects, is_lost, stream}
 use Rattle.fleet_core.specs.Waiting.{leave_if}
 use Rattle.fleet_core.proofs.Counts.{apart_from_lt, bool_tells, count-append, count-at_other}
 use Rattle.fleet_core.proofs.Counts.{count-own, eq_self}
 use Rattle.fleet_core.proofs.Links.{is_kept, link_kept}
 use Rattle.fleet_core.proofs.HandingOver.{Queued, done}
+use Rattle.fleet_core.proofs.Telling.{told_bytes, told_lost, told_other}
 
 -- what a seat has waiting: its number, and then as many events as things that happen there
 waits : (events : List Event) (conn : ℕ) (whats : List What)
@@ -161,6 +165,20 @@ here config config' events past conn piece given before after same is feeds =
       next_seq = rw seat at feeds.next_seq;
     }
 
+-- whether the piece asked for all, in the words of the steps
+asked_here : (config config' : Config) (opening : ℕ) (past : List Step) (conn : ℕ)
+    (piece : List ℕ) (given : Outcome) (before after : Connection)
+    → setup_of config' ≡ setup_of config
+    → as_link before ≡ open_link config (events_of config opening past) past conn
+    → Feeds given before after config' (stream past conn) piece
+    → after.teller ≡ (if is_asked config opening past conn piece then asked before.teller
+    else before.teller)
+unfolding talk_of talk_with open_link is_asked
+asked_here config config' opening past conn piece given before after same is feeds =
+    let seated : before.session.seated ≡ is_seated conn (events_of config opening past) =
+    ap (λ (link : Link). link.seated) is in
+    rw (same, seated) at feeds.teller
+
 leaves : (facts : List What) (end : Option End) (cause : Option SessionCause)
     → cause ≡ option_map cause_of end → facts ++ leave_if (is_some cause) ≡ facts ++ leave_at end
 leaves facts None cause is = rw is refl
@@ -273,7 +291,7 @@ eq_sym a b apart = elim (bool_tells (b == a)) [
 ]
 
 -- of an open connection: it isn't number 0, and it came
-came : (config : Config) (events : List Event) (past : List Step) (conn : ℕ)
+pub came : (config : Config) (events : List Event) (past : List Step) (conn : ℕ)
     → is_open config events past conn ≡ true → (0 < conn) × (conn ≤ connects past)
 unfolding is_open
 came config events past conn is =
@@ -313,7 +331,8 @@ heard f g config opening past conn piece given links before h none is feeds clos
           ∙ add-zero (count_of 0 events)))
           (λ other later. rw (apart_from_lt conn other (omega (arith, later, arrived.1)))
           (h.strangers other later))
-          possible;
+          possible
+          told;
       ended = sym heard_here.end;
       out = heard_here.out;
     }
@@ -354,6 +373,29 @@ heard f g config opening past conn piece given links before h none is feeds clos
       where
         seated_at : before.next_seq ≡ next_seq_of conn events
         seated_at = seat_is config events past conn before kept_here.1
+
+    told_here : (end : Option SessionCause) → IfSome (if is_some end then None else Some feeds.after)
+        (λ connection. connection.teller ≡ told_of config opening (Bytes conn piece ∷ past) conn)
+    told_here None =
+        asked_here config f.book.config opening past conn piece given before feeds.after same
+        kept_here.1 feeds.feeds
+        ∙ ap (λ (t : WasToldOf). if is_asked config opening past conn piece then asked t else t)
+        (rw is at (h.told conn)) ∙ sym (told_bytes config opening past conn piece)
+    told_here (Some cause) = tt
+
+    told : (other : ℕ) → WasTold g.links config opening (Bytes conn piece ∷ past) other
+    told other =
+        elim (bool_tells (other == conn)) [
+          | inl e ↦ (let at : other ≡ conn = eqb-true other conn e in
+              rw at (rw (found_then given.end f.links links g.links conn feeds.after feeds.set
+              closed) (told_here given.end)))
+          | inr e ↦ rw (
+            found_other given.end f.links links g.links conn other feeds.after feeds.set
+                closed e,
+            told_other config opening past (Bytes conn piece) other
+                (eq_sym other conn e),
+          ) (h.told other)
+        ]
 
     kept : (other : ℕ) → linked g.links other ≡ link_of config (events ++ added_now)
         (Bytes conn piece ∷ past) other
@@ -425,6 +467,7 @@ closed_now f g config opening past conn before h none is set book waiting connec
     (λ other later. rw (apart_from_lt conn other (omega (arith, later, arrived.1)))
     (h.strangers other later))
     possible
+    told
   where
     events : List Event
     events = events_of config opening past
@@ -439,6 +482,21 @@ closed_now f g config opening past conn before h none is set book waiting connec
 
     arrived : (0 < conn) × (conn ≤ connects past)
     arrived = came config events past conn kept_here.0
+
+    told : (other : ℕ) → WasTold g.links config opening (Lost conn ∷ past) other
+    told other =
+        elim (bool_tells (other == conn)) [
+          | inl e ↦ (let at : other ≡ conn = eqb-true other conn e in
+              rw at (rw (gone) tt))
+          | inr e ↦ rw (as_before other e, told_lost config opening past conn other) (h.told other)
+        ]
+      where
+        gone : found g.links conn ≡ None
+        gone = set conn ∙ rw (eq_self conn) refl
+
+        as_before : (other : ℕ) → (other == conn) ≡ false
+            → found g.links other ≡ found f.links other
+        as_before other apart = set other ∙ rw apart refl
 
     kept : (other : ℕ) → linked g.links other ≡ link_of config (events ++ added_now)
         (Lost conn ∷ past) other

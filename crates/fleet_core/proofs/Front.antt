@@ -9,7 +9,7 @@ use Rattle.agg_types.specs.declared.event.What.{What}
 use Rattle.fleet_model.specs.Seats.{numbered}
 use Rattle.fleet_core.specs.declared.step.Step.{Step}
 use Rattle.fleet_core.specs.declared.step.Step.TheVariants.{Connect, Bytes, Lost, Clear, AddFilter}
-use Rattle.fleet_core.specs.declared.step.Step.TheVariants.{DropFilter, Moment}
+use Rattle.fleet_core.specs.declared.step.Step.TheVariants.{DropFilter, Moment, Told}
 use Rattle.fleet_core.specs.Events.{added, at_front, count_of, events_of}
 use Rattle.fleet_core.specs.Links.{link_of, linked}
 use Rattle.fleet_core.specs.Possible.{is_possible}
@@ -18,6 +18,7 @@ use Rattle.fleet_core.specs.Steps.{connects, is_connect, names, what_at}
 use Rattle.fleet_core.proofs.Counts.{apart_from_lt, count-append, count-other, count-own}
 use Rattle.fleet_core.proofs.Links.{link_kept, no_link}
 use Rattle.fleet_core.proofs.HandingOver.{Queued, done}
+use Rattle.fleet_core.proofs.Telling.{told_other}
 
 some_events : (config : Config) (opening : ℕ) (past : List Step) (step : Step) (what : What)
     → what_at step ≡ Some what → events_of config opening (step ∷ past) ≡ events_of config opening
@@ -26,6 +27,7 @@ unfolding events_of added
 some_events config opening past Connect what is = cc
 some_events config opening past (Bytes conn piece) what is = cc
 some_events config opening past (Lost conn) what is = cc
+some_events config opening past (Told conn) what is = cc
 some_events config opening past (Clear table sel) what is =
     ap (λ o. events_of config opening past ++ (if_some o)) is
   where
@@ -56,6 +58,7 @@ pub front_quiet : (step : Step) (what : What) → what_at step ≡ Some what →
 front_quiet Connect what is = cc
 front_quiet (Bytes conn piece) what is = cc
 front_quiet (Lost conn) what is = cc
+front_quiet (Told conn) what is = cc
 front_quiet (Clear table sel) what is = (refl, λ conn. refl)
 front_quiet (AddFilter filter) what is = (refl, λ conn. refl)
 front_quiet (DropFilter name) what is = (refl, λ conn. refl)
@@ -79,6 +82,7 @@ front_done f g config opening past step what is h none book waiting links connec
     (λ conn later. ap (λ b. b || list_any (names conn) past) (quiet.1 conn)
     ∙ h.strangers conn (rw came at later))
     possible
+    (λ conn. rw (links, told_other config opening past step conn (quiet.1 conn)) (h.told conn))
   where
     before : List Event
     before = events_of config opening past

@@ -1,7 +1,7 @@
 -- What the book takes of the events that wait, and what a step that was done leaves.
 use Rattle.std.proofs.Common.{length, length-append, length-drop, drop, arith, Bool, ◌+◌, ◌-◌, ◌≡◌}
 use Rattle.std.proofs.Common.{ℕ, ◌<◌, false, true, List, [], ◌∷◌, ◌++◌, fold, append_assoc}
-use Rattle.std.proofs.Common.{append-nil, sym, ap, ◌∙◌, refl}
+use Rattle.std.proofs.Common.{append-nil, sym, ap, ◌∙◌, refl, subst}
 use Rattle.std.proofs.lemmas.List.Sums.{fold-append}
 use Rattle.std.specs.List.{list_any}
 use Rattle.agg_types.specs.declared.config.Config.{Config}
@@ -17,7 +17,8 @@ use Rattle.fleet_core.specs.Adds.{Adds, Keeps}
 use Rattle.fleet_core.specs.Events.{added_by, count_of, events_of}
 use Rattle.fleet_core.specs.Possible.{are_possible, is_possible}
 use Rattle.fleet_core.specs.Links.{link_of, linked}
-use Rattle.fleet_core.specs.Represents.{Collected, Represents}
+use Rattle.fleet_core.specs.Represents.{Collected, Represents, WasTold}
+use Rattle.fleet_core.specs.declared.connection.Connection.{Connection}
 use Rattle.fleet_core.specs.Steps.{connects, names}
 use Rattle.fleet_core.specs.Waiting.{AreHandedOver, IsOneHandedOver, leave_if}
 use Rattle.fleet_core.proofs.Counts.{length_of_numbered}
@@ -43,6 +44,8 @@ settled f g config opening past are links connected front h =
       book = are.taken ∙ ap (λ book. fold after book are.gone) h.book
           ∙ more config opening h.handed are.gone;
       links = λ conn. ap (λ links. linked links conn) links ∙ h.links conn;
+      told = λ conn. subst (λ (links : List (ℕ × Connection)). WasTold links config opening past conn)
+          (sym links) (h.told conn);
       connected = connected ∙ h.connected;
       next_seq = front ∙ h.next_seq;
       strangers = h.strangers;
@@ -101,8 +104,9 @@ pub done : (f g : Collected) (config : Config) (opening : ℕ) (past : List Step
     → g.next_seq ≡ count_of 0 (events_of config opening (step ∷ past))
     → ((conn : ℕ) → connects (step ∷ past) < conn → list_any (names conn) (step ∷ past) ≡ false)
     → is_possible config opening past step ≡ true
+    → ((conn : ℕ) → WasTold g.links config opening (step ∷ past) conn)
     → Queued g config opening past step
-done f g config opening past step h none book events links connected front strangers possible =
+done f g config opening past step h none book events links connected front strangers possible told =
     record {
       stands = record {
         handed = h.handed;
@@ -112,6 +116,7 @@ done f g config opening past step h none book events links connected front stran
         links = links;
         connected = connected;
         next_seq = front;
+        told = told;
         strangers = strangers;
         possible = all_possible config opening past step possible h.possible;
       };

@@ -8,3 +8,5 @@ pub mod Opening
 pub mod Answered
 pub mod Steps
 pub mod Running
+pub mod Telling
+pub mod Turned

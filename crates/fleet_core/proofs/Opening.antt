@@ -22,7 +22,8 @@ use Rattle.fleet_core.specs.Events.{added, count_of, events_of, has_free_seat, t
 use Rattle.fleet_core.specs.Feeding.{IsSet}
 use Rattle.fleet_core.specs.Links.{Link, as_link, found, is_open, link_of, linked, open_link}
 use Rattle.fleet_core.specs.Possible.{can_be, is_possible, is_spent}
-use Rattle.fleet_core.specs.Represents.{Collected, Represents}
+use Rattle.telling.specs.Telling.{untold}
+use Rattle.fleet_core.specs.Represents.{Collected, Represents, WasTold}
 use Rattle.fleet_core.specs.Steps.{connects, is_lost, names, stream}
 use Rattle.fleet_core.proofs.Counts.{apart_from_lt, bool_tells, count-append, count-other}
 use Rattle.fleet_core.proofs.Counts.{count-own, count-to_come, eq_self, not_le, none-lost}
@@ -30,6 +31,7 @@ use Rattle.fleet_core.proofs.Counts.{none-stream, stream_other}
 use Rattle.fleet_core.proofs.Fed.{eq_sym}
 use Rattle.fleet_core.proofs.Links.{link_same}
 use Rattle.fleet_core.proofs.HandingOver.{Queued, done}
+use Rattle.fleet_core.proofs.Telling.{told_other, told_stranger}
 
 no_talk : (setup : Setup) (seated : Bool) → (talk setup seated []).end ≡ None
 unfolding talk hello_of line_at
@@ -130,13 +132,13 @@ pub accepted : (f g : Collected) (config : Config) (opening : ℕ) (past : List 
     → seated ≡ nat_lt (length f.book.seats) MOST_SEATS
     → ((setup : Setup) → connection.session.stage ≡ stage_of setup seated [])
     → connection.session.seated ≡ seated → connection.next_seq ≡ then_some seated 1
-    → IsSet f.links g.links (f.connected + 1) (Some connection)
+    → connection.teller ≡ untold → IsSet f.links g.links (f.connected + 1) (Some connection)
     → g.book ≡ f.book → g.waiting ≡ numbered (f.connected + 1) 0 (if seated then Sit ∷ [] else [])
     → g.connected ≡ f.connected + 1 → g.next_seq ≡ f.next_seq
     → f.connected < LAST_SEAT
     → Queued g config opening past Connect
 unfolding events_of added
-accepted f g config opening past seated connection h none free stands is_seated_now seat set book
+accepted f g config opening past seated connection h none free stands is_seated_now seat unsaid set book
     waiting connected front few =
     done f g config opening past Connect h none book
     (ap (λ b. events ++ (if b then numbered conn 0 (Sit ∷ []) else [])) (sym is_free)
@@ -146,6 +148,7 @@ accepted f g config opening past seated connection h none free stands is_seated_
     (front ∙ h.next_seq ∙ sym (counted 0 (apart_from_zero conn (omega arith))))
     (λ other later. h.strangers other (omega (arith, later)))
     (connect_possible config opening past (not_le _ _ (rw h.connected at few)))
+    told
   where
     conn : ℕ
     conn = connects past + 1
@@ -185,6 +188,16 @@ accepted f g config opening past seated connection h none free stands is_seated_
 
     as_before : (other : ℕ) → (other == conn) ≡ false → found g.links other ≡ found f.links other
     as_before other apart = set other ∙ rw (h.connected, apart) refl
+
+    told : (other : ℕ) → WasTold g.links config opening (Connect ∷ past) other
+    told other =
+        elim (bool_tells (other == conn)) [
+          | inl e ↦ (let at : other ≡ conn = eqb-true other conn e in
+              rw at (rw there (unsaid ∙ sym (told_other config opening past Connect conn refl
+              ∙ told_stranger config opening past conn (h.strangers conn (omega arith))))))
+          | inr e ↦ rw (as_before other e, told_other config opening past Connect other refl)
+              (h.told other)
+        ]
 
     kept : (other : ℕ) → linked g.links other
         ≡ link_of config (events ++ (if has_free_seat config opening events

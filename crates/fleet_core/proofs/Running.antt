@@ -1,11 +1,11 @@
 -- What one more step of a run leaves.
 use Rattle.std.proofs.Common.{suc, ◌+◌, ◌<◌, ◌≤◌, length, get_or, drop-cons, add-one, nat_lt}
-use Rattle.std.proofs.Common.{◌≡◌, ℕ, Bool, true, false, not, List, [], ◌∷◌, ◌++◌, Option, None}
-use Rattle.std.proofs.Common.{Some, Result, Ok, Err, drop, slice_get, inl, inr, arith, sym, ap, ◌∙◌}
-use Rattle.std.proofs.Common.{refl, if◌then◌else◌}
+use Rattle.std.proofs.Common.{◌≡◌, ℕ, true, false, List, [], ◌∷◌, ◌++◌, Option, None}
+use Rattle.std.proofs.Common.{Some, Result, Ok, Err, drop, inl, inr, arith, sym, ap, ◌∙◌}
+use Rattle.std.proofs.Common.{refl}
 use Rattle.std.proofs.lemmas.Bool.{lt-ltb, ltb-true}
-use Rattle.std.specs.Option.{option_map, option_or}
-use Rattle.agg_types.specs.Check.{config_faults}
+use Rattle.std.specs.Option.{option_or}
+use Rattle.agg_types.specs.Check.{all_faults}
 use Rattle.agg_types.specs.declared.config.Config.{Config}
 use Rattle.agg_types.specs.declared.limits.TheConstants.{LAST_MOMENT}
 use Rattle.session_core.specs.declared.cause.SessionCause.{SessionCause}
@@ -16,7 +16,7 @@ use Rattle.fleet_core.specs.declared.step.FleetFault.TheVariants.{NoConn, Spent,
 use Rattle.fleet_core.specs.declared.step.Replies.{Replies}
 use Rattle.fleet_core.specs.declared.step.Step.{Step}
 use Rattle.fleet_core.specs.declared.step.Step.TheVariants.{Connect, Bytes, Lost, Clear, AddFilter}
-use Rattle.fleet_core.specs.declared.step.Step.TheVariants.{DropFilter, Moment}
+use Rattle.fleet_core.specs.declared.step.Step.TheVariants.{DropFilter, Moment, Told}
 use Rattle.fleet_core.specs.Answers.{Answers}
 use Rattle.fleet_core.specs.Possible.{can_be, does_fit, end_by, sent_by, spends_at}
 use Rattle.fleet_core.specs.Runs.{Goes, IsAdvanced, IsFault, done, fault_at, late_fault, run_answer}
@@ -24,7 +24,7 @@ use Rattle.fleet_core.specs.Runs.{run_fault, sent_in, step_fault, then_done}
 use Rattle.fleet_core.specs.Represents.{Collected, Represents}
 use Rattle.fleet_core.specs.Steps.{conn_of}
 use Rattle.fleet_core.proofs.Answered.{same_replies}
-use Rattle.fleet_core.proofs.Counts.{bool_tells, not_le}
+use Rattle.fleet_core.proofs.Counts.{bool_tells}
 
 session_conn : (config : Config) (opening : ℕ) (past : List Step) (step : Step)
     (cause : SessionCause) → end_by config opening past step ≡ Some cause → conn_of step
@@ -37,6 +37,7 @@ session_conn config opening past (Clear table sel) cause is = cc
 session_conn config opening past (AddFilter filter) cause is = cc
 session_conn config opening past (DropFilter name) cause is = cc
 session_conn config opening past (Moment moment) cause is = cc
+session_conn config opening past (Told conn) cause is = cc
 
 -- what is known behind the answer of a step
 pub record Sent (replies : Replies) (new : Collected) (config : Config) (opening : ℕ)
@@ -184,11 +185,11 @@ early opening le = rw (not_lt LAST_MOMENT opening le) refl
     ]
 
 -- behind the checks of the opening the first fault of a step decides
-pub behind_opening : (config : Config) (opening : ℕ) (steps : List Step) → config_faults config ≡ []
+pub behind_opening : (config : Config) (opening : ℕ) (steps : List Step) → all_faults config ≡ []
     → opening ≤ LAST_MOMENT → run_fault config opening steps ≡ step_fault config opening [] steps
 behind_opening config opening steps sound le = rw (sound, early opening le) refl
 
-pub opened_late : (config : Config) (opening : ℕ) (steps : List Step) → config_faults config ≡ []
+pub opened_late : (config : Config) (opening : ℕ) (steps : List Step) → all_faults config ≡ []
     → LAST_MOMENT < opening → run_fault config opening steps ≡ Some faults.Unfit
 opened_late config opening steps sound lt = rw (sound, lt-ltb LAST_MOMENT opening lt) refl
 
@@ -202,7 +203,7 @@ fault_first fault config opening past left steps step is so_far = sym so_far
     ∙ ap (λ o. option_or o (step_fault config opening (then_done config opening past step) left)) is
 
 pub fault_is : (fault : RunFault) (fleet : Collected) (replies : List Replies) (config : Config)
-    (opening : ℕ) (past left steps : List Step) (step : Step) → config_faults config ≡ []
+    (opening : ℕ) (past left steps : List Step) (step : Step) → all_faults config ≡ []
     → opening ≤ LAST_MOMENT
     → step_fault config opening past (step ∷ left) ≡ step_fault config opening [] steps
     → Goes (Err fault) fleet replies config opening past step → IsFault fault config opening steps

@@ -1,5 +1,5 @@
 -- What each kind of step leaves, once what waited was taken.
-use Rattle.std.proofs.Common.{arith, ◌≤◌, ◌<◌, ◌≡◌, ℕ, ◌+◌, Bool, true, false, ◌&&◌, not}
+use Rattle.std.proofs.Common.{arith, ◌≤◌, ◌<◌, ◌≡◌, ℕ, ◌+◌, Bool, true, false, ◌&&◌}
 use Rattle.std.proofs.Common.{is_some, List, [], ◌∷◌, ◌++◌, length, Option, None, Some, Result, Ok}
 use Rattle.std.proofs.Common.{Err, option_map, option_to_list, IsSome, IsErrAnd, MatchResult}
 use Rattle.std.proofs.Common.{if◌then◌else◌, nat_lt, nat_le, sym, ap, ◌∙◌, refl, append-nil}
@@ -13,16 +13,17 @@ use Rattle.agg_types.specs.declared.limits.TheConstants.{LAST_SEAT, MOST_SEATS}
 use Rattle.agg_types.specs.declared.no_memory.NoMemory.{NoMemory}
 use Rattle.fleet_model.specs.Seats.{numbered}
 use Rattle.fleet_model.specs.State.{state_of}
-use Rattle.session_core.specs.Piece.{Setup, setup_of}
+use Rattle.session_core.specs.Piece.{Setup}
 use Rattle.session_core.specs.Talk.{stage_of}
 use Rattle.session_core.specs.declared.cause.SessionCause.{SessionCause}
+use Rattle.telling.specs.Telling.{untold}
 use Rattle.fleet_core.specs.declared.connection.Connection.{Connection}
 use Rattle.fleet_core.specs.declared.connection.Outcome.{Outcome}
 use Rattle.fleet_core.specs.declared.step.FleetFault.TheVariants.{Session}
 use Rattle.fleet_core.specs.declared.step.Replies.{Replies}
 use Rattle.fleet_core.specs.declared.step.Step.{Step}
 use Rattle.fleet_core.specs.declared.step.Step.TheVariants.{Connect, Bytes, Lost, Clear, AddFilter}
-use Rattle.fleet_core.specs.declared.step.Step.TheVariants.{DropFilter, Moment}
+use Rattle.fleet_core.specs.declared.step.Step.TheVariants.{DropFilter, Moment, Told}
 use Rattle.fleet_core.specs.Adds.{Adds, IsFed}
 use Rattle.fleet_core.specs.Answers.{Answers}
 use Rattle.fleet_core.specs.Events.{count_of, events_of, is_seated}
@@ -47,7 +48,7 @@ pub left_early : {A : Type 0} (P : A → Type 0) (S : NoMemory → Type 0) (Q : 
 left_early P S Q (Ok x) is q = elim is [ ]
 left_early P S Q (Err e) is q = q
 
-possible_with : (config : Config) (opening : ℕ) (past : List Step) (step : Step)
+pub possible_with : (config : Config) (opening : ℕ) (past : List Step) (step : Step)
     → Finds config opening past step false → does_fit config step ≡ true
     → is_possible config opening past step ≡ true
 possible_with config opening past step finds fits = rw (finds.could_be, finds.numbers, fits) refl
@@ -63,6 +64,7 @@ fits_then config opening taken (Clear table sel) = refl
 fits_then config opening taken (AddFilter filter) = refl
 fits_then config opening taken (DropFilter name) = refl
 fits_then config opening taken (Moment moment) = refl
+fits_then config opening taken (Told conn) = refl
 
 pub fits_now : (fleet : Collected) (config : Config) (opening : ℕ) (past : List Step) (step : Step)
     → Represents fleet config opening past → does_fit fleet.book.config step ≡ does_fit config step
@@ -85,6 +87,7 @@ unfolding can_be is_spent end_by sent_by
 front_tells config opening past Connect some = cc
 front_tells config opening past (Bytes conn piece) some = cc
 front_tells config opening past (Lost conn) some = cc
+front_tells config opening past (Told conn) some = cc
 front_tells config opening past (Clear table sel) some =
     record { could_be = refl; numbers = refl; ended = refl; out = refl; conn = refl }
 front_tells config opening past (AddFilter filter) some =
@@ -177,7 +180,7 @@ open_at f config opening past conn next_seq h at = by (found f.links conn) refl 
               connection kept.1;
         }
 
-closed_at : (f : Collected) (config : Config) (opening : ℕ) (past : List Step) (conn : ℕ)
+pub closed_at : (f : Collected) (config : Config) (opening : ℕ) (past : List Step) (conn : ℕ)
     → Represents f config opening past → next_seq_at f.links conn ≡ None
     → is_open config (events_of config opening past) past conn ≡ false
 closed_at f config opening past conn h at = is_closed config (events_of config opening past) past
@@ -367,17 +370,17 @@ pub connect_taken : (f g : Collected) (config : Config) (opening : ℕ) (past : 
     → seated ≡ nat_lt (length f.book.seats) MOST_SEATS
     → ((setup : Setup) → connection.session.stage ≡ stage_of setup seated [])
     → connection.session.seated ≡ seated → connection.next_seq ≡ then_some seated 1
-    → IsSet f.links links (f.connected + 1) (Some connection)
+    → connection.teller ≡ untold → IsSet f.links links (f.connected + 1) (Some connection)
     → facts ≡ (if seated then Sit ∷ [] else [])
     → events ≡ numbered (f.connected + 1) 0 (facts ++ leave_if false)
     → AreHandedOver events f.book g.waiting g.book → g.links ≡ links → g.connected ≡ f.connected + 1
     → g.next_seq ≡ f.next_seq
     → Adds g config opening past Connect
 connect_taken f g config opening past seated connection links events facts h none few free stands
-    is_seated_now number set sits waits are same_links connected front =
+    is_seated_now number told set sits waits are same_links connected front =
     handed_on waited g config opening past Connect are same_links connected front
     (accepted f waited config opening past seated connection h none free stands is_seated_now number
-    set refl (waits ∙ ap (numbered (f.connected + 1) 0) (append-nil facts ∙ sits))
+    told set refl (waits ∙ ap (numbered (f.connected + 1) 0) (append-nil facts ∙ sits))
     refl refl few)
   where
     waited : Collected

@@ -3,10 +3,11 @@ use Rattle.std.specs.Prelude.{◌≡◌, ℕ, List, ◌∷◌, Option}
 use Rattle.agg_types.specs.declared.config.Config.{Config}
 use Rattle.session_core.specs.declared.cause.SessionCause.{SessionCause}
 use Rattle.fleet_core.specs.declared.step.Step.{Step}
-use Rattle.fleet_core.specs.declared.step.Step.TheVariants.{Bytes}
+use Rattle.fleet_core.specs.declared.step.Step.TheVariants.{Bytes, Told}
 use Rattle.fleet_core.specs.Events.{added_by}
 use Rattle.fleet_core.specs.Possible.{end_by, sent_by}
 use Rattle.fleet_core.specs.Represents.{Collected, Represents}
+use Rattle.fleet_core.specs.Telling.{turn_out}
 use Rattle.fleet_core.specs.Waiting.{AreHandedOver, IsEndOf}
 
 -- the fleet stands for the steps with this one, whose events alone wait
@@ -27,3 +28,9 @@ pub record IsFed (bytes : List ℕ) (end : Option SessionCause) (new : Collected
   pub adds : Adds new config opening past (Bytes conn piece)
   pub ended : end_by config opening past (Bytes conn piece) ≡ end
   pub out : bytes ≡ (sent_by config opening past (Bytes conn piece)).out
+
+-- a turn of a connection was made, and writes these bytes
+pub record IsTurn (bytes : List ℕ) (new : Collected) (config : Config) (opening : ℕ)
+    (past : List Step) (conn : ℕ) : Type 0 where
+  pub adds : Adds new config opening past (Told conn)
+  pub out : bytes ≡ turn_out config opening past conn

@@ -2,7 +2,6 @@
 use Rattle.std.specs.Prelude.{◌≡◌, ⊤, ◌↔◌, ℕ, true, false, List, ◌∷◌, Option, None, Some, Result}
 use Rattle.std.specs.Prelude.{Ok, Err}
 use Rattle.agg_types.specs.declared.config.Config.{Config}
-use Rattle.agg_types.specs.declared.event.Event.{Event}
 use Rattle.session_core.specs.declared.cause.SessionCause.{SessionCause}
 use Rattle.fleet_core.specs.declared.step.FleetFault.{FleetFault}
 use Rattle.fleet_core.specs.declared.step.FleetFault.TheVariants.{NoConn, Spent, NoMemory, Session}

@@ -13,7 +13,7 @@ use Rattle.session_core.specs.Talk.{Talk, talk}
 use Rattle.session_core.specs.declared.cause.End.{End}
 use Rattle.fleet_core.specs.declared.step.Step.{Step}
 use Rattle.fleet_core.specs.declared.step.Step.TheVariants.{Connect, Bytes, Lost, Clear, AddFilter}
-use Rattle.fleet_core.specs.declared.step.Step.TheVariants.{DropFilter, Moment}
+use Rattle.fleet_core.specs.declared.step.Step.TheVariants.{DropFilter, Moment, Told}
 use Rattle.fleet_core.specs.Steps.{connects, stream}
 
 -- how many events a seat has
@@ -68,6 +68,7 @@ added config opening past events (Clear table sel) = at_front events (whats.Clea
 added config opening past events (AddFilter filter) = at_front events (whats.AddFilter filter)
 added config opening past events (DropFilter name) = at_front events (whats.DropFilter name)
 added config opening past events (Moment moment) = at_front events (whats.Moment moment)
+added config opening past events (Told conn) = []
 
 -- the events of a list of steps: first the Sit of seat 0, at which rows are cleared, filters added
 -- and dropped, and moments told

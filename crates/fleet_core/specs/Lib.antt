@@ -1,5 +1,6 @@
 pub mod Steps
 pub mod Events
+pub mod Telling
 pub mod Links
 pub mod Possible
 pub mod Represents

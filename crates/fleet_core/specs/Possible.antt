@@ -1,6 +1,6 @@
 -- Which steps can be done after others, and what they send. Lists of steps begin with the newest.
-use Rattle.std.specs.Prelude.{◌≡◌, ℕ, ◌+◌, ◌-◌, Bool, true, false, ◌&&◌, not, nat_le, nat_lt}
-use Rattle.std.specs.Prelude.{List, [], ◌∷◌, ◌++◌, length, drop, Option, None, Some}
+use Rattle.std.specs.Prelude.{ℕ, ◌+◌, ◌-◌, Bool, true, false, ◌&&◌, not, nat_le}
+use Rattle.std.specs.Prelude.{List, [], ◌∷◌, ◌++◌, length, drop, Option, None}
 use Rattle.std.specs.Option.{option_map, option_map_or}
 use Rattle.agg_types.specs.Fits.{fits}
 use Rattle.agg_types.specs.declared.config.Config.{Config}
@@ -11,10 +11,11 @@ use Rattle.session_core.specs.declared.cause.SessionCause.{SessionCause}
 use Rattle.fleet_core.specs.declared.step.Replies.{Replies}
 use Rattle.fleet_core.specs.declared.step.Step.{Step}
 use Rattle.fleet_core.specs.declared.step.Step.TheVariants.{Connect, Bytes, Lost, Clear, AddFilter}
-use Rattle.fleet_core.specs.declared.step.Step.TheVariants.{DropFilter, Moment}
+use Rattle.fleet_core.specs.declared.step.Step.TheVariants.{DropFilter, Moment, Told}
 use Rattle.fleet_core.specs.Events.{count_of, events_of, is_seated, talk_of, talk_with}
 use Rattle.fleet_core.specs.Links.{is_open}
 use Rattle.fleet_core.specs.Steps.{connects, what_at}
+use Rattle.fleet_core.specs.Telling.{turn_out}
 
 -- whether what a step makes happen at seat 0, if it does, fits the configuration
 abbrev pub does_fit : Config → Step → Bool
@@ -24,7 +25,7 @@ does_fit config step = option_map_or (fits config) (what_at step) true
 abbrev pub is_open_after : Config → ℕ → List Step → ℕ → Bool
 is_open_after config opening past conn = is_open config (events_of config opening past) past conn
 
--- whether a step finds its connection open: bytes and a loss name one
+-- whether a step finds its connection open: bytes, a loss and a telling name one
 unfoldable pub can_be : Config → ℕ → List Step → Step → Bool
 can_be config opening past Connect = true
 can_be config opening past (Bytes conn piece) = is_open_after config opening past conn
@@ -33,6 +34,7 @@ can_be config opening past (Clear table sel) = true
 can_be config opening past (AddFilter filter) = true
 can_be config opening past (DropFilter name) = true
 can_be config opening past (Moment moment) = true
+can_be config opening past (Told conn) = is_open_after config opening past conn
 
 -- whether a seat has no numbers left for so many events
 abbrev pub is_full : ℕ → ℕ → Bool
@@ -55,6 +57,7 @@ is_spent config opening past (Clear table sel) = is_seat_full config opening pas
 is_spent config opening past (AddFilter filter) = is_seat_full config opening past 0 1
 is_spent config opening past (DropFilter name) = is_seat_full config opening past 0 1
 is_spent config opening past (Moment moment) = is_seat_full config opening past 0 1
+is_spent config opening past (Told conn) = false
 
 -- whether a step finds its connection open and numbers spent
 abbrev pub spends_at : Config → ℕ → List Step → Step → Bool
@@ -94,6 +97,8 @@ sent_by config opening past (Clear table sel) = record { conn = 0; out = [] }
 sent_by config opening past (AddFilter filter) = record { conn = 0; out = [] }
 sent_by config opening past (DropFilter name) = record { conn = 0; out = [] }
 sent_by config opening past (Moment moment) = record { conn = 0; out = [] }
+sent_by config opening past (Told conn) =
+    record { conn = conn; out = turn_out config opening past conn }
 
 -- why the stream ends that a step brings bytes of, if it ends there
 unfoldable pub end_by : Config → ℕ → List Step → Step → Option SessionCause
@@ -105,3 +110,4 @@ end_by config opening past (Clear table sel) = None
 end_by config opening past (AddFilter filter) = None
 end_by config opening past (DropFilter name) = None
 end_by config opening past (Moment moment) = None
+end_by config opening past (Told conn) = None

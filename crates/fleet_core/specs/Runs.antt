@@ -3,7 +3,7 @@
 use Rattle.std.specs.Prelude.{◌≡◌, ⊤, ℕ, ◌≤◌, not, nat_lt, if◌then◌else◌, List, [], ◌∷◌, ◌++◌}
 use Rattle.std.specs.Prelude.{slice_get, Option, None, Some, Result, Ok, Err}
 use Rattle.std.specs.Option.{option_map, option_or}
-use Rattle.agg_types.specs.Check.{config_faults}
+use Rattle.agg_types.specs.Check.{all_faults}
 use Rattle.agg_types.specs.declared.config.Config.{Config}
 use Rattle.agg_types.specs.declared.limits.TheConstants.{LAST_MOMENT}
 use Rattle.fleet_core.specs.declared.runs.Ran.{Ran}
@@ -54,7 +54,7 @@ late_fault opening = if nat_lt LAST_MOMENT opening then Some faults.Unfit else N
 -- opening moment that is too late, then the first step that has a fault
 abbrev pub run_fault : Config → ℕ → List Step → Option RunFault
 run_fault config opening steps =
-    option_or (option_map faults.Config (slice_get (config_faults config) 0))
+    option_or (option_map faults.Config (slice_get (all_faults config) 0))
     (option_or (late_fault opening) (step_fault config opening [] steps))
 
 -- the run did all steps whose connection was open, nothing waits, and each sent what it should; no
@@ -70,7 +70,7 @@ pub record IsRan (ran : Ran) (config : Config) (opening : ℕ) (steps : List Ste
 abbrev pub IsFault : RunFault → Config → ℕ → List Step → Type 0
 IsFault (faults.Config fault) config opening steps =
     run_fault config opening steps ≡ Some (faults.Config fault)
-IsFault faults.NoMemory config opening steps = (config_faults config ≡ []) × (opening ≤ LAST_MOMENT)
+IsFault faults.NoMemory config opening steps = (all_faults config ≡ []) × (opening ≤ LAST_MOMENT)
 IsFault faults.Spent config opening steps = run_fault config opening steps ≡ Some faults.Spent
 IsFault faults.Unfit config opening steps = run_fault config opening steps ≡ Some faults.Unfit
 

@@ -6,7 +6,7 @@ use Rattle.agg_types.specs.declared.event.What.{What}
 use Rattle.agg_types.specs.declared.event.What.TheVariants as whats
 use Rattle.fleet_core.specs.declared.step.Step.{Step}
 use Rattle.fleet_core.specs.declared.step.Step.TheVariants.{Connect, Bytes, Lost, Clear, AddFilter}
-use Rattle.fleet_core.specs.declared.step.Step.TheVariants.{DropFilter, Moment}
+use Rattle.fleet_core.specs.declared.step.Step.TheVariants.{DropFilter, Moment, Told}
 
 abbrev pub is_connect : Step → Bool
 is_connect Connect = true
@@ -16,6 +16,7 @@ is_connect (Clear table sel) = false
 is_connect (AddFilter filter) = false
 is_connect (DropFilter name) = false
 is_connect (Moment moment) = false
+is_connect (Told conn) = false
 
 -- how many connections came; they are numbered from 1
 abbrev pub connects : List Step → ℕ
@@ -31,6 +32,7 @@ piece_of conn (Clear table sel) = []
 piece_of conn (AddFilter filter) = []
 piece_of conn (DropFilter name) = []
 piece_of conn (Moment moment) = []
+piece_of conn (Told of) = []
 
 -- the bytes of a connection's stream
 unfoldable pub stream : List Step → ℕ → List ℕ
@@ -46,11 +48,12 @@ loses conn (Clear table sel) = false
 loses conn (AddFilter filter) = false
 loses conn (DropFilter name) = false
 loses conn (Moment moment) = false
+loses conn (Told of) = false
 
 abbrev pub is_lost : List Step → ℕ → Bool
 is_lost past conn = list_any (loses conn) past
 
--- whether a step brings bytes of a connection or loses it
+-- whether a step brings bytes of a connection, loses it or tells it something
 abbrev pub names : ℕ → Step → Bool
 names conn Connect = false
 names conn (Bytes of piece) = of == conn
@@ -59,6 +62,7 @@ names conn (Clear table sel) = false
 names conn (AddFilter filter) = false
 names conn (DropFilter name) = false
 names conn (Moment moment) = false
+names conn (Told of) = of == conn
 
 -- what a step makes happen at seat 0: a clear, a filter that is added or dropped, or a moment
 abbrev pub what_at : Step → Option What
@@ -69,6 +73,7 @@ what_at (Clear table sel) = Some (whats.Clear table sel)
 what_at (AddFilter filter) = Some (whats.AddFilter filter)
 what_at (DropFilter name) = Some (whats.DropFilter name)
 what_at (Moment moment) = Some (whats.Moment moment)
+what_at (Told conn) = None
 
 -- the connection that a step names
 abbrev pub conn_of : Step → ℕ
@@ -79,3 +84,4 @@ conn_of (Clear table sel) = 0
 conn_of (AddFilter filter) = 0
 conn_of (DropFilter name) = 0
 conn_of (Moment moment) = 0
+conn_of (Told conn) = conn

@@ -1,14 +1,17 @@
 //! The open connections, by number.
 
 ghost use Rattle.std.specs.Prelude.{◌≡◌, ◌<◌, ◌^◌, ℕ, List, length, None, Some, IsSome, IfSome};
-ghost use Rattle.std.specs.Prelude.{IfOk, OnOk, OnErr, option_map};
+ghost use Rattle.std.specs.Prelude.{IfOk, OnOk, OnErr, map, option_map};
+ghost use Rattle.std.specs.Option.{option_copied};
 ghost use Rattle.fleet_core.specs.declared.connection.Connection.{Connection};
-ghost use Rattle.fleet_core.specs.Feeding.{FeedsAt, IsAfter, IsClosedIf, IsSet};
+ghost use Rattle.fleet_core.specs.Feeding.{FeedsAt, IsAfter, IsClosedIf, IsSet, TellsAt};
 ghost use Rattle.fleet_core.specs.Links.{found, HasNumbers, next_seq_at};
 
 use crate::connection::{Connection, Outcome};
-use agg_types::{Config, NoMemory};
+use agg_types::{Config, Key, NoMemory};
+use std::alloc::Global;
 use std::collections::BTreeMap;
+use telling::{Pushed, Teller};
 
 /// The open connections, by number.
 pub type Connections = BTreeMap<u64, Connection>;
@@ -21,6 +24,15 @@ pub fn next_seq_at(connections: &Connections, conn: u64) -> Option<Option<u64>>
         None => None,
         Some(connection) => Some(connection.next_seq),
     }
+}
+
+/// What an open connection was told; none where it isn't open.
+pub fn teller_at(connections: &Connections, conn: u64) -> Option<&Teller>
+    ensures { option_copied result
+        ≡ option_map (λ connection. connection.teller) (found connections.now.entries conn) }
+{
+    let connection = connections.get(&conn)?;
+    Some(&connection.teller)
 }
 
 /// Opens a connection. After NoMemory all are as they were.
@@ -50,6 +62,28 @@ pub fn close_if(connections: &mut Connections, conn: u64, ended: bool)
 {
     if ended {
         close(connections, conn);
+    }
+}
+
+/// An open connection makes a turn over the sets of the pushed tables at a moment, in ms, if its
+/// hello was accepted: what it writes. After NoMemory all are as they were.
+pub fn tell(
+    alloc: Global,
+    connections: &mut Connections,
+    conn: u64,
+    pushed: &[Pushed],
+    sets: &[Vec<&Key>],
+    now: u64,
+) -> Result<Vec<u8>, NoMemory>
+    requires open { IsSome (found connections.old.entries conn) }
+    ensures ok { (before : Connection) → found connections.old.entries conn ≡ Some before
+        → IfOk result (λ out. TellsAt out.items connections.old.entries connections.new.entries
+        conn before pushed.now (map (λ set. map (λ key. key.now) set.items) sets.now) now) }
+    ensures err { OnErr result (connections.new.entries ≡ connections.old.entries) }
+{
+    match connections.get_mut(&conn) {
+        None => unreachable!(),
+        Some(connection) => connection.tell(alloc, pushed, sets, now),
     }
 }
 

@@ -1,23 +1,27 @@
 ghost use Rattle.std.specs.Prelude.{◌≡◌, ◌+◌, ◌↔◌, ◌≤◌, ◌<◌, ◌∷◌, [], true, false, length};
 ghost use Rattle.std.specs.Prelude.{IfSome, IsSome, IsTrue, IfOk, OnOk, option_to_list};
 ghost use Rattle.std.specs.Prelude.{MatchResult, if◌then◌else◌};
-ghost use Rattle.std.specs.Option.{option_map_or};
+ghost use Rattle.std.specs.Bool.{then_some};
+ghost use Rattle.std.specs.Option.{option_copied, option_map_or};
 ghost use Rattle.agg_types.specs.Check.{config_faults};
 ghost use Rattle.agg_types.specs.declared.event.What.TheVariants.{Sit};
 ghost use Rattle.agg_types.specs.declared.limits.TheConstants.{LAST_MOMENT};
-ghost use Rattle.fleet_core.specs.declared.step.Step.TheVariants.{Bytes, Connect, Lost};
+ghost use Rattle.fleet_core.specs.declared.step.Step.TheVariants.{Bytes, Connect, Lost, Told};
 ghost use Rattle.fleet_core.specs.Answers.{Answers, EndsBy, IfDone, IfNoMemory, IfRefused, Sends};
 ghost use Rattle.fleet_core.specs.Answers.{past_after};
 ghost use Rattle.fleet_core.specs.Events.{added_by};
-ghost use Rattle.fleet_core.specs.Adds.{Adds, IsFed, Keeps};
-ghost use Rattle.fleet_core.specs.Links.{next_seq_at};
-ghost use Rattle.fleet_core.specs.Possible.{can_be, does_fit, end_by, is_full, sent_by, spends_at};
+ghost use Rattle.fleet_core.specs.Adds.{Adds, IsFed, IsTurn, Keeps};
+ghost use Rattle.fleet_core.specs.Links.{found, next_seq_at};
+ghost use Rattle.fleet_core.specs.Possible.{can_be, does_fit, end_by, is_full, is_open_after};
+ghost use Rattle.fleet_core.specs.Possible.{sent_by, spends_at};
+ghost use Rattle.fleet_core.specs.Telling.{told_of};
 ghost use Rattle.fleet_core.specs.Represents.{ForEachPast, Represents};
 ghost use Rattle.fleet_core.specs.Steps.{connects, what_at};
 ghost use Rattle.fleet_core.specs.Waiting.{AreHandedOver, IsEndOf};
 
 use crate::connection::{Connection, Outcome};
-use crate::connections::{Connections, close, close_if, feed, next_seq_at, open};
+use crate::connections::{Connections, close, close_if, feed, next_seq_at, open, tell, teller_at};
+use crate::sets::sets_of;
 use crate::waiting::Waiting;
 use crate::{Book, FleetFault, Replies, Step};
 use agg_types::{Config, Items, LAST_SEAT, NUMBERS_END, NoMemory, What};
@@ -25,6 +29,7 @@ use session_core::SessionCause;
 use std::alloc::Global;
 use std::collections::BTreeMap;
 use std::marker::Model;
+use telling::{Teller, pushed_of};
 
 /// A collector in one thread: the connections of its peers, and the book of what they push.
 ///
@@ -91,6 +96,16 @@ impl Fleet {
         self.waiting.len()
     }
 
+    /// What an open connection was told of the pushed tables; none where it isn't open. Takes no
+    /// memory.
+    pub fn told(&self, conn: u64) -> Option<&Teller>
+        ensures { ForEachPast self.now (λ config opening past. option_copied result
+            ≡ then_some (is_open_after config opening past conn)
+            (told_of config opening past conn)) }
+    {
+        teller_at(&self.connections, conn)
+    }
+
     /// Does a step. A clear, a filter that is added or dropped, or a moment fits the configuration
     /// that stands, which `Step::fits` tells. Faults, in this order: NoConn, Spent, NoMemory,
     /// Session. Where an allocation fails after the step is done, what the book has yet to take
@@ -141,6 +156,7 @@ impl Fleet {
             Step::Connect => self.connect(),
             Step::Bytes(conn, piece) => self.bytes(*conn, piece.as_slice()),
             Step::Lost(conn) => self.lose(*conn),
+            Step::Told(conn) => self.tell(*conn),
             Step::Clear { .. } | Step::AddFilter(_) | Step::DropFilter(_) | Step::Moment(_) =>
                 self.happen(step),
         }
@@ -256,6 +272,43 @@ impl Fleet {
         close(&mut self.connections, conn);
         self.queue(events);
         Ok(())
+    }
+
+    // A connection is told what has changed of the pushed tables.
+    fn tell(&mut self, conn: u64) -> Result<Replies, FleetFault>
+        ensures { ForEachPast self.old (λ config opening past.
+            Answers result self.old self.new config opening past (Told conn)) }
+    {
+        let Some(_) = next_seq_at(&self.connections, conn) else {
+            return Err(FleetFault::NoConn);
+        };
+        match self.tell_open(conn) {
+            Ok(out) => Ok(Replies { conn, out }),
+            Err(NoMemory) => Err(FleetFault::NoMemory),
+        }
+    }
+
+    // An open connection makes a turn: what it writes.
+    fn tell_open(&mut self, conn: u64) -> Result<Items<u8>, NoMemory>
+        requires open { IsSome (found self.old.links conn) }
+        ensures { ForEachPast self.old (λ config opening past. MatchResult result
+            (λ out. IsTurn out self.new config opening past conn)
+            (λ _. Keeps self.old self.new config opening past)) }
+    {
+        let alloc = self.alloc;
+        self.flush()?;
+        let pushed = pushed_of(alloc, self.book.config())?;
+        let sets = sets_of(alloc, &self.book, pushed.as_slice())?;
+        let now = self.book.moment();
+        let out = tell(
+            alloc,
+            &mut self.connections,
+            conn,
+            pushed.as_slice(),
+            sets.as_slice(),
+            now,
+        )?;
+        Ok(Items::from_vec(out))
     }
 
     // A clear, a filter that is added or dropped, or a moment happens at seat 0.

@@ -22,6 +22,9 @@ pub enum Step {
     DropFilter(Name),
     /// The clock says this moment, in ms.
     Moment(u64),
+    /// An open connection is told what has changed of the pushed tables, if its hello was accepted.
+    /// It adds no event.
+    Told(u64),
 }
 
 impl Step {
@@ -34,7 +37,7 @@ impl Step {
         ensures { IfOk result (λ what. what ≡ what_at self.now) }
     {
         match self {
-            Step::Connect | Step::Bytes(..) | Step::Lost(_) => Ok(None),
+            Step::Connect | Step::Bytes(..) | Step::Lost(_) | Step::Told(_) => Ok(None),
             Step::Clear { table, sel } => Ok(Some(What::Clear {
                 table: *table,
                 sel: duplicate_select(alloc, sel)?,
@@ -61,7 +64,7 @@ impl Step {
         ensures { result ≡ conn_of self.now }
     {
         match self {
-            Step::Bytes(conn, _) | Step::Lost(conn) => *conn,
+            Step::Bytes(conn, _) | Step::Lost(conn) | Step::Told(conn) => *conn,
             _ => 0,
         }
     }

@@ -6,3 +6,4 @@ pub mod Source
 pub mod Cutting
 pub mod Scripts
 pub mod Known
+pub mod Shown

@@ -11,7 +11,8 @@ use Rattle.fleet_core.specs.declared.step.FleetFault.TheVariants as fault
 use Rattle.fleet_core.specs.declared.step.Replies.{Replies}
 use Rattle.fleet_core.specs.declared.step.Step.{Step}
 use Rattle.fleet_core.specs.declared.step.Step.TheVariants.{Connect, Bytes, Lost, Clear, AddFilter}
-use Rattle.fleet_core.specs.declared.step.Step.TheVariants.{DropFilter, Moment}
+use Rattle.fleet_core.specs.declared.step.Step.TheVariants.{DropFilter, Moment, Told}
+use Rattle.replay.specs.Tellings.{shown_text}
 use Rattle.replay.specs.Texts.{conn_text, end_text, sent_text}
 use Rattle.replay.specs.declared.ending.Ending.{Ending}
 use Rattle.replay.specs.declared.ending.Ending.TheVariants.{Failed}
@@ -31,6 +32,7 @@ came_text (Clear table sel) conn = []
 came_text (AddFilter filter) conn = []
 came_text (DropFilter name) conn = []
 came_text (Moment moment) conn = []
+came_text (Told of) conn = []
 
 -- the line of a session that ended, if it did
 abbrev pub ended_text : ℕ → Option SessionCause → List ℕ
@@ -52,7 +54,8 @@ step_given config opening past step =
     else record {
       past = step ∷ past;
       text =
-          done_text step (sent_by config opening past step) (end_by config opening past step);
+          done_text step (sent_by config opening past step) (end_by config opening past step)
+          ++ shown_text config opening (step ∷ past) step;
       ending = None;
     }
 

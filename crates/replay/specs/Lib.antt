@@ -1,5 +1,6 @@
 pub mod Meaning
 pub mod Texts
+pub mod Tellings
 pub mod Given
 pub mod Runs
 pub mod Writing

@@ -4,7 +4,7 @@ use Rattle.std.specs.Prelude.{Option, None, Some, Result, Ok, Err}
 use Rattle.std.specs.Str.{bytes_eq}
 use Rattle.agg_types.specs.declared.config.Config.{Config}
 use Rattle.fleet_core.specs.Possible.{does_fit}
-use Rattle.fleet_core.specs.declared.step.Step.TheVariants.{Connect, Bytes, Lost, Moment}
+use Rattle.fleet_core.specs.declared.step.Step.TheVariants.{Connect, Bytes, Lost, Moment, Told}
 use Rattle.hex.specs.Hex.{decode_of}
 use Rattle.hex.specs.declared.error.FromHexError.{FromHexError}
 use Rattle.line_words.specs.Numbers.{number_of}
@@ -71,6 +71,18 @@ bytes_of (word ∷ []) = no_hex_by (number_of word)
 bytes_of (word ∷ digits ∷ []) = hex_by (number_of word) digits
 bytes_of (word ∷ digits ∷ other ∷ words) = BadStep
 
+abbrev pub told_by : Result ℕ NumberFault → Meaning
+told_by (Ok conn) = Does (Told conn)
+told_by (Err fault) = BadStep
+
+-- behind `told` stands the number of a connection
+abbrev pub told_with : Option (List ℕ) → Meaning
+told_with None = BadStep
+told_with (Some word) = told_by (number_of word)
+
+abbrev pub told_of : List (List ℕ) → Meaning
+told_of words = told_with (only words)
+
 -- by the first word
 abbrev pub meaning_by : List ℕ → List (List ℕ) → Meaning
 meaning_by first words =
@@ -78,6 +90,7 @@ meaning_by first words =
     else if bytes_eq first (codes "bytes") then bytes_of words
     else if bytes_eq first (codes "lost") then lost_of words
     else if bytes_eq first (codes "moment") then moment_of words
+    else if bytes_eq first (codes "told") then told_of words
     else Asks
 
 abbrev pub meaning_of : List (List ℕ) → Meaning

@@ -9,6 +9,7 @@ ghost use Rattle.replay.specs.Given.{Did, IsSettled, answer_ending, answer_text,
 ghost use Rattle.replay.specs.Given.{done_text, step_given};
 
 use crate::ending::Ending;
+use crate::tellings::append_shown;
 use crate::texts::{append_conn, append_end, append_sent};
 use agg_types::NoMemory;
 use fleet_core::{Fleet, FleetFault, Replies, Step};
@@ -34,6 +35,7 @@ pub fn do_step(
     if fleet.waiting() > 0 {
         return Err(NoMemory);
     }
+    append_shown(alloc, fleet, step, out)?;
     Ok(ending)
 }
 

@@ -16,8 +16,8 @@ use std::alloc::Global;
 use std::io;
 use std::io::Write;
 
-/// Replays a script as `replay_lines` does. A write that fails ends it, and so does a line for which
-/// there is no memory: then a beginning of what it prints was written.
+/// Replays a script as `replay_lines` does. A write that fails ends it, and so does a line for
+/// which there is no memory: then a beginning of what it prints was written.
 pub fn replay<W: Write>(alloc: Global, script: &[u8], out: &mut W) -> io::Result<Ending>
     ensures whole { IfOk result (Wrote (ScriptPrints script.now)
         (W.contents out.old) (W.contents out.new)) }

@@ -17,8 +17,8 @@ use std::io;
 use std::io::{BufRead, ErrorKind};
 
 /// What a script has up to its first line whose first word is `start`, or up to its end: the
-/// configuration that stands before it, the line's number, and the opening moment that it says, if it
-/// says one of at most 2^62 ms and nothing else.
+/// configuration that stands before it, the line's number, and the opening moment that it says, if
+/// it says one of at most 2^62 ms and nothing else.
 #[derive(Drop)]
 pub struct Start {
     pub config: Reader,

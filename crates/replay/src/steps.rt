@@ -5,7 +5,7 @@ ghost use Rattle.std.specs.Option.{option_copied};
 ghost use Rattle.std.specs.Str.{bytes_eq};
 ghost use Rattle.line_words.specs.Words.{words};
 ghost use Rattle.replay.specs.Meaning.{AlwaysFits, bytes_of, connect_of, hex_of, lost_of};
-ghost use Rattle.replay.specs.Meaning.{meaning_by, meaning_of, moment_of, only};
+ghost use Rattle.replay.specs.Meaning.{meaning_by, meaning_of, moment_of, only, told_of};
 
 use agg_types::{Items, LAST_MOMENT, NoMemory};
 use fleet_core::Step;
@@ -53,6 +53,8 @@ fn by_first(alloc: Global, first: &[u8], behind: &[u8]) -> Result<Meaning, NoMem
         Ok(lost_of(behind))
     } else if is_word(first, b"moment") {
         Ok(moment_of(behind))
+    } else if is_word(first, b"told") {
+        Ok(told_of(behind))
     } else {
         Ok(Meaning::Asks)
     }
@@ -113,6 +115,19 @@ fn moment_of(behind: &[u8]) -> Meaning
                 Meaning::Does(Step::Moment(moment))
             }
         }
+        Err(_) => Meaning::BadStep,
+    }
+}
+
+fn told_of(behind: &[u8]) -> Meaning
+    ensures exact { result ≡ told_of (words behind.now) }
+    ensures fits { AlwaysFits result }
+{
+    let Some(word) = only(behind) else {
+        return Meaning::BadStep;
+    };
+    match number(word) {
+        Ok(conn) => Meaning::Does(Step::Told(conn)),
         Err(_) => Meaning::BadStep,
     }
 }

@@ -30,17 +30,17 @@ pub(crate) fn take_line<R: BufRead>(source: &mut R, bytes: &mut Vec<u8>) -> io::
     Ok(())
 }
 
-/// Replays a script that a source gives, line by line: its configuration up to the line `start`, then
-/// steps and commands, and writes what each of them prints.
+/// Replays a script that a source gives, line by line: its configuration up to the line `start`,
+/// then steps and commands, and writes what each of them prints.
 ///
-/// Of the script no more is kept than one line. A read or a write that fails ends it where it fails,
-/// and so does a line for which there is no memory: then a beginning of what the script prints was
-/// written.
+/// Of the script no more is kept than one line. A read or a write that fails ends it where it
+/// fails, and so does a line for which there is no memory: then a beginning of what the script
+/// prints was written.
 ///
 /// Faults of the script are found in this order: the line `start`, the configuration, then line by
-/// line. Out of memory ends it as `Ending::Failed`; before the fleet is open nothing is written then,
-/// and later `fault NoMemory` in place of the text of the line that wanted it. docs/REPLAY.md has the
-/// lines of a script.
+/// line. Out of memory ends it as `Ending::Failed`; before the fleet is open nothing is written
+/// then, and later `fault NoMemory` in place of the text of the line that wanted it. docs/REPLAY.md
+/// has the lines of a script.
 pub fn replay_lines<R: BufRead, W: Write>(
     alloc: Global,
     script: &mut R,
@@ -64,8 +64,8 @@ pub fn replay_lines<R: BufRead, W: Write>(
     }
 }
 
-/// Replays a script as `replay_lines` does, and flushes what it wrote. A read, a write or a flush that
-/// fails ends it as `Ending::Failed`: then a beginning was written.
+/// Replays a script as `replay_lines` does, and flushes what it wrote. A read, a write or a flush
+/// that fails ends it as `Ending::Failed`: then a beginning was written.
 pub fn replay_from<R: BufRead, W: Write>(alloc: Global, script: &mut R, out: &mut W) -> Ending
     ensures { IfSome (R.remaining script.old)
         (λ bytes. IsReplayed bytes (W.contents out.old) (W.contents out.new) result) }

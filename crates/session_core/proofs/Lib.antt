@@ -14,3 +14,4 @@ pub mod PlanLemmas
 pub mod FactLemmas
 pub mod PlanNowLemmas
 pub mod UndoLemmas
+pub mod AskingLemmas

@@ -14,3 +14,4 @@ pub mod InForce
 pub mod Talk
 pub mod TalkAnswers
 pub mod Undo
+pub mod Asking

@@ -1,6 +1,7 @@
 //! What a piece of the stream gives.
 
 ghost use Rattle.std.specs.Prelude.{◌≡◌, ◌++◌, ◌==◌, ◌&&◌, [], length, take, drop, vec_len, ◌≤◌};
+ghost use Rattle.session_core.specs.Asking.{asks_all};
 ghost use Rattle.session_core.specs.Piece.{nothing};
 
 use crate::SessionCause;
@@ -8,6 +9,11 @@ use agg_types::{Items, What};
 use std::alloc::Global;
 use std::marker::Model;
 use thiserror::Error;
+
+// The two bytes of the message `partial`.
+const CONTROL: u8 = 0;
+
+const PARTIAL: u8 = 2;
 
 /// What a piece gives: facts for the fleet, replies, and acknowledgements, which are sent after the
 /// replies.
@@ -87,6 +93,14 @@ impl Batch {
         self.out.is_empty()
     }
 
+    /// Whether a resync request was read: `partial` stands among the replies, behind an even number
+    /// of bytes, as each reply has one. Takes no memory.
+    pub fn asks_all(&self) -> bool
+        ensures { result ≡ asks_all self.now.replies }
+    {
+        has_partial(self.replies())
+    }
+
     /// The facts, and the bytes to send: the replies, then the acknowledgements. Takes no memory.
     pub fn into_parts(self) -> (Items<What>, Vec<u8>)
         ensures facts { result.0 ≡ self.facts }
@@ -95,6 +109,21 @@ impl Batch {
         let Batch { facts, out, .. } = self;
         (facts, out)
     }
+}
+
+// Whether `partial` stands among replies.
+#[tactic(auto, unfolding(crate::specs::Asking::asks_all))]
+fn has_partial(replies: &[u8]) -> bool
+    ensures { result ≡ asks_all replies.now }
+{
+    let mut left = replies;
+    'pairs: while let [class, kind, rest @ ..] = left {
+        if *class == CONTROL && *kind == PARTIAL {
+            return true;
+        }
+        left = rest;
+    }
+    false
 }
 
 /// Why a session ends, and what its last piece gave before that.

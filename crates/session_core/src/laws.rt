@@ -2,13 +2,15 @@
 //! nothing.
 
 ghost use Rattle.std.specs.Prelude.{◌≡◌, ◌≤◌, length, ◌++◌, ℕ, Bool, List, Some, IsTrue};
-ghost use Rattle.std.specs.List.{list_all};
+ghost use Rattle.std.specs.Prelude.{false, ◌||◌, take};
+ghost use Rattle.std.specs.List.{list_all, list_any};
 ghost use Rattle.agg_types.specs.Fits.{fits};
 ghost use Rattle.agg_types.specs.declared.config.Config.{Config};
 ghost use Rattle.agg_types.specs.declared.event.What.{What};
 ghost use Rattle.session_core.specs.declared.cause.End.{End};
-ghost use Rattle.session_core.specs.Piece.{Setup, setup_of};
-ghost use Rattle.session_core.specs.Talk.{talk};
+ghost use Rattle.session_core.specs.Asking.{asks_all, is_request};
+ghost use Rattle.session_core.specs.Piece.{Setup, end_text, setup_of, welcome};
+ghost use Rattle.session_core.specs.Talk.{talk, words_of};
 ghost use Rattle.session_core.specs.TalkAnswers.{is_open_or_put};
 ghost use Rattle.session_core.specs.Hello.{hello_of};
 ghost use Rattle.session_core.specs.HelloLines.{HelloDecides, Verdict};
@@ -61,4 +63,19 @@ pub fn facts_of_bytes()
         → IsTrue (list_all is_open_or_put (talk setup seated bytes).facts) }
     ensures few { (setup : Setup) (seated : Bool) (bytes : List ℕ)
         → length (talk setup seated bytes).facts ≤ length bytes }
+{}
+
+/// Replies ask for all exactly where a message before the end is a resync request: those of
+/// messages behind others, and each text of replies has an even length, so that another may follow
+/// it.
+pub fn requests_are_answered()
+    ensures asks { (tables : List Shape) (peer : ℕ) (past messages : List Message)
+        → asks_all (words_of tables peer past messages).replies
+        ≡ list_any is_request (take (words_of tables peer past messages).count messages) }
+    ensures behind { (tables : List Shape) (peer : ℕ) (past messages : List Message)
+        (others : List ℕ)
+        → asks_all ((words_of tables peer past messages).replies ++ others)
+        ≡ (asks_all (words_of tables peer past messages).replies || asks_all others) }
+    ensures welcome { (others : List ℕ) → asks_all (welcome ++ others) ≡ asks_all others }
+    ensures end { (end : End) → asks_all (end_text end) ≡ false }
 {}

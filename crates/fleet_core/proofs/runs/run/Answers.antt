@@ -3,6 +3,7 @@ use Rattle.std.proofs.lemmas.Result.{err_from_is_err_and}
 use Rattle.fleet_core.specs.Runs.{done, then_done}
 use Rattle.fleet_core.proofs.Running.{all_done, behind_opening, fault_is, left_then, next_left}
 use Rattle.fleet_core.proofs.Running.{no_fault_then, none_left, none_sent, opened_late}
+use Rattle.fleet_model.proofs.Checked.{front_none}
 use Rattle.fleet_core.proofs.runs.run.Goals as goal
 
 pub loop-step-init : goal.loop-step-init
@@ -75,3 +76,6 @@ returns-clause-ok c =
           c.if-moment-gt-LAST_MOMENT.false ∙ sym (rw end at so_far.no_fault)
           ∙ none_left c.args.config c.args.moment so_far.past;
     }
+
+pub new-requires-clause-checked : goal.new-requires-clause-checked
+new-requires-clause-checked c = front_none _ _ c.in_default.ensures

@@ -6,7 +6,8 @@ pub returns : goal.returns
 returns c = λ config opening past settled.
     let h = settled.stands in
     stepped c.step-answer.result c.args.fleet.now c.step-answer.new.self config opening past
-    c.args.step.now c.args.out.now.items c.append_answer.new.out.items c.in_ok-ending.ending
+    c.args.step.now c.args.out.now.items c.append_answer.new.out.items
+    c.append_shown.new.out.items c.in_ok-ending.ending
     (record {
       stands = c.step-answer.ensures.stands config opening past h;
       no_conn = c.step-answer.ensures.no_conn config opening past h;
@@ -21,3 +22,4 @@ returns c = λ config opening past settled.
     (nothing_waits c.step-answer.new.self.waiting c.waiting.result c.waiting.ensures
     c.if-waiting-gt0.false)
     c.in_ok-ending.ensures.text c.in_ok-ending.ensures.ended
+    (λ then now. c.in_ok-append_shown.ensures config opening then now)

@@ -1,4 +1,4 @@
-use Rattle.std.proofs.Common.{sym, ap, refl, ◌∙◌, true, false}
+use Rattle.std.proofs.Common.{sym, ap, true, false}
 use Rattle.std.proofs.lemmas.Bool.{le-leb}
 use Rattle.fleet_core.proofs.Answered.{at_no_memory, at_spent}
 use Rattle.fleet_core.proofs.Counts.{not_le}

@@ -38,6 +38,7 @@ returns c = λ config opening past h.
           (c.has_free_seat-seated.ensures ∙ rw (ap (λ f. f.book) c.self.view_is) refl)
           c.new-connection.ensures.stands c.new-connection.ensures.seated
           c.new-connection.ensures.next_seq
+          c.new-connection.ensures.told
           (rw (ap (λ f. f.links) c.self.view_is, ap (λ f. f.connected) c.self.view_is)
           at c.in_ok-open.ensures.ok)
           c.in_ok-facts.ensures

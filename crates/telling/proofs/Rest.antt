@@ -1,0 +1,16 @@
+-- What is left of a list, item by item.
+use Rattle.std.proofs.Common.{◌≡◌, ℕ, suc, ◌+◌, ◌<◌, List, [], ◌∷◌, ◌++◌, map, length, drop, get_or}
+use Rattle.std.proofs.Common.{append_assoc, add-one, drop-cons, ap, sym, ◌∙◌}
+
+-- the item at hand, and what is left behind it
+pub drop_here : {A : Type 0} (xs : List A) (i : ℕ) (x : A) → i < length xs → x ≡ get_or xs i x
+    → drop i xs ≡ x ∷ drop (i + 1) xs
+drop_here xs i x lt is =
+    rw add-one (drop-cons xs i x lt ∙ ap (λ y. y ∷ drop (suc i) xs) (sym is))
+
+-- what is done and what is still to be done, with one item more done
+pub map_more : {A B : Type 0} (f : A → B) (done : List B) (xs : List A) (i : ℕ) (x : A)
+    → i < length xs → x ≡ get_or xs i x
+    → (done ++ f x ∷ []) ++ map f (drop (i + 1) xs) ≡ done ++ map f (drop i xs)
+map_more f done xs i x lt is =
+    rw (drop_here xs i x lt is) (append_assoc done (f x ∷ []) (map f (drop (i + 1) xs)))

@@ -1,0 +1,67 @@
+use Rattle.std.proofs.Common.{[], ◌∷◌, map, ◌∙◌, sym, subst, List}
+use Rattle.telling.specs.Stands.{Stand, shown, stands}
+use Rattle.telling.specs.Telling.{table_turn}
+use Rattle.telling.proofs.Left.{Done, IsDone, done_more, none_done}
+use Rattle.telling.proofs.turning.tell.Goals as goal
+
+pub loop-standing-preserved : goal.loop-standing-preserved
+loop-standing-preserved c = λ new h.
+    let at : Done = record {
+      bytes = c.loop-standing.written.bytes.items;
+      defined = c.loop-standing.written.defined;
+      last = c.loop-standing.last;
+      kept = c.loop-standing.kept.items;
+    } in
+    let then : Done = record {
+      bytes = c.say.new.written.bytes.items;
+      defined = c.say.new.written.defined;
+      last = c.in_ok-last.last;
+      kept = c.keep.new.marks.items;
+    } in
+    let more : IsDone c.args.id c.args.pushed.now c.args.turn at
+    (shown c.in-Some.standing ∷ c.next.new.self) new =
+    done_more c.args.id c.args.pushed.now c.args.turn at then new (shown c.in-Some.standing)
+    c.next.new.self c.in_ok-last.ensures.bytes c.in_ok-last.ensures.defined
+    c.in_ok-last.ensures.last c.in_ok-keep.ensures h in
+    c.loop-standing.invariant new
+    (subst (λ (keys : List Stand). IsDone c.args.id c.args.pushed.now c.args.turn at keys new)
+    (sym c.in-Some.ensures.steps) more)
+
+-- all is done where no key is left
+all_done : (c : goal.After-from_vec) → IsDone c.args.id c.args.pushed.now c.args.turn
+    (record {
+      bytes = c.args.written.now.bytes.items;
+      defined = c.args.written.now.defined;
+      last = c.args.last;
+      kept = [];
+    }) (stands (map (λ key. key.now) c.args.set.now) c.args.marks.now)
+    (record {
+      bytes = c.loop-standing.written.bytes.items;
+      defined = c.loop-standing.written.defined;
+      last = c.loop-standing.last;
+      kept = c.loop-standing.kept.items;
+    })
+all_done c =
+    let at : Done = record {
+      bytes = c.loop-standing.written.bytes.items;
+      defined = c.loop-standing.written.defined;
+      last = c.loop-standing.last;
+      kept = c.loop-standing.kept.items;
+    } in
+    c.loop-standing.invariant at
+    (subst (λ (keys : List Stand). IsDone c.args.id c.args.pushed.now c.args.turn at keys at)
+    (sym c.in-None.ensures.steps.0) (none_done c.args.id c.args.pushed.now c.args.turn at))
+
+pub returns-clause-bytes : goal.returns-clause-bytes
+unfolding table_turn
+returns-clause-bytes c = (all_done c).bytes
+
+pub returns-clause-defined : goal.returns-clause-defined
+unfolding table_turn
+returns-clause-defined c = (all_done c).defined
+
+pub returns-clause-after : goal.returns-clause-after
+unfolding table_turn
+returns-clause-after c =
+    let done = all_done c in
+    λ i. record { last = done.last i; marks = (c.from_vec.ensures ∙ done.kept) i }

@@ -1,0 +1,229 @@
+-- What a turn writes, as messages, and what was told behind it. The tables are numbered from 1.
+use Rattle.std.specs.Prelude.{◌≡◌, ℕ, ◌+◌, ◌%◌, ◌^◌, true, false, ◌==◌, if◌then◌else◌}
+use Rattle.std.specs.Prelude.{List, [], ◌∷◌, ◌++◌, length, map, filter, slice_index_or, min}
+use Rattle.std.specs.Prelude.{None, Some, option_to_list, slice_get}
+use Rattle.std.specs.List.{flat_map, AllByRecursion}
+use Rattle.std.specs.Option.{option_map, option_map_or}
+use Rattle.agg_types.specs.declared.config.KeyKind.{KeyKind}
+use Rattle.agg_types.specs.declared.config.KeyKind.TheVariants.{Integer, Ip, Ipv6, Str, Binary}
+use Rattle.agg_types.specs.declared.limits.TheConstants.{LONGEST_KEY}
+use Rattle.peers_msg.specs.Spelling.{integer_spelling, message_spelling}
+use Rattle.peers_msg.specs.declared.message.Definition.{Definition}
+use Rattle.peers_msg.specs.declared.message.Message.{Message}
+use Rattle.peers_msg.specs.declared.message.Message.TheVariants as messages
+use Rattle.telling.specs.Rules.{change_of, is_told, put_after}
+use Rattle.telling.specs.Stands.{Stand, stands}
+use Rattle.telling.specs.Told.{no_table}
+pub use Rattle.telling.specs.Told.{Told, untold, asked}
+use Rattle.telling.specs.declared.change.Change.{Change}
+use Rattle.telling.specs.declared.change.Change.TheVariants.{Put, TakeAway}
+use Rattle.telling.specs.declared.change.Turn.{Turn}
+use Rattle.telling.specs.declared.pushed.Pushed.{Pushed}
+use Rattle.telling.specs.declared.told.Mark.{Mark}
+use Rattle.telling.specs.declared.told.ToldTable.{ToldTable}
+
+-- the number of a key's type in a definition
+abbrev pub type_number : KeyKind → ℕ
+type_number Integer = 2
+type_number Ip = 4
+type_number Ipv6 = 5
+type_number (Str len) = 6
+type_number (Binary len) = 7
+
+-- the length of a key in a definition, in bytes; that of a string key counts one more
+abbrev pub key_length : KeyKind → ℕ
+key_length Integer = 4
+key_length Ip = 4
+key_length Ipv6 = 16
+key_length (Str len) = min len LONGEST_KEY + 1
+key_length (Binary len) = len
+
+-- a string key stands behind its length
+abbrev pub key_spelling : KeyKind → List ℕ → List ℕ
+key_spelling Integer key = key
+key_spelling Ip key = key
+key_spelling Ipv6 key = key
+key_spelling (Str len) key = integer_spelling (length key) ++ key
+key_spelling (Binary len) key = key
+
+-- a pushed table, which stores gpc0 alone
+abbrev pub definition_of : ℕ → Pushed → Definition
+definition_of id pushed =
+    record {
+      id = id;
+      name = pushed.name;
+      kind = type_number pushed.kind;
+      len = key_length pushed.kind;
+      bits = 4;
+      expiry = pushed.life;
+      periods = [];
+    }
+
+-- a put has the table's life and gpc0 1, a take-away a life of 1 ms and gpc0 0
+abbrev pub update_of : Pushed → ℕ → List ℕ → Change → Message
+update_of pushed id key Put =
+    messages.Update (Some id) (Some pushed.life) (key_spelling pushed.kind key ++ 1 ∷ [])
+update_of pushed id key TakeAway =
+    messages.Update (Some id) (Some 1) (key_spelling pushed.kind key ++ 0 ∷ [])
+
+-- what a turn writes of a key, if it writes of it
+abbrev pub key_change : Pushed → Turn → Stand → List (List ℕ × Change)
+key_change pushed turn stand =
+    option_to_list (option_map (λ change. (stand.key, change))
+    (change_of pushed turn stand.is_in stand.put))
+
+-- the changes of these keys, in order
+abbrev pub changes : Pushed → Turn → List Stand → List (List ℕ × Change)
+changes pushed turn = flat_map (key_change pushed turn)
+
+-- a turn writes nothing of these keys and leaves their marks as they are
+abbrev pub AreQuiet : Pushed → Turn → List Stand → Type 0
+AreQuiet pushed turn =
+    AllByRecursion (λ stand. (change_of pushed turn stand.is_in stand.put ≡ None)
+    × (put_after pushed turn stand.is_in stand.put ≡ stand.put))
+
+-- the mark of a key behind a turn, if it has one
+abbrev pub key_mark : Pushed → Turn → Stand → List Mark
+key_mark pushed turn stand =
+    option_to_list (option_map (λ put. record { key = stand.key; put = put })
+    (put_after pushed turn stand.is_in stand.put))
+
+-- the marks of these keys behind a turn, in order
+abbrev pub marks_after : Pushed → Turn → List Stand → List Mark
+marks_after pushed turn = flat_map (key_mark pushed turn)
+
+-- update ids count on by one
+abbrev pub next_id : ℕ → ℕ
+next_id last = (last + 1) % 2 ^ 32
+
+-- the updates of these changes, numbered behind the last id
+abbrev pub updates : Pushed → ℕ → List (List ℕ × Change) → List Message
+updates pushed last [] = []
+updates pushed last (change ∷ others) =
+    update_of pushed (next_id last) change.0 change.1 ∷ updates pushed (next_id last) others
+
+-- the last id behind them
+abbrev pub last_after : ℕ → List (List ℕ × Change) → ℕ
+last_after last [] = last
+last_after last (change ∷ others) = last_after (next_id last) others
+
+-- what a turn says of a table: its id, its updates, and what was told of it behind them
+pub record TableTurn : Type 0 where
+  pub id : ℕ
+  pub pushed : Pushed
+  pub updates : List Message
+  pub after : ToldTable
+
+-- what a turn says of a table, whose filter has this set
+unfoldable pub table_turn : Turn → ℕ → Pushed → List (List ℕ) → ToldTable → TableTurn
+table_turn turn id pushed set told =
+    let standing : List Stand = stands set told.marks in
+    let changed : List (List ℕ × Change) = changes pushed turn standing in
+    record {
+      id = id;
+      pushed = pushed;
+      updates = updates pushed told.last changed;
+      after = record {
+        last = last_after told.last changed;
+        marks = marks_after pushed turn standing;
+      };
+    }
+
+-- what a turn says of these tables, the first of which stands behind so many others
+unfoldable pub table_turns : Turn → List (List (List ℕ)) → List ToldTable → ℕ → List Pushed
+    → List TableTurn
+table_turns turn sets told before [] = []
+table_turns turn sets told before (pushed ∷ others) =
+    table_turn turn (before + 1) pushed (slice_index_or sets before [])
+    (slice_index_or told before no_table) ∷ table_turns turn sets told (before + 1) others
+
+-- a definition, unless the table is the one defined last
+abbrev pub define_unless : ℕ → ℕ → Pushed → List Message
+define_unless defined id pushed =
+    if defined == id then [] else messages.Define (definition_of id pushed) ∷ []
+
+-- updates of a table, each behind its definition or another update of it
+abbrev pub with_definition : ℕ → ℕ → Pushed → List Message → List Message
+with_definition defined id pushed [] = []
+with_definition defined id pushed (update ∷ others) =
+    define_unless defined id pushed ++ update ∷ with_definition id id pushed others
+
+-- the table that is defined last behind them
+abbrev pub defined_after : ℕ → ℕ → List Message → ℕ
+defined_after defined id [] = defined
+defined_after defined id (update ∷ others) = id
+
+-- the updates of tables, one table after the other
+unfoldable pub update_messages : ℕ → List TableTurn → List Message
+update_messages defined [] = []
+update_messages defined (table ∷ others) =
+    with_definition defined table.id table.pushed table.updates
+    ++ update_messages (defined_after defined table.id table.updates) others
+
+-- the table that is defined last behind them
+unfoldable pub last_defined : ℕ → List TableTurn → ℕ
+last_defined defined [] = defined
+last_defined defined (table ∷ others) =
+    last_defined (defined_after defined table.id table.updates) others
+
+-- the definitions of these tables, the first of which stands behind so many others
+unfoldable pub definitions : ℕ → List Pushed → List Message
+definitions before [] = []
+definitions before (pushed ∷ others) =
+    messages.Define (definition_of (before + 1) pushed) ∷ definitions (before + 1) others
+
+-- the first turn begins with the definitions of all tables
+abbrev pub first_definitions : List Pushed → Told → List Message
+first_definitions pushed told = if told.begun then [] else definitions 0 pushed
+
+-- the table that is defined last before a turn's updates
+abbrev pub defined_before : List Pushed → Told → ℕ
+defined_before pushed told = if told.begun then told.defined else length pushed
+
+-- a turn at this moment
+abbrev pub turn_at : ℕ → Told → Turn
+turn_at now told = record { now = now; anew = told.anew }
+
+-- what a turn over these sets at this moment says of each table
+abbrev pub turns : List Pushed → List (List (List ℕ)) → ℕ → Told → List TableTurn
+turns pushed sets now told = table_turns (turn_at now told) sets told.tables 0 pushed
+
+-- the messages of a turn
+abbrev pub turn_messages : List Pushed → List (List (List ℕ)) → ℕ → Told → List Message
+turn_messages pushed sets now told =
+    first_definitions pushed told
+    ++ update_messages (defined_before pushed told) (turns pushed sets now told)
+
+-- the bytes of messages
+abbrev pub text_of : List Message → List ℕ
+text_of = flat_map message_spelling
+
+-- the bytes that a turn over these sets at this moment writes
+unfoldable pub turn_text : List Pushed → List (List (List ℕ)) → ℕ → Told → List ℕ
+turn_text pushed sets now told = text_of (turn_messages pushed sets now told)
+
+-- what was told behind it
+unfoldable pub told_after : List Pushed → List (List (List ℕ)) → ℕ → Told → Told
+told_after pushed sets now told =
+    record {
+      tables = map (λ table. table.after) (turns pushed sets now told);
+      defined = last_defined (defined_before pushed told) (turns pushed sets now told);
+      begun = true;
+      anew = false;
+    }
+
+-- a table of what was told, by its place
+abbrev pub table_at : Told → ℕ → ToldTable
+table_at told place = slice_index_or told.tables place no_table
+
+-- the keys that these marks tell at a moment: those that were put and not taken away, and whose
+-- life hasn't gone by
+abbrev pub keys_told : Pushed → ℕ → List Mark → List (List ℕ)
+keys_told pushed now marks =
+    map (λ mark. mark.key) (filter (λ mark. is_told pushed now mark.put) marks)
+
+-- the keys of a pushed table, by its place, that are told at a moment
+unfoldable pub told_keys : List Pushed → Told → ℕ → ℕ → List (List ℕ)
+told_keys pushed told place now =
+    option_map_or (λ table. keys_told table now (table_at told place).marks)
+    (slice_get pushed place) []

@@ -1,0 +1,26 @@
+//! What a session tells its proxy: the pushed tables, whose keys are those of standing filters.
+//!
+//! A session's worker and the replay of scripts call it. A `Teller` keeps what one connection was
+//! told. Each `Teller::turn` is given the sets of the filters at one moment, and answers the bytes
+//! that bring what was told to these sets: definitions and timed updates of HAProxy's peers
+//! protocol, which specs/Telling says as messages. `laws` says what these come to: what is told
+//! after a turn is the set, each key is written at most once, update ids count on, and a receiver
+//! reads each update under its table.
+//!
+//! After `NoMemory` a teller is as it was. No clause says that memory is there, nor how fast it
+//! goes; a turn walks the sets and what was told once.
+#![tactic(auto)]
+
+mod change;
+pub mod laws;
+mod pushed;
+mod stands;
+mod teller;
+mod told;
+mod turning;
+mod written;
+
+pub use change::{Change, Turn};
+pub use pushed::{Pushed, pushed_of};
+pub use teller::Teller;
+pub use told::{Mark, ToldTable};

@@ -1,0 +1,106 @@
+//! The keys of a set and of what was told, side by side.
+
+ghost use Rattle.std.specs.Prelude.{◌≡◌, [], ◌∷◌, length, map, MatchOption};
+ghost use Rattle.std.specs.Iterator.{at_most};
+ghost use Rattle.std.specs.Map.Iter.{TakesFirst};
+ghost use Rattle.telling.specs.Stands.{in_set, only_told, shown, stands};
+
+use crate::told::Mark;
+use agg_types::Key;
+use std::cmp::Ordering;
+use std::marker::Model;
+
+/// A key that is in the set or was told: whether the set has it, and the moment, in ms, at which it
+/// was last put, if it was.
+#[derive(Clone, Copy)]
+pub struct Standing<'a> {
+    pub key: &'a Key,
+    pub is_in: bool,
+    pub put: Option<u64>,
+}
+
+/// Lends the keys of a set and of what was told, in the order of their bytes, each once.
+///
+/// Contracts see the list of what it has left.
+#[derive(Drop)]
+pub struct Stands<'a> {
+    set: &'a [&'a Key],
+    marks: &'a [Mark],
+}
+
+impl<'a> Model for Stands<'a> {
+    ghost use Rattle.std.specs.Prelude.{List, map};
+    ghost use Rattle.telling.specs.Stands.{Stand, stands};
+
+    ghost Value = { List Stand };
+
+    ghost view = { λ left. stands (map (λ key. key.now) left.set.now) left.marks.now };
+}
+
+impl<'a> Stands<'a> {
+    /// The keys of a set and of these marks, both in order.
+    pub fn new(set: &'a [&'a Key], marks: &'a [Mark]) -> Stands<'a>
+        ensures { result ≡ stands (map (λ key. key.now) set.now) marks.now }
+    {
+        Stands { set, marks }
+    }
+}
+
+impl<'a> Iterator for Stands<'a> {
+    type Item = Standing<'a>;
+
+    ghost next_gives = { TakesFirst shown };
+
+    ghost remaining = { λ left. at_most (length left) };
+
+    fn next(&mut self) -> Option<Standing<'a>> {
+        let (standing, left) = first_standing(self.set, self.marks)?;
+        *self = left;
+        Some(standing)
+    }
+}
+
+// The first key of a set and of what was told, and what is left of both behind it.
+#[tactic(auto, unfolding(crate::specs::Stands::stands))]
+fn first_standing<'a>(set: &'a [&'a Key], marks: &'a [Mark]) -> Option<(Standing<'a>, Stands<'a>)>
+    ensures { MatchOption result (stands (map (λ key. key.now) set.now) marks.now ≡ [])
+        (λ found. stands (map (λ key. key.now) set.now) marks.now ≡ shown found.0 ∷ found.1) }
+{
+    let [key, others @ ..] = set else {
+        let [mark, rest @ ..] = marks else {
+            return None;
+        };
+        return Some((told_alone(mark), Stands::new(set, rest)));
+    };
+    let key: &Key = key;
+    let [mark, rest @ ..] = marks else {
+        return Some((held(key, None), Stands::new(others, marks)));
+    };
+    match key.cmp(&mark.key) {
+        Ordering::Less => Some((held(key, None), Stands::new(others, marks))),
+        Ordering::Equal => Some((held(key, Some(mark.put)), Stands::new(others, rest))),
+        Ordering::Greater => Some((told_alone(mark), Stands::new(set, rest))),
+    }
+}
+
+// A key of the set.
+fn held<'a>(key: &'a Key, put: Option<u64>) -> Standing<'a>
+    ensures { shown result ≡ in_set key.now put }
+{
+    Standing {
+        key,
+        is_in: true,
+        put,
+    }
+}
+
+// A key that was told and isn't in the set.
+fn told_alone(mark: &Mark) -> Standing<'_>
+    ensures { shown result ≡ only_told mark.now }
+{
+    Standing {
+        key: &mark.key,
+        is_in: false,
+        put: Some(mark.put),
+    }
+}

@@ -1,0 +1,18 @@
+//! What one connection was told of a table.
+
+use agg_types::{Items, Key};
+
+/// A key, and the moment, in ms, at which it was last put.
+#[derive(Debug, Drop)]
+pub struct Mark {
+    pub key: Key,
+    pub put: u64,
+}
+
+/// What was told of a table: the id of its last update, 0 before the first, and the keys that were
+/// put and not taken away, in the order of their bytes.
+#[derive(Debug, Drop)]
+pub struct ToldTable {
+    pub last: u32,
+    pub marks: Items<Mark>,
+}
