@@ -1,5 +1,6 @@
 -- What a post tells, once it is shown or refused.
-use Rattle.std.proofs.Common.{◌≡◌, ◌≢◌, ℕ, List, Option, Some, None, IfSome, ap, length, refl, sym, ◌∙◌, subst}
+use Rattle.std.proofs.Common.{◌≡◌, ◌≢◌, ℕ, List, Option, Some, None}
+use Rattle.std.proofs.Common.{IfSome, ap, length, refl, sym, ◌∙◌, subst}
 use Rattle.hub.specs.History.{Beginning, own}
 use Rattle.hub.specs.Posts.{Appends, Follows, IsNotNext, PostsAfter, Seated, ShowsBatch}
 use Rattle.agg_types.specs.declared.event.What.{What}

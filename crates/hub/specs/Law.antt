@@ -18,7 +18,8 @@ events_of (Opened config opening ∷ later) = events_of later
 events_of (Happened e ∷ later) = e ∷ events_of later
 
 abbrev pub no_config : Config
-no_config = record { me = []; peers = []; tables = []; filters = []; ranks = [] }
+no_config =
+    record { me = []; peers = []; tables = []; filters = []; ranks = []; pushes = [] }
 
 abbrev pub config_of : List Entry → Config
 config_of [] = no_config

@@ -21,7 +21,8 @@ pub enum PostFault {
 /// Why a batch wasn't appended. Nothing was stored, and the pass is as it was.
 #[derive(Drop)]
 pub enum AppendFault {
-    /// A Put of a peer that this seat opened, and that seat `by` opened later, in the list of `now`.
+    /// A Put of a peer that this seat opened, and that seat `by` opened later, in the list of
+    /// `now`.
     Replaced { by: u64, now: Ticket },
     /// The list of `now` has `found` events of this seat, and the pass's number is another.
     NotNext { found: u64, now: Ticket },

@@ -1,6 +1,6 @@
 //! The collector on sockets.
 
-ghost use Rattle.std.specs.Prelude.{◌≡◌, []};
+ghost use Rattle.std.specs.Prelude.{◌≡◌, ◌<◌, ◌≤◌, []};
 ghost use Rattle.agg_types.specs.Check.{config_faults};
 
 use crate::admins::Admins;
@@ -11,6 +11,7 @@ use crate::log::Event;
 use crate::notes::Notes;
 use crate::sockets::Sockets;
 use crate::ticks::Ticks;
+use agg_types::Config;
 use command_line::Endpoints;
 use hub::{Hub, Naming, Opening};
 use program::{Asked, Fault};
@@ -26,6 +27,20 @@ use std::{io, thread};
 
 /// How many admin connections may look at once: four are served, and each may be about to end.
 const PLACES: usize = 8;
+
+/// How many sessions may look at once, where tables are pushed: as many as may have a seat.
+const SESSION_PLACES: usize = 512;
+
+// How many may look at once.
+fn places_for(config: &Config) -> usize
+    ensures { (0 < result) × (result ≤ 1000) }
+{
+    if config.pushes.is_empty() {
+        PLACES
+    } else {
+        PLACES + SESSION_PLACES
+    }
+}
 
 /// Why it ended, or didn't begin.
 #[derive(Debug, Drop)]
@@ -56,13 +71,14 @@ where
     requires { config_faults asked.config ≡ [] }
 {
     let Asked { config, endpoints } = asked;
+    let places = places_for(&config);
     let Ok(opening) = Opening::new(rt.alloc(), config, 0) else {
         return Stopped::early(Fault::NoMemory);
     };
     let Ok(journal) = Arc::new(rt.alloc(), Journal::new(rt.alloc())) else {
         return Stopped::early(Fault::NoMemory);
     };
-    let fault = serve::<Brand, R, O>(rt, opening, &endpoints, &journal, output);
+    let fault = serve::<Brand, R, O>(rt, opening, places, &endpoints, &journal, output);
     let is_heard = journal.finish(rt);
     Stopped { fault, is_heard }
 }
@@ -131,6 +147,7 @@ where
 fn serve<J: Naming + Send + Sync, R, O>(
     rt: &R,
     opening: Opening,
+    places: usize,
     endpoints: &Endpoints,
     journal: &Arc<Journal, Global>,
     output: &mut O,
@@ -140,9 +157,10 @@ where
     R: Eprint + AllocGlobal + Clock,
     R: Net<Listener = TcpListener, Stream = TcpStream>,
     O: Write,
-    requires { opening.of ≡ J.book }
+    requires named { opening.of ≡ J.book }
+    requires places { (0 < places) × (places ≤ 1000) }
 {
-    let Ok(hub) = Hub::<J, R>::new(rt.alloc(), *rt, opening, PLACES) else {
+    let Ok(hub) = Hub::<J, R>::new(rt.alloc(), *rt, opening, places) else {
         return Fault::NoMemory;
     };
     let Ok(board) = Board::new(rt.alloc(), hub.config().peers.len()) else {

@@ -5,7 +5,7 @@ use crate::connections::{Connections, Unasked};
 use crate::journal::Journal;
 use crate::judging::{Because, Verdict, judge};
 use crate::log::Event;
-use crate::telling::{HELP, append_info, append_peers, append_tables};
+use crate::reporting::{HELP, append_info, append_peers, append_tables};
 use crate::ticks::Ticks;
 use agg_types::{Config, NoMemory};
 use book::Book;

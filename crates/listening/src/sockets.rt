@@ -21,6 +21,10 @@ use std::time::{Clock, Duration};
 /// How long a read waits, and a write before it looks at the time, in ms.
 const SOCKET_LIMIT: u64 = 500;
 
+/// How long a read of a proxy that is told pushed tables waits, in ms: then its session looks
+/// whether something is to be told.
+const PUSHING_LIMIT: u64 = 50;
+
 /// The time before an accept that failed is tried again, in ms.
 const REST: u64 = 100;
 
@@ -178,7 +182,11 @@ impl<'a, R: Clock + Wait> Doors<Incoming<'a, R>, Outgoing<'a, R>> for Sockets<'a
         let rt = &self.clock.rt;
         let Greeting { bytes, hello } = read_hello(rt, self.alloc, config, &source.stream);
         self.connections.stop_waiting(rt, source.id);
-        let limit = Duration::from_millis(SOCKET_LIMIT);
+        let limit = if config.pushes.is_empty() {
+            Duration::from_millis(SOCKET_LIMIT)
+        } else {
+            Duration::from_millis(PUSHING_LIMIT)
+        };
         source.is_limited = source.stream.set_read_timeout(Some(limit)).is_ok();
         if hello == Hello::Unknown && self.unknown_peers == UnknownPeers::Wait {
             let hello = bytes.as_slice();

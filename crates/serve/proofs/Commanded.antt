@@ -25,7 +25,7 @@ use Rattle.hub.specs.Posts.{Follows}
 use Rattle.hub.specs.Roll.{MayPost}
 use Rattle.hub.specs.Views.{IsBookOf, Seeing}
 use Rattle.hub.specs.declared.faults.PostFault.{PostFault}
-use Rattle.serve.proofs.Later.{follows_on, follows_self}
+use Rattle.serve.proofs.Later.{follows_on, follows_self, shows_last, shows_on}
 use Rattle.serve.proofs.Kept.{kept_asks, kept_says}
 use Rattle.serve.proofs.Pieces.{none_in_both}
 use Rattle.serve.proofs.Works.{wrote_more, wrote_none}
@@ -101,29 +101,6 @@ pub lens_follows : (hub : Beginning) (lens : Seeing) → lens ≡ record { seen 
     → Follows hub lens.seen
 lens_follows hub lens is = subst (λ (b : Beginning). Follows hub b)
     (sym (ap (λ (s : Seeing). s.seen) is)) (follows_self hub)
-
-own_on : (seat : ℕ) (a b : Beginning) → Follows a b
-    → IsPrefix (own seat a.events) (own seat b.events)
-own_on seat a b follows = (
-  own seat follows.events.0,
-  sym (filter-append (λ (e : Event). e.seat == seat) a.events
-      follows.events.0) ∙ ap (own seat) follows.events.1,
-)
-
-shows_on : (seat : ℕ) (whats : List What) (a b : Beginning) → ShowsTold seat whats a → Follows a b
-    → ShowsTold seat whats b
-shows_on seat whats a b shows follows =
-    λ some. prefix_trans (numbered seat 0 (Sit ∷ whats)) (own seat a.events) (own seat b.events)
-    (shows some) (own_on seat a b follows)
-
--- what the last receipt shows is seen once it was learned
-pub shows_last : (seat : ℕ) (whats : List What) (last : Option Beginning) (seen : Beginning)
-    → TellsLast seat whats last
-    → IfSome last (λ list. Follows list seen) → ShowsTold seat whats seen
-shows_last seat whats None seen none follows = λ some. absurd (some none)
-shows_last seat whats (Some list) seen tells follows =
-    λ some. subst (λ (es : List Event). IsPrefix es (own seat seen.events)) tells
-    (own_on seat list seen follows)
 
 -- ---- an admin's desk and lens
 

@@ -2,7 +2,9 @@ pub mod Ends
 pub mod Later
 pub mod Owns
 pub mod Facts
+pub mod Tellings
 pub mod Works
+pub mod Saying
 pub mod Pulses
 pub mod Timed
 pub mod Sent

@@ -21,7 +21,7 @@ beats_none a = λ hub seated worker start given w. w
 pub beats_one : (a b : Option (List ℕ)) → Appends a b heartbeat → Beats a b
 beats_one a b sends =
     λ hub seated worker start given w.
-    beaten hub seated worker worker start given a b refl refl refl w sends
+    beaten hub seated worker worker start given a b refl refl refl refl w sends
 
 nothing_in : (whats : List What) → true ≡ (length whats == 0) → whats ≡ []
 nothing_in [] is = refl

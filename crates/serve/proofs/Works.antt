@@ -3,6 +3,7 @@ use Rattle.std.proofs.Common.{is_some, ◌≡◌, ℕ, ◌-◌, ◌≤◌, Bool,
 use Rattle.std.proofs.Common.{Option, None, Some, Result, Ok, Err, refl, sym, ap, ◌∙◌, subst, arith}
 use Rattle.std.proofs.Common.{append-nil, append_assoc, inl, inr, length-append}
 use Rattle.std.proofs.Math.Seq.{drop-append_seam}
+use Rattle.std.specs.Option.{option_map}
 use Rattle.agg_types.specs.declared.event.What.{What}
 use Rattle.session_core.specs.declared.batch.SessionFault.{SessionFault}
 use Rattle.session_core.specs.declared.cause.SessionCause.{SessionCause}
@@ -27,11 +28,14 @@ use Rattle.serve.specs.declared.served.Served.{Served}
 use Rattle.serve.specs.declared.worker.Worker.{Worker}
 use Rattle.std.specs.Io.KnownBytes.{Appends, Keeps}
 use Rattle.serve.specs.Faults.{cause_of_turn, turn_fault_of}
+use Rattle.serve.proofs.Tellings.{shown_at, tells_beat, tells_piece}
+use Rattle.serve.specs.Tellings.{AreTellings, TellsOn, asked_pushing}
 use Rattle.serve.specs.Told.{stored_of}
 use Rattle.serve.specs.Traffic.{Advances, Traffic, so_far}
 use Rattle.serve.specs.Turns.{DeskTells, EndsBy, EndsBySession, IsDeskOf, IsAnswered, IsRefused}
 use Rattle.serve.specs.Turns.{SeatIsServed, WroteFront, answer_at, answers_in, facts_in, heartbeat}
-use Rattle.serve.specs.Turns.{said_beyond, taken_in}
+use Rattle.serve.specs.Turns.{Beat, Piece, Turn, said_beyond, seat_at, taken_in}
+use Rattle.session_core.specs.Asking.{asks_all}
 use Rattle.serve.specs.Working.{EndsFor, EndsTo, IsAtWork, IsServedUntil, IsServedWhole}
 use Rattle.serve.specs.Working.{SettlesThen, SettlesTo, Stops, Works, WorksOn}
 
@@ -76,16 +80,16 @@ TookIt causes.PeerError = Unit {0}
 TookIt causes.TimedOut = Unit {0}
 TookIt causes.NoMemory = ⊥
 
-by_session : (setup : Setup) (seated : Bool) (Told : List What → ℕ → Type 0)
-    (bytes written : List ℕ) (cause : SessionCause) → TookIt cause
-    → IsAnswered setup seated Told (Some cause) bytes written
-    → EndsBySession setup seated Told bytes written cause
-by_session setup seated Told bytes written (causes.Refused status) took is = is
-by_session setup seated Told bytes written (causes.Wire wire) took is = is
-by_session setup seated Told bytes written causes.PeerError took is = is
-by_session setup seated Told bytes written causes.TimedOut took is =
+by_session : (setup : Setup) (seated : Bool) (Shown : List Turn → Type 0)
+    (Told : List What → ℕ → Type 0) (bytes written : List ℕ) (cause : SessionCause) → TookIt cause
+    → IsAnswered setup seated Shown Told (Some cause) bytes written
+    → EndsBySession setup seated Shown Told bytes written cause
+by_session setup seated Shown Told bytes written (causes.Refused status) took is = is
+by_session setup seated Shown Told bytes written (causes.Wire wire) took is = is
+by_session setup seated Shown Told bytes written causes.PeerError took is = is
+by_session setup seated Shown Told bytes written causes.TimedOut took is =
     absurd (never_late setup seated bytes is.ends)
-by_session setup seated Told bytes written causes.NoMemory took is = absurd took
+by_session setup seated Shown Told bytes written causes.NoMemory took is = absurd took
 
 pub took_it : (cause : SessionCause) → (cause ≡ causes.NoMemory → ⊥) → TookIt cause
 took_it (causes.Refused status) other = tt
@@ -165,6 +169,7 @@ stops_by_read hub seated worker start now w =
       carried = w.carried;
       ends = record {
         turns = w.turns;
+        shown = w.work.shown;
         read = refl;
         ends = w.work.goes_on;
         told = w.work.told;
@@ -203,6 +208,7 @@ stops_for_memory hub seated old new start given after taken piece gives desk w =
       };
       ends = record {
         turns = w.turns;
+        shown = shown_at hub seated old.desk new.desk w.turns (ap seat_at desk) w.work.shown;
         piece = piece;
         goes_on = w.work.goes_on;
         read = refl;
@@ -220,16 +226,16 @@ carried_on : (hub : Beginning) (seated : Bool) (old : Worker) (start : Traffic)
     → Grows (setup_of hub.config) (talk (setup_of hub.config) seated (taken_in w.turns))
     (talk (setup_of hub.config) seated (taken_in w.turns ++ piece)) batch
     → Appends taken more (batch.replies ++ batch.acks)
-    → Advances start (so_far after more) (taken_in (Some piece ∷ w.turns))
-    (answers_in (setup_of hub.config) seated (Some piece ∷ w.turns))
+    → Advances start (so_far after more) (taken_in (Piece piece ∷ w.turns))
+    (answers_in (setup_of hub.config) seated (Piece piece ∷ w.turns))
 carried_on hub seated old start given after taken more piece batch gives w grows wrote =
     let setup : Setup = setup_of hub.config in
-    let says : answer_at setup seated w.turns (Some piece) ≡ batch.replies ++ batch.acks =
+    let says : answer_at setup seated w.turns (Piece piece) ≡ batch.replies ++ batch.acks =
     says_beyond setup (talk setup seated (taken_in w.turns))
     (talk setup seated (taken_in w.turns ++ piece)) batch grows in record {
       gave = wrote_more start.given given after (taken_in w.turns) piece w.carried.gave gives;
       took = wrote_more start.taken taken more (answers_in setup seated w.turns)
-          (answer_at setup seated w.turns (Some piece)) w.carried.took
+          (answer_at setup seated w.turns (Piece piece)) w.carried.took
           (subst (λ bytes. Appends taken more bytes) (sym says) wrote);
     }
 
@@ -240,18 +246,22 @@ pub settled : (hub : Beginning) (seated : Bool) (old new : Worker)
     → (w : Works hub seated old start (so_far given taken))
     → ContinuesTalk (setup_of hub.config) seated (taken_in w.turns) piece batch None
     new.session.stage
-    → new.session.seated ≡ seated
+    → new.session.seated ≡ seated → seat_at new.desk ≡ seat_at old.desk
+    → new.pushing ≡ option_map (asked_pushing (asks_all batch.replies)) old.pushing
     → DeskTells hub new.desk (facts_in (setup_of hub.config) seated w.turns ++ batch.facts) 0
     → Appends taken more (batch.replies ++ batch.acks)
     → Works hub seated new start (so_far after more)
-settled hub seated old new start given after taken more piece batch gives w stands same told
-    wrote = record {
-      turns = Some piece ∷ w.turns;
+settled hub seated old new start given after taken more piece batch gives w stands same seat asks
+    told wrote = record {
+      turns = Piece piece ∷ w.turns;
       work = record {
         has_seat = same;
         stands = stands.stands;
         goes_on = stands.ends;
         told = subst (λ facts. DeskTells hub new.desk facts 0) (sym stands.grows.facts) told;
+        shown = shown_at hub seated old.desk new.desk w.turns seat w.work.shown;
+        tells = tells_piece hub seated w.turns piece batch old.pushing new.pushing stands.grows asks
+            w.work.tells;
       };
       carried = carried_on hub seated old start given after taken more piece batch gives w
           stands.grows wrote;
@@ -263,20 +273,22 @@ stops_settled : (hub : Beginning) (seated : Bool) (old new : Worker)
     (cause : SessionCause) → TookIt cause → Appends given after piece
     → (w : Works hub seated old start (so_far given taken))
     → ContinuesTalk (setup_of hub.config) seated (taken_in w.turns) piece batch (Some cause)
-    new.session.stage
+    new.session.stage → seat_at new.desk ≡ seat_at old.desk
     → DeskTells hub new.desk (facts_in (setup_of hub.config) seated w.turns ++ batch.facts) 0
     → Appends taken more (batch.replies ++ batch.acks)
     → Stops hub seated new start (so_far after more) (Session cause)
 stops_settled hub seated old new start given after taken more piece batch cause took gives w
-    stands told wrote =
+    stands seat told wrote =
     let setup : Setup = setup_of hub.config in record {
-      bytes = taken_in (Some piece ∷ w.turns);
-      written = answers_in setup seated (Some piece ∷ w.turns);
+      bytes = taken_in (Piece piece ∷ w.turns);
+      written = answers_in setup seated (Piece piece ∷ w.turns);
       carried = carried_on hub seated old start given after taken more piece batch gives w
           stands.grows wrote;
-      ends = by_session setup seated (DeskTells hub new.desk) (taken_in (Some piece ∷ w.turns))
-          (answers_in setup seated (Some piece ∷ w.turns)) cause took (record {
-            turns = Some piece ∷ w.turns;
+      ends = by_session setup seated (AreTellings hub seated (seat_at new.desk))
+          (DeskTells hub new.desk) (taken_in (Piece piece ∷ w.turns))
+          (answers_in setup seated (Piece piece ∷ w.turns)) cause took (record {
+            turns = Piece piece ∷ w.turns;
+            shown = shown_at hub seated old.desk new.desk w.turns seat w.work.shown;
             read = refl;
             ends = stands.ends;
             told = subst (λ facts. DeskTells hub new.desk facts 0) (sym stands.grows.facts) told;
@@ -290,14 +302,14 @@ pub unsettled : (A : Type 0) (hub : Beginning) (seated : Bool) (old new : Worker
     (end : Option SessionCause) (fault : AnswerFault) → Appends given after piece
     → (w : Works hub seated old start (so_far given taken))
     → ContinuesTalk (setup_of hub.config) seated (taken_in w.turns) piece batch end
-    new.session.stage
+    new.session.stage → seat_at new.desk ≡ seat_at old.desk
     → SettlesTo {A = A} hub new.desk (facts_in (setup_of hub.config) seated w.turns) batch
     taken more (Err fault)
     → Stops hub seated new start (so_far after more) (cause_of_turn (turn_fault_of fault))
 unsettled A hub seated old new start given after taken more piece batch end answers.Write gives
-    w stands settles =
+    w stands seat settles =
     let setup : Setup = setup_of hub.config in
-    let says : answer_at setup seated w.turns (Some piece) ≡ batch.replies ++ batch.acks =
+    let says : answer_at setup seated w.turns (Piece piece) ≡ batch.replies ++ batch.acks =
     says_beyond setup (talk setup seated (taken_in w.turns))
     (talk setup seated (taken_in w.turns ++ piece)) batch stands.grows in record {
       bytes = taken_in w.turns ++ piece;
@@ -309,7 +321,8 @@ unsettled A hub seated old new start given after taken more piece batch end answ
       };
       ends = inl (record {
         turns = w.turns;
-        last = Some piece;
+        shown = shown_at hub seated old.desk new.desk w.turns seat w.work.shown;
+        last = Piece piece;
         front = settles.1.front;
         rest = settles.1.rest;
         goes_on = w.work.goes_on;
@@ -320,7 +333,7 @@ unsettled A hub seated old new start given after taken more piece batch end answ
       });
     }
 unsettled A hub seated old new start given after taken more piece batch end
-    (answers.Post fault) gives w stands settles =
+    (answers.Post fault) gives w stands seat settles =
     let setup : Setup = setup_of hub.config in
     let count : length (talk setup seated (taken_in w.turns ++ piece)).facts - length
     (facts_in setup seated w.turns) ≡ length batch.facts =
@@ -337,6 +350,7 @@ unsettled A hub seated old new start given after taken more piece batch end
       };
       ends = record {
         turns = w.turns;
+        shown = shown_at hub seated old.desk new.desk w.turns seat w.work.shown;
         piece = piece;
         goes_on = w.work.goes_on;
         read = refl;
@@ -346,7 +360,7 @@ unsettled A hub seated old new start given after taken more piece batch end
       };
     }
 unsettled A hub seated old new start given after taken more piece batch end answers.Beat gives
-    w stands settles =
+    w stands seat settles =
     let setup : Setup = setup_of hub.config in
     let count : length (talk setup seated (taken_in w.turns ++ piece)).facts - length
     (facts_in setup seated w.turns) ≡ length batch.facts =
@@ -361,6 +375,7 @@ unsettled A hub seated old new start given after taken more piece batch end answ
       };
       ends = inr (record {
         turns = w.turns;
+        shown = shown_at hub seated old.desk new.desk w.turns seat w.work.shown;
         piece = piece;
         front = settles.1.front;
         rest = settles.1.rest;
@@ -406,6 +421,7 @@ stops_at_start hub seated worker start work = record {
   };
   ends = record {
     turns = [];
+    shown = tt;
     piece = [];
     goes_on = work.goes_on;
     read = refl;
@@ -414,23 +430,25 @@ stops_at_start hub seated worker start work = record {
   };
 }
 
-answered_as : (setup : Setup) (seated : Bool) (P Q : List What → ℕ → Type 0)
+answered_as : (setup : Setup) (seated : Bool) (S : List Turn → Type 0) (P Q : List What → ℕ → Type 0)
     (end : Option SessionCause) (bytes written : List ℕ)
     → ((whats : List What) (n : ℕ) → P whats n → Q whats n)
-    → IsAnswered setup seated P end bytes written → IsAnswered setup seated Q end bytes written
-answered_as setup seated P Q end bytes written f is = record {
+    → IsAnswered setup seated S P end bytes written → IsAnswered setup seated S Q end bytes written
+answered_as setup seated S P Q end bytes written f is = record {
   turns = is.turns;
+  shown = is.shown;
   read = is.read;
   ends = is.ends;
   told = f (facts_in setup seated is.turns) 0 is.told;
   answered = is.answered;
 }
 
-refused_as : (setup : Setup) (seated : Bool) (P Q : List What → ℕ → Type 0) (bytes written : List ℕ)
+refused_as : (setup : Setup) (seated : Bool) (S : List Turn → Type 0) (P Q : List What → ℕ → Type 0) (bytes written : List ℕ)
     (stored : ℕ → ℕ) → ((whats : List What) (n : ℕ) → P whats n → Q whats n)
-    → IsRefused setup seated P bytes written stored → IsRefused setup seated Q bytes written stored
-refused_as setup seated P Q bytes written stored f is = record {
+    → IsRefused setup seated S P bytes written stored → IsRefused setup seated S Q bytes written stored
+refused_as setup seated S P Q bytes written stored f is = record {
   turns = is.turns;
+  shown = is.shown;
   piece = is.piece;
   goes_on = is.goes_on;
   read = is.read;
@@ -440,29 +458,30 @@ refused_as setup seated P Q bytes written stored f is = record {
   answered = is.answered;
 }
 
-by_session_as : (setup : Setup) (seated : Bool) (P Q : List What → ℕ → Type 0)
+by_session_as : (setup : Setup) (seated : Bool) (S : List Turn → Type 0) (P Q : List What → ℕ → Type 0)
     (bytes written : List ℕ) (cause : SessionCause)
     → ((whats : List What) (n : ℕ) → P whats n → Q whats n)
-    → EndsBySession setup seated P bytes written cause → EndsBySession setup seated Q
+    → EndsBySession setup seated S P bytes written cause → EndsBySession setup seated S Q
     bytes written cause
-by_session_as setup seated P Q bytes written (causes.Refused status) f is =
-    answered_as setup seated P Q (Some (causes.Refused status)) bytes written f is
-by_session_as setup seated P Q bytes written (causes.Wire wire) f is =
-    answered_as setup seated P Q (Some (causes.Wire wire)) bytes written f is
-by_session_as setup seated P Q bytes written causes.PeerError f is =
-    answered_as setup seated P Q (Some causes.PeerError) bytes written f is
-by_session_as setup seated P Q bytes written causes.TimedOut f is =
-    answered_as setup seated P Q None bytes written f is
-by_session_as setup seated P Q bytes written causes.NoMemory f is =
-    refused_as setup seated P Q bytes written (λ count. 0) f is
+by_session_as setup seated S P Q bytes written (causes.Refused status) f is =
+    answered_as setup seated S P Q (Some (causes.Refused status)) bytes written f is
+by_session_as setup seated S P Q bytes written (causes.Wire wire) f is =
+    answered_as setup seated S P Q (Some (causes.Wire wire)) bytes written f is
+by_session_as setup seated S P Q bytes written causes.PeerError f is =
+    answered_as setup seated S P Q (Some causes.PeerError) bytes written f is
+by_session_as setup seated S P Q bytes written causes.TimedOut f is =
+    answered_as setup seated S P Q None bytes written f is
+by_session_as setup seated S P Q bytes written causes.NoMemory f is =
+    refused_as setup seated S P Q bytes written (λ count. 0) f is
 
-ends_as : (setup : Setup) (seated : Bool) (P Q : List What → ℕ → Type 0) (bytes written : List ℕ)
+ends_as : (setup : Setup) (seated : Bool) (S : List Turn → Type 0) (P Q : List What → ℕ → Type 0) (bytes written : List ℕ)
     (cause : Cause) → ((whats : List What) (n : ℕ) → P whats n → Q whats n)
-    → EndsBy setup seated P bytes written cause → EndsBy setup seated Q bytes written cause
-ends_as setup seated P Q bytes written Read f is =
-    answered_as setup seated P Q None bytes written f is
-ends_as setup seated P Q bytes written Write f (inl is) = inl (record {
+    → EndsBy setup seated S P bytes written cause → EndsBy setup seated S Q bytes written cause
+ends_as setup seated S P Q bytes written Read f is =
+    answered_as setup seated S P Q None bytes written f is
+ends_as setup seated S P Q bytes written Write f (inl is) = inl (record {
   turns = is.turns;
+  shown = is.shown;
   last = is.last;
   front = is.front;
   rest = is.rest;
@@ -472,8 +491,9 @@ ends_as setup seated P Q bytes written Write f (inl is) = inl (record {
   answer = is.answer;
   answered = is.answered;
 })
-ends_as setup seated P Q bytes written Write f (inr is) = inr (record {
+ends_as setup seated S P Q bytes written Write f (inr is) = inr (record {
   turns = is.turns;
+  shown = is.shown;
   piece = is.piece;
   front = is.front;
   rest = is.rest;
@@ -484,27 +504,29 @@ ends_as setup seated P Q bytes written Write f (inr is) = inr (record {
   beat = is.beat;
   answered = is.answered;
 })
-ends_as setup seated P Q bytes written (Session cause) f is =
-    by_session_as setup seated P Q bytes written cause f is
-ends_as setup seated P Q bytes written (Post fault) f is =
-    refused_as setup seated P Q bytes written (stored_of fault) f is
-ends_as setup seated P Q bytes written Look f is = absurd is
+ends_as setup seated S P Q bytes written (Session cause) f is =
+    by_session_as setup seated S P Q bytes written cause f is
+ends_as setup seated S P Q bytes written (Post fault) f is =
+    refused_as setup seated S P Q bytes written (stored_of fault) f is
+ends_as setup seated S P Q bytes written Look f is = absurd is
 
 -- what a session's receipts show once its pass was given back
 pub served_whole : (hub : Beginning) (seated : Bool) (worker : Worker)
     (start now : Traffic) (seat : Option ℕ) (served : Served)
-    → seated ≡ is_some seat → ((whats : List What) (n : ℕ) → DeskTells hub worker.desk whats n
+    → seated ≡ is_some seat → seat_at worker.desk ≡ seat
+    → ((whats : List What) (n : ℕ) → DeskTells hub worker.desk whats n
     → SeatIsServed hub seat served whats n)
     → Works hub seated worker start now
     → IsServedWhole hub seat start now served
-served_whole hub seated worker start now seat served same f w =
+served_whole hub seated worker start now seat served same sits f w =
     let setup : Setup = setup_of hub.config in record {
       bytes = taken_in w.turns;
       written = answers_in setup seated w.turns;
       carried = w.carried;
-      ends = subst (λ b. IsAnswered setup b (SeatIsServed hub seat served) None (taken_in w.turns)
-          (answers_in setup seated w.turns)) same (record {
+      ends = subst (λ b. IsAnswered setup b (AreTellings hub b seat) (SeatIsServed hub seat served)
+          None (taken_in w.turns) (answers_in setup seated w.turns)) same (record {
             turns = w.turns;
+            shown = subst (λ s. AreTellings hub seated s w.turns) sits w.work.shown;
             read = refl;
             ends = w.work.goes_on;
             told = f (facts_in setup seated w.turns) 0 w.work.told;
@@ -514,37 +536,43 @@ served_whole hub seated worker start now seat served same f w =
 
 pub served_until : (hub : Beginning) (seated : Bool) (worker : Worker)
     (start now : Traffic) (seat : Option ℕ) (faulted : Faulted)
-    → seated ≡ is_some seat → ((whats : List What) (n : ℕ) → DeskTells hub worker.desk whats n
+    → seated ≡ is_some seat → seat_at worker.desk ≡ seat
+    → ((whats : List What) (n : ℕ) → DeskTells hub worker.desk whats n
     → SeatIsServed hub seat faulted.served whats n)
     → Stops hub seated worker start now faulted.cause → IsServedUntil hub seat
     start now faulted
-served_until hub seated worker start now seat faulted same f s =
+served_until hub seated worker start now seat faulted same sits f s =
     let setup : Setup = setup_of hub.config in record {
       bytes = s.bytes;
       written = s.written;
       carried = s.carried;
-      ends = subst (λ b. EndsBy setup b (SeatIsServed hub seat faulted.served) s.bytes s.written
-          faulted.cause) same
-          (ends_as setup seated (DeskTells hub worker.desk) (SeatIsServed hub seat faulted.served)
-          s.bytes s.written faulted.cause f s.ends);
+      ends = subst (λ b. EndsBy setup b (AreTellings hub b seat)
+          (SeatIsServed hub seat faulted.served) s.bytes s.written faulted.cause) same
+          (subst (λ o. EndsBy setup seated (AreTellings hub seated o)
+          (SeatIsServed hub seat faulted.served) s.bytes s.written faulted.cause) sits
+          (ends_as setup seated (AreTellings hub seated (seat_at worker.desk))
+          (DeskTells hub worker.desk) (SeatIsServed hub seat faulted.served)
+          s.bytes s.written faulted.cause f s.ends));
     }
 
 -- a heartbeat is sent
 pub beaten : (hub : Beginning) (seated : Bool) (old new : Worker)
     (start : Traffic) (given taken more : Option (List ℕ))
     → new.session.seated ≡ old.session.seated → new.session.stage ≡ old.session.stage
-    → new.desk ≡ old.desk
+    → new.desk ≡ old.desk → new.pushing ≡ old.pushing
     → Works hub seated old start (so_far given taken) → Appends taken more heartbeat
     → Works hub seated new start (so_far given more)
-beaten hub seated old new start given taken more same stage desk w sends =
+beaten hub seated old new start given taken more same stage desk pushing w sends =
     let setup : Setup = setup_of hub.config in record {
-      turns = None ∷ w.turns;
+      turns = Beat ∷ w.turns;
       work = record {
         has_seat = same ∙ w.work.has_seat;
         stands = stage ∙ w.work.stands;
         goes_on = w.work.goes_on;
         told = subst (λ d. DeskTells hub d (facts_in setup seated w.turns) 0)
             (sym desk) w.work.told;
+        shown = shown_at hub seated old.desk new.desk w.turns (ap seat_at desk) w.work.shown;
+        tells = tells_beat hub seated w.turns old.pushing new.pushing pushing w.work.tells;
       };
       carried = record {
         gave = w.carried.gave;
@@ -569,7 +597,8 @@ unbeaten hub seated old new start given taken more desk w sends =
       };
       ends = inl (record {
         turns = w.turns;
-        last = None;
+        shown = shown_at hub seated old.desk new.desk w.turns (ap seat_at desk) w.work.shown;
+        last = Beat;
         front = sends.front;
         rest = sends.rest;
         goes_on = w.work.goes_on;
@@ -593,6 +622,7 @@ silenced hub seated old new start now desk w =
       carried = w.carried;
       ends = record {
         turns = w.turns;
+        shown = shown_at hub seated old.desk new.desk w.turns (ap seat_at desk) w.work.shown;
         read = refl;
         ends = w.work.goes_on;
         told = subst (λ d. DeskTells hub d (facts_in setup seated w.turns) 0)
@@ -604,10 +634,10 @@ silenced hub seated old new start now desk w =
 -- the same, where nothing was said to a worker that is otherwise as it was
 pub works_still : (hub : Beginning) (seated : Bool) (old new : Worker)
     (start now : Traffic) → new.session.seated ≡ old.session.seated
-    → new.session.stage ≡ old.session.stage → new.desk ≡ old.desk
+    → new.session.stage ≡ old.session.stage → new.desk ≡ old.desk → new.pushing ≡ old.pushing
     → Works hub seated old start now
     → Works hub seated new start now
-works_still hub seated old new start now same stage desk w =
+works_still hub seated old new start now same stage desk pushing w =
     let setup : Setup = setup_of hub.config in record {
       turns = w.turns;
       work = record {
@@ -616,6 +646,8 @@ works_still hub seated old new start now same stage desk w =
         goes_on = w.work.goes_on;
         told = subst (λ d. DeskTells hub d (facts_in setup seated w.turns) 0)
             (sym desk) w.work.told;
+        shown = shown_at hub seated old.desk new.desk w.turns (ap seat_at desk) w.work.shown;
+        tells = subst (TellsOn hub seated w.turns) (sym pushing) w.work.tells;
       };
       carried = w.carried;
     }
@@ -636,19 +668,19 @@ ends_then : (hub : Beginning) (seated : Bool) (old new : Worker)
     → (w : Works hub seated old start (so_far given taken))
     → ContinuesTalk (setup_of hub.config) seated (taken_in w.turns) piece fault.batch
     (Some fault.cause)
-    new.session.stage → new.session.seated ≡ seated
+    new.session.stage → new.session.seated ≡ seated → seat_at new.desk ≡ seat_at old.desk
     → SettlesThen hub new.desk (facts_in (setup_of hub.config) seated w.turns) fault
     taken more result
     → EndsSo hub seated new start (so_far after more) result
 ends_then hub seated old new start given after taken more piece fault (Ok cause) took
-    gives w stands same ends =
+    gives w stands same seat ends =
     subst (λ cause. Stops hub seated new start (so_far after more) (Session cause)) (sym ends.is)
     (stops_settled hub seated old new start given after taken more piece fault.batch fault.cause
-    took gives w stands ends.settles.0 ends.settles.1)
+    took gives w stands seat ends.settles.0 ends.settles.1)
 ends_then hub seated old new start given after taken more piece fault (Err answer) took
-    gives w stands same ends =
+    gives w stands same seat ends =
     unsettled SessionCause hub seated old new start given after taken more piece
-    fault.batch (Some fault.cause) answer gives w stands ends.settles
+    fault.batch (Some fault.cause) answer gives w stands seat ends.settles
 
 -- a session that ends with a fault
 pub ended_by : (hub : Beginning) (seated : Bool) (old new : Worker)
@@ -656,12 +688,13 @@ pub ended_by : (hub : Beginning) (seated : Bool) (old new : Worker)
     (fault : SessionFault)
     (result : Result SessionCause AnswerFault) → Appends given after piece
     → (w : Works hub seated old start (so_far given taken)) → new.session.seated ≡ seated
+    → seat_at new.desk ≡ seat_at old.desk
     → FaultAnswersTalk fault.cause fault.batch (setup_of hub.config) seated (taken_in w.turns) piece
     new.session.stage
     → EndsTo hub old.desk new.desk (facts_in (setup_of hub.config) seated w.turns) fault
     taken more result
     → EndsSo hub seated new start (so_far after more) result
-ended_by hub seated old new start given after taken more piece fault result gives w same
+ended_by hub seated old new start given after taken more piece fault result gives w same seat
     answers ends = by_cause fault.cause refl answers ends
   where
     then : TookIt fault.cause → SettlesThen hub new.desk
@@ -671,7 +704,7 @@ ended_by hub seated old new start given after taken more piece fault result give
         ends_then hub seated old new start given after taken more piece fault
         result took gives w
         (fault_stands fault.cause fault.batch (setup_of hub.config) seated (taken_in w.turns) piece
-        new.session.stage took answers) same settles
+        new.session.stage took answers) same seat settles
 
     by_cause : (cause : SessionCause) → fault.cause ≡ cause → FaultAnswersTalk cause fault.batch
         (setup_of hub.config) seated (taken_in w.turns) piece new.session.stage
@@ -693,40 +726,40 @@ desk_is_of : (hub : Beginning) (desk : Option Desk) (whats : List What) (n : ℕ
 desk_is_of hub None whats n told = tt
 desk_is_of hub (Some desk) whats n told = ap (λ (b : Beginning). b.of) told.seen.same
 
-desk_of_session : (hub : Beginning) (seated : Bool) (desk : Option Desk) (bytes written : List ℕ)
-    (cause : SessionCause)
-    → EndsBySession (setup_of hub.config) seated (DeskTells hub desk) bytes written cause →
+desk_of_session : (hub : Beginning) (seated : Bool) (S : List Turn → Type 0) (desk : Option Desk)
+    (bytes written : List ℕ) (cause : SessionCause)
+    → EndsBySession (setup_of hub.config) seated S (DeskTells hub desk) bytes written cause →
     IsDeskOf hub desk
-desk_of_session hub seated desk bytes written (causes.Refused status) ends =
+desk_of_session hub seated S desk bytes written (causes.Refused status) ends =
     desk_is_of hub desk (facts_in (setup_of hub.config) seated ends.turns) 0 ends.told
-desk_of_session hub seated desk bytes written (causes.Wire wire) ends =
+desk_of_session hub seated S desk bytes written (causes.Wire wire) ends =
     desk_is_of hub desk (facts_in (setup_of hub.config) seated ends.turns) 0 ends.told
-desk_of_session hub seated desk bytes written causes.PeerError ends =
+desk_of_session hub seated S desk bytes written causes.PeerError ends =
     desk_is_of hub desk (facts_in (setup_of hub.config) seated ends.turns) 0 ends.told
-desk_of_session hub seated desk bytes written causes.TimedOut ends =
+desk_of_session hub seated S desk bytes written causes.TimedOut ends =
     desk_is_of hub desk (facts_in (setup_of hub.config) seated ends.turns) 0 ends.told
-desk_of_session hub seated desk bytes written causes.NoMemory ends =
+desk_of_session hub seated S desk bytes written causes.NoMemory ends =
     desk_is_of hub desk (facts_in (setup_of hub.config) seated ends.turns) 0 ends.told
 
-desk_of_stops : (hub : Beginning) (seated : Bool) (desk : Option Desk) (bytes written : List ℕ)
-    (cause : Cause)
-    → EndsBy (setup_of hub.config) seated (DeskTells hub desk) bytes written cause →
+desk_of_stops : (hub : Beginning) (seated : Bool) (S : List Turn → Type 0) (desk : Option Desk)
+    (bytes written : List ℕ) (cause : Cause)
+    → EndsBy (setup_of hub.config) seated S (DeskTells hub desk) bytes written cause →
     IsDeskOf hub desk
-desk_of_stops hub seated desk bytes written Read ends =
+desk_of_stops hub seated S desk bytes written Read ends =
     desk_is_of hub desk (facts_in (setup_of hub.config) seated ends.turns) 0 ends.told
-desk_of_stops hub seated desk bytes written Write (inl ends) =
+desk_of_stops hub seated S desk bytes written Write (inl ends) =
     desk_is_of hub desk (facts_in (setup_of hub.config) seated (ends.last ∷ ends.turns)) 0 ends.told
-desk_of_stops hub seated desk bytes written Write (inr ends) =
+desk_of_stops hub seated S desk bytes written Write (inr ends) =
     desk_is_of hub desk (facts_in (setup_of hub.config) seated ends.turns)
     (length (talk (setup_of hub.config) seated bytes).facts - length
     (facts_in (setup_of hub.config) seated ends.turns)) ends.told
-desk_of_stops hub seated desk bytes written (Session cause) ends =
-    desk_of_session hub seated desk bytes written cause ends
-desk_of_stops hub seated desk bytes written (Post fault) ends =
+desk_of_stops hub seated S desk bytes written (Session cause) ends =
+    desk_of_session hub seated S desk bytes written cause ends
+desk_of_stops hub seated S desk bytes written (Post fault) ends =
     desk_is_of hub desk (facts_in (setup_of hub.config) seated ends.turns)
     (stored_of fault (length (talk (setup_of hub.config) seated bytes).facts - length
     (facts_in (setup_of hub.config) seated ends.turns))) ends.told
-desk_of_stops hub seated desk bytes written Look ends = absurd ends
+desk_of_stops hub seated S desk bytes written Look ends = absurd ends
 
 -- a session that works on or has stopped has a desk of the hub, if it has one
 pub desk_of_works : (hub : Beginning) (seated : Bool) (worker : Worker)
@@ -735,4 +768,4 @@ pub desk_of_works : (hub : Beginning) (seated : Bool) (worker : Worker)
 desk_of_works hub seated worker start now (Ok done) w =
     desk_is_of hub worker.desk (facts_in (setup_of hub.config) seated w.turns) 0 w.work.told
 desk_of_works hub seated worker start now (Err cause) s =
-    desk_of_stops hub seated worker.desk s.bytes s.written cause s.ends
+    desk_of_stops hub seated (AreTellings hub seated (seat_at worker.desk)) worker.desk s.bytes s.written cause s.ends

@@ -4,6 +4,7 @@ pub mod Status
 pub mod Told
 pub mod Traffic
 pub mod Turns
+pub mod Tellings
 pub mod Working
 pub mod Waiting
 pub mod Moments

@@ -1,9 +1,13 @@
 -- What a session reads, tells and writes, turn by turn.
 use Rattle.std.specs.Option.{option_map}
-use Rattle.std.specs.Prelude.{◌≡◌, ◌⊎◌, ℕ, ◌-◌, Bool, List, [], ◌∷◌, ◌++◌, length, drop, Option}
-use Rattle.std.specs.Prelude.{None, Some, MatchOption, Result, Ok, Err}
+use Rattle.std.specs.Prelude.{◌≡◌, ◌⊎◌, ℕ, ◌-◌, Bool, List, [], ◌∷◌, ◌++◌, length, drop, map}
+use Rattle.std.specs.Prelude.{if◌then◌else◌, Option, None, Some, MatchOption, Result, Ok, Err}
 use Rattle.std.specs.Io.KnownBytes.{Appends}
+use Rattle.agg_types.specs.Naming.{place_of}
+use Rattle.agg_types.specs.declared.config.Filter.{Filter}
 use Rattle.agg_types.specs.declared.event.What.{What}
+use Rattle.fleet_model.specs.Answers.{filter_of, set_at}
+use Rattle.fleet_model.specs.State.{State}
 use Rattle.session_core.specs.declared.cause.SessionCause.{SessionCause}
 use Rattle.session_core.specs.declared.cause.SessionCause.TheVariants as causes
 use Rattle.session_core.specs.Cause.{cause_of}
@@ -16,10 +20,22 @@ use Rattle.serve.specs.declared.served.Cause.{Cause}
 use Rattle.serve.specs.declared.served.Cause.TheVariants.{Read, Write, Session, Post, Look}
 use Rattle.serve.specs.declared.served.Served.{Served}
 use Rattle.serve.specs.Told.{HasTold, IsServed, stored_of}
+use Rattle.session_core.specs.Asking.{asks_all}
+use Rattle.telling.specs.Pushes.{pushed_of}
+use Rattle.telling.specs.Telling.{told_after, turn_text}
+use Rattle.telling.specs.Told.{Told as Memory, asked, untold}
+use Rattle.telling.specs.declared.pushed.Pushed.{Pushed}
 
--- some piece was taken, or, at none, a heartbeat sent
-abbrev pub Turn : Type 0
-Turn = Option (List ℕ)
+-- a telling: the list that it shows, and the book of that list
+pub record Telling : Type 0 where
+  pub seen : Beginning
+  pub book : State
+
+-- a piece was taken, a heartbeat was sent, or the pushed tables were told
+pub data Turn : Type 0 where
+  Piece : List ℕ → Turn
+  Beat : Turn
+  Tell : Telling → Turn
 
 abbrev pub heartbeat : List ℕ
 heartbeat = 0 ∷ 4 ∷ []
@@ -27,8 +43,9 @@ heartbeat = 0 ∷ 4 ∷ []
 -- the bytes taken in these turns, of which the newest is first
 abbrev pub taken_in : List Turn → List ℕ
 taken_in [] = []
-taken_in (None ∷ earlier) = taken_in earlier
-taken_in (Some piece ∷ earlier) = taken_in earlier ++ piece
+taken_in (Beat ∷ earlier) = taken_in earlier
+taken_in (Tell telling ∷ earlier) = taken_in earlier
+taken_in (Piece piece ∷ earlier) = taken_in earlier ++ piece
 
 -- what a talk says beyond an earlier one: its further replies, then the acknowledgements of all
 -- that came since
@@ -37,10 +54,49 @@ said_beyond setup old new =
     drop (length old.replies) new.replies
     ++ acks_among setup.tables (new.count - old.count) new.past
 
--- what answers a turn behind those before it
+-- the keys of the standing filter at a place, if there is one
+abbrev pub set_of : State → Option ℕ → List (List ℕ)
+set_of book None = []
+set_of book (Some place) = set_at book (filter_of book place) book.moment
+
+-- the keys that a pushed table stands for in a book: those of the filter of its name
+abbrev pub set_named : State → Pushed → List (List ℕ)
+set_named book table =
+    set_of book (place_of (λ (filter : Filter). filter.name) book.config.filters table.name)
+
+-- the sets of the pushed tables in a book
+abbrev pub sets_in : List Pushed → State → List (List (List ℕ))
+sets_in pushed book = map (set_named book) pushed
+
+-- the pushed tables of a telling
+abbrev pub pushed_in : Telling → List Pushed
+pushed_in telling = pushed_of telling.seen.config
+
+-- what was told, or, where a resync request was read, is asked for anew
+abbrev pub asked_if : Bool → Memory → Memory
+asked_if asks told = if asks then asked told else told
+
+-- what these turns told of the pushed tables: a piece with a resync request asks for all of it
+-- anew
+abbrev pub told_in : Setup → Bool → List Pushed → List Turn → Memory
+told_in setup seated pushed [] = untold
+told_in setup seated pushed (Beat ∷ earlier) = told_in setup seated pushed earlier
+told_in setup seated pushed (Tell telling ∷ earlier) =
+    told_after pushed (sets_in pushed telling.book) telling.book.moment
+    (told_in setup seated pushed earlier)
+told_in setup seated pushed (Piece piece ∷ earlier) =
+    asked_if (asks_all (drop (length (talk setup seated (taken_in earlier)).replies)
+    (talk setup seated (taken_in earlier ++ piece)).replies))
+    (told_in setup seated pushed earlier)
+
+-- what answers a turn behind those before it: a telling writes what brings that which was told to
+-- the sets of its list
 abbrev pub answer_at : Setup → Bool → List Turn → Turn → List ℕ
-answer_at setup seated earlier None = heartbeat
-answer_at setup seated earlier (Some piece) =
+answer_at setup seated earlier Beat = heartbeat
+answer_at setup seated earlier (Tell telling) =
+    turn_text (pushed_in telling) (sets_in (pushed_in telling) telling.book) telling.book.moment
+    (told_in setup seated (pushed_in telling) earlier)
+answer_at setup seated earlier (Piece piece) =
     said_beyond setup (talk setup seated (taken_in earlier))
     (talk setup seated (taken_in earlier ++ piece))
 
@@ -59,19 +115,22 @@ abbrev pub TalkEnds : Setup → Bool → List ℕ → Option SessionCause → Ty
 TalkEnds setup seated bytes end = option_map cause_of (talk setup seated bytes).end ≡ end
 
 -- each turn was answered, and all facts were told, up to this end of the talk if it came
-pub record IsAnswered (setup : Setup) (seated : Bool) (Told : List What → ℕ → Type 0)
-    (end : Option SessionCause) (bytes written : List ℕ) : Type 0 where
+pub record IsAnswered (setup : Setup) (seated : Bool) (Shown : List Turn → Type 0)
+    (Told : List What → ℕ → Type 0) (end : Option SessionCause) (bytes written : List ℕ)
+    : Type 0 where
   pub turns : List Turn
+  pub shown : Shown turns
   pub read : bytes ≡ taken_in turns
   pub ends : TalkEnds setup seated bytes end
   pub told : Told (facts_in setup seated turns) 0
   pub answered : written ≡ answers_in setup seated turns
 
 -- the same, but of the answer to the last turn only a beginning was written
-pub record IsCutShort (setup : Setup) (seated : Bool) (Told : List What → ℕ → Type 0)
-    (bytes written : List ℕ) : Type 0 where
+pub record IsCutShort (setup : Setup) (seated : Bool) (Shown : List Turn → Type 0)
+    (Told : List What → ℕ → Type 0) (bytes written : List ℕ) : Type 0 where
   pub turns : List Turn
   pub last : Turn
+  pub shown : Shown (last ∷ turns)
   pub front : List ℕ
   pub rest : List ℕ
   pub goes_on : TalkEnds setup seated (taken_in turns) None
@@ -82,9 +141,10 @@ pub record IsCutShort (setup : Setup) (seated : Bool) (Told : List What → ℕ 
 
 -- The same, but only a beginning of a heartbeat was written, while a last piece waited: its facts
 -- are stored and not shown yet.
-pub record IsCutWaiting (setup : Setup) (seated : Bool) (Told : List What → ℕ → Type 0)
-    (bytes written : List ℕ) : Type 0 where
+pub record IsCutWaiting (setup : Setup) (seated : Bool) (Shown : List Turn → Type 0)
+    (Told : List What → ℕ → Type 0) (bytes written : List ℕ) : Type 0 where
   pub turns : List Turn
+  pub shown : Shown turns
   pub piece : List ℕ
   pub front : List ℕ
   pub rest : List ℕ
@@ -97,9 +157,10 @@ pub record IsCutWaiting (setup : Setup) (seated : Bool) (Told : List What → �
 
 -- the same, but of a last piece nothing was told nor answered; so many of its facts are stored all
 -- the same
-pub record IsRefused (setup : Setup) (seated : Bool) (Told : List What → ℕ → Type 0)
-    (bytes written : List ℕ) (stored : ℕ → ℕ) : Type 0 where
+pub record IsRefused (setup : Setup) (seated : Bool) (Shown : List Turn → Type 0)
+    (Told : List What → ℕ → Type 0) (bytes written : List ℕ) (stored : ℕ → ℕ) : Type 0 where
   pub turns : List Turn
+  pub shown : Shown turns
   pub piece : List ℕ
   pub goes_on : TalkEnds setup seated (taken_in turns) None
   pub read : bytes ≡ taken_in turns ++ piece
@@ -109,29 +170,32 @@ pub record IsRefused (setup : Setup) (seated : Bool) (Told : List What → ℕ �
 
 -- how a session ends by its stream, by silence or out of memory: no end of a stream is invented,
 -- and none is passed over
-abbrev pub EndsBySession : Setup → Bool → (List What → ℕ → Type 0) → List ℕ → List ℕ → SessionCause
-    → Type 0
-EndsBySession setup seated Told bytes written (causes.Refused status) =
-    IsAnswered setup seated Told (Some (causes.Refused status)) bytes written
-EndsBySession setup seated Told bytes written (causes.Wire wire) =
-    IsAnswered setup seated Told (Some (causes.Wire wire)) bytes written
-EndsBySession setup seated Told bytes written causes.PeerError =
-    IsAnswered setup seated Told (Some causes.PeerError) bytes written
-EndsBySession setup seated Told bytes written causes.TimedOut =
-    IsAnswered setup seated Told None bytes written
-EndsBySession setup seated Told bytes written causes.NoMemory =
-    IsRefused setup seated Told bytes written (λ count. 0)
+abbrev pub EndsBySession : Setup → Bool → (List Turn → Type 0) → (List What → ℕ → Type 0)
+    → List ℕ → List ℕ → SessionCause → Type 0
+EndsBySession setup seated Shown Told bytes written (causes.Refused status) =
+    IsAnswered setup seated Shown Told (Some (causes.Refused status)) bytes written
+EndsBySession setup seated Shown Told bytes written (causes.Wire wire) =
+    IsAnswered setup seated Shown Told (Some (causes.Wire wire)) bytes written
+EndsBySession setup seated Shown Told bytes written causes.PeerError =
+    IsAnswered setup seated Shown Told (Some causes.PeerError) bytes written
+EndsBySession setup seated Shown Told bytes written causes.TimedOut =
+    IsAnswered setup seated Shown Told None bytes written
+EndsBySession setup seated Shown Told bytes written causes.NoMemory =
+    IsRefused setup seated Shown Told bytes written (λ count. 0)
 
 -- how a session ends that read and wrote these bytes
-abbrev pub EndsBy : Setup → Bool → (List What → ℕ → Type 0) → List ℕ → List ℕ → Cause → Type 0
-EndsBy setup seated Told bytes written Read = IsAnswered setup seated Told None bytes written
-EndsBy setup seated Told bytes written Write =
-    IsCutShort setup seated Told bytes written ⊎ IsCutWaiting setup seated Told bytes written
-EndsBy setup seated Told bytes written (Session cause) =
-    EndsBySession setup seated Told bytes written cause
-EndsBy setup seated Told bytes written (Post fault) =
-    IsRefused setup seated Told bytes written (stored_of fault)
-EndsBy setup seated Told bytes written Look = ⊥
+abbrev pub EndsBy : Setup → Bool → (List Turn → Type 0) → (List What → ℕ → Type 0)
+    → List ℕ → List ℕ → Cause → Type 0
+EndsBy setup seated Shown Told bytes written Read =
+    IsAnswered setup seated Shown Told None bytes written
+EndsBy setup seated Shown Told bytes written Write =
+    IsCutShort setup seated Shown Told bytes written
+    ⊎ IsCutWaiting setup seated Shown Told bytes written
+EndsBy setup seated Shown Told bytes written (Session cause) =
+    EndsBySession setup seated Shown Told bytes written cause
+EndsBy setup seated Shown Told bytes written (Post fault) =
+    IsRefused setup seated Shown Told bytes written (stored_of fault)
+EndsBy setup seated Shown Told bytes written Look = ⊥
 
 -- the seat of a session that has one
 abbrev pub seat_at : Option Desk → Option ℕ

@@ -1,6 +1,7 @@
 -- A session at work.
-use Rattle.std.specs.Prelude.{◌≡◌, ℕ, Bool, List, [], ◌++◌, length, Option, None, is_some, Result, Ok}
-use Rattle.std.specs.Prelude.{Err, IfOk}
+use Rattle.std.specs.Prelude.{◌≡◌, ℕ, Bool, List, [], ◌∷◌}
+use Rattle.std.specs.Prelude.{◌++◌, length, Option, None, Some, is_some}
+use Rattle.std.specs.Prelude.{Result, Ok, Err, IfOk}
 use Rattle.agg_types.specs.declared.event.What.{What}
 use Rattle.session_core.specs.declared.batch.SessionFault.{SessionFault}
 use Rattle.session_core.specs.declared.cause.SessionCause.{SessionCause}
@@ -19,10 +20,12 @@ use Rattle.serve.specs.declared.served.Served.{Served}
 use Rattle.serve.specs.declared.worker.Worker.{Worker}
 use Rattle.std.specs.Io.KnownBytes.{Appends}
 use Rattle.serve.specs.Faults.{cause_of_turn}
+use Rattle.serve.specs.Tellings.{AreTellings, TellsOn}
 use Rattle.serve.specs.Told.{stored_of}
 use Rattle.serve.specs.Traffic.{Advances, Traffic, so_far}
-use Rattle.serve.specs.Turns.{DeskTells, EndsBy, IsAnswered, SeatIsServed, Turn, WroteFront}
-use Rattle.serve.specs.Turns.{TalkEnds, answers_in, facts_in, heartbeat, taken_in}
+use Rattle.serve.specs.Turns.{DeskTells, EndsBy, IsAnswered, SeatIsServed, Tell, Telling, Turn}
+use Rattle.serve.specs.Turns.{TalkEnds, WroteFront, answer_at, answers_in, facts_in, heartbeat}
+use Rattle.serve.specs.Turns.{seat_at, taken_in}
 
 -- it stands for the bytes taken in these turns, whose talk goes on, and their facts were told
 pub record IsAtWork (hub : Beginning) (seated : Bool) (worker : Worker) (turns : List Turn)
@@ -31,6 +34,8 @@ pub record IsAtWork (hub : Beginning) (seated : Bool) (worker : Worker) (turns :
   pub stands : worker.session.stage ≡ stage_of (setup_of hub.config) seated (taken_in turns)
   pub goes_on : TalkEnds (setup_of hub.config) seated (taken_in turns) None
   pub told : DeskTells hub worker.desk (facts_in (setup_of hub.config) seated turns) 0
+  pub shown : AreTellings hub seated (seat_at worker.desk) turns
+  pub tells : TellsOn hub seated turns worker.pushing
 
 -- the same, with what its source gave and its writer took since it began
 pub record Works (hub : Beginning) (seated : Bool) (worker : Worker)
@@ -40,14 +45,23 @@ pub record Works (hub : Beginning) (seated : Bool) (worker : Worker)
   pub carried : Advances start now (taken_in turns)
       (answers_in (setup_of hub.config) seated turns)
 
+-- what was said told the pushed tables, and it works behind that; or nothing was told
+abbrev pub SaysAt : Beginning → Bool → Worker → List Turn → Option (List ℕ) → Type 0
+SaysAt hub seated worker turns None = IsAtWork hub seated worker turns
+SaysAt hub seated worker turns (Some text) =
+    (telling : Telling)
+    × (text ≡ answer_at (setup_of hub.config) seated turns (Tell telling))
+    × IsAtWork hub seated worker (Tell telling ∷ turns)
+
 -- it has ended for this cause
 pub record Stops (hub : Beginning) (seated : Bool) (worker : Worker)
     (start now : Traffic) (cause : Cause) : Type 0 where
   pub bytes : List ℕ
   pub written : List ℕ
   pub carried : Advances start now bytes written
-  pub ends : EndsBy (setup_of hub.config) seated (DeskTells hub worker.desk) bytes
-      written cause
+  pub ends : EndsBy (setup_of hub.config) seated
+      (AreTellings hub seated (seat_at worker.desk)) (DeskTells hub worker.desk) bytes written
+      cause
 
 -- it works on, or has ended
 abbrev pub WorksOn : {A : Type 0} → Beginning → Bool → Worker → Traffic → Traffic
@@ -128,8 +142,8 @@ pub record IsServedWhole (hub : Beginning) (seat : Option ℕ)
   pub bytes : List ℕ
   pub written : List ℕ
   pub carried : Advances start now bytes written
-  pub ends : IsAnswered (setup_of hub.config) (is_some seat) (SeatIsServed hub seat served) None
-      bytes written
+  pub ends : IsAnswered (setup_of hub.config) (is_some seat)
+      (AreTellings hub (is_some seat) seat) (SeatIsServed hub seat served) None bytes written
 
 -- how a session was served that ended for a cause
 pub record IsServedUntil (hub : Beginning) (seat : Option ℕ)
@@ -137,5 +151,5 @@ pub record IsServedUntil (hub : Beginning) (seat : Option ℕ)
   pub bytes : List ℕ
   pub written : List ℕ
   pub carried : Advances start now bytes written
-  pub ends : EndsBy (setup_of hub.config) (is_some seat) (SeatIsServed hub seat faulted.served) bytes
-      written faulted.cause
+  pub ends : EndsBy (setup_of hub.config) (is_some seat) (AreTellings hub (is_some seat) seat)
+      (SeatIsServed hub seat faulted.served) bytes written faulted.cause

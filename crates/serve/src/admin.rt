@@ -416,8 +416,8 @@ impl<'a, J: Naming, H: Wait + Drop, R: Wait, C: Clock, G: Gate> Context<'a, J, H
     ///
     /// A line ends with LF; one that hasn't ended when the connection does is dropped. Its answer
     /// has an empty line behind it, and is made whole, and the look given up, before anything is
-    /// posted or written. A change is posted and learned, and then answered `ok`. A line `quit` ends
-    /// the connection, without an answer; so do 20 reads in a row that gave nothing.
+    /// posted or written. A change is posted and learned, and then answered `ok`. A line `quit`
+    /// ends the connection, without an answer; so do 20 reads in a row that gave nothing.
     pub fn serve_admin<S: Source, W: Write>(
         &self,
         link: &mut Link<S, W>,

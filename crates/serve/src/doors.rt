@@ -52,8 +52,8 @@ pub trait Doors<S: Source + Drop, W: Write + Drop> {
         ensures blank { IfSome result (λ caller. W.contents caller.writer ≡ blank) };
 
     /// Waits for the hello of a peer's connection, in the connection's own thread and before it has
-    /// a seat: whether it would be accepted. Only then does the connection get a seat. What was read
-    /// for that is what its source gives first.
+    /// a seat: whether it would be accepted. Only then does the connection get a seat. What was
+    /// read for that is what its source gives first.
     fn greet(&self, _config: &Config, _source: &mut S) -> bool
         requires fresh { S.reads _source.old ≡ 0 }
         requires unread { S.given _source.old ≡ unread }

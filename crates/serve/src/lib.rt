@@ -5,7 +5,9 @@
 //! wait, so each takes a handle; all that they say, read and tell stands in the crates below.
 //!
 //! Promised of a session: exactly the facts of the bytes that it took are told, and an answer is
-//! written only behind its facts. Promised of an admin: exactly the changes that its lines ask for
+//! written only behind its facts. What it tells its proxy of pushed filters is, after each telling,
+//! exactly their sets at one list of the history, and these lists go on from one another. No clause
+//! says when a telling is made. Promised of an admin: exactly the changes that its lines ask for
 //! are told, in their order, and each line is answered over a book that shows those before it; a
 //! change is answered only once it was told. Promised of a timer: it tells moments of its clock.
 //! Each goes back from `serve_all` with what is promised of it; no clause says what `serve_all`
@@ -22,6 +24,7 @@ mod faults;
 mod gate;
 mod hello;
 mod lines;
+mod pushing;
 mod scout;
 mod served;
 mod session;

@@ -49,6 +49,10 @@ impl<'a, J: Naming, H: Wait + Drop, R: Wait + std::rt::Clock, C: Clock, G: Gate>
     /// of a fault too; and after each read it asks whether a heartbeat is due or the peer was
     /// silent for too long. So an acknowledgement is written only where the facts before it were
     /// posted.
+    ///
+    /// Where tables are pushed it has a lens of its own, and after each read looks whether
+    /// something is to be told of them, at most every 50 ms. Where no lens or look is to be had, or
+    /// an allocation failed, nothing is told, and the next turn tells it.
     pub fn serve_session<S: Source, W: Write>(
         &self,
         link: &mut Link<S, W>,
@@ -57,7 +61,8 @@ impl<'a, J: Naming, H: Wait + Drop, R: Wait + std::rt::Clock, C: Clock, G: Gate>
         requires pass { IfSome pass (λ p. SitsDown p × Follows self.now.hub.now p.seen) }
         requires reads { S.reads link.old.source ≡ 0 }
 
-        // What was read, told and written; and what the receipts show of that.
+        // What was read, told and written, tellings of pushed tables among it; and what the
+        // receipts show of that.
         ensures served { MatchResult result
             (IsServedWhole self.now.hub.now (option_map (λ p. p.seat) pass)
             (so_far (S.given link.old.source) (W.contents link.old.writer))

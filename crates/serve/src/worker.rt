@@ -1,7 +1,7 @@
 //! A session at work.
 
 ghost use Rattle.std.specs.Prelude.{Bool, is_some, ◌≡◌, ◌<◌, ◌≤◌, ◌+◌, ◌^◌, ◌⊎◌, ℕ, List, []};
-ghost use Rattle.std.specs.Prelude.{Option, IfSome, Err};
+ghost use Rattle.std.specs.Prelude.{None, Option, IfSome, Err};
 ghost use Rattle.std.specs.List.{All};
 ghost use Rattle.std.specs.Option.{option_map};
 ghost use Rattle.agg_types.specs.declared.event.What.{What};
@@ -15,6 +15,7 @@ use crate::desk::Desk;
 use crate::faults::{AnswerFault, TurnFault};
 use crate::gate::{Gate, Gone, News, Place};
 use crate::hello::Hello;
+use crate::pushing::Pushing;
 use crate::scout::Scout;
 use crate::served::Cause;
 use crate::source::{Came, Source, buffer};
@@ -43,6 +44,8 @@ pub struct Worker {
     // how much of that the gate was told
     reported: u64,
     pulse: Pulse,
+    // what it tells of the pushed tables, if there are any
+    pushing: Option<Pushing>,
 }
 
 // How many updates a session posted that posted so many facts: the first opens it.
@@ -51,6 +54,7 @@ fn updates_of(told: u64) -> u64 {
 }
 
 impl Worker {
+    ghost use Rattle.serve.specs.Tellings.{asked_pushing};
     ghost use Rattle.serve.specs.Turns.{seat_at};
     ghost use Rattle.serve.specs.Working.{IsAtWork, Takes};
 
@@ -74,6 +78,7 @@ impl Worker {
             told: 0,
             reported: 0,
             pulse: Pulse::new(),
+            pushing: None,
         }
     }
 
@@ -96,6 +101,7 @@ impl Worker {
     fn listen(&mut self, piece: &[u8])
         ensures session { self.new.session ≡ self.old.session }
         ensures desk { self.new.desk ≡ self.old.desk }
+        ensures pushing { self.new.pushing ≡ self.old.pushing }
     {
         if self.peer.is_none() {
             self.hello.add(piece);
@@ -107,6 +113,7 @@ impl Worker {
     fn greet<G: Gate>(&mut self, gate: &G)
         ensures session { self.new.session ≡ self.old.session }
         ensures desk { self.new.desk ≡ self.old.desk }
+        ensures pushing { self.new.pushing ≡ self.old.pushing }
     {
         if self.peer.is_none() {
             self.peer = self.session.peer();
@@ -160,6 +167,17 @@ impl Worker {
         gate.tell(self.place(), News::Gone(gone));
     }
 
+    // A resync request was read, if this is so: all is told anew.
+    fn ask(&mut self, asks: bool)
+        ensures session { self.new.session ≡ self.old.session }
+        ensures desk { self.new.desk ≡ self.old.desk }
+        ensures pushing { self.new.pushing ≡ option_map (asked_pushing asks) self.old.pushing }
+    {
+        if let Some(pushing) = &mut self.pushing {
+            pushing.ask(asks);
+        }
+    }
+
     // Sends a heartbeat where one is due, and ends a session that was silent for too long.
     fn rest<W: Write>(&mut self, writer: &mut W, now: u64) -> Result<(), TurnFault>
         ensures seat { seat_at self.new.desk ≡ seat_at self.old.desk }
@@ -189,7 +207,8 @@ impl<'a, J: Naming, H: Wait + Drop, R: Wait + std::rt::Clock, C: Clock, G: Gate>
     ghost use Rattle.serve.specs.Traffic.{Traffic, so_far};
     ghost use Rattle.serve.specs.Turns.{DeskTells, IsDeskOf, Turn, seat_at};
     ghost use Rattle.serve.specs.Waiting.{BeatsThen, PostsTo};
-    ghost use Rattle.serve.specs.Working.{EndsTo, IsAtWork, SettlesTo, Takes, Works, WorksOn};
+    ghost use Rattle.serve.specs.Working.{EndsTo, IsAtWork, SaysAt, SettlesTo, Takes, Works};
+    ghost use Rattle.serve.specs.Working.{WorksOn};
 
     // Posts facts, if there are any and the session has a seat, and waits until they are shown.
     fn post_facts<W: Write>(
@@ -201,6 +220,7 @@ impl<'a, J: Naming, H: Wait + Drop, R: Wait + std::rt::Clock, C: Clock, G: Gate>
         requires of { IsDeskOf self.now.hub.now worker.old.desk }
         requires fits { All (MayPost self.now.hub.now.config) facts.items }
         ensures session { worker.new.session ≡ worker.old.session }
+        ensures pushing { worker.new.pushing ≡ worker.old.pushing }
         ensures seat { seat_at worker.new.desk ≡ seat_at worker.old.desk }
         ensures told { BeatsThen (W.contents writer.old) (λ written. (whats : List What)
             → DeskTells self.now.hub.now worker.old.desk whats 0
@@ -231,6 +251,7 @@ impl<'a, J: Naming, H: Wait + Drop, R: Wait + std::rt::Clock, C: Clock, G: Gate>
         requires of { IsDeskOf self.now.hub.now worker.old.desk }
         requires fits { All (MayPost self.now.hub.now.config) batch.facts }
         ensures session { worker.new.session ≡ worker.old.session }
+        ensures pushing { worker.new.pushing ≡ worker.old.pushing }
         ensures seat { seat_at worker.new.desk ≡ seat_at worker.old.desk }
         ensures told { BeatsThen (W.contents writer.old) (λ written. (whats : List What)
             → DeskTells self.now.hub.now worker.old.desk whats 0
@@ -255,6 +276,7 @@ impl<'a, J: Naming, H: Wait + Drop, R: Wait + std::rt::Clock, C: Clock, G: Gate>
         requires of { IsDeskOf self.now.hub.now worker.old.desk }
         requires fits { All (MayPost self.now.hub.now.config) fault.batch.facts }
         ensures session { worker.new.session ≡ worker.old.session }
+        ensures pushing { worker.new.pushing ≡ worker.old.pushing }
         ensures seat { seat_at worker.new.desk ≡ seat_at worker.old.desk }
         ensures ends { BeatsThen (W.contents writer.old) (λ written. (whats : List What)
             → DeskTells self.now.hub.now worker.old.desk whats 0
@@ -287,7 +309,9 @@ impl<'a, J: Naming, H: Wait + Drop, R: Wait + std::rt::Clock, C: Clock, G: Gate>
     {
         match worker.session.feed(self.hub.config(), piece, now) {
             Ok(batch) => {
+                let asks = batch.asks_all();
                 self.settle(worker, writer, batch)?;
+                worker.ask(asks);
                 Ok(())
             }
             Err(fault) => {
@@ -295,6 +319,64 @@ impl<'a, J: Naming, H: Wait + Drop, R: Wait + std::rt::Clock, C: Clock, G: Gate>
                 Err(TurnFault::Session(cause))
             }
         }
+    }
+
+    // What is to be told of the pushed tables, where that is due: the peer's hello was accepted,
+    // and the last turn is a while ago. None where nothing is due, no lens or look is to be had, or
+    // an allocation failed.
+    fn said(&self, worker: &mut Worker, now: u64) -> Option<Vec<u8>>
+        requires work { (seated : Bool) × (turns : List Turn)
+            × IsAtWork self.now.hub.now seated worker.old turns }
+        ensures seat { seat_at worker.new.desk ≡ seat_at worker.old.desk }
+        ensures said { (seated : Bool) (turns : List Turn)
+            → IsAtWork self.now.hub.now seated worker.old turns
+            → SaysAt self.now.hub.now seated worker.new turns
+            (option_map (λ t. t.items) result) }
+    {
+        if worker.session.peer().is_none() {
+            return None;
+        }
+        let Some(pushing) = &mut worker.pushing else {
+            return None;
+        };
+        if !pushing.is_due(now) {
+            return None;
+        }
+        pushing.equip(self.rt, self.hub);
+        pushing.turn(self.alloc, &worker.desk, now)
+    }
+
+    // Tells what is to be told.
+    fn tell<W: Write>(&self, worker: &mut Worker, writer: &mut W, now: u64) -> Result<(), TurnFault>
+        requires work { (seated : Bool) × (turns : List Turn)
+            × IsAtWork self.now.hub.now seated worker.old turns }
+        ensures seat { seat_at worker.new.desk ≡ seat_at worker.old.desk }
+        ensures takes { Takes self.now.hub.now worker.old worker.new [] (W.contents writer.old)
+            (W.contents writer.new) result }
+    {
+        let Some(text) = self.said(worker, now) else {
+            return Ok(());
+        };
+        send(writer, text.as_slice())?;
+        worker.pulse.wrote(text.len(), now);
+        Ok(())
+    }
+
+    // Rests, and tells what is to be told.
+    fn attend<W: Write>(
+        &self,
+        worker: &mut Worker,
+        writer: &mut W,
+        now: u64,
+    ) -> Result<(), TurnFault>
+        requires work { (seated : Bool) × (turns : List Turn)
+            × IsAtWork self.now.hub.now seated worker.old turns }
+        ensures seat { seat_at worker.new.desk ≡ seat_at worker.old.desk }
+        ensures takes { Takes self.now.hub.now worker.old worker.new [] (W.contents writer.old)
+            (W.contents writer.new) result }
+    {
+        worker.rest(writer, now)?;
+        self.tell(worker, writer, now)
     }
 
     // Takes a piece at its turn, tells of its peer, and rests: at the moment at which the piece
@@ -316,7 +398,7 @@ impl<'a, J: Naming, H: Wait + Drop, R: Wait + std::rt::Clock, C: Clock, G: Gate>
         let now = self.clock.now();
         self.take_piece(worker, writer, piece, now)?;
         worker.greet(self.gate);
-        worker.rest(writer, now)
+        self.attend(worker, writer, now)
     }
 
     // Reads once, and does what that asks for. Whether the source goes on.
@@ -344,7 +426,7 @@ impl<'a, J: Naming, H: Wait + Drop, R: Wait + std::rt::Clock, C: Clock, G: Gate>
             Err(_) => Err(Cause::Read),
             Ok(Came::End) => Ok(false),
             Ok(Came::Nothing) => {
-                worker.rest(&mut link.writer, self.clock.now())?;
+                self.attend(worker, &mut link.writer, self.clock.now())?;
                 Ok(true)
             }
             Ok(Came::Bytes(count)) => {
@@ -352,6 +434,20 @@ impl<'a, J: Naming, H: Wait + Drop, R: Wait + std::rt::Clock, C: Clock, G: Gate>
                 Ok(true)
             }
         }
+    }
+
+    // Makes room for what is read, and for what is told. None where an allocation failed.
+    fn make_room(&self, worker: &mut Worker) -> Option<Vec<u8>>
+        ensures session { worker.new.session ≡ worker.old.session }
+        ensures desk { worker.new.desk ≡ worker.old.desk }
+        ensures work { (seated : Bool) → IsAtWork self.now.hub.now seated worker.old []
+            → IsAtWork self.now.hub.now seated worker.new [] }
+    {
+        let Ok(pushing) = Pushing::new(self.alloc, self.hub.config()) else {
+            return None;
+        };
+        worker.pushing = pushing;
+        buffer(self.alloc)
     }
 
     /// Reads until the source ends, the gate says so, or a fault comes.
@@ -370,7 +466,7 @@ impl<'a, J: Naming, H: Wait + Drop, R: Wait + std::rt::Clock, C: Clock, G: Gate>
             → (S.failed link.old.source < S.failed link.new.source)
             ⊎ (S.reads link.new.source ≡ 2 ^ 40) }
     {
-        let Some(mut buffer) = buffer(self.alloc) else {
+        let Some(mut buffer) = self.make_room(worker) else {
             return Err(Cause::Session(SessionCause::NoMemory));
         };
         for made in 0..MOST_READS {

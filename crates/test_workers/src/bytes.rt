@@ -9,6 +9,9 @@ pub const OTHER_HELLO: &[u8] = b"HAProxyS 2.1\nagg\nlb2 1 1\n";
 /// An incremental update: 10.0.0.1 has 6.
 pub const SIX: &[u8] = b"\x0a\x81\x05\x0a\x00\x00\x01\x06";
 
+/// An incremental update: 10.0.0.1 has 2.
+pub const TWO: &[u8] = b"\x0a\x81\x05\x0a\x00\x00\x01\x02";
+
 /// The definition, and the first update behind it.
 pub const DEFINE_FIVE: &[u8] =
     b"\x0a\x82\x07\x01\x01t\x04\x04\x04\x00\x0a\x80\x09\x00\x00\x00\x01\x0a\x00\x00\x01\x05";

@@ -2,6 +2,7 @@
 
 use crate::bytes::{
     AT_ONCE, DEFINE_FIVE, DEFINE_SEVEN, ERROR, HELLO, NO_FIELD, OTHER_HELLO, RESYNC, SIX, TOO_LONG,
+    TWO,
 };
 use crate::memory::Step;
 
@@ -83,6 +84,37 @@ pub const SESSIONS: [(&str, &[Step]); 16] = [
         ],
     ),
 ];
+
+/// A peer whose address comes into a filter's set and leaves it, and that asks for a resync in
+/// between. A turn is made at the hello, and then where 50 ms have gone by.
+pub const TOLD: [Step; 9] = [
+    Step::Bytes(HELLO),
+    Step::Bytes(DEFINE_FIVE),
+    Step::Bytes(SIX),
+    Step::Silent(49),
+    Step::Silent(50),
+    Step::Bytes(RESYNC),
+    Step::Silent(100),
+    Step::Bytes(TWO),
+    Step::Silent(150),
+];
+
+/// What is pushed, and how many writes of a session of it work.
+pub const TELLINGS: [(&str, &[u8], u64); 5] = [
+    ("a filter is pushed", PUSHED, 1000),
+    ("a filter is pushed with a hold", HELD, 1000),
+    ("write 2 fails, that of the first telling", PUSHED, 1),
+    ("write 5 fails, that of a key", PUSHED, 4),
+    ("write 9 fails, that of a key that left", PUSHED, 8),
+];
+
+/// A fleet of two proxies that are told a filter's keys.
+const PUSHED: &[u8] = b"name agg\npeer lb1\npeer lb2\ntable t type ip size 1000 store gpc0\n\
+    filter f t data.gpc0 ge 6\npush f\n";
+
+/// The same, where a key that left the set is left to its life.
+const HELD: &[u8] = b"name agg\npeer lb1\npeer lb2\ntable t type ip size 1000 store gpc0\n\
+    filter f t data.gpc0 ge 6\npush f hold 2000\n";
 
 /// A line of more than 4,096 bytes, that ends.
 const LONG: [u8; 5000] = [b'x'; 5000];

@@ -6,6 +6,7 @@
 //! last lines are of two peers, one that nobody knows, an admin and a timer at once, each in a
 //! thread of its own, which go one at a time in a fixed order: one thread for all would wait for
 //! ever. The first time all say what they have, the second time a gate closes before they have.
+//! Before them stand sessions of fleets whose proxies are told a filter's keys.
 #![tactic(auto)]
 
 ghost use Rattle.std.specs.Prelude.{◌≡◌};
@@ -36,6 +37,7 @@ use std::sync::Wait;
 use std::thread::Threads;
 use std::time::Clock;
 use test_hub_support::opening;
+use test_support::config;
 
 /// Does a scene over a hub of its own.
 fn stage<J: Naming, R: Print + Wait + Clock>(
@@ -135,6 +137,19 @@ fn add_last(scenes: &mut Vec<Scene>) -> Result<()> {
     Ok(())
 }
 
+/// A session of a fleet whose proxies are told what a text pushes, of which so many writes work.
+fn tell<R: Print + Wait + Clock>(
+    rt: &R,
+    alloc: Global,
+    title: &'static str,
+    text: &[u8],
+    writes: u64,
+) -> Result<()> {
+    let opening = Opening::new(alloc, config(alloc, text)?, 0)?;
+    let case = written_to(title, &cases::TOLD, writes, 1000);
+    stage::<Brand, R>(rt, alloc, opening, Scene::Session(case))
+}
+
 /// The scenes, in their order.
 fn scenes(alloc: Global) -> Result<Vec<Scene>> {
     let mut scenes = Vec::new(alloc);
@@ -149,6 +164,9 @@ fn scenes(alloc: Global) -> Result<Vec<Scene>> {
 fn main(rt: HostRuntime) -> Result<()> {
     for scene in scenes(rt.alloc())? {
         stage::<Brand, HostRuntime>(&rt, rt.alloc(), opening(rt.alloc())?, scene)?;
+    }
+    for (title, text, writes) in cases::TELLINGS {
+        tell(&rt, rt.alloc(), title, text, writes)?;
     }
     for course in [WHOLE, CLOSING] {
         stage_all::<Brand, HostRuntime>(&rt, rt.alloc(), opening(rt.alloc())?, course)?;

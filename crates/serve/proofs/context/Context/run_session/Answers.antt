@@ -4,6 +4,6 @@ use Rattle.serve.proofs.context.Context.run_session.Goals as goal
 
 pub returns-in_default-clause-works : goal.returns-in_default-clause-works
 returns-in_default-clause-works g c =
-    stops_at_start c.args.self.now.hub.now c.args.worker.now.session.seated c.args.worker.now
+    stops_at_start c.args.self.now.hub.now c.args.worker.now.session.seated c.make_room.new.worker
     (so_far (g.S.Source.given c.args.link.now.source) (g.W.Write.contents c.args.link.now.writer))
-    c.requires.work
+    (c.make_room.ensures.work c.args.worker.now.session.seated c.requires.work)

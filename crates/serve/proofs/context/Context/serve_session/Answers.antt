@@ -33,6 +33,7 @@ returns-in-Ok-clause-served g c =
     (so_far (g.S.Source.given c.run_session-ended.new.link.source)
     (g.W.Write.contents c.run_session-ended.new.link.writer)) seat
     c.leave-served.result c.new-worker.ensures.seated
+    (c.run_session-ended.ensures.seat ∙ c.new-worker.ensures.seat)
     (λ whats n told.
     subst (λ (s : Option ℕ). SeatIsServed hub s c.leave-served.result whats n) left
     (c.leave-served.ensures whats n (subst (λ (desk : Option Desk). DeskTells hub desk whats n)
@@ -57,6 +58,7 @@ returns-in-Err-clause-served g c =
     (g.W.Write.contents c.run_session-ended.new.link.writer)) seat
     (record { cause = c.in-Err.cause; served = c.leave-served.result })
     c.new-worker.ensures.seated
+    (c.run_session-ended.ensures.seat ∙ c.new-worker.ensures.seat)
     (λ whats n told.
     subst (λ (s : Option ℕ). SeatIsServed hub s c.leave-served.result whats n) left
     (c.leave-served.ensures whats n (subst (λ (desk : Option Desk). DeskTells hub desk whats n)

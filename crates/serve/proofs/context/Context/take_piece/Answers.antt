@@ -1,4 +1,4 @@
-use Rattle.std.proofs.Common.{◌≡◌, None, Err, Ok, ap, sym, subst, ◌∙◌}
+use Rattle.std.proofs.Common.{◌≡◌, ◌++◌, Option, None, Err, Ok, ap, sym, subst, ◌∙◌}
 use Rattle.std.proofs.lemmas.Result.{err_from_is_err_and}
 use Rattle.session_core.specs.Piece.{setup_of}
 use Rattle.session_core.specs.State.{SessionState}
@@ -6,7 +6,9 @@ use Rattle.session_core.specs.TalkAnswers.{FaultAnswersTalk, ContinuesTalk}
 use Rattle.serve.proofs.Facts.{fact_may_post, fault_may_post}
 use Rattle.serve.proofs.Works.{ended_by, fault_at, seat_kept, settled, stands_at, unsettled}
 use Rattle.serve.specs.Traffic.{so_far}
-use Rattle.serve.specs.Turns.{facts_in, taken_in}
+use Rattle.serve.proofs.Tellings.{asked_on}
+use Rattle.serve.specs.declared.desk.Desk.{Desk}
+use Rattle.serve.specs.Turns.{DeskTells, facts_in, seat_at, taken_in}
 use Rattle.serve.specs.Working.{Works}
 use Rattle.serve.proofs.context.Context.take_piece.Goals as goal
 
@@ -36,7 +38,7 @@ pub returns-in_ok-settle-in-Ok-clause-takes : goal.returns-in_ok-settle-in-Ok-cl
 returns-in_ok-settle-in-Ok-clause-takes g c =
     λ seated start given more gives at_first.
     let hub = c.args.self.now.hub.now in
-    let new = c.settle.new.worker in
+    let new = c.ask.new.self in
     let then = c.in_ok-settle-in-Ok.ensures.told in
     let w : Works hub seated c.args.worker.now start (so_far given then.written) =
     then.beats hub seated c.args.worker.now start given at_first in
@@ -46,17 +48,24 @@ returns-in_ok-settle-in-Ok-clause-takes g c =
     (taken_in w.turns) c.args.piece.now c.args.worker.now.session.stage c.feed.new.self.stage
     c.in-Ok.batch None
     c.config.ensures w.work.has_seat w.work.stands c.in-Ok.ensures.talk in
+    let session : new.session ≡ c.feed.new.self =
+    c.ask.ensures.session ∙ c.settle.ensures.session in
     let same : new.session.seated ≡ seated =
-    ap (λ (s : SessionState). s.seated) c.settle.ensures.session
+    ap (λ (s : SessionState). s.seated) session
     ∙ (ap (λ (s : SessionState). s.seated) c.in-Ok.ensures.exact.2 ∙ w.work.has_seat) in
     let told = then.goes_on (facts_in (setup_of hub.config) seated w.turns) w.work.told in
     settled hub seated c.args.worker.now new start given more
     then.written (g.W.Write.contents c.settle.new.writer)
     c.args.piece.now c.in-Ok.batch gives w
     (subst (λ stage. ContinuesTalk (setup_of hub.config) seated (taken_in w.turns) c.args.piece.now
-    c.in-Ok.batch None stage) (sym
-    (ap (λ (s : SessionState). s.stage) c.settle.ensures.session)) stands)
-    same told.0 told.1
+    c.in-Ok.batch None stage) (sym (ap (λ (s : SessionState). s.stage) session)) stands)
+    same (ap seat_at c.ask.ensures.desk ∙ c.settle.ensures.seat)
+    (asked_on c.asks_all-asks.result c.in-Ok.batch.replies c.args.worker.now.pushing
+    c.settle.new.worker.pushing new.pushing c.ask.ensures.pushing c.settle.ensures.pushing
+    c.asks_all-asks.ensures)
+    (subst (λ (desk : Option Desk). DeskTells hub desk
+    (facts_in (setup_of hub.config) seated w.turns ++ c.in-Ok.batch.facts) 0)
+    (sym c.ask.ensures.desk) told.0) told.1
 
 pub returns-in_err-settle-in-Ok-clause-takes : goal.returns-in_err-settle-in-Ok-clause-takes
 returns-in_err-settle-in-Ok-clause-takes g c =
@@ -78,7 +87,7 @@ returns-in_err-settle-in-Ok-clause-takes g c =
     c.args.piece.now c.in-Ok.batch None _ gives w
     (subst (λ stage. ContinuesTalk (setup_of hub.config) seated (taken_in w.turns) c.args.piece.now
     c.in-Ok.batch None stage) (sym
-    (ap (λ (s : SessionState). s.stage) c.settle.ensures.session)) stands)
+    (ap (λ (s : SessionState). s.stage) c.settle.ensures.session)) stands) c.settle.ensures.seat
     (then.goes_on (facts_in (setup_of hub.config) seated w.turns) w.work.told))
 
 pub returns-in_ok-cause-in-Err-clause-takes : goal.returns-in_ok-cause-in-Err-clause-takes
@@ -107,7 +116,7 @@ returns-in_ok-cause-in-Err-clause-takes g c =
     ∙ (kept ∙ w.work.has_seat) in
     ended_by hub seated c.args.worker.now new start given more
     then.written (g.W.Write.contents c.end_session.new.writer)
-    c.args.piece.now fault (Ok _) gives w same
+    c.args.piece.now fault (Ok _) gives w same c.end_session.ensures.seat
     (subst (λ stage. FaultAnswersTalk fault.cause fault.batch (setup_of hub.config) seated
     (taken_in w.turns) c.args.piece.now stage)
     (sym (ap (λ (s : SessionState). s.stage) c.end_session.ensures.session)) answers)
@@ -141,7 +150,7 @@ returns-in_err-cause-in-Err-clause-takes g c =
     c.from_residual-in_err-cause-in-Err.ensures.1 in
     rw (p.1, p.2) (ended_by hub seated c.args.worker.now new start given more
     then.written (g.W.Write.contents c.end_session.new.writer)
-    c.args.piece.now fault (Err _) gives w same
+    c.args.piece.now fault (Err _) gives w same c.end_session.ensures.seat
     (subst (λ stage. FaultAnswersTalk fault.cause fault.batch (setup_of hub.config) seated
     (taken_in w.turns) c.args.piece.now stage)
     (sym (ap (λ (s : SessionState). s.stage) c.end_session.ensures.session)) answers)

@@ -1,6 +1,7 @@
-use Rattle.std.proofs.Common.{ap}
+use Rattle.std.proofs.Common.{None, ap}
 use Rattle.std.proofs.lemmas.Result.{err_from_is_err_and}
 use Rattle.session_core.specs.State.{SessionState}
+use Rattle.serve.proofs.Saying.{untraced, works_untraced}
 use Rattle.serve.proofs.Works.{works_still, wrote_none}
 use Rattle.serve.specs.Traffic.{so_far}
 use Rattle.serve.proofs.context.Context.treat_piece.Goals as goal
@@ -13,19 +14,42 @@ returns-in_err-take_piece-clause-takes g c =
     (works_still c.args.self.now.hub.now seated c.args.worker.now c.listen.new.self start
     (so_far given (g.W.Write.contents c.args.writer.now))
     (ap (λ (s : SessionState). s.seated) c.listen.ensures.session)
-    (ap (λ (s : SessionState). s.stage) c.listen.ensures.session) c.listen.ensures.desk w))
+    (ap (λ (s : SessionState). s.stage) c.listen.ensures.session) c.listen.ensures.desk
+    c.listen.ensures.pushing w))
 
 pub returns-clause-takes : goal.returns-clause-takes
 returns-clause-takes g c =
     λ seated start given more gives w.
     let hub = c.args.self.now.hub.now in
-    c.rest.ensures.takes hub seated start more more (wrote_none more)
+    c.attend.ensures.takes seated start more more (wrote_none more)
     (works_still hub seated c.take_piece.new.worker c.greet.new.self start
     (so_far more (g.W.Write.contents c.take_piece.new.writer))
     (ap (λ (s : SessionState). s.seated) c.greet.ensures.session)
     (ap (λ (s : SessionState). s.stage) c.greet.ensures.session) c.greet.ensures.desk
+    c.greet.ensures.pushing
     (c.in_ok-take_piece.ensures.takes seated start given more gives
     (works_still hub seated c.args.worker.now c.listen.new.self start
     (so_far given (g.W.Write.contents c.args.writer.now))
     (ap (λ (s : SessionState). s.seated) c.listen.ensures.session)
-    (ap (λ (s : SessionState). s.stage) c.listen.ensures.session) c.listen.ensures.desk w)))
+    (ap (λ (s : SessionState). s.stage) c.listen.ensures.session) c.listen.ensures.desk
+    c.listen.ensures.pushing w)))
+
+pub attend-requires : goal.attend-requires
+attend-requires g c =
+    let hub = c.args.self.now.hub.now in
+    let seated = c.requires.work.0 in
+    let before = so_far None (g.W.Write.contents c.args.writer.now) in
+    let after = works_still hub seated c.take_piece.new.worker c.greet.new.self untraced
+    (so_far None (g.W.Write.contents c.take_piece.new.writer))
+    (ap (λ (s : SessionState). s.seated) c.greet.ensures.session)
+    (ap (λ (s : SessionState). s.stage) c.greet.ensures.session) c.greet.ensures.desk
+    c.greet.ensures.pushing
+    (c.in_ok-take_piece.ensures.takes seated untraced None None tt
+    (works_still hub seated c.args.worker.now c.listen.new.self untraced before
+    (ap (λ (s : SessionState). s.seated) c.listen.ensures.session)
+    (ap (λ (s : SessionState). s.stage) c.listen.ensures.session) c.listen.ensures.desk
+    c.listen.ensures.pushing
+    (works_untraced hub seated c.args.worker.now c.requires.work.1 before c.requires.work.2))) in
+    record {
+      work = (seated, after.turns, after.work);
+    }

@@ -34,4 +34,6 @@ returns-clause-work c =
             subst P (sym w.desk-is) (subst (λ facts. HasTold hub w.new.result facts 0)
             (no_facts setup c.accept.result.seated) told)
       ];
+      shown = tt;
+      tells = tt;
     }

@@ -19,12 +19,13 @@ returns-in_ok-send-in-Beat-clause-takes g c =
       told = c.args.self.now.told;
       reported = c.args.self.now.reported;
       pulse = c.wrote.new.self;
+      pushing = c.args.self.now.pushing;
     } in
     let after = c.in-Beat.ensures.after
     ∙ ap (λ idle. after_idle c.args.self.now.session c.args.now idle)
     (sym c.in-Beat.ensures.answer) in
     beaten hub seated old new start more before (g.W.Write.contents c.send.new.writer)
-    (ap (λ s. s.seated) after) (ap (λ s. s.stage) after) refl
+    (ap (λ s. s.seated) after) (ap (λ s. s.stage) after) refl refl
     (works_same hub seated old start given more before gives w) c.in_ok-send-in-Beat.ensures
 
 pub returns-in_err-send-in-Beat-clause-takes : goal.returns-in_err-send-in-Beat-clause-takes
@@ -41,6 +42,7 @@ returns-in_err-send-in-Beat-clause-takes g c =
       told = c.args.self.now.told;
       reported = c.args.self.now.reported;
       pulse = c.args.self.now.pulse;
+      pushing = c.args.self.now.pushing;
     } in
     let p = err_from_is_err_and c.from_residual.result c.from_residual.ensures.1 in
     rw (p.1, p.2) (unbeaten hub seated old new start more before

@@ -1,0 +1,168 @@
+-- What a session's tellings are.
+use Rattle.std.specs.Prelude.{◌≡◌, ◌≢◌, ◌⊎◌, ℕ, ◌+◌, ◌<◌, Bool}
+use Rattle.std.specs.Prelude.{true, false, ⊤, List, [], ◌∷◌, slice_get}
+use Rattle.std.specs.Prelude.{Option, None, Some, MatchOption, IfSome}
+use Rattle.agg_types.specs.declared.event.What.{What}
+use Rattle.session_core.specs.Piece.{setup_of}
+use Rattle.hub.specs.History.{Beginning}
+use Rattle.hub.specs.Posts.{Follows}
+use Rattle.hub.specs.Views.{IsBookOf, Seeing}
+use Rattle.fleet_model.specs.State.{State}
+use Rattle.serve.specs.declared.desk.Desk.{Desk}
+use Rattle.serve.specs.declared.pushing.Pushing.{Pushing}
+use Rattle.serve.specs.Commands.{ShowsTold}
+use Rattle.serve.specs.Turns.{Telling, Turn, Piece, Beat, Tell, asked_if, facts_in, pushed_in}
+use Rattle.serve.specs.Turns.{set_named, sets_in, told_in}
+use Rattle.telling.specs.Among.{IsAmong}
+use Rattle.telling.specs.Pushes.{pushed_of}
+use Rattle.telling.specs.Telling.{told_after, told_keys, turn_text}
+use Rattle.telling.specs.Told.{Told}
+use Rattle.telling.specs.declared.pushed.Pushed.{Pushed}
+
+-- the list that the newest of these turns' tellings is of, and the hub's before the first
+abbrev pub shown_by : Beginning → List Turn → Beginning
+shown_by hub [] = hub
+shown_by hub (Piece piece ∷ earlier) = shown_by hub earlier
+shown_by hub (Beat ∷ earlier) = shown_by hub earlier
+shown_by hub (Tell telling ∷ earlier) = telling.seen
+
+-- what a seat posted, if there is one, stands in a list
+abbrev pub ShowsPosted : Option ℕ → List What → Beginning → Type 0
+ShowsPosted seat whats list =
+    MatchOption seat (Unit {0}) (λ seat. ShowsTold seat whats list)
+
+-- some telling among these turns is such
+abbrev pub SomeTelling : (Telling → Type 0) → List Turn → Type 0
+SomeTelling Is [] = ⊥
+SomeTelling Is (Piece piece ∷ earlier) = SomeTelling Is earlier
+SomeTelling Is (Beat ∷ earlier) = SomeTelling Is earlier
+SomeTelling Is (Tell telling ∷ earlier) = Is telling ⊎ SomeTelling Is earlier
+
+-- a key stood in a pushed table's set at the list of a telling less than its life before a moment
+pub record StoodIn (table : Pushed) (key : List ℕ) (moment : ℕ) (telling : Telling) : Type 0 where
+  pub had : IsAmong key (set_named telling.book table)
+  pub young : moment < telling.book.moment + table.life
+
+-- these keys are those of a set, and others that stood in it less than a life before
+pub record HoldsSet (table : Pushed) (set keys : List (List ℕ)) (moment : ℕ) (earlier : List Turn)
+    : Type 0 where
+  pub all : (key : List ℕ) → IsAmong key set → IsAmong key keys
+  pub others : (key : List ℕ) → IsAmong key keys
+      → IsAmong key set ⊎ SomeTelling (StoodIn table key moment) earlier
+
+-- what a table was told, by whether it holds keys that left its set
+abbrev pub IsBroughtTo : Bool → Pushed → List (List ℕ) → List (List ℕ) → ℕ → List Turn → Type 0
+IsBroughtTo false table set keys moment earlier = keys ≡ set
+IsBroughtTo true table set keys moment earlier = HoldsSet table set keys moment earlier
+
+-- After a telling, what was told and hasn't ended at its moment is of each pushed table exactly the
+-- set at its list; with a hold, it has that set, and further keys that left it less than the hold
+-- before.
+abbrev pub IsExact : Beginning → Bool → List Turn → Telling → Type 0
+IsExact hub seated earlier telling = (place : ℕ) (table : Pushed)
+    → slice_get (pushed_in telling) place ≡ Some table → 0 < table.life
+    → IsBroughtTo table.holds table (set_named telling.book table)
+    (told_keys (pushed_in telling)
+    (told_in (setup_of hub.config) seated (pushed_in telling) (Tell telling ∷ earlier)) place
+    telling.book.moment) telling.book.moment earlier
+
+-- A telling behind these turns is of a list that begins with that of the one before, and holds all
+-- that the session posted before. Its hello was accepted. After it, what was told is the sets.
+pub record IsTelling (hub : Beginning) (seated : Bool) (seat : Option ℕ) (earlier : List Turn)
+    (telling : Telling) : Type 0 where
+  pub follows : Follows (shown_by hub earlier) telling.seen
+  pub shows : ShowsPosted seat (facts_in (setup_of hub.config) seated earlier) telling.seen
+  pub stands : IsBookOf telling.book telling.seen
+  pub greeted : facts_in (setup_of hub.config) seated earlier ≢ []
+  pub exact : IsExact hub seated earlier telling
+
+-- each telling among these turns is one behind those before it
+abbrev pub AreTellings : Beginning → Bool → Option ℕ → List Turn → Type 0
+AreTellings hub seated seat [] = ⊤
+AreTellings hub seated seat (Piece piece ∷ earlier) = AreTellings hub seated seat earlier
+AreTellings hub seated seat (Beat ∷ earlier) = AreTellings hub seated seat earlier
+AreTellings hub seated seat (Tell telling ∷ earlier) =
+    IsTelling hub seated seat earlier telling × AreTellings hub seated seat earlier
+
+-- a lens has seen what was shown, and where there is none yet, nothing was
+abbrev pub SeesShown : Beginning → List Turn → Option Seeing → Type 0
+SeesShown hub turns lens =
+    MatchOption lens (shown_by hub turns ≡ hub) (λ lens. Follows (shown_by hub turns) lens.seen)
+
+-- what is kept of the pushed tables stands for what these turns told
+pub record IsPushing (hub : Beginning) (seated : Bool) (turns : List Turn) (pushing : Pushing)
+    : Type 0 where
+  pub tables : pushing.pushed ≡ pushed_of hub.config
+  pub teller : pushing.teller
+      ≡ told_in (setup_of hub.config) seated (pushed_of hub.config) turns
+  pub sees : SeesShown hub turns pushing.lens
+
+-- the same, where tables are pushed
+abbrev pub TellsOn : Beginning → Bool → List Turn → Option Pushing → Type 0
+TellsOn hub seated turns pushing =
+    MatchOption pushing (Unit {0}) (IsPushing hub seated turns)
+
+-- ---- what is kept of them, step by step
+
+-- after a resync request was read, if this is so
+abbrev pub asked_pushing : Bool → Pushing → Pushing
+asked_pushing asks pushing = record pushing { teller = asked_if asks pushing.teller }
+
+-- a lens is there from now on, or none was to be had
+pub record Equips (hub : Beginning) (old new : Pushing) : Type 0 where
+  pub tables : new.pushed ≡ old.pushed
+  pub teller : new.teller ≡ old.teller
+  pub sees : (turns : List Turn) → SeesShown hub turns old.lens → SeesShown hub turns new.lens
+
+-- what brings that which was told of pushed tables to their sets in a book of a list, and what is
+-- told then
+pub record Brings (pushed : List Pushed) (old new : Told) (seen : Beginning) (text : List ℕ)
+    : Type 0 where
+  pub book : State
+  pub stands : IsBookOf book seen
+  pub says : text ≡ turn_text pushed (sets_in pushed book) book.moment old
+  pub told : new ≡ told_after pushed (sets_in pushed book) book.moment old
+
+-- a turn over a list says this, or nothing, and all is as before
+abbrev pub SaysTo : Pushing → Pushing → Beginning → Option (List ℕ) → Type 0
+SaysTo old new seen None = new ≡ old
+SaysTo old new seen (Some text) =
+    (new ≡ record old { teller = new.teller })
+    × Brings old.pushed old.teller new.teller seen text
+
+-- what a desk posted last, if there is one and it did, is of the history that a lens sees
+abbrev pub MayShow : Option Desk → Beginning → Type 0
+MayShow desk seen = IfSome desk (λ desk. IfSome desk.last (λ list. list.of ≡ seen.of))
+
+-- the same of the lens of what is kept, if there is one
+abbrev pub LooksBack : Pushing → Option Desk → Type 0
+LooksBack pushing desk = IfSome pushing.lens (λ lens. MayShow desk lens.seen)
+
+-- a list holds what a desk posted last, if there is one and it did
+abbrev pub HoldsLast : Option Desk → Beginning → Type 0
+HoldsLast desk seen = IfSome desk (λ desk. IfSome desk.last (λ list. Follows list seen))
+
+-- a lens has seen more
+abbrev pub SeesMore : Option Seeing → Option Seeing → Type 0
+SeesMore None new = new ≡ None
+SeesMore (Some lens) new = (later : Seeing) × (new ≡ Some later) × Follows lens.seen later.seen
+
+-- a turn was made over a later list, which holds what was posted last
+pub record TurnsOver (old new : Pushing) (desk : Option Desk) (text : List ℕ) : Type 0 where
+  pub lens : Seeing
+  pub later : Seeing
+  pub had : old.lens ≡ Some lens
+  pub has : new.lens ≡ Some later
+  pub follows : Follows lens.seen later.seen
+  pub holds : HoldsLast desk later.seen
+  pub brings : Brings old.pushed old.teller new.teller later.seen text
+
+-- no turn was made
+pub record KeepsTold (old new : Pushing) : Type 0 where
+  pub teller : new.teller ≡ old.teller
+  pub sees : SeesMore old.lens new.lens
+
+-- a turn was made and says this, or none was made
+abbrev pub TurnsTo : Pushing → Pushing → Option Desk → Option (List ℕ) → Type 0
+TurnsTo old new desk None = KeepsTold old new
+TurnsTo old new desk (Some text) = TurnsOver old new desk text

@@ -1,0 +1,132 @@
+#!/usr/bin/env python3
+"""Tries that real proxies act on what the whole fleet saw, and says line by line what passed.
+
+    try_acting.py [--collector crates/aggregator/out/aggregator] [--log FILE]
+
+It starts `aggregator listen` with examples/acting.conf and Debian's haproxy as two proxies with examples/acting.cfg. A
+client sends 60 requests through each: neither counts more than 100, the fleet does, and both proxies refuse it with
+429, while others are served. It is served again once the fleet's filter has let it go; within 10 s where the
+collector is killed; and a proxy that starts anew refuses it at once. The last line counts passed and failed; the
+status is 1 where one failed.
+"""
+
+import argparse
+import pathlib
+import sys
+import tempfile
+import time
+import urllib.error
+import urllib.request
+
+from check_with_haproxy import SETTLED, Report
+from proxies import COLLECTOR, REPOSITORY, Collector, Proxy, free_ports, wait_for
+
+CONFIG = REPOSITORY / "examples/acting.conf"
+PROXY = REPOSITORY / "examples/acting.cfg"
+LIFE = 10.0  # s for which a key is told that isn't told again
+
+
+def status(proxy, client):
+    """The status that a proxy answers a request of a client with."""
+    request = urllib.request.Request(f"http://127.0.0.1:{proxy.http}/", headers={"x-forwarded-for": client})
+    try:
+        with urllib.request.urlopen(request, timeout=5) as answer:
+            answer.read()
+            return answer.status
+    except urllib.error.HTTPError as refusal:
+        refusal.read()
+        return refusal.code
+
+
+def told(proxy):
+    """The keys that a proxy was told, as it shows them."""
+    return set(proxy.rows("abusers"))
+
+
+def not_all(proxies, client, wanted):
+    """What proxies answer a client, where that isn't the wanted status."""
+    found = {proxy.name: status(proxy, client) for proxy in proxies}
+    return {name: code for name, code in found.items() if code != wanted}
+
+
+def exceed(proxies, client):
+    """A client that neither proxy alone refuses, and the fleet does."""
+    for proxy in proxies:
+        for _ in range(60):
+            status(proxy, client)
+
+
+def refused(report, collector, proxies):
+    exceed(proxies, "10.0.0.66")
+    began = time.monotonic()
+    report.check("a client that exceeds the limit over both is refused by both within a second", 1,
+                 lambda: not_all(proxies, "10.0.0.66", 429))
+    print(f"        it took {(time.monotonic() - began) * 1000:.0f} ms")
+    report.check("other clients are served", 1, lambda: not_all(proxies, "10.0.0.7", 200))
+    report.check("each proxy was told the filter's keys, and no others", 1,
+                 lambda: {p.name: told(p) for p in proxies if told(p) != collector.keys("abusers")})
+    gone = wait_for("the end of the set", 30, lambda: not collector.keys("abusers") and time.monotonic())
+    report.check("it is served again within a second once the filter lets it go", 1,
+                 lambda: not_all(proxies, "10.0.0.66", 200))
+    print(f"        it took {(time.monotonic() - gone) * 1000:.0f} ms")
+
+
+def proxy_restarts(report, collector, proxies):
+    first, second = proxies
+    exceed(proxies, "10.0.0.67")
+    report.check("a second client is refused by both", 1, lambda: not_all(proxies, "10.0.0.67", 429))
+    second.kill()
+    second.start()
+    report.check("a proxy that started anew is told at once, and refuses it", SETTLED,
+                 lambda: "" if "10.0.0.67" in told(second) or not collector.keys("abusers") else told(second))
+
+
+def collector_dies(report, collector, proxies):
+    exceed(proxies, "10.0.0.68")
+    report.check("a third client is refused by both", SETTLED, lambda: not_all(proxies, "10.0.0.68", 429))
+    collector.process.kill()
+    collector.process.wait()
+    died = time.monotonic()
+    report.check("it is still refused right after the collector was killed", 0.5,
+                 lambda: not_all(proxies, "10.0.0.68", 429))
+    report.check("within the life of what was told the proxies open by themselves", LIFE + 1,
+                 lambda: not_all(proxies, "10.0.0.68", 200))
+    print(f"        it took {time.monotonic() - died:.1f} s")
+
+
+def collector_returns(report, collector, proxies, program, log):
+    again = Collector(program, collector.peers, collector.admin, config=CONFIG, log=log)
+    wait_for("both proxies at the new collector", 2 * SETTLED,
+             lambda: again.ask("show peers").count("state=connected") == len(proxies))
+    exceed(proxies, "10.0.0.69")
+    report.check("a collector that was started again tells both proxies", 2, lambda: not_all(proxies, "10.0.0.69", 429))
+    return again
+
+
+def main():
+    words = argparse.ArgumentParser(description=__doc__, formatter_class=argparse.RawDescriptionHelpFormatter)
+    words.add_argument("--collector", default=COLLECTOR, help="the program that is tried")
+    words.add_argument("--log", help="a file for what the collector says on standard error")
+    options = words.parse_args()
+    report = Report()
+    with tempfile.TemporaryDirectory() as folder, open(options.log or "/dev/null", "ab") as log:
+        peers, admin = free_ports(2)
+        collector = Collector(options.collector, peers, admin, config=CONFIG, log=log)
+        proxies = [Proxy(name, peers, folder, config=PROXY) for name in ("lb1", "lb2")]
+        try:
+            time.sleep(1)
+            refused(report, collector, proxies)
+            proxy_restarts(report, collector, proxies)
+            collector_dies(report, collector, proxies)
+            collector = collector_returns(report, collector, proxies, options.collector, log)
+        finally:
+            for proxy in proxies:
+                proxy.stop()
+            collector.process.kill()
+            collector.process.wait()
+    print(f"{report.passed} passed, {report.failed} failed")
+    sys.exit(1 if report.failed else 0)
+
+
+if __name__ == "__main__":
+    main()
