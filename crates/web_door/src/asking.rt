@@ -1,0 +1,142 @@
+//! Lists that are asked of a book.
+
+use agg_types::{NoMemory, Select};
+use book::Book;
+use show_clear::{Command, CommandFault, Question as Asked, parse};
+use std::alloc::Global;
+use web_lists::{filter_list, rank_list, row_list, table_list};
+use web_target::{Part, Question};
+use web_text::{AskFault, Entries};
+
+/// Why a list isn't told.
+#[derive(Debug, Drop)]
+pub enum ListFault {
+    /// There is no table, filter or ranked list of this name.
+    NoSuch,
+    /// What is asked for behind is no key of the table, or no peer.
+    BadKey,
+    /// The conditions say nothing.
+    BadWhere(CommandFault),
+    /// An allocation failed.
+    NoMemory,
+}
+
+impl From<NoMemory> for ListFault {
+    fn from(_: NoMemory) -> ListFault {
+        ListFault::NoMemory
+    }
+}
+
+impl From<AskFault> for ListFault {
+    fn from(fault: AskFault) -> ListFault {
+        match fault {
+            AskFault::BadKey => ListFault::BadKey,
+            AskFault::NoMemory => ListFault::NoMemory,
+        }
+    }
+}
+
+/// Which entries a part is.
+pub fn entries_of(part: &Part) -> Entries<'_> {
+    let after = match &part.after {
+        None => None,
+        Some(after) => Some(after.as_slice()),
+    };
+    Entries {
+        limit: usize::try_from(part.limit).unwrap_or(usize::MAX),
+        after,
+    }
+}
+
+/// The list that a question asks of a book that this look found. Other questions ask for none.
+pub fn list_of(
+    alloc: Global,
+    book: &Book,
+    look: u64,
+    question: &Question,
+) -> Result<Vec<u8>, ListFault> {
+    match question {
+        Question::Table { name, conds, part } => {
+            table_of(alloc, book, look, name.as_slice(), conds.as_slice(), part)
+        }
+        Question::Filter { name, part } => filter_of(alloc, book, look, name.as_slice(), part),
+        Question::Rank { name, part } => rank_of(alloc, book, look, name.as_slice(), part),
+        _ => Err(ListFault::NoSuch),
+    }
+}
+
+fn filter_of(
+    alloc: Global,
+    book: &Book,
+    look: u64,
+    name: &[u8],
+    part: &Part,
+) -> Result<Vec<u8>, ListFault> {
+    let filters = &book.config().filters;
+    match filters.position(name) {
+        Some(place) if place < filters.len() => {
+            Ok(filter_list(alloc, book, look, place, entries_of(part))?)
+        }
+        _ => Err(ListFault::NoSuch),
+    }
+}
+
+fn rank_of(
+    alloc: Global,
+    book: &Book,
+    look: u64,
+    name: &[u8],
+    part: &Part,
+) -> Result<Vec<u8>, ListFault> {
+    let ranks = &book.config().ranks;
+    match ranks.position(name) {
+        Some(place) if place < ranks.len() => {
+            Ok(rank_list(alloc, book, look, place, entries_of(part))?)
+        }
+        _ => Err(ListFault::NoSuch),
+    }
+}
+
+fn table_of(
+    alloc: Global,
+    book: &Book,
+    look: u64,
+    name: &[u8],
+    conds: &[u8],
+    part: &Part,
+) -> Result<Vec<u8>, ListFault> {
+    let tables = &book.config().tables;
+    match tables.position(name) {
+        Some(place) if place < tables.len() => {
+            let entries = entries_of(part);
+            match selection(alloc, book, name, conds)? {
+                Select::All => Ok(table_list(alloc, book, look, place, &[], entries)?),
+                Select::Conds(conds) => {
+                    Ok(table_list(alloc, book, look, place, conds.as_slice(), entries)?)
+                }
+                Select::One(key) => Ok(row_list(alloc, book, look, place, &key)?),
+            }
+        }
+        _ => Err(ListFault::NoSuch),
+    }
+}
+
+// What the words behind a table's name in `show table` select.
+fn selection(alloc: Global, book: &Book, name: &[u8], words: &[u8]) -> Result<Select, ListFault> {
+    let mut line = Vec::new(alloc);
+    push(&mut line, b"show table ")?;
+    push(&mut line, name)?;
+    push(&mut line, b" ")?;
+    push(&mut line, words)?;
+    match parse(alloc, book, line.as_slice()) {
+        Ok(Command::Ask(Asked::Table { sel, .. })) => Ok(sel),
+        Ok(_) => Err(ListFault::BadWhere(CommandFault::Unknown)),
+        Err(CommandFault::NoMemory) => Err(ListFault::NoMemory),
+        Err(fault) => Err(ListFault::BadWhere(fault)),
+    }
+}
+
+fn push(line: &mut Vec<u8>, text: &[u8]) -> Result<(), NoMemory> {
+    line.extend_from_slice(text)?;
+    Ok(())
+}

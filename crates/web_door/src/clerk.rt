@@ -1,0 +1,301 @@
+//! Who answers the requests of a connection.
+
+ghost use Rattle.std.specs.Prelude.{◌≡◌};
+ghost use Rattle.hub.specs.Posts.{Follows};
+
+use crate::asking::{ListFault, entries_of, list_of};
+use crate::facts::Facts;
+use crate::looks::{Looks, Shared};
+use crate::reply::{Kind, Reply};
+use agg_types::{Config, NoMemory};
+use bytes::Bytes;
+use http::{Method, Request, StatusCode};
+use http_server::{Response, Service};
+use hub::Lens;
+use std::alloc::{AllocError, Global};
+use std::sync::{Arc, Wait};
+use web_lists::summed_up;
+use web_page::PAGE;
+use web_target::{Question, TargetFault, read};
+use web_text::{Standing, Summary, figures, overview, peer_list};
+
+/// Why there is no answer of a book.
+#[derive(Drop)]
+enum Refusal {
+    /// Too many looks are made, or no copy of the book could be entered.
+    Busy,
+    List(ListFault),
+}
+
+impl From<NoMemory> for Refusal {
+    fn from(_: NoMemory) -> Refusal {
+        Refusal::List(ListFault::NoMemory)
+    }
+}
+
+impl From<AllocError> for Refusal {
+    fn from(_: AllocError) -> Refusal {
+        Refusal::List(ListFault::NoMemory)
+    }
+}
+
+/// Who answers the requests of a connection.
+pub struct Clerk<'a, R, F> {
+    pub rt: &'a R,
+    pub alloc: Global,
+    pub config: &'a Config,
+    pub lens: Lens,
+    pub looks: &'a Looks,
+    pub facts: &'a F,
+    /// The number of the look that was answered last; 0 before the first.
+    pub least: u64,
+}
+
+impl<'a, R, F> Drop for Clerk<'a, R, F> {
+    fn drop(self) {
+        let Clerk {
+            rt: _,
+            alloc: _,
+            config: _,
+            lens: _,
+            looks: _,
+            facts: _,
+            least: _,
+        } = self;
+    }
+}
+
+// What is answered where the door is too busy.
+fn busy() -> Reply {
+    Reply::plain(StatusCode::SERVICE_UNAVAILABLE, "too busy\n")
+}
+
+// What is answered to a target that asks for nothing.
+fn unread(fault: TargetFault) -> Reply {
+    match fault {
+        TargetFault::NotFound => Reply::plain(StatusCode::NOT_FOUND, "not found\n"),
+        TargetFault::Unknown => {
+            Reply::plain(StatusCode::BAD_REQUEST, "the query has an unknown word\n")
+        }
+        TargetFault::Twice => {
+            Reply::plain(StatusCode::BAD_REQUEST, "the query has a word twice\n")
+        }
+        TargetFault::BadLimit => {
+            Reply::plain(
+                StatusCode::BAD_REQUEST,
+                "limit is a number from 1 to 10000\n",
+            )
+        }
+        TargetFault::NoMemory => no_memory(),
+    }
+}
+
+fn no_memory() -> Reply {
+    Reply::plain(StatusCode::SERVICE_UNAVAILABLE, "out of memory\n")
+}
+
+// What is answered where there is no answer of a book.
+fn refused(refusal: Refusal) -> Reply {
+    match refusal {
+        Refusal::Busy => busy(),
+        Refusal::List(ListFault::NoSuch) => Reply::plain(StatusCode::NOT_FOUND, "not found\n"),
+        Refusal::List(ListFault::BadKey) => {
+            Reply::plain(StatusCode::BAD_REQUEST, "after is a key of the list\n")
+        }
+        Refusal::List(ListFault::BadWhere(fault)) => {
+            Reply::plain(StatusCode::BAD_REQUEST, fault.name())
+        }
+        Refusal::List(ListFault::NoMemory) => no_memory(),
+    }
+}
+
+// A text that was made.
+fn made(kind: Kind, text: Result<Vec<u8>, Refusal>) -> Reply {
+    match text {
+        Err(refusal) => refused(refusal),
+        Ok(text) => match Bytes::from_vec(text) {
+            Err(_) => no_memory(),
+            Ok(body) => Reply {
+                status: StatusCode::OK,
+                kind,
+                body,
+            },
+        },
+    }
+}
+
+impl<'a, R: Wait, F: Facts> Clerk<'a, R, F> {
+    // The list that a question asks of the book, over one look.
+    #[tactic(auto, using(crate::proofs::Later::follows_self))]
+    fn look(&mut self, question: &Question) -> Result<Vec<u8>, Refusal>
+        ensures { Follows self.old.lens.seen self.new.lens.seen }
+    {
+        let mut turn = self.looks.turn(self.rt);
+        let Some(number) = turn.take(self.facts.now()) else {
+            return Err(Refusal::Busy);
+        };
+        let Some(look) = self.lens.look() else {
+            return Err(Refusal::Busy);
+        };
+        drop(turn);
+        self.least = number;
+        match list_of(self.alloc, look.book(), number, question) {
+            Ok(text) => Ok(text),
+            Err(fault) => Err(Refusal::List(fault)),
+        }
+    }
+
+    // What a look shows of the whole book.
+    #[tactic(auto, using(crate::proofs::Later::follows_self))]
+    fn sum_up(&mut self) -> Result<Summary, Refusal>
+        ensures { Follows self.old.lens.seen self.new.lens.seen }
+    {
+        let mut turn = self.looks.turn(self.rt);
+        let Some(number) = turn.take(self.facts.now()) else {
+            return Err(Refusal::Busy);
+        };
+        let Some(look) = self.lens.look() else {
+            return Err(Refusal::Busy);
+        };
+        drop(turn);
+        self.least = number;
+        let summary = summed_up(self.alloc, look.book(), number)?;
+        Ok(summary)
+    }
+
+    // The summary that is shared, or a new one.
+    #[tactic(auto, using(crate::proofs::Later::follows_self))]
+    fn summary(&mut self) -> Result<Arc<Summary, Global>, Refusal>
+        ensures { Follows self.old.lens.seen self.new.lens.seen }
+    {
+        let mut guard = self.looks.share(self.rt);
+        let now = self.facts.now();
+        let shared = &mut *guard;
+        if let Some(shared) = shared
+            && shared.is_fresh(now, self.least)
+        {
+            self.least = shared.summary.look;
+            return Ok(Arc::try_clone(&shared.summary)?);
+        }
+        let summary = match Arc::new(self.alloc, self.sum_up()?) {
+            Ok(summary) => summary,
+            Err(_) => return Err(Refusal::List(ListFault::NoMemory)),
+        };
+        let mine = Arc::try_clone(&summary)?;
+        *shared = Some(Shared { at: now, summary });
+        Ok(mine)
+    }
+
+    // A text of the shared summary and what else stands.
+    #[tactic(auto, using(crate::proofs::Later::follows_self))]
+    fn tell(&mut self, question: &Question) -> Result<Vec<u8>, Refusal>
+        ensures { Follows self.old.lens.seen self.new.lens.seen }
+    {
+        let summary = self.summary()?;
+        let standing = self.facts.standing()?;
+        let text = self.told(question, &summary, &standing)?;
+        Ok(text)
+    }
+
+    fn told(
+        &self,
+        question: &Question,
+        summary: &Summary,
+        standing: &Standing,
+    ) -> Result<Vec<u8>, Refusal> {
+        match question {
+            Question::Metrics => Ok(figures(self.alloc, self.config, summary, standing)?),
+            Question::Peers(part) => {
+                let entries = entries_of(part);
+                match peer_list(self.alloc, self.config, summary, standing, entries) {
+                    Ok(text) => Ok(text),
+                    Err(fault) => Err(Refusal::List(ListFault::from(fault))),
+                }
+            }
+            _ => Ok(overview(self.alloc, self.config, summary, standing)?),
+        }
+    }
+
+    // What is answered to a question over a look.
+    #[tactic(auto, using(crate::proofs::Later::follows_self))]
+    fn answer_looking(&mut self, question: &Question) -> Reply
+        ensures { Follows self.old.lens.seen self.new.lens.seen }
+    {
+        match question {
+            Question::Metrics => made(Kind::Figures, self.tell(question)),
+            Question::Overview | Question::Peers(_) => made(Kind::Json, self.tell(question)),
+            _ => made(Kind::Json, self.look(question)),
+        }
+    }
+
+    // What is answered to a question.
+    #[tactic(auto, using(crate::proofs::Later::follows_self))]
+    fn answer(&mut self, question: &Question) -> Reply
+        ensures { Follows self.old.lens.seen self.new.lens.seen }
+    {
+        match question {
+            Question::Page => Reply {
+                status: StatusCode::OK,
+                kind: Kind::Page,
+                body: Bytes::from_static(PAGE),
+            },
+            Question::Health => self.health(),
+            _ => {
+                if !self.looks.begin() {
+                    return busy();
+                }
+                let reply = self.answer_looking(question);
+                self.looks.end();
+                reply
+            }
+        }
+    }
+
+    fn health(&self) -> Reply {
+        if self.facts.is_well() {
+            Reply::plain(StatusCode::OK, "ok\n")
+        } else {
+            Reply::plain(StatusCode::SERVICE_UNAVAILABLE, "the clock stands still\n")
+        }
+    }
+
+    // What is answered to a request.
+    #[tactic(auto, using(crate::proofs::Later::follows_self))]
+    fn reply(&mut self, request: &Request<Bytes>) -> Reply
+        ensures { Follows self.old.lens.seen self.new.lens.seen }
+    {
+        let method = request.method().as_str();
+        if method != "GET" && method != "HEAD" {
+            return Reply::plain(StatusCode::METHOD_NOT_ALLOWED, "only GET and HEAD\n");
+        }
+        let uri = request.uri();
+        let query = match uri.query() {
+            None => None,
+            Some(query) => Some(query.as_bytes()),
+        };
+        match read(self.alloc, uri.path().as_bytes(), query) {
+            Err(fault) => unread(fault),
+            Ok(question) => self.answer(&question),
+        }
+    }
+}
+
+impl<'a, R: Wait, F: Facts> Service for Clerk<'a, R, F> {
+    ghost use Rattle.hub.specs.Posts.{Follows};
+
+    ghost answers = { λ old request response new. Follows old.lens.seen new.lens.seen };
+
+    // Where an allocation failed the answer says so, or nothing.
+    fn call(
+        &mut self,
+        request: &Request<Bytes>,
+        response: &mut Response,
+    ) -> Result<(), AllocError> {
+        let reply = self.reply(request);
+        if reply.fill(response).is_err() {
+            response.clear();
+            response.status = StatusCode::SERVICE_UNAVAILABLE;
+        }
+        Ok(())
+    }
+}

@@ -1,0 +1,11 @@
+//! What is told of a book over HTTP.
+//!
+//! `web_door` asks for lists as JSON, and for a summary, of the book that a look found. The book
+//! comes by reference, so nothing here changes it.
+#![tactic(auto)]
+
+mod lists;
+mod summing;
+
+pub use lists::{filter_list, rank_list, row_list, table_list};
+pub use summing::summed_up;

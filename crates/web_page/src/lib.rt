@@ -1,0 +1,6 @@
+//! The page that shows a collector to people.
+#![tactic(auto)]
+
+mod page;
+
+pub use page::PAGE;

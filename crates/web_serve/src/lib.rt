@@ -1,0 +1,16 @@
+//! The HTTP door on sockets: a thread for each connection, which a clerk answers.
+//!
+//! `listening` runs it beside the workers of the collector. At most 64 connections are served at
+//! once; each has a lens of its own, and 10 s for a request with its answer. `Rates` keeps how many
+//! updates came in each of the last seconds, for the page.
+//!
+//! Nothing is promised but that it is safe: no clause can say what a socket carried. What a clerk
+//! answers `web_door` says, and what is sent for a request the kit's `http_server`.
+#![tactic(auto)]
+
+mod rates;
+mod visit;
+mod web;
+
+pub use rates::Rates;
+pub use web::{Visits, Web, serve_visits};

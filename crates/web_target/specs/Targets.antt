@@ -1,0 +1,168 @@
+-- What the target of a request asks for: its path, and the words of its query.
+use Rattle.std.specs.Prelude.{◌≡◌, ◌≢◌, ℕ, ◌==◌, ◌||◌, if◌then◌else◌, nat_eq, nat_lt, List, [], ◌∷◌}
+use Rattle.std.specs.Prelude.{codes, drop, length, map, Option, None, Some, is_some, Result, Ok}
+use Rattle.std.specs.Prelude.{Err, MatchResult}
+use Rattle.std.specs.List.{starts_with}
+use Rattle.std.specs.Str.{bytes_eq}
+use Rattle.line_words.specs.Numbers.{number_of}
+use Rattle.line_words.specs.Words.{parts}
+use Rattle.line_words.specs.declared.numbers.NumberFault.{NumberFault}
+use Rattle.percent_encoding.specs.Percent.{percent_decode}
+use Rattle.web_target.specs.declared.question.Part.{Part}
+use Rattle.web_target.specs.declared.question.Question.{Question}
+use Rattle.web_target.specs.declared.question.Question.TheVariants as asks
+use Rattle.web_target.specs.declared.question.TargetFault.{TargetFault}
+use Rattle.web_target.specs.declared.question.TargetFault.TheVariants.{NotFound, Unknown, Twice}
+use Rattle.web_target.specs.declared.question.TargetFault.TheVariants.{BadLimit, NoMemory}
+use Rattle.web_target.specs.declared.question.Words.{Words}
+use Rattle.web_target.specs.declared.question.TheConstants.{FEWEST, MOST, USUAL}
+
+-- what was read, or the first fault
+abbrev pub Read : Type 0 → Type 0
+Read X = Result X TargetFault
+
+-- what comes next is read if there is no fault so far
+infixl 10 ◌>>=◌
+abbrev pub ◌>>=◌ : {A B : Type 0} → Read A → (A → Read B) → Read B
+Ok x >>= f = f x
+Err fault >>= f = Err fault
+
+-- a result tells what is expected; where an allocation failed it tells only that
+abbrev pub Reads : {A : Type 0} → Read A → Read A → Type 0
+Reads expected result = MatchResult result (λ x. expected ≡ Ok x)
+    (λ fault. fault ≢ NoMemory → expected ≡ Err fault)
+
+-- a `+` of a query stands for a space
+abbrev pub plus_to_space : ℕ → ℕ
+plus_to_space byte = if byte == 43 then 32 else byte
+
+-- the bytes that a text of a query stands for
+abbrev pub query_bytes : List ℕ → List ℕ
+query_bytes text = percent_decode (map plus_to_space text)
+
+-- a number of entries that may be asked for
+abbrev pub if_limit : Result ℕ NumberFault → Read ℕ
+if_limit (Ok limit) = if nat_lt limit FEWEST || nat_lt MOST limit then Err BadLimit else Ok limit
+if_limit (Err fault) = Err BadLimit
+
+-- how many entries a text asks for
+abbrev pub limit_of : List ℕ → Read ℕ
+limit_of text = if_limit (number_of text)
+
+unfoldable pub with_limit : Words → List ℕ → Read Words
+with_limit words text =
+    if is_some words.limit then Err Twice
+    else limit_of text >>= λ limit. Ok (record words { limit = Some limit })
+
+unfoldable pub with_after : Words → List ℕ → Read Words
+with_after words text =
+    if is_some words.after then Err Twice
+    else Ok (record words { after = Some (query_bytes text) })
+
+unfoldable pub with_conds : Words → List ℕ → Read Words
+with_conds words text =
+    if is_some words.conds then Err Twice
+    else Ok (record words { conds = Some (query_bytes text) })
+
+-- a piece that gives conditions, or means nothing
+unfoldable pub if_conds : Words → List ℕ → Read Words
+if_conds words piece =
+    if starts_with nat_eq piece (codes "where=") then with_conds words (drop 6 piece)
+    else Err Unknown
+
+-- a piece that gives a text
+unfoldable pub with_text : Words → List ℕ → Read Words
+with_text words piece =
+    if starts_with nat_eq piece (codes "after=") then with_after words (drop 6 piece)
+    else if_conds words piece
+
+-- words with one more piece of a query; an empty one says nothing
+unfoldable pub with_piece : Words → List ℕ → Read Words
+with_piece words piece =
+    if length piece == 0 then Ok words
+    else if starts_with nat_eq piece (codes "limit=") then with_limit words (drop 6 piece)
+    else with_text words piece
+
+-- words with the pieces of a query, one after the other
+abbrev pub words_from : Words → List (List ℕ) → Read Words
+words_from words [] = Ok words
+words_from words (piece ∷ pieces) = with_piece words piece >>= λ more. words_from more pieces
+
+-- what stands between the `&`s of a query
+abbrev pub pieces_of : Option (List ℕ) → List (List ℕ)
+pieces_of None = []
+pieces_of (Some query) = parts 38 query
+
+abbrev pub no_words : Words
+no_words = record { limit = None; after = None; conds = None }
+
+-- the words of a query
+unfoldable pub words_in : Option (List ℕ) → Read Words
+words_in query = words_from no_words (pieces_of query)
+
+-- a value that may be left out
+abbrev pub or_else : {A : Type 0} → A → Option A → A
+or_else usual None = usual
+or_else usual (Some x) = x
+
+-- which entries words ask for
+abbrev pub entries_of : Words → Part
+entries_of words = record { limit = or_else USUAL words.limit; after = words.after }
+
+-- which entries words ask for, where no conditions may be
+abbrev pub part_of : Words → Read Part
+part_of words = if is_some words.conds then Err Unknown else Ok (entries_of words)
+
+unfoldable pub peers_of : Words → Read Question
+peers_of words = part_of words >>= λ part. Ok (asks.Peers part)
+
+abbrev pub table_of : List ℕ → Words → Question
+table_of name words = asks.Table name (or_else [] words.conds) (entries_of words)
+
+unfoldable pub filter_of : List ℕ → Words → Read Question
+filter_of name words = part_of words >>= λ part. Ok (asks.Filter name part)
+
+unfoldable pub rank_of : List ℕ → Words → Read Question
+rank_of name words = part_of words >>= λ part. Ok (asks.Rank name part)
+
+-- a ranked list, behind `/api/v1/`
+unfoldable pub ranked_of : List ℕ → Read Words → Read Question
+ranked_of path words =
+    if starts_with nat_eq path (codes "ranks/")
+    then (words >>= λ said. rank_of (percent_decode (drop 6 path)) said)
+    else Err NotFound
+
+-- a list of keys
+unfoldable pub listed_of : List ℕ → Read Words → Read Question
+listed_of path words =
+    if starts_with nat_eq path (codes "filters/")
+    then (words >>= λ said. filter_of (percent_decode (drop 8 path)) said)
+    else ranked_of path words
+
+-- a list of a name
+unfoldable pub named_of : List ℕ → Read Words → Read Question
+named_of path words =
+    if starts_with nat_eq path (codes "tables/")
+    then (words >>= λ said. Ok (table_of (percent_decode (drop 7 path)) said))
+    else listed_of path words
+
+-- behind `/api/v1/`
+unfoldable pub called_of : List ℕ → Read Words → Read Question
+called_of path words =
+    if bytes_eq path (codes "overview") then Ok asks.Overview
+    else if bytes_eq path (codes "peers") then (words >>= peers_of)
+    else named_of path words
+
+-- what a path asks for whose query counts
+unfoldable pub asked_of : List ℕ → Read Words → Read Question
+asked_of path words =
+    if starts_with nat_eq path (codes "/api/v1/") then called_of (drop 8 path) words
+    else Err NotFound
+
+-- what a target asks for; the query of the first three says nothing
+unfoldable pub question_of : List ℕ → Option (List ℕ) → Read Question
+question_of path query =
+    if bytes_eq path (codes "/") then Ok asks.Page
+    else if bytes_eq path (codes "/healthz") then Ok asks.Health
+    else if bytes_eq path (codes "/metrics") then Ok asks.Metrics
+    else asked_of path (words_in query)

@@ -1,0 +1,149 @@
+//! The words of a query.
+
+ghost use Rattle.std.specs.Prelude.{◌≡◌, IfOk};
+ghost use Rattle.std.specs.Option.{option_copied};
+ghost use Rattle.percent_encoding.specs.Percent.{percent_decode};
+ghost use Rattle.web_target.specs.Targets.{Reads, if_conds, limit_of, plus_to_space, query_bytes};
+ghost use Rattle.web_target.specs.Targets.{with_after, with_conds, with_limit, with_piece};
+ghost use Rattle.web_target.specs.Targets.{with_text, words_in};
+
+use crate::question::{FEWEST, MOST, TargetFault, Words};
+use agg_types::{Items, NoMemory};
+use line_words::{next_part, number};
+use percent_encoding::percent_decode;
+use std::alloc::Global;
+
+/// The bytes that a text of a path stands for.
+pub fn path_bytes(alloc: Global, text: &[u8]) -> Result<Items<u8>, NoMemory>
+    ensures { IfOk result (λ bytes. bytes ≡ percent_decode text.now) }
+{
+    let mut bytes = Vec::new(alloc);
+    percent_decode(text).append_to(&mut bytes)?;
+    Ok(Items::from_vec(bytes))
+}
+
+// The bytes that a text of a query stands for.
+fn query_bytes(alloc: Global, text: &[u8]) -> Result<Items<u8>, NoMemory>
+    ensures { IfOk result (λ bytes. bytes ≡ query_bytes text.now) }
+{
+    let mut spaced = Vec::new(alloc);
+    for byte in text {
+        spaced.push(plus_to_space(*byte))?;
+    }
+    path_bytes(alloc, spaced.as_slice())
+}
+
+fn plus_to_space(byte: u8) -> u8
+    ensures { result ≡ plus_to_space byte }
+{
+    if byte == b'+' { b' ' } else { byte }
+}
+
+// How many entries a text asks for.
+fn limit_of(text: &[u8]) -> Result<u64, TargetFault>
+    ensures { result ≡ limit_of text.now }
+{
+    match number(text) {
+        Ok(limit) if FEWEST <= limit && limit <= MOST => Ok(limit),
+        _ => Err(TargetFault::BadLimit),
+    }
+}
+
+#[tactic(auto, unfolding(crate::specs::Targets::with_limit))]
+fn with_limit(words: Words, text: &[u8]) -> Result<Words, TargetFault>
+    ensures { Reads (with_limit words text.now) result }
+{
+    if words.limit.is_some() {
+        return Err(TargetFault::Twice);
+    }
+    let limit = limit_of(text)?;
+    Ok(Words {
+        limit: Some(limit),
+        after: words.after,
+        conds: words.conds,
+    })
+}
+
+#[tactic(auto, unfolding(crate::specs::Targets::with_after))]
+fn with_after(alloc: Global, words: Words, text: &[u8]) -> Result<Words, TargetFault>
+    ensures { Reads (with_after words text.now) result }
+{
+    if words.after.is_some() {
+        return Err(TargetFault::Twice);
+    }
+    let after = query_bytes(alloc, text)?;
+    Ok(Words {
+        limit: words.limit,
+        after: Some(after),
+        conds: words.conds,
+    })
+}
+
+#[tactic(auto, unfolding(crate::specs::Targets::with_conds))]
+fn with_conds(alloc: Global, words: Words, text: &[u8]) -> Result<Words, TargetFault>
+    ensures { Reads (with_conds words text.now) result }
+{
+    if words.conds.is_some() {
+        return Err(TargetFault::Twice);
+    }
+    let conds = query_bytes(alloc, text)?;
+    Ok(Words {
+        limit: words.limit,
+        after: words.after,
+        conds: Some(conds),
+    })
+}
+
+// The words, with one more piece of the query.
+#[tactic(auto, unfolding(crate::specs::Targets::with_piece))]
+fn with_piece(alloc: Global, words: Words, piece: &[u8]) -> Result<Words, TargetFault>
+    ensures { Reads (with_piece words piece.now) result }
+{
+    if piece.is_empty() {
+        return Ok(words);
+    }
+    match piece.strip_prefix(b"limit=") {
+        Some(text) => with_limit(words, text),
+        None => with_text(alloc, words, piece),
+    }
+}
+
+// The words, with one more piece of the query that is no limit.
+#[tactic(auto, unfolding(crate::specs::Targets::with_text))]
+fn with_text(alloc: Global, words: Words, piece: &[u8]) -> Result<Words, TargetFault>
+    ensures { Reads (with_text words piece.now) result }
+{
+    match piece.strip_prefix(b"after=") {
+        Some(text) => with_after(alloc, words, text),
+        None => if_conds(alloc, words, piece),
+    }
+}
+
+#[tactic(auto, unfolding(crate::specs::Targets::if_conds))]
+fn if_conds(alloc: Global, words: Words, piece: &[u8]) -> Result<Words, TargetFault>
+    ensures { Reads (if_conds words piece.now) result }
+{
+    match piece.strip_prefix(b"where=") {
+        Some(text) => with_conds(alloc, words, text),
+        None => Err(TargetFault::Unknown),
+    }
+}
+
+/// The words of a query, which need not be there.
+#[tactic(auto, unfolding(crate::specs::Targets::words_in))]
+pub fn words_in(alloc: Global, query: Option<&[u8]>) -> Result<Words, TargetFault>
+    ensures { Reads (words_in (option_copied query.entry)) result }
+{
+    let mut words = Words {
+        limit: None,
+        after: None,
+        conds: None,
+    };
+    let mut rest = query;
+    while let Some(text) = rest {
+        let (piece, behind) = next_part(text, b'&');
+        words = with_piece(alloc, words, piece)?;
+        rest = behind;
+    }
+    Ok(words)
+}

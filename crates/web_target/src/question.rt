@@ -1,0 +1,87 @@
+ghost use Rattle.std.specs.Prelude.{◌≡◌};
+ghost use Rattle.web_target.specs.declared.question.TargetFault.TheVariants.{NoMemory as Lack};
+
+use agg_types::{Items, NoMemory};
+use thiserror::Error;
+
+/// The fewest entries that may be asked for, the most, and how many come where none are asked for.
+pub const FEWEST: u64 = 1;
+
+pub const MOST: u64 = 10_000;
+
+pub const USUAL: u64 = 1_000;
+
+/// What a target asks for. Names are the bytes that a path's text stands for.
+#[derive(Debug, Drop)]
+pub enum Question {
+    /// The page for people.
+    Page,
+    /// Whether the collector works.
+    Health,
+    /// The figures, for Prometheus.
+    Metrics,
+    /// What the page shows.
+    Overview,
+    /// The peers.
+    Peers(Part),
+    /// Summed rows of a table: those that the conditions choose, which are written as behind the
+    /// name in `show table`.
+    Table {
+        name: Items<u8>,
+        conds: Items<u8>,
+        part: Part,
+    },
+    /// The keys that a standing filter holds.
+    Filter {
+        name: Items<u8>,
+        part: Part,
+    },
+    /// The keys of a ranked list.
+    Rank {
+        name: Items<u8>,
+        part: Part,
+    },
+}
+
+/// Which entries of a list: at most so many, of those behind one, or from the first on.
+#[derive(Debug, Drop)]
+pub struct Part {
+    pub limit: u64,
+    pub after: Option<Items<u8>>,
+}
+
+/// The words of a query so far.
+#[derive(Debug, Drop)]
+pub struct Words {
+    pub limit: Option<u64>,
+    pub after: Option<Items<u8>>,
+    pub conds: Option<Items<u8>>,
+}
+
+/// What is wrong with a target.
+#[derive(Clone, Copy, Debug, PartialEq, Eq, Error)]
+pub enum TargetFault {
+    /// Nothing is at this path.
+    #[error("not found")]
+    NotFound,
+    /// A word of the query has no meaning for this path.
+    #[error("unknown word in the query")]
+    Unknown,
+    /// A word of the query stands there twice.
+    #[error("a word twice in the query")]
+    Twice,
+    /// `limit` is no number from 1 to 10,000.
+    #[error("limit is a number from 1 to 10000")]
+    BadLimit,
+    /// An allocation failed.
+    #[error("out of memory")]
+    NoMemory,
+}
+
+impl From<NoMemory> for TargetFault {
+    ghost from_gives = { λ _ fault. fault ≡ Lack };
+
+    fn from(_: NoMemory) -> TargetFault {
+        TargetFault::NoMemory
+    }
+}

@@ -1,0 +1,165 @@
+//! Targets, read.
+
+ghost use Rattle.std.specs.Prelude.{◌≡◌};
+ghost use Rattle.web_target.specs.declared.question.Words.{Words as Said};
+ghost use Rattle.std.specs.Option.{option_copied};
+ghost use Rattle.web_target.specs.Targets.{Read, Reads, asked_of, called_of, filter_of, listed_of};
+ghost use Rattle.web_target.specs.Targets.{named_of, part_of, peers_of, question_of, rank_of};
+ghost use Rattle.web_target.specs.Targets.{ranked_of, table_of};
+
+use crate::query::{path_bytes, words_in};
+use crate::question::{Part, Question, TargetFault, USUAL, Words};
+use agg_types::Items;
+use std::alloc::Global;
+
+/// What a target asks for: its path, and its query where it has one. Of several faults the first
+/// from the left is told.
+#[tactic(auto, unfolding(crate::specs::Targets::question_of))]
+pub fn read(alloc: Global, path: &[u8], query: Option<&[u8]>) -> Result<Question, TargetFault>
+    ensures { Reads (question_of path.now (option_copied query.entry)) result }
+{
+    if path == b"/".as_slice() {
+        Ok(Question::Page)
+    } else if path == b"/healthz".as_slice() {
+        Ok(Question::Health)
+    } else if path == b"/metrics".as_slice() {
+        Ok(Question::Metrics)
+    } else {
+        asked_of(alloc, path, words_in(alloc, query))
+    }
+}
+
+// What a path asks for whose query counts. A path that asks for nothing is told of first.
+#[tactic(auto, unfolding(crate::specs::Targets::asked_of))]
+fn asked_of(
+    alloc: Global,
+    path: &[u8],
+    words: Result<Words, TargetFault>,
+) -> Result<Question, TargetFault>
+    ensures { (said : Read Said) → Reads said words → Reads (asked_of path.now said) result }
+{
+    match path.strip_prefix(b"/api/v1/") {
+        None => Err(TargetFault::NotFound),
+        Some(behind) => called_of(alloc, behind, words),
+    }
+}
+
+// What a path asks for behind `/api/v1/`.
+#[tactic(auto, unfolding(crate::specs::Targets::called_of))]
+fn called_of(
+    alloc: Global,
+    behind: &[u8],
+    words: Result<Words, TargetFault>,
+) -> Result<Question, TargetFault>
+    ensures { (said : Read Said) → Reads said words → Reads (called_of behind.now said) result }
+{
+    if behind == b"overview".as_slice() {
+        Ok(Question::Overview)
+    } else if behind == b"peers".as_slice() {
+        peers_of(words?)
+    } else {
+        named_of(alloc, behind, words)
+    }
+}
+
+// A list of a name.
+#[tactic(auto, unfolding(crate::specs::Targets::named_of))]
+fn named_of(
+    alloc: Global,
+    behind: &[u8],
+    words: Result<Words, TargetFault>,
+) -> Result<Question, TargetFault>
+    ensures { (said : Read Said) → Reads said words → Reads (named_of behind.now said) result }
+{
+    match behind.strip_prefix(b"tables/") {
+        Some(text) => Ok(table_of(alloc, path_bytes(alloc, text)?, words?)),
+        None => listed_of(alloc, behind, words),
+    }
+}
+
+// A list of keys of a name.
+#[tactic(auto, unfolding(crate::specs::Targets::listed_of))]
+fn listed_of(
+    alloc: Global,
+    behind: &[u8],
+    words: Result<Words, TargetFault>,
+) -> Result<Question, TargetFault>
+    ensures { (said : Read Said) → Reads said words → Reads (listed_of behind.now said) result }
+{
+    match behind.strip_prefix(b"filters/") {
+        Some(text) => filter_of(path_bytes(alloc, text)?, words?),
+        None => ranked_of(alloc, behind, words),
+    }
+}
+
+#[tactic(auto, unfolding(crate::specs::Targets::ranked_of))]
+fn ranked_of(
+    alloc: Global,
+    behind: &[u8],
+    words: Result<Words, TargetFault>,
+) -> Result<Question, TargetFault>
+    ensures { (said : Read Said) → Reads said words → Reads (ranked_of behind.now said) result }
+{
+    match behind.strip_prefix(b"ranks/") {
+        Some(text) => rank_of(path_bytes(alloc, text)?, words?),
+        None => Err(TargetFault::NotFound),
+    }
+}
+
+fn table_of(alloc: Global, name: Items<u8>, words: Words) -> Question
+    ensures { result ≡ table_of name words }
+{
+    let Words {
+        limit,
+        after,
+        conds,
+    } = words;
+    let limit = limit.unwrap_or(USUAL);
+    Question::Table {
+        name,
+        conds: match conds {
+            None => Items::from_vec(Vec::new(alloc)),
+            Some(conds) => conds,
+        },
+        part: Part { limit, after },
+    }
+}
+
+// Which entries are asked for, where no conditions are.
+fn part_of(words: Words) -> Result<Part, TargetFault>
+    ensures { result ≡ part_of words }
+{
+    let Words {
+        limit,
+        after,
+        conds,
+    } = words;
+    if conds.is_some() {
+        return Err(TargetFault::Unknown);
+    }
+    let limit = limit.unwrap_or(USUAL);
+    Ok(Part { limit, after })
+}
+
+#[tactic(auto, unfolding(crate::specs::Targets::peers_of))]
+fn peers_of(words: Words) -> Result<Question, TargetFault>
+    ensures { result ≡ peers_of words }
+{
+    Ok(Question::Peers(part_of(words)?))
+}
+
+#[tactic(auto, unfolding(crate::specs::Targets::filter_of))]
+fn filter_of(name: Items<u8>, words: Words) -> Result<Question, TargetFault>
+    ensures { result ≡ filter_of name words }
+{
+    let part = part_of(words)?;
+    Ok(Question::Filter { name, part })
+}
+
+#[tactic(auto, unfolding(crate::specs::Targets::rank_of))]
+fn rank_of(name: Items<u8>, words: Words) -> Result<Question, TargetFault>
+    ensures { result ≡ rank_of name words }
+{
+    let part = part_of(words)?;
+    Ok(Question::Rank { name, part })
+}

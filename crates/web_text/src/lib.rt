@@ -1,0 +1,28 @@
+//! What the HTTP door tells, as text: figures for Prometheus, and JSON.
+//!
+//! `web_lists` and `web_door` make their texts with it. A `Summary` keeps what the figures and the
+//! page need of a book that was looked at, so that one look serves both for a while. A `Standing`
+//! is what stands of the collector beside the book.
+//!
+//! Promised: of a list of keys exactly the part is told that was asked for (`keys_from`), and the
+//! text of a label's value is exact (`append_label`). What the texts say beside that, tests show.
+//! No clause says that an allocation fails only where there is no memory.
+#![tactic(auto)]
+
+mod labels;
+mod objects;
+mod part;
+mod peers;
+mod prometheus;
+mod shown;
+mod standing;
+mod summary;
+
+pub use labels::append_label;
+pub use objects::Json;
+pub use part::{is_behind, keys_from};
+pub use peers::{AskFault, Entries, begin_list, end_list, peer_list};
+pub use prometheus::figures;
+pub use shown::{overview, put_table};
+pub use standing::{PeerStanding, Standing};
+pub use summary::{FilterSum, RankSum, Summary};

@@ -1,0 +1,79 @@
+//! Lists as JSON: which entries, and the peers.
+
+use crate::objects::Json;
+use crate::shown::put_peer;
+use crate::standing::Standing;
+use crate::summary::Summary;
+use agg_types::{Config, NoMemory};
+use std::alloc::Global;
+
+/// Why a list isn't told.
+#[derive(Clone, Copy, Debug, PartialEq, Eq)]
+pub enum AskFault {
+    /// What it is asked for behind is no key of its table, or no peer.
+    BadKey,
+    /// An allocation failed.
+    NoMemory,
+}
+
+impl From<NoMemory> for AskFault {
+    fn from(_: NoMemory) -> AskFault {
+        AskFault::NoMemory
+    }
+}
+
+/// Which entries of a list: so many at most, of those behind one, or from the first on.
+#[derive(Clone, Copy)]
+pub struct Entries<'a> {
+    pub limit: usize,
+    pub after: Option<&'a [u8]>,
+}
+
+/// Begins a list: of which look, and of which moment it is, in ms.
+pub fn begin_list(json: &mut Json, look: u64, moment: u64) -> Result<(), NoMemory> {
+    json.begin_object()?;
+    json.number("look", look)?;
+    json.number("moment", moment)
+}
+
+/// Ends the entries of a list, and tells whether more follow.
+pub fn end_list(mut json: Json, more: bool) -> Result<Vec<u8>, NoMemory> {
+    json.end_list()?;
+    json.truth("more", more)?;
+    json.end_object()?;
+    Ok(json.into_text())
+}
+
+/// The peers of a configuration, in its order. What is asked for behind one is those after it.
+pub fn peer_list(
+    alloc: Global,
+    config: &Config,
+    summary: &Summary,
+    standing: &Standing,
+    entries: Entries<'_>,
+) -> Result<Vec<u8>, AskFault> {
+    let first = match entries.after {
+        None => 0,
+        Some(name) => match config.peers.position(name) {
+            None => return Err(AskFault::BadKey),
+            Some(place) => place.saturating_add(1),
+        },
+    };
+    let mut json = Json::new(alloc);
+    begin_list(&mut json, summary.look, summary.moment)?;
+    json.begin_list("entries")?;
+    let mut left = entries.limit;
+    let mut more = false;
+    for (place, peer) in standing.peers.as_slice().iter().enumerate().skip(first) {
+        let Some(name) = config.peers.get(place) else {
+            break;
+        };
+        if left == 0 {
+            more = true;
+            break;
+        }
+        left -= 1;
+        put_peer(alloc, &mut json, name.as_slice(), peer, standing.now)?;
+    }
+    Ok(end_list(json, more)?)
+}

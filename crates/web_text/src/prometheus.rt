@@ -1,0 +1,392 @@
+//! Figures in Prometheus's text format.
+
+use crate::labels::append_label;
+use crate::standing::{PeerStanding, Standing};
+use crate::summary::{FilterSum, RankSum, Summary};
+use agg_types::{Config, NoMemory};
+use std::alloc::Global;
+use std::fmt;
+
+/// What comes before each name.
+const PREFIX: &[u8] = b"sesamejoist_";
+
+/// A figure's value.
+#[derive(Clone, Copy)]
+enum Value {
+    Count(u128),
+    /// A time in ms, which is written in seconds.
+    Time(u64),
+}
+
+impl fmt::Display for Value {
+    fn fmt<W: fmt::Write>(&self, f: &mut fmt::Formatter<W>) -> fmt::Result {
+        match self {
+            Value::Count(count) => write!(f, "{count}"),
+            Value::Time(time) => write!(f, "{}.{:03}", *time / 1000, *time % 1000),
+        }
+    }
+}
+
+// A count.
+fn count(count: u64) -> Value {
+    Value::Count(u128::from(count))
+}
+
+/// A figure's name without what comes before it, whether it only grows, and what it is.
+#[derive(Clone, Copy)]
+struct Figure {
+    name: &'static [u8],
+    grows: bool,
+    help: &'static [u8],
+}
+
+fn gauge(name: &'static [u8], help: &'static [u8]) -> Figure {
+    Figure {
+        name,
+        grows: false,
+        help,
+    }
+}
+
+fn counter(name: &'static [u8], help: &'static [u8]) -> Figure {
+    Figure {
+        name,
+        grows: true,
+        help,
+    }
+}
+
+/// A label with its value.
+type Label<'a> = (&'static [u8], &'a [u8]);
+
+/// Figures on their way to text.
+struct Lines {
+    alloc: Global,
+    out: Vec<u8>,
+}
+
+impl Drop for Lines {
+    fn drop(self) {
+        let Lines { alloc: _, out: _ } = self;
+    }
+}
+
+impl Lines {
+    fn into_text(self) -> Vec<u8> {
+        let Lines { alloc: _, out } = self;
+        out
+    }
+
+    fn put(&mut self, text: &[u8]) -> Result<(), NoMemory> {
+        self.out.extend_from_slice(text)?;
+        Ok(())
+    }
+
+    // The two lines before a figure's values.
+    fn head(&mut self, figure: Figure) -> Result<(), NoMemory> {
+        self.put(b"# HELP ")?;
+        self.put(PREFIX)?;
+        self.put(figure.name)?;
+        self.put(b" ")?;
+        self.put(figure.help)?;
+        self.put(b"\n# TYPE ")?;
+        self.put(PREFIX)?;
+        self.put(figure.name)?;
+        if figure.grows {
+            self.put(b" counter\n")
+        } else {
+            self.put(b" gauge\n")
+        }
+    }
+
+    fn labels(&mut self, labels: &[Label<'_>]) -> Result<(), NoMemory> {
+        for (place, (name, value)) in labels.iter().enumerate() {
+            self.put(if place == 0 { b"{" } else { b"," })?;
+            self.put(*name)?;
+            self.put(b"=\"")?;
+            append_label(*value, &mut self.out)?;
+            self.put(b"\"")?;
+        }
+        if labels.is_empty() {
+            Ok(())
+        } else {
+            self.put(b"}")
+        }
+    }
+
+    // A value with its labels.
+    fn value(
+        &mut self,
+        figure: Figure,
+        labels: &[Label<'_>],
+        value: Value,
+    ) -> Result<(), NoMemory> {
+        self.put(PREFIX)?;
+        self.put(figure.name)?;
+        self.labels(labels)?;
+        let text = format!(in self.alloc; " {value}\n")?;
+        self.put(text.as_bytes())
+    }
+
+    // A figure that has one value.
+    fn alone(&mut self, figure: Figure, value: Value) -> Result<(), NoMemory> {
+        self.head(figure)?;
+        self.value(figure, &[], value)
+    }
+}
+
+/// The figures of a collector, of a book that was looked at and of what else stands.
+pub fn figures(
+    alloc: Global,
+    config: &Config,
+    summary: &Summary,
+    standing: &Standing,
+) -> Result<Vec<u8>, NoMemory> {
+    let mut lines = Lines {
+        alloc,
+        out: Vec::new(alloc),
+    };
+    put_collector(&mut lines, summary, standing)?;
+    put_peers(&mut lines, config, standing)?;
+    put_tables(&mut lines, config, summary)?;
+    put_filters(&mut lines, config, summary)?;
+    put_ranks(&mut lines, config, summary)?;
+    Ok(lines.into_text())
+}
+
+// What is told of the collector as a whole.
+fn put_collector(
+    lines: &mut Lines,
+    summary: &Summary,
+    standing: &Standing,
+) -> Result<(), NoMemory> {
+    lines.head(build_info())?;
+    let version = standing.version.as_bytes();
+    lines.value(build_info(), &[(b"version", version)], count(1))?;
+    let late = standing.now.saturating_sub(summary.moment);
+    lines.alone(uptime(), Value::Time(standing.now))?;
+    lines.alone(behind(), Value::Time(late))?;
+    lines.alone(peers_connected(), count(standing.connected as u64))?;
+    lines.alone(updates(), count(standing.updates))?;
+    lines.alone(posts(), count(standing.posts))?;
+    lines.alone(refused(), count(standing.refused))?;
+    lines.alone(waiting(), count(standing.waiting as u64))?;
+    lines.alone(seats(), count(standing.seats))
+}
+
+fn build_info() -> Figure {
+    gauge(b"build_info", b"The version of the collector; always 1.")
+}
+
+fn uptime() -> Figure {
+    gauge(b"uptime_seconds", b"Time since the start.")
+}
+
+fn behind() -> Figure {
+    gauge(
+        b"behind_seconds",
+        b"How far the book that was looked at is behind.",
+    )
+}
+
+fn peers_connected() -> Figure {
+    gauge(b"peers_connected", b"Configured peers that are connected.")
+}
+
+fn updates() -> Figure {
+    counter(
+        b"updates_total",
+        b"Updates of followed tables that were posted.",
+    )
+}
+
+fn posts() -> Figure {
+    counter(b"posts_total", b"Batches that were posted for peers.")
+}
+
+fn refused() -> Figure {
+    counter(
+        b"connections_refused_total",
+        b"Connections that were closed before they were served.",
+    )
+}
+
+fn waiting() -> Figure {
+    gauge(
+        b"connections_waiting",
+        b"Connections whose hello is awaited.",
+    )
+}
+
+fn seats() -> Figure {
+    gauge(b"seats", b"Workers that may post.")
+}
+
+/// What is told of each peer.
+#[derive(Clone, Copy)]
+enum OfPeer {
+    Connected,
+    Since,
+    Updates,
+    LastUpdate,
+    Unfollowed,
+}
+
+impl OfPeer {
+    const ALL: [OfPeer; 5] = [
+        OfPeer::Connected,
+        OfPeer::Since,
+        OfPeer::Updates,
+        OfPeer::LastUpdate,
+        OfPeer::Unfollowed,
+    ];
+
+    fn figure(self) -> Figure {
+        match self {
+            OfPeer::Connected => gauge(b"peer_connected", b"Whether a peer is connected."),
+            OfPeer::Since => gauge(
+                b"peer_state_seconds",
+                b"How long a peer has been connected, or away.",
+            ),
+            OfPeer::Updates => counter(
+                b"peer_updates_total",
+                b"Updates of a peer that were posted.",
+            ),
+            OfPeer::LastUpdate => gauge(
+                b"peer_last_update_seconds",
+                b"How long ago the last update of a peer was posted.",
+            ),
+            OfPeer::Unfollowed => gauge(
+                b"peer_unfollowed_tables",
+                b"Tables of a peer's present or last connection that are passed over.",
+            ),
+        }
+    }
+
+    // What it is of a peer, if it has it.
+    fn of(self, peer: &PeerStanding, now: u64) -> Option<Value> {
+        match self {
+            OfPeer::Connected => Some(count(u64::from(peer.is_connected))),
+            OfPeer::Since => peer
+                .since
+                .map(|since| Value::Time(now.saturating_sub(since))),
+            OfPeer::Updates => Some(count(peer.updates)),
+            OfPeer::LastUpdate => peer
+                .last_update
+                .map(|last| Value::Time(now.saturating_sub(last))),
+            OfPeer::Unfollowed => Some(count(peer.unfollowed as u64)),
+        }
+    }
+}
+
+fn put_peers(lines: &mut Lines, config: &Config, standing: &Standing) -> Result<(), NoMemory> {
+    for of_peer in OfPeer::ALL {
+        let figure = of_peer.figure();
+        lines.head(figure)?;
+        for (place, peer) in standing.peers.as_slice().iter().enumerate() {
+            let Some(name) = config.peers.get(place) else {
+                break;
+            };
+            if let Some(value) = of_peer.of(peer, standing.now) {
+                lines.value(figure, &[(b"peer", name.as_slice())], value)?;
+            }
+        }
+    }
+    Ok(())
+}
+
+fn table_keys() -> Figure {
+    gauge(
+        b"table_keys",
+        b"Keys of a table that some peer has a row of.",
+    )
+}
+
+fn table_size() -> Figure {
+    gauge(
+        b"table_size",
+        b"How many rows of a table each peer may have.",
+    )
+}
+
+fn put_tables(lines: &mut Lines, config: &Config, summary: &Summary) -> Result<(), NoMemory> {
+    lines.head(table_keys())?;
+    for (place, keys) in summary.tables.as_slice().iter().enumerate() {
+        let name = table_name(config, place);
+        lines.value(table_keys(), &[(b"table", name)], count(*keys))?;
+    }
+    lines.head(table_size())?;
+    for table in config.tables.as_slice() {
+        lines.value(
+            table_size(),
+            &[(b"table", table.name.as_slice())],
+            count(table.size),
+        )?;
+    }
+    Ok(())
+}
+
+fn filter_keys() -> Figure {
+    gauge(b"filter_keys", b"Keys that a standing filter holds.")
+}
+
+fn filter_change() -> Figure {
+    gauge(
+        b"filter_next_change_seconds",
+        b"Time until the clock alone changes a filter's set; missing where it never does.",
+    )
+}
+
+fn put_filters(lines: &mut Lines, config: &Config, summary: &Summary) -> Result<(), NoMemory> {
+    lines.head(filter_keys())?;
+    for filter in summary.filters.as_slice() {
+        let labels = filter_labels(config, filter);
+        lines.value(filter_keys(), &labels, count(filter.keys as u64))?;
+    }
+    lines.head(filter_change())?;
+    for filter in summary.filters.as_slice() {
+        if let Some(next) = filter.next {
+            let left = next.saturating_sub(summary.moment);
+            let labels = filter_labels(config, filter);
+            lines.value(filter_change(), &labels, Value::Time(left))?;
+        }
+    }
+    Ok(())
+}
+
+fn rank_top() -> Figure {
+    gauge(b"rank_top_value", b"The first value of a ranked list.")
+}
+
+fn put_ranks(lines: &mut Lines, config: &Config, summary: &Summary) -> Result<(), NoMemory> {
+    lines.head(rank_top())?;
+    for rank in summary.ranks.as_slice() {
+        if let Some((_, value)) = rank.first.as_slice().first() {
+            let labels = rank_labels(config, rank);
+            lines.value(rank_top(), &labels, Value::Count(*value))?;
+        }
+    }
+    Ok(())
+}
+
+// A table's name, by its place.
+fn table_name(config: &Config, place: usize) -> &[u8] {
+    match config.tables.get(place) {
+        None => b"?",
+        Some(table) => table.name.as_slice(),
+    }
+}
+
+fn filter_labels<'a>(config: &'a Config, filter: &'a FilterSum) -> [Label<'a>; 2] {
+    let table = table_name(config, filter.table);
+    [(b"filter", filter.name.as_slice()), (b"table", table)]
+}
+
+fn rank_labels<'a>(config: &'a Config, rank: &'a RankSum) -> [Label<'a>; 3] {
+    let table = table_name(config, rank.table);
+    [
+        (b"column", rank.column.as_bytes()),
+        (b"rank", rank.name.as_slice()),
+        (b"table", table),
+    ]
+}

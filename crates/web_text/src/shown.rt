@@ -1,0 +1,173 @@
+//! What the page shows, as JSON.
+
+use crate::objects::Json;
+use crate::standing::{PeerStanding, Standing};
+use crate::summary::{FilterSum, RankSum, Summary};
+use agg_types::{Config, KeyKind, NoMemory, Shape};
+use std::alloc::Global;
+
+/// What the page shows of a book that was looked at and of what else stands.
+pub fn overview(
+    alloc: Global,
+    config: &Config,
+    summary: &Summary,
+    standing: &Standing,
+) -> Result<Vec<u8>, NoMemory> {
+    let mut json = Json::new(alloc);
+    json.begin_object()?;
+    json.number("look", summary.look)?;
+    json.number("moment", summary.moment)?;
+    json.text("name", config.me.as_slice())?;
+    put_standing(&mut json, standing)?;
+    put_peers(alloc, &mut json, config, standing)?;
+    put_tables(&mut json, config, summary)?;
+    json.begin_list("filters")?;
+    for filter in summary.filters.as_slice() {
+        put_filter(&mut json, config, summary.moment, filter)?;
+    }
+    json.end_list()?;
+    json.begin_list("ranks")?;
+    for rank in summary.ranks.as_slice() {
+        put_rank(&mut json, config, rank)?;
+    }
+    json.end_list()?;
+    json.end_object()?;
+    Ok(json.into_text())
+}
+
+fn put_standing(json: &mut Json, standing: &Standing) -> Result<(), NoMemory> {
+    json.text("version", standing.version.as_bytes())?;
+    json.number("uptime_ms", standing.now)?;
+    json.number("connected", standing.connected as u64)?;
+    json.number("updates", standing.updates)?;
+    json.number("posts", standing.posts)?;
+    json.number("waiting", standing.waiting as u64)?;
+    json.number("refused", standing.refused)?;
+    json.begin_list("updates_per_second")?;
+    for rate in standing.rates.as_slice() {
+        json.number_item(*rate)?;
+    }
+    json.end_list()
+}
+
+/// A peer's state in a word.
+fn state_of(peer: &PeerStanding) -> &'static str {
+    if peer.is_connected {
+        "connected"
+    } else if peer.since.is_some() {
+        "away"
+    } else {
+        "never"
+    }
+}
+
+// How long ago a moment was.
+fn ago(moment: Option<u64>, now: u64) -> Option<u64> {
+    let moment = moment?;
+    Some(now.saturating_sub(moment))
+}
+
+/// Puts a peer, as a member of a list, at so many ms after the start.
+pub(crate) fn put_peer(
+    alloc: Global,
+    json: &mut Json,
+    name: &[u8],
+    peer: &PeerStanding,
+    now: u64,
+) -> Result<(), NoMemory> {
+    json.begin_object()?;
+    json.text("name", name)?;
+    json.text("state", state_of(peer).as_bytes())?;
+    match peer.address {
+        None => json.null("from")?,
+        Some(address) => {
+            let text = format!(in alloc; "{address}")?;
+            json.text("from", text.as_bytes())?;
+        }
+    }
+    json.number_if("since_ms", ago(peer.since, now))?;
+    json.number("updates", peer.updates)?;
+    json.number_if("last_update_ms", ago(peer.last_update, now))?;
+    json.number("unknown_tables", peer.unfollowed as u64)?;
+    json.end_object()
+}
+
+fn put_peers(
+    alloc: Global,
+    json: &mut Json,
+    config: &Config,
+    standing: &Standing,
+) -> Result<(), NoMemory> {
+    json.begin_list("peers")?;
+    for (place, peer) in standing.peers.as_slice().iter().enumerate() {
+        let Some(name) = config.peers.get(place) else {
+            break;
+        };
+        put_peer(alloc, json, name.as_slice(), peer, standing.now)?;
+    }
+    json.end_list()
+}
+
+fn put_tables(json: &mut Json, config: &Config, summary: &Summary) -> Result<(), NoMemory> {
+    json.begin_list("tables")?;
+    for (place, keys) in summary.tables.as_slice().iter().enumerate() {
+        json.begin_object()?;
+        put_table(json, config, place)?;
+        json.number("keys", *keys)?;
+        json.end_object()?;
+    }
+    json.end_list()
+}
+
+/// Puts the name of a table at a place of the configuration, and answers the kind of its keys.
+pub fn put_table(json: &mut Json, config: &Config, place: usize) -> Result<KeyKind, NoMemory> {
+    match config.tables.get(place) {
+        None => {
+            json.null("table")?;
+            Ok(KeyKind::Binary(0))
+        }
+        Some(Shape { name, kind, .. }) => {
+            json.text("table", name.as_slice())?;
+            Ok(*kind)
+        }
+    }
+}
+
+fn put_filter(
+    json: &mut Json,
+    config: &Config,
+    moment: u64,
+    filter: &FilterSum,
+) -> Result<(), NoMemory> {
+    json.begin_object()?;
+    json.text("filter", filter.name.as_slice())?;
+    let kind = put_table(json, config, filter.table)?;
+    json.number("keys", filter.keys as u64)?;
+    let next = match filter.next {
+        None => None,
+        Some(next) => Some(next.saturating_sub(moment)),
+    };
+    json.number_if("next_change_ms", next)?;
+    json.begin_list("first")?;
+    for key in filter.first.as_slice() {
+        json.key_item(kind, key.as_slice())?;
+    }
+    json.end_list()?;
+    json.end_object()
+}
+
+fn put_rank(json: &mut Json, config: &Config, rank: &RankSum) -> Result<(), NoMemory> {
+    json.begin_object()?;
+    json.text("rank", rank.name.as_slice())?;
+    let kind = put_table(json, config, rank.table)?;
+    json.text("column", rank.column.as_bytes())?;
+    json.begin_list("first")?;
+    for (key, value) in rank.first.as_slice() {
+        json.begin_object()?;
+        json.key("key", kind, key.as_slice())?;
+        json.sum("value", *value)?;
+        json.end_object()?;
+    }
+    json.end_list()?;
+    json.end_object()
+}

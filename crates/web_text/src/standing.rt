@@ -1,0 +1,37 @@
+use std::net::SocketAddr;
+
+/// What stands of a peer. Moments are in ms since the start.
+#[derive(Clone, Copy, Debug, PartialEq, Eq)]
+pub struct PeerStanding {
+    pub is_connected: bool,
+    /// Where its present or last connection comes from.
+    pub address: Option<SocketAddr>,
+    /// Since when it is connected, or away; none where it never came.
+    pub since: Option<u64>,
+    /// How many updates its sessions posted.
+    pub updates: u64,
+    /// When the last of them was posted.
+    pub last_update: Option<u64>,
+    /// How many tables of its present or last connection aren't followed.
+    pub unfollowed: usize,
+}
+
+/// What stands of a collector beside its book.
+#[derive(Debug, Drop)]
+pub struct Standing {
+    pub version: &'static str,
+    /// The time since the start, in ms.
+    pub now: u64,
+    pub connected: usize,
+    pub updates: u64,
+    pub posts: u64,
+    pub seats: u64,
+    /// How many connections wait for their hello.
+    pub waiting: usize,
+    /// How many connections were closed before they were served.
+    pub refused: u64,
+    /// Those of the configuration, in its order.
+    pub peers: Vec<PeerStanding>,
+    /// How many updates came in each of the last seconds, the oldest first.
+    pub rates: Vec<u64>,
+}
