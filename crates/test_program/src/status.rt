@@ -1,5 +1,8 @@
 //! What operators ask of the collector itself.
 
+ghost use Rattle.std.specs.Prelude.{◌≡◌, []};
+ghost use Rattle.agg_types.specs.Check.{config_faults};
+
 use crate::scene::Still;
 use agg_types::Config;
 use book::Book;
@@ -50,10 +53,9 @@ pub fn show<R: Print + Wait + AllocGlobal>(
     rt: &R,
     notes: &Notes<'_, Still<R>>,
     config: Config,
-) -> io::Result<()> {
-    if config.check().is_err() {
-        return println!(rt; "a faulty configuration");
-    }
+) -> io::Result<()>
+    requires { config_faults config ≡ [] }
+{
     let Ok(book) = Book::new(rt.alloc(), config, 42) else {
         return println!(rt; "no book");
     };
