@@ -311,6 +311,13 @@ impl<J: Naming, R: Wait + Drop> Hub<J, R> {
         Err((pass, PostFault::NotNext { found, shown }))
     }
 
+    /// Its history is the one that its name names.
+    pub fn has_one_history(&self)
+        ensures { self.now.of ≡ J.book }
+    {
+        let _ = &self.log;
+    }
+
     /// A lens, which has seen nothing yet. It waits for no look, but where no reader is idle and
     /// somebody publishes.
     pub fn lens<W: Wait>(&self, rt: &W) -> Result<Lens, LensFault>

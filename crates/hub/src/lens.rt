@@ -1,8 +1,9 @@
 //! Readers: what they enter, what they have seen, and what they are told.
 
-ghost use Rattle.std.specs.Prelude.{◌≡◌, true, false, if◌then◌else◌, IfSome, MatchBool};
+ghost use Rattle.std.specs.Prelude.{◌≡◌, true, false, if◌then◌else◌, length, IfSome, MatchBool};
 ghost use Rattle.std.specs.Borrow.{sem};
 ghost use Rattle.left_right.specs.Sides.{view};
+ghost use Rattle.hub.specs.History.{AllCount};
 ghost use Rattle.hub.specs.Kept.{IsTold};
 ghost use Rattle.hub.specs.Posts.{Follows};
 ghost use Rattle.hub.specs.Views.{IsBookOf, Learns};
@@ -91,6 +92,13 @@ impl Look<'_> {
     {
         self.lens.book()
     }
+
+    /// A receipt for the list of the book, by which other lenses learn what this one was shown.
+    pub fn receipt(&self) -> Receipt
+        ensures { result ≡ self.now.lens.now.seen }
+    {
+        self.lens.receipt()
+    }
 }
 
 impl Lens {
@@ -106,6 +114,21 @@ impl Lens {
             visit: None,
             front,
         }
+    }
+
+    /// How many events the list has that it has seen. They all count.
+    pub fn len(&self) -> u64
+        ensures length { result ≡ length self.now.seen.events }
+        ensures legal { AllCount self.now.seen.config self.now.seen.opening self.now.seen.events }
+    {
+        self.front.len()
+    }
+
+    // A receipt for the list that it has seen.
+    fn receipt(&self) -> Receipt
+        ensures { result ≡ self.now.seen }
+    {
+        Receipt::of(&self.front)
     }
 
     fn book(&self) -> &Book

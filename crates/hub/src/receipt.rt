@@ -41,7 +41,7 @@ impl Ticket {
     }
 }
 
-/// Which list of events a post showed. Contracts see it as that list.
+/// Which list of events a post showed, or a look found. Contracts see it as that list.
 pub struct Receipt {
     front: Front,
 }
@@ -61,6 +61,15 @@ impl Model for Receipt {
 }
 
 impl Receipt {
+    // The receipt for a list that is shown.
+    pub(crate) fn of(front: &Front) -> Receipt
+        ensures { result ≡ front.now }
+    {
+        Receipt {
+            front: front.again(),
+        }
+    }
+
     pub(crate) fn front(&self) -> &Front
         ensures { result.now ≡ self.now }
     {
@@ -108,8 +117,6 @@ impl Showing {
         if !ticket.front.compare(&self.front) {
             return None;
         }
-        Some(Receipt {
-            front: ticket.front.again(),
-        })
+        Some(Receipt::of(&ticket.front))
     }
 }
