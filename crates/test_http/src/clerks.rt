@@ -115,11 +115,12 @@ fn answer<J: Naming, R: Print + Wait>(
     rt: &R,
     alloc: Global,
     hub: &Hub<J, &R>,
-    looks: &Looks,
+    looks: &Looks<J>,
     paper: &Paper,
     keys: RandomState,
     bytes: &[u8],
 ) -> Result<()> {
+    hub.has_one_history();
     let mut clerk = Clerk {
         rt,
         alloc,
@@ -127,7 +128,6 @@ fn answer<J: Naming, R: Print + Wait>(
         lens: lens(rt, hub)?,
         looks,
         facts: paper,
-        least: 0,
     };
     let mut connection = Connection::new(alloc, keys, Config::default());
     let mut reader = bytes;

@@ -1,6 +1,8 @@
 //! Lists that are asked of a book.
 
-use agg_types::{NoMemory, Select};
+ghost use Rattle.std.specs.Prelude.{◌<◌, length, IfOk};
+
+use agg_types::{Declared, Named, NoMemory, Select};
 use book::Book;
 use show_clear::{Command, CommandFault, Question as Asked, parse};
 use std::alloc::Global;
@@ -48,19 +50,30 @@ pub fn entries_of(part: &Part) -> Entries<'_> {
     }
 }
 
-/// The list that a question asks of a book that this look found. Other questions ask for none.
+/// The list that a question asks of a book that answers for so many events. Other questions ask for
+/// none.
 pub fn list_of(
     alloc: Global,
     book: &Book,
-    look: u64,
+    events: u64,
     question: &Question,
 ) -> Result<Vec<u8>, ListFault> {
     match question {
         Question::Table { name, conds, part } => {
-            table_of(alloc, book, look, name.as_slice(), conds.as_slice(), part)
+            table_of(alloc, book, events, name.as_slice(), conds.as_slice(), part)
         }
-        Question::Filter { name, part } => filter_of(alloc, book, look, name.as_slice(), part),
-        Question::Rank { name, part } => rank_of(alloc, book, look, name.as_slice(), part),
+        Question::Filter { name, part } => filter_of(alloc, book, events, name.as_slice(), part),
+        Question::Rank { name, part } => rank_of(alloc, book, events, name.as_slice(), part),
+        _ => Err(ListFault::NoSuch),
+    }
+}
+
+// The place of a declared name.
+fn place_of<T: Named>(entries: &Declared<T>, name: &[u8]) -> Result<usize, ListFault>
+    ensures { IfOk result (λ place. place < length entries.now) }
+{
+    match entries.position(name) {
+        Some(place) if place < entries.len() => Ok(place),
         _ => Err(ListFault::NoSuch),
     }
 }
@@ -68,56 +81,41 @@ pub fn list_of(
 fn filter_of(
     alloc: Global,
     book: &Book,
-    look: u64,
+    events: u64,
     name: &[u8],
     part: &Part,
 ) -> Result<Vec<u8>, ListFault> {
-    let filters = &book.config().filters;
-    match filters.position(name) {
-        Some(place) if place < filters.len() => {
-            Ok(filter_list(alloc, book, look, place, entries_of(part))?)
-        }
-        _ => Err(ListFault::NoSuch),
-    }
+    let place = place_of(&book.config().filters, name)?;
+    Ok(filter_list(alloc, book, events, place, entries_of(part))?)
 }
 
 fn rank_of(
     alloc: Global,
     book: &Book,
-    look: u64,
+    events: u64,
     name: &[u8],
     part: &Part,
 ) -> Result<Vec<u8>, ListFault> {
-    let ranks = &book.config().ranks;
-    match ranks.position(name) {
-        Some(place) if place < ranks.len() => {
-            Ok(rank_list(alloc, book, look, place, entries_of(part))?)
-        }
-        _ => Err(ListFault::NoSuch),
-    }
+    let place = place_of(&book.config().ranks, name)?;
+    Ok(rank_list(alloc, book, events, place, entries_of(part))?)
 }
 
 fn table_of(
     alloc: Global,
     book: &Book,
-    look: u64,
+    events: u64,
     name: &[u8],
     conds: &[u8],
     part: &Part,
 ) -> Result<Vec<u8>, ListFault> {
-    let tables = &book.config().tables;
-    match tables.position(name) {
-        Some(place) if place < tables.len() => {
-            let entries = entries_of(part);
-            match selection(alloc, book, name, conds)? {
-                Select::All => Ok(table_list(alloc, book, look, place, &[], entries)?),
-                Select::Conds(conds) => {
-                    Ok(table_list(alloc, book, look, place, conds.as_slice(), entries)?)
-                }
-                Select::One(key) => Ok(row_list(alloc, book, look, place, &key)?),
-            }
+    let place = place_of(&book.config().tables, name)?;
+    let entries = entries_of(part);
+    match selection(alloc, book, name, conds)? {
+        Select::All => Ok(table_list(alloc, book, events, place, &[], entries)?),
+        Select::Conds(conds) => {
+            Ok(table_list(alloc, book, events, place, conds.as_slice(), entries)?)
         }
-        _ => Err(ListFault::NoSuch),
+        Select::One(key) => Ok(row_list(alloc, book, events, place, &key)?),
     }
 }
 

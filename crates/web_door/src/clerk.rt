@@ -11,8 +11,9 @@ use agg_types::{Config, NoMemory};
 use bytes::Bytes;
 use http::{Method, Request, StatusCode};
 use http_server::{Response, Service};
-use hub::Lens;
+use hub::{Lens, Naming};
 use std::alloc::{AllocError, Global};
+use std::marker::PhantomData;
 use std::sync::{Arc, Wait};
 use web_lists::summed_up;
 use web_page::PAGE;
@@ -39,19 +40,18 @@ impl From<AllocError> for Refusal {
     }
 }
 
-/// Who answers the requests of a connection.
-pub struct Clerk<'a, R, F> {
+/// Who answers the requests of a connection, by a lens of the hub of this name.
+pub struct Clerk<'a, J: Naming, R, F> {
     pub rt: &'a R,
     pub alloc: Global,
     pub config: &'a Config,
     pub lens: Lens,
-    pub looks: &'a Looks,
+    pub looks: &'a Looks<J>,
     pub facts: &'a F,
-    /// The number of the look that was answered last; 0 before the first.
-    pub least: u64,
+    pub ghost of: { lens.seen.of ≡ J.book },
 }
 
-impl<'a, R, F> Drop for Clerk<'a, R, F> {
+impl<'a, J: Naming, R, F> Drop for Clerk<'a, J, R, F> {
     fn drop(self) {
         let Clerk {
             rt: _,
@@ -60,7 +60,6 @@ impl<'a, R, F> Drop for Clerk<'a, R, F> {
             lens: _,
             looks: _,
             facts: _,
-            least: _,
         } = self;
     }
 }
@@ -124,46 +123,51 @@ fn made(kind: Kind, text: Result<Vec<u8>, Refusal>) -> Reply {
     }
 }
 
-impl<'a, R: Wait, F: Facts> Clerk<'a, R, F> {
+impl<'a, J: Naming, R: Wait, F: Facts> Clerk<'a, J, R, F> {
     // The list that a question asks of the book, over one look.
     #[tactic(auto, using(crate::proofs::Later::follows_self))]
     fn look(&mut self, question: &Question) -> Result<Vec<u8>, Refusal>
         ensures { Follows self.old.lens.seen self.new.lens.seen }
     {
-        let mut turn = self.looks.turn(self.rt);
-        let Some(number) = turn.take(self.facts.now()) else {
+        if !self.looks.take(self.rt, self.facts.now()) {
             return Err(Refusal::Busy);
-        };
+        }
         let Some(look) = self.lens.look() else {
             return Err(Refusal::Busy);
         };
-        drop(turn);
-        self.least = number;
-        match list_of(self.alloc, look.book(), number, question) {
+        let events = look.receipt().len();
+        match list_of(self.alloc, look.book(), events, question) {
             Ok(text) => Ok(text),
             Err(fault) => Err(Refusal::List(fault)),
         }
     }
 
-    // What a look shows of the whole book.
+    // What a look shows of the whole book, to be shared.
     #[tactic(auto, using(crate::proofs::Later::follows_self))]
-    fn sum_up(&mut self) -> Result<Summary, Refusal>
+    fn sum_up(&mut self) -> Result<Shared<J>, Refusal>
         ensures { Follows self.old.lens.seen self.new.lens.seen }
     {
-        let mut turn = self.looks.turn(self.rt);
-        let Some(number) = turn.take(self.facts.now()) else {
+        let at = self.facts.now();
+        if !self.looks.take(self.rt, at) {
             return Err(Refusal::Busy);
-        };
+        }
         let Some(look) = self.lens.look() else {
             return Err(Refusal::Busy);
         };
-        drop(turn);
-        self.least = number;
-        let summary = summed_up(self.alloc, look.book(), number)?;
-        Ok(summary)
+        let receipt = look.receipt();
+        let summary = summed_up(self.alloc, look.book(), receipt.len())?;
+        let Ok(summary) = Arc::new(self.alloc, summary) else {
+            return Err(Refusal::List(ListFault::NoMemory));
+        };
+        Ok(Shared {
+            at,
+            summary,
+            receipt,
+            hub: PhantomData,
+        })
     }
 
-    // The summary that is shared, or a new one.
+    // The summary that is shared, or a new one. The lens has seen its list then.
     #[tactic(auto, using(crate::proofs::Later::follows_self))]
     fn summary(&mut self) -> Result<Arc<Summary, Global>, Refusal>
         ensures { Follows self.old.lens.seen self.new.lens.seen }
@@ -172,18 +176,15 @@ impl<'a, R: Wait, F: Facts> Clerk<'a, R, F> {
         let now = self.facts.now();
         let shared = &mut *guard;
         if let Some(shared) = shared
-            && shared.is_fresh(now, self.least)
+            && shared.is_fresh(now, self.lens.len())
         {
-            self.least = shared.summary.look;
+            self.lens.learn(&shared.receipt);
             return Ok(Arc::try_clone(&shared.summary)?);
         }
-        let summary = match Arc::new(self.alloc, self.sum_up()?) {
-            Ok(summary) => summary,
-            Err(_) => return Err(Refusal::List(ListFault::NoMemory)),
-        };
-        let mine = Arc::try_clone(&summary)?;
-        *shared = Some(Shared { at: now, summary });
-        Ok(mine)
+        let mine = self.sum_up()?;
+        let summary = Arc::try_clone(&mine.summary)?;
+        *shared = Some(mine);
+        Ok(summary)
     }
 
     // A text of the shared summary and what else stands.
@@ -280,7 +281,7 @@ impl<'a, R: Wait, F: Facts> Clerk<'a, R, F> {
     }
 }
 
-impl<'a, R: Wait, F: Facts> Service for Clerk<'a, R, F> {
+impl<'a, J: Naming, R: Wait, F: Facts> Service for Clerk<'a, J, R, F> {
     ghost use Rattle.hub.specs.Posts.{Follows};
 
     ghost answers = { λ old request response new. Follows old.lens.seen new.lens.seen };

@@ -1,7 +1,11 @@
 //! What bounds the answers of all connections.
 
+ghost use Rattle.std.specs.Prelude.{◌≡◌};
+
 use crate::budget::{Budget, SECOND};
+use hub::{Naming, Receipt};
 use std::alloc::Global;
+use std::marker::PhantomData;
 use std::sync::atomic::{AtomicU64, Ordering};
 use std::sync::{Arc, Mutex, MutexGuard, Wait};
 use web_text::Summary;
@@ -9,56 +13,37 @@ use web_text::Summary;
 /// How many answers are made at once.
 const MOST_ANSWERS: u64 = 4;
 
-/// The numbers of looks, and how many may be made.
+/// A summary with the moment at which it was made, in ms, and a receipt for the list of its book,
+/// which is one of the hub of this name.
 #[derive(Drop)]
-pub struct Turns {
-    budget: Budget,
-    number: u64,
-}
-
-impl Turns {
-    /// The number of one more look at a moment, in ms, if it may be made. Whoever enters a copy of
-    /// the book before it gives the lock back has a list that is no shorter than those of looks
-    /// with a lesser number.
-    pub fn take(&mut self, now: u64) -> Option<u64> {
-        if !self.budget.take(now) {
-            return None;
-        }
-        self.number = self.number.saturating_add(1);
-        Some(self.number)
-    }
-}
-
-/// A summary with the moment at which it was made, in ms.
-#[derive(Drop)]
-pub struct Shared {
+pub struct Shared<J: Naming> {
     pub at: u64,
     pub summary: Arc<Summary, Global>,
+    pub receipt: Receipt,
+    pub hub: PhantomData<J>,
+    pub ghost of: { receipt.of ≡ J.book },
 }
 
-impl Shared {
-    /// Whether it may be used at a moment, in ms, where looks before this one were answered.
-    pub fn is_fresh(&self, now: u64, least: u64) -> bool {
-        now.saturating_sub(self.at) < SECOND && self.summary.look >= least
+impl<J: Naming> Shared<J> {
+    /// Whether it may be used at a moment, in ms, by a lens that has seen so many events.
+    pub fn is_fresh(&self, now: u64, seen: u64) -> bool {
+        now.saturating_sub(self.at) < SECOND && self.receipt.len() >= seen
     }
 }
 
-/// What bounds the answers of all connections, and the look that they share.
+/// What bounds the answers of all connections to a hub, and the look that they share.
 #[derive(Drop)]
-pub struct Looks {
-    turns: Mutex<Turns>,
-    shared: Mutex<Option<Shared>>,
+pub struct Looks<J: Naming> {
+    budget: Mutex<Budget>,
+    shared: Mutex<Option<Shared<J>>>,
     answers: AtomicU64,
 }
 
-impl Looks {
+impl<J: Naming> Looks<J> {
     /// No look was made yet. Takes no memory.
-    pub fn new() -> Looks {
+    pub fn new() -> Looks<J> {
         Looks {
-            turns: Mutex::new(Turns {
-                budget: Budget::new(),
-                number: 0,
-            }),
+            budget: Mutex::new(Budget::new()),
             shared: Mutex::new(None),
             answers: AtomicU64::new(0),
         }
@@ -78,13 +63,14 @@ impl Looks {
         self.answers.fetch_sub(1, Ordering::SeqCst);
     }
 
-    /// The turn to look.
-    pub(crate) fn turn<R: Wait>(&self, rt: &R) -> MutexGuard<'_, Turns> {
-        self.turns.lock(rt)
+    /// Whether one more look may be made at a moment, in ms; then it is counted.
+    pub(crate) fn take<R: Wait>(&self, rt: &R, now: u64) -> bool {
+        let mut budget = self.budget.lock(rt);
+        budget.take(now)
     }
 
     /// The look that is shared.
-    pub(crate) fn share<R: Wait>(&self, rt: &R) -> MutexGuard<'_, Option<Shared>> {
+    pub(crate) fn share<R: Wait>(&self, rt: &R) -> MutexGuard<'_, Option<Shared<J>>> {
         self.shared.lock(rt)
     }
 }

@@ -24,7 +24,7 @@ fn key_after(alloc: Global, kind: KeyKind, after: Option<&[u8]>) -> Result<Optio
 pub fn filter_list(
     alloc: Global,
     book: &Book,
-    look: u64,
+    events: u64,
     place: usize,
     entries: Entries<'_>,
 ) -> Result<Vec<u8>, AskFault>
@@ -32,7 +32,7 @@ pub fn filter_list(
 {
     let filter = &book.config().filters.as_slice()[place];
     let mut json = Json::new(alloc);
-    begin_list(&mut json, look, book.moment())?;
+    begin_list(&mut json, events, book.moment())?;
     json.text("filter", filter.name.as_slice())?;
     let kind = put_table(&mut json, book.config(), filter.table)?;
     let after = key_after(alloc, kind, entries.after)?;
@@ -52,7 +52,7 @@ pub fn filter_list(
 pub fn rank_list(
     alloc: Global,
     book: &Book,
-    look: u64,
+    events: u64,
     place: usize,
     entries: Entries<'_>,
 ) -> Result<Vec<u8>, AskFault>
@@ -60,7 +60,7 @@ pub fn rank_list(
 {
     let rank = &book.config().ranks.as_slice()[place];
     let mut json = Json::new(alloc);
-    begin_list(&mut json, look, book.moment())?;
+    begin_list(&mut json, events, book.moment())?;
     json.text("rank", rank.name.as_slice())?;
     let kind = put_table(&mut json, book.config(), rank.table)?;
     json.text("column", rank.col.name().as_bytes())?;
@@ -113,7 +113,7 @@ fn put_row(json: &mut Json, shape: &Shape, key: &Key, sums: &Summed) -> Result<(
 pub fn table_list(
     alloc: Global,
     book: &Book,
-    look: u64,
+    events: u64,
     place: usize,
     conds: &[Cond],
     entries: Entries<'_>,
@@ -123,7 +123,7 @@ pub fn table_list(
     let shape = &book.config().tables.as_slice()[place];
     let after = key_after(alloc, shape.kind, entries.after)?;
     let mut json = Json::new(alloc);
-    begin_list(&mut json, look, book.moment())?;
+    begin_list(&mut json, events, book.moment())?;
     json.text("table", shape.name.as_slice())?;
     json.number("keys", book.used(place))?;
     json.begin_list("entries")?;
@@ -147,7 +147,7 @@ pub fn table_list(
 pub fn row_list(
     alloc: Global,
     book: &Book,
-    look: u64,
+    events: u64,
     place: usize,
     key: &Key,
 ) -> Result<Vec<u8>, AskFault>
@@ -155,7 +155,7 @@ pub fn row_list(
 {
     let shape = &book.config().tables.as_slice()[place];
     let mut json = Json::new(alloc);
-    begin_list(&mut json, look, book.moment())?;
+    begin_list(&mut json, events, book.moment())?;
     json.text("table", shape.name.as_slice())?;
     json.number("keys", book.used(place))?;
     json.begin_list("entries")?;

@@ -10,8 +10,8 @@ use web_text::{FilterSum, RankSum, Summary};
 /// How many keys of a filter, and of a ranked list, a summary keeps at most.
 const MOST_KEYS: usize = 20;
 
-/// Sums a book up that this look found.
-pub fn summed_up(alloc: Global, book: &Book, look: u64) -> Result<Summary, NoMemory> {
+/// Sums a book up that answers for so many events.
+pub fn summed_up(alloc: Global, book: &Book, events: u64) -> Result<Summary, NoMemory> {
     let mut tables = Vec::new(alloc);
     for table in 0..book.config().tables.len() {
         tables.push(book.used(table))?;
@@ -25,7 +25,7 @@ pub fn summed_up(alloc: Global, book: &Book, look: u64) -> Result<Summary, NoMem
         ranks.push(rank_sum(alloc, book, place, rank)?)?;
     }
     Ok(Summary {
-        look,
+        events,
         moment: book.moment(),
         tables,
         filters,

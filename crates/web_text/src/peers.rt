@@ -29,10 +29,10 @@ pub struct Entries<'a> {
     pub after: Option<&'a [u8]>,
 }
 
-/// Begins a list: of which look, and of which moment it is, in ms.
-pub fn begin_list(json: &mut Json, look: u64, moment: u64) -> Result<(), NoMemory> {
+/// Begins a list of a book: how many events that answers for, and its moment, in ms.
+pub fn begin_list(json: &mut Json, events: u64, moment: u64) -> Result<(), NoMemory> {
     json.begin_object()?;
-    json.number("look", look)?;
+    json.number("events", events)?;
     json.number("moment", moment)
 }
 
@@ -60,7 +60,7 @@ pub fn peer_list(
         },
     };
     let mut json = Json::new(alloc);
-    begin_list(&mut json, summary.look, summary.moment)?;
+    begin_list(&mut json, summary.events, summary.moment)?;
     json.begin_list("entries")?;
     let mut left = entries.limit;
     let mut more = false;

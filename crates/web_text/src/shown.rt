@@ -15,7 +15,7 @@ pub fn overview(
 ) -> Result<Vec<u8>, NoMemory> {
     let mut json = Json::new(alloc);
     json.begin_object()?;
-    json.number("look", summary.look)?;
+    json.number("events", summary.events)?;
     json.number("moment", summary.moment)?;
     json.text("name", config.me.as_slice())?;
     put_standing(&mut json, standing)?;

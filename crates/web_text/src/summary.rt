@@ -28,8 +28,8 @@ pub struct RankSum {
 /// What the figures and the page need of a book that was looked at.
 #[derive(Debug, Drop)]
 pub struct Summary {
-    /// The number of the look.
-    pub look: u64,
+    /// How many events it answers for: of two books of one collector the one with more is later.
+    pub events: u64,
     /// The moment of the book's clock, in ms.
     pub moment: u64,
     /// How many keys each table has.
