@@ -43,7 +43,7 @@ use Rattle.serve.specs.Traffic.{Traffic, so_far}
 use Rattle.serve.specs.Turns.{WroteFront}
 use Rattle.serve.specs.declared.admin.Answered.{Answered}
 use Rattle.serve.specs.declared.admin.Worker.{Worker}
-use Rattle.serve.specs.declared.desk.Desk.{Desk}
+use Rattle.serve.specs.declared.poster.Poster.{Poster}
 use Rattle.serve.specs.declared.faults.LineFault.{LineFault}
 use Rattle.serve.specs.declared.faults.LineFault.TheVariants as faults
 use Rattle.serve.specs.declared.served.Cause.{Cause}
@@ -102,12 +102,12 @@ pub lens_follows : (hub : Beginning) (lens : Seeing) → lens ≡ record { seen 
 lens_follows hub lens is = subst (λ (b : Beginning). Follows hub b)
     (sym (ap (λ (s : Seeing). s.seen) is)) (follows_self hub)
 
--- ---- an admin's desk and lens
+-- ---- an admin's poster and lens
 
 -- nothing was told
-pub learned_none : (hub : Beginning) (seat : ℕ) (worker : Worker) → worker.desk.pass.seat ≡ seat
+pub learned_none : (hub : Beginning) (seat : ℕ) (worker : Worker) → worker.poster.pass.seat ≡ seat
     → Follows hub worker.lens.seen
-    → HasTold hub worker.desk [] 0 → HasLearned hub hub seat worker []
+    → HasTold hub worker.poster [] 0 → HasLearned hub hub seat worker []
 learned_none hub seat worker at sees told = record {
   at = at;
   sees = sees;
@@ -118,22 +118,22 @@ learned_none hub seat worker at sees told = record {
 
 -- its lens has seen more
 pub learned_later : (hub since : Beginning) (seat : ℕ) (old new : Worker) (whats : List What)
-    → new.desk ≡ old.desk
+    → new.poster ≡ old.poster
     → Follows old.lens.seen new.lens.seen → HasLearned hub since seat old whats
     → HasLearned hub since seat new whats
-learned_later hub since seat old new whats desk later learned = record {
-  at = ap (λ (d : Desk). d.pass.seat) desk ∙ learned.at;
+learned_later hub since seat old new whats poster later learned = record {
+  at = ap (λ (d : Poster). d.pass.seat) poster ∙ learned.at;
   sees = follows_on since old.lens.seen new.lens.seen learned.sees later;
-  told = subst (λ (d : Desk). HasTold hub d whats 0) (sym desk) learned.told;
+  told = subst (λ (d : Poster). HasTold hub d whats 0) (sym poster) learned.told;
   shows = shows_on seat whats old.lens.seen new.lens.seen learned.shows later;
 }
 
 pub learned_same : (hub since : Beginning) (seat : ℕ) (old new : Worker) (whats : List What)
-    → new.desk ≡ old.desk
+    → new.poster ≡ old.poster
     → new.lens.seen ≡ old.lens.seen → HasLearned hub since seat old whats
     → HasLearned hub since seat new whats
-learned_same hub since seat old new whats desk lens learned =
-    learned_later hub since seat old new whats desk
+learned_same hub since seat old new whats poster lens learned =
+    learned_later hub since seat old new whats poster
     (subst (λ (b : Beginning). Follows old.lens.seen b) (sym lens) (follows_self old.lens.seen))
     learned
 
@@ -149,17 +149,17 @@ learned_here hub since seat worker whats learned = record {
 
 -- what was told is learned
 pub learned_more : (hub since : Beginning) (seat : ℕ) (old new : Worker) (whats : List What)
-    → new.desk.pass.seat ≡ seat
+    → new.poster.pass.seat ≡ seat
     → Follows since old.lens.seen → Follows old.lens.seen new.lens.seen
-    → HasTold hub new.desk whats 0
-    → IfSome new.desk.last (λ list. Follows list new.lens.seen)
+    → HasTold hub new.poster whats 0
+    → IfSome new.poster.last (λ list. Follows list new.lens.seen)
     → HasLearned hub since seat new whats
 learned_more hub since seat old new whats at sees kept told learned = record {
   at = at;
   sees = follows_on since old.lens.seen new.lens.seen sees kept;
   told = told;
   shows = subst (λ (s : ℕ). ShowsTold s whats new.lens.seen) at
-      (shows_last new.desk.pass.seat whats new.desk.last new.lens.seen told.last learned);
+      (shows_last new.poster.pass.seat whats new.poster.last new.lens.seen told.last learned);
 }
 
 -- a batch of one event
@@ -204,14 +204,14 @@ replied_kept book line change text says =
 -- a line that was answered over a look
 pub looked : (hub since : Beginning) (seat : ℕ) (old new : Worker) (whats : List What)
     (line : List ℕ) (book : State) (answered : Answered) (seen : Beginning)
-    → new.desk ≡ old.desk → new.lens.seen ≡ seen → Follows old.lens.seen seen → IsBookOf book seen
+    → new.poster ≡ old.poster → new.lens.seen ≡ seen → Follows old.lens.seen seen → IsBookOf book seen
     → Replies book (kept_of line) answered.change answered.text.items → HasNoEnd line
     → quits line ≡ false → HasLearned hub since seat old whats
     → HasLooked hub since seat new whats line answered
-looked hub since seat old new whats line book answered seen desk same later stands says whole
+looked hub since seat old new whats line book answered seen poster same later stands says whole
     stays learned =
     let now : HasLearned hub since seat new whats =
-    learned_later hub since seat old new whats desk
+    learned_later hub since seat old new whats poster
     (subst (λ (b : Beginning). Follows old.lens.seen b) (sym same) later) learned in record {
       learned = learned_here hub since seat new whats now;
       is = record {
@@ -251,7 +251,7 @@ line_goes_on earlier line rest = ap (λ xs. lines_in earlier ++ xs) (sym (append
 pub stops_refused : (hub : Beginning) (seat : ℕ) (old new : Worker) (rest : List ℕ)
     (start : Traffic) (given before after : Option (List ℕ)) (fault : PostFault)
     → (w : Works hub seat old rest start (so_far given before))
-    → HasTold hub new.desk (changes_in w.replies) (stored_of fault 1)
+    → HasTold hub new.poster (changes_in w.replies) (stored_of fault 1)
     → Appends before after [] → Stops hub seat new start (so_far given after) (Post fault)
 stops_refused hub seat old new rest start given before after fault w told none = record {
   bytes = lines_in w.replies ++ (w.line ++ rest);
@@ -275,7 +275,7 @@ stops_refused hub seat old new rest start given before after fault w told none =
 pub stops_unseen : (hub : Beginning) (seat : ℕ) (old new : Worker) (rest : List ℕ)
     (start : Traffic) (given before after : Option (List ℕ))
     → (w : Works hub seat old rest start (so_far given before))
-    → HasTold hub new.desk (changes_in w.replies) 0
+    → HasTold hub new.poster (changes_in w.replies) 0
     → Appends before after [] → Stops hub seat new start (so_far given after) Look
 stops_unseen hub seat old new rest start given before after w told none = record {
   bytes = lines_in w.replies ++ (w.line ++ rest);
@@ -342,17 +342,17 @@ works_piece hub seat worker piece start given after taken gives w = record {
   };
 }
 
--- the same desk, lens and line
+-- the same poster, lens and line
 pub works_alike : (hub : Beginning) (seat : ℕ) (old new : Worker) (rest : List ℕ)
-    (start now : Traffic) → new.desk ≡ old.desk
+    (start now : Traffic) → new.poster ≡ old.poster
     → new.lens.seen ≡ old.lens.seen → new.line.bytes.items ≡ old.line.bytes.items
     → Works hub seat old rest start now
     → Works hub seat new rest start now
-works_alike hub seat old new rest start now desk lens line w = record {
+works_alike hub seat old new rest start now poster lens line w = record {
   replies = w.replies;
   line = w.line;
   are = w.are;
-  learned = learned_same hub (seen_by hub w.replies) seat old new (changes_in w.replies) desk lens
+  learned = learned_same hub (seen_by hub w.replies) seat old new (changes_in w.replies) poster lens
       w.learned;
   keeps = line ∙ w.keeps;
   unended = w.unended;
@@ -379,29 +379,29 @@ works_none hub seat worker start line learned = record {
 -- bytes couldn't be kept
 pub stops_unkept : (hub : Beginning) (seat : ℕ) (old new : Worker) (rest : List ℕ)
     (start now : Traffic) (fault : PostFault)
-    → new.desk ≡ old.desk → stored_of fault 1 ≡ 0
+    → new.poster ≡ old.poster → stored_of fault 1 ≡ 0
     → Works hub seat old rest start now
     → Stops hub seat new start now (Post fault)
-stops_unkept hub seat old new rest start now fault desk none w =
-    let told : HasTold hub new.desk (changes_in w.replies) 0 =
-    subst (λ (d : Desk). HasTold hub d (changes_in w.replies) 0) (sym desk) w.learned.told in
+stops_unkept hub seat old new rest start now fault poster none w =
+    let told : HasTold hub new.poster (changes_in w.replies) 0 =
+    subst (λ (d : Poster). HasTold hub d (changes_in w.replies) 0) (sym poster) w.learned.told in
     stops_refused hub seat old new rest start now.given now.taken now.taken fault w
-    (subst (λ (n : ℕ). HasTold hub new.desk (changes_in w.replies) n) (sym none) told)
+    (subst (λ (n : ℕ). HasTold hub new.poster (changes_in w.replies) n) (sym none) told)
     (wrote_none now.taken)
 
 -- bytes of a line that hasn't ended were kept
 pub works_kept : (hub : Beginning) (seat : ℕ) (old new : Worker) (rest : List ℕ)
-    (start now : Traffic) → new.desk ≡ old.desk
+    (start now : Traffic) → new.poster ≡ old.poster
     → new.lens.seen ≡ old.lens.seen → HasNoEnd rest
     → ((line : List ℕ) → old.line.bytes.items ≡ kept_of line
     → new.line.bytes.items ≡ kept_of (line ++ rest))
     → Works hub seat old rest start now
     → Works hub seat new [] start now
-works_kept hub seat old new rest start now desk lens whole keeps w = record {
+works_kept hub seat old new rest start now poster lens whole keeps w = record {
   replies = w.replies;
   line = w.line ++ rest;
   are = w.are;
-  learned = learned_same hub (seen_by hub w.replies) seat old new (changes_in w.replies) desk lens
+  learned = learned_same hub (seen_by hub w.replies) seat old new (changes_in w.replies) poster lens
       w.learned;
   keeps = keeps w.line w.keeps;
   unended = none_in_both w.line rest w.unended whole;
@@ -415,19 +415,19 @@ works_kept hub seat old new rest start now desk lens whole keeps w = record {
 -- a line that ended was obeyed, and the next one begins
 pub works_obeyed : (hub : Beginning) (seat : ℕ) (old mid new : Worker) (bytes rest : List ℕ)
     (start : Traffic) (given before after : Option (List ℕ))
-    (reply : Reply) → new.desk ≡ mid.desk → new.lens.seen ≡ mid.lens.seen
+    (reply : Reply) → new.poster ≡ mid.poster → new.lens.seen ≡ mid.lens.seen
     → new.line.bytes.items ≡ []
     → (w : Works hub seat old (bytes ++ 10 ∷ rest) start (so_far given before))
     → HasObeyed hub (seen_by hub w.replies) seat mid (changes_in w.replies) (w.line ++ bytes)
     reply
     → Appends before after reply.text
     → Works hub seat new rest start (so_far given after)
-works_obeyed hub seat old mid new bytes rest start given before after reply desk lens
+works_obeyed hub seat old mid new bytes rest start given before after reply poster lens
     cleared w obeyed wrote = record {
       replies = reply ∷ w.replies;
       line = [];
       are = (obeyed.is, w.are);
-      learned = learned_same hub reply.seen seat mid new (changes_in (reply ∷ w.replies)) desk
+      learned = learned_same hub reply.seen seat mid new (changes_in (reply ∷ w.replies)) poster
           lens obeyed.learned;
       keeps = cleared;
       unended = refl;
@@ -442,10 +442,10 @@ works_obeyed hub seat old mid new bytes rest start given before after reply desk
 
 -- a line that ended asks to quit
 pub has_quit : (hub : Beginning) (seat : ℕ) (old new : Worker) (bytes rest : List ℕ)
-    (start : Traffic) (given taken : Option (List ℕ)) → new.desk ≡ old.desk
+    (start : Traffic) (given taken : Option (List ℕ)) → new.poster ≡ old.poster
     → HasNoEnd bytes → (w : Works hub seat old (bytes ++ 10 ∷ rest) start (so_far given taken))
     → quits (w.line ++ bytes) ≡ true → HasQuit hub seat new start (so_far given taken)
-has_quit hub seat old new bytes rest start given taken desk whole w leaves = record {
+has_quit hub seat old new bytes rest start given taken poster whole w leaves = record {
   bytes = lines_in w.replies ++ (w.line ++ (bytes ++ 10 ∷ rest));
   written = texts_in w.replies;
   carried = w.carried;
@@ -457,7 +457,7 @@ has_quit hub seat old new bytes rest start given taken desk whole w leaves = rec
     read = ap (λ xs. lines_in w.replies ++ xs) (sym (append_assoc w.line bytes (10 ∷ rest)));
     whole = none_in_both w.line bytes w.unended whole;
     leaves = leaves;
-    told = subst (λ (d : Desk). HasTold hub d (changes_in w.replies) 0) (sym desk) w.learned.told;
+    told = subst (λ (d : Poster). HasTold hub d (changes_in w.replies) 0) (sym poster) w.learned.told;
     answered = refl;
   };
 }
@@ -519,12 +519,12 @@ stops_obeying hub seat old new bytes rest start given before after faults.Look w
 -- ---- a line
 
 -- a line at which an allocation failed, and of which nothing was told nor written
-pub obeys_unlooked : (hub : Beginning) (desk : Desk) (whats : List What)
+pub obeys_unlooked : (hub : Beginning) (poster : Poster) (whats : List What)
     (wrote : Option (List ℕ)) (fault : PostFault) → stored_of fault 1 ≡ 0
-    → HasTold hub desk whats 0
-    → HasTold hub desk whats (stored_of fault 1) × Appends wrote wrote []
-obeys_unlooked hub desk whats wrote fault none told = (
-  subst (λ (n : ℕ). HasTold hub desk whats n) (sym none) told,
+    → HasTold hub poster whats 0
+    → HasTold hub poster whats (stored_of fault 1) × Appends wrote wrote []
+obeys_unlooked hub poster whats wrote fault none told = (
+  subst (λ (n : ℕ). HasTold hub poster whats n) (sym none) told,
   wrote_none wrote,
 )
 
@@ -624,7 +624,7 @@ quit_served hub seat Told Shown bytes written f a = record {
 
 pub commanded_whole : (hub : Beginning) (seat : ℕ) (worker : Worker)
     (start now : Traffic) (served : Served)
-    → ((whats : List What) (waiting : ℕ) → HasTold hub worker.desk whats waiting
+    → ((whats : List What) (waiting : ℕ) → HasTold hub worker.poster whats waiting
     → IsServed hub seat whats waiting served)
     → IsDone hub seat worker start now
     → IsCommandedWhole hub seat start now served
@@ -633,7 +633,7 @@ commanded_whole hub seat worker start now served f (inl w) =
       bytes = stops.bytes;
       written = stops.written;
       carried = stops.carried;
-      ends = inl (all_served hub seat (HasTold hub worker.desk)
+      ends = inl (all_served hub seat (HasTold hub worker.poster)
           (λ whats waiting. IsServed hub seat whats waiting served) stops.bytes
           stops.written f stops.ends);
     }
@@ -641,14 +641,14 @@ commanded_whole hub seat worker start now served f (inr quit) = record {
   bytes = quit.bytes;
   written = quit.written;
   carried = quit.carried;
-  ends = inr (quit_served hub seat (HasTold hub worker.desk)
+  ends = inr (quit_served hub seat (HasTold hub worker.poster)
       (λ whats waiting. IsServed hub seat whats waiting served) quit.bytes quit.written f
       quit.ends);
 }
 
 pub commanded_until : (hub : Beginning) (seat : ℕ) (worker : Worker)
     (start now : Traffic) (faulted : Faulted)
-    → ((whats : List What) (waiting : ℕ) → HasTold hub worker.desk whats waiting
+    → ((whats : List What) (waiting : ℕ) → HasTold hub worker.poster whats waiting
     → IsServed hub seat whats waiting faulted.served)
     → Stops hub seat worker start now faulted.cause → IsCommandedUntil hub seat
     start now faulted
@@ -656,7 +656,7 @@ commanded_until hub seat worker start now faulted f stops = record {
   bytes = stops.bytes;
   written = stops.written;
   carried = stops.carried;
-  ends = ends_served hub seat (HasTold hub worker.desk)
+  ends = ends_served hub seat (HasTold hub worker.poster)
       (λ whats waiting. IsServed hub seat whats waiting faulted.served) stops.bytes stops.written
       faulted.cause f stops.ends;
 }

@@ -15,7 +15,7 @@ use Rattle.hub.specs.declared.faults.PostFault.TheVariants.{Replaced, NotNext, N
 use Rattle.hub.specs.declared.faults.PostFault.TheVariants.{Spent}
 use Rattle.hub.specs.Posts.{Appends, Follows, PostRefused, PostsAfter, Seated, ShowsBatch}
 use Rattle.hub.specs.Posts.{advanced}
-use Rattle.serve.specs.declared.desk.Desk.{Desk}
+use Rattle.serve.specs.declared.poster.Poster.{Poster}
 use Rattle.serve.proofs.Later.{follows_on}
 use Rattle.serve.specs.Told.{HasTold, IsLeft, IsWaiting, Tells, stored_of}
 
@@ -123,8 +123,8 @@ left_shown p whats waiting None tells number shows = tt
 left_shown p whats waiting (Some shown) tells number shows =
     left_with p whats waiting shown tells number shows
 
-abbrev pub desk_of : Seated → Option Beginning → Desk
-desk_of pass last = record { pass = pass; last = last }
+abbrev pub poster_of : Seated → Option Beginning → Poster
+poster_of pass last = record { pass = pass; last = last }
 
 -- a list that shows a batch of a pass of a hub is of its history
 pub shown_follows : (hub : Beginning) (p : Seated) (shown : Beginning) (batch : List What)
@@ -143,14 +143,14 @@ pub left_follows : (hub : Beginning) (p : Seated) (shown : Option Beginning)
 left_follows hub p None seen shows = tt
 left_follows hub p (Some shown) seen shows = shown_follows hub p shown (Leave ∷ []) seen shows
 
--- a desk after a post
+-- a poster after a post
 pub posted : (hub : Beginning) (p q : Seated) (last : Option Beginning) (whats batch : List What)
-    (shown : Beginning) → HasTold hub (desk_of p last) whats 0
-    → PostsAfter p q batch shown → HasTold hub (desk_of q (Some shown)) (whats ++ batch) 0
+    (shown : Beginning) → HasTold hub (poster_of p last) whats 0
+    → PostsAfter p q batch shown → HasTold hub (poster_of q (Some shown)) (whats ++ batch) 0
 posted hub p q last whats batch shown told after =
     let tells : Tells p.seat (whats ++ batch) shown =
     tells_batch p whats batch shown told.tells (told.number ∙ omega arith) after.0 in
-    let made_of : Desk = desk_of (record {
+    let made_of : Poster = poster_of (record {
       seat = p.seat;
       number = p.number + length batch;
       seen =
@@ -165,19 +165,19 @@ posted hub p q last whats batch shown told after =
       last = tells;
       shown = shown_follows hub p shown batch told.seen after.0;
     } in
-    subst (λ (r : Seated). HasTold hub (desk_of r (Some shown)) (whats ++ batch) 0)
+    subst (λ (r : Seated). HasTold hub (poster_of r (Some shown)) (whats ++ batch) 0)
     (sym after.1) done
 
 same_told : (hub : Beginning) (p q : Seated) (last : Option Beginning) (whats : List What)
-    → HasTold hub (desk_of p last) whats 0 → q ≡ p
-    → HasTold hub (desk_of q last) whats 0
+    → HasTold hub (poster_of p last) whats 0 → q ≡ p
+    → HasTold hub (poster_of q last) whats 0
 same_told hub p q last whats told same =
-    subst (λ (r : Seated). HasTold hub (desk_of r last) whats 0) (sym same) told
+    subst (λ (r : Seated). HasTold hub (poster_of r last) whats 0) (sym same) told
 
--- a desk after a refused post
+-- a poster after a refused post
 pub refused : (hub : Beginning) (p q : Seated) (last : Option Beginning) (whats batch : List What)
-    (fault : PostFault) → HasTold hub (desk_of p last) whats 0
-    → PostRefused p q batch fault → HasTold hub (desk_of q last) whats
+    (fault : PostFault) → HasTold hub (poster_of p last) whats 0
+    → PostRefused p q batch fault → HasTold hub (poster_of q last) whats
     (stored_of fault (length batch))
 refused hub p q last whats batch (Replaced by shown) told why =
     same_told hub p q last whats told why.0
@@ -185,7 +185,7 @@ refused hub p q last whats batch (NotNext found shown) told why =
     same_told hub p q last whats told why.0
 refused hub p q last whats batch (NoMemory back) told why = same_told hub p q last whats told why.0
 refused hub p q last whats batch Pending told why =
-    let done : HasTold hub (desk_of (advanced p (length batch)) last) whats (length batch) =
+    let done : HasTold hub (poster_of (advanced p (length batch)) last) whats (length batch) =
     record {
       seen = told.seen;
       number = let n = told.number in omega arith;
@@ -193,22 +193,22 @@ refused hub p q last whats batch Pending told why =
       last = told.last;
       shown = told.shown;
     } in
-    subst (λ (r : Seated). HasTold hub (desk_of r last) whats (length batch)) (sym why) done
+    subst (λ (r : Seated). HasTold hub (poster_of r last) whats (length batch)) (sym why) done
 refused hub p q last whats batch Spent told why = same_told hub p q last whats told why.0
 
--- a desk after a refused append, whose batch came back
+-- a poster after a refused append, whose batch came back
 pub refused_back : (hub : Beginning) (p q : Seated) (last : Option Beginning)
-    (whats batch back : List What) (fault : PostFault) → HasTold hub (desk_of p last) whats 0
+    (whats batch back : List What) (fault : PostFault) → HasTold hub (poster_of p last) whats 0
     → q ≡ p → back ≡ batch → PostRefused q q back fault
-    → HasTold hub (desk_of q last) whats (stored_of fault (length batch))
+    → HasTold hub (poster_of q last) whats (stored_of fault (length batch))
 refused_back hub p q last whats batch back fault told same is why =
-    subst (λ (b : List What). HasTold hub (desk_of q last) whats (stored_of fault (length b))) is
+    subst (λ (b : List What). HasTold hub (poster_of q last) whats (stored_of fault (length b))) is
     (refused hub q q last whats back fault (same_told hub p q last whats told same) why)
 
--- a desk after an append
+-- a poster after an append
 pub appended : (hub : Beginning) (p q : Seated) (last : Option Beginning) (whats batch : List What)
-    (ticket : Beginning) → HasTold hub (desk_of p last) whats 0 → Appends p q batch ticket
-    → IsWaiting hub (desk_of q last) whats batch ticket
+    (ticket : Beginning) → HasTold hub (poster_of p last) whats 0 → Appends p q batch ticket
+    → IsWaiting hub (poster_of q last) whats batch ticket
 appended hub p q last whats batch ticket told after =
     let tells : Tells p.seat (whats ++ batch) ticket =
     tells_batch p whats batch ticket told.tells (told.number ∙ omega arith) after.0 in record {
@@ -217,13 +217,13 @@ appended hub p q last whats batch ticket told after =
       shown = shown_follows hub p ticket batch told.seen after.0;
     }
 
--- a desk that took up the receipt for what it appended
+-- a poster that took up the receipt for what it appended
 pub taken_up : (hub : Beginning) (p q : Seated) (last : Option Beginning) (whats batch : List What)
     (receipt : Beginning) → q ≡ record p { seen = receipt }
-    → IsWaiting hub (desk_of p last) whats batch receipt
-    → HasTold hub (desk_of q (Some receipt)) (whats ++ batch) 0
+    → IsWaiting hub (poster_of p last) whats batch receipt
+    → HasTold hub (poster_of q (Some receipt)) (whats ++ batch) 0
 taken_up hub p q last whats batch receipt same waits =
-    let made_of : Desk = desk_of (record p { seen = receipt }) (Some receipt) in
+    let made_of : Poster = poster_of (record p { seen = receipt }) (Some receipt) in
     let number : p.number ≡ 1 + length (whats ++ batch) + 0 = let n = waits.told.number in
     omega (arith, length-append whats batch) in
     let done : HasTold hub made_of (whats ++ batch) 0 = record {
@@ -233,5 +233,5 @@ taken_up hub p q last whats batch receipt same waits =
       last = waits.tells;
       shown = waits.shown;
     } in
-    subst (λ (r : Seated). HasTold hub (desk_of r (Some receipt)) (whats ++ batch) 0) (sym same)
+    subst (λ (r : Seated). HasTold hub (poster_of r (Some receipt)) (whats ++ batch) 0) (sym same)
     done

@@ -9,9 +9,9 @@ use Rattle.session_core.specs.declared.cause.SessionCause.{SessionCause}
 use Rattle.session_core.specs.declared.cause.SessionCause.TheVariants as causes
 use Rattle.hub.specs.History.{Beginning}
 use Rattle.serve.proofs.Works.{beaten}
-use Rattle.serve.specs.declared.desk.Desk.{Desk}
+use Rattle.serve.specs.declared.poster.Poster.{Poster}
 use Rattle.serve.specs.Told.{HasTold, IsWaiting}
-use Rattle.serve.specs.Turns.{DeskTells, heartbeat}
+use Rattle.serve.specs.Turns.{PosterTells, heartbeat}
 use Rattle.serve.specs.Waiting.{Beats}
 use Rattle.serve.specs.Working.{EndsFor, EndsTo}
 
@@ -28,30 +28,30 @@ nothing_in [] is = refl
 nothing_in (what ∷ whats) is = absurd (grind (arith, nat_tests))
 
 -- nothing was to be posted
-pub posts_empty : (hub : Beginning) (desk : Desk) (whats batch : List What)
-    → true ≡ (length batch == 0) → HasTold hub desk whats 0 → HasTold hub desk (whats ++ batch) 0
-posts_empty hub desk whats batch none told =
-    subst (λ (more : List What). HasTold hub desk (whats ++ more) 0) (sym (nothing_in batch none))
-    (subst (λ (all : List What). HasTold hub desk all 0) (sym (append-nil whats)) told)
+pub posts_empty : (hub : Beginning) (poster : Poster) (whats batch : List What)
+    → true ≡ (length batch == 0) → HasTold hub poster whats 0 → HasTold hub poster (whats ++ batch) 0
+posts_empty hub poster whats batch none told =
+    subst (λ (more : List What). HasTold hub poster (whats ++ more) 0) (sym (nothing_in batch none))
+    (subst (λ (all : List What). HasTold hub poster all 0) (sym (append-nil whats)) told)
 
 -- out of memory, nothing is posted nor written
-pub ends_for_memory : (hub : Beginning) (desk : Option Desk) (whats : List What)
+pub ends_for_memory : (hub : Beginning) (poster : Option Poster) (whats : List What)
     (fault : SessionFault) (written : Option (List ℕ)) → fault.cause ≡ causes.NoMemory
-    → EndsTo hub desk desk whats fault written written (Ok causes.NoMemory)
-ends_for_memory hub desk whats fault written is =
-    subst (λ (cause : SessionCause). EndsFor cause hub desk desk whats fault written written
-    (Ok causes.NoMemory)) (sym is) (record { is = refl; desk = refl; kept = refl })
+    → EndsTo hub poster poster whats fault written written (Ok causes.NoMemory)
+ends_for_memory hub poster whats fault written is =
+    subst (λ (cause : SessionCause). EndsFor cause hub poster poster whats fault written written
+    (Ok causes.NoMemory)) (sym is) (record { is = refl; poster = refl; kept = refl })
 
 -- a session without a seat posts nothing
-pub posts_nowhere : (hub : Beginning) (desk : Option Desk) (whats batch : List What)
-    (written : Option (List ℕ)) → desk ≡ None
-    → DeskTells hub desk (whats ++ batch) 0 × (written ≡ written)
-posts_nowhere hub desk whats batch written none =
-    (subst (λ (d : Option Desk). DeskTells hub d (whats ++ batch) 0) (sym none) tt, refl)
+pub posts_nowhere : (hub : Beginning) (poster : Option Poster) (whats batch : List What)
+    (written : Option (List ℕ)) → poster ≡ None
+    → PosterTells hub poster (whats ++ batch) 0 × (written ≡ written)
+posts_nowhere hub poster whats batch written none =
+    (subst (λ (d : Option Poster). PosterTells hub d (whats ++ batch) 0) (sym none) tt, refl)
 
 -- a receipt of the ticket's list is waited for as the ticket was
-pub waits_for : (hub : Beginning) (desk : Desk) (whats batch : List What)
-    (ticket receipt : Beginning) → receipt ≡ ticket → IsWaiting hub desk whats batch ticket
-    → IsWaiting hub desk whats batch receipt
-waits_for hub desk whats batch ticket receipt same waits =
-    subst (IsWaiting hub desk whats batch) (sym same) waits
+pub waits_for : (hub : Beginning) (poster : Poster) (whats batch : List What)
+    (ticket receipt : Beginning) → receipt ≡ ticket → IsWaiting hub poster whats batch ticket
+    → IsWaiting hub poster whats batch receipt
+waits_for hub poster whats batch ticket receipt same waits =
+    subst (IsWaiting hub poster whats batch) (sym same) waits

@@ -45,7 +45,7 @@ says_undue hub seated turns old pushing is work =
 pub says_with : (hub : Beginning) (seated : Bool) (turns : List Turn) (old : Worker)
     (before equips after : Pushing) (said : Option (List ℕ)) → old.pushing ≡ Some before
     → Equips hub before equips → after.pushed ≡ equips.pushed
-    → TurnsTo equips after old.desk said
+    → TurnsTo equips after old.poster said
     → (facts_in (setup_of hub.config) seated turns ≡ [] → ⊥)
     → IsAtWork hub seated old turns
     → SaysAt hub seated (record old { pushing = Some after }) turns said
@@ -57,20 +57,20 @@ says_with hub seated turns old before equips after None is has tables keeps gree
 says_with hub seated turns old before equips after (Some text) is has tables turn greeted work =
     let kept = equipped hub seated turns before equips has
     (subst (TellsOn hub seated turns) is work.tells) in
-    let telling : Telling = telling_of equips after old.desk text turn in (
+    let telling : Telling = telling_of equips after old.poster text turn in (
       telling,
-      turn_says hub seated turns old.desk equips after text turn work.shown kept,
+      turn_says hub seated turns old.poster equips after text turn work.shown kept,
       record {
         has_seat = work.has_seat;
         stands = work.stands;
         goes_on = work.goes_on;
         told = work.told;
         shown = (
-          is_telling hub seated turns old.desk equips after text turn work.shown work.told greeted
+          is_telling hub seated turns old.poster equips after text turn work.shown work.told greeted
               kept,
           work.shown,
         );
-        tells = turned hub seated turns old.desk equips after text tables turn kept;
+        tells = turned hub seated turns old.poster equips after text tables turn kept;
       },
     )
 

@@ -22,14 +22,14 @@ use Rattle.hub.specs.Views.{Seeing}
 use Rattle.telling.proofs.Brought.{marks_at, set_from, set_held, set_marks, set_told, told_at}
 use Rattle.telling.proofs.Brought.{told_of}
 use Rattle.serve.proofs.Later.{follows_on, follows_self, shows_last}
-use Rattle.serve.specs.declared.desk.Desk.{Desk}
+use Rattle.serve.specs.declared.poster.Poster.{Poster}
 use Rattle.serve.specs.declared.pushing.Pushing.{Pushing}
 use Rattle.serve.specs.Tellings.{AreTellings, Equips, HoldsLast, HoldsSet, IsBroughtTo}
 use Rattle.serve.specs.Tellings.{IsExact, IsPushing, IsTelling, KeepsTold, LooksBack, SeesMore}
 use Rattle.serve.specs.Tellings.{SeesShown, ShowsPosted, SomeTelling, StoodIn, TellsOn, TurnsOver}
 use Rattle.serve.specs.Tellings.{asked_pushing, shown_by}
 use Rattle.serve.specs.Told.{HasTold}
-use Rattle.serve.specs.Turns.{Beat, DeskTells, Piece, Tell, Telling, Turn, answer_at, asked_if}
+use Rattle.serve.specs.Turns.{Beat, PosterTells, Piece, Tell, Telling, Turn, answer_at, asked_if}
 use Rattle.serve.specs.Turns.{facts_in, pushed_in, seat_at, set_named, sets_in, taken_in, told_in}
 use Rattle.session_core.specs.Asking.{asks_all}
 use Rattle.telling.specs.Among.{AllMarks, IsAmong, IsMarked}
@@ -42,8 +42,8 @@ use Rattle.telling.specs.declared.change.Turn.{Turn as Moment}
 use Rattle.telling.specs.declared.pushed.Pushed.{Pushed}
 use Rattle.telling.specs.declared.told.Mark.{Mark}
 
--- the tellings of a desk of the same seat
-pub shown_at : (hub : Beginning) (seated : Bool) (old new : Option Desk) (turns : List Turn)
+-- the tellings of a poster of the same seat
+pub shown_at : (hub : Beginning) (seated : Bool) (old new : Option Poster) (turns : List Turn)
     → seat_at new ≡ seat_at old → AreTellings hub seated (seat_at old) turns
     → AreTellings hub seated (seat_at new) turns
 shown_at hub seated old new turns seat shown =
@@ -133,25 +133,25 @@ last_of : (hub seen : Beginning) (last : Option Beginning) → IfSome last (Foll
 last_of hub seen None shown sees = tt
 last_of hub seen (Some list) shown sees = of_same hub list seen shown sees
 
-desk_last : (hub seen : Beginning) (desk : Option Desk) (whats : List What)
-    → DeskTells hub desk whats 0 → Follows hub seen
-    → IfSome desk (λ desk. IfSome desk.last (λ list. list.of ≡ seen.of))
-desk_last hub seen None whats told sees = tt
-desk_last hub seen (Some desk) whats told sees = last_of hub seen desk.last told.shown sees
+poster_last : (hub seen : Beginning) (poster : Option Poster) (whats : List What)
+    → PosterTells hub poster whats 0 → Follows hub seen
+    → IfSome poster (λ poster. IfSome poster.last (λ list. list.of ≡ seen.of))
+poster_last hub seen None whats told sees = tt
+poster_last hub seen (Some poster) whats told sees = last_of hub seen poster.last told.shown sees
 
--- a turn may look back on what its desk posted last
-pub looks_back : (hub : Beginning) (seated : Bool) (turns : List Turn) (desk : Option Desk)
-    (pushing : Pushing) → AreTellings hub seated (seat_at desk) turns
-    → DeskTells hub desk (facts_in (setup_of hub.config) seated turns) 0
-    → IsPushing hub seated turns pushing → LooksBack pushing desk
-looks_back hub seated turns desk pushing shown told tells = by pushing.lens tells.sees
+-- a turn may look back on what its poster posted last
+pub looks_back : (hub : Beginning) (seated : Bool) (turns : List Turn) (poster : Option Poster)
+    (pushing : Pushing) → AreTellings hub seated (seat_at poster) turns
+    → PosterTells hub poster (facts_in (setup_of hub.config) seated turns) 0
+    → IsPushing hub seated turns pushing → LooksBack pushing poster
+looks_back hub seated turns poster pushing shown told tells = by pushing.lens tells.sees
   where
     by : (lens : Option Seeing) → SeesShown hub turns lens → IfSome lens
-        (λ lens. IfSome desk (λ desk. IfSome desk.last (λ list. list.of ≡ lens.seen.of)))
+        (λ lens. IfSome poster (λ poster. IfSome poster.last (λ list. list.of ≡ lens.seen.of)))
     by None sees = tt
     by (Some lens) sees =
-        desk_last hub lens.seen desk (facts_in (setup_of hub.config) seated turns) told
-        (lens_of hub seated (seat_at desk) turns lens shown sees)
+        poster_last hub lens.seen poster (facts_in (setup_of hub.config) seated turns) told
+        (lens_of hub seated (seat_at poster) turns lens shown sees)
 
 -- what is kept, once it has a lens if one is to be had
 pub equipped : (hub : Beginning) (seated : Bool) (turns : List Turn) (old new : Pushing)
@@ -163,13 +163,13 @@ equipped hub seated turns old new equips tells = record {
 }
 
 -- a turn may look back once it has a lens
-pub looks_equipped : (hub : Beginning) (seated : Bool) (turns : List Turn) (desk : Option Desk)
+pub looks_equipped : (hub : Beginning) (seated : Bool) (turns : List Turn) (poster : Option Poster)
     (all : Option Pushing) (old new : Pushing) → all ≡ Some old → Equips hub old new
-    → AreTellings hub seated (seat_at desk) turns
-    → DeskTells hub desk (facts_in (setup_of hub.config) seated turns) 0
-    → TellsOn hub seated turns all → LooksBack new desk
-looks_equipped hub seated turns desk all old new is equips shown told tells =
-    looks_back hub seated turns desk new shown told
+    → AreTellings hub seated (seat_at poster) turns
+    → PosterTells hub poster (facts_in (setup_of hub.config) seated turns) 0
+    → TellsOn hub seated turns all → LooksBack new poster
+looks_equipped hub seated turns poster all old new is equips shown told tells =
+    looks_back hub seated turns poster new shown told
     (equipped hub seated turns old new equips (subst (TellsOn hub seated turns) is tells))
 
 sees_more : (hub : Beginning) (turns : List Turn) (old new : Option Seeing) → SeesMore old new
@@ -189,11 +189,11 @@ unturned hub seated turns old new tables keeps tells = record {
   sees = sees_more hub turns old.lens new.lens keeps.sees tells.sees;
 }
 
-posted_shown : (hub seen : Beginning) (desk : Option Desk) (whats : List What)
-    → DeskTells hub desk whats 0 → HoldsLast desk seen → ShowsPosted (seat_at desk) whats seen
+posted_shown : (hub seen : Beginning) (poster : Option Poster) (whats : List What)
+    → PosterTells hub poster whats 0 → HoldsLast poster seen → ShowsPosted (seat_at poster) whats seen
 posted_shown hub seen None whats told holds = tt
-posted_shown hub seen (Some desk) whats told holds =
-    shows_last desk.pass.seat whats desk.last seen told.last holds
+posted_shown hub seen (Some poster) whats told holds =
+    shows_last poster.pass.seat whats poster.last seen told.last holds
 
 sees_from : (hub : Beginning) (turns : List Turn) (lens : Option Seeing) (had : Seeing)
     → lens ≡ Some had → SeesShown hub turns lens → Follows (shown_by hub turns) had.seen
@@ -342,33 +342,33 @@ exact_at hub seated turns telling =
     lives (marked_in setup seated pushed turns place table is)))
 
 -- the telling of a turn that was made
-abbrev pub telling_of : (old new : Pushing) (desk : Option Desk) (text : List ℕ)
-    → TurnsOver old new desk text → Telling
-telling_of old new desk text turn = record { seen = turn.later.seen; book = turn.brings.book }
+abbrev pub telling_of : (old new : Pushing) (poster : Option Poster) (text : List ℕ)
+    → TurnsOver old new poster text → Telling
+telling_of old new poster text turn = record { seen = turn.later.seen; book = turn.brings.book }
 
-pub is_telling : (hub : Beginning) (seated : Bool) (turns : List Turn) (desk : Option Desk)
-    (old new : Pushing) (text : List ℕ) → (turn : TurnsOver old new desk text)
-    → AreTellings hub seated (seat_at desk) turns
-    → DeskTells hub desk (facts_in (setup_of hub.config) seated turns) 0
+pub is_telling : (hub : Beginning) (seated : Bool) (turns : List Turn) (poster : Option Poster)
+    (old new : Pushing) (text : List ℕ) → (turn : TurnsOver old new poster text)
+    → AreTellings hub seated (seat_at poster) turns
+    → PosterTells hub poster (facts_in (setup_of hub.config) seated turns) 0
     → (facts_in (setup_of hub.config) seated turns ≡ [] → ⊥)
     → IsPushing hub seated turns old
-    → IsTelling hub seated (seat_at desk) turns (telling_of old new desk text turn)
-is_telling hub seated turns desk old new text turn shown told greeted tells = record {
+    → IsTelling hub seated (seat_at poster) turns (telling_of old new poster text turn)
+is_telling hub seated turns poster old new text turn shown told greeted tells = record {
   follows = follows_on (shown_by hub turns) turn.lens.seen turn.later.seen
       (sees_from hub turns old.lens turn.lens turn.had tells.sees) turn.follows;
-  shows = posted_shown hub turn.later.seen desk (facts_in (setup_of hub.config) seated turns) told
+  shows = posted_shown hub turn.later.seen poster (facts_in (setup_of hub.config) seated turns) told
       turn.holds;
   stands = turn.brings.stands;
   greeted = greeted;
-  exact = exact_at hub seated turns (telling_of old new desk text turn);
+  exact = exact_at hub seated turns (telling_of old new poster text turn);
 }
 
 -- what is kept where one was made
-pub turned : (hub : Beginning) (seated : Bool) (turns : List Turn) (desk : Option Desk)
+pub turned : (hub : Beginning) (seated : Bool) (turns : List Turn) (poster : Option Poster)
     (old new : Pushing) (text : List ℕ) → new.pushed ≡ old.pushed
-    → (turn : TurnsOver old new desk text) → IsPushing hub seated turns old
-    → IsPushing hub seated (Tell (telling_of old new desk text turn) ∷ turns) new
-turned hub seated turns desk old new text tables turn tells = record {
+    → (turn : TurnsOver old new poster text) → IsPushing hub seated turns old
+    → IsPushing hub seated (Tell (telling_of old new poster text turn) ∷ turns) new
+turned hub seated turns poster old new text tables turn tells = record {
   tables = tables ∙ tells.tables;
   teller = turn.brings.told
       ∙ ap (λ (pushed : List Pushed). told_after pushed (sets_in pushed turn.brings.book)
@@ -376,22 +376,22 @@ turned hub seated turns desk old new text tables turn tells = record {
       ∙ ap (told_after (pushed_of hub.config) (sets_in (pushed_of hub.config) turn.brings.book)
       turn.brings.book.moment) tells.teller;
   sees = subst (λ (lens : Option Seeing). SeesShown hub
-      (Tell (telling_of old new desk text turn) ∷ turns) lens) (sym turn.has)
+      (Tell (telling_of old new poster text turn) ∷ turns) lens) (sym turn.has)
       (follows_self turn.later.seen);
 }
 
 -- what it says
-pub turn_says : (hub : Beginning) (seated : Bool) (turns : List Turn) (desk : Option Desk)
-    (old new : Pushing) (text : List ℕ) → (turn : TurnsOver old new desk text)
-    → AreTellings hub seated (seat_at desk) turns
+pub turn_says : (hub : Beginning) (seated : Bool) (turns : List Turn) (poster : Option Poster)
+    (old new : Pushing) (text : List ℕ) → (turn : TurnsOver old new poster text)
+    → AreTellings hub seated (seat_at poster) turns
     → IsPushing hub seated turns old
     → text ≡ answer_at (setup_of hub.config) seated turns
-    (Tell (telling_of old new desk text turn))
-turn_says hub seated turns desk old new text turn shown tells =
+    (Tell (telling_of old new poster text turn))
+turn_says hub seated turns poster old new text turn shown tells =
     let setup : Setup = setup_of hub.config in
     let book : State = turn.brings.book in
     let sees : Follows hub turn.later.seen =
-    follows_on hub turn.lens.seen turn.later.seen (lens_of hub seated (seat_at desk) turns turn.lens
+    follows_on hub turn.lens.seen turn.later.seen (lens_of hub seated (seat_at poster) turns turn.lens
     shown (sees_from hub turns old.lens turn.lens turn.had tells.sees)) turn.follows in
     let config : turn.later.seen.config ≡ hub.config =
     ap (λ (b : Beginning). b.config) sees.same in

@@ -1,4 +1,4 @@
--- A timer's desk.
+-- A timer's poster.
 use Rattle.std.proofs.Common.{ℕ, List, [], ◌∷◌, ◌++◌, Result, Ok, Err, IfOk, IfErr, refl, arith}
 use Rattle.std.specs.List.{All}
 use Rattle.std.proofs.lemmas.List.Elements.{All-append}
@@ -6,7 +6,7 @@ use Rattle.agg_types.specs.declared.event.What.{What}
 use Rattle.agg_types.specs.declared.event.What.TheVariants.{Moment}
 use Rattle.hub.specs.History.{Beginning}
 use Rattle.serve.proofs.Facts.{all_cons}
-use Rattle.serve.specs.declared.desk.Desk.{Desk}
+use Rattle.serve.specs.declared.poster.Poster.{Poster}
 use Rattle.serve.specs.declared.served.Served.{Served}
 use Rattle.serve.specs.Moments.{HasTimed, IsMomentOf, IsTimed, stored_by}
 use Rattle.serve.specs.Parting.{WasTimed}
@@ -16,13 +16,13 @@ use Rattle.serve.specs.Told.{HasTold, IsServed}
 none_at_all : {X : Type 0} (P : X → Type 0) → All P []
 none_at_all P = λ k d below. absurd (omega arith)
 
-pub timed_none : (hub : Beginning) (gives : ℕ → Type 0) (desk : Desk) → HasTold hub desk [] 0
-    → HasTimed hub gives desk 0
-timed_none hub gives desk told =
+pub timed_none : (hub : Beginning) (gives : ℕ → Type 0) (poster : Poster) → HasTold hub poster [] 0
+    → HasTimed hub gives poster 0
+timed_none hub gives poster told =
     record { moments = []; are = none_at_all (IsMomentOf gives); told = told }
 
 -- one moment more was told
-pub timed_more : (hub : Beginning) (gives : ℕ → Type 0) (old new : Desk) (moment : ℕ) → gives moment
+pub timed_more : (hub : Beginning) (gives : ℕ → Type 0) (old new : Poster) (moment : ℕ) → gives moment
     → (timed : HasTimed hub gives old 0)
     → ((whats : List What) → HasTold hub old whats 0
     → HasTold hub new (whats ++ Moment moment ∷ []) 0) → HasTimed hub gives new 0
@@ -39,7 +39,7 @@ timed_more hub gives old new moment given timed f = record {
 }
 
 -- a post was refused
-pub timed_refused : (hub : Beginning) (gives : ℕ → Type 0) (old new : Desk) (waiting : ℕ)
+pub timed_refused : (hub : Beginning) (gives : ℕ → Type 0) (old new : Poster) (waiting : ℕ)
     → (timed : HasTimed hub gives old 0)
     → ((whats : List What) → HasTold hub old whats 0 → HasTold hub new whats waiting)
     → HasTimed hub gives new waiting
@@ -50,12 +50,12 @@ timed_refused hub gives old new waiting timed f = record {
 }
 
 -- what a timer's receipts show once its pass was given back
-pub timed_served : (hub : Beginning) (gives : ℕ → Type 0) (desk : Desk) (seat waiting : ℕ)
-    (served : Served) → HasTimed hub gives desk waiting
-    → ((whats : List What) → HasTold hub desk whats waiting
+pub timed_served : (hub : Beginning) (gives : ℕ → Type 0) (poster : Poster) (seat waiting : ℕ)
+    (served : Served) → HasTimed hub gives poster waiting
+    → ((whats : List What) → HasTold hub poster whats waiting
     → IsServed hub seat whats waiting served)
     → IsTimed hub gives seat waiting served
-timed_served hub gives desk seat waiting served timed f = record {
+timed_served hub gives poster seat waiting served timed f = record {
   moments = timed.moments;
   are = timed.are;
   shown = f timed.moments timed.told;

@@ -18,7 +18,7 @@ use Rattle.session_core.specs.TalkAnswers.{FaultAnswersTalk, ContinuesTalk}
 use Rattle.session_core.specs.declared.stage.Stage.{Stage}
 use Rattle.hub.specs.History.{Beginning}
 use Rattle.serve.proofs.Ends.{never_late}
-use Rattle.serve.specs.declared.desk.Desk.{Desk}
+use Rattle.serve.specs.declared.poster.Poster.{Poster}
 use Rattle.serve.specs.declared.faults.AnswerFault.{AnswerFault}
 use Rattle.serve.specs.declared.faults.AnswerFault.TheVariants as answers
 use Rattle.serve.specs.declared.served.Cause.{Cause}
@@ -32,7 +32,7 @@ use Rattle.serve.proofs.Tellings.{shown_at, tells_beat, tells_piece}
 use Rattle.serve.specs.Tellings.{AreTellings, TellsOn, asked_pushing}
 use Rattle.serve.specs.Told.{stored_of}
 use Rattle.serve.specs.Traffic.{Advances, Traffic, so_far}
-use Rattle.serve.specs.Turns.{DeskTells, EndsBy, EndsBySession, IsDeskOf, IsAnswered, IsRefused}
+use Rattle.serve.specs.Turns.{PosterTells, EndsBy, EndsBySession, IsPosterOf, IsAnswered, IsRefused}
 use Rattle.serve.specs.Turns.{SeatIsServed, WroteFront, answer_at, answers_in, facts_in, heartbeat}
 use Rattle.serve.specs.Turns.{Beat, Piece, Turn, said_beyond, seat_at, taken_in}
 use Rattle.session_core.specs.Asking.{asks_all}
@@ -195,10 +195,10 @@ works_same hub seated worker start given after taken none w = record {
 -- out of memory, nothing of a piece is taken
 pub stops_for_memory : (hub : Beginning) (seated : Bool) (old new : Worker)
     (start : Traffic) (given after taken : Option (List ℕ)) (piece : List ℕ)
-    → Appends given after piece → new.desk ≡ old.desk
+    → Appends given after piece → new.poster ≡ old.poster
     → Works hub seated old start (so_far given taken)
     → Stops hub seated new start (so_far after taken) (Session causes.NoMemory)
-stops_for_memory hub seated old new start given after taken piece gives desk w =
+stops_for_memory hub seated old new start given after taken piece gives poster w =
     let setup : Setup = setup_of hub.config in record {
       bytes = taken_in w.turns ++ piece;
       written = answers_in setup seated w.turns;
@@ -208,12 +208,12 @@ stops_for_memory hub seated old new start given after taken piece gives desk w =
       };
       ends = record {
         turns = w.turns;
-        shown = shown_at hub seated old.desk new.desk w.turns (ap seat_at desk) w.work.shown;
+        shown = shown_at hub seated old.poster new.poster w.turns (ap seat_at poster) w.work.shown;
         piece = piece;
         goes_on = w.work.goes_on;
         read = refl;
-        told = subst (λ d. DeskTells hub d (facts_in setup seated w.turns) 0)
-            (sym desk) w.work.told;
+        told = subst (λ d. PosterTells hub d (facts_in setup seated w.turns) 0)
+            (sym poster) w.work.told;
         answered = refl;
       };
     }
@@ -246,9 +246,9 @@ pub settled : (hub : Beginning) (seated : Bool) (old new : Worker)
     → (w : Works hub seated old start (so_far given taken))
     → ContinuesTalk (setup_of hub.config) seated (taken_in w.turns) piece batch None
     new.session.stage
-    → new.session.seated ≡ seated → seat_at new.desk ≡ seat_at old.desk
+    → new.session.seated ≡ seated → seat_at new.poster ≡ seat_at old.poster
     → new.pushing ≡ option_map (asked_pushing (asks_all batch.replies)) old.pushing
-    → DeskTells hub new.desk (facts_in (setup_of hub.config) seated w.turns ++ batch.facts) 0
+    → PosterTells hub new.poster (facts_in (setup_of hub.config) seated w.turns ++ batch.facts) 0
     → Appends taken more (batch.replies ++ batch.acks)
     → Works hub seated new start (so_far after more)
 settled hub seated old new start given after taken more piece batch gives w stands same seat asks
@@ -258,8 +258,8 @@ settled hub seated old new start given after taken more piece batch gives w stan
         has_seat = same;
         stands = stands.stands;
         goes_on = stands.ends;
-        told = subst (λ facts. DeskTells hub new.desk facts 0) (sym stands.grows.facts) told;
-        shown = shown_at hub seated old.desk new.desk w.turns seat w.work.shown;
+        told = subst (λ facts. PosterTells hub new.poster facts 0) (sym stands.grows.facts) told;
+        shown = shown_at hub seated old.poster new.poster w.turns seat w.work.shown;
         tells = tells_piece hub seated w.turns piece batch old.pushing new.pushing stands.grows asks
             w.work.tells;
       };
@@ -273,8 +273,8 @@ stops_settled : (hub : Beginning) (seated : Bool) (old new : Worker)
     (cause : SessionCause) → TookIt cause → Appends given after piece
     → (w : Works hub seated old start (so_far given taken))
     → ContinuesTalk (setup_of hub.config) seated (taken_in w.turns) piece batch (Some cause)
-    new.session.stage → seat_at new.desk ≡ seat_at old.desk
-    → DeskTells hub new.desk (facts_in (setup_of hub.config) seated w.turns ++ batch.facts) 0
+    new.session.stage → seat_at new.poster ≡ seat_at old.poster
+    → PosterTells hub new.poster (facts_in (setup_of hub.config) seated w.turns ++ batch.facts) 0
     → Appends taken more (batch.replies ++ batch.acks)
     → Stops hub seated new start (so_far after more) (Session cause)
 stops_settled hub seated old new start given after taken more piece batch cause took gives w
@@ -284,14 +284,14 @@ stops_settled hub seated old new start given after taken more piece batch cause 
       written = answers_in setup seated (Piece piece ∷ w.turns);
       carried = carried_on hub seated old start given after taken more piece batch gives w
           stands.grows wrote;
-      ends = by_session setup seated (AreTellings hub seated (seat_at new.desk))
-          (DeskTells hub new.desk) (taken_in (Piece piece ∷ w.turns))
+      ends = by_session setup seated (AreTellings hub seated (seat_at new.poster))
+          (PosterTells hub new.poster) (taken_in (Piece piece ∷ w.turns))
           (answers_in setup seated (Piece piece ∷ w.turns)) cause took (record {
             turns = Piece piece ∷ w.turns;
-            shown = shown_at hub seated old.desk new.desk w.turns seat w.work.shown;
+            shown = shown_at hub seated old.poster new.poster w.turns seat w.work.shown;
             read = refl;
             ends = stands.ends;
-            told = subst (λ facts. DeskTells hub new.desk facts 0) (sym stands.grows.facts) told;
+            told = subst (λ facts. PosterTells hub new.poster facts 0) (sym stands.grows.facts) told;
             answered = refl;
           });
     }
@@ -302,8 +302,8 @@ pub unsettled : (A : Type 0) (hub : Beginning) (seated : Bool) (old new : Worker
     (end : Option SessionCause) (fault : AnswerFault) → Appends given after piece
     → (w : Works hub seated old start (so_far given taken))
     → ContinuesTalk (setup_of hub.config) seated (taken_in w.turns) piece batch end
-    new.session.stage → seat_at new.desk ≡ seat_at old.desk
-    → SettlesTo {A = A} hub new.desk (facts_in (setup_of hub.config) seated w.turns) batch
+    new.session.stage → seat_at new.poster ≡ seat_at old.poster
+    → SettlesTo {A = A} hub new.poster (facts_in (setup_of hub.config) seated w.turns) batch
     taken more (Err fault)
     → Stops hub seated new start (so_far after more) (cause_of_turn (turn_fault_of fault))
 unsettled A hub seated old new start given after taken more piece batch end answers.Write gives
@@ -321,13 +321,13 @@ unsettled A hub seated old new start given after taken more piece batch end answ
       };
       ends = inl (record {
         turns = w.turns;
-        shown = shown_at hub seated old.desk new.desk w.turns seat w.work.shown;
+        shown = shown_at hub seated old.poster new.poster w.turns seat w.work.shown;
         last = Piece piece;
         front = settles.1.front;
         rest = settles.1.rest;
         goes_on = w.work.goes_on;
         read = refl;
-        told = subst (λ facts. DeskTells hub new.desk facts 0) (sym stands.grows.facts) settles.0;
+        told = subst (λ facts. PosterTells hub new.poster facts 0) (sym stands.grows.facts) settles.0;
         answer = says ∙ settles.1.split;
         answered = refl;
       });
@@ -350,11 +350,11 @@ unsettled A hub seated old new start given after taken more piece batch end
       };
       ends = record {
         turns = w.turns;
-        shown = shown_at hub seated old.desk new.desk w.turns seat w.work.shown;
+        shown = shown_at hub seated old.poster new.poster w.turns seat w.work.shown;
         piece = piece;
         goes_on = w.work.goes_on;
         read = refl;
-        told = subst (λ n. DeskTells hub new.desk (facts_in setup seated w.turns)
+        told = subst (λ n. PosterTells hub new.poster (facts_in setup seated w.turns)
             (stored_of fault n)) (sym count) settles.0;
         answered = refl;
       };
@@ -375,13 +375,13 @@ unsettled A hub seated old new start given after taken more piece batch end answ
       };
       ends = inr (record {
         turns = w.turns;
-        shown = shown_at hub seated old.desk new.desk w.turns seat w.work.shown;
+        shown = shown_at hub seated old.poster new.poster w.turns seat w.work.shown;
         piece = piece;
         front = settles.1.front;
         rest = settles.1.rest;
         goes_on = w.work.goes_on;
         read = refl;
-        told = subst (λ n. DeskTells hub new.desk (facts_in setup seated w.turns) n) (sym count)
+        told = subst (λ n. PosterTells hub new.poster (facts_in setup seated w.turns) n) (sym count)
             settles.0;
         beat = settles.1.split;
         answered = refl;
@@ -513,8 +513,8 @@ ends_as setup seated S P Q bytes written Look f is = absurd is
 -- what a session's receipts show once its pass was given back
 pub served_whole : (hub : Beginning) (seated : Bool) (worker : Worker)
     (start now : Traffic) (seat : Option ℕ) (served : Served)
-    → seated ≡ is_some seat → seat_at worker.desk ≡ seat
-    → ((whats : List What) (n : ℕ) → DeskTells hub worker.desk whats n
+    → seated ≡ is_some seat → seat_at worker.poster ≡ seat
+    → ((whats : List What) (n : ℕ) → PosterTells hub worker.poster whats n
     → SeatIsServed hub seat served whats n)
     → Works hub seated worker start now
     → IsServedWhole hub seat start now served
@@ -536,8 +536,8 @@ served_whole hub seated worker start now seat served same sits f w =
 
 pub served_until : (hub : Beginning) (seated : Bool) (worker : Worker)
     (start now : Traffic) (seat : Option ℕ) (faulted : Faulted)
-    → seated ≡ is_some seat → seat_at worker.desk ≡ seat
-    → ((whats : List What) (n : ℕ) → DeskTells hub worker.desk whats n
+    → seated ≡ is_some seat → seat_at worker.poster ≡ seat
+    → ((whats : List What) (n : ℕ) → PosterTells hub worker.poster whats n
     → SeatIsServed hub seat faulted.served whats n)
     → Stops hub seated worker start now faulted.cause → IsServedUntil hub seat
     start now faulted
@@ -550,8 +550,8 @@ served_until hub seated worker start now seat faulted same sits f s =
           (SeatIsServed hub seat faulted.served) s.bytes s.written faulted.cause) same
           (subst (λ o. EndsBy setup seated (AreTellings hub seated o)
           (SeatIsServed hub seat faulted.served) s.bytes s.written faulted.cause) sits
-          (ends_as setup seated (AreTellings hub seated (seat_at worker.desk))
-          (DeskTells hub worker.desk) (SeatIsServed hub seat faulted.served)
+          (ends_as setup seated (AreTellings hub seated (seat_at worker.poster))
+          (PosterTells hub worker.poster) (SeatIsServed hub seat faulted.served)
           s.bytes s.written faulted.cause f s.ends));
     }
 
@@ -559,19 +559,19 @@ served_until hub seated worker start now seat faulted same sits f s =
 pub beaten : (hub : Beginning) (seated : Bool) (old new : Worker)
     (start : Traffic) (given taken more : Option (List ℕ))
     → new.session.seated ≡ old.session.seated → new.session.stage ≡ old.session.stage
-    → new.desk ≡ old.desk → new.pushing ≡ old.pushing
+    → new.poster ≡ old.poster → new.pushing ≡ old.pushing
     → Works hub seated old start (so_far given taken) → Appends taken more heartbeat
     → Works hub seated new start (so_far given more)
-beaten hub seated old new start given taken more same stage desk pushing w sends =
+beaten hub seated old new start given taken more same stage poster pushing w sends =
     let setup : Setup = setup_of hub.config in record {
       turns = Beat ∷ w.turns;
       work = record {
         has_seat = same ∙ w.work.has_seat;
         stands = stage ∙ w.work.stands;
         goes_on = w.work.goes_on;
-        told = subst (λ d. DeskTells hub d (facts_in setup seated w.turns) 0)
-            (sym desk) w.work.told;
-        shown = shown_at hub seated old.desk new.desk w.turns (ap seat_at desk) w.work.shown;
+        told = subst (λ d. PosterTells hub d (facts_in setup seated w.turns) 0)
+            (sym poster) w.work.told;
+        shown = shown_at hub seated old.poster new.poster w.turns (ap seat_at poster) w.work.shown;
         tells = tells_beat hub seated w.turns old.pushing new.pushing pushing w.work.tells;
       };
       carried = record {
@@ -583,10 +583,10 @@ beaten hub seated old new start given taken more same stage desk pushing w sends
 
 -- a heartbeat couldn't be sent
 pub unbeaten : (hub : Beginning) (seated : Bool) (old new : Worker)
-    (start : Traffic) (given taken more : Option (List ℕ)) → new.desk ≡ old.desk
+    (start : Traffic) (given taken more : Option (List ℕ)) → new.poster ≡ old.poster
     → Works hub seated old start (so_far given taken) → WroteFront taken more heartbeat
     → Stops hub seated new start (so_far given more) Write
-unbeaten hub seated old new start given taken more desk w sends =
+unbeaten hub seated old new start given taken more poster w sends =
     let setup : Setup = setup_of hub.config in record {
       bytes = taken_in w.turns;
       written = answers_in setup seated w.turns ++ sends.front;
@@ -597,14 +597,14 @@ unbeaten hub seated old new start given taken more desk w sends =
       };
       ends = inl (record {
         turns = w.turns;
-        shown = shown_at hub seated old.desk new.desk w.turns (ap seat_at desk) w.work.shown;
+        shown = shown_at hub seated old.poster new.poster w.turns (ap seat_at poster) w.work.shown;
         last = Beat;
         front = sends.front;
         rest = sends.rest;
         goes_on = w.work.goes_on;
         read = refl;
-        told = subst (λ d. DeskTells hub d (facts_in setup seated w.turns) 0)
-            (sym desk) w.work.told;
+        told = subst (λ d. PosterTells hub d (facts_in setup seated w.turns) 0)
+            (sym poster) w.work.told;
         answer = sends.split;
         answered = refl;
       });
@@ -612,21 +612,21 @@ unbeaten hub seated old new start given taken more desk w sends =
 
 -- silence ends a session, whatever it keeps then
 pub silenced : (hub : Beginning) (seated : Bool) (old new : Worker)
-    (start now : Traffic) → new.desk ≡ old.desk
+    (start now : Traffic) → new.poster ≡ old.poster
     → Works hub seated old start now
     → Stops hub seated new start now (Session causes.TimedOut)
-silenced hub seated old new start now desk w =
+silenced hub seated old new start now poster w =
     let setup : Setup = setup_of hub.config in record {
       bytes = taken_in w.turns;
       written = answers_in setup seated w.turns;
       carried = w.carried;
       ends = record {
         turns = w.turns;
-        shown = shown_at hub seated old.desk new.desk w.turns (ap seat_at desk) w.work.shown;
+        shown = shown_at hub seated old.poster new.poster w.turns (ap seat_at poster) w.work.shown;
         read = refl;
         ends = w.work.goes_on;
-        told = subst (λ d. DeskTells hub d (facts_in setup seated w.turns) 0)
-            (sym desk) w.work.told;
+        told = subst (λ d. PosterTells hub d (facts_in setup seated w.turns) 0)
+            (sym poster) w.work.told;
         answered = refl;
       };
     }
@@ -634,19 +634,19 @@ silenced hub seated old new start now desk w =
 -- the same, where nothing was said to a worker that is otherwise as it was
 pub works_still : (hub : Beginning) (seated : Bool) (old new : Worker)
     (start now : Traffic) → new.session.seated ≡ old.session.seated
-    → new.session.stage ≡ old.session.stage → new.desk ≡ old.desk → new.pushing ≡ old.pushing
+    → new.session.stage ≡ old.session.stage → new.poster ≡ old.poster → new.pushing ≡ old.pushing
     → Works hub seated old start now
     → Works hub seated new start now
-works_still hub seated old new start now same stage desk pushing w =
+works_still hub seated old new start now same stage poster pushing w =
     let setup : Setup = setup_of hub.config in record {
       turns = w.turns;
       work = record {
         has_seat = same ∙ w.work.has_seat;
         stands = stage ∙ w.work.stands;
         goes_on = w.work.goes_on;
-        told = subst (λ d. DeskTells hub d (facts_in setup seated w.turns) 0)
-            (sym desk) w.work.told;
-        shown = shown_at hub seated old.desk new.desk w.turns (ap seat_at desk) w.work.shown;
+        told = subst (λ d. PosterTells hub d (facts_in setup seated w.turns) 0)
+            (sym poster) w.work.told;
+        shown = shown_at hub seated old.poster new.poster w.turns (ap seat_at poster) w.work.shown;
         tells = subst (TellsOn hub seated w.turns) (sym pushing) w.work.tells;
       };
       carried = w.carried;
@@ -668,8 +668,8 @@ ends_then : (hub : Beginning) (seated : Bool) (old new : Worker)
     → (w : Works hub seated old start (so_far given taken))
     → ContinuesTalk (setup_of hub.config) seated (taken_in w.turns) piece fault.batch
     (Some fault.cause)
-    new.session.stage → new.session.seated ≡ seated → seat_at new.desk ≡ seat_at old.desk
-    → SettlesThen hub new.desk (facts_in (setup_of hub.config) seated w.turns) fault
+    new.session.stage → new.session.seated ≡ seated → seat_at new.poster ≡ seat_at old.poster
+    → SettlesThen hub new.poster (facts_in (setup_of hub.config) seated w.turns) fault
     taken more result
     → EndsSo hub seated new start (so_far after more) result
 ends_then hub seated old new start given after taken more piece fault (Ok cause) took
@@ -688,16 +688,16 @@ pub ended_by : (hub : Beginning) (seated : Bool) (old new : Worker)
     (fault : SessionFault)
     (result : Result SessionCause AnswerFault) → Appends given after piece
     → (w : Works hub seated old start (so_far given taken)) → new.session.seated ≡ seated
-    → seat_at new.desk ≡ seat_at old.desk
+    → seat_at new.poster ≡ seat_at old.poster
     → FaultAnswersTalk fault.cause fault.batch (setup_of hub.config) seated (taken_in w.turns) piece
     new.session.stage
-    → EndsTo hub old.desk new.desk (facts_in (setup_of hub.config) seated w.turns) fault
+    → EndsTo hub old.poster new.poster (facts_in (setup_of hub.config) seated w.turns) fault
     taken more result
     → EndsSo hub seated new start (so_far after more) result
 ended_by hub seated old new start given after taken more piece fault result gives w same seat
     answers ends = by_cause fault.cause refl answers ends
   where
-    then : TookIt fault.cause → SettlesThen hub new.desk
+    then : TookIt fault.cause → SettlesThen hub new.poster
         (facts_in (setup_of hub.config) seated w.turns) fault taken more result
         → EndsSo hub seated new start (so_far after more) result
     then took settles =
@@ -708,7 +708,7 @@ ended_by hub seated old new start given after taken more piece fault result give
 
     by_cause : (cause : SessionCause) → fault.cause ≡ cause → FaultAnswersTalk cause fault.batch
         (setup_of hub.config) seated (taken_in w.turns) piece new.session.stage
-        → EndsFor cause hub old.desk new.desk (facts_in (setup_of hub.config) seated w.turns) fault
+        → EndsFor cause hub old.poster new.poster (facts_in (setup_of hub.config) seated w.turns) fault
         taken more result → EndsSo hub seated new start (so_far after more) result
     by_cause (causes.Refused status) is a e = then (subst TookIt (sym is) tt) e
     by_cause (causes.Wire wire) is a e = then (subst TookIt (sym is) tt) e
@@ -718,54 +718,54 @@ ended_by hub seated old new start given after taken more piece fault result give
         subst (λ r. EndsSo hub seated new start (so_far after more) r) (sym e.is)
         (subst (λ wrote. Stops hub seated new start (so_far after wrote) (Session causes.NoMemory))
         (sym e.kept)
-        (stops_for_memory hub seated old new start given after taken piece gives e.desk w))
+        (stops_for_memory hub seated old new start given after taken piece gives e.poster w))
 
--- a desk that tells is of the hub
-desk_is_of : (hub : Beginning) (desk : Option Desk) (whats : List What) (n : ℕ)
-    → DeskTells hub desk whats n → IsDeskOf hub desk
-desk_is_of hub None whats n told = tt
-desk_is_of hub (Some desk) whats n told = ap (λ (b : Beginning). b.of) told.seen.same
+-- a poster that tells is of the hub
+poster_is_of : (hub : Beginning) (poster : Option Poster) (whats : List What) (n : ℕ)
+    → PosterTells hub poster whats n → IsPosterOf hub poster
+poster_is_of hub None whats n told = tt
+poster_is_of hub (Some poster) whats n told = ap (λ (b : Beginning). b.of) told.seen.same
 
-desk_of_session : (hub : Beginning) (seated : Bool) (S : List Turn → Type 0) (desk : Option Desk)
+poster_of_session : (hub : Beginning) (seated : Bool) (S : List Turn → Type 0) (poster : Option Poster)
     (bytes written : List ℕ) (cause : SessionCause)
-    → EndsBySession (setup_of hub.config) seated S (DeskTells hub desk) bytes written cause →
-    IsDeskOf hub desk
-desk_of_session hub seated S desk bytes written (causes.Refused status) ends =
-    desk_is_of hub desk (facts_in (setup_of hub.config) seated ends.turns) 0 ends.told
-desk_of_session hub seated S desk bytes written (causes.Wire wire) ends =
-    desk_is_of hub desk (facts_in (setup_of hub.config) seated ends.turns) 0 ends.told
-desk_of_session hub seated S desk bytes written causes.PeerError ends =
-    desk_is_of hub desk (facts_in (setup_of hub.config) seated ends.turns) 0 ends.told
-desk_of_session hub seated S desk bytes written causes.TimedOut ends =
-    desk_is_of hub desk (facts_in (setup_of hub.config) seated ends.turns) 0 ends.told
-desk_of_session hub seated S desk bytes written causes.NoMemory ends =
-    desk_is_of hub desk (facts_in (setup_of hub.config) seated ends.turns) 0 ends.told
+    → EndsBySession (setup_of hub.config) seated S (PosterTells hub poster) bytes written cause →
+    IsPosterOf hub poster
+poster_of_session hub seated S poster bytes written (causes.Refused status) ends =
+    poster_is_of hub poster (facts_in (setup_of hub.config) seated ends.turns) 0 ends.told
+poster_of_session hub seated S poster bytes written (causes.Wire wire) ends =
+    poster_is_of hub poster (facts_in (setup_of hub.config) seated ends.turns) 0 ends.told
+poster_of_session hub seated S poster bytes written causes.PeerError ends =
+    poster_is_of hub poster (facts_in (setup_of hub.config) seated ends.turns) 0 ends.told
+poster_of_session hub seated S poster bytes written causes.TimedOut ends =
+    poster_is_of hub poster (facts_in (setup_of hub.config) seated ends.turns) 0 ends.told
+poster_of_session hub seated S poster bytes written causes.NoMemory ends =
+    poster_is_of hub poster (facts_in (setup_of hub.config) seated ends.turns) 0 ends.told
 
-desk_of_stops : (hub : Beginning) (seated : Bool) (S : List Turn → Type 0) (desk : Option Desk)
+poster_of_stops : (hub : Beginning) (seated : Bool) (S : List Turn → Type 0) (poster : Option Poster)
     (bytes written : List ℕ) (cause : Cause)
-    → EndsBy (setup_of hub.config) seated S (DeskTells hub desk) bytes written cause →
-    IsDeskOf hub desk
-desk_of_stops hub seated S desk bytes written Read ends =
-    desk_is_of hub desk (facts_in (setup_of hub.config) seated ends.turns) 0 ends.told
-desk_of_stops hub seated S desk bytes written Write (inl ends) =
-    desk_is_of hub desk (facts_in (setup_of hub.config) seated (ends.last ∷ ends.turns)) 0 ends.told
-desk_of_stops hub seated S desk bytes written Write (inr ends) =
-    desk_is_of hub desk (facts_in (setup_of hub.config) seated ends.turns)
+    → EndsBy (setup_of hub.config) seated S (PosterTells hub poster) bytes written cause →
+    IsPosterOf hub poster
+poster_of_stops hub seated S poster bytes written Read ends =
+    poster_is_of hub poster (facts_in (setup_of hub.config) seated ends.turns) 0 ends.told
+poster_of_stops hub seated S poster bytes written Write (inl ends) =
+    poster_is_of hub poster (facts_in (setup_of hub.config) seated (ends.last ∷ ends.turns)) 0 ends.told
+poster_of_stops hub seated S poster bytes written Write (inr ends) =
+    poster_is_of hub poster (facts_in (setup_of hub.config) seated ends.turns)
     (length (talk (setup_of hub.config) seated bytes).facts - length
     (facts_in (setup_of hub.config) seated ends.turns)) ends.told
-desk_of_stops hub seated S desk bytes written (Session cause) ends =
-    desk_of_session hub seated S desk bytes written cause ends
-desk_of_stops hub seated S desk bytes written (Post fault) ends =
-    desk_is_of hub desk (facts_in (setup_of hub.config) seated ends.turns)
+poster_of_stops hub seated S poster bytes written (Session cause) ends =
+    poster_of_session hub seated S poster bytes written cause ends
+poster_of_stops hub seated S poster bytes written (Post fault) ends =
+    poster_is_of hub poster (facts_in (setup_of hub.config) seated ends.turns)
     (stored_of fault (length (talk (setup_of hub.config) seated bytes).facts - length
     (facts_in (setup_of hub.config) seated ends.turns))) ends.told
-desk_of_stops hub seated S desk bytes written Look ends = absurd ends
+poster_of_stops hub seated S poster bytes written Look ends = absurd ends
 
--- a session that works on or has stopped has a desk of the hub, if it has one
-pub desk_of_works : (hub : Beginning) (seated : Bool) (worker : Worker)
+-- a session that works on or has stopped has a poster of the hub, if it has one
+pub poster_of_works : (hub : Beginning) (seated : Bool) (worker : Worker)
     (start now : Traffic) (result : Result (Unit {0}) Cause)
-    → WorksOn hub seated worker start now result → IsDeskOf hub worker.desk
-desk_of_works hub seated worker start now (Ok done) w =
-    desk_is_of hub worker.desk (facts_in (setup_of hub.config) seated w.turns) 0 w.work.told
-desk_of_works hub seated worker start now (Err cause) s =
-    desk_of_stops hub seated (AreTellings hub seated (seat_at worker.desk)) worker.desk s.bytes s.written cause s.ends
+    → WorksOn hub seated worker start now result → IsPosterOf hub worker.poster
+poster_of_works hub seated worker start now (Ok done) w =
+    poster_is_of hub worker.poster (facts_in (setup_of hub.config) seated w.turns) 0 w.work.told
+poster_of_works hub seated worker start now (Err cause) s =
+    poster_of_stops hub seated (AreTellings hub seated (seat_at worker.poster)) worker.poster s.bytes s.written cause s.ends

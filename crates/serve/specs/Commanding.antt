@@ -35,21 +35,21 @@ kept_of line =
 -- this was told at a seat, and what its lens has seen shows it, and begins with an earlier list
 pub record HasLearned (hub since : Beginning) (seat : ℕ) (worker : Worker) (whats : List What)
     : Type 0 where
-  pub at : worker.desk.pass.seat ≡ seat
+  pub at : worker.poster.pass.seat ≡ seat
   pub sees : Follows since worker.lens.seen
-  pub told : HasTold hub worker.desk whats 0
+  pub told : HasTold hub worker.poster whats 0
   pub shows : ShowsTold seat whats worker.lens.seen
 
 -- its pass and its lens are of this hub
 pub record IsAtHub (hub : Beginning) (worker : Worker) : Type 0 where
-  pub of : worker.desk.pass.seen.of ≡ hub.of
+  pub of : worker.poster.pass.seen.of ≡ hub.of
   pub lens : Follows hub worker.lens.seen
 
 -- each step keeps it at its hub and at its seat
-pub record KeepsDesk (hub : Beginning) (old new : Worker) : Type 0 where
-  pub of : new.desk.pass.seen.of ≡ hub.of
+pub record KeepsPoster (hub : Beginning) (old new : Worker) : Type 0 where
+  pub of : new.poster.pass.seen.of ≡ hub.of
   pub lens : Follows hub new.lens.seen
-  pub seat : new.desk.pass.seat ≡ old.desk.pass.seat
+  pub seat : new.poster.pass.seat ≡ old.poster.pass.seat
 
 -- a line's reply
 abbrev pub reply_of : List ℕ → Option What → List ℕ → Beginning → Reply
@@ -68,8 +68,8 @@ abbrev pub LooksTo : Beginning → Beginning → ℕ → Worker → List What �
     → Result (Option Answered) NoMemory → Type 0
 LooksTo hub since seat worker whats line (Ok (Some answered)) =
     HasLooked hub since seat worker whats line answered
-LooksTo hub since seat worker whats line (Ok None) = HasTold hub worker.desk whats 0
-LooksTo hub since seat worker whats line (Err want) = HasTold hub worker.desk whats 0
+LooksTo hub since seat worker whats line (Ok None) = HasTold hub worker.poster whats 0
+LooksTo hub since seat worker whats line (Err want) = HasTold hub worker.poster whats 0
 
 -- what a line asks for is told behind what was told before it, and learned; or refused
 abbrev pub ChangesTo : Beginning → Beginning → ℕ → Worker → List What → List What
@@ -77,7 +77,7 @@ abbrev pub ChangesTo : Beginning → Beginning → ℕ → Worker → List What 
 ChangesTo hub since seat worker whats batch (Ok done) =
     HasLearned hub since seat worker (whats ++ batch)
 ChangesTo hub since seat worker whats batch (Err fault) =
-    HasTold hub worker.desk whats (stored_of fault 1)
+    HasTold hub worker.poster whats (stored_of fault 1)
 
 -- a line has a reply, and what it asks for was told and learned
 pub record HasObeyed (hub since : Beginning) (seat : ℕ) (worker : Worker) (whats : List What)
@@ -96,9 +96,9 @@ ObeysTo hub since seat worker whats line before after (Err Write) =
     (reply : Reply) × HasObeyed hub since seat worker whats line reply
     × WroteFront before after reply.text
 ObeysTo hub since seat worker whats line before after (Err (Post fault)) =
-    HasTold hub worker.desk whats (stored_of fault 1) × Appends before after []
+    HasTold hub worker.poster whats (stored_of fault 1) × Appends before after []
 ObeysTo hub since seat worker whats line before after (Err Look) =
-    HasTold hub worker.desk whats 0 × Appends before after []
+    HasTold hub worker.poster whats 0 × Appends before after []
 
 -- an admin at work, with what its source gave and its writer took since it began; so many bytes of
 -- a piece are left
@@ -118,7 +118,7 @@ pub record Stops (hub : Beginning) (seat : ℕ) (worker : Worker)
   pub bytes : List ℕ
   pub written : List ℕ
   pub carried : Advances start now bytes written
-  pub ends : EndsCommands hub seat (HasTold hub worker.desk) bytes written cause
+  pub ends : EndsCommands hub seat (HasTold hub worker.poster) bytes written cause
 
 -- a line asked to quit
 pub record HasQuit (hub : Beginning) (seat : ℕ) (worker : Worker) (start now : Traffic)
@@ -126,7 +126,7 @@ pub record HasQuit (hub : Beginning) (seat : ℕ) (worker : Worker) (start now :
   pub bytes : List ℕ
   pub written : List ℕ
   pub carried : Advances start now bytes written
-  pub ends : AnsweredToQuit hub seat (HasTold hub worker.desk) bytes written
+  pub ends : AnsweredToQuit hub seat (HasTold hub worker.poster) bytes written
 
 -- it has done all that it read asks for, up to a line that asks to quit if there is one
 abbrev pub IsDone : Beginning → ℕ → Worker → Traffic → Traffic → Type 0

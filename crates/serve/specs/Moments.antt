@@ -4,7 +4,7 @@ use Rattle.std.specs.List.{All}
 use Rattle.agg_types.specs.declared.event.What.{What}
 use Rattle.agg_types.specs.declared.event.What.TheVariants.{Moment}
 use Rattle.hub.specs.History.{Beginning}
-use Rattle.serve.specs.declared.desk.Desk.{Desk}
+use Rattle.serve.specs.declared.poster.Poster.{Poster}
 use Rattle.serve.specs.declared.served.Cause.{Cause}
 use Rattle.serve.specs.declared.served.Cause.TheVariants.{Read, Write, Session, Post, Look}
 use Rattle.serve.specs.declared.served.Served.{Served}
@@ -28,12 +28,12 @@ abbrev pub stored_at : {A : Type 0} → Result A Cause → ℕ
 stored_at (Ok done) = 0
 stored_at (Err cause) = stored_by cause
 
--- a desk where moments of a clock were told, and nothing else
-pub record HasTimed (hub : Beginning) (gives : ℕ → Type 0) (desk : Desk) (waiting : ℕ)
+-- a poster that told moments of a clock, and nothing else
+pub record HasTimed (hub : Beginning) (gives : ℕ → Type 0) (poster : Poster) (waiting : ℕ)
     : Type 0 where
   pub moments : List What
   pub are : All (IsMomentOf gives) moments
-  pub told : HasTold hub desk moments waiting
+  pub told : HasTold hub poster moments waiting
 
 -- what a timer's receipts show: moments of its clock, and so many events more
 pub record IsTimed (hub : Beginning) (gives : ℕ → Type 0) (seat waiting : ℕ) (served : Served)

@@ -8,7 +8,7 @@ use Rattle.hub.specs.History.{Beginning}
 use Rattle.hub.specs.Posts.{Follows}
 use Rattle.hub.specs.Views.{IsBookOf, Seeing}
 use Rattle.fleet_model.specs.State.{State}
-use Rattle.serve.specs.declared.desk.Desk.{Desk}
+use Rattle.serve.specs.declared.poster.Poster.{Poster}
 use Rattle.serve.specs.declared.pushing.Pushing.{Pushing}
 use Rattle.serve.specs.Commands.{ShowsTold}
 use Rattle.serve.specs.Turns.{Telling, Turn, Piece, Beat, Tell, asked_if, facts_in, pushed_in}
@@ -130,17 +130,17 @@ SaysTo old new seen (Some text) =
     (new ≡ record old { teller = new.teller })
     × Brings old.pushed old.teller new.teller seen text
 
--- what a desk posted last, if there is one and it did, is of the history that a lens sees
-abbrev pub MayShow : Option Desk → Beginning → Type 0
-MayShow desk seen = IfSome desk (λ desk. IfSome desk.last (λ list. list.of ≡ seen.of))
+-- what a poster posted last, if there is one and it did, is of the history that a lens sees
+abbrev pub MayShow : Option Poster → Beginning → Type 0
+MayShow poster seen = IfSome poster (λ poster. IfSome poster.last (λ list. list.of ≡ seen.of))
 
 -- the same of the lens of what is kept, if there is one
-abbrev pub LooksBack : Pushing → Option Desk → Type 0
-LooksBack pushing desk = IfSome pushing.lens (λ lens. MayShow desk lens.seen)
+abbrev pub LooksBack : Pushing → Option Poster → Type 0
+LooksBack pushing poster = IfSome pushing.lens (λ lens. MayShow poster lens.seen)
 
--- a list holds what a desk posted last, if there is one and it did
-abbrev pub HoldsLast : Option Desk → Beginning → Type 0
-HoldsLast desk seen = IfSome desk (λ desk. IfSome desk.last (λ list. Follows list seen))
+-- a list holds what a poster posted last, if there is one and it did
+abbrev pub HoldsLast : Option Poster → Beginning → Type 0
+HoldsLast poster seen = IfSome poster (λ poster. IfSome poster.last (λ list. Follows list seen))
 
 -- a lens has seen more
 abbrev pub SeesMore : Option Seeing → Option Seeing → Type 0
@@ -148,13 +148,13 @@ SeesMore None new = new ≡ None
 SeesMore (Some lens) new = (later : Seeing) × (new ≡ Some later) × Follows lens.seen later.seen
 
 -- a turn was made over a later list, which holds what was posted last
-pub record TurnsOver (old new : Pushing) (desk : Option Desk) (text : List ℕ) : Type 0 where
+pub record TurnsOver (old new : Pushing) (poster : Option Poster) (text : List ℕ) : Type 0 where
   pub lens : Seeing
   pub later : Seeing
   pub had : old.lens ≡ Some lens
   pub has : new.lens ≡ Some later
   pub follows : Follows lens.seen later.seen
-  pub holds : HoldsLast desk later.seen
+  pub holds : HoldsLast poster later.seen
   pub brings : Brings old.pushed old.teller new.teller later.seen text
 
 -- no turn was made
@@ -163,6 +163,6 @@ pub record KeepsTold (old new : Pushing) : Type 0 where
   pub sees : SeesMore old.lens new.lens
 
 -- a turn was made and says this, or none was made
-abbrev pub TurnsTo : Pushing → Pushing → Option Desk → Option (List ℕ) → Type 0
-TurnsTo old new desk None = KeepsTold old new
-TurnsTo old new desk (Some text) = TurnsOver old new desk text
+abbrev pub TurnsTo : Pushing → Pushing → Option Poster → Option (List ℕ) → Type 0
+TurnsTo old new poster None = KeepsTold old new
+TurnsTo old new poster (Some text) = TurnsOver old new poster text

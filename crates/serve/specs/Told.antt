@@ -10,7 +10,7 @@ use Rattle.hub.specs.declared.faults.PostFault.TheVariants.{Replaced, NotNext, N
 use Rattle.hub.specs.declared.faults.PostFault.TheVariants.{Spent}
 use Rattle.hub.specs.History.{Beginning, own}
 use Rattle.hub.specs.Posts.{Follows}
-use Rattle.serve.specs.declared.desk.Desk.{Desk}
+use Rattle.serve.specs.declared.poster.Poster.{Poster}
 use Rattle.serve.specs.declared.served.Served.{Served}
 
 -- a list's events of a seat are that it sat down and told this, and no others
@@ -23,12 +23,12 @@ TellsLast seat whats last = MatchOption last (whats ≡ []) (Tells seat whats)
 
 -- a pass of this hub, and the last receipt of its posts, where this was told, and so many events
 -- more are stored and not shown yet; what they have seen is of the hub's history
-pub record HasTold (hub : Beginning) (desk : Desk) (whats : List What) (waiting : ℕ) : Type 0 where
-  pub seen : Follows hub desk.pass.seen
-  pub number : desk.pass.number ≡ 1 + length whats + waiting
-  pub tells : Tells desk.pass.seat whats desk.pass.seen
-  pub last : TellsLast desk.pass.seat whats desk.last
-  pub shown : IfSome desk.last (Follows hub)
+pub record HasTold (hub : Beginning) (poster : Poster) (whats : List What) (waiting : ℕ) : Type 0 where
+  pub seen : Follows hub poster.pass.seen
+  pub number : poster.pass.number ≡ 1 + length whats + waiting
+  pub tells : Tells poster.pass.seat whats poster.pass.seen
+  pub last : TellsLast poster.pass.seat whats poster.last
+  pub shown : IfSome poster.last (Follows hub)
 
 -- how many events of a refused batch are stored all the same
 abbrev pub stored_of : PostFault → ℕ → ℕ
@@ -44,24 +44,24 @@ stored_in (Ok done) count = 0
 stored_in (Err fault) count = stored_of fault count
 
 -- after a post all of the batch was told; after a refusal nothing of it
-abbrev pub TellsMore : Beginning → Desk → List What → List What → Result (Unit {0}) PostFault
+abbrev pub TellsMore : Beginning → Poster → List What → List What → Result (Unit {0}) PostFault
     → Type 0
-TellsMore hub desk whats batch (Ok done) = HasTold hub desk (whats ++ batch) 0
-TellsMore hub desk whats batch (Err fault) = HasTold hub desk whats (stored_of fault (length batch))
+TellsMore hub poster whats batch (Ok done) = HasTold hub poster (whats ++ batch) 0
+TellsMore hub poster whats batch (Err fault) = HasTold hub poster whats (stored_of fault (length batch))
 
 -- a batch was appended behind what was told, and isn't shown yet; the ticket's list tells it
-pub record IsWaiting (hub : Beginning) (desk : Desk) (whats batch : List What) (ticket : Beginning)
+pub record IsWaiting (hub : Beginning) (poster : Poster) (whats batch : List What) (ticket : Beginning)
     : Type 0 where
-  pub told : HasTold hub desk whats (length batch)
-  pub tells : Tells desk.pass.seat (whats ++ batch) ticket
+  pub told : HasTold hub poster whats (length batch)
+  pub tells : Tells poster.pass.seat (whats ++ batch) ticket
   pub shown : Follows hub ticket
 
 -- after an append the batch waits; after a refusal nothing was told
-abbrev pub AppendsMore : Beginning → Desk → List What → List What → Result Beginning PostFault
+abbrev pub AppendsMore : Beginning → Poster → List What → List What → Result Beginning PostFault
     → Type 0
-AppendsMore hub desk whats batch (Ok ticket) = IsWaiting hub desk whats batch ticket
-AppendsMore hub desk whats batch (Err fault) =
-    HasTold hub desk whats (stored_of fault (length batch))
+AppendsMore hub poster whats batch (Ok ticket) = IsWaiting hub poster whats batch ticket
+AppendsMore hub poster whats batch (Err fault) =
+    HasTold hub poster whats (stored_of fault (length batch))
 
 -- the events of a seat that left are what it told, so many more, and its leave
 pub record IsLeft (seat : ℕ) (whats : List What) (waiting : ℕ) (list : Beginning) : Type 0 where

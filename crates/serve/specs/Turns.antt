@@ -14,7 +14,7 @@ use Rattle.session_core.specs.Cause.{cause_of}
 use Rattle.session_core.specs.Piece.{Setup}
 use Rattle.session_core.specs.Talk.{Talk, acks_among, talk}
 use Rattle.hub.specs.History.{Beginning}
-use Rattle.serve.specs.declared.desk.Desk.{Desk}
+use Rattle.serve.specs.declared.poster.Poster.{Poster}
 use Rattle.serve.specs.declared.faults.WriteFailed.{WriteFailed}
 use Rattle.serve.specs.declared.served.Cause.{Cause}
 use Rattle.serve.specs.declared.served.Cause.TheVariants.{Read, Write, Session, Post, Look}
@@ -198,17 +198,17 @@ EndsBy setup seated Shown Told bytes written (Post fault) =
 EndsBy setup seated Shown Told bytes written Look = ⊥
 
 -- the seat of a session that has one
-abbrev pub seat_at : Option Desk → Option ℕ
-seat_at desk = option_map (λ desk. desk.pass.seat) desk
+abbrev pub seat_at : Option Poster → Option ℕ
+seat_at poster = option_map (λ poster. poster.pass.seat) poster
 
--- what the desk of a session has told; without a seat nothing is told
-abbrev pub DeskTells : Beginning → Option Desk → List What → ℕ → Type 0
-DeskTells hub desk whats waiting =
-    MatchOption desk (Unit {0}) (λ desk. HasTold hub desk whats waiting)
+-- what the poster of a session has told; without a seat nothing is told
+abbrev pub PosterTells : Beginning → Option Poster → List What → ℕ → Type 0
+PosterTells hub poster whats waiting =
+    MatchOption poster (Unit {0}) (λ poster. HasTold hub poster whats waiting)
 
--- a desk, if there is one, is of this hub
-abbrev pub IsDeskOf : Beginning → Option Desk → Type 0
-IsDeskOf hub desk = MatchOption desk (Unit {0}) (λ desk. desk.pass.seen.of ≡ hub.of)
+-- a poster, if there is one, is of this hub
+abbrev pub IsPosterOf : Beginning → Option Poster → Type 0
+IsPosterOf hub poster = MatchOption poster (Unit {0}) (λ poster. poster.pass.seen.of ≡ hub.of)
 
 -- what the receipts of a session show; without a seat there are none
 abbrev pub SeatIsServed : Beginning → Option ℕ → Served → List What → ℕ → Type 0

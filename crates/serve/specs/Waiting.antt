@@ -3,13 +3,13 @@ use Rattle.std.specs.Prelude.{◌≡◌, ℕ, Bool, List, ◌++◌, length, Opti
 use Rattle.agg_types.specs.declared.event.What.{What}
 use Rattle.hub.specs.declared.faults.PostFault.TheVariants.{Pending}
 use Rattle.hub.specs.History.{Beginning}
-use Rattle.serve.specs.declared.desk.Desk.{Desk}
+use Rattle.serve.specs.declared.poster.Poster.{Poster}
 use Rattle.serve.specs.declared.faults.AnswerFault.{AnswerFault}
 use Rattle.serve.specs.declared.faults.AnswerFault.TheVariants.{Write, Post, Beat}
 use Rattle.serve.specs.declared.worker.Worker.{Worker}
 use Rattle.serve.specs.Told.{stored_of}
 use Rattle.serve.specs.Traffic.{Traffic, so_far}
-use Rattle.serve.specs.Turns.{DeskTells, WroteFront, heartbeat}
+use Rattle.serve.specs.Turns.{PosterTells, WroteFront, heartbeat}
 use Rattle.serve.specs.Working.{Works}
 
 -- what was written leaves a session at work as it was: it is whole heartbeats, or nothing
@@ -35,12 +35,12 @@ AwaitsTo ticket after (Err Beat) written = WroteFront written after heartbeat
 
 -- a batch is told behind what was told before it, or refused; where a heartbeat couldn't be
 -- written, it is stored and not shown yet
-abbrev pub PostsTo : {A : Type 0} → Beginning → Option Desk → List What → List What
+abbrev pub PostsTo : {A : Type 0} → Beginning → Option Poster → List What → List What
     → Option (List ℕ) → Result A AnswerFault → Option (List ℕ) → Type 0
-PostsTo hub desk whats batch after (Ok done) written =
-    DeskTells hub desk (whats ++ batch) 0 × (after ≡ written)
-PostsTo hub desk whats batch after (Err Write) written = ⊥
-PostsTo hub desk whats batch after (Err (Post fault)) written =
-    DeskTells hub desk whats (stored_of fault (length batch)) × (after ≡ written)
-PostsTo hub desk whats batch after (Err Beat) written =
-    DeskTells hub desk whats (length batch) × WroteFront written after heartbeat
+PostsTo hub poster whats batch after (Ok done) written =
+    PosterTells hub poster (whats ++ batch) 0 × (after ≡ written)
+PostsTo hub poster whats batch after (Err Write) written = ⊥
+PostsTo hub poster whats batch after (Err (Post fault)) written =
+    PosterTells hub poster whats (stored_of fault (length batch)) × (after ≡ written)
+PostsTo hub poster whats batch after (Err Beat) written =
+    PosterTells hub poster whats (length batch) × WroteFront written after heartbeat

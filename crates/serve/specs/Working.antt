@@ -10,7 +10,7 @@ use Rattle.session_core.specs.Batched.{Batched}
 use Rattle.session_core.specs.Piece.{setup_of}
 use Rattle.session_core.specs.Talk.{stage_of}
 use Rattle.hub.specs.History.{Beginning}
-use Rattle.serve.specs.declared.desk.Desk.{Desk}
+use Rattle.serve.specs.declared.poster.Poster.{Poster}
 use Rattle.serve.specs.declared.faults.AnswerFault.{AnswerFault}
 use Rattle.serve.specs.declared.faults.AnswerFault.TheVariants.{Write, Post, Beat}
 use Rattle.serve.specs.declared.faults.TurnFault.{TurnFault}
@@ -23,7 +23,7 @@ use Rattle.serve.specs.Faults.{cause_of_turn}
 use Rattle.serve.specs.Tellings.{AreTellings, TellsOn}
 use Rattle.serve.specs.Told.{stored_of}
 use Rattle.serve.specs.Traffic.{Advances, Traffic, so_far}
-use Rattle.serve.specs.Turns.{DeskTells, EndsBy, IsAnswered, SeatIsServed, Tell, Telling, Turn}
+use Rattle.serve.specs.Turns.{PosterTells, EndsBy, IsAnswered, SeatIsServed, Tell, Telling, Turn}
 use Rattle.serve.specs.Turns.{TalkEnds, WroteFront, answer_at, answers_in, facts_in, heartbeat}
 use Rattle.serve.specs.Turns.{seat_at, taken_in}
 
@@ -33,8 +33,8 @@ pub record IsAtWork (hub : Beginning) (seated : Bool) (worker : Worker) (turns :
   pub has_seat : worker.session.seated ≡ seated
   pub stands : worker.session.stage ≡ stage_of (setup_of hub.config) seated (taken_in turns)
   pub goes_on : TalkEnds (setup_of hub.config) seated (taken_in turns) None
-  pub told : DeskTells hub worker.desk (facts_in (setup_of hub.config) seated turns) 0
-  pub shown : AreTellings hub seated (seat_at worker.desk) turns
+  pub told : PosterTells hub worker.poster (facts_in (setup_of hub.config) seated turns) 0
+  pub shown : AreTellings hub seated (seat_at worker.poster) turns
   pub tells : TellsOn hub seated turns worker.pushing
 
 -- the same, with what its source gave and its writer took since it began
@@ -60,7 +60,7 @@ pub record Stops (hub : Beginning) (seated : Bool) (worker : Worker)
   pub written : List ℕ
   pub carried : Advances start now bytes written
   pub ends : EndsBy (setup_of hub.config) seated
-      (AreTellings hub seated (seat_at worker.desk)) (DeskTells hub worker.desk) bytes written
+      (AreTellings hub seated (seat_at worker.poster)) (PosterTells hub worker.poster) bytes written
       cause
 
 -- it works on, or has ended
@@ -89,34 +89,34 @@ Takes hub old new piece before after result =
 
 -- The facts of a batch are told, and then its bytes written; where they are refused, nothing is.
 -- Where a heartbeat couldn't be written meanwhile, they are stored and not shown yet.
-abbrev pub SettlesTo : {A : Type 0} → Beginning → Option Desk → List What → Batched
+abbrev pub SettlesTo : {A : Type 0} → Beginning → Option Poster → List What → Batched
     → Option (List ℕ) → Option (List ℕ) → Result A AnswerFault → Type 0
-SettlesTo hub desk whats batch before after (Ok done) =
-    DeskTells hub desk (whats ++ batch.facts) 0
+SettlesTo hub poster whats batch before after (Ok done) =
+    PosterTells hub poster (whats ++ batch.facts) 0
     × Appends before after (batch.replies ++ batch.acks)
-SettlesTo hub desk whats batch before after (Err Write) =
-    DeskTells hub desk (whats ++ batch.facts) 0
+SettlesTo hub poster whats batch before after (Err Write) =
+    PosterTells hub poster (whats ++ batch.facts) 0
     × WroteFront before after (batch.replies ++ batch.acks)
-SettlesTo hub desk whats batch before after (Err (Post fault)) =
-    DeskTells hub desk whats (stored_of fault (length batch.facts)) × Appends before after []
-SettlesTo hub desk whats batch before after (Err Beat) =
-    DeskTells hub desk whats (length batch.facts) × WroteFront before after heartbeat
+SettlesTo hub poster whats batch before after (Err (Post fault)) =
+    PosterTells hub poster whats (stored_of fault (length batch.facts)) × Appends before after []
+SettlesTo hub poster whats batch before after (Err Beat) =
+    PosterTells hub poster whats (length batch.facts) × WroteFront before after heartbeat
 
 -- out of memory, nothing is posted nor written
-pub record EndsForMemory (old new : Option Desk) (before after : Option (List ℕ))
+pub record EndsForMemory (old new : Option Poster) (before after : Option (List ℕ))
     (result : Result SessionCause AnswerFault) : Type 0 where
   pub is : result ≡ Ok causes.NoMemory
-  pub desk : new ≡ old
+  pub poster : new ≡ old
   pub kept : after ≡ before
 
 -- a batch that came with a fault is settled, and then its cause ends the session
-pub record SettlesThen (hub : Beginning) (desk : Option Desk) (whats : List What)
+pub record SettlesThen (hub : Beginning) (poster : Option Poster) (whats : List What)
     (fault : SessionFault) (before after : Option (List ℕ))
     (result : Result SessionCause AnswerFault) : Type 0 where
   pub is : IfOk result (λ cause. cause ≡ fault.cause)
-  pub settles : SettlesTo hub desk whats fault.batch before after result
+  pub settles : SettlesTo hub poster whats fault.batch before after result
 
-abbrev pub EndsFor : SessionCause → Beginning → Option Desk → Option Desk → List What
+abbrev pub EndsFor : SessionCause → Beginning → Option Poster → Option Poster → List What
     → SessionFault → Option (List ℕ) → Option (List ℕ) → Result SessionCause AnswerFault → Type 0
 EndsFor (causes.Refused status) hub old new whats fault before after result =
     SettlesThen hub new whats fault before after result
@@ -130,7 +130,7 @@ EndsFor causes.NoMemory hub old new whats fault before after result =
     EndsForMemory old new before after result
 
 -- how a session ends with a fault
-abbrev pub EndsTo : Beginning → Option Desk → Option Desk → List What → SessionFault
+abbrev pub EndsTo : Beginning → Option Poster → Option Poster → List What → SessionFault
     → Option (List ℕ) → Option (List ℕ) → Result SessionCause AnswerFault → Type 0
 EndsTo hub old new whats fault before after result =
     EndsFor fault.cause hub old new whats fault before after result

@@ -20,10 +20,10 @@ ghost use Rattle.show_clear.specs.Refusal.{refusal_text};
 
 use crate::clock::Clock;
 use crate::context::{Context, Link};
-use crate::desk::Desk;
 use crate::faults::LineFault;
 use crate::gate::{Gate, Place};
 use crate::lines::{Line, split_line};
+use crate::poster::Poster;
 use crate::served::{Cause, Faulted, Served};
 use crate::source::{Came, Source, buffer};
 use crate::status::{Asked, asked_in, quits};
@@ -144,7 +144,7 @@ fn answer_to<G: Gate>(
 #[derive(Drop)]
 struct Worker {
     lens: Lens,
-    desk: Desk,
+    poster: Poster,
     line: Line,
     silent: u32,
 }
@@ -154,17 +154,17 @@ impl Worker {
 
     // An admin that has read nothing.
     fn new(alloc: Global, lens: Lens, pass: Pass) -> Worker
-        ensures pass { result.desk.pass ≡ pass }
+        ensures pass { result.poster.pass ≡ pass }
         ensures lens { result.lens ≡ lens }
         ensures line { result.line.bytes.items ≡ [] }
         ensures learned { (hub : Beginning) → SitsDown pass → Follows hub pass.seen
             → Follows hub lens.seen → HasLearned hub hub pass.seat result [] }
     {
-        let desk = Desk::new(pass);
+        let poster = Poster::new(pass);
         let line = Line::new(alloc);
         Worker {
             lens,
-            desk,
+            poster,
             line,
             silent: 0,
         }
@@ -173,7 +173,7 @@ impl Worker {
     // Answers the line that is kept, over a look that has all that was posted and learned. None
     // where no copy of the book could be entered.
     fn look<G: Gate>(&mut self, alloc: Global, gate: &G) -> Result<Option<Answered>, NoMemory>
-        ensures desk { self.new.desk ≡ self.old.desk }
+        ensures poster { self.new.poster ≡ self.old.poster }
         ensures lens { Follows self.old.lens.seen self.new.lens.seen }
         ensures fits { (hub : Beginning) → Follows hub self.old.lens.seen
             → IfOk result (λ o. IfSome o (λ a. IfSome a.change (MayPost hub.config))) }
@@ -191,7 +191,7 @@ impl Worker {
 
     // Adds bytes to the line that is kept.
     fn keep(&mut self, bytes: &[u8]) -> Result<(), NoMemory>
-        ensures desk { self.new.desk ≡ self.old.desk }
+        ensures poster { self.new.poster ≡ self.old.poster }
         ensures lens { self.new.lens ≡ self.old.lens }
         ensures keeps { (line : List ℕ) → self.old.line.bytes.items ≡ kept_of line
             → OnOk result (self.new.line.bytes.items ≡ kept_of (line ++ bytes.now)) }
@@ -201,7 +201,7 @@ impl Worker {
 
     // Notes that a read gave nothing. Whether the connection goes on.
     fn wait(&mut self) -> bool
-        ensures desk { self.new.desk ≡ self.old.desk }
+        ensures poster { self.new.poster ≡ self.old.poster }
         ensures lens { self.new.lens ≡ self.old.lens }
         ensures line { self.new.line ≡ self.old.line }
     {
@@ -210,24 +210,24 @@ impl Worker {
     }
 
     // What is left of it once it has ended.
-    fn into_desk(self) -> Desk
-        ensures { result ≡ self.desk }
+    fn into_poster(self) -> Poster
+        ensures { result ≡ self.poster }
     {
-        let Worker { desk, .. } = self;
-        desk
+        let Worker { poster, .. } = self;
+        poster
     }
 }
 
 impl<'a, J: Naming, H: Wait + Drop, R: Wait, C: Clock, G: Gate> Context<'a, J, H, R, C, G> {
     ghost use Rattle.serve.specs.Commanding.{ChangesTo, HasLearned, HasLooked, IsAtHub};
-    ghost use Rattle.serve.specs.Commanding.{KeepsDesk, ObeysTo, RunsOut, Takes, Works, WorksOn};
+    ghost use Rattle.serve.specs.Commanding.{KeepsPoster, ObeysTo, RunsOut, Takes, Works, WorksOn};
     ghost use Rattle.serve.specs.Commanding.{kept_of};
 
     // Posts a change, and learns that it is shown.
     fn change(&self, worker: &mut Worker, what: What) -> Result<(), PostFault>
         requires at { IsAtHub self.now.hub.now worker.old }
         requires fits { MayPost self.now.hub.now.config what }
-        ensures keeps { KeepsDesk self.now.hub.now worker.old worker.new }
+        ensures keeps { KeepsPoster self.now.hub.now worker.old worker.new }
         ensures changes { (since : Beginning) (seat : ℕ) (whats : List What)
             → HasLearned self.now.hub.now since seat worker.old whats
             → ChangesTo self.now.hub.now since seat worker.new whats (what ∷ []) result }
@@ -236,8 +236,8 @@ impl<'a, J: Naming, H: Wait + Drop, R: Wait, C: Clock, G: Gate> Context<'a, J, H
         if whats.push(what).is_err() {
             return Err(refused(self.alloc));
         }
-        worker.desk.post(self.rt, self.hub, whats)?;
-        worker.desk.show(&mut worker.lens);
+        worker.poster.post(self.rt, self.hub, whats)?;
+        worker.poster.show(&mut worker.lens);
         Ok(())
     }
 
@@ -245,7 +245,7 @@ impl<'a, J: Naming, H: Wait + Drop, R: Wait, C: Clock, G: Gate> Context<'a, J, H
     fn carry_out(&self, worker: &mut Worker, change: Option<What>) -> Result<(), PostFault>
         requires at { IsAtHub self.now.hub.now worker.old }
         requires fits { IfSome change (MayPost self.now.hub.now.config) }
-        ensures keeps { KeepsDesk self.now.hub.now worker.old worker.new }
+        ensures keeps { KeepsPoster self.now.hub.now worker.old worker.new }
         ensures changes { (since : Beginning) (seat : ℕ) (whats : List What)
             → HasLearned self.now.hub.now since seat worker.old whats
             → ChangesTo self.now.hub.now since seat worker.new whats (option_to_list change)
@@ -266,7 +266,7 @@ impl<'a, J: Naming, H: Wait + Drop, R: Wait, C: Clock, G: Gate> Context<'a, J, H
     ) -> Result<(), LineFault>
         requires at { IsAtHub self.now.hub.now worker.old }
         requires fits { IfSome answered.change (MayPost self.now.hub.now.config) }
-        ensures keeps { KeepsDesk self.now.hub.now worker.old worker.new }
+        ensures keeps { KeepsPoster self.now.hub.now worker.old worker.new }
         ensures obeys { (since : Beginning) (seat : ℕ) (whats : List What) (line : List ℕ)
             → HasLooked self.now.hub.now since seat worker.old whats line answered
             → ObeysTo self.now.hub.now since seat worker.new whats line (W.contents writer.old)
@@ -281,7 +281,7 @@ impl<'a, J: Naming, H: Wait + Drop, R: Wait, C: Clock, G: Gate> Context<'a, J, H
     // Does what the line that is kept asks for, and writes its answer.
     fn obey<W: Write>(&self, worker: &mut Worker, writer: &mut W) -> Result<(), LineFault>
         requires { IsAtHub self.now.hub.now worker.old }
-        ensures keeps { KeepsDesk self.now.hub.now worker.old worker.new }
+        ensures keeps { KeepsPoster self.now.hub.now worker.old worker.new }
         ensures obeys { (since : Beginning) (seat : ℕ) (whats : List What) (line : List ℕ)
             → HasLearned self.now.hub.now since seat worker.old whats
             → worker.old.line.bytes.items ≡ kept_of line → HasNoEnd line → quits line ≡ false
@@ -304,7 +304,7 @@ impl<'a, J: Naming, H: Wait + Drop, R: Wait, C: Clock, G: Gate> Context<'a, J, H
         bytes: &[u8],
     ) -> Result<bool, LineFault>
         requires { IsAtHub self.now.hub.now worker.old }
-        ensures keeps { KeepsDesk self.now.hub.now worker.old worker.new }
+        ensures keeps { KeepsPoster self.now.hub.now worker.old worker.new }
         ensures takes { (rest : List ℕ) → HasNoEnd bytes.now
             → Takes self.now.hub.now worker.old worker.new (bytes.now ++ 10 ∷ rest) rest
             (W.contents writer.old) (W.contents writer.new) result }
@@ -329,7 +329,7 @@ impl<'a, J: Naming, H: Wait + Drop, R: Wait, C: Clock, G: Gate> Context<'a, J, H
         piece: &[u8],
     ) -> Result<bool, LineFault>
         requires { IsAtHub self.now.hub.now worker.old }
-        ensures keeps { KeepsDesk self.now.hub.now worker.old worker.new }
+        ensures keeps { KeepsPoster self.now.hub.now worker.old worker.new }
         ensures takes { Takes self.now.hub.now worker.old worker.new piece.now []
             (W.contents writer.old) (W.contents writer.new) result }
     {
@@ -356,7 +356,7 @@ impl<'a, J: Naming, H: Wait + Drop, R: Wait, C: Clock, G: Gate> Context<'a, J, H
     ) -> Result<bool, Cause>
         requires reads { S.reads link.old.source < 2 ^ 62 }
         requires at { IsAtHub self.now.hub.now worker.old }
-        ensures keeps { KeepsDesk self.now.hub.now worker.old worker.new }
+        ensures keeps { KeepsPoster self.now.hub.now worker.old worker.new }
         ensures reads { S.reads link.new.source ≡ S.reads link.old.source + 1 }
         ensures failed { S.failed link.old.source ≤ S.failed link.new.source }
         ensures read { result ≡ Err Cause.Read
@@ -387,10 +387,10 @@ impl<'a, J: Naming, H: Wait + Drop, R: Wait, C: Clock, G: Gate> Context<'a, J, H
         requires reads { S.reads link.old.source ≡ 0 }
         requires at { IsAtHub self.now.hub.now worker.old }
         requires line { worker.old.line.bytes.items ≡ [] }
-        requires learned { HasLearned self.now.hub.now self.now.hub.now worker.old.desk.pass.seat
+        requires learned { HasLearned self.now.hub.now self.now.hub.now worker.old.poster.pass.seat
             worker.old [] }
-        ensures keeps { KeepsDesk self.now.hub.now worker.old worker.new }
-        ensures works { RunsOut self.now.hub.now worker.old.desk.pass.seat worker.new
+        ensures keeps { KeepsPoster self.now.hub.now worker.old worker.new }
+        ensures works { RunsOut self.now.hub.now worker.old.poster.pass.seat worker.new
             (so_far (S.given link.old.source) (W.contents link.old.writer))
             (so_far (S.given link.new.source) (W.contents link.new.writer)) result }
         ensures read { result ≡ Err Cause.Read
@@ -444,7 +444,7 @@ impl<'a, J: Naming, H: Wait + Drop, R: Wait, C: Clock, G: Gate> Context<'a, J, H
     {
         let mut worker = Worker::new(self.alloc, lens, pass);
         let ended = self.run_admin(&mut worker, link);
-        let served = worker.into_desk().leave(self.rt, self.hub);
+        let served = worker.into_poster().leave(self.rt, self.hub);
         match ended {
             Ok(()) => Ok(served),
             Err(cause) => Err(Faulted { cause, served }),

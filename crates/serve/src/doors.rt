@@ -66,6 +66,14 @@ pub trait Doors<S: Source + Drop, W: Write + Drop> {
     /// A connection of a peer has its seat.
     fn seated(&self, _source: &S) {}
 
+    /// How many threads serve what else comes in.
+    fn threads_beside(&self) -> u64 {
+        0
+    }
+
+    /// Serves what else comes in, in one of these threads. It returns once both doors have closed.
+    fn beside(&self) {}
+
     /// Takes back the connection of a peer that is over. What was read, told and written is what
     /// `serve_session` promises.
     fn part_peer(&self, _config: &Config, _source: S, _writer: W, _ended: Result<Served, Faulted>)
@@ -137,6 +145,12 @@ trait Workers<K> {
 
     /// Posts moments until both doors have closed.
     fn timer<R: Wait>(&self, rt: &R);
+
+    /// How many threads serve what else comes in.
+    fn threads_beside(&self) -> u64;
+
+    /// Serves what else comes in until both doors have closed. Each of these threads does so.
+    fn beside(&self);
 }
 
 // Whether a worker that has ended gave its seat back.
@@ -314,6 +328,14 @@ impl<
         let ended = context.run_timer(pass);
         self.clock.part_timer(ended);
     }
+
+    fn threads_beside(&self) -> u64 {
+        self.doors.threads_beside()
+    }
+
+    fn beside(&self) {
+        self.doors.beside();
+    }
 }
 
 // Admin connections, one after the other, until their door closes. Several threads do this.
@@ -330,6 +352,22 @@ fn admins<R: Wait, K, U: Workers<K>>(rt: &R, workers: &U, counts: &Counts) {
     counts.close();
 }
 
+// What else comes in.
+fn beside<R: Wait, K, U: Workers<K>>(rt: &R, workers: &U, counts: &Counts) {
+    if counts.are_served(rt) {
+        workers.beside();
+    }
+}
+
+// The thread of this number: of the admins, or of what else comes in.
+fn assist<R: Wait, K, U: Workers<K>>(rt: &R, workers: &U, counts: &Counts, number: u64) {
+    if number < ADMINS {
+        admins(rt, workers, counts);
+    } else {
+        beside(rt, workers, counts);
+    }
+}
+
 // One connection of a peer.
 fn peer<R: Wait + std::rt::Clock, K, U: Workers<K>>(
     rt: &R,
@@ -341,8 +379,8 @@ fn peer<R: Wait + std::rt::Clock, K, U: Workers<K>>(
     counts.end();
 }
 
-// Runs the timer in a thread of its own, as many admins as may be served at once, and each
-// connection of a peer.
+// Runs the timer in a thread of its own, as many admins as may be served at once, what else comes
+// in, and each connection of a peer.
 fn open<
     R: Threads + Wait + std::rt::Clock + Copy + Send + Sync,
     K: Send + Drop,
@@ -353,8 +391,11 @@ fn open<
             counts.give_up();
             return;
         }
-        for _ in 0..ADMINS {
-            if scope.spawn(move || admins(rt, workers, counts)).is_err() {
+        for number in 0..ADMINS.saturating_add(workers.threads_beside()) {
+            if scope
+                .spawn(move || assist(rt, workers, counts, number))
+                .is_err()
+            {
                 counts.give_up();
                 return;
             }
@@ -381,12 +422,13 @@ fn open<
 }
 
 /// Serves until both doors have closed and their workers have ended: one worker for each connection
-/// of a peer, four admin connections at once, and a timer, whose seat is taken first.
+/// of a peer, four admin connections at once, what the doors serve beside them, and a timer, whose
+/// seat is taken first.
 ///
-/// Where that seat is refused, or the thread of the timer or of an admin, nothing is
-/// served. Each connection that was served goes back to the doors, and the timer to its clock, with
-/// what is promised of it. Which connections are served, that all go back, and what is counted no
-/// clause says: what other threads did leaves nothing here that one could name.
+/// Where that seat is refused, or the thread of the timer, of an admin or of what is served beside
+/// them, nothing is served. Each connection that was served goes back to the doors, and the timer
+/// to its clock, with what is promised of it. Which connections are served, that all go back, and
+/// what is counted no clause says: what other threads did leaves nothing here that one could name.
 pub fn serve_all<
     J: Naming + Send + Sync,
     H: Wait + Drop + Send,

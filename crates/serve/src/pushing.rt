@@ -8,7 +8,7 @@ ghost use Rattle.serve.specs.Tellings.{Equips, HoldsLast, LooksBack, MayShow, Sa
 ghost use Rattle.serve.specs.Tellings.{TurnsTo, asked_pushing};
 ghost use Rattle.serve.specs.Turns.{set_named, sets_in};
 
-use crate::desk::Desk;
+use crate::poster::Poster;
 use agg_types::{Config, Items, Key, NoMemory};
 use book::Book;
 use hub::{Hub, Lens, Naming};
@@ -57,14 +57,14 @@ fn sets_in<'a>(
     Ok(sets)
 }
 
-// Has a lens learn what was posted last, if there is a desk.
-fn show_last(desk: &Option<Desk>, lens: &mut Lens)
-    requires { MayShow desk.now lens.old.seen }
+// Has a lens learn what was posted last, if there is a poster.
+fn show_last(poster: &Option<Poster>, lens: &mut Lens)
+    requires { MayShow poster.now lens.old.seen }
     ensures kept { Follows lens.old.seen lens.new.seen }
-    ensures holds { HoldsLast desk.now lens.new.seen }
+    ensures holds { HoldsLast poster.now lens.new.seen }
 {
-    if let Some(desk) = desk {
-        desk.show(lens);
+    if let Some(poster) = poster {
+        poster.show(lens);
     }
 }
 
@@ -135,13 +135,13 @@ impl Pushing {
 
     /// What a turn at a moment writes, over a look that has what was posted last. None where no
     /// look is to be had, or an allocation failed: then nothing is told.
-    pub fn turn(&mut self, alloc: Global, desk: &Option<Desk>, now: u64) -> Option<Vec<u8>>
-        requires of { LooksBack self.old desk.now }
+    pub fn turn(&mut self, alloc: Global, poster: &Option<Poster>, now: u64) -> Option<Vec<u8>>
+        requires of { LooksBack self.old poster.now }
         ensures tables { self.new.pushed ≡ self.old.pushed }
-        ensures turns { TurnsTo self.old self.new desk.now (option_map (λ t. t.items) result) }
+        ensures turns { TurnsTo self.old self.new poster.now (option_map (λ t. t.items) result) }
     {
         let mut lens = self.lens.take()?;
-        show_last(desk, &mut lens);
+        show_last(poster, &mut lens);
         let text = self.say(alloc, &mut lens);
         self.lens = Some(lens);
         self.made = Some(now);

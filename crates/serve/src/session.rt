@@ -6,13 +6,13 @@ ghost use Rattle.agg_types.specs.declared.event.What.{What};
 ghost use Rattle.hub.specs.Posts.{Follows, SitsDown};
 ghost use Rattle.serve.specs.declared.served.Cause.{Cause};
 ghost use Rattle.serve.specs.Traffic.{so_far};
-ghost use Rattle.serve.specs.Turns.{DeskTells, IsDeskOf, SeatIsServed, seat_at};
+ghost use Rattle.serve.specs.Turns.{PosterTells, IsPosterOf, SeatIsServed, seat_at};
 ghost use Rattle.serve.specs.Working.{IsServedUntil, IsServedWhole};
 
 use crate::clock::Clock;
 use crate::context::{Context, Link};
-use crate::desk::Desk;
 use crate::gate::Gate;
+use crate::poster::Poster;
 use crate::served::{Faulted, Served};
 use crate::source::Source;
 use crate::worker::Worker;
@@ -29,17 +29,17 @@ impl<'a, J: Naming, H: Wait + Drop, R: Wait + std::rt::Clock, C: Clock, G: Gate>
     G,
 > {
     // Gives the pass of a session that has one back to the hub.
-    fn leave(&self, desk: Option<Desk>) -> Served
-        requires of { IsDeskOf self.now.hub.now desk }
-        ensures { (whats : List What) (waiting : ℕ) → DeskTells self.now.hub.now desk whats waiting
-            → SeatIsServed self.now.hub.now (seat_at desk) result whats waiting }
+    fn leave(&self, poster: Option<Poster>) -> Served
+        requires of { IsPosterOf self.now.hub.now poster }
+        ensures { (whats : List What) (waiting : ℕ) → PosterTells self.now.hub.now poster whats waiting
+            → SeatIsServed self.now.hub.now (seat_at poster) result whats waiting }
     {
-        match desk {
+        match poster {
             None => Served {
                 last: None,
                 left: None,
             },
-            Some(desk) => desk.leave(self.rt, self.hub),
+            Some(poster) => poster.leave(self.rt, self.hub),
         }
     }
 
@@ -79,7 +79,7 @@ impl<'a, J: Naming, H: Wait + Drop, R: Wait + std::rt::Clock, C: Clock, G: Gate>
         let mut worker = Worker::new(self.alloc, pass, self.clock.now());
         let ended = self.run_session(&mut worker, link);
         worker.bid_farewell(self.gate, link.source.sender(), &ended);
-        let served = self.leave(worker.into_desk());
+        let served = self.leave(worker.into_poster());
         match ended {
             Ok(()) => Ok(served),
             Err(cause) => Err(Faulted { cause, served }),

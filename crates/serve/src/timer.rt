@@ -7,8 +7,8 @@ ghost use Rattle.serve.specs.Told.{stored_in};
 
 use crate::clock::Clock;
 use crate::context::Context;
-use crate::desk::Desk;
 use crate::gate::{Gate, Place};
+use crate::poster::Poster;
 use crate::served::{Cause, Faulted, Served};
 use agg_types::{LAST_MOMENT, What};
 use hub::{Naming, Pass, PostFault};
@@ -19,10 +19,10 @@ const MOST_TURNS: u64 = 1 << 40;
 
 impl<'a, J: Naming, H: Wait + Drop, R: Wait, C: Clock, G: Gate> Context<'a, J, H, R, C, G> {
     // Posts the clock's moment.
-    fn post_moment(&self, desk: &mut Desk) -> Result<(), PostFault>
-        requires timed { HasTimed self.now.hub.now (C.gives self.now.clock.now) desk.old 0 }
-        ensures seat { desk.new.pass.seat ≡ desk.old.pass.seat }
-        ensures timed { HasTimed self.now.hub.now (C.gives self.now.clock.now) desk.new
+    fn post_moment(&self, poster: &mut Poster) -> Result<(), PostFault>
+        requires timed { HasTimed self.now.hub.now (C.gives self.now.clock.now) poster.old 0 }
+        ensures seat { poster.new.pass.seat ≡ poster.old.pass.seat }
+        ensures timed { HasTimed self.now.hub.now (C.gives self.now.clock.now) poster.new
             (stored_in result 1) }
     {
         let moment = self.clock.now();
@@ -33,14 +33,14 @@ impl<'a, J: Naming, H: Wait + Drop, R: Wait, C: Clock, G: Gate> Context<'a, J, H
         if whats.push(What::Moment(moment)).is_err() {
             return Err(PostFault::NoMemory(Vec::new(self.alloc)));
         }
-        desk.post(self.rt, self.hub, whats)
+        poster.post(self.rt, self.hub, whats)
     }
 
     // Posts moments until the gate says so, or a fault comes.
-    fn post_moments(&self, desk: &mut Desk) -> Result<(), Cause>
-        requires timed { HasTimed self.now.hub.now (C.gives self.now.clock.now) desk.old 0 }
-        ensures seat { desk.new.pass.seat ≡ desk.old.pass.seat }
-        ensures timed { HasTimed self.now.hub.now (C.gives self.now.clock.now) desk.new
+    fn post_moments(&self, poster: &mut Poster) -> Result<(), Cause>
+        requires timed { HasTimed self.now.hub.now (C.gives self.now.clock.now) poster.old 0 }
+        ensures seat { poster.new.pass.seat ≡ poster.old.pass.seat }
+        ensures timed { HasTimed self.now.hub.now (C.gives self.now.clock.now) poster.new
             (stored_at result) }
     {
         for _ in 0..MOST_TURNS {
@@ -48,7 +48,7 @@ impl<'a, J: Naming, H: Wait + Drop, R: Wait, C: Clock, G: Gate> Context<'a, J, H
                 return Ok(());
             }
             self.gate.turn(Place::Timer);
-            match self.post_moment(desk) {
+            match self.post_moment(poster) {
                 Ok(()) => self.clock.rest(),
                 Err(refusal) => return Err(Cause::Post(refusal)),
             }
@@ -68,9 +68,9 @@ impl<'a, J: Naming, H: Wait + Drop, R: Wait, C: Clock, G: Gate> Context<'a, J, H
         ensures err { IfErr result (λ faulted. IsTimed self.now.hub.now
             (C.gives self.now.clock.now) pass.seat (stored_by faulted.cause) faulted.served) }
     {
-        let mut desk = Desk::new(pass);
-        let ended = self.post_moments(&mut desk);
-        let served = desk.leave(self.rt, self.hub);
+        let mut poster = Poster::new(pass);
+        let ended = self.post_moments(&mut poster);
+        let served = poster.leave(self.rt, self.hub);
         match ended {
             Ok(()) => Ok(served),
             Err(cause) => Err(Faulted { cause, served }),

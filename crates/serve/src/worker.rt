@@ -11,10 +11,10 @@ ghost use Rattle.hub.specs.Roll.{MayPost};
 
 use crate::clock::Clock;
 use crate::context::{Context, Link};
-use crate::desk::Desk;
 use crate::faults::{AnswerFault, TurnFault};
 use crate::gate::{Gate, Gone, News, Place};
 use crate::hello::Hello;
+use crate::poster::Poster;
 use crate::pushing::Pushing;
 use crate::scout::Scout;
 use crate::served::Cause;
@@ -36,7 +36,7 @@ pub const MOST_READS: u64 = 1 << 40;
 #[derive(Drop)]
 pub struct Worker {
     session: Session,
-    desk: Option<Desk>,
+    poster: Option<Poster>,
     hello: Hello,
     scout: Scout,
     peer: Option<usize>,
@@ -58,20 +58,20 @@ impl Worker {
     ghost use Rattle.serve.specs.Turns.{seat_at};
     ghost use Rattle.serve.specs.Working.{IsAtWork, Takes};
 
-    /// A connection that came in, with a desk if it has a seat.
+    /// A connection that came in, with a poster if it has a seat.
     pub fn new(alloc: Global, pass: Option<Pass>, now: u64) -> Worker
         ensures work { (hub : Beginning) → IfSome pass (λ p. SitsDown p × Follows hub p.seen)
             → IsAtWork hub result.session.seated result [] }
         ensures seated { result.session.seated ≡ is_some (option_map (λ p. p.seat) pass) }
-        ensures seat { seat_at result.desk ≡ option_map (λ p. p.seat) pass }
+        ensures seat { seat_at result.poster ≡ option_map (λ p. p.seat) pass }
     {
-        let desk = match pass {
+        let poster = match pass {
             None => None,
-            Some(pass) => Some(Desk::new(pass)),
+            Some(pass) => Some(Poster::new(pass)),
         };
         Worker {
-            session: Session::accept(alloc, desk.is_some(), now),
-            desk,
+            session: Session::accept(alloc, poster.is_some(), now),
+            poster,
             hello: Hello::new(),
             scout: Scout::new(alloc),
             peer: None,
@@ -83,24 +83,24 @@ impl Worker {
     }
 
     /// What is left of it once it has ended.
-    pub fn into_desk(self) -> Option<Desk>
-        ensures { result ≡ self.desk }
+    pub fn into_poster(self) -> Option<Poster>
+        ensures { result ≡ self.poster }
     {
-        let Worker { desk, .. } = self;
-        desk
+        let Worker { poster, .. } = self;
+        poster
     }
 
     fn place(&self) -> Place {
-        Place::Session(match &self.desk {
+        Place::Session(match &self.poster {
             None => None,
-            Some(desk) => Some(desk.seat()),
+            Some(poster) => Some(poster.seat()),
         })
     }
 
     // Keeps what it hears of a hello, and finds the tables that are defined.
     fn listen(&mut self, piece: &[u8])
         ensures session { self.new.session ≡ self.old.session }
-        ensures desk { self.new.desk ≡ self.old.desk }
+        ensures poster { self.new.poster ≡ self.old.poster }
         ensures pushing { self.new.pushing ≡ self.old.pushing }
     {
         if self.peer.is_none() {
@@ -112,7 +112,7 @@ impl Worker {
     // Tells that a peer's hello was accepted, once, and what was posted and defined since it told.
     fn greet<G: Gate>(&mut self, gate: &G)
         ensures session { self.new.session ≡ self.old.session }
-        ensures desk { self.new.desk ≡ self.old.desk }
+        ensures poster { self.new.poster ≡ self.old.poster }
         ensures pushing { self.new.pushing ≡ self.old.pushing }
     {
         if self.peer.is_none() {
@@ -170,7 +170,7 @@ impl Worker {
     // A resync request was read, if this is so: all is told anew.
     fn ask(&mut self, asks: bool)
         ensures session { self.new.session ≡ self.old.session }
-        ensures desk { self.new.desk ≡ self.old.desk }
+        ensures poster { self.new.poster ≡ self.old.poster }
         ensures pushing { self.new.pushing ≡ option_map (asked_pushing asks) self.old.pushing }
     {
         if let Some(pushing) = &mut self.pushing {
@@ -180,7 +180,7 @@ impl Worker {
 
     // Sends a heartbeat where one is due, and ends a session that was silent for too long.
     fn rest<W: Write>(&mut self, writer: &mut W, now: u64) -> Result<(), TurnFault>
-        ensures seat { seat_at self.new.desk ≡ seat_at self.old.desk }
+        ensures seat { seat_at self.new.poster ≡ seat_at self.old.poster }
         ensures takes { (hub : Beginning) → Takes hub self.old self.new [] (W.contents writer.old)
             (W.contents writer.new) result }
     {
@@ -205,7 +205,7 @@ impl<'a, J: Naming, H: Wait + Drop, R: Wait + std::rt::Clock, C: Clock, G: Gate>
     G,
 > {
     ghost use Rattle.serve.specs.Traffic.{Traffic, so_far};
-    ghost use Rattle.serve.specs.Turns.{DeskTells, IsDeskOf, Turn, seat_at};
+    ghost use Rattle.serve.specs.Turns.{PosterTells, IsPosterOf, Turn, seat_at};
     ghost use Rattle.serve.specs.Waiting.{BeatsThen, PostsTo};
     ghost use Rattle.serve.specs.Working.{EndsTo, IsAtWork, SaysAt, SettlesTo, Takes, Works};
     ghost use Rattle.serve.specs.Working.{WorksOn};
@@ -217,26 +217,26 @@ impl<'a, J: Naming, H: Wait + Drop, R: Wait + std::rt::Clock, C: Clock, G: Gate>
         writer: &mut W,
         facts: Vec<What>,
     ) -> Result<(), AnswerFault>
-        requires of { IsDeskOf self.now.hub.now worker.old.desk }
+        requires of { IsPosterOf self.now.hub.now worker.old.poster }
         requires fits { All (MayPost self.now.hub.now.config) facts.items }
         ensures session { worker.new.session ≡ worker.old.session }
         ensures pushing { worker.new.pushing ≡ worker.old.pushing }
-        ensures seat { seat_at worker.new.desk ≡ seat_at worker.old.desk }
+        ensures seat { seat_at worker.new.poster ≡ seat_at worker.old.poster }
         ensures told { BeatsThen (W.contents writer.old) (λ written. (whats : List What)
-            → DeskTells self.now.hub.now worker.old.desk whats 0
-            → PostsTo self.now.hub.now worker.new.desk whats facts.items
+            → PosterTells self.now.hub.now worker.old.poster whats 0
+            → PostsTo self.now.hub.now worker.new.poster whats facts.items
             (W.contents writer.new) result written) }
     {
-        let Some(desk) = &mut worker.desk else {
+        let Some(poster) = &mut worker.poster else {
             return Ok(());
         };
         if facts.is_empty() {
             return Ok(());
         }
         let count = facts.len() as u64;
-        let ticket = desk.append(self.rt, self.hub, facts)?;
+        let ticket = poster.append(self.rt, self.hub, facts)?;
         let receipt = self.await_shown(&mut worker.pulse, writer, ticket)?;
-        desk.take_up(receipt);
+        poster.take_up(receipt);
         worker.told = worker.told.saturating_add(count);
         Ok(())
     }
@@ -248,14 +248,14 @@ impl<'a, J: Naming, H: Wait + Drop, R: Wait + std::rt::Clock, C: Clock, G: Gate>
         writer: &mut W,
         batch: Batch,
     ) -> Result<(), AnswerFault>
-        requires of { IsDeskOf self.now.hub.now worker.old.desk }
+        requires of { IsPosterOf self.now.hub.now worker.old.poster }
         requires fits { All (MayPost self.now.hub.now.config) batch.facts }
         ensures session { worker.new.session ≡ worker.old.session }
         ensures pushing { worker.new.pushing ≡ worker.old.pushing }
-        ensures seat { seat_at worker.new.desk ≡ seat_at worker.old.desk }
+        ensures seat { seat_at worker.new.poster ≡ seat_at worker.old.poster }
         ensures told { BeatsThen (W.contents writer.old) (λ written. (whats : List What)
-            → DeskTells self.now.hub.now worker.old.desk whats 0
-            → SettlesTo self.now.hub.now worker.new.desk whats batch written
+            → PosterTells self.now.hub.now worker.old.poster whats 0
+            → SettlesTo self.now.hub.now worker.new.poster whats batch written
             (W.contents writer.new) result) }
     {
         let (facts, out) = batch.into_parts();
@@ -273,14 +273,14 @@ impl<'a, J: Naming, H: Wait + Drop, R: Wait + std::rt::Clock, C: Clock, G: Gate>
         writer: &mut W,
         fault: SessionFault,
     ) -> Result<SessionCause, AnswerFault>
-        requires of { IsDeskOf self.now.hub.now worker.old.desk }
+        requires of { IsPosterOf self.now.hub.now worker.old.poster }
         requires fits { All (MayPost self.now.hub.now.config) fault.batch.facts }
         ensures session { worker.new.session ≡ worker.old.session }
         ensures pushing { worker.new.pushing ≡ worker.old.pushing }
-        ensures seat { seat_at worker.new.desk ≡ seat_at worker.old.desk }
+        ensures seat { seat_at worker.new.poster ≡ seat_at worker.old.poster }
         ensures ends { BeatsThen (W.contents writer.old) (λ written. (whats : List What)
-            → DeskTells self.now.hub.now worker.old.desk whats 0
-            → EndsTo self.now.hub.now worker.old.desk worker.new.desk whats fault
+            → PosterTells self.now.hub.now worker.old.poster whats 0
+            → EndsTo self.now.hub.now worker.old.poster worker.new.poster whats fault
             written (W.contents writer.new) result) }
     {
         let SessionFault { cause, batch } = fault;
@@ -303,7 +303,7 @@ impl<'a, J: Naming, H: Wait + Drop, R: Wait + std::rt::Clock, C: Clock, G: Gate>
     ) -> Result<(), TurnFault>
         requires work { (seated : Bool) × (turns : List Turn)
             × IsAtWork self.now.hub.now seated worker.old turns }
-        ensures seat { seat_at worker.new.desk ≡ seat_at worker.old.desk }
+        ensures seat { seat_at worker.new.poster ≡ seat_at worker.old.poster }
         ensures takes { Takes self.now.hub.now worker.old worker.new piece.now
             (W.contents writer.old) (W.contents writer.new) result }
     {
@@ -327,7 +327,7 @@ impl<'a, J: Naming, H: Wait + Drop, R: Wait + std::rt::Clock, C: Clock, G: Gate>
     fn said(&self, worker: &mut Worker, now: u64) -> Option<Vec<u8>>
         requires work { (seated : Bool) × (turns : List Turn)
             × IsAtWork self.now.hub.now seated worker.old turns }
-        ensures seat { seat_at worker.new.desk ≡ seat_at worker.old.desk }
+        ensures seat { seat_at worker.new.poster ≡ seat_at worker.old.poster }
         ensures said { (seated : Bool) (turns : List Turn)
             → IsAtWork self.now.hub.now seated worker.old turns
             → SaysAt self.now.hub.now seated worker.new turns
@@ -343,14 +343,14 @@ impl<'a, J: Naming, H: Wait + Drop, R: Wait + std::rt::Clock, C: Clock, G: Gate>
             return None;
         }
         pushing.equip(self.rt, self.hub);
-        pushing.turn(self.alloc, &worker.desk, now)
+        pushing.turn(self.alloc, &worker.poster, now)
     }
 
     // Tells what is to be told.
     fn tell<W: Write>(&self, worker: &mut Worker, writer: &mut W, now: u64) -> Result<(), TurnFault>
         requires work { (seated : Bool) × (turns : List Turn)
             × IsAtWork self.now.hub.now seated worker.old turns }
-        ensures seat { seat_at worker.new.desk ≡ seat_at worker.old.desk }
+        ensures seat { seat_at worker.new.poster ≡ seat_at worker.old.poster }
         ensures takes { Takes self.now.hub.now worker.old worker.new [] (W.contents writer.old)
             (W.contents writer.new) result }
     {
@@ -371,7 +371,7 @@ impl<'a, J: Naming, H: Wait + Drop, R: Wait + std::rt::Clock, C: Clock, G: Gate>
     ) -> Result<(), TurnFault>
         requires work { (seated : Bool) × (turns : List Turn)
             × IsAtWork self.now.hub.now seated worker.old turns }
-        ensures seat { seat_at worker.new.desk ≡ seat_at worker.old.desk }
+        ensures seat { seat_at worker.new.poster ≡ seat_at worker.old.poster }
         ensures takes { Takes self.now.hub.now worker.old worker.new [] (W.contents writer.old)
             (W.contents writer.new) result }
     {
@@ -389,7 +389,7 @@ impl<'a, J: Naming, H: Wait + Drop, R: Wait + std::rt::Clock, C: Clock, G: Gate>
     ) -> Result<(), TurnFault>
         requires work { (seated : Bool) × (turns : List Turn)
             × IsAtWork self.now.hub.now seated worker.old turns }
-        ensures seat { seat_at worker.new.desk ≡ seat_at worker.old.desk }
+        ensures seat { seat_at worker.new.poster ≡ seat_at worker.old.poster }
         ensures takes { Takes self.now.hub.now worker.old worker.new piece.now
             (W.contents writer.old) (W.contents writer.new) result }
     {
@@ -411,7 +411,7 @@ impl<'a, J: Naming, H: Wait + Drop, R: Wait + std::rt::Clock, C: Clock, G: Gate>
         requires work { (seated : Bool) × (turns : List Turn)
             × IsAtWork self.now.hub.now seated worker.old turns }
         requires reads { S.reads link.old.source < 2 ^ 62 }
-        ensures seat { seat_at worker.new.desk ≡ seat_at worker.old.desk }
+        ensures seat { seat_at worker.new.poster ≡ seat_at worker.old.poster }
         ensures works { (seated : Bool) (start : Traffic)
             → Works self.now.hub.now seated worker.old start
             (so_far (S.given link.old.source) (W.contents link.old.writer))
@@ -439,7 +439,7 @@ impl<'a, J: Naming, H: Wait + Drop, R: Wait + std::rt::Clock, C: Clock, G: Gate>
     // Makes room for what is read, and for what is told. None where an allocation failed.
     fn make_room(&self, worker: &mut Worker) -> Option<Vec<u8>>
         ensures session { worker.new.session ≡ worker.old.session }
-        ensures desk { worker.new.desk ≡ worker.old.desk }
+        ensures poster { worker.new.poster ≡ worker.old.poster }
         ensures work { (seated : Bool) → IsAtWork self.now.hub.now seated worker.old []
             → IsAtWork self.now.hub.now seated worker.new [] }
     {
@@ -458,7 +458,7 @@ impl<'a, J: Naming, H: Wait + Drop, R: Wait + std::rt::Clock, C: Clock, G: Gate>
     ) -> Result<(), Cause>
         requires work { IsAtWork self.now.hub.now worker.old.session.seated worker.old [] }
         requires reads { S.reads link.old.source ≡ 0 }
-        ensures seat { seat_at worker.new.desk ≡ seat_at worker.old.desk }
+        ensures seat { seat_at worker.new.poster ≡ seat_at worker.old.poster }
         ensures works { WorksOn self.now.hub.now worker.old.session.seated worker.new
             (so_far (S.given link.old.source) (W.contents link.old.writer))
             (so_far (S.given link.new.source) (W.contents link.new.writer)) result }

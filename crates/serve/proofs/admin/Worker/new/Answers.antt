@@ -6,5 +6,5 @@ use Rattle.serve.proofs.admin.Worker.new.Goals as goal
 pub returns-clause-learned : goal.returns-clause-learned
 returns-clause-learned c =
     λ hub sits seen follows. learned_none hub c.args.pass.seat _
-    (ap (λ (p : Seated). p.seat) c.new-desk.ensures.pass) follows
-    (c.new-desk.ensures.told hub sits seen)
+    (ap (λ (p : Seated). p.seat) c.new-poster.ensures.pass) follows
+    (c.new-poster.ensures.told hub sits seen)

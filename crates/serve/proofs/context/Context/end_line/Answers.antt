@@ -25,7 +25,7 @@ returns-then-quits-clause-takes g c =
     from_ok c.keep.result (sym c.is_err.ensures.value ∙ c.if-is_err.false)
     (c.keep.ensures.keeps w.line w.keeps) in
     inr (has_quit hub seat c.args.worker.now c.keep.new.self c.args.bytes.now rest start given
-    (g.W.Write.contents c.args.writer.now) c.keep.ensures.desk whole w
+    (g.W.Write.contents c.args.writer.now) c.keep.ensures.poster whole w
     (asks_same (w.line ++ c.args.bytes.now) c.keep.new.self.line.bytes.items c.as_slice.result.now
     c.quits.result true kept c.as_slice.ensures c.quits.ensures c.if-quits.true))
 
@@ -36,7 +36,7 @@ returns-in_err-obey-clause-takes g c =
     let since = seen_by hub w.replies in
     let learned : HasLearned hub since seat c.keep.new.self (changes_in w.replies) =
     learned_same hub since seat c.args.worker.now c.keep.new.self (changes_in w.replies)
-    c.keep.ensures.desk (ap (λ (s : Seeing). s.seen) c.keep.ensures.lens) w.learned in
+    c.keep.ensures.poster (ap (λ (s : Seeing). s.seen) c.keep.ensures.lens) w.learned in
     let kept : c.keep.new.self.line.bytes.items ≡ kept_of (w.line ++ c.args.bytes.now) =
     from_ok c.keep.result (sym c.is_err.ensures.value ∙ c.if-is_err.false)
     (c.keep.ensures.keeps w.line w.keeps) in
@@ -55,7 +55,7 @@ returns-clause-takes g c =
     let since = seen_by hub w.replies in
     let learned : HasLearned hub since seat c.keep.new.self (changes_in w.replies) =
     learned_same hub since seat c.args.worker.now c.keep.new.self (changes_in w.replies)
-    c.keep.ensures.desk (ap (λ (s : Seeing). s.seen) c.keep.ensures.lens) w.learned in
+    c.keep.ensures.poster (ap (λ (s : Seeing). s.seen) c.keep.ensures.lens) w.learned in
     let kept : c.keep.new.self.line.bytes.items ≡ kept_of (w.line ++ c.args.bytes.now) =
     from_ok c.keep.result (sym c.is_err.ensures.value ∙ c.if-is_err.false)
     (c.keep.ensures.keeps w.line w.keeps) in

@@ -6,6 +6,6 @@ returns-in-NoMemory-clause-ends g c =
     let before = g.W.Write.contents c.args.writer.now in record {
       written = before;
       beats = beats_none before;
-      goes_on = λ whats told. ends_for_memory c.args.self.now.hub.now c.args.worker.now.desk whats
+      goes_on = λ whats told. ends_for_memory c.args.self.now.hub.now c.args.worker.now.poster whats
           c.args.fault before c.in-NoMemory.is;
     }

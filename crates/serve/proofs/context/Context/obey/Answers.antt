@@ -26,6 +26,6 @@ pub returns-in-Err-clause-obeys : goal.returns-in-Err-clause-obeys
 returns-in-Err-clause-obeys g c =
     λ since seat whats line learned kept whole stays.
     let hub = c.args.self.now.hub.now in
-    obeys_unlooked hub c.look.new.self.desk whats (g.W.Write.contents c.args.writer.now)
+    obeys_unlooked hub c.look.new.self.poster whats (g.W.Write.contents c.args.writer.now)
     c.refused.result c.refused.ensures
     (c.in-Err.ensures.looks hub since seat whats line learned kept whole stays)

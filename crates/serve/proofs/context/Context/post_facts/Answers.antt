@@ -1,7 +1,7 @@
 use Rattle.std.proofs.Common.{◌==◌, ap, refl, subst, ◌∙◌}
 use Rattle.std.proofs.lemmas.Result.{err_from_is_err_and}
 use Rattle.serve.proofs.Pulses.{beats_none, posts_empty, posts_nowhere, waits_for}
-use Rattle.serve.specs.Turns.{DeskTells}
+use Rattle.serve.specs.Turns.{PosterTells}
 use Rattle.serve.proofs.context.Context.post_facts.Goals as goal
 
 pub returns-in_default-clause-told : goal.returns-in_default-clause-told
@@ -9,7 +9,7 @@ returns-in_default-clause-told g c =
     let before = g.W.Write.contents c.args.writer.now in record {
       written = before;
       beats = beats_none before;
-      goes_on = λ whats told. posts_nowhere c.args.self.now.hub.now c.args.worker.now.desk whats
+      goes_on = λ whats told. posts_nowhere c.args.self.now.hub.now c.args.worker.now.poster whats
           c.args.facts.items before c.in_default.is;
     }
 
@@ -19,9 +19,9 @@ returns-then-is_empty-clause-told g c =
       written = before;
       beats = beats_none before;
       goes_on = λ whats told. (
-        posts_empty c.args.self.now.hub.now c.in-Some.desk whats c.args.facts.items
+        posts_empty c.args.self.now.hub.now c.in-Some.poster whats c.args.facts.items
             (c.if-is_empty.ensures ∙ ap (λ n. n == 0) c.args.facts.ok.0)
-            (subst (λ d. DeskTells c.args.self.now.hub.now d whats 0) c.in-Some.is told),
+            (subst (λ d. PosterTells c.args.self.now.hub.now d whats 0) c.in-Some.is told),
         refl,
       );
     }
@@ -34,7 +34,7 @@ returns-in_err-ticket-clause-told g c =
       beats = beats_none before;
       goes_on = λ whats told. rw (p.1, p.2) (
         c.in_err-ticket.ensures.appended whats
-            (subst (λ d. DeskTells c.args.self.now.hub.now d whats 0) c.in-Some.is told),
+            (subst (λ d. PosterTells c.args.self.now.hub.now d whats 0) c.in-Some.is told),
         refl,
       );
     }
@@ -49,7 +49,7 @@ returns-clause-told g c =
             (waits_for c.args.self.now.hub.now c.append.new.self whats c.args.facts.items
             c.in_ok-ticket.ticket c.in_ok-receipt.receipt then.goes_on.0
             (c.in_ok-ticket.ensures.appended whats
-            (subst (λ d. DeskTells c.args.self.now.hub.now d whats 0) c.in-Some.is told))),
+            (subst (λ d. PosterTells c.args.self.now.hub.now d whats 0) c.in-Some.is told))),
         then.goes_on.1,
       );
     }

@@ -6,7 +6,7 @@ use Rattle.serve.proofs.context.Context.run_admin.Goals as goal
 
 pub loop-made-init : goal.loop-made-init
 loop-made-init g c = record {
-  works = works_none c.args.self.now.hub.now c.args.worker.now.desk.pass.seat c.args.worker.now
+  works = works_none c.args.self.now.hub.now c.args.worker.now.poster.pass.seat c.args.worker.now
       (so_far (g.S.Source.given c.args.link.now.source)
       (g.W.Write.contents c.args.link.now.writer)) c.requires.line c.requires.learned;
   keeps = record { of = c.requires.at.of; lens = c.requires.at.lens; seat = refl };
@@ -19,12 +19,12 @@ loop-made-preserved g c =
     let i = c.loop-made.invariant in
     let turned = c.turn_admin.ensures in record {
       works = subst (λ (goes : Bool). WorksIf goes c.args.self.now.hub.now
-          c.args.worker.now.desk.pass.seat c.turn_admin.new.worker []
+          c.args.worker.now.poster.pass.seat c.turn_admin.new.worker []
           (so_far (g.S.Source.given c.args.link.now.source)
           (g.W.Write.contents c.args.link.now.writer))
           (so_far (g.S.Source.given c.turn_admin.new.link.source)
           (g.W.Write.contents c.turn_admin.new.link.writer))) c.if-not-goes.false
-          (c.in_ok-goes.ensures.works c.args.worker.now.desk.pass.seat
+          (c.in_ok-goes.ensures.works c.args.worker.now.poster.pass.seat
           (so_far (g.S.Source.given c.args.link.now.source)
           (g.W.Write.contents c.args.link.now.writer)) i.works);
       keeps = record {
@@ -42,11 +42,11 @@ returns-then-stop-clause-works g c = inl c.loop-made.invariant.works
 pub returns-then-not-goes-clause-works : goal.returns-then-not-goes-clause-works
 returns-then-not-goes-clause-works g c =
     subst (λ (goes : Bool). WorksIf goes c.args.self.now.hub.now
-    c.args.worker.now.desk.pass.seat c.turn_admin.new.worker []
+    c.args.worker.now.poster.pass.seat c.turn_admin.new.worker []
     (so_far (g.S.Source.given c.args.link.now.source)
     (g.W.Write.contents c.args.link.now.writer))
     (so_far (g.S.Source.given c.turn_admin.new.link.source)
     (g.W.Write.contents c.turn_admin.new.link.writer))) c.if-not-goes.true
-    (c.in_ok-goes.ensures.works c.args.worker.now.desk.pass.seat
+    (c.in_ok-goes.ensures.works c.args.worker.now.poster.pass.seat
     (so_far (g.S.Source.given c.args.link.now.source)
     (g.W.Write.contents c.args.link.now.writer)) c.loop-made.invariant.works)

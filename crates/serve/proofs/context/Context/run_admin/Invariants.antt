@@ -1,15 +1,15 @@
 use Rattle.std.proofs.Common.{◌≡◌, ℕ, ◌≤◌, []}
 use Rattle.hub.specs.History.{Beginning}
 use Rattle.serve.specs.declared.admin.Worker.{Worker}
-use Rattle.serve.specs.Commanding.{KeepsDesk, Works}
+use Rattle.serve.specs.Commanding.{KeepsPoster, Works}
 use Rattle.serve.specs.Traffic.{Traffic, so_far}
 use Rattle.serve.proofs.context.Context.run_admin.Given as goal
 
 -- the admin works on, and how often its source was read
 pub record Runs (hub : Beginning) (old worker : Worker) (start now : Traffic)
     (reads made failed0 failed : ℕ) : Type 0 where
-  pub works : Works hub old.desk.pass.seat worker [] start now
-  pub keeps : KeepsDesk hub old worker
+  pub works : Works hub old.poster.pass.seat worker [] start now
+  pub keeps : KeepsPoster hub old worker
   pub counted : reads ≡ made
   pub fails : failed0 ≤ failed
 

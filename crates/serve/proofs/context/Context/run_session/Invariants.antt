@@ -10,7 +10,7 @@ use Rattle.serve.proofs.context.Context.run_session.Given as goal
 pub record Runs (hub : Beginning) (seated : Bool) (worker : Worker) (start now : Traffic)
     (seat : Option ℕ) (reads made failed0 failed : ℕ) : Type 0 where
   pub works : Works hub seated worker start now
-  pub same_seat : seat_at worker.desk ≡ seat
+  pub same_seat : seat_at worker.poster ≡ seat
   pub counted : reads ≡ made
   pub fails : failed0 ≤ failed
 
@@ -19,5 +19,5 @@ invariant-loop-made g l =
     Runs l.self.hub.now l.fn.worker.session.seated l.worker
     (so_far (g.S.Source.given l.fn.link.source) (g.W.Write.contents l.fn.link.writer))
     (so_far (g.S.Source.given l.link.source) (g.W.Write.contents l.link.writer))
-    (seat_at l.fn.worker.desk) (g.S.Source.reads l.link.source) l.made
+    (seat_at l.fn.worker.poster) (g.S.Source.reads l.link.source) l.made
     (g.S.Source.failed l.fn.link.source) (g.S.Source.failed l.link.source)

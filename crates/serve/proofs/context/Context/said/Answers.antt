@@ -8,7 +8,7 @@ pub turn-requires : goal.turn-requires
 turn-requires g c =
     let work = c.requires.work.2 in record {
       of = looks_equipped c.args.self.now.hub.now c.requires.work.0 c.requires.work.1
-          c.args.worker.now.desk c.args.worker.now.pushing c.in-Some.pushing c.equip.new.self
+          c.args.worker.now.poster c.args.worker.now.pushing c.in-Some.pushing c.equip.new.self
           c.in-Some.is c.equip.ensures work.shown work.told work.tells;
     }
 

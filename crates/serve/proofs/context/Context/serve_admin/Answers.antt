@@ -4,7 +4,7 @@ use Rattle.serve.proofs.Commanded.{commanded_until, commanded_whole}
 use Rattle.serve.specs.Commanding.{HasLearned, RunsOut}
 use Rattle.serve.specs.Told.{HasTold, IsServed}
 use Rattle.serve.specs.Traffic.{so_far}
-use Rattle.serve.specs.declared.desk.Desk.{Desk}
+use Rattle.serve.specs.declared.poster.Poster.{Poster}
 use Rattle.serve.specs.declared.served.Cause.{Cause}
 use Rattle.serve.proofs.context.Context.serve_admin.Goals as goal
 
@@ -19,13 +19,13 @@ run_admin-ended-requires-clause-learned g c =
 pub returns-in-Ok-clause-served : goal.returns-in-Ok-clause-served
 returns-in-Ok-clause-served g c =
     let hub = c.args.self.now.hub.now in
-    let seat0 : c.new-worker.result.desk.pass.seat ≡ c.args.pass.seat =
+    let seat0 : c.new-worker.result.poster.pass.seat ≡ c.args.pass.seat =
     ap (λ (p : Seated). p.seat) c.new-worker.ensures.pass in
-    let left : c.into_desk.result.pass.seat ≡ c.args.pass.seat =
-    ap (λ (d : Desk). d.pass.seat) c.into_desk.ensures ∙
+    let left : c.into_poster.result.pass.seat ≡ c.args.pass.seat =
+    ap (λ (d : Poster). d.pass.seat) c.into_poster.ensures ∙
     (c.run_admin-ended.ensures.keeps.seat ∙ seat0) in
     let works = subst (λ (r : Result (Unit {0}) Cause). RunsOut hub
-    c.new-worker.result.desk.pass.seat c.run_admin-ended.new.worker
+    c.new-worker.result.poster.pass.seat c.run_admin-ended.new.worker
     (so_far (g.S.Source.given c.args.link.now.source)
     (g.W.Write.contents c.args.link.now.writer))
     (so_far (g.S.Source.given c.run_admin-ended.new.link.source)
@@ -39,8 +39,8 @@ returns-in-Ok-clause-served g c =
     c.leave-served.result
     (λ whats n told.
     subst (λ (s : ℕ). IsServed hub s whats n c.leave-served.result) left
-    (c.leave-served.ensures whats n (subst (λ (desk : Desk). HasTold hub desk whats n)
-    (sym c.into_desk.ensures) told)))
+    (c.leave-served.ensures whats n (subst (λ (poster : Poster). HasTold hub poster whats n)
+    (sym c.into_poster.ensures) told)))
     (subst (λ (s : ℕ). RunsOut hub s c.run_admin-ended.new.worker
     (so_far (g.S.Source.given c.args.link.now.source)
     (g.W.Write.contents c.args.link.now.writer))
@@ -51,13 +51,13 @@ pub returns-in-Err-clause-served : goal.returns-in-Err-clause-served
 returns-in-Err-clause-served g c =
     let hub = c.args.self.now.hub.now in
     let ended : Result (Unit {0}) Cause = Err c.in-Err.cause in
-    let seat0 : c.new-worker.result.desk.pass.seat ≡ c.args.pass.seat =
+    let seat0 : c.new-worker.result.poster.pass.seat ≡ c.args.pass.seat =
     ap (λ (p : Seated). p.seat) c.new-worker.ensures.pass in
-    let left : c.into_desk.result.pass.seat ≡ c.args.pass.seat =
-    ap (λ (d : Desk). d.pass.seat) c.into_desk.ensures ∙
+    let left : c.into_poster.result.pass.seat ≡ c.args.pass.seat =
+    ap (λ (d : Poster). d.pass.seat) c.into_poster.ensures ∙
     (c.run_admin-ended.ensures.keeps.seat ∙ seat0) in
     let works = subst (λ (r : Result (Unit {0}) Cause). RunsOut hub
-    c.new-worker.result.desk.pass.seat c.run_admin-ended.new.worker
+    c.new-worker.result.poster.pass.seat c.run_admin-ended.new.worker
     (so_far (g.S.Source.given c.args.link.now.source)
     (g.W.Write.contents c.args.link.now.writer))
     (so_far (g.S.Source.given c.run_admin-ended.new.link.source)
@@ -71,8 +71,8 @@ returns-in-Err-clause-served g c =
     (record { cause = c.in-Err.cause; served = c.leave-served.result })
     (λ whats n told.
     subst (λ (s : ℕ). IsServed hub s whats n c.leave-served.result) left
-    (c.leave-served.ensures whats n (subst (λ (desk : Desk). HasTold hub desk whats n)
-    (sym c.into_desk.ensures) told)))
+    (c.leave-served.ensures whats n (subst (λ (poster : Poster). HasTold hub poster whats n)
+    (sym c.into_poster.ensures) told)))
     (subst (λ (s : ℕ). RunsOut hub s c.run_admin-ended.new.worker
     (so_far (g.S.Source.given c.args.link.now.source)
     (g.W.Write.contents c.args.link.now.writer))

@@ -1,19 +1,19 @@
 use Rattle.std.proofs.Common.{◌≡◌, ℕ, Option, Result, ap, sym, subst, ◌∙◌}
 use Rattle.std.specs.Option.{option_map}
 use Rattle.hub.specs.Posts.{Seated}
-use Rattle.serve.proofs.Works.{desk_of_works, served_until, served_whole}
-use Rattle.serve.specs.declared.desk.Desk.{Desk}
+use Rattle.serve.proofs.Works.{poster_of_works, served_until, served_whole}
+use Rattle.serve.specs.declared.poster.Poster.{Poster}
 use Rattle.serve.specs.declared.served.Cause.{Cause}
 use Rattle.serve.specs.Traffic.{so_far}
 use Rattle.serve.specs.Working.{WorksOn}
-use Rattle.serve.specs.Turns.{DeskTells, IsDeskOf, SeatIsServed, seat_at}
+use Rattle.serve.specs.Turns.{PosterTells, IsPosterOf, SeatIsServed, seat_at}
 use Rattle.serve.proofs.context.Context.serve_session.Goals as goal
 
 pub leave-served-requires : goal.leave-served-requires
 leave-served-requires g c =
     let hub = c.args.self.now.hub.now in record {
-      of = subst (λ (desk : Option Desk). IsDeskOf hub desk) (sym c.into_desk.ensures)
-          (desk_of_works hub c.new-worker.result.session.seated c.run_session-ended.new.worker
+      of = subst (λ (poster : Option Poster). IsPosterOf hub poster) (sym c.into_poster.ensures)
+          (poster_of_works hub c.new-worker.result.session.seated c.run_session-ended.new.worker
           (so_far (g.S.Source.given c.args.link.now.source)
           (g.W.Write.contents c.args.link.now.writer))
           (so_far (g.S.Source.given c.run_session-ended.new.link.source)
@@ -25,7 +25,7 @@ pub returns-in-Ok-clause-served : goal.returns-in-Ok-clause-served
 returns-in-Ok-clause-served g c =
     let hub = c.args.self.now.hub.now in
     let seat : Option ℕ = option_map (λ (p : Seated). p.seat) c.args.pass in
-    let left : seat_at c.into_desk.result ≡ seat = ap seat_at c.into_desk.ensures
+    let left : seat_at c.into_poster.result ≡ seat = ap seat_at c.into_poster.ensures
     ∙ (c.run_session-ended.ensures.seat ∙ c.new-worker.ensures.seat) in
     served_whole hub c.new-worker.result.session.seated c.run_session-ended.new.worker
     (so_far (g.S.Source.given c.args.link.now.source)
@@ -36,8 +36,8 @@ returns-in-Ok-clause-served g c =
     (c.run_session-ended.ensures.seat ∙ c.new-worker.ensures.seat)
     (λ whats n told.
     subst (λ (s : Option ℕ). SeatIsServed hub s c.leave-served.result whats n) left
-    (c.leave-served.ensures whats n (subst (λ (desk : Option Desk). DeskTells hub desk whats n)
-    (sym c.into_desk.ensures) told)))
+    (c.leave-served.ensures whats n (subst (λ (poster : Option Poster). PosterTells hub poster whats n)
+    (sym c.into_poster.ensures) told)))
     (subst (λ (r : Result (Unit {0}) Cause). WorksOn hub c.new-worker.result.session.seated
     c.run_session-ended.new.worker (so_far (g.S.Source.given c.args.link.now.source)
     (g.W.Write.contents c.args.link.now.writer))
@@ -49,7 +49,7 @@ pub returns-in-Err-clause-served : goal.returns-in-Err-clause-served
 returns-in-Err-clause-served g c =
     let hub = c.args.self.now.hub.now in
     let seat : Option ℕ = option_map (λ (p : Seated). p.seat) c.args.pass in
-    let left : seat_at c.into_desk.result ≡ seat = ap seat_at c.into_desk.ensures
+    let left : seat_at c.into_poster.result ≡ seat = ap seat_at c.into_poster.ensures
     ∙ (c.run_session-ended.ensures.seat ∙ c.new-worker.ensures.seat) in
     served_until hub c.new-worker.result.session.seated c.run_session-ended.new.worker
     (so_far (g.S.Source.given c.args.link.now.source)
@@ -61,8 +61,8 @@ returns-in-Err-clause-served g c =
     (c.run_session-ended.ensures.seat ∙ c.new-worker.ensures.seat)
     (λ whats n told.
     subst (λ (s : Option ℕ). SeatIsServed hub s c.leave-served.result whats n) left
-    (c.leave-served.ensures whats n (subst (λ (desk : Option Desk). DeskTells hub desk whats n)
-    (sym c.into_desk.ensures) told)))
+    (c.leave-served.ensures whats n (subst (λ (poster : Option Poster). PosterTells hub poster whats n)
+    (sym c.into_poster.ensures) told)))
     (subst (λ (r : Result (Unit {0}) Cause). WorksOn hub c.new-worker.result.session.seated
     c.run_session-ended.new.worker (so_far (g.S.Source.given c.args.link.now.source)
     (g.W.Write.contents c.args.link.now.writer))

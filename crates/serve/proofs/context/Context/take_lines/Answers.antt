@@ -22,7 +22,7 @@ returns-then-is_err-clause-takes g c =
     λ seat start given w.
     stops_unkept c.args.self.now.hub.now seat c.loop-front.worker c.keep.new.self
     c.loop-front.rest.now start (so_far given (g.W.Write.contents c.loop-front.writer))
-    c.refused.result c.keep.ensures.desk c.refused.ensures
+    c.refused.result c.keep.ensures.poster c.refused.ensures
     (c.loop-front.invariant.works seat start given w)
 
 pub returns-clause-takes : goal.returns-clause-takes
@@ -30,7 +30,7 @@ returns-clause-takes g c =
     λ seat start given w.
     works_kept c.args.self.now.hub.now seat c.loop-front.worker c.keep.new.self
     c.loop-front.rest.now start (so_far given (g.W.Write.contents c.loop-front.writer))
-    c.keep.ensures.desk (ap (λ (s : Seeing). s.seen) c.keep.ensures.lens) c.in_default.ensures.whole
+    c.keep.ensures.poster (ap (λ (s : Seeing). s.seen) c.keep.ensures.lens) c.in_default.ensures.whole
     (λ line is. from_ok c.keep.result (sym c.is_err.ensures.value ∙ c.if-is_err.false)
     (c.keep.ensures.keeps line is)) (c.loop-front.invariant.works seat start given w)
 

@@ -7,8 +7,8 @@ use Rattle.serve.proofs.Facts.{fact_may_post, fault_may_post}
 use Rattle.serve.proofs.Works.{ended_by, fault_at, seat_kept, settled, stands_at, unsettled}
 use Rattle.serve.specs.Traffic.{so_far}
 use Rattle.serve.proofs.Tellings.{asked_on}
-use Rattle.serve.specs.declared.desk.Desk.{Desk}
-use Rattle.serve.specs.Turns.{DeskTells, facts_in, seat_at, taken_in}
+use Rattle.serve.specs.declared.poster.Poster.{Poster}
+use Rattle.serve.specs.Turns.{PosterTells, facts_in, seat_at, taken_in}
 use Rattle.serve.specs.Working.{Works}
 use Rattle.serve.proofs.context.Context.take_piece.Goals as goal
 
@@ -59,13 +59,13 @@ returns-in_ok-settle-in-Ok-clause-takes g c =
     c.args.piece.now c.in-Ok.batch gives w
     (subst (λ stage. ContinuesTalk (setup_of hub.config) seated (taken_in w.turns) c.args.piece.now
     c.in-Ok.batch None stage) (sym (ap (λ (s : SessionState). s.stage) session)) stands)
-    same (ap seat_at c.ask.ensures.desk ∙ c.settle.ensures.seat)
+    same (ap seat_at c.ask.ensures.poster ∙ c.settle.ensures.seat)
     (asked_on c.asks_all-asks.result c.in-Ok.batch.replies c.args.worker.now.pushing
     c.settle.new.worker.pushing new.pushing c.ask.ensures.pushing c.settle.ensures.pushing
     c.asks_all-asks.ensures)
-    (subst (λ (desk : Option Desk). DeskTells hub desk
+    (subst (λ (poster : Option Poster). PosterTells hub poster
     (facts_in (setup_of hub.config) seated w.turns ++ c.in-Ok.batch.facts) 0)
-    (sym c.ask.ensures.desk) told.0) told.1
+    (sym c.ask.ensures.poster) told.0) told.1
 
 pub returns-in_err-settle-in-Ok-clause-takes : goal.returns-in_err-settle-in-Ok-clause-takes
 returns-in_err-settle-in-Ok-clause-takes g c =

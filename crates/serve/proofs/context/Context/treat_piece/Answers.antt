@@ -14,7 +14,7 @@ returns-in_err-take_piece-clause-takes g c =
     (works_still c.args.self.now.hub.now seated c.args.worker.now c.listen.new.self start
     (so_far given (g.W.Write.contents c.args.writer.now))
     (ap (λ (s : SessionState). s.seated) c.listen.ensures.session)
-    (ap (λ (s : SessionState). s.stage) c.listen.ensures.session) c.listen.ensures.desk
+    (ap (λ (s : SessionState). s.stage) c.listen.ensures.session) c.listen.ensures.poster
     c.listen.ensures.pushing w))
 
 pub returns-clause-takes : goal.returns-clause-takes
@@ -25,13 +25,13 @@ returns-clause-takes g c =
     (works_still hub seated c.take_piece.new.worker c.greet.new.self start
     (so_far more (g.W.Write.contents c.take_piece.new.writer))
     (ap (λ (s : SessionState). s.seated) c.greet.ensures.session)
-    (ap (λ (s : SessionState). s.stage) c.greet.ensures.session) c.greet.ensures.desk
+    (ap (λ (s : SessionState). s.stage) c.greet.ensures.session) c.greet.ensures.poster
     c.greet.ensures.pushing
     (c.in_ok-take_piece.ensures.takes seated start given more gives
     (works_still hub seated c.args.worker.now c.listen.new.self start
     (so_far given (g.W.Write.contents c.args.writer.now))
     (ap (λ (s : SessionState). s.seated) c.listen.ensures.session)
-    (ap (λ (s : SessionState). s.stage) c.listen.ensures.session) c.listen.ensures.desk
+    (ap (λ (s : SessionState). s.stage) c.listen.ensures.session) c.listen.ensures.poster
     c.listen.ensures.pushing w)))
 
 pub attend-requires : goal.attend-requires
@@ -42,12 +42,12 @@ attend-requires g c =
     let after = works_still hub seated c.take_piece.new.worker c.greet.new.self untraced
     (so_far None (g.W.Write.contents c.take_piece.new.writer))
     (ap (λ (s : SessionState). s.seated) c.greet.ensures.session)
-    (ap (λ (s : SessionState). s.stage) c.greet.ensures.session) c.greet.ensures.desk
+    (ap (λ (s : SessionState). s.stage) c.greet.ensures.session) c.greet.ensures.poster
     c.greet.ensures.pushing
     (c.in_ok-take_piece.ensures.takes seated untraced None None tt
     (works_still hub seated c.args.worker.now c.listen.new.self untraced before
     (ap (λ (s : SessionState). s.seated) c.listen.ensures.session)
-    (ap (λ (s : SessionState). s.stage) c.listen.ensures.session) c.listen.ensures.desk
+    (ap (λ (s : SessionState). s.stage) c.listen.ensures.session) c.listen.ensures.poster
     c.listen.ensures.pushing
     (works_untraced hub seated c.args.worker.now c.requires.work.1 before c.requires.work.2))) in
     record {

@@ -36,7 +36,7 @@ returns-in-Ok-Nothing-clause-works g c =
     let gives = rw c.in-Ok-Nothing.field-0-is at c.in-Ok-Nothing.ensures.gives in
     works_if c.wait.result hub seat c.wait.new.self start (so_far after wrote)
     (works_alike hub seat c.args.worker.now c.wait.new.self [] start (so_far after wrote)
-    c.wait.ensures.desk
+    c.wait.ensures.poster
     (ap (λ (s : Seeing). s.seen) c.wait.ensures.lens)
     (ap (λ (l : Line). l.bytes.items) c.wait.ensures.line)
     (works_piece hub seat c.args.worker.now [] start before after wrote gives w))

@@ -4,9 +4,9 @@ use Rattle.session_core.specs.Piece.{Setup, setup_of}
 use Rattle.session_core.specs.Talk.{stage_of}
 use Rattle.serve.proofs.Ends.{goes_on_at_start}
 use Rattle.serve.proofs.Works.{no_facts}
-use Rattle.serve.specs.declared.desk.Desk.{Desk}
+use Rattle.serve.specs.declared.poster.Poster.{Poster}
 use Rattle.serve.specs.Told.{HasTold}
-use Rattle.serve.specs.Turns.{DeskTells, facts_in}
+use Rattle.serve.specs.Turns.{PosterTells, facts_in}
 use Rattle.serve.proofs.worker.Worker.new.Goals.{in-None, in-Some}
 use Rattle.serve.proofs.worker.Worker.new.Goals as goal
 
@@ -16,7 +16,7 @@ returns-clause-work c =
     let setup : Setup = setup_of hub.config in
     let seated : c.accept.result.seated ≡ c.is_some.result =
     ap (λ s. s.seated) c.accept.ensures.new in
-    let P : Option Desk → Type 0 = λ d. DeskTells hub d (facts_in setup c.accept.result.seated []) 0
+    let P : Option Poster → Type 0 = λ d. PosterTells hub d (facts_in setup c.accept.result.seated []) 0
     in record {
       has_seat = refl;
       stands = c.accept.ensures.stands setup ∙ ap (λ b. stage_of setup b []) (sym seated);
@@ -24,14 +24,14 @@ returns-clause-work c =
           (ap (λ b. stage_of setup b []) seated ∙ (sym (c.accept.ensures.stands setup)
           ∙ ap (λ s. s.stage) c.accept.ensures.new));
       told = elim c.match-pass.branch [
-        | in-None w ↦ subst P (sym w.desk-is) tt
+        | in-None w ↦ subst P (sym w.poster-is) tt
         | in-Some w ↦
             let Q : Option Seated → Type 0 = λ o. IfSome o (λ p. SitsDown p × Follows hub p.seen) in
             let h : SitsDown w.in-Some.pass × Follows hub w.in-Some.pass.seen =
             subst Q w.in-Some.is sits in
             let told : HasTold hub w.new.result [] 0 =
             w.new.ensures.told hub h.0 h.1 in
-            subst P (sym w.desk-is) (subst (λ facts. HasTold hub w.new.result facts 0)
+            subst P (sym w.poster-is) (subst (λ facts. HasTold hub w.new.result facts 0)
             (no_facts setup c.accept.result.seated) told)
       ];
       shown = tt;

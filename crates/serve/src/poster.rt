@@ -14,21 +14,21 @@ use std::sync::Wait;
 
 /// A pass, and what its last post at Ok shows.
 #[derive(Drop)]
-pub struct Desk {
+pub struct Poster {
     pass: Pass,
     last: Option<Receipt>,
 }
 
-impl Desk {
+impl Poster {
     ghost use Rattle.serve.specs.Told.{AppendsMore, HasTold, IsServed, IsWaiting, TellsMore};
 
-    /// A desk at which nothing was posted yet.
-    pub fn new(pass: Pass) -> Desk
+    /// A poster that has posted nothing yet.
+    pub fn new(pass: Pass) -> Poster
         ensures pass { result.pass ≡ pass }
         ensures told { (hub : Beginning) → SitsDown pass → Follows hub pass.seen
             → HasTold hub result [] 0 }
     {
-        Desk { pass, last: None }
+        Poster { pass, last: None }
     }
 
     /// Its seat.
@@ -113,7 +113,7 @@ impl Desk {
         ensures { (whats : List What) (waiting : ℕ) → HasTold hub.now self whats waiting
             → IsServed hub.now self.pass.seat whats waiting result }
     {
-        let Desk { pass, last } = self;
+        let Poster { pass, last } = self;
         let left = match hub.leave(rt, pass) {
             Ok(left) => left,
             Err(_) => None,

@@ -3,8 +3,8 @@ use Rattle.hub.specs.History.{Beginning}
 use Rattle.hub.specs.Posts.{Follows}
 use Rattle.serve.proofs.Owns.{left_follows, left_shown}
 use Rattle.serve.specs.Told.{IsLeft}
-use Rattle.serve.proofs.desk.Desk.leave.Goals.{in-Ok, in-Err}
-use Rattle.serve.proofs.desk.Desk.leave.Goals as goal
+use Rattle.serve.proofs.poster.Poster.leave.Goals.{in-Ok, in-Err}
+use Rattle.serve.proofs.poster.Poster.leave.Goals as goal
 
 pub returns : goal.returns
 returns g c =

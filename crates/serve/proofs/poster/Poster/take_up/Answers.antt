@@ -1,5 +1,5 @@
 use Rattle.serve.proofs.Owns.{taken_up}
-use Rattle.serve.proofs.desk.Desk.take_up.Goals as goal
+use Rattle.serve.proofs.poster.Poster.take_up.Goals as goal
 
 pub returns-clause-told : goal.returns-clause-told
 returns-clause-told c =

@@ -1,5 +1,5 @@
 use Rattle.serve.proofs.Owns.{appended, refused_back}
-use Rattle.serve.proofs.desk.Desk.append.Goals as goal
+use Rattle.serve.proofs.poster.Poster.append.Goals as goal
 
 pub returns-in-Ok-clause-appended : goal.returns-in-Ok-clause-appended
 returns-in-Ok-clause-appended g c =

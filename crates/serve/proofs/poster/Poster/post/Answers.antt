@@ -1,5 +1,5 @@
 use Rattle.serve.proofs.Owns.{posted, refused}
-use Rattle.serve.proofs.desk.Desk.post.Goals as goal
+use Rattle.serve.proofs.poster.Poster.post.Goals as goal
 
 pub returns-in-Ok-clause-told : goal.returns-in-Ok-clause-told
 returns-in-Ok-clause-told g c =
