@@ -1,16 +1,15 @@
-//! A listener, and a thread for each connection.
+//! A listener, and threads that serve who comes.
 
 use crate::visit::visit;
 use hub::{Hub, Naming};
 use std::alloc::Global;
+use std::io;
 use std::io::{ErrorKind, Write};
 use std::net::{TcpListener, TcpStream};
 use std::random::RandomSource;
-use std::sync::Wait;
 use std::sync::atomic::{AtomicU64, Ordering};
-use std::thread::Threads;
+use std::sync::{Mutex, Wait};
 use std::time::{Clock, Duration};
-use std::{io, thread};
 use web_door::{Clerk, Facts, Looks};
 
 /// How many connections are served at once. Each has a lens of its own.
@@ -26,14 +25,16 @@ const REST: u64 = 100;
 const TURNED_AWAY: &[u8] = b"HTTP/1.1 503 Service Unavailable\r\nconnection: close\r\n\
 retry-after: 1\r\ncontent-length: 0\r\n\r\n";
 
-/// The HTTP door.
+/// The HTTP door, if there is one.
 pub struct Web<'a, J: Naming, R: Wait + Drop, F> {
     rt: R,
     alloc: Global,
     facts: &'a F,
-    listener: TcpListener,
+    listener: Option<TcpListener>,
+    // Who waits for the next connection.
+    turn: Mutex<()>,
     hub: &'a Hub<J, R>,
-    looks: Looks,
+    looks: Looks<J>,
     // how many connections are served
     open: AtomicU64,
 }
@@ -45,6 +46,7 @@ impl<'a, J: Naming, R: Wait + Drop, F> Drop for Web<'a, J, R, F> {
             alloc: _,
             facts: _,
             listener: _,
+            turn: _,
             hub: _,
             looks: _,
             open: _,
@@ -53,20 +55,23 @@ impl<'a, J: Naming, R: Wait + Drop, F> Drop for Web<'a, J, R, F> {
 }
 
 impl<'a, J: Naming, R: Wait + Drop, F> Web<'a, J, R, F> {
-    /// The door at this listener, to which nobody came yet.
+    /// The door at this listener, to which nobody came yet. None where nobody is to come.
     pub fn new(
         rt: R,
         alloc: Global,
         facts: &'a F,
-        listener: TcpListener,
+        listener: Option<TcpListener>,
         hub: &'a Hub<J, R>,
     ) -> Web<'a, J, R, F> {
-        let _ = listener.set_nonblocking(true);
+        if let Some(listener) = &listener {
+            let _ = listener.set_nonblocking(true);
+        }
         Web {
             rt,
             alloc,
             facts,
             listener,
+            turn: Mutex::new(()),
             hub,
             looks: Looks::new(),
             open: AtomicU64::new(0),
@@ -76,25 +81,38 @@ impl<'a, J: Naming, R: Wait + Drop, F> Web<'a, J, R, F> {
 
 /// What takes connections and serves them, whatever it stands on.
 pub trait Visits {
-    /// The next connection. None once the collector ends.
-    fn next(&self) -> Option<TcpStream>;
+    /// How many threads are to serve.
+    fn threads(&self) -> u64;
 
-    /// Serves a connection, and closes it.
-    fn serve(&self, stream: TcpStream);
-
-    /// Closes a connection for which there is no thread.
-    fn turn_away(&self, stream: TcpStream);
+    /// Serves one connection after the other until the collector ends. Each of these threads does
+    /// so.
+    fn serve(&self);
 }
 
 impl<'a, J: Naming, R: Clock + RandomSource + Wait + Drop, F: Facts> Web<'a, J, R, F> {
     // A connection, if one came. None after a while.
-    fn accept(&self) -> Option<TcpStream> {
-        let rest = match self.listener.accept() {
+    fn accept(&self, listener: &TcpListener) -> Option<TcpStream> {
+        let rest = match listener.accept() {
             Ok((stream, _)) => return Some(stream),
             Err(fault) if fault.kind() == ErrorKind::WouldBlock => LOOK,
             Err(_) => REST,
         };
         self.rt.sleep(Duration::from_millis(rest));
+        None
+    }
+
+    // The next connection, for one thread after the other. None once the collector ends.
+    fn next(&self) -> Option<TcpStream> {
+        let listener = self.listener.as_ref()?;
+        let _turn = self.turn.lock(&self.rt);
+        for _ in 0..u64::MAX {
+            if self.facts.has_ended() {
+                return None;
+            }
+            if let Some(stream) = self.accept(listener) {
+                return Some(stream);
+            }
+        }
         None
     }
 
@@ -113,6 +131,7 @@ impl<'a, J: Naming, R: Clock + RandomSource + Wait + Drop, F: Facts> Web<'a, J, 
 
     // Serves a connection by a clerk, if there is a lens for it.
     fn visit(&self, stream: &TcpStream) -> io::Result<()> {
+        self.hub.has_one_history();
         let Ok(lens) = self.hub.lens(&self.rt) else {
             return answer_busy(stream);
         };
@@ -123,7 +142,6 @@ impl<'a, J: Naming, R: Clock + RandomSource + Wait + Drop, F: Facts> Web<'a, J, 
             lens,
             looks: &self.looks,
             facts: self.facts,
-            least: 0,
         };
         visit(&self.rt, self.alloc, self.facts, stream, &mut clerk)
     }
@@ -136,41 +154,25 @@ fn answer_busy(stream: &TcpStream) -> io::Result<()> {
 }
 
 impl<'a, J: Naming, R: Clock + RandomSource + Wait + Drop, F: Facts> Visits for Web<'a, J, R, F> {
-    fn next(&self) -> Option<TcpStream> {
+    // One more than are served at once tells whom else comes that too many are.
+    fn threads(&self) -> u64 {
+        match &self.listener {
+            None => 0,
+            Some(_) => MOST_VISITS + 1,
+        }
+    }
+
+    fn serve(&self) {
         for _ in 0..u64::MAX {
-            if self.facts.has_ended() {
-                return None;
-            }
-            let Some(stream) = self.accept() else {
-                continue;
+            let Some(stream) = self.next() else {
+                return;
             };
             if self.enters() {
-                return Some(stream);
+                let _ = self.visit(&stream);
+                self.leave();
+            } else {
+                let _ = answer_busy(&stream);
             }
-            let _ = answer_busy(&stream);
         }
-        None
     }
-
-    fn serve(&self, stream: TcpStream) {
-        let _ = self.visit(&stream);
-        self.leave();
-    }
-
-    fn turn_away(&self, stream: TcpStream) {
-        let _ = answer_busy(&stream);
-        self.leave();
-    }
-}
-
-/// Serves connections, a thread each, until the collector ends.
-pub fn serve_visits<R: Threads + Wait + Copy + Send + Sync, U: Visits + Sync>(rt: &R, visits: &U) {
-    thread::scope(thread::scope_env(), rt, |scope| {
-        for _ in 0..u64::MAX {
-            let Some(stream) = visits.next() else {
-                break;
-            };
-            let _ = scope.spawn(move || visits.serve(stream));
-        }
-    });
 }
