@@ -11,11 +11,11 @@ use Rattle.clap.specs.Simple.{subcommand_rows}
 use Rattle.clap.specs.declared.parser.matches.ArgMatches.{ArgMatches}
 use Rattle.clap.specs.declared.parser.matches.ArgMatches.TheViews.{out-SubCommand}
 use Rattle.clap.specs.declared.parser.matches.SubCommand.{SubCommand}
-use Rattle.command_line.specs.Asked.{IsNoJob, IsRefused, SaysNoAddress, SaysNoChoice}
+use Rattle.command_line.specs.Asked.{IsNoJob, IsRefused, SaysNoAddress, SaysNoAdmin, SaysNoChoice}
 use Rattle.command_line.specs.Asked.{program}
 use Rattle.command_line.specs.declared.usage.Usage.{Usage}
-use Rattle.command_line.specs.declared.usage.Usage.TheVariants.{Words, BadAddress, BadUnknownPeers}
-use Rattle.command_line.specs.declared.usage.Usage.TheVariants.{NoMemory}
+use Rattle.command_line.specs.declared.usage.Usage.TheVariants.{Words, BadAddress, NoAdmin}
+use Rattle.command_line.specs.declared.usage.Usage.TheVariants.{BadUnknownPeers, NoMemory}
 use Rattle.command_line.proofs.Commands.{EntersCommand, is_plain, is_read}
 
 module _ {Z : Type 0} where
@@ -48,6 +48,7 @@ pub is_refused : (words : List Text) (found : Option (Text × List Row)) (usage 
     → IsRefused words usage
 is_refused words found (Words error) taken is none = absurd none
 is_refused words found BadAddress taken is none = (taken, subst SaysNoAddress is none)
+is_refused words found NoAdmin taken is none = (taken, subst SaysNoAdmin is none)
 is_refused words found BadUnknownPeers taken is none = (taken, subst SaysNoChoice is none)
 is_refused words found NoMemory taken is none = tt
 
@@ -63,6 +64,7 @@ told_refused words app error (Words told) is kinds (same, other) =
           subst (λ (e : Error). IsAmong (kind_of e) (fault_of program words)) (sym same) here
     ]
 told_refused words app error BadAddress is kinds told = absurd told
+told_refused words app error NoAdmin is kinds told = absurd told
 told_refused words app error BadUnknownPeers is kinds told = absurd told
 told_refused words app error NoMemory is kinds told = tt
 

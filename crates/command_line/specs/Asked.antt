@@ -1,6 +1,6 @@
 -- What the words of a command line ask for, as clap reads them for the command below.
-use Rattle.std.specs.Prelude.{◌≡◌, ◌⊎◌, ⊤, ℕ, false, true, List, [], codes, map, Option, None, Some}
-use Rattle.std.specs.Prelude.{if◌then◌else◌}
+use Rattle.std.specs.Prelude.{◌≡◌, ◌==◌, ◌⊎◌, ◌||◌, ⊤, ℕ, false, true, List, [], codes, length, map}
+use Rattle.std.specs.Prelude.{Option, None, Some, if◌then◌else◌, is_some, string_bytes}
 use Rattle.std.specs.Str.{bytes_eq}
 use Rattle.std.specs.Borrow.{Bor}
 use Rattle.std.specs.Option.{option_and_then, option_map, option_map_or}
@@ -10,7 +10,7 @@ use Rattle.clap.specs.Simple.{on_top}
 use Rattle.clap.specs.declared.builder.command.Command.{Command}
 use Rattle.clap.specs.declared.builder.command.Command.TheViews.{out-Command as fields_of}
 use Rattle.clap.specs.declared.builder.action.ArgAction.TheVariants.{Append, Set}
-use Rattle.command_line.specs.Address.{address_of, parts_of}
+use Rattle.command_line.specs.Address.{Parts, address_of, parts_of}
 use Rattle.command_line.specs.Networks.{network_parts, networks_of}
 use Rattle.command_line.specs.declared.job.Endpoints.{Endpoints}
 use Rattle.command_line.specs.declared.job.Job.{Job}
@@ -18,8 +18,8 @@ use Rattle.command_line.specs.declared.job.Job.TheVariants.{Replay, Import, Chec
 use Rattle.command_line.specs.declared.job.UnknownPeers.{UnknownPeers}
 use Rattle.command_line.specs.declared.job.UnknownPeers.TheVariants.{Refuse, Wait}
 use Rattle.command_line.specs.declared.usage.Usage.{Usage}
-use Rattle.command_line.specs.declared.usage.Usage.TheVariants.{Words, BadAddress, BadUnknownPeers}
-use Rattle.command_line.specs.declared.usage.Usage.TheVariants.{NoMemory}
+use Rattle.command_line.specs.declared.usage.Usage.TheVariants.{Words, BadAddress, NoAdmin}
+use Rattle.command_line.specs.declared.usage.Usage.TheVariants.{BadUnknownPeers, NoMemory}
 
 -- no option of the command is one of its subcommands too
 abbrev pub IsLocal : Command → Type 0
@@ -62,11 +62,14 @@ import = new_app (codes "import")
 abbrev pub check : App
 check = with_rule (new_app (codes "check")) (value_option (codes "config"))
 
--- `listen --config FILE --peers ADDRESS --admin ADDRESS --from NETWORK .. --unknown-peers WHAT`
+-- `listen --config FILE --peers ADDRESS --admin ADDRESS --admin-socket PATH --http ADDRESS
+-- --from NETWORK .. --unknown-peers WHAT`
 abbrev pub listen : App
-listen = with_rule (with_rule (with_rule (with_rule (with_rule (new_app (codes "listen"))
-    (value_option (codes "config"))) (option (codes "peers"))) (option (codes "admin")))
-    (many_option (codes "from"))) (value_option (codes "unknown-peers"))
+listen = with_rule (with_rule (with_rule (with_rule (with_rule (with_rule (with_rule
+    (new_app (codes "listen")) (value_option (codes "config"))) (option (codes "peers")))
+    (value_option (codes "admin"))) (value_option (codes "admin-socket")))
+    (value_option (codes "http"))) (many_option (codes "from")))
+    (value_option (codes "unknown-peers"))
 
 -- the program without its commands; it tells its version
 abbrev pub bare : App
@@ -84,8 +87,24 @@ IsCommand name = (name ≡ codes "replay") ⊎ (name ≡ codes "import") ⊎ (na
     ⊎ (name ≡ codes "listen")
 
 -- the address that an option of a command says
-abbrev pub address_in : Text → List Row → Option (List ℕ × ℕ)
+abbrev pub address_in : Text → List Row → Option Parts
 address_in name rows = option_and_then address_of (first_of name rows)
+
+-- what a text says of an address that may be left out
+abbrev pub address_said : Text → Option (Option Parts)
+address_said text = option_map Some (address_of text)
+
+-- the address that an option of a command says, or that it isn't there
+abbrev pub address_if : Text → List Row → Option (Option Parts)
+address_if name rows = option_map_or address_said (first_of name rows) (Some None)
+
+-- what a text says of a path that may be left out: it isn't empty
+abbrev pub path_said : Text → Option (Option Text)
+path_said text = if length text == 0 then None else Some (Some text)
+
+-- the path that an option of a command says, or that it isn't there
+abbrev pub path_if : Text → List Row → Option (Option Text)
+path_if name rows = option_map_or path_said (first_of name rows) (Some None)
 
 -- the networks that an option of a command says: none where it isn't there
 abbrev pub networks_in : Text → List Row → Option (List (List ℕ × ℕ))
@@ -106,10 +125,15 @@ choice_in rows = option_map_or choice_of (first_of (codes "unknown-peers") rows)
 abbrev pub SaysFile : List Row → Option (Bor Text) → Type 0
 SaysFile rows config = option_map (λ name. name.now) config ≡ first_of (codes "config") rows
 
--- the options of `listen` say these addresses, and this of unknown peers
+-- the options of `listen` say these addresses, one for operators among them, and this of unknown
+-- peers
 pub record SaysAddresses (rows : List Row) (addresses : Endpoints) : Type 0 where
   pub peers : address_in (codes "peers") rows ≡ Some (parts_of addresses.peers)
-  pub admin : address_in (codes "admin") rows ≡ Some (parts_of addresses.admin)
+  pub admin : address_if (codes "admin") rows ≡ Some (option_map parts_of addresses.admin)
+  pub admin_socket : path_if (codes "admin-socket") rows
+      ≡ Some (option_map string_bytes addresses.admin_socket)
+  pub operators : (is_some addresses.admin || is_some addresses.admin_socket) ≡ true
+  pub http : address_if (codes "http") rows ≡ Some (option_map parts_of addresses.http)
   pub from : networks_in (codes "from") rows ≡ Some (map network_parts addresses.from.items)
   pub unknown_peers : choice_in rows ≡ Some addresses.unknown_peers
 
@@ -128,13 +152,22 @@ pub record AsksFor (words : List Text) (job : Job) : Type 0 where
   pub taken : fault_of program words ≡ []
   pub is : IsJob (subcommand_of program words) job
 
--- a `listen` of which an option says no address, or no network
+-- a `listen` of which an option says no address, no path, or no network
 abbrev pub SaysNoAddress : Option (Text × List Row) → Type 0
 SaysNoAddress None = ⊥
 SaysNoAddress (Some command) = (command.0 ≡ codes "listen")
     × ((address_in (codes "peers") command.1 ≡ None)
-    ⊎ (address_in (codes "admin") command.1 ≡ None)
+    ⊎ (address_if (codes "admin") command.1 ≡ None)
+    ⊎ (path_if (codes "admin-socket") command.1 ≡ None)
+    ⊎ (address_if (codes "http") command.1 ≡ None)
     ⊎ (networks_in (codes "from") command.1 ≡ None))
+
+-- a `listen` where neither option is there that says where operators connect
+abbrev pub SaysNoAdmin : Option (Text × List Row) → Type 0
+SaysNoAdmin None = ⊥
+SaysNoAdmin (Some command) = (command.0 ≡ codes "listen")
+    × (address_if (codes "admin") command.1 ≡ Some None)
+    × (path_if (codes "admin-socket") command.1 ≡ Some None)
 
 -- a `listen` that doesn't say what is done about unknown peers
 abbrev pub SaysNoChoice : Option (Text × List Row) → Type 0
@@ -142,10 +175,11 @@ SaysNoChoice None = ⊥
 SaysNoChoice (Some command) = (command.0 ≡ codes "listen") × (choice_in command.1 ≡ None)
 
 -- why a command that clap takes is no job: an option says no address, or nothing of unknown peers,
--- or an allocation failed
+-- operators have none, or an allocation failed
 abbrev pub IsNoJob : Option (Text × List Row) → Usage → Type 0
 IsNoJob command (Words error) = ⊥
 IsNoJob command BadAddress = SaysNoAddress command
+IsNoJob command NoAdmin = SaysNoAdmin command
 IsNoJob command BadUnknownPeers = SaysNoChoice command
 IsNoJob command NoMemory = ⊤
 
@@ -155,6 +189,8 @@ abbrev pub IsRefused : List Text → Usage → Type 0
 IsRefused words (Words error) = IsAmong (kind_of error) (fault_of program words)
 IsRefused words BadAddress =
     (fault_of program words ≡ []) × SaysNoAddress (subcommand_of program words)
+IsRefused words NoAdmin =
+    (fault_of program words ≡ []) × SaysNoAdmin (subcommand_of program words)
 IsRefused words BadUnknownPeers =
     (fault_of program words ≡ []) × SaysNoChoice (subcommand_of program words)
 IsRefused words NoMemory = ⊤

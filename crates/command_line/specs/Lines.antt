@@ -7,7 +7,8 @@ use Rattle.clap.specs.declared.error.kind.ErrorKind.TheVariants.{DisplayVersion}
 use Rattle.clap.specs.declared.error.kind.ErrorKind.TheVariants.{InvalidSubcommand}
 use Rattle.clap.specs.declared.error.kind.ErrorKind.TheVariants.{MissingRequiredArgument}
 use Rattle.clap.specs.declared.error.kind.ErrorKind.TheVariants.{MissingSubcommand, UnknownArgument}
-use Rattle.command_line.specs.Asked.{program}
+use Rattle.command_line.specs.Asked.{IsRefused, program}
+use Rattle.command_line.specs.declared.usage.Usage.TheVariants.{NoAdmin}
 
 -- the text that an option of the command has
 abbrev pub text_in : Text → Option (Text × List Row) → Option Text
@@ -101,6 +102,41 @@ pub record TakesUnknownPeers (self peers admin what : Text) : Type 0 where
   pub what_is : text_in (codes "unknown-peers")
       (subcommand_of program (unknown_words self peers admin what)) ≡ Some what
 
+-- `--http=` with this text
+abbrev pub http_word : Text → Text
+http_word text = codes "--http=" ++ text
+
+-- `listen` with it behind the other words
+abbrev pub http_words : (self peers admin http : Text) → List Text
+http_words self peers admin http =
+    listen_words self (peers_word peers ∷ admin_word admin ∷ http_word http ∷ [])
+
+-- such a line is taken with it, for all texts
+pub record TakesHttp (self peers admin http : Text) : Type 0 where
+  pub taken : IsTaken (http_words self peers admin http) (codes "listen") (Some peers) (Some admin)
+  pub http_is : text_in (codes "http")
+      (subcommand_of program (http_words self peers admin http)) ≡ Some http
+
+-- `--admin-socket=` with this text
+abbrev pub socket_word : Text → Text
+socket_word text = codes "--admin-socket=" ++ text
+
+-- `listen` with it in the place of `--admin=`, or beside that
+abbrev pub socket_words : (self peers socket : Text) → List Text → List Text
+socket_words self peers socket words =
+    listen_words self (peers_word peers ∷ socket_word socket ∷ words)
+
+-- such lines are taken with it, for all texts
+pub record TakesAdminSocket (self peers socket admin : Text) : Type 0 where
+  pub alone : IsTaken (socket_words self peers socket []) (codes "listen") (Some peers) None
+  pub alone_is : text_in (codes "admin-socket")
+      (subcommand_of program (socket_words self peers socket [])) ≡ Some socket
+  pub beside : IsTaken (socket_words self peers socket (admin_word admin ∷ [])) (codes "listen")
+      (Some peers) (Some admin)
+  pub beside_is : text_in (codes "admin-socket")
+      (subcommand_of program (socket_words self peers socket (admin_word admin ∷ [])))
+      ≡ Some socket
+
 -- the kinds of error that clap has for these words behind the program's name
 abbrev pub faults : Text → List Text → Kinds
 faults self words = fault_of program (self ∷ words)
@@ -116,12 +152,14 @@ pub record ShowsVersion (self : Text) : Type 0 where
   pub long : faults self (codes "--version" ∷ []) ≡ DisplayVersion ∷ []
   pub short : faults self (codes "-V" ∷ []) ≡ DisplayVersion ∷ []
 
--- no command, another one, one word too many, an option that isn't there, one too few, one twice
+-- no command, another one, one word too many, an option that isn't there, one too few, one twice,
+-- no place for operators
 pub record Refuses (self text : Text) : Type 0 where
   pub none : faults self [] ≡ MissingSubcommand ∷ []
   pub another : faults self (codes "collect" ∷ []) ≡ UnknownArgument ∷ InvalidSubcommand ∷ []
   pub too_many : faults self (codes "replay" ∷ codes "now" ∷ []) ≡ UnknownArgument ∷ []
   pub unknown : faults self (codes "replay" ∷ codes "--peers" ∷ []) ≡ UnknownArgument ∷ []
-  pub missing : faults self (codes "listen" ∷ peers_word text ∷ []) ≡ MissingRequiredArgument ∷ []
+  pub missing : faults self (codes "listen" ∷ admin_word text ∷ []) ≡ MissingRequiredArgument ∷ []
   pub twice : faults self (codes "listen" ∷ peers_word text ∷ peers_word text ∷ [])
       ≡ ArgumentConflict ∷ []
+  pub no_admin : IsRefused (self ∷ codes "listen" ∷ peers_word text ∷ []) NoAdmin

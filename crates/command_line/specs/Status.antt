@@ -5,8 +5,8 @@ use Rattle.clap.specs.declared.error.Error.{Error}
 use Rattle.clap.specs.declared.error.kind.ErrorKind.{ErrorKind}
 use Rattle.clap.specs.declared.error.kind.ErrorKind.TheVariants as kind
 use Rattle.command_line.specs.declared.usage.Usage.{Usage}
-use Rattle.command_line.specs.declared.usage.Usage.TheVariants.{Words, BadAddress, BadUnknownPeers}
-use Rattle.command_line.specs.declared.usage.Usage.TheVariants.{NoMemory}
+use Rattle.command_line.specs.declared.usage.Usage.TheVariants.{Words, BadAddress, NoAdmin}
+use Rattle.command_line.specs.declared.usage.Usage.TheVariants.{BadUnknownPeers, NoMemory}
 
 -- help and the version are no mistake
 abbrev pub kind_status : ErrorKind → ℕ
@@ -17,6 +17,7 @@ kind_status _ = 2
 abbrev pub status_of : Usage → ℕ
 status_of (Words error) = kind_status (kind_of error)
 status_of BadAddress = 2
+status_of NoAdmin = 2
 status_of BadUnknownPeers = 2
 status_of NoMemory = 5
 
@@ -24,6 +25,7 @@ status_of NoMemory = 5
 abbrev pub text_of : Usage → Option (List ℕ)
 text_of (Words error) = None
 text_of BadAddress = Some (codes "bad address\n")
+text_of NoAdmin = Some (codes "neither --admin nor --admin-socket\n")
 text_of BadUnknownPeers = Some (codes "bad --unknown-peers\n")
 text_of NoMemory = Some []
 
@@ -35,5 +37,6 @@ IsWant usage = usage ≡ NoMemory
 abbrev pub IsUsageOf : Error → Usage → Type 0
 IsUsageOf error (Words told) = (told ≡ error) × (kind_of error ≢ kind.OutOfMemory)
 IsUsageOf error BadAddress = ⊥
+IsUsageOf error NoAdmin = ⊥
 IsUsageOf error BadUnknownPeers = ⊥
 IsUsageOf error NoMemory = kind_of error ≡ kind.OutOfMemory

@@ -1,5 +1,5 @@
 use crate::network::Network;
-use std::net::SocketAddrV4;
+use std::net::SocketAddr;
 
 /// What the program is to do. A configuration is the text of this file, or of standard input where
 /// none is named.
@@ -33,11 +33,15 @@ pub enum UnknownPeers {
 #[derive(Debug, Drop)]
 pub struct Endpoints {
     /// Where proxies connect.
-    pub peers: SocketAddrV4,
+    pub peers: SocketAddr,
     /// From which networks they may; from all where this is empty.
     pub from: Vec<Network>,
     /// What is done about peers that aren't in the configuration.
     pub unknown_peers: UnknownPeers,
-    /// Where operators connect.
-    pub admin: SocketAddrV4,
+    /// Where operators connect, if at an address.
+    pub admin: Option<SocketAddr>,
+    /// The path of the socket where operators of this machine connect, if there is one.
+    pub admin_socket: Option<String>,
+    /// Where browsers and Prometheus connect, if anywhere.
+    pub http: Option<SocketAddr>,
 }

@@ -1,13 +1,14 @@
 //! What is asked for by the lines that the documents show.
 
 ghost use Rattle.std.specs.Prelude.{ℕ, List};
-ghost use Rattle.command_line.specs.Lines.{Refuses, ShowsHelp, ShowsVersion, TakesFiles};
-ghost use Rattle.command_line.specs.Lines.{TakesImport, TakesJoined, TakesNetworks};
-ghost use Rattle.command_line.specs.Lines.{TakesReplay, TakesUnknownPeers};
+ghost use Rattle.command_line.specs.Lines.{Refuses, ShowsHelp, ShowsVersion, TakesAdminSocket};
+ghost use Rattle.command_line.specs.Lines.{TakesFiles, TakesHttp, TakesImport, TakesJoined};
+ghost use Rattle.command_line.specs.Lines.{TakesNetworks, TakesReplay, TakesUnknownPeers};
 
 /// `replay`, `import`, and `listen` with `--peers=` and `--admin=` in either order, are taken for
-/// what they say, whatever the program is called and the two texts are. So are each `--from=`
-/// and `--unknown-peers=` beside them, `check`, and `--config=`.
+/// what they say, whatever the program is called and the two texts are. So are each `--from=`,
+/// `--unknown-peers=` and `--http=` beside them, `--admin-socket=` with `--admin=` or without,
+/// `check`, and `--config=`.
 pub fn shown_lines()
     ensures replay { TakesReplay }
     ensures import { TakesImport }
@@ -16,6 +17,9 @@ pub fn shown_lines()
         → TakesNetworks self peers admin one other }
     ensures unknown_peers { (self peers admin what : List ℕ)
         → TakesUnknownPeers self peers admin what }
+    ensures http { (self peers admin http : List ℕ) → TakesHttp self peers admin http }
+    ensures admin_socket { (self peers socket admin : List ℕ)
+        → TakesAdminSocket self peers socket admin }
     ensures files { (self file peers admin : List ℕ) → TakesFiles self file peers admin }
 {}
 

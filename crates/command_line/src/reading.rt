@@ -1,13 +1,14 @@
 //! The words of a command line, read.
 
-ghost use Rattle.std.specs.Prelude.{◌≡◌, Some, codes, false, map, IfErr, IfOk};
+ghost use Rattle.std.specs.Prelude.{◌≡◌, Some, codes, false, map, string_bytes, IfErr, IfOk};
 ghost use Rattle.std.specs.Option.{option_map};
 ghost use Rattle.clap.specs.Words.{app_of, found_of, kind_of, rows_of, rule_of};
 ghost use Rattle.command_line.specs.Address.{parts_of};
 ghost use Rattle.command_line.specs.Asked.{AsksFor, IsCommand, IsJob, IsNoJob, IsRefused};
-ghost use Rattle.command_line.specs.Asked.{IsLocal, SaysFile, address_in, choice_in, choice_of};
-ghost use Rattle.command_line.specs.Asked.{listen, many_option, networks_in, option, program};
-ghost use Rattle.command_line.specs.Asked.{value_option};
+ghost use Rattle.command_line.specs.Asked.{IsLocal, SaysAddresses, SaysFile, address_if};
+ghost use Rattle.command_line.specs.Asked.{address_in, address_said, choice_in, choice_of, listen};
+ghost use Rattle.command_line.specs.Asked.{many_option, networks_in, option, path_if, path_said};
+ghost use Rattle.command_line.specs.Asked.{program, value_option};
 ghost use Rattle.command_line.specs.Networks.{network_parts, networks_of};
 
 use crate::address::read_address;
@@ -20,15 +21,22 @@ use clap::error::ErrorKind;
 use clap::{Arg, ArgAction, ArgMatches, Command, Error};
 use std::alloc::{AllocError, Global};
 use std::convert::AsStr;
-use std::net::SocketAddrV4;
+use std::net::SocketAddr;
 
 /// The version of the program, as CHANGELOG.md has it.
 pub const VERSION: &str = "0.3.0";
 
+/// What help says of the places that needn't be bound.
+const ADMIN: &str = "Where operators connect, as 127.0.0.1:9999; this or --admin-socket";
+
+const ADMIN_SOCKET: &str = "The socket of operators of this machine, as /run/sesamejoist/admin";
+
+const HTTP: &str = "Where browsers and Prometheus connect, as 127.0.0.1:9998 [default: nowhere]";
+
 /// The job that the words of a command line ask for, the first of them the program's name. Help
 /// that is asked for and words that aren't the program's are `Usage::Words`; of words that are, an
-/// address that is none is `Usage::BadAddress`, and another word for unknown peers
-/// `Usage::BadUnknownPeers`.
+/// address that is none is `Usage::BadAddress`, no place where operators connect `Usage::NoAdmin`,
+/// and another word for unknown peers `Usage::BadUnknownPeers`.
 pub fn read<'a, S: AsStr>(alloc: Global, words: &'a [S]) -> Result<Job<'a>, Usage>
     ensures job { IfOk result (AsksFor (map S.text words.now)) }
     ensures usage { IfErr result (IsRefused (map S.text words.now)) }
@@ -73,8 +81,10 @@ fn listen<'a>(alloc: Global) -> Result<Command<'a>, AllocError>
     Command::new(alloc, "listen")
         .about("Reads a configuration and collects what proxies send")
         .arg(file(alloc))?
-        .arg(address(alloc, "peers", "Where proxies connect, as 10.1.0.9:10000"))?
-        .arg(address(alloc, "admin", "Where operators connect, as 127.0.0.1:9999"))?
+        .arg(peers(alloc))?
+        .arg(place(alloc, "admin", "ADDRESS", ADMIN))?
+        .arg(place(alloc, "admin-socket", "PATH", ADMIN_SOCKET))?
+        .arg(place(alloc, "http", "ADDRESS", HTTP))?
         .arg(networks(alloc))?
         .arg(unknown_peers(alloc))
 }
@@ -91,16 +101,28 @@ fn file<'a>(alloc: Global) -> Arg<'a>
         .action(ArgAction::Set)
 }
 
-// An address to bind.
-fn address<'a>(alloc: Global, name: &'a str, help: &'a str) -> Arg<'a>
-    ensures rule { rule_of result ≡ option name.entry.now }
+// The address to bind for proxies.
+fn peers<'a>(alloc: Global) -> Arg<'a>
+    ensures rule { rule_of result ≡ option (codes "peers") }
+    ensures local { result.global ≡ false }
+{
+    Arg::new(alloc, "peers")
+        .long("peers")
+        .value_name("ADDRESS")
+        .help("Where proxies connect, as 10.1.0.9:10000 or [2001:db8::9]:10000")
+        .required(true)
+        .action(ArgAction::Set)
+}
+
+// A place to bind where that is asked for.
+fn place<'a>(alloc: Global, name: &'a str, value: &'a str, help: &'a str) -> Arg<'a>
+    ensures rule { rule_of result ≡ value_option name.entry.now }
     ensures local { result.global ≡ false }
 {
     Arg::new(alloc, name)
         .long(name)
-        .value_name("ADDRESS")
+        .value_name(value)
         .help(help)
-        .required(true)
         .action(ArgAction::Set)
 }
 
@@ -151,23 +173,41 @@ fn listening<'a>(alloc: Global, given: &ArgMatches<'a>) -> Result<Job<'a>, Usage
     ensures job { IfOk result (IsJob (Some (codes "listen", rows_of (found_of given.now)))) }
     ensures none { IfErr result (IsNoJob (Some (codes "listen", rows_of (found_of given.now)))) }
 {
+    let config = file_in(given);
+    let endpoints = endpoints_in(alloc, given)?;
+    Ok(Job::Listen { config, endpoints })
+}
+
+// Where the options say to listen, and for whom.
+fn endpoints_in(alloc: Global, given: &ArgMatches<'_>) -> Result<Endpoints, Usage>
+    ensures said { IfOk result (SaysAddresses (rows_of (found_of given.now))) }
+    ensures none { IfErr result (IsNoJob (Some (codes "listen", rows_of (found_of given.now)))) }
+{
     let peers = address_in(alloc, given, "peers")?;
-    let admin = address_in(alloc, given, "admin")?;
+    let admin = address_if(alloc, given, "admin")?;
+    let path = path_if(alloc, given, "admin-socket")?;
+    let http = address_if(alloc, given, "http")?;
     let from = networks_in(alloc, given, "from")?;
-    let (Some(peers), Some(admin), Some(from)) = (peers, admin, from) else {
+    let (Some(peers), Some(admin), Some(admin_socket)) = (peers, admin, path) else {
         return Err(Usage::BadAddress);
     };
+    let (Some(http), Some(from)) = (http, from) else {
+        return Err(Usage::BadAddress);
+    };
+    if admin.is_none() && admin_socket.is_none() {
+        return Err(Usage::NoAdmin);
+    }
     let Some(unknown_peers) = choice_in(given) else {
         return Err(Usage::BadUnknownPeers);
     };
-    let config = file_in(given);
-    let endpoints = Endpoints {
+    Ok(Endpoints {
         peers,
         from,
         unknown_peers,
         admin,
-    };
-    Ok(Job::Listen { config, endpoints })
+        admin_socket,
+        http,
+    })
 }
 
 // The file of a configuration that the options name.
@@ -204,7 +244,7 @@ fn address_in(
     alloc: Global,
     given: &ArgMatches<'_>,
     name: &str,
-) -> Result<Option<SocketAddrV4>, NoMemory>
+) -> Result<Option<SocketAddr>, NoMemory>
     ensures { IfOk result (λ found.
         option_map parts_of found ≡ address_in name.now (rows_of (found_of given.now))) }
 {
@@ -212,6 +252,56 @@ fn address_in(
         None => Ok(None),
         Some(text) => read_address(alloc, text.as_bytes()),
     }
+}
+
+// The address that an option says, if it is there.
+fn address_if(
+    alloc: Global,
+    given: &ArgMatches<'_>,
+    name: &str,
+) -> Result<Option<Option<SocketAddr>>, NoMemory>
+    ensures { IfOk result (λ found. option_map (option_map parts_of) found
+        ≡ address_if name.now (rows_of (found_of given.now))) }
+{
+    match given.get_str(name) {
+        None => Ok(Some(None)),
+        Some(text) => address_said(alloc, text.as_bytes()),
+    }
+}
+
+fn address_said(alloc: Global, text: &[u8]) -> Result<Option<Option<SocketAddr>>, NoMemory>
+    ensures { IfOk result (λ found. option_map (option_map parts_of) found
+        ≡ address_said text.now) }
+{
+    match read_address(alloc, text)? {
+        None => Ok(None),
+        Some(address) => Ok(Some(Some(address))),
+    }
+}
+
+// The path that an option says, if it is there.
+fn path_if(
+    alloc: Global,
+    given: &ArgMatches<'_>,
+    name: &str,
+) -> Result<Option<Option<String>>, NoMemory>
+    ensures { IfOk result (λ found. option_map (option_map string_bytes) found
+        ≡ path_if name.now (rows_of (found_of given.now))) }
+{
+    match given.get_str(name) {
+        None => Ok(Some(None)),
+        Some(text) => path_said(alloc, text),
+    }
+}
+
+fn path_said(alloc: Global, text: &str) -> Result<Option<Option<String>>, NoMemory>
+    ensures { IfOk result (λ found. option_map (option_map string_bytes) found
+        ≡ path_said text.now) }
+{
+    if text.is_empty() {
+        return Ok(None);
+    }
+    Ok(Some(Some(String::from_str(alloc, text)?)))
 }
 
 // The networks that an option says.

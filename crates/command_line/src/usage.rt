@@ -13,8 +13,11 @@ use std::{fmt, io};
 pub enum Usage {
     /// It asks for help, or its words aren't those of the program: what `clap` says of it.
     Words(Error),
-    /// `--peers` or `--admin` names no address.
+    /// `--peers`, `--admin` or `--http` names no address, `--admin-socket` no path, or `--from` no
+    /// network.
     BadAddress,
+    /// Neither `--admin` nor `--admin-socket` is there.
+    NoAdmin,
     /// `--unknown-peers` says neither `refuse` nor `wait`.
     BadUnknownPeers,
     /// An allocation failed.
@@ -30,7 +33,7 @@ impl Usage {
         match self {
             Usage::Words(error) if error.use_stderr() => 2,
             Usage::Words(_) => 0,
-            Usage::BadAddress | Usage::BadUnknownPeers => 2,
+            Usage::BadAddress | Usage::NoAdmin | Usage::BadUnknownPeers => 2,
             Usage::NoMemory => 5,
         }
     }
@@ -61,6 +64,7 @@ impl fmt::Display for Usage {
         match self {
             Usage::Words(error) => fmt::Display::fmt(error, f),
             Usage::BadAddress => f.write_str("bad address\n"),
+            Usage::NoAdmin => f.write_str("neither --admin nor --admin-socket\n"),
             Usage::BadUnknownPeers => f.write_str("bad --unknown-peers\n"),
             Usage::NoMemory => Ok(()),
         }

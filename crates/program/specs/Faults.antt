@@ -1,11 +1,11 @@
 -- What is printed of a fault that leaves nothing to collect.
-use Rattle.std.specs.Prelude.{◌≡◌, ℕ, List, ◌++◌, codes}
+use Rattle.std.specs.Prelude.{◌≡◌, ℕ, List, ◌++◌, codes, string_bytes}
 use Rattle.std.specs.Fmt.{decimal}
-use Rattle.std.specs.Net.Text.{socket_v4_text}
+use Rattle.std.specs.Net.Text.{socket_text}
 use Rattle.agg_config.specs.Reading.{cause_name}
 use Rattle.agg_config.specs.declared.causes.LineFault.{LineFault}
 use Rattle.program.specs.declared.fault.Fault.{Fault}
-use Rattle.program.specs.declared.fault.Fault.TheVariants.{Unread, Address, Start, NoMemory}
+use Rattle.program.specs.declared.fault.Fault.TheVariants.{Unread, Address, Path, Start, NoMemory}
 use Rattle.program.specs.declared.fault.Fault.TheVariants.{Closed}
 
 -- the line of a fault; a fault of the system has some reason, in the system's words
@@ -14,7 +14,11 @@ IsTextOf (Unread error) text =
     (reason : List ℕ) × (text ≡ codes "cannot read the configuration: " ++ reason ++ codes "\n")
 IsTextOf (Address address error) text =
     (reason : List ℕ) × (text
-    ≡ codes "cannot listen at " ++ (socket_v4_text address
+    ≡ codes "cannot listen at " ++ (socket_text address
+    ++ (codes ": " ++ (reason ++ codes "\n"))))
+IsTextOf (Path path error) text =
+    (reason : List ℕ) × (text
+    ≡ codes "cannot listen at " ++ (string_bytes path
     ++ (codes ": " ++ (reason ++ codes "\n"))))
 IsTextOf (Start error) text =
     (reason : List ℕ) × (text ≡ codes "cannot start: " ++ reason ++ codes "\n")

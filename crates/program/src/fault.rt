@@ -7,7 +7,7 @@ ghost use Rattle.program.specs.Faults.{IsTextOf};
 use std::alloc::Global;
 use std::io;
 use std::io::Write;
-use std::net::SocketAddrV4;
+use std::net::SocketAddr;
 
 /// The status of a fault of memory, reading, writing or sockets.
 pub const FAULT: u8 = 5;
@@ -18,7 +18,9 @@ pub enum Fault {
     /// The configuration can't be read.
     Unread(io::Error),
     /// Nobody can connect at this address.
-    Address(SocketAddrV4, io::Error),
+    Address(SocketAddr, io::Error),
+    /// Nobody can connect by a socket of this path.
+    Path(String, io::Error),
     /// The clock failed, or standard output.
     Start(io::Error),
     /// An allocation failed.
@@ -42,6 +44,10 @@ pub fn tell<E: Write>(alloc: Global, fault: &Fault, errors: &mut E) -> io::Resul
         Fault::Address(address, error) => {
             let reason = format!(in alloc; "{error}")?;
             writeln!(errors, "cannot listen at {address}: {reason}")?;
+        }
+        Fault::Path(path, error) => {
+            let reason = format!(in alloc; "{error}")?;
+            writeln!(errors, "cannot listen at {path}: {reason}")?;
         }
         Fault::Start(error) => {
             let reason = format!(in alloc; "{error}")?;

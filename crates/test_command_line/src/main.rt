@@ -65,8 +65,19 @@ fn print_endpoints(rt: &(impl Print + AllocGlobal), endpoints: &Endpoints) -> an
         from,
         unknown_peers,
         admin,
+        admin_socket,
+        http,
     } = endpoints;
-    println!(rt; "listen to {peers} and {admin}")?;
+    match admin {
+        None => println!(rt; "listen to {peers}")?,
+        Some(admin) => println!(rt; "listen to {peers} and {admin}")?,
+    }
+    if let Some(path) = admin_socket {
+        println!(rt; "and by {path} for operators")?;
+    }
+    if let Some(http) = http {
+        println!(rt; "and to {http} for HTTP")?;
+    }
     if *unknown_peers == UnknownPeers::Wait {
         println!(rt; "unknown peers wait")?;
     }

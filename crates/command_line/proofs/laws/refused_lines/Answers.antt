@@ -20,6 +20,7 @@ refuses self text = record {
   unknown = refl;
   missing = refl;
   twice = refl;
+  no_admin = (refl, (refl, refl, refl));
 }
 
 pub returns : goal.returns

@@ -1,7 +1,7 @@
 use Rattle.std.proofs.Common.{List, ℕ, refl}
 use Rattle.clap.proofs.OnLiterals.{clap_on_literals}
-use Rattle.command_line.specs.Lines.{TakesFiles, TakesImport, TakesJoined, TakesNetworks}
-use Rattle.command_line.specs.Lines.{TakesReplay, TakesUnknownPeers}
+use Rattle.command_line.specs.Lines.{TakesAdminSocket, TakesFiles, TakesHttp, TakesImport}
+use Rattle.command_line.specs.Lines.{TakesJoined, TakesNetworks, TakesReplay, TakesUnknownPeers}
 use Rattle.command_line.proofs.laws.shown_lines.Goals as goal
 
 replays : TakesReplay
@@ -41,6 +41,22 @@ unknown self peers admin what = record {
   what_is = refl;
 }
 
+web : (self peers admin place : List ℕ) → TakesHttp self peers admin place
+unfolding clap_on_literals
+web self peers admin place = record {
+  taken = record { taken = refl; named = refl; peers_is = refl; admin_is = refl };
+  http_is = refl;
+}
+
+socket : (self peers path admin : List ℕ) → TakesAdminSocket self peers path admin
+unfolding clap_on_literals
+socket self peers path admin = record {
+  alone = record { taken = refl; named = refl; peers_is = refl; admin_is = refl };
+  alone_is = refl;
+  beside = record { taken = refl; named = refl; peers_is = refl; admin_is = refl };
+  beside_is = refl;
+}
+
 pub returns : goal.returns
 returns c = record {
   replay = replays;
@@ -48,5 +64,7 @@ returns c = record {
   joined = joined;
   networks = networks;
   unknown_peers = unknown;
+  http = web;
+  admin_socket = socket;
   files = files;
 }
