@@ -2,9 +2,11 @@
 
 use crate::connections::Connections;
 use crate::faults::{lacks, passes};
+use crate::streams::Stream;
 use std::io;
 use std::io::ErrorKind;
-use std::net::{SocketAddr, TcpListener, TcpStream};
+use std::net::{SocketAddr, TcpListener};
+use std::os::unix::net::UnixListener;
 use std::sync::{Mutex, Wait};
 use std::time::{Clock, Duration};
 
@@ -16,8 +18,8 @@ const REST: u64 = 100;
 
 const LONG_REST: u64 = 1000;
 
-/// A connection with the address that it comes from.
-pub type Call = (TcpStream, SocketAddr);
+/// A connection with the address that it comes from, if from one.
+pub type Call = (Stream, Option<SocketAddr>);
 
 /// What an accept came to.
 #[derive(Drop)]
@@ -27,10 +29,11 @@ enum Answer {
     Failed(io::Error),
 }
 
-/// The listener of operators, which doesn't wait in accept, so that its threads can end.
+/// The listeners of operators, which don't wait in accept, so that their threads can end.
 #[derive(Drop)]
 pub struct Admins {
-    listener: TcpListener,
+    listener: Option<TcpListener>,
+    socket: Option<UnixListener>,
     // whose thread looks for a connection
     turn: Mutex<u64>,
     // one that was accepted to find out whether somebody waits
@@ -50,22 +53,63 @@ fn rest_after<R: Wait>(rt: &R, connections: &Connections, fault: &io::Error) -> 
     }
 }
 
+// What an accept that failed came to.
+fn failed(fault: io::Error) -> Answer {
+    if fault.kind() == ErrorKind::WouldBlock {
+        Answer::Nobody
+    } else {
+        Answer::Failed(fault)
+    }
+}
+
 impl Admins {
-    /// The operators that come to this listener.
-    pub fn new(listener: TcpListener) -> Admins {
-        let _ = listener.set_nonblocking(true);
+    /// The operators that come to this listener, and by this socket.
+    pub fn new(listener: Option<TcpListener>, socket: Option<UnixListener>) -> Admins {
+        if let Some(listener) = &listener {
+            let _ = listener.set_nonblocking(true);
+        }
+        if let Some(socket) = &socket {
+            let _ = socket.set_nonblocking(true);
+        }
         Admins {
             listener,
+            socket,
             turn: Mutex::new(0),
             ahead: Mutex::new(None),
         }
     }
 
+    // Who comes to the address.
+    fn accept_tcp(&self) -> Answer {
+        let Some(listener) = &self.listener else {
+            return Answer::Nobody;
+        };
+        match listener.accept() {
+            Ok((stream, sender)) => Answer::Came((Stream::Tcp(stream), Some(sender))),
+            Err(fault) => failed(fault),
+        }
+    }
+
+    // Who comes by the socket.
+    fn accept_unix(&self) -> Answer {
+        let Some(socket) = &self.socket else {
+            return Answer::Nobody;
+        };
+        match socket.accept() {
+            Ok((stream, _)) => Answer::Came((Stream::Unix(stream), None)),
+            Err(fault) => failed(fault),
+        }
+    }
+
+    // Who comes by the socket is first: however many come to the address, they shut out nobody of
+    // this machine.
     fn accept(&self) -> Answer {
-        match self.listener.accept() {
-            Ok(call) => Answer::Came(call),
-            Err(fault) if fault.kind() == ErrorKind::WouldBlock => Answer::Nobody,
-            Err(fault) => Answer::Failed(fault),
+        match self.accept_unix() {
+            Answer::Came(call) => Answer::Came(call),
+            here => match self.accept_tcp() {
+                Answer::Nobody => here,
+                there => there,
+            },
         }
     }
 

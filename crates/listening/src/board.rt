@@ -6,6 +6,8 @@ use std::alloc::Global;
 use std::net::SocketAddr;
 use std::sync::atomic::{AtomicU64, Ordering};
 use std::sync::{Mutex, Wait};
+use web_serve::Rates;
+use web_text::PeerStanding;
 
 /// How many tables of a connection are kept at most.
 const MOST_TABLES: usize = 256;
@@ -36,22 +38,6 @@ struct Tally {
     last: AtomicU64,
 }
 
-/// What stands of a peer.
-#[derive(Clone, Copy, Debug, PartialEq, Eq)]
-pub struct PeerStatus {
-    pub is_connected: bool,
-    /// Where its present or last connection comes from.
-    pub address: Option<SocketAddr>,
-    /// Since when it is connected, or away, in ms; none where it never came.
-    pub since: Option<u64>,
-    /// How many updates its sessions posted.
-    pub updates: u64,
-    /// When the last of them was posted, in ms.
-    pub last_update: Option<u64>,
-    /// How many tables of its present or last connection aren't followed.
-    pub unfollowed: usize,
-}
-
 /// What was counted of all.
 #[derive(Clone, Copy, Debug, PartialEq, Eq)]
 pub struct Totals {
@@ -75,6 +61,9 @@ pub struct Board {
     posts: AtomicU64,
     seats: AtomicU64,
     refused: AtomicU64,
+    // the moment of the timer's last turn, in ms, and one; 0 before the first
+    turned: AtomicU64,
+    rates: Rates,
 }
 
 impl Board {
@@ -101,6 +90,8 @@ impl Board {
             posts: AtomicU64::new(0),
             seats: AtomicU64::new(0),
             refused: AtomicU64::new(0),
+            turned: AtomicU64::new(0),
+            rates: Rates::new(alloc),
         })
     }
 
@@ -157,6 +148,31 @@ impl Board {
         self.refused.fetch_add(count, Ordering::SeqCst);
     }
 
+    /// The timer is about to post at a moment, in ms: what it posted before is shown.
+    pub fn turn<R: Wait>(&self, rt: &R, now: u64) {
+        self.turned.store(now.saturating_add(1), Ordering::SeqCst);
+        self.rates.count(rt, now, self.updates());
+    }
+
+    /// When the timer was about to post last, in ms.
+    pub fn last_turn(&self) -> Option<u64> {
+        self.turned.load(Ordering::SeqCst).checked_sub(1)
+    }
+
+    /// How many updates came in each of the last seconds, the oldest first.
+    pub fn rates<R: Wait>(&self, rt: &R) -> Result<Vec<u64>, NoMemory> {
+        self.rates.so_far(rt, self.alloc)
+    }
+
+    // How many updates all sessions posted.
+    fn updates(&self) -> u64 {
+        let mut updates = 0u64;
+        for tally in self.tallies.as_slice() {
+            updates = updates.saturating_add(tally.updates.load(Ordering::SeqCst));
+        }
+        updates
+    }
+
     /// A peer's session defined a table: whether that is news, since it didn't define it before, or
     /// another came of it. At most 256 tables of a connection are kept.
     pub fn define<R: Wait>(&self, rt: &R, peer: usize, name: &[u8], verdict: Verdict) -> bool {
@@ -169,13 +185,13 @@ impl Board {
     }
 
     /// What stands of a peer.
-    pub fn peer<R: Wait>(&self, rt: &R, peer: usize) -> Option<PeerStatus> {
+    pub fn peer<R: Wait>(&self, rt: &R, peer: usize) -> Option<PeerStanding> {
         let tally = self.tallies.as_slice().get(peer)?;
         let updates = tally.updates.load(Ordering::SeqCst);
         let last = tally.last.load(Ordering::SeqCst);
         let guard = self.peers.lock(rt);
         let standing = guard.get(peer)?;
-        Some(PeerStatus {
+        Some(PeerStanding {
             is_connected: standing.connections > 0,
             address: standing.address,
             since: standing.since,
@@ -217,13 +233,9 @@ impl Board {
 
     /// What was counted of all.
     pub fn totals<R: Wait>(&self, rt: &R) -> Totals {
-        let mut updates = 0u64;
-        for tally in self.tallies.as_slice() {
-            updates = updates.saturating_add(tally.updates.load(Ordering::SeqCst));
-        }
         Totals {
             connected: self.connected(rt),
-            updates,
+            updates: self.updates(),
             posts: self.posts.load(Ordering::SeqCst),
             seats: self.seats.load(Ordering::SeqCst),
             refused: self.refused.load(Ordering::SeqCst),
@@ -231,11 +243,11 @@ impl Board {
     }
 }
 
-// How many of these tables aren't followed.
+// How many of these tables are passed over.
 fn count_unfollowed(tables: &[Defined]) -> usize {
     let mut unfollowed = 0usize;
     for table in tables {
-        if !table.verdict.is_followed() {
+        if table.verdict.is_unknown() {
             unfollowed = unfollowed.saturating_add(1);
         }
     }

@@ -4,8 +4,11 @@ ghost use Rattle.std.specs.Prelude.{◌≡◌, ◌<◌, ◌≤◌, []};
 ghost use Rattle.agg_types.specs.Check.{config_faults};
 
 use crate::admins::Admins;
+use crate::beside::serve_beside;
 use crate::board::Board;
 use crate::connections::Connections;
+use crate::disk::Paths;
+use crate::facts::CollectorFacts;
 use crate::journal::Journal;
 use crate::log::Event;
 use crate::notes::Notes;
@@ -15,15 +18,17 @@ use agg_types::Config;
 use command_line::Endpoints;
 use hub::{Hub, Naming, Opening};
 use program::{Asked, Fault};
-use serve::serve_all;
 use std::alloc::Global;
 use std::io::{ErrorKind, Write};
 use std::marker::Brand;
-use std::net::{Net, SocketAddr, SocketAddrV4, TcpListener, TcpStream};
+use std::net::{Net, SocketAddr, TcpListener, TcpStream};
+use std::os::unix::net::UnixListener;
+use std::random::RandomSource;
 use std::sync::{Arc, Wait};
 use std::thread::Threads;
 use std::time::{Clock, Instant};
 use std::{io, thread};
+use web_serve::Web;
 
 /// How many admin connections may look at once: four are served, and each may be about to end.
 const PLACES: usize = 8;
@@ -31,15 +36,24 @@ const PLACES: usize = 8;
 /// How many sessions may look at once, where tables are pushed: as many as may have a seat.
 const SESSION_PLACES: usize = 512;
 
+/// How many more where there is an HTTP door.
+const WEB_PLACES: usize = 80;
+
 // How many may look at once.
-fn places_for(config: &Config) -> usize
+fn places_for(config: &Config, endpoints: &Endpoints) -> usize
     ensures { (0 < result) × (result ≤ 1000) }
 {
-    if config.pushes.is_empty() {
-        PLACES
+    let sessions = if config.pushes.is_empty() {
+        0
     } else {
-        PLACES + SESSION_PLACES
-    }
+        SESSION_PLACES
+    };
+    let visits = if endpoints.http.is_some() {
+        WEB_PLACES
+    } else {
+        0
+    };
+    PLACES + sessions + visits
 }
 
 /// Why it ended, or didn't begin.
@@ -60,47 +74,88 @@ impl Stopped {
     }
 }
 
-/// Listens at both addresses, says so on standard output, and collects until the listener of the
+/// Listens at all addresses, says so on standard output, and collects until the listener of the
 /// proxies has failed. Answers why it didn't begin, or ended.
-pub fn collect<R, O>(rt: &R, asked: Asked, output: &mut O) -> Stopped
+pub fn collect<R, P, O>(rt: &R, paths: &P, asked: Asked, output: &mut O) -> Stopped
 where
     R: Threads + Wait + Copy + Send + Sync + 'static,
-    R: Eprint + AllocGlobal + Clock,
+    R: Eprint + AllocGlobal + Clock + RandomSource,
     R: Net<Listener = TcpListener, Stream = TcpStream>,
+    P: Paths,
     O: Write,
     requires { config_faults asked.config ≡ [] }
 {
     let Asked { config, endpoints } = asked;
-    let places = places_for(&config);
+    let places = places_for(&config, &endpoints);
     let Ok(opening) = Opening::new(rt.alloc(), config, 0) else {
         return Stopped::early(Fault::NoMemory);
     };
     let Ok(journal) = Arc::new(rt.alloc(), Journal::new(rt.alloc())) else {
         return Stopped::early(Fault::NoMemory);
     };
-    let fault = serve::<Brand, R, O>(rt, opening, places, &endpoints, &journal, output);
+    let fault = serve::<Brand, R, P, O>(rt, paths, opening, places, &endpoints, &journal, output);
     let is_heard = journal.finish(rt);
     Stopped { fault, is_heard }
 }
 
-fn listener<R>(rt: &R, address: SocketAddrV4) -> Result<TcpListener, Fault>
+fn listener<R>(rt: &R, address: SocketAddr) -> Result<TcpListener, Fault>
 where
     R: Net<Listener = TcpListener, Stream = TcpStream>,
 {
-    match TcpListener::bind(rt, SocketAddr::V4(address)) {
+    match TcpListener::bind(rt, address) {
         Ok(listener) => Ok(listener),
         Err(error) => Err(Fault::Address(address, error)),
     }
 }
 
-// Begins to listen at both addresses: the listener of the proxies, and the operators.
-fn listen<R>(rt: &R, endpoints: &Endpoints) -> Result<(TcpListener, Admins), Fault>
+// Listens at an address, where there is one.
+fn listener_at<R>(rt: &R, address: Option<SocketAddr>) -> Result<Option<TcpListener>, Fault>
 where
     R: Net<Listener = TcpListener, Stream = TcpStream>,
 {
+    match address {
+        None => Ok(None),
+        Some(address) => match listener(rt, address) {
+            Ok(listener) => Ok(Some(listener)),
+            Err(fault) => Err(fault),
+        },
+    }
+}
+
+// Listens by the socket of a path, where there is one.
+fn socket_at<P: Paths>(
+    alloc: Global,
+    paths: &P,
+    path: &Option<String>,
+) -> Result<Option<UnixListener>, Fault> {
+    let Some(path) = path else {
+        return Ok(None);
+    };
+    let path = path.as_str();
+    match paths.listen(path) {
+        Ok(listener) => Ok(Some(listener)),
+        Err(error) => match String::from_str(alloc, path) {
+            Ok(path) => Err(Fault::Path(path, error)),
+            Err(_) => Err(Fault::NoMemory),
+        },
+    }
+}
+
+/// The listener of the proxies, the operators, and the listener of the HTTP door.
+type Listeners = (TcpListener, Admins, Option<TcpListener>);
+
+// Begins to listen at all addresses.
+fn listen<R, P>(rt: &R, paths: &P, endpoints: &Endpoints) -> Result<Listeners, Fault>
+where
+    R: AllocGlobal,
+    R: Net<Listener = TcpListener, Stream = TcpStream>,
+    P: Paths,
+{
     let peers = listener(rt, endpoints.peers)?;
-    let admins = listener(rt, endpoints.admin)?;
-    Ok((peers, Admins::new(admins)))
+    let admin = listener_at(rt, endpoints.admin)?;
+    let web = listener_at(rt, endpoints.http)?;
+    let socket = socket_at(rt.alloc(), paths, &endpoints.admin_socket)?;
+    Ok((peers, Admins::new(admin, socket), web))
 }
 
 // Has a thread of its own write the log. It isn't waited for at the end: standard error may take
@@ -134,18 +189,24 @@ where
     begin_log(rt, journal)?;
     writeln!(output, "listening")?;
     output.flush()?;
-    let Endpoints { peers, admin, .. } = endpoints;
+    let admin_socket = match &endpoints.admin_socket {
+        None => None,
+        Some(path) => Some(path.as_bytes()),
+    };
     let event = Event::Listening {
-        peers: *peers,
-        admin: *admin,
+        peers: endpoints.peers,
+        admin: endpoints.admin,
+        admin_socket,
+        http: endpoints.http,
     };
     journal.note(rt, event);
     Ok(start)
 }
 
-// Listens at both addresses, and serves until the listener of the proxies has failed.
-fn serve<J: Naming + Send + Sync, R, O>(
+// Listens at all addresses, and serves until the listener of the proxies has failed.
+fn serve<J: Naming + Send + Sync, R, P, O>(
     rt: &R,
+    paths: &P,
     opening: Opening,
     places: usize,
     endpoints: &Endpoints,
@@ -154,8 +215,9 @@ fn serve<J: Naming + Send + Sync, R, O>(
 ) -> Fault
 where
     R: Threads + Wait + Copy + Send + Sync + 'static,
-    R: Eprint + AllocGlobal + Clock,
+    R: Eprint + AllocGlobal + Clock + RandomSource,
     R: Net<Listener = TcpListener, Stream = TcpStream>,
+    P: Paths,
     O: Write,
     requires named { opening.of ≡ J.book }
     requires places { (0 < places) × (places ≤ 1000) }
@@ -166,16 +228,41 @@ where
     let Ok(board) = Board::new(rt.alloc(), hub.config().peers.len()) else {
         return Fault::NoMemory;
     };
-    let (peers, admins) = match listen(rt, endpoints) {
+    let listeners = match listen(rt, paths, endpoints) {
         Ok(listeners) => listeners,
         Err(fault) => return fault,
     };
-    let start = match begin(rt, endpoints, journal, output) {
-        Ok(start) => start,
-        Err(error) => return Fault::Start(error),
-    };
+    match begin(rt, endpoints, journal, output) {
+        Ok(start) => serve_at(rt, hub, board, endpoints, &**journal, listeners, start),
+        Err(error) => Fault::Start(error),
+    }
+}
+
+// Serves at these listeners until that of the proxies has failed.
+fn serve_at<J: Naming + Send + Sync, R>(
+    rt: &R,
+    hub: Hub<J, R>,
+    board: Board,
+    endpoints: &Endpoints,
+    journal: &Journal,
+    listeners: Listeners,
+    start: Instant,
+) -> Fault
+where
+    R: Threads + Wait + Copy + Send + Sync + 'static,
+    R: Eprint + AllocGlobal + Clock + RandomSource,
+{
+    let (peers, admins, web) = listeners;
     let clock = Ticks { rt: *rt, start };
     let connections = Connections::new(rt.alloc());
+    let facts = CollectorFacts {
+        alloc: rt.alloc(),
+        config: hub.config(),
+        clock: &clock,
+        board: &board,
+        connections: &connections,
+    };
+    let web = Web::new(*rt, rt.alloc(), &facts, web, &hub);
     let doors = Sockets {
         alloc: rt.alloc(),
         clock: &clock,
@@ -190,11 +277,11 @@ where
         alloc: rt.alloc(),
         config: hub.config(),
         connections: &connections,
-        journal: &**journal,
+        journal,
         clock: &clock,
         board: &board,
     };
-    let _ended = serve_all(rt, rt.alloc(), &doors, &clock, &hub, &notes);
+    serve_beside(rt, rt.alloc(), &doors, &web, &clock, &hub, &notes);
     match connections.take_fault(rt) {
         None => Fault::NoMemory,
         Some(error) => Fault::Closed(error),

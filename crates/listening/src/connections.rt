@@ -1,11 +1,12 @@
 //! Who waits at the peers' door, and who sits.
 
+use crate::streams::Stream;
 use crate::ticks::is_due;
 use crate::unknown::{Call, Unknown};
 use std::alloc::Global;
 use std::collections::BTreeMap;
 use std::io;
-use std::net::{Shutdown, SocketAddr, TcpStream};
+use std::net::SocketAddr;
 use std::sync::atomic::{AtomicU64, Ordering};
 use std::sync::{Arc, Mutex, Wait};
 use std::time::{Clock, Instant};
@@ -18,7 +19,7 @@ const MOST_WAITING: usize = 1024;
 struct Seated {
     id: u64,
     address: SocketAddr,
-    stream: Arc<TcpStream, Global>,
+    stream: Arc<Stream, Global>,
 }
 
 /// The connections of peers, each under a number of its own.
@@ -27,7 +28,7 @@ struct Lists {
     // how many came
     came: u64,
     // those whose hello is awaited: the least number has waited longest
-    waiting: BTreeMap<u64, Arc<TcpStream, Global>, Global>,
+    waiting: BTreeMap<u64, Arc<Stream, Global>, Global>,
     // the one that sits for each peer
     seated: BTreeMap<usize, Seated, Global>,
     // those that a newer one ended, until that is told
@@ -81,7 +82,7 @@ impl Connections {
     }
 
     /// A connection waits for its hello from now on: its number. None where memory is lacking.
-    pub fn come<R: Wait>(&self, rt: &R, stream: &Arc<TcpStream, Global>) -> Option<u64> {
+    pub fn come<R: Wait>(&self, rt: &R, stream: &Arc<Stream, Global>) -> Option<u64> {
         let stream = Arc::try_clone(stream).ok()?;
         let mut guard = self.lists.lock(rt);
         let lists = &mut *guard;
@@ -151,7 +152,7 @@ impl Connections {
         peer: usize,
         id: u64,
         address: SocketAddr,
-        stream: &Arc<TcpStream, Global>,
+        stream: &Arc<Stream, Global>,
     ) {
         let Ok(stream) = Arc::try_clone(stream) else {
             return;
@@ -164,7 +165,7 @@ impl Connections {
         let mut guard = self.lists.lock(rt);
         let lists = &mut *guard;
         if let Ok(Some(older)) = lists.seated.insert(peer, seated) {
-            let _ = older.stream.shutdown(Shutdown::Both);
+            older.stream.end();
             let _ = lists.replaced.push(older.address);
         }
     }
@@ -235,7 +236,7 @@ fn close_oldest(lists: &mut Lists) -> bool {
     match lists.waiting.pop_first() {
         None => false,
         Some((_, stream)) => {
-            let _ = stream.shutdown(Shutdown::Both);
+            stream.end();
             true
         }
     }

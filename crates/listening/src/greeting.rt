@@ -1,10 +1,10 @@
 //! What a peer's connection says before it may sit down.
 
+use crate::streams::Stream;
 use agg_types::Config;
 use session_core::{Session, SessionCause, Status};
 use std::alloc::Global;
-use std::io::{ErrorKind, Read};
-use std::net::TcpStream;
+use std::io::ErrorKind;
 use std::time::{Clock, Duration, Instant};
 
 /// How long a connection has for its hello, from its accept on, in ms.
@@ -34,12 +34,7 @@ pub struct Greeting {
 }
 
 /// Reads until a hello is accepted or refused, or its time is over.
-pub fn read_hello<R: Clock>(
-    rt: &R,
-    alloc: Global,
-    config: &Config,
-    stream: &TcpStream,
-) -> Greeting {
+pub fn read_hello<R: Clock>(rt: &R, alloc: Global, config: &Config, stream: &Stream) -> Greeting {
     let mut bytes = Vec::new(alloc);
     let mut session = Session::accept(alloc, true, 0);
     let hello = match Instant::now(rt) {
@@ -54,7 +49,7 @@ fn read_on<R: Clock>(
     rt: &R,
     start: Instant,
     config: &Config,
-    stream: &TcpStream,
+    stream: &Stream,
     session: &mut Session,
     bytes: &mut Vec<u8>,
 ) -> Hello {
@@ -63,9 +58,8 @@ fn read_on<R: Clock>(
         let Some(left) = time_left(rt, start) else {
             return Hello::Late;
         };
-        let _ = stream.set_read_timeout(Some(left));
-        let mut reader = stream;
-        match reader.read(&mut piece) {
+        let _ = stream.set_read_timeout(left);
+        match stream.read(&mut piece) {
             Ok(0) => return Hello::Refused,
             Ok(count) => {
                 let known = take_piece(config, session, bytes, &piece[..count]);

@@ -5,18 +5,20 @@ ghost use Rattle.serve.specs.Sources.{IsWithin};
 
 use crate::greeting::Hello;
 use crate::pace::Pace;
+use crate::streams::Stream;
 use serve::{Came, ReadFailed, Source};
 use std::alloc::Global;
-use std::io::{ErrorKind, Read};
-use std::net::{SocketAddr, TcpStream};
+use std::io::ErrorKind;
+use std::net::SocketAddr;
 use std::sync::{Arc, Wait};
 use std::time::Clock;
 
 /// What a peer or an admin sends: first what was read before it was served.
 #[derive(Drop)]
 pub struct Incoming<'a, R> {
-    pub(crate) stream: Arc<TcpStream, Global>,
-    pub(crate) sender: SocketAddr,
+    pub(crate) stream: Arc<Stream, Global>,
+    // Where it comes from, if from an address.
+    pub(crate) sender: Option<SocketAddr>,
     // Its number among the connections of peers, 0 for an admin's.
     pub(crate) id: u64,
     // Whose hello was read, by its place in the configuration.
@@ -100,10 +102,9 @@ fn first_line(bytes: &[u8]) -> &[u8] {
 }
 
 // Reads once from a socket. None where the read failed.
-fn read_once(stream: &TcpStream, buffer: &mut [u8]) -> Result<Came, ReadFailed>
+fn read_once(stream: &Stream, buffer: &mut [u8]) -> Result<Came, ReadFailed>
     ensures { IsWithin result buffer.new }
 {
-    let mut stream = stream;
     match stream.read(buffer) {
         Ok(0) => Ok(Came::End),
         Ok(count) => Ok(Came::Bytes(count)),
@@ -217,6 +218,6 @@ impl<'a, R: Clock + Wait> Source for Incoming<'a, R> {
     }
 
     fn sender(&self) -> Option<SocketAddr> {
-        Some(self.sender)
+        self.sender
     }
 }

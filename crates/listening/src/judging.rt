@@ -9,6 +9,9 @@ use std::fmt;
 pub enum Verdict {
     /// It is followed.
     Followed,
+    /// It has a pushed filter's name: the proxy is told it, and what the proxy says of it counts for
+    /// nothing.
+    Pushed,
     /// It is followed without this rate, since the peer's has another period, in ms, or none.
     Period { col: Col, sent: u64, here: u32 },
     /// No table has its name.
@@ -26,6 +29,16 @@ impl Verdict {
     /// Whether its updates are taken.
     pub fn is_followed(self) -> bool {
         matches!(self, Verdict::Followed | Verdict::Period { .. })
+    }
+
+    /// Whether it is as the configuration has it.
+    pub fn is_expected(self) -> bool {
+        matches!(self, Verdict::Followed | Verdict::Pushed)
+    }
+
+    /// Whether it is passed over, though the peer may mean it to be followed.
+    pub fn is_unknown(self) -> bool {
+        !self.is_followed() && self != Verdict::Pushed
     }
 }
 
@@ -45,6 +58,9 @@ pub fn judge(config: &Config, definition: &Definition) -> Verdict {
 
 // A table of no such name.
 fn nameless(config: &Config, name: &[u8]) -> Verdict {
+    if config.pushes.position(name).is_some() {
+        return Verdict::Pushed;
+    }
     let is_near = |shape: &Shape| differ_by_slash(shape.name.as_slice(), name);
     match config.tables.as_slice().iter().position(is_near) {
         None => Verdict::NoTable,
@@ -133,6 +149,7 @@ impl<'a> fmt::Display for Because<'a> {
     fn fmt<W: fmt::Write>(&self, f: &mut fmt::Formatter<W>) -> fmt::Result {
         match self.verdict {
             Verdict::Followed => f.write_str("followed"),
+            Verdict::Pushed => f.write_str("pushed"),
             Verdict::Period { col, sent: 0, .. } => write!(f, "{} isn't sent", col.name()),
             Verdict::Period { col, sent, here } => {
                 let col = col.name();

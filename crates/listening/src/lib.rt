@@ -1,16 +1,18 @@
 //! The program over the handles of a machine: the collector on sockets, and the log.
 //!
 //! `aggregator` calls `run`, and test programs call it over arguments and streams of their own.
-//! `collect` listens at both addresses and gives the workers of `serve` the machine's sockets,
+//! `collect` listens at all addresses and gives the workers of `serve` the machine's sockets,
 //! clock and standard error. Nothing here is promised but that it is safe: no clause can say what a
 //! socket carried. What the lines of the log say, test_program prints.
 #![tactic(auto)]
 
 mod admins;
+mod beside;
 mod board;
 mod collecting;
 mod connections;
 mod disk;
+mod facts;
 mod faults;
 mod greeting;
 mod incoming;
@@ -23,14 +25,15 @@ mod pace;
 mod reporting;
 mod running;
 mod sockets;
+mod streams;
 mod ticks;
 mod unknown;
 
 pub use admins::Admins;
-pub use board::{Board, PeerStatus, Totals};
+pub use board::{Board, Totals};
 pub use collecting::{Stopped, collect};
 pub use connections::{Connections, Unasked};
-pub use disk::Disk;
+pub use disk::{Disk, Paths};
 pub use incoming::Incoming;
 pub use journal::Journal;
 pub use judging::{Because, Verdict, judge};
@@ -40,4 +43,5 @@ pub use outgoing::Outgoing;
 pub use reporting::{HELP, append_info, append_peers, append_tables};
 pub use running::{run, run_words};
 pub use sockets::Sockets;
+pub use streams::Stream;
 pub use ticks::Ticks;

@@ -9,15 +9,17 @@ use hub::PostFault;
 use jiff::Timestamp;
 use serve::Cause;
 use std::fmt;
-use std::net::{SocketAddr, SocketAddrV4};
+use std::net::SocketAddr;
 
 /// What happened.
 #[derive(Clone, Copy)]
 pub enum Event<'a> {
-    /// Proxies and operators may come, at these addresses.
+    /// Proxies and operators may come, at these addresses and by the socket of this path.
     Listening {
-        peers: SocketAddrV4,
-        admin: SocketAddrV4,
+        peers: SocketAddr,
+        admin: Option<SocketAddr>,
+        admin_socket: Option<&'a [u8]>,
+        http: Option<SocketAddr>,
     },
     /// A peer's hello was accepted.
     PeerConnected {
@@ -110,7 +112,15 @@ impl<'a> fmt::Display for Line<'a> {
         write_time(self.seconds, f)?;
         write!(f, " {}", self.event.words())?;
         match self.event {
-            Event::Listening { peers, admin } => write!(f, " peers={peers} admin={admin}"),
+            Event::Listening {
+                peers,
+                admin,
+                admin_socket,
+                http,
+            } => {
+                let (admin, http) = (Door(" admin=", admin), Door(" http=", http));
+                write!(f, " peers={peers}{admin}{}{http}", Socket(admin_socket))
+            }
             Event::PeerConnected { peer } => write!(f, " peer={}", Value(peer)),
             Event::TableUnfollowed { peer, because } | Event::RateUnfollowed { peer, because } => {
                 let (peer, table) = (Value(peer), Value(because.name));
@@ -202,6 +212,32 @@ impl<'a> fmt::Display for Named<'a> {
         match self.0 {
             None => Ok(()),
             Some(name) => write!(f, " name={}", Value(name)),
+        }
+    }
+}
+
+// Where it is listened, if at an address.
+#[derive(Clone, Copy)]
+struct Door<'a>(&'a str, Option<SocketAddr>);
+
+impl<'a> fmt::Display for Door<'a> {
+    fn fmt<W: fmt::Write>(&self, f: &mut fmt::Formatter<W>) -> fmt::Result {
+        match self.1 {
+            None => Ok(()),
+            Some(address) => write!(f, "{}{address}", self.0),
+        }
+    }
+}
+
+// The path of the socket of operators, if there is one.
+#[derive(Clone, Copy)]
+struct Socket<'a>(Option<&'a [u8]>);
+
+impl<'a> fmt::Display for Socket<'a> {
+    fn fmt<W: fmt::Write>(&self, f: &mut fmt::Formatter<W>) -> fmt::Result {
+        match self.0 {
+            None => Ok(()),
+            Some(path) => write!(f, " admin_socket={}", Value(path)),
         }
     }
 }

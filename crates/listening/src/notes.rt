@@ -3,7 +3,7 @@
 use crate::board::Board;
 use crate::connections::{Connections, Unasked};
 use crate::journal::Journal;
-use crate::judging::{Because, Verdict, judge};
+use crate::judging::{Because, judge};
 use crate::log::Event;
 use crate::reporting::{HELP, append_info, append_peers, append_tables};
 use crate::ticks::Ticks;
@@ -96,7 +96,7 @@ impl<'a, R> Notes<'a, R> {
         let verdict = judge(self.config, definition);
         let table = definition.name.as_slice();
         let is_news = self.board.define(&self.rt, peer, table, verdict);
-        if !is_news || verdict == Verdict::Followed {
+        if !is_news || verdict.is_expected() {
             return;
         }
         let peer = self.name(peer);
@@ -168,6 +168,7 @@ impl<'a, R: Clock + Wait> Gate for Notes<'a, R> {
         if place != Place::Timer {
             return;
         }
+        self.board.turn(&self.rt, self.clock.moment());
         if let Some(Unasked { count, last }) = self.connections.unasked(&self.rt) {
             self.board.refuse(count);
             self.note(Event::PeersUnasked { count, last });

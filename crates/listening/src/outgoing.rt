@@ -1,14 +1,12 @@
 //! What is sent to peers and operators.
 
-ghost use Rattle.std.specs.Io.{WritesAtMost};
-
 use crate::connections::Connections;
 use crate::pace::{Begun, is_in_time};
+use crate::streams::Stream;
 use crate::ticks::Ticks;
 use std::alloc::Global;
 use std::io;
 use std::io::{ErrorKind, Write};
-use std::net::TcpStream;
 use std::sync::Arc;
 use std::time::Clock;
 
@@ -18,7 +16,7 @@ const WRITE_LIMIT: u64 = 5000;
 /// What is sent to a peer or an admin.
 #[derive(Drop)]
 pub struct Outgoing<'a, R> {
-    pub(crate) stream: Arc<TcpStream, Global>,
+    pub(crate) stream: Arc<Stream, Global>,
     pub(crate) clock: &'a Ticks<R>,
     pub(crate) connections: &'a Connections,
     // When the present answer was begun, of an admin's.
@@ -50,14 +48,6 @@ fn is_to_wait(written: &io::Result<usize>) -> bool {
     }
 }
 
-// Writes once to a socket.
-fn write_once(stream: &TcpStream, bytes: &[u8]) -> io::Result<usize>
-    ensures { WritesAtMost result bytes.now }
-{
-    let mut stream = stream;
-    stream.write(bytes)
-}
-
 impl<'a, R: Clock> Write for Outgoing<'a, R> {
     fn write(&mut self, bytes: &[u8]) -> io::Result<usize> {
         let first = self.clock.moment();
@@ -65,7 +55,7 @@ impl<'a, R: Clock> Write for Outgoing<'a, R> {
             if !self.may_write(first) {
                 break;
             }
-            let written = write_once(&self.stream, bytes);
+            let written = self.stream.write(bytes);
             if !is_to_wait(&written) {
                 return written;
             }

@@ -1,6 +1,6 @@
 //! The answers to what operators ask of the collector itself.
 
-use crate::board::{Board, PeerStatus};
+use crate::board::Board;
 use crate::connections::Connections;
 use crate::judging::{Because, Verdict};
 use agg_types::{Config, NoMemory};
@@ -10,6 +10,7 @@ use std::alloc::Global;
 use std::fmt;
 use std::net::SocketAddr;
 use std::sync::Wait;
+use web_text::PeerStanding;
 
 /// The commands, a line each.
 pub const HELP: &[u8] = b"add filter <filter> <table> data.<column> <operator> <value> ..
@@ -111,7 +112,7 @@ impl fmt::Display for Ago {
 }
 
 // A peer's state in a word.
-fn state_of(peer: &PeerStatus) -> &'static str {
+fn state_of(peer: &PeerStanding) -> &'static str {
     if peer.is_connected {
         "connected"
     } else if peer.since.is_some() {
@@ -125,7 +126,7 @@ fn state_of(peer: &PeerStatus) -> &'static str {
 #[derive(Clone, Copy)]
 struct PeerLine<'a> {
     name: &'a [u8],
-    peer: PeerStatus,
+    peer: PeerStanding,
     now: u64,
 }
 
@@ -179,6 +180,7 @@ impl<'a> fmt::Display for TableLine<'a> {
         let name = because.name.escape_ascii();
         match because.verdict {
             Verdict::Followed => write!(f, "table={name} state=followed"),
+            Verdict::Pushed => write!(f, "table={name} state=pushed"),
             Verdict::Period { .. } => {
                 write!(f, "table={name} state=followed reason=\"{because}\"")
             }

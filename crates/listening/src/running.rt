@@ -1,12 +1,14 @@
 //! The program over its handles and streams.
 
 use crate::collecting::collect;
+use crate::disk::Paths;
 use program::{FAULT, Files, Prepared, arguments, prepare, tell};
 use std::convert::AsStr;
 use std::env::Env;
 use std::io;
 use std::io::{BufRead, BufReader, BufWriter, Write};
 use std::net::{Net, TcpListener, TcpStream};
+use std::random::RandomSource;
 use std::sync::Wait;
 use std::thread::Threads;
 use std::time::Clock;
@@ -17,10 +19,10 @@ use std::time::Clock;
 pub fn run<R, H, F, E>(rt: &R, host: &H, files: &F, errors: &mut E) -> u8
 where
     R: Threads + Wait + Copy + Send + Sync + 'static,
-    R: Eprint + AllocGlobal + Clock,
+    R: Eprint + AllocGlobal + Clock + RandomSource,
     R: Net<Listener = TcpListener, Stream = TcpStream>,
     H: Env + Input + Print + AllocGlobal,
-    F: Files,
+    F: Files + Paths,
     E: Write,
 {
     match try_run(rt, host, files, errors) {
@@ -33,10 +35,10 @@ where
 fn try_run<R, H, F, E>(rt: &R, host: &H, files: &F, errors: &mut E) -> io::Result<u8>
 where
     R: Threads + Wait + Copy + Send + Sync + 'static,
-    R: Eprint + AllocGlobal + Clock,
+    R: Eprint + AllocGlobal + Clock + RandomSource,
     R: Net<Listener = TcpListener, Stream = TcpStream>,
     H: Env + Input + Print + AllocGlobal,
-    F: Files,
+    F: Files + Paths,
     E: Write,
 {
     let words = arguments(host)?;
@@ -59,10 +61,10 @@ pub fn run_words<R, S, F, I, O, E>(
 ) -> u8
 where
     R: Threads + Wait + Copy + Send + Sync + 'static,
-    R: Eprint + AllocGlobal + Clock,
+    R: Eprint + AllocGlobal + Clock + RandomSource,
     R: Net<Listener = TcpListener, Stream = TcpStream>,
     S: AsStr,
-    F: Files,
+    F: Files + Paths,
     I: BufRead,
     O: Write,
     E: Write,
@@ -70,7 +72,7 @@ where
     match prepare(rt.alloc(), words, files, input, output, errors) {
         Prepared::Ended(status) => status,
         Prepared::Collect(asked) => {
-            let stopped = collect(rt, asked, output);
+            let stopped = collect(rt, files, asked, output);
             if !stopped.is_heard {
                 return FAULT;
             }

@@ -7,13 +7,14 @@ use crate::greeting::{Greeting, Hello, read_hello};
 use crate::incoming::Incoming;
 use crate::outgoing::Outgoing;
 use crate::pace::{Begun, Pace};
+use crate::streams::Stream;
 use crate::ticks::Ticks;
 use agg_types::Config;
 use command_line::{Network, UnknownPeers, admits};
 use serve::{Caller, Doors, Faulted, Served};
 use std::alloc::Global;
 use std::io;
-use std::net::{SocketAddr, TcpListener, TcpStream};
+use std::net::{SocketAddr, TcpListener};
 use std::sync::atomic::AtomicU64;
 use std::sync::{Arc, Wait};
 use std::time::{Clock, Duration};
@@ -55,14 +56,14 @@ impl<'a, R: Clock + Wait> Sockets<'a, R> {
     // A connection with its limits. What is sent leaves at once.
     fn caller(
         &self,
-        stream: Arc<TcpStream, Global>,
-        sender: SocketAddr,
+        stream: Arc<Stream, Global>,
+        sender: Option<SocketAddr>,
         id: u64,
         begun: Option<Begun>,
     ) -> io::Result<Visitor<'a, R>> {
-        stream.set_nodelay(true)?;
-        stream.set_write_timeout(Some(Duration::from_millis(SOCKET_LIMIT)))?;
-        let limit = stream.set_read_timeout(Some(Duration::from_millis(SOCKET_LIMIT)));
+        stream.send_at_once()?;
+        stream.set_write_timeout(Duration::from_millis(SOCKET_LIMIT))?;
+        let limit = stream.set_read_timeout(Duration::from_millis(SOCKET_LIMIT));
         let writer = Outgoing {
             stream: Arc::try_clone(&stream)?,
             clock: self.clock,
@@ -87,17 +88,20 @@ impl<'a, R: Clock + Wait> Sockets<'a, R> {
         Ok(Caller { source, writer })
     }
 
-    // Whether a peer may call from here. All addresses here are IPv4's.
+    // Whether a peer may call from here. Networks are IPv4's, and an IPv4 may come as an IPv6.
     fn is_asked_for(&self, sender: SocketAddr) -> bool {
         match sender {
             SocketAddr::V4(sender) => admits(self.from, *sender.ip()),
-            SocketAddr::V6(_) => self.from.is_empty(),
+            SocketAddr::V6(sender) => match sender.ip().to_ipv4_mapped() {
+                None => self.from.is_empty(),
+                Some(ip) => admits(self.from, ip),
+            },
         }
     }
 
     // A peer's connection that came, which waits for its hello from now on. None where it comes
     // from elsewhere, where memory is lacking, or the connection is gone.
-    fn waiting(&self, stream: TcpStream, sender: SocketAddr) -> Option<Visitor<'a, R>> {
+    fn waiting(&self, stream: Stream, sender: SocketAddr) -> Option<Visitor<'a, R>> {
         let rt = &self.clock.rt;
         if !self.is_asked_for(sender) {
             self.connections.turn_away(rt, sender);
@@ -105,7 +109,7 @@ impl<'a, R: Clock + Wait> Sockets<'a, R> {
         }
         let stream = Arc::new(self.alloc, stream).ok()?;
         let id = self.connections.come(rt, &stream)?;
-        match self.caller(stream, sender, id, None) {
+        match self.caller(stream, Some(sender), id, None) {
             Ok(caller) => Some(caller),
             Err(_) => {
                 self.connections.stop_waiting(rt, id);
@@ -115,7 +119,7 @@ impl<'a, R: Clock + Wait> Sockets<'a, R> {
     }
 
     // An operator's connection that came. None where memory is lacking, or it is gone.
-    fn operator(&self, stream: TcpStream, sender: SocketAddr) -> Option<Visitor<'a, R>> {
+    fn operator(&self, stream: Stream, sender: Option<SocketAddr>) -> Option<Visitor<'a, R>> {
         let stream = Arc::new(self.alloc, stream).ok()?;
         let begun = Arc::new(self.alloc, AtomicU64::new(0)).ok()?;
         let mine = Arc::try_clone(&begun).ok()?;
@@ -154,7 +158,7 @@ impl<'a, R: Clock + Wait> Doors<Incoming<'a, R>, Outgoing<'a, R>> for Sockets<'a
         for _ in 0..u64::MAX {
             match self.peers.accept() {
                 Ok((stream, sender)) => {
-                    if let Some(caller) = self.waiting(stream, sender) {
+                    if let Some(caller) = self.waiting(Stream::Tcp(stream), sender) {
                         return Some(caller);
                     }
                 }
@@ -187,10 +191,12 @@ impl<'a, R: Clock + Wait> Doors<Incoming<'a, R>, Outgoing<'a, R>> for Sockets<'a
         } else {
             Duration::from_millis(PUSHING_LIMIT)
         };
-        source.is_limited = source.stream.set_read_timeout(Some(limit)).is_ok();
+        source.is_limited = source.stream.set_read_timeout(limit).is_ok();
         if hello == Hello::Unknown && self.unknown_peers == UnknownPeers::Wait {
-            let hello = bytes.as_slice();
-            self.connections.turn_away_unknown(rt, hello, source.sender);
+            if let Some(sender) = source.sender {
+                let hello = bytes.as_slice();
+                self.connections.turn_away_unknown(rt, hello, sender);
+            }
             source.begin_with(Vec::new(self.alloc), Hello::Late);
             return false;
         }
@@ -199,15 +205,11 @@ impl<'a, R: Clock + Wait> Doors<Incoming<'a, R>, Outgoing<'a, R>> for Sockets<'a
     }
 
     fn seated(&self, source: &Incoming<'a, R>) {
-        if let Some(peer) = source.peer {
-            self.connections.sit(
-                &self.clock.rt,
-                peer,
-                source.id,
-                source.sender,
-                &source.stream,
-            );
-        }
+        let (Some(peer), Some(sender)) = (source.peer, source.sender) else {
+            return;
+        };
+        self.connections
+            .sit(&self.clock.rt, peer, source.id, sender, &source.stream);
     }
 
     fn part_peer(

@@ -67,7 +67,10 @@ fn read_words(rt: &impl Print, alloc: Global, words: &[&str]) -> Result<()> {
         Ok(Job::Check { config }) => println!(rt; "words: check {}", config.unwrap_or("-"))?,
         Ok(Job::Listen { endpoints, .. }) => {
             let Endpoints { peers, admin, .. } = endpoints;
-            println!(rt; "words: listen to {peers} and {admin}")?
+            match admin {
+                None => println!(rt; "words: listen to {peers}")?,
+                Some(admin) => println!(rt; "words: listen to {peers} and {admin}")?,
+            }
         }
         Err(usage) => println!(rt; "words: status {}", usage.status())?,
     }

@@ -7,14 +7,15 @@ use listening::{Board, Connections, Event, Journal, Notes, Ticks};
 use serve::{Cause, Gate, Gone, News, Place};
 use session_core::{SessionCause, Status};
 use std::io;
-use std::net::{Ipv4Addr, SocketAddr, SocketAddrV4};
+use std::net::{Ipv4Addr, Ipv6Addr, SocketAddr, SocketAddrV4, SocketAddrV6};
 use std::sync::Wait;
-use std::time::Instant;
+use std::time::{Clock, Instant};
 
 /// Two peers, so that a line with the other's name shows, and two tables.
 const CONFIGURATION: &[u8] = b"name agg\npeer lb1\npeer lb2\n\
 table clients type ip size 100 store gpc0,http_req_rate(10000)\n\
-table names type binary len 8 size 100 store gpc0\n";
+table names type binary len 8 size 100 store gpc0\n\
+filter hot clients data.gpc0 ge 1\npush hot\n";
 
 /// 2026-11-24 at 09:45:12 in UTC.
 const MORNING: u64 = 1_795_513_512;
@@ -51,6 +52,28 @@ fn sender() -> Option<SocketAddr> {
     Some(SocketAddr::V4(address(41234)))
 }
 
+/// Where is listened: at an address for operators, by a socket, and both, with an HTTP door.
+fn show_doors(journal: &Journal, clock: &(impl Clock + Wait)) {
+    let peers = SocketAddr::V4(address(9000));
+    let admin = Some(SocketAddr::V4(address(9001)));
+    let http = Some(SocketAddr::V6(SocketAddrV6::new(Ipv6Addr::LOCALHOST, 9002, 0, 0)));
+    let path: &[u8] = b"/run/fleet/admin";
+    let odd: &[u8] = b"my admin";
+    for (admin, admin_socket, http) in [
+        (admin, None, None),
+        (None, Some(path), None),
+        (admin, Some(odd), http),
+    ] {
+        let doors = Event::Listening {
+            peers,
+            admin,
+            admin_socket,
+            http,
+        };
+        journal.note(clock, doors);
+    }
+}
+
 /// Prints the lines of all that is told.
 pub fn show<R: Print + Wait + Copy + AllocGlobal>(rt: &R) -> io::Result<()> {
     println!(rt; "== the log")?;
@@ -61,10 +84,8 @@ pub fn show<R: Print + Wait + Copy + AllocGlobal>(rt: &R) -> io::Result<()> {
         rt: *rt,
         seconds: Some(MORNING),
     };
-    let peers = address(9000);
-    let admin = address(9001);
     let journal = Journal::new(rt.alloc());
-    journal.note(&morning, Event::Listening { peers, admin });
+    show_doors(&journal, &morning);
     let replaced = Event::PeerReplaced {
         peer: b"lb1",
         address: sender(),

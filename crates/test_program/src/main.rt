@@ -15,6 +15,7 @@ use scene::{Scene, Shelf, Torn};
 use std::io;
 use std::io::{BufRead, BufReader, Write};
 use std::net::{Ipv4Addr, Net, SocketAddr, SocketAddrV4, TcpListener, TcpStream};
+use std::random::RandomSource;
 use std::sync::Wait;
 use std::thread::Threads;
 use std::time::Clock;
@@ -53,6 +54,14 @@ const LISTEN_TURNED: &[&[u8]] = &[
     b"--unknown-peers=wait",
     b"--admin=192.0.2.2:1025",
     b"--peers=192.0.2.1:1024",
+];
+
+/// An address of IPv6, and a socket in the place of an address of operators.
+const LISTEN_HERE: &[&[u8]] = &[
+    b"listen",
+    b"--peers=[2001:db8::1]:1024",
+    b"--admin-socket=/run/fleet/admin",
+    b"--http=[::1]:80",
 ];
 
 /// A proxy's own file.
@@ -116,7 +125,7 @@ fn show_words(rt: &impl Print, words: &[&[u8]]) -> io::Result<()> {
 fn show_run<R>(rt: &R, words: &'static [&'static [u8]], input: &'static [u8]) -> io::Result<()>
 where
     R: Threads + Wait + Copy + Send + Sync + 'static,
-    R: Print + Eprint + AllocGlobal + Clock,
+    R: Print + Eprint + AllocGlobal + Clock + RandomSource,
     R: Net<Listener = TcpListener, Stream = TcpStream>,
 {
     show_words(rt, words)?;
@@ -138,20 +147,36 @@ fn show_left(rt: &impl Print, errors: &[u8], left: Prepared) -> io::Result<()> {
             println!(rt; "-- standard error")?;
             io::writer(rt).write_all(errors)?;
             let Asked { config, endpoints } = asked;
-            let Endpoints {
-                peers,
-                from,
-                unknown_peers,
-                admin,
-            } = endpoints;
-            let count = config.peers.len();
-            println!(rt; "-- collects: {count} peers at {peers}, operators at {admin}")?;
-            println!(rt;
-                "-- from {} networks; unknown peers: {unknown_peers:?}",
-                from.len()
-            )
+            println!(rt; "-- collects: {} peers", config.peers.len())?;
+            show_endpoints(rt, &endpoints)
         }
     }
+}
+
+/// Prints where is to be listened.
+fn show_endpoints(rt: &impl Print, endpoints: &Endpoints) -> io::Result<()> {
+    let Endpoints {
+        peers,
+        from,
+        unknown_peers,
+        admin,
+        admin_socket,
+        http,
+    } = endpoints;
+    println!(rt; "-- peers at {peers}")?;
+    if let Some(admin) = admin {
+        println!(rt; "-- operators at {admin}")?;
+    }
+    if let Some(path) = admin_socket {
+        println!(rt; "-- operators by {path}")?;
+    }
+    if let Some(http) = http {
+        println!(rt; "-- HTTP at {http}")?;
+    }
+    println!(rt;
+        "-- from {} networks; unknown peers: {unknown_peers:?}",
+        from.len()
+    )
 }
 
 /// Prints what a command line does to its streams and leaves to do.
@@ -168,7 +193,7 @@ where
 
 /// Prints by what is collected where the configuration has no fault.
 fn show_prepared(rt: &(impl Print + AllocGlobal)) -> io::Result<()> {
-    for words in [LISTEN, LISTEN_TURNED] {
+    for words in [LISTEN, LISTEN_TURNED, LISTEN_HERE] {
         show_words(rt, words)?;
         let mut line: Vec<&str> = Vec::new(rt.alloc());
         line.push("aggregator")?;
@@ -216,7 +241,7 @@ fn show_torn(rt: &(impl Print + AllocGlobal)) -> io::Result<()> {
 fn listen<R, E>(rt: &R, peers: SocketAddrV4, admin: SocketAddrV4, errors: &mut E) -> io::Result<u8>
 where
     R: Threads + Wait + Copy + Send + Sync + 'static,
-    R: Print + Eprint + AllocGlobal + Clock,
+    R: Print + Eprint + AllocGlobal + Clock + RandomSource,
     R: Net<Listener = TcpListener, Stream = TcpStream>,
     E: Write,
 {
@@ -233,7 +258,7 @@ where
 fn show_in_use<R>(rt: &R, peers: SocketAddrV4, admin: SocketAddrV4, port: u16) -> io::Result<()>
 where
     R: Threads + Wait + Copy + Send + Sync + 'static,
-    R: Print + Eprint + AllocGlobal + Clock,
+    R: Print + Eprint + AllocGlobal + Clock + RandomSource,
     R: Net<Listener = TcpListener, Stream = TcpStream>,
 {
     let mut errors = Vec::new(rt.alloc());
@@ -244,12 +269,34 @@ where
     show_end(rt, text.as_bytes(), status)
 }
 
+/// Listens by a socket that is in use, and not at an address of operators.
+fn show_socket_in_use<R>(rt: &R, peers: SocketAddrV4) -> io::Result<()>
+where
+    R: Threads + Wait + Copy + Send + Sync + 'static,
+    R: Print + Eprint + AllocGlobal + Clock + RandomSource,
+    R: Net<Listener = TcpListener, Stream = TcpStream>,
+{
+    println!(rt; "== listen: the socket of the operators is in use")?;
+    let mut errors = Vec::new(rt.alloc());
+    let peers = format!(in rt.alloc(); "--peers={peers}")?;
+    let words = [
+        "aggregator",
+        "listen",
+        peers.as_str(),
+        "--admin-socket=/run/fleet/admin",
+    ];
+    let mut input = CONFIGURATION;
+    let mut output = io::writer(rt);
+    let status = listening::run_words(rt, &words, &Shelf, &mut input, &mut output, &mut errors);
+    show_end(rt, errors.as_slice(), status)
+}
+
 /// Listens where proxies can't connect, and then where operators can't, since the address is in
 /// use.
 fn show_addresses_in_use<R>(rt: &R) -> io::Result<()>
 where
     R: Threads + Wait + Copy + Send + Sync + 'static,
-    R: Print + Eprint + AllocGlobal + Clock,
+    R: Print + Eprint + AllocGlobal + Clock + RandomSource,
     R: Net<Listener = TcpListener, Stream = TcpStream>,
 {
     let any = SocketAddrV4::new(Ipv4Addr::LOCALHOST, 0);
@@ -267,5 +314,5 @@ where
     if let SocketAddr::V4(admin) = taken.local_addr()? {
         show_in_use(rt, any, admin, admin.port())?;
     }
-    Ok(())
+    show_socket_in_use(rt, any)
 }

@@ -2,9 +2,10 @@
 //!
 //! The collector runs in a thread, with the configuration on standard input. A peer says hello,
 //! defines a table and sends three updates, each once the one before it is acknowledged; then an
-//! admin asks for the table and what else stands, and quits. A stranger that says nothing is
-//! connected all the while, and a newer connection of the peer ends the older one. What each is
-//! answered is printed. The collector doesn't end by itself: the program ends while it runs.
+//! admin asks for the table and what else stands, and quits. Another one asks by the socket, which
+//! was left there before. A stranger that says nothing is connected all the while, and a newer
+//! connection of the peer ends the older one. What each is answered is printed. The collector
+//! doesn't end by itself: the program ends while it runs.
 #![tactic(auto)]
 
 use anyhow::{Result, anyhow};
@@ -13,10 +14,13 @@ use std::alloc::Global;
 use std::fs::Files;
 use std::io::{BufReader, Read, Write};
 use std::net::{Ipv4Addr, Net, SocketAddr, SocketAddrV4, TcpListener, TcpStream};
+use std::os::unix::fs::PermissionsExt;
+use std::os::unix::net::{UnixListener, UnixStream};
+use std::random::RandomSource;
 use std::sync::Wait;
 use std::thread::Threads;
 use std::time::{Clock, Duration};
-use std::{io, thread};
+use std::{fs, io, thread};
 
 /// What the peer sends, and how many bytes it is answered: a hello; a definition of the table `t`,
 /// of addresses with gpc0, whose rows never end, and behind it an update of 10.0.0.1 to 5; one of
@@ -30,6 +34,9 @@ const TALK: [(&[u8], usize); 4] = [
     (b"\x0a\x81\x05\x0a\x00\x00\x02\x09", 8),
     (b"\x0a\x81\x05\x0a\x00\x00\x01\x06", 8),
 ];
+
+/// The path of the operators' socket.
+const SOCKET: &str = "admin";
 
 /// How often a connection is tried, and how long it rests in between, in ms.
 const TRIES: u64 = 100;
@@ -166,12 +173,19 @@ fn ask_status(rt: &impl Print, alloc: Global, asking: &TcpStream) -> Result<()> 
 fn run<R>(rt: &R, peers: SocketAddr, admin: SocketAddr) -> Result<u8>
 where
     R: Threads + Wait + Copy + Send + Sync + 'static,
-    R: Input + Print + Eprint + AllocGlobal + Clock,
+    R: Input + Print + Eprint + AllocGlobal + Clock + RandomSource,
     R: Net<Listener = TcpListener, Stream = TcpStream> + Files,
 {
     let peers = format!(in rt.alloc(); "--peers={peers}")?;
     let admin = format!(in rt.alloc(); "--admin={admin}")?;
-    let words = ["aggregator", "listen", peers.as_str(), admin.as_str()];
+    let socket = format!(in rt.alloc(); "--admin-socket={SOCKET}")?;
+    let words = [
+        "aggregator",
+        "listen",
+        peers.as_str(),
+        admin.as_str(),
+        socket.as_str(),
+    ];
     let mut input = BufReader::new(rt.alloc(), rt.reader())?;
     let mut output = io::writer(rt);
     let mut errors = Vec::new(rt.alloc());
@@ -184,6 +198,26 @@ where
         &mut errors,
     );
     Ok(status)
+}
+
+/// Leaves a socket behind on which nobody answers.
+fn leave_socket<R: Net + Files>(rt: &R) -> io::Result<()> {
+    let _left = UnixListener::bind(rt, SOCKET)?;
+    Ok(())
+}
+
+/// Asks by the socket: who may use it, and what is answered up to the end of the connection.
+fn ask_by_socket<R: Print + AllocGlobal + Net + Files>(rt: &R) -> Result<()> {
+    let mode = fs::metadata(rt, SOCKET)?.permissions().mode() & 0o777;
+    println!(rt; "the socket has mode {mode:o}")?;
+    let mut here = UnixStream::connect(rt, SOCKET)?;
+    here.set_read_timeout(Some(Duration::from_millis(LIMIT)))?;
+    here.write_all(b"show table\nshow nothing\nquit\n")?;
+    let mut answer = Vec::new(rt.alloc());
+    here.read_to_end(&mut answer)?;
+    io::writer(rt).write_all(answer.as_slice())?;
+    fs::remove_file(rt, SOCKET)?;
+    Ok(())
 }
 
 /// The peer calls again: what its newer connection is answered, and what comes on the older one.
@@ -201,6 +235,7 @@ fn call_again(rt: &HostRuntime, peers: SocketAddr, older: &TcpStream) -> Result<
 fn main(rt: HostRuntime) -> Result<()> {
     let peers = free_address(&rt)?;
     let admin = free_address(&rt)?;
+    leave_socket(&rt)?;
     let _collector = thread::spawn(&rt, move || {
         let _ = run(&rt, peers, admin);
     })?;
@@ -214,5 +249,6 @@ fn main(rt: HostRuntime) -> Result<()> {
     ask(&rt, rt.alloc(), &asking, b"clear table t key 10.0.0.2\n")?;
     ask(&rt, rt.alloc(), &asking, b"show table\n")?;
     ask_status(&rt, rt.alloc(), &asking)?;
+    ask_by_socket(&rt)?;
     call_again(&rt, peers, &peer)
 }
