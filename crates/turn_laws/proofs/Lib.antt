@@ -1,0 +1,13 @@
+pub mod Sides
+pub mod Places
+pub mod Changes
+pub mod Tables
+pub mod Once
+pub mod Counting
+pub mod ByTurn
+pub mod Spoken
+pub mod Hearing
+pub mod ByPlace
+pub mod Entries
+pub mod Receiving
+pub mod Checked
