@@ -8,7 +8,7 @@ _aggregator() {
         return
     fi
     case $before in
-        --config)
+        --config | --admin-socket)
             compopt -o filenames 2> /dev/null
             COMPREPLY=($(compgen -f -- "$word"))
             return
@@ -17,13 +17,13 @@ _aggregator() {
             COMPREPLY=($(compgen -W "refuse wait" -- "$word"))
             return
             ;;
-        --peers | --admin | --from)
+        --peers | --admin | --http | --from)
             return
             ;;
     esac
     case ${COMP_WORDS[1]} in
         listen)
-            COMPREPLY=($(compgen -W "--peers --admin --from --unknown-peers --config --help" -- "$word"))
+            COMPREPLY=($(compgen -W "--peers --admin --admin-socket --http --from --unknown-peers --config --help" -- "$word"))
             ;;
         check)
             COMPREPLY=($(compgen -W "--config --help" -- "$word"))

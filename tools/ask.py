@@ -3,6 +3,7 @@
 
     ask.py 127.0.0.1:9999 "show table clients"
     ask.py 127.0.0.1:9999 "show filter abusers" "show next abusers"
+    ask.py /run/sesamejoist/admin "show info"
     ask.py --stats /run/haproxy/admin.sock "show table clients"
 
 Each argument is one command of docs/COMMANDS.md. An answer ends with an empty line, which isn't printed.
@@ -15,14 +16,26 @@ import sys
 
 
 def address(text):
-    """The host and the port of `127.0.0.1:9999`."""
+    """The host and the port of `127.0.0.1:9999` or `[::1]:9999`; a text with a slash is a socket's path."""
+    if "/" in text:
+        return text
     host, _, port = text.rpartition(":")
-    return host, int(port)
+    return host.strip("[]"), int(port)
+
+
+def connect(place, timeout):
+    """A connection to a host and a port, or by the socket of a path."""
+    if not isinstance(place, str):
+        return socket.create_connection(place, timeout=timeout)
+    admin = socket.socket(socket.AF_UNIX)
+    admin.settimeout(timeout)
+    admin.connect(place)
+    return admin
 
 
 def ask(place, command, timeout=10):
     """The answer to one command, as text."""
-    with socket.create_connection(place, timeout=timeout) as admin:
+    with connect(place, timeout) as admin:
         admin.sendall(command.encode() + b"\n")
         answer = b""
         while not answer.endswith(b"\n\n") and answer != b"\n":

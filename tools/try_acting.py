@@ -6,7 +6,7 @@
 It starts `aggregator listen` with examples/acting.conf and Debian's haproxy as two proxies with examples/acting.cfg. A
 client sends 60 requests through each: neither counts more than 100, the fleet does, and both proxies refuse it with
 429, while others are served. It is served again once the fleet's filter has let it go; within 10 s where the
-collector is killed; and a proxy that starts anew refuses it at once. The last line counts passed and failed; the
+collector is killed; and a proxy that starts anew, or whose master starts a new worker, refuses it at once. The last line counts passed and failed; the
 status is 1 where one failed.
 """
 
@@ -103,6 +103,23 @@ def collector_returns(report, collector, proxies, program, log):
     return again
 
 
+def master_reloads(report, collector, proxies, folder):
+    """A master starts a new worker while a client is refused."""
+    proxies.pop().stop()
+    reloaded = Proxy("lb2", collector.peers, folder, config=PROXY, master=True)
+    proxies.append(reloaded)
+    wait_for("the master's worker at the collector", 2 * SETTLED,
+             lambda: collector.ask("show peers").count("state=connected") == len(proxies))
+    exceed(proxies, "10.0.0.70")
+    report.check("a master's worker refuses a client", SETTLED, lambda: not_all(proxies, "10.0.0.70", 429))
+    reloaded.reload()
+    time.sleep(0.5)
+    report.check("after a reload the new worker is told, and refuses it", SETTLED,
+                 lambda: "" if "10.0.0.70" in told(reloaded) or not collector.keys("abusers") else told(reloaded))
+    report.check("what it answers then is 429, or the set has ended", 1,
+                 lambda: not_all(proxies, "10.0.0.70", 429) if collector.keys("abusers") else "")
+
+
 def main():
     words = argparse.ArgumentParser(description=__doc__, formatter_class=argparse.RawDescriptionHelpFormatter)
     words.add_argument("--collector", default=COLLECTOR, help="the program that is tried")
@@ -119,6 +136,7 @@ def main():
             proxy_restarts(report, collector, proxies)
             collector_dies(report, collector, proxies)
             collector = collector_returns(report, collector, proxies, options.collector, log)
+            master_reloads(report, collector, proxies, folder)
         finally:
             for proxy in proxies:
                 proxy.stop()
