@@ -2,11 +2,13 @@
 
 ghost use Rattle.std.specs.Prelude.{None};
 
+use listening::Paths;
 use std::alloc::{Allocator, Global};
 use std::env::{Env, FillError};
 use std::fmt::Display;
 use std::io;
 use std::io::{BufRead, ErrorKind, Input, Lines, Read, Write};
+use std::os::unix::net::UnixListener;
 use std::sync::Wait;
 use std::sync::atomic::{AtomicU64, Ordering};
 use std::time::{Clock, Duration};
