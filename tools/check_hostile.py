@@ -23,9 +23,9 @@ import sys
 import time
 
 from check_with_haproxy import Report
-from proxies import COLLECTOR, CONFIG, Collector, free_ports
+from proxies import COLLECTOR, CONFIG, REPOSITORY, Collector, free_ports
 
-CHANGELOG = CONFIG.parent.parent / "CHANGELOG.md"
+CHANGELOG = REPOSITORY / "CHANGELOG.md"
 
 HELLO = b"HAProxyS 2.1\nagg\nlb1 100 1\n"
 ACCEPTED = b"200\n\x00\x00"

@@ -1,4 +1,7 @@
-"""Proxies and a collector as processes, for the tools that try them together."""
+"""Proxies and a collector as processes, for the tools that try them together.
+
+The environment's FLEET_CONF names another configuration than examples/fleet.conf, as one with a `push` line.
+"""
 
 import os
 import pathlib
@@ -13,7 +16,7 @@ from ask import ask
 
 REPOSITORY = pathlib.Path(__file__).resolve().parent.parent
 COLLECTOR = REPOSITORY / "crates/aggregator/out/aggregator"
-CONFIG = REPOSITORY / "examples/fleet.conf"
+CONFIG = pathlib.Path(os.environ.get("FLEET_CONF") or REPOSITORY / "examples/fleet.conf")
 PROXY = REPOSITORY / "examples/haproxy.cfg"
 
 

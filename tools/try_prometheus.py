@@ -93,6 +93,12 @@ def wrong_scrapes(prometheus, minutes):
     return "" if lowest == 1 and resets == 0 and figures > 20 else str(wrong)
 
 
+def missing(prometheus, alert):
+    """What fires in place of an alert, or nothing where it fires."""
+    firing = prometheus.firing()
+    return "" if alert in firing else f"firing: {sorted(firing)}"
+
+
 def watch(report, prometheus, collector, proxies, minutes):
     began = time.monotonic()
     done = threading.Event()
@@ -100,7 +106,7 @@ def watch(report, prometheus, collector, proxies, minutes):
     asking.start()
     try:
         report.check("ClientsOverTheLimit fires", 60,
-                     lambda: "" if "ClientsOverTheLimit" in prometheus.firing() else prometheus.firing())
+                     lambda: missing(prometheus, "ClientsOverTheLimit"))
         print(f"        it took {time.monotonic() - began:.0f} s")
         while time.monotonic() - began < 60 * minutes:
             time.sleep(5)
@@ -113,7 +119,7 @@ def watch(report, prometheus, collector, proxies, minutes):
     report.check("no other alert fires", 5, lambda: prometheus.firing() - {"ClientsOverTheLimit"} or "")
     proxies.pop().stop()
     report.check("ProxyAway fires once a proxy was away for two minutes", 150,
-                 lambda: "" if "ProxyAway" in prometheus.firing() else prometheus.firing())
+                 lambda: missing(prometheus, "ProxyAway"))
 
 
 def differ(prometheus, collector):
