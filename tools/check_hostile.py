@@ -23,6 +23,7 @@ import sys
 import time
 
 from check_with_haproxy import Report
+from peers_protocol import DEFINE as DEFINITION, SWITCH, UPDATES, messages, put_int
 from proxies import COLLECTOR, CONFIG, REPOSITORY, Collector, free_ports
 
 CHANGELOG = REPOSITORY / "CHANGELOG.md"
@@ -33,6 +34,7 @@ ACCEPTED = b"200\n\x00\x00"
 DEFINE = bytes.fromhex("0a820d01") + b"\x07clients" + bytes.fromhex("04040400")
 UPDATE = bytes.fromhex("0a8009000000010a00000105")
 ACK = bytes.fromhex("0a84050100000001")
+TOLD = (DEFINITION, SWITCH, *UPDATES)
 
 
 def call(port, data=b"", timeout=5):
@@ -42,23 +44,35 @@ def call(port, data=b"", timeout=5):
     return peer
 
 
+def without_told(data):
+    """What a peer was answered, without what it was told of pushed tables."""
+    start = data.find(b"\n") + 1 if data[:1].isdigit() else 0
+    kept, rest = data[:start], data[start:]
+    found, end = messages(rest, 0)
+    for group, kind, payload in found:
+        if group != 10 or kind not in TOLD:
+            kept += bytes([group, kind]) + (put_int(len(payload)) + payload if kind >= 0x80 else b"")
+    is_cut = rest[end:end + 1] == b"\x0a" and rest[end + 1:end + 2] in [bytes([kind]) for kind in TOLD]
+    return kept + (b"" if is_cut else rest[end:])
+
+
 def read(peer, count):
-    """So many bytes, or fewer where the other side closes."""
+    """So many bytes of answers, or fewer where the other side closes."""
     data = b""
-    while len(data) < count:
-        more = peer.recv(count - len(data))
+    while len(without_told(data)) < count:
+        more = peer.recv(1)
         if not more:
             break
         data += more
-    return data
+    return without_told(data)
 
 
 def read_all(peer):
-    """All bytes up to where the other side closes."""
+    """All bytes of answers up to where the other side closes."""
     data = b""
     while more := peer.recv(1 << 16):
         data += more
-    return data
+    return without_told(data)
 
 
 def reset(peer):

@@ -9,8 +9,8 @@ use std::fmt;
 pub enum Verdict {
     /// It is followed.
     Followed,
-    /// It has a pushed filter's name: the proxy is told it, and what the proxy says of it counts for
-    /// nothing.
+    /// It has a pushed filter's name: the proxy is told it, and what the proxy says of it counts
+    /// for nothing.
     Pushed,
     /// It is followed without this rate, since the peer's has another period, in ms, or none.
     Period { col: Col, sent: u64, here: u32 },
