@@ -1,6 +1,7 @@
 """Proxies and a collector as processes, for the tools that try them together.
 
-The environment's FLEET_CONF names another configuration than examples/fleet.conf, as one with a `push` line.
+The environment's FLEET_CONF names another configuration than examples/fleet.conf, as one with a `push` line, and its
+HAPROXY another HAProxy than the one on the path.
 """
 
 import os
@@ -18,6 +19,7 @@ REPOSITORY = pathlib.Path(__file__).resolve().parent.parent
 COLLECTOR = REPOSITORY / "crates/aggregator/out/aggregator"
 CONFIG = pathlib.Path(os.environ.get("FLEET_CONF") or REPOSITORY / "examples/fleet.conf")
 PROXY = REPOSITORY / "examples/haproxy.cfg"
+HAPROXY = os.environ.get("HAPROXY") or "haproxy"
 
 
 def free_ports(count):
@@ -109,7 +111,7 @@ class Collector:
 class Proxy:
     """A HAProxy of examples/haproxy.cfg that pushes to a collector."""
 
-    def __init__(self, name, collector_port, folder, config=PROXY, threads=1, master=False, program="haproxy"):
+    def __init__(self, name, collector_port, folder, config=PROXY, threads=1, master=False, program=HAPROXY):
         self.name, self.folder = name, pathlib.Path(folder)
         self.own, self.http = free_ports(2)
         self.words = [program, "-L", name, "-f", str(config)]

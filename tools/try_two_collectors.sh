@@ -4,9 +4,10 @@
 #
 #     tools/try_two_collectors.sh [the aggregator program]
 #
-# It wants Debian's haproxy and curl, and python3 to ask the collectors. It takes examples/fleet.conf and
-# examples/haproxy.cfg, with a second collector added. Nobody else is touched: all addresses are of this machine. A
-# program that isn't built yet is proved and built first, which takes a while.
+# It wants Debian's haproxy, or another by its path (HAPROXY=/opt/haproxy/sbin/haproxy), curl, and python3 to ask the
+# collectors. It takes examples/fleet.conf and examples/haproxy.cfg, with a second collector added. Nobody else is
+# touched: all addresses are of this machine. A program that isn't built yet is proved and built first, which takes a
+# while.
 set -eu
 cd "$(dirname "$0")/.."
 collector=${1:-crates/aggregator/out/aggregator}
@@ -35,7 +36,7 @@ collect() { # its configuration's name, its port for peers, its port for questio
     done
 }
 proxy() { # name, its own port, its frontend's port
-    OWN_PORT=$2 HTTP_PORT=$3 haproxy -db -L "$1" -f "$DIR/haproxy.cfg" 2> "$DIR/$1.log" &
+    OWN_PORT=$2 HTTP_PORT=$3 "${HAPROXY:-haproxy}" -db -L "$1" -f "$DIR/haproxy.cfg" 2> "$DIR/$1.log" &
     pids="$pids $!"
 }
 requests() { # requests through each proxy, all of one client

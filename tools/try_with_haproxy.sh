@@ -4,10 +4,10 @@
 #
 #     tools/try_with_haproxy.sh [the aggregator program]
 #
-# It wants Debian's haproxy and curl, and python3 to ask the collector. It starts `aggregator listen` with
-# examples/acting.conf and haproxy twice with examples/acting.cfg, sends requests of three clients through both
-# proxies, and ends all of them again. Nobody else is touched: all addresses are of this machine. A program that
-# isn't built yet is proved and built first, which takes a while.
+# It wants Debian's haproxy, or another by its path (HAPROXY=/opt/haproxy/sbin/haproxy), curl, and python3 to ask the
+# collector. It starts `aggregator listen` with examples/acting.conf and haproxy twice with examples/acting.cfg, sends
+# requests of three clients through both proxies, and ends all of them again. Nobody else is touched: all addresses
+# are of this machine. A program that isn't built yet is proved and built first, which takes a while.
 set -eu
 cd "$(dirname "$0")/.."
 collector=${1:-crates/aggregator/out/aggregator}
@@ -29,7 +29,7 @@ until grep -q listening "$DIR/said"; do
 done
 
 proxy() { # name, its own port, its frontend's port
-    OWN_PORT=$2 HTTP_PORT=$3 haproxy -db -L "$1" -f examples/acting.cfg 2> "$DIR/$1.log" &
+    OWN_PORT=$2 HTTP_PORT=$3 "${HAPROXY:-haproxy}" -db -L "$1" -f examples/acting.cfg 2> "$DIR/$1.log" &
     pids="$pids $!"
 }
 proxy lb1 10911 10921
