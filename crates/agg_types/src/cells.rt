@@ -16,9 +16,15 @@ const BLANK: Cell = Cell::Count(0);
 /// them.
 ///
 /// Up to four cells lie in the value itself and take no memory beside it; more lie in one block.
-#[derive(Drop)]
 pub struct Cells {
     form: Form,
+}
+
+// By hand, so that what drops it elsewhere proves nothing of its parts.
+impl Drop for Cells {
+    fn drop(self) {
+        let Cells { form: _ } = self;
+    }
 }
 
 const _: () = prove!(size_of::<Cells>() <= 112);

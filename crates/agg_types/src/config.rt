@@ -20,12 +20,24 @@ pub enum KeyKind {
 /// stored.
 ///
 /// A column stands with its period in ms, which is 0 for a count. Columns ascend.
-#[derive(Debug, Drop)]
+#[derive(Debug)]
 pub struct Shape {
     pub name: Name,
     pub kind: KeyKind,
     pub size: u64,
     pub cols: Items<(Col, u32)>,
+}
+
+// By hand, so that what drops it elsewhere proves nothing of its parts.
+impl Drop for Shape {
+    fn drop(self) {
+        let Shape {
+            name: _,
+            kind: _,
+            size: _,
+            cols: _,
+        } = self;
+    }
 }
 
 /// How a condition compares a value with its bound (Management Guide, "show table").
@@ -65,15 +77,26 @@ pub struct Cond {
 }
 
 /// A standing filter: the keys of a table for which all conditions hold.
-#[derive(Debug, Drop)]
+#[derive(Debug)]
 pub struct Filter {
     pub name: Name,
     pub table: usize,
     pub conds: Items<Cond>,
 }
 
+// By hand, so that what drops it elsewhere proves nothing of its parts.
+impl Drop for Filter {
+    fn drop(self) {
+        let Filter {
+            name: _,
+            table: _,
+            conds: _,
+        } = self;
+    }
+}
+
 /// A ranked list: the first `n` keys of a table by a column, the larger value first.
-#[derive(Debug, Drop)]
+#[derive(Debug)]
 pub struct Rank {
     pub name: Name,
     pub table: usize,
@@ -81,19 +104,38 @@ pub struct Rank {
     pub n: u64,
 }
 
+// By hand, so that what drops it elsewhere proves nothing of its parts.
+impl Drop for Rank {
+    fn drop(self) {
+        let Rank {
+            name: _,
+            table: _,
+            col: _,
+            n: _,
+        } = self;
+    }
+}
+
 /// A filter whose set every proxy is told, under the filter's name.
 ///
 /// With a hold, in ms, a key that has left the set stays told until so long after its last
 /// telling; without one it is taken away at once.
-#[derive(Debug, Drop)]
+#[derive(Debug)]
 pub struct Push {
     pub name: Name,
     pub hold: Option<u64>,
 }
 
+// By hand, so that what drops it elsewhere proves nothing of its parts.
+impl Drop for Push {
+    fn drop(self) {
+        let Push { name: _, hold: _ } = self;
+    }
+}
+
 /// A collector's configuration: its own name, and its peers, tables, filters and ranked lists,
 /// which events name by position, and the filters that it pushes.
-#[derive(Debug, Drop)]
+#[derive(Debug)]
 pub struct Config {
     pub me: Name,
     pub peers: Declared<Name>,
@@ -101,6 +143,20 @@ pub struct Config {
     pub filters: Declared<Filter>,
     pub ranks: Declared<Rank>,
     pub pushes: Declared<Push>,
+}
+
+// By hand, so that what drops it elsewhere proves nothing of its parts.
+impl Drop for Config {
+    fn drop(self) {
+        let Config {
+            me: _,
+            peers: _,
+            tables: _,
+            filters: _,
+            ranks: _,
+            pushes: _,
+        } = self;
+    }
 }
 
 impl Named for Shape {

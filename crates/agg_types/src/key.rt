@@ -16,9 +16,15 @@ use std::marker::Model;
 ///
 /// Keys are ordered by their bytes, a prefix before what it begins. A key of up to 16 bytes lies in
 /// the value itself and takes no memory beside it; a longer one lies in a block.
-#[derive(Drop)]
 pub struct Key {
     form: Form,
+}
+
+// By hand, so that what drops it elsewhere proves nothing of its parts.
+impl Drop for Key {
+    fn drop(self) {
+        let Key { form: _ } = self;
+    }
 }
 
 const _: () = prove!(size_of::<Key>() == 24);
