@@ -7,7 +7,7 @@ use anyhow::Result;
 use book::Book;
 use std::alloc::Global;
 use std::rt::Clock;
-use std::time::Instant;
+use std::time::{Duration, Instant};
 
 /// A book and the number of its seat's next event.
 #[derive(Drop)]
@@ -35,22 +35,27 @@ impl Alone {
         Ok(())
     }
 
-    fn apply_share(&mut self, alloc: Global, share: Share) -> Result<(), NoMemory> {
+    // Applies the batches of a share, and says how long the slowest took.
+    fn apply_share<R: Clock>(&mut self, rt: &R, alloc: Global, share: Share) -> Result<Duration> {
+        let mut longest = Duration::from_micros(0);
         for number in 0..share.batches() {
+            let start = Instant::now(rt)?;
             let whats = share.batch(alloc, number)?;
             self.apply_all(whats.as_slice())?;
+            longest = longest.max(start.elapsed(rt)?);
         }
-        Ok(())
+        Ok(longest)
     }
 
     // Applies what one pass would post, and says how long that took.
     fn timed<R: Clock>(&mut self, rt: &R, alloc: Global, load: Load) -> Result<Speed> {
         let start = Instant::now(rt)?;
-        self.apply_share(alloc, load.share(0))?;
+        let longest = self.apply_share(rt, alloc, load.share(0))?;
         Ok(Speed {
             updates: load.updates,
             looks: 0,
             time: start.elapsed(rt)?,
+            longest,
         })
     }
 

@@ -8,12 +8,13 @@ use std::sync::Wait;
 use std::sync::atomic::{AtomicU32, AtomicU64, Ordering};
 use std::thread;
 use std::thread::Threads;
-use std::time::Instant;
+use std::time::{Duration, Instant};
 
 /// What the threads of a run do.
 pub trait Crew {
-    /// Posts the share of the pass of a peer, and says whether all of it was shown.
-    fn speak<W: Wait>(&self, rt: &W, load: Load, peer: u32) -> bool;
+    /// Posts the share of the pass of a peer, tells how long each batch took, and says whether
+    /// all of it was shown.
+    fn speak<W: Wait + Clock>(&self, rt: &W, load: Load, peer: u32, tally: &Tally) -> bool;
 
     /// Looks again and again until all passes have ended, and says how often.
     fn watch<W: Wait>(&self, rt: &W, load: Load, tally: &Tally) -> u64;
@@ -30,6 +31,8 @@ pub struct Tally {
     // Passes of which all was shown.
     shown: AtomicU32,
     looks: AtomicU64,
+    // The longest time that a batch took, in µs.
+    longest: AtomicU64,
 }
 
 impl Tally {
@@ -38,12 +41,19 @@ impl Tally {
             left: AtomicU32::new(passes),
             shown: AtomicU32::new(0),
             looks: AtomicU64::new(0),
+            longest: AtomicU64::new(0),
         }
     }
 
     /// Whether all passes have ended.
     pub fn is_over(&self) -> bool {
         self.left.load(Ordering::SeqCst) == 0
+    }
+
+    /// A batch took so long until it was shown.
+    pub fn took(&self, time: Duration) {
+        let micros = u64::try_from(time.as_micros()).unwrap_or(u64::MAX);
+        self.longest.fetch_max(micros, Ordering::SeqCst);
     }
 
     fn end(&self, shown: bool) {
@@ -55,8 +65,8 @@ impl Tally {
 }
 
 // A pass, in its thread.
-fn speak<W: Wait, C: Crew>(rt: &W, crew: &C, load: Load, tally: &Tally, peer: u32) {
-    let shown = crew.speak(rt, load, peer);
+fn speak<W: Wait + Clock, C: Crew>(rt: &W, crew: &C, load: Load, tally: &Tally, peer: u32) {
+    let shown = crew.speak(rt, load, peer, tally);
     tally.end(shown);
 }
 
@@ -67,7 +77,7 @@ fn watch<W: Wait, C: Crew>(rt: &W, crew: &C, load: Load, tally: &Tally) {
 }
 
 // Runs each pass and each reader in a thread of its own, until the passes have ended.
-fn at_once<R: Threads + Wait + Copy + Send + Sync, C: Crew + Sync>(
+fn at_once<R: Threads + Wait + Clock + Copy + Send + Sync, C: Crew + Sync>(
     rt: &R,
     crew: &C,
     load: Load,
@@ -108,5 +118,6 @@ pub fn timed<R: Threads + Wait + Clock + Copy + Send + Sync, C: Crew + Sync>(
         updates: load.updates,
         looks: tally.looks.load(Ordering::SeqCst),
         time,
+        longest: Duration::from_micros(tally.longest.load(Ordering::SeqCst)),
     })
 }

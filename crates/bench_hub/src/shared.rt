@@ -8,7 +8,9 @@ use crate::tell::Shown;
 use agg_types::What;
 use hub::{Hub, Lens, Naming, Pass, Receipt};
 use std::alloc::Global;
+use std::rt::Clock;
 use std::sync::Wait;
+use std::time::Instant;
 use test_support::{address, scattered};
 
 /// The threads of a run over a hub.
@@ -19,8 +21,8 @@ pub struct Shared<'a, J: Naming, H: Wait + Drop> {
 }
 
 impl<J: Naming, H: Wait + Drop> Crew for Shared<'_, J, H> {
-    fn speak<W: Wait>(&self, rt: &W, load: Load, peer: u32) -> bool {
-        post_share(rt, self.alloc, self.hub, load.share(peer)).is_some()
+    fn speak<W: Wait + Clock>(&self, rt: &W, load: Load, peer: u32, tally: &Tally) -> bool {
+        post_share(rt, self.alloc, self.hub, load.share(peer), tally).is_some()
     }
 
     fn watch<W: Wait>(&self, rt: &W, load: Load, tally: &Tally) -> u64 {
@@ -97,16 +99,19 @@ fn post_batch<J: Naming, H: Wait + Drop, W: Wait>(
     Some(())
 }
 
-// Posts all batches of a share at a seat of its own.
-fn post_share<J: Naming, H: Wait + Drop, W: Wait>(
+// Posts all batches of a share at a seat of its own, and tells how long each took.
+fn post_share<J: Naming, H: Wait + Drop, W: Wait + Clock>(
     rt: &W,
     alloc: Global,
     hub: &Hub<J, H>,
     share: Share,
+    tally: &Tally,
 ) -> Option<()> {
     let mut pass = open(rt, alloc, hub, share.peer())?;
     for number in 0..share.batches() {
+        let start = Instant::now(rt).ok()?;
         post_batch(rt, alloc, hub, &mut pass, share, number)?;
+        tally.took(start.elapsed(rt).ok()?);
     }
     Some(())
 }

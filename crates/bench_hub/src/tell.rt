@@ -9,12 +9,14 @@ use std::time::Duration;
 /// How many bytes a page of resident memory has.
 const PAGE_BYTES: u64 = 4096;
 
-/// How long so many updates took, and how many looks there were meanwhile.
+/// How long so many updates took, how many looks there were meanwhile, and how long the slowest
+/// batch took until it was shown.
 #[derive(Clone, Copy)]
 pub struct Speed {
     pub updates: u32,
     pub looks: u64,
     pub time: Duration,
+    pub longest: Duration,
 }
 
 /// What a run ended with: how many events and keys are shown.
@@ -33,7 +35,10 @@ fn in_a_second(count: u64, time: Duration) -> u128 {
 fn tell_speed<R: Eprint>(rt: &R, load: Load, kind: &str, speed: Speed) -> Result<()> {
     let updates = in_a_second(u64::from(speed.updates), speed.time);
     let looks = in_a_second(speed.looks, speed.time);
-    eprintln!(rt; "{load}: {updates} {kind} updates/s, {looks} looks/s")?;
+    let longest = speed.longest.as_micros();
+    eprintln!(rt;
+        "{load}: {updates} {kind} updates/s, longest batch {longest} us, {looks} looks/s"
+    )?;
     Ok(())
 }
 
