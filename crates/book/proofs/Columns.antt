@@ -107,7 +107,8 @@ nothing_stored c since (s ∷ cols) (cell ∷ cells) none =
 nothing_of_row : (cols : List (Col × ℕ)) (c : Col) (t : ℕ) (row : Arrival)
     → list_any (λ s. same_col s.0 c) cols ≡ false → row_worth cols c t row ≡ 0
 nothing_of_row cols c t row none =
-    ap (λ (n : ℕ). cond (is_live t row) n zero) (nothing_stored c (t - row.arrived) cols row.cells none)
+    ap (λ (n : ℕ). cond (is_live t row) n zero)
+    (nothing_stored c (t - row.arrived) cols row.cells none)
     ∙ by (is_live t row)
   where
     by : (b : Bool) → cond b zero zero ≡ zero

@@ -94,7 +94,8 @@ head_spelt xs =
 
 pub heads_order : (xs ys : List ℕ) → Bytes xs → Bytes ys → head_of xs < head_of ys
     → slice_cmp nat_cmp xs ys ≡ Less
-heads_order xs ys p q l = ahead 8 0 xs ys p q (subst₂ (λ m n. m < n) (head_spelt xs) (head_spelt ys) l)
+heads_order xs ys p q l = ahead 8 0 xs ys p q
+    (subst₂ (λ m n. m < n) (head_spelt xs) (head_spelt ys) l)
 
 pub heads_turned : (xs ys : List ℕ) → Bytes xs → Bytes ys → head_of ys < head_of xs
     → slice_cmp nat_cmp xs ys ≡ Greater

@@ -90,7 +90,8 @@ module _ (rows : Rows) (table : ℕ) (cols : List (Col × ℕ)) (conds : List Co
   one_met key own (Some found) is =
       ap (λ (b : Bool). option_map (map (of_peer table key)) (cond b (Some found) None))
       (meets_shown key found
-      ∙ ap (λ (l : Rows). meet_at cols l conds t) (sym (any_of own (map (of_peer table key) found) is)))
+      ∙ ap (λ (l : Rows). meet_at cols l conds t)
+      (sym (any_of own (map (of_peer table key) found) is)))
       ∙ by (meet_at cols own conds t)
     where
       by : (b : Bool) → option_map (map (of_peer table key)) (cond b (Some found) None)

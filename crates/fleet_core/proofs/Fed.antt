@@ -374,7 +374,8 @@ heard f g config opening past conn piece given links before h none is feeds clos
         seated_at : before.next_seq ≡ next_seq_of conn events
         seated_at = seat_is config events past conn before kept_here.1
 
-    told_here : (end : Option SessionCause) → IfSome (if is_some end then None else Some feeds.after)
+    told_here : (end : Option SessionCause)
+        → IfSome (if is_some end then None else Some feeds.after)
         (λ connection. connection.teller ≡ told_of config opening (Bytes conn piece ∷ past) conn)
     told_here None =
         asked_here config f.book.config opening past conn piece given before feeds.after same

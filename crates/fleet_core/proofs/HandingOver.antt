@@ -44,7 +44,8 @@ settled f g config opening past are links connected front h =
       book = are.taken ∙ ap (λ book. fold after book are.gone) h.book
           ∙ more config opening h.handed are.gone;
       links = λ conn. ap (λ links. linked links conn) links ∙ h.links conn;
-      told = λ conn. subst (λ (links : List (ℕ × Connection)). WasTold links config opening past conn)
+      told = λ conn. subst (λ (links : List (ℕ × Connection)). WasTold links config opening past
+          conn)
           (sym links) (h.told conn);
       connected = connected ∙ h.connected;
       next_seq = front ∙ h.next_seq;

@@ -138,7 +138,8 @@ pub accepted : (f g : Collected) (config : Config) (opening : ℕ) (past : List 
     → f.connected < LAST_SEAT
     → Queued g config opening past Connect
 unfolding events_of added
-accepted f g config opening past seated connection h none free stands is_seated_now seat unsaid set book
+accepted f g config opening past seated connection h none free stands is_seated_now seat unsaid set
+    book
     waiting connected front few =
     done f g config opening past Connect h none book
     (ap (λ b. events ++ (if b then numbered conn 0 (Sit ∷ []) else [])) (sym is_free)

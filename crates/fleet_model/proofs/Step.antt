@@ -48,7 +48,8 @@ state c k m r s b n = record {
   next_seat = n;
 }
 
-same_state : {c c' : Config} {k m m' : ℕ} {r r' : List (RowKey × Arrival)} {s s' b b' : List (ℕ × ℕ)}
+same_state : {c c' : Config} {k m m' : ℕ} {r r' : List (RowKey × Arrival)}
+    {s s' b b' : List (ℕ × ℕ)}
     {n n' : ℕ} → c ≡ c' → m ≡ m' → r ≡ r' → s ≡ s' → b ≡ b' → n ≡ n'
     → state c k m r s b n ≡ state c' k m' r' s' b' n'
 same_state {k = k} ec em er es eb en = λ i. record {
@@ -69,7 +70,8 @@ now-push opening counted e = fold-append (λ (now : ℕ) (e : Event). moment_aft
     counted (e ∷ [])
 
 filters-push : (config : Config) (counted : List Event) (e : Event)
-    → filters_in config (counted ++ e ∷ []) ≡ filters_after (length config.filters) (filters_in config counted) e.what
+    → filters_in config (counted ++ e ∷ [])
+    ≡ filters_after (length config.filters) (filters_in config counted) e.what
 unfolding filters_in
 filters-push config counted e =
     fold-append (λ (filters : List Filter) (e : Event).

@@ -189,6 +189,7 @@ sorted-listed places xs ys d listed moved up =
     IsDistinct-IsPermutation (eq_by_cmp (slice_cmp nat_cmp)) (λ x y. turned_at x y)
     (keys_of (by_place places)) (keys_of (shown ys))
     (IsPermutation-map (λ (e : Item). e.0) (by_place places) (shown ys) perm) differ in
-    same_keys (shown ys) (in_order places) (rising one_shown ys up differ_too) (sorted-in_order places)
+    same_keys (shown ys) (in_order places) (rising one_shown ys up differ_too)
+    (sorted-in_order places)
     (λ q. sym (alike (by_place places) (shown ys) q perm differ differ_too)
     ∙ lookup-by_place places q ∙ sym (lookup-in_order places q))

@@ -141,7 +141,8 @@ stepped (Ok replies) old new config opening past step before middle after ending
     (record {
       settled = now;
       text = behind before middle after _ _
-          (text ∙ ap (λ some. before ++ some) (rw (h.sent, h.ended) refl)) (shown (step ∷ past) now);
+          (text ∙ ap (λ some. before ++ some) (rw (h.sent, h.ended) refl))
+          (shown (step ∷ past) now);
       ended = ended;
     })
 stepped (Err NoConn) old new config opening past step before middle after ending h kept settled

@@ -204,7 +204,8 @@ replied_kept book line change text says =
 -- a line that was answered over a look
 pub looked : (hub since : Beginning) (seat : ℕ) (old new : Worker) (whats : List What)
     (line : List ℕ) (book : State) (answered : Answered) (seen : Beginning)
-    → new.poster ≡ old.poster → new.lens.seen ≡ seen → Follows old.lens.seen seen → IsBookOf book seen
+    → new.poster ≡ old.poster → new.lens.seen ≡ seen → Follows old.lens.seen seen
+    → IsBookOf book seen
     → Replies book (kept_of line) answered.change answered.text.items → HasNoEnd line
     → quits line ≡ false → HasLearned hub since seat old whats
     → HasLooked hub since seat new whats line answered
@@ -457,7 +458,8 @@ has_quit hub seat old new bytes rest start given taken poster whole w leaves = r
     read = ap (λ xs. lines_in w.replies ++ xs) (sym (append_assoc w.line bytes (10 ∷ rest)));
     whole = none_in_both w.line bytes w.unended whole;
     leaves = leaves;
-    told = subst (λ (d : Poster). HasTold hub d (changes_in w.replies) 0) (sym poster) w.learned.told;
+    told = subst (λ (d : Poster). HasTold hub d (changes_in w.replies) 0) (sym poster)
+        w.learned.told;
     answered = refl;
   };
 }

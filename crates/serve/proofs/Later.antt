@@ -31,7 +31,8 @@ own_on seat a b follows = (
 )
 
 -- what a list shows a later one shows
-pub shows_on : (seat : ℕ) (whats : List What) (a b : Beginning) → ShowsTold seat whats a → Follows a b
+pub shows_on : (seat : ℕ) (whats : List What) (a b : Beginning) → ShowsTold seat whats a
+    → Follows a b
     → ShowsTold seat whats b
 shows_on seat whats a b shows follows =
     λ some. prefix_trans (numbered seat 0 (Sit ∷ whats)) (own seat a.events) (own seat b.events)

@@ -29,7 +29,8 @@ nothing_in (what ∷ whats) is = absurd (grind (arith, nat_tests))
 
 -- nothing was to be posted
 pub posts_empty : (hub : Beginning) (poster : Poster) (whats batch : List What)
-    → true ≡ (length batch == 0) → HasTold hub poster whats 0 → HasTold hub poster (whats ++ batch) 0
+    → true ≡ (length batch == 0) → HasTold hub poster whats 0
+    → HasTold hub poster (whats ++ batch) 0
 posts_empty hub poster whats batch none told =
     subst (λ (more : List What). HasTold hub poster (whats ++ more) 0) (sym (nothing_in batch none))
     (subst (λ (all : List What). HasTold hub poster all 0) (sym (append-nil whats)) told)

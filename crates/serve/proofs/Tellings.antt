@@ -190,7 +190,8 @@ unturned hub seated turns old new tables keeps tells = record {
 }
 
 posted_shown : (hub seen : Beginning) (poster : Option Poster) (whats : List What)
-    → PosterTells hub poster whats 0 → HoldsLast poster seen → ShowsPosted (seat_at poster) whats seen
+    → PosterTells hub poster whats 0 → HoldsLast poster seen
+    → ShowsPosted (seat_at poster) whats seen
 posted_shown hub seen None whats told holds = tt
 posted_shown hub seen (Some poster) whats told holds =
     shows_last poster.pass.seat whats poster.last seen told.last holds
@@ -391,7 +392,8 @@ turn_says hub seated turns poster old new text turn shown tells =
     let setup : Setup = setup_of hub.config in
     let book : State = turn.brings.book in
     let sees : Follows hub turn.later.seen =
-    follows_on hub turn.lens.seen turn.later.seen (lens_of hub seated (seat_at poster) turns turn.lens
+    follows_on hub turn.lens.seen turn.later.seen
+    (lens_of hub seated (seat_at poster) turns turn.lens
     shown (sees_from hub turns old.lens turn.lens turn.had tells.sees)) turn.follows in
     let config : turn.later.seen.config ≡ hub.config =
     ap (λ (b : Beginning). b.config) sees.same in

@@ -22,7 +22,8 @@ timed_none hub gives poster told =
     record { moments = []; are = none_at_all (IsMomentOf gives); told = told }
 
 -- one moment more was told
-pub timed_more : (hub : Beginning) (gives : ℕ → Type 0) (old new : Poster) (moment : ℕ) → gives moment
+pub timed_more : (hub : Beginning) (gives : ℕ → Type 0) (old new : Poster) (moment : ℕ)
+    → gives moment
     → (timed : HasTimed hub gives old 0)
     → ((whats : List What) → HasTold hub old whats 0
     → HasTold hub new (whats ++ Moment moment ∷ []) 0) → HasTimed hub gives new 0

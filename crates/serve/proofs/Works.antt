@@ -291,7 +291,8 @@ stops_settled hub seated old new start given after taken more piece batch cause 
             shown = shown_at hub seated old.poster new.poster w.turns seat w.work.shown;
             read = refl;
             ends = stands.ends;
-            told = subst (λ facts. PosterTells hub new.poster facts 0) (sym stands.grows.facts) told;
+            told = subst (λ facts. PosterTells hub new.poster facts 0) (sym stands.grows.facts)
+                told;
             answered = refl;
           });
     }
@@ -327,7 +328,8 @@ unsettled A hub seated old new start given after taken more piece batch end answ
         rest = settles.1.rest;
         goes_on = w.work.goes_on;
         read = refl;
-        told = subst (λ facts. PosterTells hub new.poster facts 0) (sym stands.grows.facts) settles.0;
+        told = subst (λ facts. PosterTells hub new.poster facts 0) (sym stands.grows.facts)
+            settles.0;
         answer = says ∙ settles.1.split;
         answered = refl;
       });
@@ -430,7 +432,8 @@ stops_at_start hub seated worker start work = record {
   };
 }
 
-answered_as : (setup : Setup) (seated : Bool) (S : List Turn → Type 0) (P Q : List What → ℕ → Type 0)
+answered_as : (setup : Setup) (seated : Bool) (S : List Turn → Type 0)
+    (P Q : List What → ℕ → Type 0)
     (end : Option SessionCause) (bytes written : List ℕ)
     → ((whats : List What) (n : ℕ) → P whats n → Q whats n)
     → IsAnswered setup seated S P end bytes written → IsAnswered setup seated S Q end bytes written
@@ -443,9 +446,11 @@ answered_as setup seated S P Q end bytes written f is = record {
   answered = is.answered;
 }
 
-refused_as : (setup : Setup) (seated : Bool) (S : List Turn → Type 0) (P Q : List What → ℕ → Type 0) (bytes written : List ℕ)
+refused_as : (setup : Setup) (seated : Bool) (S : List Turn → Type 0) (P Q : List What → ℕ → Type 0)
+    (bytes written : List ℕ)
     (stored : ℕ → ℕ) → ((whats : List What) (n : ℕ) → P whats n → Q whats n)
-    → IsRefused setup seated S P bytes written stored → IsRefused setup seated S Q bytes written stored
+    → IsRefused setup seated S P bytes written stored
+    → IsRefused setup seated S Q bytes written stored
 refused_as setup seated S P Q bytes written stored f is = record {
   turns = is.turns;
   shown = is.shown;
@@ -458,7 +463,8 @@ refused_as setup seated S P Q bytes written stored f is = record {
   answered = is.answered;
 }
 
-by_session_as : (setup : Setup) (seated : Bool) (S : List Turn → Type 0) (P Q : List What → ℕ → Type 0)
+by_session_as : (setup : Setup) (seated : Bool) (S : List Turn → Type 0)
+    (P Q : List What → ℕ → Type 0)
     (bytes written : List ℕ) (cause : SessionCause)
     → ((whats : List What) (n : ℕ) → P whats n → Q whats n)
     → EndsBySession setup seated S P bytes written cause → EndsBySession setup seated S Q
@@ -474,7 +480,8 @@ by_session_as setup seated S P Q bytes written causes.TimedOut f is =
 by_session_as setup seated S P Q bytes written causes.NoMemory f is =
     refused_as setup seated S P Q bytes written (λ count. 0) f is
 
-ends_as : (setup : Setup) (seated : Bool) (S : List Turn → Type 0) (P Q : List What → ℕ → Type 0) (bytes written : List ℕ)
+ends_as : (setup : Setup) (seated : Bool) (S : List Turn → Type 0) (P Q : List What → ℕ → Type 0)
+    (bytes written : List ℕ)
     (cause : Cause) → ((whats : List What) (n : ℕ) → P whats n → Q whats n)
     → EndsBy setup seated S P bytes written cause → EndsBy setup seated S Q bytes written cause
 ends_as setup seated S P Q bytes written Read f is =
@@ -708,7 +715,8 @@ ended_by hub seated old new start given after taken more piece fault result give
 
     by_cause : (cause : SessionCause) → fault.cause ≡ cause → FaultAnswersTalk cause fault.batch
         (setup_of hub.config) seated (taken_in w.turns) piece new.session.stage
-        → EndsFor cause hub old.poster new.poster (facts_in (setup_of hub.config) seated w.turns) fault
+        → EndsFor cause hub old.poster new.poster (facts_in (setup_of hub.config) seated w.turns)
+        fault
         taken more result → EndsSo hub seated new start (so_far after more) result
     by_cause (causes.Refused status) is a e = then (subst TookIt (sym is) tt) e
     by_cause (causes.Wire wire) is a e = then (subst TookIt (sym is) tt) e
@@ -726,7 +734,8 @@ poster_is_of : (hub : Beginning) (poster : Option Poster) (whats : List What) (n
 poster_is_of hub None whats n told = tt
 poster_is_of hub (Some poster) whats n told = ap (λ (b : Beginning). b.of) told.seen.same
 
-poster_of_session : (hub : Beginning) (seated : Bool) (S : List Turn → Type 0) (poster : Option Poster)
+poster_of_session : (hub : Beginning) (seated : Bool) (S : List Turn → Type 0)
+    (poster : Option Poster)
     (bytes written : List ℕ) (cause : SessionCause)
     → EndsBySession (setup_of hub.config) seated S (PosterTells hub poster) bytes written cause →
     IsPosterOf hub poster
@@ -741,14 +750,16 @@ poster_of_session hub seated S poster bytes written causes.TimedOut ends =
 poster_of_session hub seated S poster bytes written causes.NoMemory ends =
     poster_is_of hub poster (facts_in (setup_of hub.config) seated ends.turns) 0 ends.told
 
-poster_of_stops : (hub : Beginning) (seated : Bool) (S : List Turn → Type 0) (poster : Option Poster)
+poster_of_stops : (hub : Beginning) (seated : Bool) (S : List Turn → Type 0)
+    (poster : Option Poster)
     (bytes written : List ℕ) (cause : Cause)
     → EndsBy (setup_of hub.config) seated S (PosterTells hub poster) bytes written cause →
     IsPosterOf hub poster
 poster_of_stops hub seated S poster bytes written Read ends =
     poster_is_of hub poster (facts_in (setup_of hub.config) seated ends.turns) 0 ends.told
 poster_of_stops hub seated S poster bytes written Write (inl ends) =
-    poster_is_of hub poster (facts_in (setup_of hub.config) seated (ends.last ∷ ends.turns)) 0 ends.told
+    poster_is_of hub poster (facts_in (setup_of hub.config) seated (ends.last ∷ ends.turns)) 0
+    ends.told
 poster_of_stops hub seated S poster bytes written Write (inr ends) =
     poster_is_of hub poster (facts_in (setup_of hub.config) seated ends.turns)
     (length (talk (setup_of hub.config) seated bytes).facts - length
@@ -768,4 +779,5 @@ pub poster_of_works : (hub : Beginning) (seated : Bool) (worker : Worker)
 poster_of_works hub seated worker start now (Ok done) w =
     poster_is_of hub worker.poster (facts_in (setup_of hub.config) seated w.turns) 0 w.work.told
 poster_of_works hub seated worker start now (Err cause) s =
-    poster_of_stops hub seated (AreTellings hub seated (seat_at worker.poster)) worker.poster s.bytes s.written cause s.ends
+    poster_of_stops hub seated (AreTellings hub seated (seat_at worker.poster)) worker.poster
+    s.bytes s.written cause s.ends

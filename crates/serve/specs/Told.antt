@@ -23,7 +23,8 @@ TellsLast seat whats last = MatchOption last (whats ≡ []) (Tells seat whats)
 
 -- a pass of this hub, and the last receipt of its posts, where this was told, and so many events
 -- more are stored and not shown yet; what they have seen is of the hub's history
-pub record HasTold (hub : Beginning) (poster : Poster) (whats : List What) (waiting : ℕ) : Type 0 where
+pub record HasTold (hub : Beginning) (poster : Poster) (whats : List What)
+    (waiting : ℕ) : Type 0 where
   pub seen : Follows hub poster.pass.seen
   pub number : poster.pass.number ≡ 1 + length whats + waiting
   pub tells : Tells poster.pass.seat whats poster.pass.seen
@@ -47,10 +48,12 @@ stored_in (Err fault) count = stored_of fault count
 abbrev pub TellsMore : Beginning → Poster → List What → List What → Result (Unit {0}) PostFault
     → Type 0
 TellsMore hub poster whats batch (Ok done) = HasTold hub poster (whats ++ batch) 0
-TellsMore hub poster whats batch (Err fault) = HasTold hub poster whats (stored_of fault (length batch))
+TellsMore hub poster whats batch (Err fault) = HasTold hub poster whats
+    (stored_of fault (length batch))
 
 -- a batch was appended behind what was told, and isn't shown yet; the ticket's list tells it
-pub record IsWaiting (hub : Beginning) (poster : Poster) (whats batch : List What) (ticket : Beginning)
+pub record IsWaiting (hub : Beginning) (poster : Poster) (whats batch : List What)
+    (ticket : Beginning)
     : Type 0 where
   pub told : HasTold hub poster whats (length batch)
   pub tells : Tells poster.pass.seat (whats ++ batch) ticket

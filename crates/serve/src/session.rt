@@ -31,7 +31,8 @@ impl<'a, J: Naming, H: Wait + Drop, R: Wait + std::rt::Clock, C: Clock, G: Gate>
     // Gives the pass of a session that has one back to the hub.
     fn leave(&self, poster: Option<Poster>) -> Served
         requires of { IsPosterOf self.now.hub.now poster }
-        ensures { (whats : List What) (waiting : ℕ) → PosterTells self.now.hub.now poster whats waiting
+        ensures { (whats : List What) (waiting : ℕ)
+            → PosterTells self.now.hub.now poster whats waiting
             → SeatIsServed self.now.hub.now (seat_at poster) result whats waiting }
     {
         match poster {

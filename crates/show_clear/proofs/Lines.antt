@@ -27,7 +27,8 @@ module _ (state : State) (table : ℕ) where
       (lines_shown rows)
 
   lines_of_keys : (keys : List (List ℕ)) → flat_map (key_row state table) keys
-      ≡ flat_map (line_if (shape_of state table) []) (map (λ key. (key, summed state table key)) keys)
+      ≡ flat_map (line_if (shape_of state table) [])
+      (map (λ key. (key, summed state table key)) keys)
   lines_of_keys [] = refl
   lines_of_keys (key ∷ keys) = ap (λ more. key_row state table key ++ more) (lines_of_keys keys)
 

@@ -354,7 +354,8 @@ after_there : (turn : Turn) (sets : List (List (List ℕ))) (told : List ToldTab
     → at ≡ before + place
     → (slice_index_or (map (λ (t : TableTurn). t.after) (table_turns turn sets told before pushed))
     place no_table).marks
-    ≡ marks_of table turn (stands (slice_index_or sets at []) (slice_index_or told at no_table).marks)
+    ≡ marks_of table turn (stands (slice_index_or sets at [])
+    (slice_index_or told at no_table).marks)
 unfolding table_turns table_turn
 after_there turn sets told before [] place at table is here = absurd (cc is)
 after_there turn sets told before (first ∷ pushed) zero at table is here =

@@ -22,7 +22,8 @@ use Rattle.telling.specs.declared.told.ToldTable.{ToldTable}
 
 -- the mark that a key had
 abbrev pub own_mark : Stand → List Mark
-own_mark stand = option_to_list (option_map (λ put. record { key = stand.key; put = put }) stand.put)
+own_mark stand = option_to_list
+    (option_map (λ put. record { key = stand.key; put = put }) stand.put)
 
 told_marks : (marks : List Mark) → flat_map own_mark (map only_told marks) ≡ marks
 told_marks [] = refl

@@ -18,7 +18,8 @@ returns-then-is_some-clause-ok c = on_ok_weaker c.put_row.result
 
 pub returns-in-None-clause-ok : goal.returns-in-None-clause-ok
 returns-in-None-clause-ok c =
-    ap (λ (rows : RowMap). arrivals rows.entries) (rw c.in-None.is at c.in_ok-insert_first.ensures.ok)
+    ap (λ (rows : RowMap). arrivals rows.entries)
+    (rw c.in-None.is at c.in_ok-insert_first.ensures.ok)
     ∙ map-insert_entry row_key_cmp as_arrival c.args.rows.now.entries (place_at c.args.at)
     c.args.row.now
 

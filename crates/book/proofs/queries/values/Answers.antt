@@ -5,7 +5,8 @@ use Rattle.book.proofs.queries.values.Goals as goal
 
 pub loop-stored-preserved : goal.loop-stored-preserved
 loop-stored-preserved c =
-    put_next (λ (col : Col). rows_worth c.args.cols.now col c.args.t c.args.rows.now) c.args.cols.now
+    put_next (λ (col : Col). rows_worth c.args.cols.now col c.args.t c.args.rows.now)
+    c.args.cols.now
     c.loop-stored.stored-index _ c.loop-stored.values c.place.result c.worth.result
     c.loop-stored-test.true c.loop-stored.invariant c.place.ensures c.worth.ensures.exact
 

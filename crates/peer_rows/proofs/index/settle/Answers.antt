@@ -5,7 +5,8 @@ use Rattle.peer_rows.proofs.InTime.{planned_all, rows_none, rows_value}
 use Rattle.peer_rows.proofs.index.settle.Goals as goal
 use Rattle.peer_rows.proofs.index.settle.Goals.{in-Some, in-None}
 
-least : (c : goal.After-note) → IsLeast (rows_at c.args.keys.now.places c.args.at) c.match-value.least
+least : (c : goal.After-note) → IsLeast (rows_at c.args.keys.now.places c.args.at)
+    c.match-value.least
 least c = elim c.match-value.branch [
   | in-Some w ↦
       let value = sym c.value.ensures ∙ ap option_copied w.in-Some.is in

@@ -8,9 +8,11 @@ pub loop-col-preserved : goal.loop-col-preserved
 loop-col-preserved c =
     elim c.match-get.branch [
       | in-Some+in_ok-push w ↦ rw (w.cells-is, w.in_ok-push.ensures.items)
-          (packed-more c.loop-col.cells.items w.new.result w.in-Some.held (cells_of c.args.len c.args.kinds c.args.words.now)
+          (packed-more c.loop-col.cells.items w.new.result w.in-Some.held
+          (cells_of c.args.len c.args.kinds c.args.words.now)
           c.loop-col.col c.loop-col.invariant w.new.ensures (sym w.in-Some.ensures))
-      | in_default w ↦ let past = past_from_none (cells_of c.args.len c.args.kinds c.args.words.now) c.loop-col.col
+      | in_default w ↦ let past = past_from_none (cells_of c.args.len c.args.kinds c.args.words.now)
+          c.loop-col.col
           (sym w.in_default.ensures) in absurd (omega (
             arith,
             past,

@@ -81,7 +81,8 @@ returns-in-Ok-finish-clause-whole g c =
     (g.W.Write.contents c.run.new.out))
     c.in_ok-start.ensures.cut c.run.ensures.whole
     (λ lines rest cut ran. wrote_too c.run.result _ (All lines) _ _
-    (run_said lines rest _ c.in_ok-start.start c.in-Some.opening c.in-Ok-finish.config cut c.in-Some.is
+    (run_said lines rest _ c.in_ok-start.start c.in-Some.opening c.in-Ok-finish.config cut
+    c.in-Some.is
     (c.in-Ok-finish.ensures.finished _
     (front_read lines rest _ c.in_ok-start.start c.in-Some.opening cut c.in-Some.is))) ran)
 
@@ -96,7 +97,8 @@ returns-in-Ok-finish-clause-cut g c =
     (g.W.Write.contents c.run.new.out))
     c.in_ok-start.ensures.cut c.run.ensures.cut
     (λ lines rest cut ran. front_too c.run.result _ (All lines) _ _
-    (run_said lines rest _ c.in_ok-start.start c.in-Some.opening c.in-Ok-finish.config cut c.in-Some.is
+    (run_said lines rest _ c.in_ok-start.start c.in-Some.opening c.in-Ok-finish.config cut
+    c.in-Some.is
     (c.in-Ok-finish.ensures.finished _
     (front_read lines rest _ c.in_ok-start.start c.in-Some.opening cut c.in-Some.is))) ran)
 

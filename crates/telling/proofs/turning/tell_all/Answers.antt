@@ -53,7 +53,8 @@ all_done c =
       tables = c.loop-before.tables.items;
     } in
     c.loop-before.invariant at
-    (subst (λ ps. AreDone at (table_turns c.args.turn sets c.args.told.now c.loop-before.before ps) at)
+    (subst (λ ps. AreDone at (table_turns c.args.turn sets c.args.told.now c.loop-before.before ps)
+    at)
     (sym (drop_all c.loop-before.before c.args.pushed.now c.loop-before-test.false))
     (no_table_done at))
 

@@ -29,7 +29,8 @@ invariant_of-self g c =
     let e = event_at seat c.args.number Leave in
     let at : found seat roll.seats ≡ Some c.args.number =
     ap (λ (k : Kept). found seat k.roll.seats) c.self.view_is ∙ c.requires.due in
-    let counts = post_counts front roll seat c.args.number Leave c.self.invariant.0.counted refl refl
+    let counts = post_counts front roll seat c.args.number Leave c.self.invariant.0.counted refl
+    refl
     at c.requires.small in
     let count : IsCountOf (record roll { seats = remove_entry (is_at (nat_cmp seat)) roll.seats })
     c.store.new.front = subst (IsCountOf _) (sym c.store.ensures.front)

@@ -28,7 +28,8 @@ invariant_of-press-in-Ok g c =
     let new = c.show-writer.result.0 in (
       pressed_whole g.J.Naming.book new.desk.shown.value (view new.desk.place)
           (drop new.behind new.log.items) c.hand_over.new.queue.items c.self.inside.taken
-          c.self.invariant.0.named shown.0 shown.2 shown.1 (c.hand_over.ensures.done c.if-not-hand_over.false),
+          c.self.invariant.0.named shown.0 shown.2 shown.1
+          (c.hand_over.ensures.done c.if-not-hand_over.false),
       omega (arith, c.hand_over.ensures.room, c.self.invariant.1),
     )
 

@@ -6,13 +6,15 @@ use Rattle.peer_rows.proofs.key_rows.KeyRows.put.Goals as goal
 pub invariant_of-self-in-One-2 : goal.invariant_of-self-in-One-2
 invariant_of-self-in-One-2 c =
     let are : ArePeers (held_by c.self.inside.peers) = c.self.invariant in
-    are-put c.args.peer ((c.in-One.own, c.in-One.held) ∷ []) (held_by c.put_second.new.peers) c.args.row
+    are-put c.args.peer ((c.in-One.own, c.in-One.held) ∷ []) (held_by c.put_second.new.peers)
+    c.args.row
     (rw c.in-One.is at are) c.in_ok-put_second-in-One-2.ensures.ok
 
 pub returns-in_ok-put_second-in-One-2-clause-are : goal.returns-in_ok-put_second-in-One-2-clause-are
 returns-in_ok-put_second-in-One-2-clause-are c =
     let are : ArePeers (held_by c.self.inside.peers) = c.self.invariant in
-    (are-put c.args.peer ((c.in-One.own, c.in-One.held) ∷ []) (held_by c.put_second.new.peers) c.args.row
+    (are-put c.args.peer ((c.in-One.own, c.in-One.held) ∷ []) (held_by c.put_second.new.peers)
+    c.args.row
     (rw c.in-One.is at are) c.in_ok-put_second-in-One-2.ensures.ok)
 
 pub invariant_of-self-in-Many : goal.invariant_of-self-in-Many

@@ -21,7 +21,8 @@ returns-clause-found c = rw (
 ) c.exchange.ensures.is
 
 pub returns-clause-rows : goal.returns-clause-rows
-returns-clause-rows c = rw (← c.self.view_is, c.exchange.ensures.changed.is) (exchanged-shown c.self.inside.index.places
+returns-clause-rows c = rw (← c.self.view_is, c.exchange.ensures.changed.is)
+    (exchanged-shown c.self.inside.index.places
     c.args.key.now c.in-Some.ensures.distinct c.in-Some.at c.in-Some.ensures.some
     c.exchange.ensures.rows c.exchange.ensures.changed.value c.exchange.ensures.later c.args.peer
     c.args.row.now c.exchange.result c.exchange.ensures.after)
@@ -38,7 +39,8 @@ pub returns-clause-once : goal.returns-clause-once
 returns-clause-once c =
     let once : EachPeerOnce (in_order c.self.inside.index.places) =
     rw (← c.self.view_is) at c.requires in
-    rw c.exchange.ensures.changed.is (once-shown c.self.inside.index.places c.args.key.now c.in-Some.ensures.distinct c.in-Some.at
+    rw c.exchange.ensures.changed.is
+    (once-shown c.self.inside.index.places c.args.key.now c.in-Some.ensures.distinct c.in-Some.at
     c.in-Some.ensures.some c.exchange.ensures.rows c.exchange.ensures.changed.value
     c.exchange.ensures.later once c.exchange.ensures.changed.are)
 

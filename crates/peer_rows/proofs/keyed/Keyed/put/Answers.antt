@@ -35,7 +35,8 @@ returns-clause-held c = rw (
 ) c.put.ensures.held
 
 pub returns-clause-err : goal.returns-clause-err
-returns-clause-err c = rw (← c.self.view_is, c.put.ensures.changed.is) (refused-shown c.self.inside.index.places
+returns-clause-err c = rw (← c.self.view_is, c.put.ensures.changed.is)
+    (refused-shown c.self.inside.index.places
     c.args.key.now c.in-Some.ensures.distinct c.in-Some.at c.in-Some.ensures.some
     c.put.ensures.rows c.put.ensures.changed.value c.put.ensures.later c.put.result
     c.put.ensures.err)
@@ -44,7 +45,8 @@ pub returns-clause-once : goal.returns-clause-once
 returns-clause-once c =
     let once : EachPeerOnce (in_order c.self.inside.index.places) =
     rw (← c.self.view_is) at c.requires in
-    rw c.put.ensures.changed.is (once-shown c.self.inside.index.places c.args.key.now c.in-Some.ensures.distinct c.in-Some.at
+    rw c.put.ensures.changed.is (once-shown c.self.inside.index.places c.args.key.now
+    c.in-Some.ensures.distinct c.in-Some.at
     c.in-Some.ensures.some c.put.ensures.rows c.put.ensures.changed.value
     c.put.ensures.later once c.put.ensures.changed.are)
 

@@ -97,6 +97,7 @@ pub returns-else-is_only-clause-once : goal.returns-else-is_only-clause-once
 returns-else-is_only-clause-once c =
     let once : EachPeerOnce (in_order c.self.inside.index.places) =
     rw (← c.self.view_is) at c.requires in
-    rw c.take.ensures.changed.is (once-shown c.self.inside.index.places c.args.key.now c.in_ok-at.ensures.distinct
+    rw c.take.ensures.changed.is (once-shown c.self.inside.index.places c.args.key.now
+    c.in_ok-at.ensures.distinct
     c.in_ok-at.at c.in_ok-at.ensures.some c.take.ensures.rows
     c.take.ensures.changed.value c.take.ensures.later once c.take.ensures.changed.are)

@@ -8,6 +8,7 @@ returns c =
     λ h q other has. record {
       word = kept_by_clear c.args.self.now.wide c.args.self.now.half c.home-home.result _
           c.args.self.now.windows.items c.replace.new.self.items c.window_at-window.result _
-          c.short-short.result c.args.at (short_of h) q c.replace.ensures.after c.window_at-window.ensures
+          c.short-short.result c.args.at (short_of h) q c.replace.ensures.after
+          c.window_at-window.ensures
           (search rules) other has.word;
     }

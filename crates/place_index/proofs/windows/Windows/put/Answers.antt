@@ -7,6 +7,7 @@ pub returns-clause-others : goal.returns-clause-others
 returns-clause-others c =
     λ h q has. record {
       word = kept_by_put c.args.self.now.wide c.args.self.now.half c.home-home.result _
-          c.args.self.now.windows.items c.replace.new.self.items c.window_at-window.result _ (short_of h) q
+          c.args.self.now.windows.items c.replace.new.self.items c.window_at-window.result _
+          (short_of h) q
           c.replace.ensures.after c.window_at-window.ensures (search rules) has.word;
     }

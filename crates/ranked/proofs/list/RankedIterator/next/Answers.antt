@@ -37,7 +37,11 @@ returns-clause-steps g c =
           ∙ ap (λ l. view_of_candidate c.remove.result ∷ found living value (r.left - 1)
           (map view_of_candidate l) c.take_certain-walked.new.ahead) (sym c.remove.ensures.items),
       ap (λ v. v.index) c.self.view_is,
-      record { taken = given.taken; split = given.split; count = c.saturating_add-self-inside.ensures ∙ given.count },
+      record {
+        taken = given.taken;
+        split = given.split;
+        count = c.saturating_add-self-inside.ensures ∙ given.count;
+      },
       rw (← c.self.view_is) (omega (
         arith,
         walk_reach r.index.now c.take_certain-walked.new.ahead
@@ -70,6 +74,11 @@ returns-then-is_empty-clause-steps g c =
     c.self.invariant.3 in (
       (ap (λ v. v.left) (sym c.self.view_is) ∙ sym c.take_certain-walked.ensures.same ∙ none, none),
       ap (λ v. v.index) c.self.view_is,
-      record { taken = walk.taken; split = walk.split; count = c.saturating_add-self-inside.ensures ∙ walk.count },
+      record {
+        taken = walk.taken;
+        split = walk.split;
+        count = c.saturating_add-self-inside.ensures
+            ∙ walk.count;
+      },
       tt,
     )

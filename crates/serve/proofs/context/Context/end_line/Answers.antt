@@ -43,8 +43,10 @@ returns-in_err-obey-clause-takes g c =
     let p = err_from_is_err_and c.from_residual.result c.from_residual.ensures.1 in
     rw (p.1, p.2) (stops_obeying hub seat c.args.worker.now c.obey.new.worker c.args.bytes.now rest
     start given (g.W.Write.contents c.args.writer.now) (g.W.Write.contents c.obey.new.writer) _ w
-    (c.in_err-obey.ensures.obeys since seat (changes_in w.replies) (w.line ++ c.args.bytes.now) learned
-    kept (none_in_both w.line c.args.bytes.now w.unended whole) (asks_same (w.line ++ c.args.bytes.now)
+    (c.in_err-obey.ensures.obeys since seat (changes_in w.replies) (w.line ++ c.args.bytes.now)
+    learned
+    kept (none_in_both w.line c.args.bytes.now w.unended whole)
+    (asks_same (w.line ++ c.args.bytes.now)
     c.keep.new.self.line.bytes.items c.as_slice.result.now c.quits.result false kept
     c.as_slice.ensures c.quits.ensures c.if-quits.false)))
 

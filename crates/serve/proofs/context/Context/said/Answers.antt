@@ -19,4 +19,5 @@ returns-clause-said g c =
     c.equip.new.self c.turn.new.self (option_map (λ t. t.items) c.turn.result) c.in-Some.is
     c.equip.ensures c.turn.ensures.tables c.turn.ensures.turns
     (greeted_by c.args.self.now.hub.now seated turns c.args.worker.now c.peer.result
-    c.peer.ensures.opened (c.is_none.ensures ∙ ap (λ (b : Bool). not b) c.if-is_none.false) work) work
+    c.peer.ensures.opened (c.is_none.ensures ∙ ap (λ (b : Bool). not b) c.if-is_none.false) work)
+    work

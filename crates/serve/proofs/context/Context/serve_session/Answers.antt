@@ -36,7 +36,8 @@ returns-in-Ok-clause-served g c =
     (c.run_session-ended.ensures.seat ∙ c.new-worker.ensures.seat)
     (λ whats n told.
     subst (λ (s : Option ℕ). SeatIsServed hub s c.leave-served.result whats n) left
-    (c.leave-served.ensures whats n (subst (λ (poster : Option Poster). PosterTells hub poster whats n)
+    (c.leave-served.ensures whats n
+    (subst (λ (poster : Option Poster). PosterTells hub poster whats n)
     (sym c.into_poster.ensures) told)))
     (subst (λ (r : Result (Unit {0}) Cause). WorksOn hub c.new-worker.result.session.seated
     c.run_session-ended.new.worker (so_far (g.S.Source.given c.args.link.now.source)
@@ -61,7 +62,8 @@ returns-in-Err-clause-served g c =
     (c.run_session-ended.ensures.seat ∙ c.new-worker.ensures.seat)
     (λ whats n told.
     subst (λ (s : Option ℕ). SeatIsServed hub s c.leave-served.result whats n) left
-    (c.leave-served.ensures whats n (subst (λ (poster : Option Poster). PosterTells hub poster whats n)
+    (c.leave-served.ensures whats n
+    (subst (λ (poster : Option Poster). PosterTells hub poster whats n)
     (sym c.into_poster.ensures) told)))
     (subst (λ (r : Result (Unit {0}) Cause). WorksOn hub c.new-worker.result.session.seated
     c.run_session-ended.new.worker (so_far (g.S.Source.given c.args.link.now.source)

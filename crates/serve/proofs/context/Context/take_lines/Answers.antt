@@ -15,7 +15,8 @@ returns-in_err-goes-clause-takes g c =
     rw (p.1, p.2) (c.in_err-goes.ensures.takes c.in-Some.behind.now c.in-Some.ensures.line seat
     start given
     (subst (λ (rest : List ℕ). Works c.args.self.now.hub.now seat c.loop-front.worker rest start
-    (so_far given before)) c.in-Some.ensures.parts (c.loop-front.invariant.works seat start given w)))
+    (so_far given before)) c.in-Some.ensures.parts
+    (c.loop-front.invariant.works seat start given w)))
 
 pub returns-then-is_err-clause-takes : goal.returns-then-is_err-clause-takes
 returns-then-is_err-clause-takes g c =
@@ -30,7 +31,8 @@ returns-clause-takes g c =
     λ seat start given w.
     works_kept c.args.self.now.hub.now seat c.loop-front.worker c.keep.new.self
     c.loop-front.rest.now start (so_far given (g.W.Write.contents c.loop-front.writer))
-    c.keep.ensures.poster (ap (λ (s : Seeing). s.seen) c.keep.ensures.lens) c.in_default.ensures.whole
+    c.keep.ensures.poster (ap (λ (s : Seeing). s.seen) c.keep.ensures.lens)
+    c.in_default.ensures.whole
     (λ line is. from_ok c.keep.result (sym c.is_err.ensures.value ∙ c.if-is_err.false)
     (c.keep.ensures.keeps line is)) (c.loop-front.invariant.works seat start given w)
 
@@ -43,7 +45,8 @@ returns-then-not-goes-clause-takes g c =
     c.in-Some.behind.now start (so_far given after)) c.if-not-goes.true
     (c.in_ok-goes.ensures.takes c.in-Some.behind.now c.in-Some.ensures.line seat start given
     (subst (λ (rest : List ℕ). Works c.args.self.now.hub.now seat c.loop-front.worker rest start
-    (so_far given before)) c.in-Some.ensures.parts (c.loop-front.invariant.works seat start given w)))
+    (so_far given before)) c.in-Some.ensures.parts
+    (c.loop-front.invariant.works seat start given w)))
 
 pub loop-front-preserved : goal.loop-front-preserved
 loop-front-preserved g c =

@@ -54,7 +54,8 @@ returns-in_err-take_lines-in-Ok-Bytes-clause-works g c =
     subst (λ (bytes : List ℕ). Appends before after bytes) (sym c.front.ensures) gives in
     let p = err_from_is_err_and c.from_residual.result c.from_residual.ensures.1 in
     rw (p.1, p.2) (c.in_err-take_lines-in-Ok-Bytes.ensures.takes seat start after
-    (works_alike hub seat c.args.worker.now _ c.front.result.now start (so_far after wrote) refl refl
+    (works_alike hub seat c.args.worker.now _ c.front.result.now start (so_far after wrote) refl
+    refl
     refl (works_piece hub seat c.args.worker.now c.front.result.now start before after wrote piece
     w)))
 
@@ -70,6 +71,7 @@ returns-in_ok-take_lines-in-Ok-Bytes-clause-works g c =
     let piece : Appends before after c.front.result.now =
     subst (λ (bytes : List ℕ). Appends before after bytes) (sym c.front.ensures) gives in
     c.in_ok-take_lines-in-Ok-Bytes.ensures.takes seat start after
-    (works_alike hub seat c.args.worker.now _ c.front.result.now start (so_far after wrote) refl refl
+    (works_alike hub seat c.args.worker.now _ c.front.result.now start (so_far after wrote) refl
+    refl
     refl (works_piece hub seat c.args.worker.now c.front.result.now start before after wrote piece
     w))

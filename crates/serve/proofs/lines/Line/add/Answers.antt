@@ -15,7 +15,8 @@ returns-in_default-clause-ok c = λ line is.
     c.parted_at.result.1.now c.extend_from_slice.new.self.items
     (LONGEST_COMMAND_LINE - c.len-len.result) is
     (omega (arith, c.len-len.ensures, c.if-len-gt-LONGEST_COMMAND_LINE.false))
-    c.parted_at.ensures.front c.parted_at.ensures.behind c.in_default.ensures c.in_ok-extend_from_slice.ensures.items
+    c.parted_at.ensures.front c.parted_at.ensures.behind c.in_default.ensures
+    c.in_ok-extend_from_slice.ensures.items
 
 pub returns-clause-ok : goal.returns-clause-ok
 returns-clause-ok c = λ line is.
@@ -23,5 +24,6 @@ returns-clause-ok c = λ line is.
     c.parted_at.result.1.now c.extend_from_slice.new.self.items c.push.new.self.items
     (LONGEST_COMMAND_LINE - c.len-len.result) c.in-Some.byte is
     (omega (arith, c.len-len.ensures, c.if-len-gt-LONGEST_COMMAND_LINE.false))
-    c.parted_at.ensures.front c.parted_at.ensures.behind c.in-Some.ensures c.in_ok-extend_from_slice.ensures.items
+    c.parted_at.ensures.front c.parted_at.ensures.behind c.in-Some.ensures
+    c.in_ok-extend_from_slice.ensures.items
     (grind (arith, c.push.ensures.items, c.if-is_err.false))

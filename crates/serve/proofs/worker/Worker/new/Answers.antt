@@ -16,7 +16,8 @@ returns-clause-work c =
     let setup : Setup = setup_of hub.config in
     let seated : c.accept.result.seated ≡ c.is_some.result =
     ap (λ s. s.seated) c.accept.ensures.new in
-    let P : Option Poster → Type 0 = λ d. PosterTells hub d (facts_in setup c.accept.result.seated []) 0
+    let P : Option Poster → Type 0 = λ d. PosterTells hub d
+    (facts_in setup c.accept.result.seated []) 0
     in record {
       has_seat = refl;
       stands = c.accept.ensures.stands setup ∙ ap (λ b. stage_of setup b []) (sym seated);
