@@ -1,5 +1,5 @@
 -- The rate never rises as time passes.
-use Rattle.std.proofs.Common.{◌≡◌, ℕ, ◌-◌, ◌*◌, ◌/◌, ◌<◌, ◌≤◌, ◌^◌, zero, suc, arith}
+use Rattle.std.proofs.Common.{◌≡◌, ℕ, ◌+◌, ◌-◌, ◌*◌, ◌/◌, ◌<◌, ◌≤◌, ◌^◌, zero, suc, arith}
 use Rattle.std.proofs.Math.Nat.{div-le_of_le-mul, div-mul-le_self}
 use Rattle.std.proofs.lemmas.Nat.{le-div, mul-le}
 use Rattle.std.proofs.lemmas.Bool.Decides.{nat_tests}
@@ -57,6 +57,20 @@ rate_falls (suc q) a c e f h =
 pub rate_ends : (p a c e : ℕ) → 2 * p < e → rate p a c e ≡ 0
 unfolding rate
 rate_ends p a c e h = grind (arith, nat_tests)
+
+-- it is never above the events of both periods
+pub while_running_le : (p a c e : ℕ) → while_running p a c e ≤ c + a
+unfolding while_running
+while_running_le p a c e =
+    let s : a * (p - e) / p ≤ a = share_le a (p - e) p (omega arith) in grind (arith, nat_tests)
+
+pub rate_le : (p a c e : ℕ) → rate p a c e ≤ c + a
+unfolding rate
+rate_le zero a c e = omega arith
+rate_le (suc q) a c e =
+    let first = while_running_le (suc q) a c e in
+    let second : suc q < e → once_ended (suc q) c e ≤ c = once_ended_le (suc q) c e in
+    grind (arith, nat_tests)
 
 -- a product of a count and a part of a period fits 64 bits
 pub share_fits : (a k : ℕ) → a < 2 ^ 32 → k < 2 ^ 32 → a * k < 2 ^ 64

@@ -15,6 +15,10 @@ elapsed_at r t = 2 * r.period + 1 - (r.zero_at - t)
 unfoldable pub value_at : Rate → ℕ → ℕ
 value_at r t = rate r.period r.prev r.cur (elapsed_at r t)
 
+-- the events of its current period and of the one before
+abbrev pub most_of : Rate → ℕ
+most_of r = r.cur + r.prev
+
 -- what an arrival at `now` makes
 abbrev pub arrived : ℕ → ℕ → ℕ → ℕ → ℕ → Rate
 arrived period elapsed cur prev now =

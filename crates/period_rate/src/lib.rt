@@ -5,7 +5,7 @@
 //! moment at which it falls below a bound asks it.
 //!
 //! Promised: `Rate::at` is the stated rule of the time elapsed, rounded down; it never rises; and
-//! it is 0 from `Rate::zero_at` on. All calls take no memory.
+//! it is 0 from `Rate::zero_at` on. It is never above `Rate::most`. All calls take no memory.
 #![tactic(auto)]
 
 mod rate;

@@ -18,7 +18,7 @@ pub struct Rate {
 }
 
 impl Rate {
-    ghost use Rattle.period_rate.specs.Rate.{arrived, value_at, zero_moment};
+    ghost use Rattle.period_rate.specs.Rate.{arrived, most_of, value_at, zero_moment};
     ghost use Rattle.period_rate.specs.Words.{rate_of};
 
     /// The rate that a message of moment `now` tells of: `elapsed` ms of the current period had
@@ -49,6 +49,14 @@ impl Rate {
         let before_zero = self.zero_at.saturating_sub(t);
         let elapsed = (2 * period + 1).saturating_sub(before_zero);
         events(period, self.prev, self.cur, elapsed)
+    }
+
+    /// The most that it is at any moment: the events of both periods. No moment is read.
+    pub fn most(&self) -> u64
+        ensures value { result ≡ most_of self.now }
+        ensures bound { (t : ℕ) → value_at self.now t ≤ result }
+    {
+        u64::from(self.cur) + u64::from(self.prev)
     }
 
     /// The first moment at which the elapsed time is above two periods: from there on the rate is
