@@ -4,7 +4,8 @@
 //! A rate falls as time goes on, a sum of rates and counts too, and so does the number of a key's
 //! rows as they end. Standing filters plan by this crate when a key comes into their set or leaves
 //! it; ranked lists take its `Values`. `Falls` is one such value, `Values` gives those of all keys,
-//! and `Of` is one key's of them.
+//! and `Of` is one key's of them. Who keeps at hand the most that a key is ever worth tells it by
+//! `Values::most`, so that no row is read where that settles what is asked.
 //!
 //! Promised: `first_below` gives the least moment at which a value is below a bound, and
 //! `next_change` the least later moment at which the truth of all conditions together differs from

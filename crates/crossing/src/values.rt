@@ -1,4 +1,4 @@
-ghost use Rattle.std.specs.Prelude.{◌≡◌, ℕ, ◌≤◌, List};
+ghost use Rattle.std.specs.Prelude.{◌≡◌, ℕ, ◌≤◌, List, IfSome};
 ghost use Rattle.agg_types.specs.declared.column.Col.{Col};
 
 use crate::Falls;
@@ -20,6 +20,14 @@ pub trait Values {
     /// A key's summed value of a column at a moment.
     fn value(&self, table: usize, key: &Key, col: Col, t: u64) -> u128
         ensures { result ≡ summed self.now table key.now col t };
+
+    /// The most that a key is worth in a column at any moment, where that is known without a look
+    /// at its rows.
+    fn most(&self, table: usize, key: &Key, col: Col) -> Option<u128>
+        ensures { IfSome result (λ most. (t : ℕ) → summed self.now table key.now col t ≤ most) }
+    {
+        None
+    }
 
     /// How many rows of a key live at a moment.
     fn live(&self, table: usize, key: &Key, t: u64) -> usize
