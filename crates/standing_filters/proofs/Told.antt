@@ -1,6 +1,7 @@
 -- A key judged by its conditions.
-use Rattle.std.proofs.Common.{◌≡◌, ◌≢◌, ℕ, ◌+◌, ◌≤◌, nat_lt, Bool, true, false, ◌&&◌, List, [], ◌∷◌}
-use Rattle.std.proofs.Common.{length, get_or, Option, None, Some, refl, sym, ap, ◌∙◌, arith}
+use Rattle.std.proofs.Common.{◌≡◌, ◌≢◌, ℕ, zero, suc, ◌+◌, ◌≤◌, nat_lt, Bool, true, false, ◌&&◌}
+use Rattle.std.proofs.Common.{List, [], ◌∷◌, length, take, drop, ◌-◌, get_or, Option, None, Some}
+use Rattle.std.proofs.Common.{refl, sym, ap, ◌∙◌, arith}
 use Rattle.std.specs.List.{list_all}
 use Rattle.agg_types.specs.declared.config.Cond.{Cond}
 use Rattle.crossing.specs.First.{IsFirstFrom}
@@ -46,6 +47,40 @@ pub dead_never : (living : ℕ → ℕ) (met : ℕ → Bool) (now t : ℕ) → l
 dead_never living met now t dead falls =
     let none : living t ≡ 0 = omega arith in
     rw none refl
+
+-- where one behind the first of some conditions fails, they don't hold together
+pub rest_fails : (f : Cond → Bool) (xs : List Cond)
+    → list_all f (take (length xs - 1) (drop 1 xs)) ≡ false → list_all f xs ≡ false
+rest_fails f [] fails = fails
+rest_fails f (x ∷ xs) fails =
+    ap (λ ys. f x && list_all f ys) (sym (take_all (length (x ∷ xs) - 1) xs (omega arith)))
+    ∙ ap (λ b. f x && b) fails
+    ∙ by (f x)
+  where
+    take_all : (n : ℕ) (ys : List Cond) → length ys ≤ n → take n ys ≡ ys
+    take_all zero [] all = refl
+    take_all (suc n) [] all = refl
+    take_all zero (y ∷ ys) all = absurd (omega (arith, all))
+    take_all (suc n) (y ∷ ys) all = ap (λ zs. y ∷ zs) (take_all n ys (omega (arith, all)))
+
+    by : (b : Bool) → (b && false) ≡ false
+    by true = refl
+    by false = refl
+
+-- a key that never meets the conditions is out for good
+pub never_in : (living : ℕ → ℕ) (met : ℕ → Bool) (now : ℕ) → ((t : ℕ) → met t ≡ false)
+    → Foretells (λ t. nat_lt 0 (living t) && met t) now out
+never_in living met now never = record {
+  holds = sym (nowhere now);
+  next = λ s since differs. differs (nowhere s ∙ sym (nowhere now));
+}
+  where
+    by : (b : Bool) → (b && false) ≡ false
+    by true = refl
+    by false = refl
+
+    nowhere : (t : ℕ) → (nat_lt 0 (living t) && met t) ≡ false
+    nowhere t = ap (λ b. nat_lt 0 (living t) && b) (never t) ∙ by (nat_lt 0 (living t))
 
 -- what is asked first may be asked behind another
 behind : (a b c : Bool) → (a && (b && c)) ≡ (b && (a && c))

@@ -6,6 +6,7 @@ ghost use Rattle.crossing.specs.First.{IsFlatSoon};
 ghost use Rattle.crossing.specs.Parts.{AreFlatSoon, all_hold};
 ghost use Rattle.crossing.specs.Shown.{measured};
 ghost use Rattle.agg_types.specs.Op.{op_holds};
+ghost use Rattle.std.specs.List.{list_all};
 ghost use Rattle.agg_types.specs.declared.limits.TheConstants.{MOST_CONDS};
 ghost use Rattle.standing_filters.specs.Verdicts.{IsVerdict, Foretells, meets_at, out};
 
@@ -38,7 +39,8 @@ impl Verdict {
 }
 
 /// Judges a key at a moment, in ms. Reads at most 505 values where they stay from 2^33 ms on, and
-/// one of each condition up to the first that fails for good. Takes no memory.
+/// one of each condition up to the first that fails for good; none where the most that the key is
+/// ever worth can't meet a condition. Takes no memory.
 pub fn judge<V: Values>(
     filter: &Filter,
     key: &Key,
@@ -53,14 +55,36 @@ pub fn judge<V: Values>(
         → meter.new.evals ≤ meter.old.evals + 505 }
     ensures dead { V.living values.now filter.now.table key.now now ≡ 0 → result ≡ out }
 {
-    judge_by(
-        filter.conds.as_slice(),
-        filter.table,
-        key,
-        values,
-        now,
-        meter,
-    )
+    let conds = filter.conds.as_slice();
+    if never_met(conds, filter.table, key, values) {
+        return OUT;
+    }
+    judge_by(conds, filter.table, key, values, now, meter)
+}
+
+// Whether some condition fails at every moment, by the most that a key is ever worth.
+fn never_met<V: Values>(conds: &[Cond], table: usize, key: &Key, values: &V) -> bool
+    ensures { IsTrue result → (t : ℕ) → list_all
+        (λ cond. op_holds cond.op (V.summed values.now table key.now cond.col t) cond.bound)
+        conds.now ≡ false }
+{
+    match conds {
+        [] => false,
+        [cond, rest @ ..] => {
+            fails_always(cond, table, key, values) || never_met(rest, table, key, values)
+        }
+    }
+}
+
+// Whether a condition fails at every moment, by the most that a key is ever worth.
+fn fails_always<V: Values>(cond: &Cond, table: usize, key: &Key, values: &V) -> bool
+    ensures { IsTrue result → (t : ℕ) → op_holds cond.now.op
+        (V.summed values.now table key.now cond.now.col t) cond.now.bound ≡ false }
+{
+    match values.most(table, key, cond.col) {
+        None => false,
+        Some(most) => fails_for_good(cond.op, most, cond.bound),
+    }
 }
 
 // Judges a key of a table by up to four conditions. That a row lives stands behind them, since most

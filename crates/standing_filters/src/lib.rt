@@ -15,8 +15,9 @@
 //! nothing where it runs out of memory; `remove`, which takes a filter away, needs none. `keys`
 //! lends the keys whose verdict is that they are held, `planned` the moments at which verdicts
 //! change, each with its key, and `next_change` is the least of them. That a key which can't come
-//! into a set again is known by one value of each condition is meant for speed, and no clause says
-//! so; nor that a verdict is searched for once where a filter is the last of its table.
+//! into a set again is known by one value of each condition, or by none where the values tell the
+//! most that a key is ever worth, is meant for speed, and no clause says so; nor that a verdict is
+//! searched for once where a filter is the last of its table.
 #![tactic(auto)]
 
 mod adding;
