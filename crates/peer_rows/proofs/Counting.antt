@@ -3,6 +3,7 @@ use Rattle.std.proofs.Common.{◌≡◌, ℕ, zero, suc, List, [], ◌∷◌, re
 use Rattle.std.specs.Prelude.{Some, None, slice_get}
 use Rattle.peer_rows.specs.declared.row.Held.{Held}
 use Rattle.peer_rows.specs.Counted.{counted, counted_at}
+use Rattle.peer_rows.specs.Most.{most_at, most_of}
 
 pub counted_at_held : (cells : List Held) (col : ℕ) (held : Held) → slice_get cells col ≡ Some held
     → counted_at cells col ≡ counted held
@@ -15,3 +16,15 @@ pub counted_at_none : (cells : List Held) (col : ℕ) → slice_get cells col �
 counted_at_none [] col none = refl
 counted_at_none (c ∷ cells) zero none = cc
 counted_at_none (c ∷ cells) (suc col) none = counted_at_none cells col none
+
+pub most_at_held : (cells : List Held) (col : ℕ) (held : Held) → slice_get cells col ≡ Some held
+    → most_at cells col ≡ most_of held
+most_at_held [] col held found = cc
+most_at_held (c ∷ cells) zero held found = let same : c ≡ held = cc in ap most_of same
+most_at_held (c ∷ cells) (suc col) held found = most_at_held cells col held found
+
+pub most_at_none : (cells : List Held) (col : ℕ) → slice_get cells col ≡ None
+    → most_at cells col ≡ 0
+most_at_none [] col none = refl
+most_at_none (c ∷ cells) zero none = cc
+most_at_none (c ∷ cells) (suc col) none = most_at_none cells col none

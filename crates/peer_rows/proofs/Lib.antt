@@ -1,4 +1,5 @@
 pub mod Counting
+pub mod Totals
 pub mod Sorted
 pub mod Selecting
 pub mod Peers

@@ -2,6 +2,7 @@ pub mod Counted
 pub mod Few
 pub mod Form
 pub mod Listing
+pub mod Most
 pub mod Packed
 pub mod Peers
 pub mod Spread

@@ -2,6 +2,7 @@ use Rattle.std.specs.Prelude.{◌≡◌, ◌≢◌, ℕ, zero, suc, ◌<◌, Lis
 use Rattle.std.specs.Ordering.{nat_cmp}
 use Rattle.std.specs.Map.{keys_of}
 use Rattle.std.specs.List.Sorted.{IsStrictlySortedBy}
+use Rattle.peer_rows.specs.Most.{AreMosts}
 use Rattle.peer_rows.specs.declared.row.Row.{Row}
 use Rattle.peer_rows.specs.declared.key_rows.Peers.{Peers}
 use Rattle.peer_rows.specs.declared.key_rows.Peers.TheVariants.{One, Many}
@@ -9,12 +10,17 @@ use Rattle.peer_rows.specs.declared.key_rows.Peers.TheVariants.{One, Many}
 -- the rows, each with the peer that holds it
 abbrev pub held_by : Peers → List (ℕ × Row)
 held_by (One peer row) = (peer, row) ∷ []
-held_by (Many rows) = rows.items
+held_by (Many rows mosts) = rows.items
 
 -- a single row that lies in the value itself
 abbrev pub IsOne : Peers → Type 0
 IsOne (One peer row) = Unit {0}
-IsOne (Many rows) = ⊥
+IsOne (Many rows mosts) = ⊥
+
+-- where several rows lie side by side, the most that they are worth together is kept with them
+abbrev pub AreSummed : Peers → Type 0
+AreSummed (One peer row) = Unit {0}
+AreSummed (Many rows mosts) = AreMosts mosts rows.items
 
 -- the rows of a key: at least one, by peer, each peer once
 pub record ArePeers (rows : List (ℕ × Row)) : Type 0 where

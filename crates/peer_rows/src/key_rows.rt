@@ -7,8 +7,10 @@ ghost use Rattle.std.specs.Map.{keys_of, lookup, remove_entry};
 ghost use Rattle.std.specs.BTreeMap.{insert_entry, is_at};
 ghost use Rattle.std.specs.List.Sorted.{IsStrictlySortedBy};
 ghost use Rattle.peer_rows.specs.Ends.{AreLive, HasEnded, IsLeast, is_behind, sooner};
-ghost use Rattle.peer_rows.specs.Peers.{IsFound, IsGap, IsOne, ArePeers, held_by};
+ghost use Rattle.peer_rows.specs.Most.{AreMosts};
+ghost use Rattle.peer_rows.specs.Peers.{IsFound, IsGap, IsOne, ArePeers, AreSummed, held_by};
 
+use crate::mosts::Mosts;
 use crate::{OfKey, Row};
 use agg_types::NoMemory;
 use std::alloc::Global;
@@ -33,7 +35,8 @@ pub(crate) struct KeyRows {
 enum Peers {
     // In this order the peer lies beside the tag.
     One(u32, Row),
-    Many(Vec<PeerRow>),
+    // Beside them stands the most that they are worth together.
+    Many(Vec<PeerRow>, Mosts),
 }
 
 impl Model for KeyRows {
@@ -41,13 +44,13 @@ impl Model for KeyRows {
     ghost use Rattle.peer_rows.specs.declared.row.Row.{Row};
     ghost use Rattle.std.specs.List.Sorted.{IsStrictlySortedBy};
     ghost use Rattle.peer_rows.specs.Ends.{AreLive, HasEnded, IsLeast, is_behind, sooner};
-    ghost use Rattle.peer_rows.specs.Peers.{held_by, ArePeers};
+    ghost use Rattle.peer_rows.specs.Peers.{held_by, ArePeers, AreSummed};
 
     ghost Value = { List (ℕ × Row) };
 
     ghost view = { λ rows. held_by rows.peers };
 
-    ghost invariant = { λ rows. ArePeers (held_by rows.peers) };
+    ghost invariant = { λ rows. ArePeers (held_by rows.peers) × AreSummed rows.peers };
 }
 
 impl KeyRows {
@@ -73,7 +76,7 @@ impl KeyRows {
                     None
                 }
             }
-            Peers::Many(rows) => row_among(rows, peer),
+            Peers::Many(rows, _) => row_among(rows, peer),
         }
     }
 
@@ -97,7 +100,7 @@ impl KeyRows {
                 put_second(self.alloc, &mut self.peers, (peer, row))?;
                 Ok(None)
             }
-            Peers::Many(rows) => put_among(rows, peer, row, most),
+            Peers::Many(rows, mosts) => put_summed(rows, mosts, peer, row, most),
         }
     }
 
@@ -112,7 +115,7 @@ impl KeyRows {
     {
         match &mut self.peers {
             Peers::One(own, held) => exchange_one(*own, held, peer, row),
-            Peers::Many(rows) => exchange_among(rows, peer, row),
+            Peers::Many(rows, mosts) => exchange_summed(rows, mosts, peer, row),
         }
     }
 
@@ -122,7 +125,7 @@ impl KeyRows {
     {
         match &self.peers {
             Peers::One(own, _) => *own as usize == peer,
-            Peers::Many(rows) => is_only(rows, peer),
+            Peers::Many(rows, _) => is_only(rows, peer),
         }
     }
 
@@ -133,10 +136,10 @@ impl KeyRows {
         ensures after { self.new ≡ remove_entry (is_at (nat_cmp peer)) self.old }
         ensures are { ArePeers self.new }
     {
-        let Peers::Many(rows) = &mut self.peers else {
+        let Peers::Many(rows, mosts) = &mut self.peers else {
             return None;
         };
-        take_among(rows, peer)
+        take_summed(rows, mosts, peer)
     }
 
     /// Gives the last row back, and drops the others.
@@ -146,7 +149,7 @@ impl KeyRows {
         let KeyRows { peers, .. } = self;
         match peers {
             Peers::One(_, row) => Some(row),
-            Peers::Many(mut rows) => {
+            Peers::Many(mut rows, _) => {
                 let (_, row) = rows.pop()?;
                 Some(row)
             }
@@ -160,7 +163,7 @@ impl KeyRows {
     {
         match &self.peers {
             Peers::One(_, row) => row.end(),
-            Peers::Many(rows) => least_end(rows),
+            Peers::Many(rows, _) => least_end(rows),
         }
     }
 
@@ -177,7 +180,7 @@ impl KeyRows {
                     Some(*own as usize)
                 }
             }
-            Peers::Many(rows) => first_ended(rows, t),
+            Peers::Many(rows, _) => first_ended(rows, t),
         }
     }
 
@@ -187,7 +190,7 @@ impl KeyRows {
     {
         match &self.peers {
             Peers::One(_, _) => 1,
-            Peers::Many(rows) => rows.len(),
+            Peers::Many(rows, _) => rows.len(),
         }
     }
 
@@ -198,7 +201,7 @@ impl KeyRows {
     {
         match &self.peers {
             Peers::One(peer, row) => OfKey::one(*peer as usize, row),
-            Peers::Many(rows) => OfKey::new(rows),
+            Peers::Many(rows, mosts) => OfKey::new(rows, mosts.as_slice()),
         }
     }
 }
@@ -210,9 +213,15 @@ fn put_second(alloc: Global, peers: &mut Peers, new: PeerRow) -> Result<(), NoMe
     ensures ok { OnOk result (held_by peers.new
         ≡ insert_entry nat_cmp (held_by peers.old) new.0 new.1) }
     ensures err { OnErr result (peers.new ≡ peers.old) }
+    ensures summed { OnOk result (AreSummed peers.new) }
 {
     let mut rows = Vec::with_capacity(alloc, 2)?;
-    let Peers::One(own, held) = mem::replace(peers, Peers::Many(Vec::new(alloc))) else {
+    let Peers::One(_, held) = &*peers else {
+        unreachable!();
+    };
+    let mosts = Mosts::of_two(alloc, held, &new.1)?;
+    let nothing = Peers::Many(Vec::new(alloc), Mosts::empty(alloc));
+    let Peers::One(own, held) = mem::replace(peers, nothing) else {
         unreachable!();
     };
     let held = (own as usize, held);
@@ -223,8 +232,62 @@ fn put_second(alloc: Global, peers: &mut Peers, new: PeerRow) -> Result<(), NoMe
     };
     let _ = rows.push(first);
     let _ = rows.push(second);
-    *peers = Peers::Many(rows);
+    *peers = Peers::Many(rows, mosts);
     Ok(())
+}
+
+// Puts a row among those of several peers, and keeps up the most that they are worth together.
+fn put_summed(
+    rows: &mut Vec<PeerRow>,
+    mosts: &mut Mosts,
+    peer: usize,
+    row: Row,
+    most: usize,
+) -> Result<Option<Row>, NoMemory>
+    requires are { ArePeers rows.old.items }
+    requires summed { AreMosts mosts.old rows.old.items }
+    ensures ok { OnOk result (rows.new.items ≡ insert_entry nat_cmp rows.old.items peer row) }
+    ensures old { IfOk result (λ old. old ≡ lookup (is_at (nat_cmp peer)) rows.old.items) }
+    ensures held { IsSome (lookup (is_at (nat_cmp peer)) rows.old.items) → IsOk result }
+    ensures err { OnErr result (rows.new.items ≡ rows.old.items) }
+    ensures summed { AreMosts mosts.new rows.new.items }
+{
+    let old = put_among(rows, peer, row, most)?;
+    mosts.add(row_among(rows.as_slice(), peer));
+    mosts.take_off(old.as_ref());
+    Ok(old)
+}
+
+// Exchanges the row of a peer for another, if it is there, and keeps up the most that the rows are
+// worth together.
+fn exchange_summed(rows: &mut Vec<PeerRow>, mosts: &mut Mosts, peer: usize, row: &mut Row) -> bool
+    requires are { ArePeers rows.old.items }
+    requires summed { AreMosts mosts.old rows.old.items }
+    ensures found { result ≡ is_some (lookup (is_at (nat_cmp peer)) rows.old.items) }
+    ensures rows { MatchBool result
+        (rows.new.items ≡ insert_entry nat_cmp rows.old.items peer row.old)
+        (rows.new.items ≡ rows.old.items) }
+    ensures row { MatchBool result
+        (lookup (is_at (nat_cmp peer)) rows.old.items ≡ Some row.new) (row.new ≡ row.old) }
+    ensures summed { AreMosts mosts.new rows.new.items }
+{
+    mosts.add(Some(row));
+    let found = exchange_among(rows, peer, row);
+    mosts.take_off(Some(row));
+    found
+}
+
+// Takes the row of a peer out, and off the most that the rows are worth together.
+fn take_summed(rows: &mut Vec<PeerRow>, mosts: &mut Mosts, peer: usize) -> Option<Row>
+    requires are { ArePeers rows.old.items }
+    requires summed { AreMosts mosts.old rows.old.items }
+    ensures value { result ≡ lookup (is_at (nat_cmp peer)) rows.old.items }
+    ensures after { rows.new.items ≡ remove_entry (is_at (nat_cmp peer)) rows.old.items }
+    ensures summed { AreMosts mosts.new rows.new.items }
+{
+    let row = take_among(rows, peer);
+    mosts.take_off(row.as_ref());
+    row
 }
 
 // Puts a row among those of several peers.

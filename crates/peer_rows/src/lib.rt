@@ -32,6 +32,7 @@ mod index;
 mod key_rows;
 mod keyed;
 mod listing;
+mod mosts;
 mod of_key;
 mod packed;
 mod row;

@@ -1,7 +1,8 @@
-ghost use Rattle.std.specs.Prelude.{◌≡◌, ◌==◌, [], ◌∷◌, length};
+ghost use Rattle.std.specs.Prelude.{◌≡◌, ◌==◌, ◌≤◌, [], ◌∷◌, length, IfSome};
 ghost use Rattle.std.specs.Iterator.{at_most};
 ghost use Rattle.std.specs.Map.Iter.{TakesFirst};
 ghost use Rattle.peer_rows.specs.Listing.{peer_and_row};
+ghost use Rattle.peer_rows.specs.Most.{AreAbove, most_in};
 
 use crate::Row;
 use crate::key_rows::PeerRow;
@@ -14,6 +15,8 @@ use std::marker::Model;
 pub struct OfKey<'a> {
     one: Option<(usize, &'a Row)>,
     rows: &'a [PeerRow],
+    // The most that the rows are worth together, by column.
+    mosts: &'a [u128],
 }
 
 impl<'a> Model for OfKey<'a> {
@@ -24,7 +27,11 @@ impl<'a> Model for OfKey<'a> {
 
     ghost Value = { List (ℕ × Row) };
 
+    ghost use Rattle.peer_rows.specs.Most.{AreAbove};
+
     ghost view = { λ rows. one_of rows.one ++ rows.rows.now };
+
+    ghost invariant = { λ rows. AreAbove rows.mosts.now (one_of rows.one ++ rows.rows.now) };
 }
 
 impl<'a> OfKey<'a> {
@@ -35,6 +42,7 @@ impl<'a> OfKey<'a> {
         OfKey {
             one: None,
             rows: &[],
+            mosts: &[],
         }
     }
 
@@ -45,14 +53,20 @@ impl<'a> OfKey<'a> {
         OfKey {
             one: Some((peer, row)),
             rows: &[],
+            mosts: &[],
         }
     }
 
-    // These rows.
-    pub(crate) fn new(rows: &'a [PeerRow]) -> OfKey<'a>
+    // These rows, with the most that they are worth together.
+    pub(crate) fn new(rows: &'a [PeerRow], mosts: &'a [u128]) -> OfKey<'a>
+        requires { AreAbove mosts.now rows.now }
         ensures { result ≡ rows.now }
     {
-        OfKey { one: None, rows }
+        OfKey {
+            one: None,
+            rows,
+            mosts,
+        }
     }
 
     /// The same rows once more: those that this has left.
@@ -62,6 +76,18 @@ impl<'a> OfKey<'a> {
         OfKey {
             one: self.one,
             rows: self.rows,
+            mosts: self.mosts,
+        }
+    }
+
+    /// The most that the rows that are left are worth together in a column at any moment, where it
+    /// is at hand: one number, however many rows there are.
+    pub fn most(&self, col: usize) -> Option<u128>
+        ensures { IfSome result (λ most. most_in col self.now ≤ most) }
+    {
+        match self.one {
+            Some((_, row)) if self.rows.is_empty() => Some(u128::from(row.cells.most(col))),
+            _ => self.mosts.get(col).copied(),
         }
     }
 

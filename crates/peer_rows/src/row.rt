@@ -4,6 +4,7 @@ ghost use Rattle.peer_rows.specs.Counted.{counted, counted_at};
 ghost use Rattle.peer_rows.specs.Ends.{end_of, lives_at};
 ghost use Rattle.peer_rows.specs.Few.{cells_of};
 ghost use Rattle.peer_rows.specs.Form.{cells_in};
+ghost use Rattle.peer_rows.specs.Most.{most_at, most_of};
 ghost use Rattle.peer_rows.specs.Packed.{held_of};
 
 use crate::RowEnd;
@@ -32,6 +33,16 @@ impl Held {
         match self {
             Held::Count(count) => *count,
             Held::Rate(_) => 0,
+        }
+    }
+
+    // The most that it is worth at any moment.
+    fn most(&self) -> u64
+        ensures { result ≡ most_of self.now }
+    {
+        match self {
+            Held::Count(count) => *count,
+            Held::Rate(rate) => rate.most(),
         }
     }
 }
@@ -134,6 +145,16 @@ impl RowCells {
     {
         match self.get(col) {
             Some(held) => held.counted(),
+            None => 0,
+        }
+    }
+
+    /// The most that the cell of a column is worth at any moment: nothing where there is none.
+    pub fn most(&self, col: usize) -> u64
+        ensures { result ≡ most_at self.now col }
+    {
+        match self.get(col) {
+            Some(held) => held.most(),
             None => 0,
         }
     }

@@ -1,0 +1,120 @@
+//! The most that the rows of a key are worth together, column by column.
+//!
+//! It is kept up as rows come and go, so that who asks whether a key can meet a bound at all reads
+//! one number, however many peers hold the key.
+
+ghost use Rattle.std.specs.Prelude.{◌≡◌, ◌≤◌, ℕ, [], ◌∷◌, length, IfOk, IsTrue};
+ghost use Rattle.std.specs.Option.{option_copied};
+ghost use Rattle.peer_rows.specs.Most.{AreAdded, AreMosts, AreRaised};
+
+use crate::{Row, RowCells};
+use agg_types::NoMemory;
+use std::alloc::Global;
+use std::marker::Model;
+
+/// Sums over rows of the most that each is worth at any moment, for the first columns. Contracts
+/// see the list of them.
+#[derive(Drop)]
+pub(crate) struct Mosts {
+    sums: Vec<u128>,
+}
+
+impl Model for Mosts {
+    ghost use Rattle.std.specs.Prelude.{List, ℕ};
+
+    ghost Value = { List ℕ };
+
+    ghost view = { λ mosts. mosts.sums.items };
+}
+
+impl Mosts {
+    // Those of no row, for so many columns.
+    fn none(alloc: Global, columns: usize) -> Result<Mosts, NoMemory>
+        ensures { IfOk result (λ mosts. AreMosts mosts []) }
+    {
+        Ok(Mosts {
+            sums: vec![in alloc; 0u128; columns]?,
+        })
+    }
+
+    /// No sums. Takes no memory.
+    pub(crate) fn empty(alloc: Global) -> Mosts {
+        Mosts {
+            sums: Vec::new(alloc),
+        }
+    }
+
+    /// Those of two rows, for the columns of the second.
+    pub(crate) fn of_two(alloc: Global, first: &Row, second: &Row) -> Result<Mosts, NoMemory>
+        ensures both { IfOk result (λ mosts. (p q : ℕ)
+            → AreMosts mosts ((p, first.now) ∷ (q, second.now) ∷ [])) }
+        ensures turned { IfOk result (λ mosts. (p q : ℕ)
+            → AreMosts mosts ((p, second.now) ∷ (q, first.now) ∷ [])) }
+    {
+        let mut mosts = Mosts::none(alloc, second.cells.len())?;
+        mosts.add(Some(first));
+        mosts.add(Some(second));
+        Ok(mosts)
+    }
+
+    /// The sums, by column.
+    pub(crate) fn as_slice(&self) -> &[u128]
+        ensures { result.now ≡ self.now }
+    {
+        self.sums.as_slice()
+    }
+
+    /// A row comes, if there is one. Sums that would no longer fit are given up.
+    pub(crate) fn add(&mut self, row: Option<&Row>)
+        ensures columns { length self.new ≤ length self.old }
+        ensures sums { AreRaised (option_copied row.entry) self.old self.new (length self.new) }
+    {
+        if let Some(row) = row {
+            if !add_each(self.sums.as_mut_slice(), &row.cells) {
+                self.sums.clear();
+            }
+        }
+    }
+
+    /// A row goes that had come, if there is one.
+    pub(crate) fn take_off(&mut self, row: Option<&Row>)
+        ensures columns { length self.new ≤ length self.old }
+        ensures sums { AreRaised (option_copied row.entry) self.new self.old (length self.new) }
+    {
+        if let Some(row) = row {
+            if !take_each(self.sums.as_mut_slice(), &row.cells) {
+                self.sums.clear();
+            }
+        }
+    }
+}
+
+// Adds the most that each cell is worth to its column's sum, if all fit.
+fn add_each(sums: &mut [u128], cells: &RowCells) -> bool
+    ensures columns { length sums.new ≡ length sums.old }
+    ensures sums { IsTrue result
+        → AreAdded cells.now sums.old sums.new (length sums.new) }
+{
+    for col in 0..sums.len() {
+        let Some(sum) = sums[col].checked_add(u128::from(cells.most(col))) else {
+            return false;
+        };
+        sums[col] = sum;
+    }
+    true
+}
+
+// Takes the most that each cell is worth off its column's sum, if it is in there.
+fn take_each(sums: &mut [u128], cells: &RowCells) -> bool
+    ensures columns { length sums.new ≡ length sums.old }
+    ensures sums { IsTrue result
+        → AreAdded cells.now sums.new sums.old (length sums.new) }
+{
+    for col in 0..sums.len() {
+        let Some(sum) = sums[col].checked_sub(u128::from(cells.most(col))) else {
+            return false;
+        };
+        sums[col] = sum;
+    }
+    true
+}
