@@ -10,3 +10,4 @@ pub mod Reads
 pub use Rattle.book_frame.specs.Lent
 pub mod Heads
 pub mod Listing
+pub mod Dropped

@@ -11,12 +11,15 @@ ghost use Rattle.fleet_model.specs.Machine.{after, counts_now, event_of, number_
 ghost use Rattle.fleet_model.specs.Machine.{session_of};
 ghost use Rattle.fleet_model.specs.Next.{IsNextChange, IsNextChangeBy};
 ghost use Rattle.fleet_model.specs.Ranking.{rank_of, ranked};
+ghost use Rattle.fleet_model.specs.Rows.{held_rows};
 ghost use Rattle.fleet_model.specs.Sound.{IsSound};
 ghost use Rattle.fleet_model.specs.State.{IsStateOf};
+ghost use Rattle.book.specs.Dropped.{is_dropped};
 ghost use Rattle.book.specs.Foreseen.{IsFirstOf};
 ghost use Rattle.book.specs.Reads.{IsFewFor, IsQuietTo, MayRenew, pairs_from};
 ghost use Rattle.book_frame.specs.Lent.{listed_where, shown_row};
 
+use crate::drops::Drops;
 use crate::foreseen::first_change;
 use crate::held::{Held, held_keys};
 use crate::listing::BookRows;
@@ -41,6 +44,9 @@ pub struct Taken {
     /// Where the rows of a Put's key lay, for another book that takes the same events: none where
     /// the key had no rows or they weren't seen lately, or where the event isn't a Put that counts.
     pub spot: Option<Spot>,
+    /// Whether it is an update that a full table didn't take: of a key that its peer holds no row
+    /// of, where it holds as many rows of the table as the table's size.
+    pub dropped: bool,
     /// How many values of keys were read for the standing filters.
     pub read: u64,
     /// Whether all verdicts were made anew: those that had been given up as an allocation
@@ -56,6 +62,8 @@ pub struct Taken {
 pub struct Book {
     machine: Machine,
     held: Held,
+    // what full tables didn't take
+    drops: Drops,
 }
 
 // By hand, so that a crate that drops a book proves nothing of its parts.
@@ -64,6 +72,7 @@ impl Drop for Book {
         let Book {
             machine: _,
             held: _,
+            drops: _,
         } = self;
     }
 }
@@ -94,7 +103,12 @@ impl Book {
         fleet_model::laws::states_are_sound();
         let machine = Machine::new(alloc, config, moment)?;
         let held = Held::new(&machine);
-        Ok(Book { machine, held })
+        let drops = Drops::new(alloc, machine.rows.size)?;
+        Ok(Book {
+            machine,
+            held,
+            drops,
+        })
     }
 
     /// Takes one event. Afterwards the book is what recomputing from the whole list of events
@@ -122,6 +136,7 @@ impl Book {
         ensures stands { OnOk result ((config : Config) (opening : ℕ) (events : List Event)
             → IsStateOf self.old config opening events
             → IsStateOf self.new config opening (events ++ event.now ∷ [])) }
+        ensures dropped { IfOk result (λ taken. taken.dropped ≡ is_dropped self.old event.now) }
         ensures err { OnErr result (self.new ≡ self.old) }
         ensures leaving { event.now.what ≡ Leave → IsOk result }
         ensures uncounted { counts_now self.old event.now ≡ false → IsOk result }
@@ -158,6 +173,8 @@ impl Book {
         hint: Option<Spot>,
     ) -> Result<Taken, NoMemory>
         ensures ok { OnOk result (self.new ≡ after self.old (event_of seat seq what.now)) }
+        ensures dropped { IfOk result (λ taken. taken.dropped
+            ≡ is_dropped self.old (event_of seat seq what.now)) }
         ensures err { OnErr result (self.new ≡ self.old) }
         ensures leaving { what.now ≡ Leave → IsOk result }
         ensures uncounted { counts_now self.old (event_of seat seq what.now) ≡ false → IsOk result }
@@ -172,13 +189,16 @@ impl Book {
         fleet_model::laws::states_are_sound();
         let before = self.held.keys_used(&self.machine);
         let leaving = self.machine.leaving(what);
-        let spot = self.machine.apply(seat, seq, what, hint)?;
+        let applied = self.machine.apply(seat, seq, what, hint)?;
+        let spot = applied.spot;
         let mut meter = Meter::new();
         let anew = self
             .held
             .follow(&self.machine, what, spot, leaving, before, &mut meter);
+        self.drops.note(what, applied.dropped);
         Ok(Taken {
             spot,
+            dropped: applied.dropped,
             read: meter.evals,
             anew,
         })
@@ -252,6 +272,24 @@ impl Book {
         ensures { result ≡ length (keys_of self.now table) }
     {
         self.machine.used(table) as u64
+    }
+
+    /// How many rows a peer holds of a table, in constant time. Takes no memory.
+    pub fn rows_held(&self, table: usize, peer: usize) -> u64
+        requires table_in { table < length self.now.config.tables }
+        requires peer_in { peer < length self.now.config.peers }
+        ensures { result ≡ held_rows self.now.rows table peer }
+    {
+        self.machine.rows_held(table, peer) as u64
+    }
+
+    /// How many updates of a peer were dropped since the opening as a table was full for it: those
+    /// of which `step_at` said so. A clear and a lost connection leave the count, and where it
+    /// can't grow it stays. Takes no memory.
+    ///
+    /// No clause says which number that is.
+    pub fn dropped(&self, table: usize, peer: usize) -> u64 {
+        self.drops.of(table, peer)
     }
 
     /// The keys of a table with a row, each with its summed row, in order.

@@ -19,6 +19,9 @@
 //! at most 505 for each pair of a filter and a key that it concerns (`specs/Reads.antt`). That
 //! verdicts are kept while there is memory for them, no clause says.
 //!
+//! `Taken` says whether an event is an update that a full table doesn't take. A book counts these
+//! by table and peer, beside what contracts see of it. So what `Book::dropped` answers, tests show.
+//!
 //! Speed is measured, not promised: an end stays planned where it was while its row's end only
 //! moves later, and is planned anew when it comes due, so some rows are looked at before they end;
 //! and a bound stays while it holds and isn't far above what it bounds.
@@ -27,6 +30,7 @@
 mod at;
 mod book;
 mod clears;
+mod drops;
 mod foreseen;
 mod held;
 mod leaders;

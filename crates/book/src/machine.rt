@@ -9,10 +9,11 @@ ghost use Rattle.fleet_model.specs.Answers.{filter_of};
 ghost use Rattle.fleet_model.specs.Keys.{key_rows, sum_of};
 ghost use Rattle.fleet_model.specs.Machine.{after, counts_now, event_of, number_of, opened};
 ghost use Rattle.fleet_model.specs.Machine.{with_row};
-ghost use Rattle.fleet_model.specs.Rows.{arrival_of, has_room};
+ghost use Rattle.fleet_model.specs.Rows.{arrival_of, has_room, held_rows};
 ghost use Rattle.fleet_model.specs.Seats.{is_number};
 ghost use Rattle.fleet_model.specs.Values.{cols_of, selects};
 ghost use Rattle.book_frame.specs.Due.{IsDue};
+ghost use Rattle.book.specs.Dropped.{is_dropped};
 ghost use Rattle.book.specs.Due.{FitsPlace};
 ghost use Rattle.book.specs.Held.{IsLeaving, keys_in};
 ghost use Rattle.book.specs.Leading.{AreLed};
@@ -38,6 +39,27 @@ use ranked::Leaders;
 use std::alloc::Global;
 use std::collections::BTreeMap;
 use std::marker::Model;
+
+/// What became of an event, beside the state that it leaves.
+#[derive(Clone, Copy, Debug)]
+pub(crate) struct Applied {
+    /// Where the rows of a Put's key lay before it, if that was seen lately.
+    pub(crate) spot: Option<Spot>,
+    /// Whether it is an update that a full table didn't take.
+    pub(crate) dropped: bool,
+}
+
+impl Applied {
+    // No row was seen, and nothing was dropped.
+    fn unseen() -> Applied
+        ensures { result.dropped ≡ false }
+    {
+        Applied {
+            spot: None,
+            dropped: false,
+        }
+    }
+}
 
 /// What a book holds. Contracts see the state: the configuration with the filters that stand, the
 /// moment, the rows in force, the sessions and the seats.
@@ -137,6 +159,15 @@ impl Machine {
         used
     }
 
+    /// How many rows a peer holds of a table.
+    pub(crate) fn rows_held(&self, table: usize, peer: usize) -> usize
+        requires table_in { table < length self.now.config.tables }
+        requires peer_in { peer < length self.now.config.peers }
+        ensures { result ≡ held_rows self.now.rows table peer }
+    {
+        self.rows.held(table, peer)
+    }
+
     /// What the rows of a key sum up to.
     pub(crate) fn summed(&self, table: usize, key: &Key) -> Option<Summed>
         ensures { result ≡ sum_of (cols_of self.now.config.tables table)
@@ -205,33 +236,35 @@ impl Machine {
     }
 
     // One event, as the machine of one event says, whatever the hint; nothing has changed after
-    // NoMemory. Answers where the rows of a Put's key lay before it, if that was seen lately.
-    #[tactic(auto, unfolding(fleet_model::specs::Machine::after, fleet_model::specs::Machine::happened, fleet_model::specs::Machine::with_put, fleet_model::specs::Rows::clears_at))]
+    // NoMemory.
+    #[tactic(auto, unfolding(crate::specs::Dropped::is_dropped, crate::specs::Dropped::lacks_room, fleet_model::specs::Machine::after, fleet_model::specs::Machine::happened, fleet_model::specs::Machine::with_put, fleet_model::specs::Rows::clears_at))]
     pub(crate) fn apply(
         &mut self,
         seat: u64,
         seq: u64,
         what: &What,
         hint: Option<Spot>,
-    ) -> Result<Option<Spot>, NoMemory>
+    ) -> Result<Applied, NoMemory>
         ensures ok { OnOk result (self.new ≡ after self.old (event_of seat seq what.now)) }
+        ensures dropped { IfOk result (λ applied. applied.dropped
+            ≡ is_dropped self.old (event_of seat seq what.now)) }
         ensures err { OnErr result (self.new ≡ self.old) }
         ensures leaving { what.now ≡ Leave → IsOk result }
         ensures uncounted { counts_now self.old (event_of seat seq what.now) ≡ false → IsOk result }
     {
         if !self.is_due(seat, seq, what) {
-            return Ok(None);
+            return Ok(Applied::unseen());
         }
         match what {
             What::Sit => {
                 sit_down(&mut self.seats, seat)?;
                 self.next_seat = seat + 1;
-                Ok(None)
+                Ok(Applied::unseen())
             }
             What::Open(peer) => {
                 open_session(&mut self.sessions, *peer, seat)?;
                 count_up(&mut self.seats, seat, seq);
-                Ok(None)
+                Ok(Applied::unseen())
             }
             What::Put {
                 peer,
@@ -246,7 +279,7 @@ impl Machine {
                     peer: *peer,
                     spot: self.rows.spot_near(hint, *table, key),
                 };
-                put(
+                let dropped = put(
                     &mut self.rows,
                     &mut self.leaders,
                     &self.config,
@@ -258,7 +291,10 @@ impl Machine {
                     cells,
                 )?;
                 count_up(&mut self.seats, seat, seq);
-                Ok(at.spot)
+                Ok(Applied {
+                    spot: at.spot,
+                    dropped,
+                })
             }
             What::Clear { table, sel } => {
                 clear(
@@ -271,17 +307,17 @@ impl Machine {
                     sel,
                 )?;
                 count_up(&mut self.seats, seat, seq);
-                Ok(None)
+                Ok(Applied::unseen())
             }
             What::AddFilter(filter) => {
                 add_filter(self.alloc, &mut self.config.filters, filter)?;
                 count_up(&mut self.seats, seat, seq);
-                Ok(None)
+                Ok(Applied::unseen())
             }
             What::DropFilter(name) => {
                 drop_filter(&mut self.config.filters, self.configured, name);
                 count_up(&mut self.seats, seat, seq);
-                Ok(None)
+                Ok(Applied::unseen())
             }
             What::Moment(moment) => {
                 let later = self.moment.max(*moment);
@@ -294,12 +330,12 @@ impl Machine {
                 );
                 self.moment = later;
                 count_up(&mut self.seats, seat, seq);
-                Ok(None)
+                Ok(Applied::unseen())
             }
             What::Leave => {
                 stand_up(&mut self.seats, seat);
                 end_sessions(&mut self.sessions, seat);
-                Ok(None)
+                Ok(Applied::unseen())
             }
         }
     }
@@ -346,7 +382,7 @@ fn clear(
     }
 }
 
-/// Puts a row, if its seat is the session in force and there is room.
+/// Puts a row, if its seat is the session in force and there is room. Whether there was no room.
 fn put(
     rows: &mut Store,
     leaders: &mut Leaders,
@@ -357,7 +393,7 @@ fn put(
     at: At<'_>,
     life: Option<u64>,
     cells: &Cells,
-) -> Result<(), NoMemory>
+) -> Result<bool, NoMemory>
     requires in_range { t ≤ LAST_MOMENT }
     requires inside { IsInside rows.old.peers rows.old.tables (place_at at) }
     requires short { IsShort life }
@@ -369,12 +405,17 @@ fn put(
           (arrival_of config.now.tables at.entry.table t life cells.now)
           else rows.old.rows;
     }) }
+    ensures dropped { IfOk result (λ dropped. dropped ≡ (is_number session seat
+        && not (has_room config.now.tables rows.old.rows (place_at at.entry)))) }
     ensures err { OnErr result (rows.new ≡ rows.old) }
     ensures led { AreLed config.now.tables config.now.ranks rows.new.rows t leaders.new }
 {
-    if is_number(session, seat) && rows.has_room(config.tables.as_slice(), at) {
-        put_led(rows, leaders, config, t, at, life, cells.as_slice())
-    } else {
-        Ok(())
+    if !is_number(session, seat) {
+        return Ok(false);
     }
+    if !rows.has_room(config.tables.as_slice(), at) {
+        return Ok(true);
+    }
+    put_led(rows, leaders, config, t, at, life, cells.as_slice())?;
+    Ok(false)
 }

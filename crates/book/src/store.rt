@@ -169,7 +169,7 @@ impl Store {
     }
 
     /// How many rows a peer holds of a table, in constant time.
-    fn held(&self, table: usize, peer: usize) -> usize
+    pub(crate) fn held(&self, table: usize, peer: usize) -> usize
         requires table_in { table < self.now.tables }
         requires peer_in { peer < self.now.peers }
         ensures count { result ≡ held_rows self.now.rows table peer }

@@ -70,6 +70,8 @@ pub struct Pair {
     pub last_read: u64,
     // How often it made its verdicts anew.
     pub anew: u64,
+    // How many updates a full table of it didn't take.
+    pub dropped: u64,
 }
 
 impl Model for Pair {
@@ -99,6 +101,7 @@ impl Pair {
             read: 0,
             last_read: 0,
             anew: 0,
+            dropped: 0,
         })
     }
 
@@ -136,6 +139,9 @@ impl Pair {
         if taken.anew {
             self.anew = self.anew.saturating_add(1);
         }
+        if taken.dropped {
+            self.dropped = self.dropped.saturating_add(1);
+        }
     }
 
     /// Compares how many keys of the first table both have.
@@ -154,8 +160,22 @@ impl Pair {
             Ok(found) => found,
         };
         self.differ = self.differ.saturating_add(found);
+        if self.drops() != self.dropped {
+            self.differ = self.differ.saturating_add(1);
+        }
         self.seen = seen;
         Ok(())
+    }
+
+    // How many updates full tables of the first one didn't take, as it counts them itself.
+    fn drops(&self) -> u64 {
+        let mut dropped = 0u64;
+        for table in 0..TABLES {
+            for peer in 0..PEERS {
+                dropped = dropped.saturating_add(self.fast.dropped(table, peer));
+            }
+        }
+        dropped
     }
 
     // How many answers differ, and what was ever among them.

@@ -1,7 +1,8 @@
 //! Runs lists of events through the book that the product runs on and through the plain book, side
 //! by side, and compares all that both answer after each event: rows, sums, sets, ranked lists,
 //! next changes, sessions and seats. Prints how many events there were, how many answers differ,
-//! how many values the book read for its filters, and how often it made its verdicts anew.
+//! how many values the book read for its filters, how often it made its verdicts anew, and how many
+//! updates full tables didn't take.
 //!
 //! An event for which an allocation failed has to leave each answer as it was, and then happens
 //! once more. `test_both_books again` compares at the end of a run and where an allocation failed:
@@ -63,8 +64,8 @@ fn tell(rt: &impl Print, name: &str, pair: &Pair) -> Result<()> {
 /// Tells what was read for filters, where no allocation fails.
 fn tell_reads(rt: &impl Print, pair: &Pair) -> Result<()> {
     println!(rt;
-        "  values read {}, verdicts made anew {}",
-        pair.read, pair.anew
+        "  values read {}, verdicts made anew {}, dropped {}",
+        pair.read, pair.anew, pair.dropped
     )?;
     Ok(())
 }

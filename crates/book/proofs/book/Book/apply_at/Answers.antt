@@ -13,7 +13,7 @@ pub invariant_of-self-2 : goal.invariant_of-self-2
 invariant_of-self-2 c =
     let state : State = c.self.inside.machine in
     let e : Event = event_of c.args.seat c.args.seq c.args.what.now in
-    let turned : c.apply.new.self ≡ after state e = c.in_ok-spot.ensures.ok in
+    let turned : c.apply.new.self ≡ after state e = c.in_ok-applied.ensures.ok in
     record {
       sound = subst IsSound (sym turned)
           (c.states_are_sound.ensures.kept state e c.self.invariant.sound);
@@ -27,7 +27,7 @@ pub returns-clause-quiet : goal.returns-clause-quiet
 returns-clause-quiet c = λ told.
     let state : State = c.self.inside.machine in
     let e : Event = event_of c.args.seat c.args.seq c.args.what.now in
-    let turned : c.apply.new.self ≡ after state e = c.in_ok-spot.ensures.ok in
+    let turned : c.apply.new.self ≡ after state e = c.in_ok-applied.ensures.ok in
     let quiet : IsQuietTo state c.args.what.now =
     subst (λ (s : State). IsQuietTo s c.args.what.now) (sym c.self.view_is) told in
     c.follow-anew.ensures.calm state c.self.invariant.sound
@@ -42,7 +42,7 @@ pub returns-clause-few : goal.returns-clause-few
 returns-clause-few c = λ kept.
     let state : State = c.self.inside.machine in
     let e : Event = event_of c.args.seat c.args.seq c.args.what.now in
-    let turned : c.apply.new.self ≡ after state e = c.in_ok-spot.ensures.ok in
+    let turned : c.apply.new.self ≡ after state e = c.in_ok-applied.ensures.ok in
     subst (λ (s : State). IsFewFor s c.apply.new.self c.args.what.now
     c.follow-anew.new.meter.evals) c.self.view_is
     (c.follow-anew.ensures.few state c.self.invariant.sound

@@ -1,0 +1,58 @@
+//! How many updates full tables didn't take.
+
+use crate::store::Size;
+use agg_types::{NoMemory, What};
+use std::alloc::Global;
+
+/// How many updates of new keys were dropped, of each table and each peer, since there was no room
+/// for a further row. No state says it: it is counted beside what contracts see of a book.
+#[derive(Drop)]
+pub(crate) struct Drops {
+    // of each table, by peer
+    counts: Vec<Vec<u64>>,
+}
+
+impl Drops {
+    /// Nothing was dropped, for so many peers and tables.
+    pub(crate) fn new(alloc: Global, size: Size) -> Result<Drops, NoMemory> {
+        let mut counts = Vec::new(alloc);
+        for _ in 0..size.tables {
+            let mut peers = Vec::new(alloc);
+            for _ in 0..size.peers {
+                peers.push(0)?;
+            }
+            counts.push(peers)?;
+        }
+        Ok(Drops { counts })
+    }
+
+    /// An event was taken: whether it is an update that was dropped. Takes no memory.
+    pub(crate) fn note(&mut self, what: &What, dropped: bool) {
+        if let What::Put { peer, table, .. } = what
+            && dropped
+        {
+            self.count(*table, *peer);
+        }
+    }
+
+    // One more update of a peer was dropped. The count stays at its greatest number.
+    fn count(&mut self, table: usize, peer: usize) {
+        let Some(peers) = self.counts.get_mut(table) else {
+            return;
+        };
+        if let Some(count) = peers.get_mut(peer) {
+            *count = count.saturating_add(1);
+        }
+    }
+
+    /// How many updates of a peer were dropped.
+    pub(crate) fn of(&self, table: usize, peer: usize) -> u64 {
+        match self.counts.get(table) {
+            None => 0,
+            Some(peers) => match peers.get(peer) {
+                None => 0,
+                Some(count) => *count,
+            },
+        }
+    }
+}
