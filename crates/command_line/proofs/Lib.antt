@@ -1,4 +1,5 @@
 pub mod Addresses
 pub mod Commands
+pub mod NetworkNumbers
 pub mod NetworkTexts
 pub mod Told

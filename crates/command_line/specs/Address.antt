@@ -29,11 +29,6 @@ if_port (Err fault) = None
 abbrev pub port_of : List ℕ → Option ℕ
 port_of text = if nat_lt 5 (length text) then None else if_port (number_of text)
 
--- both, where there are both
-abbrev pub paired : Option (List ℕ) → Option ℕ → Option (List ℕ × ℕ)
-paired (Some ip) (Some port) = Some (ip, port)
-paired _ _ = None
-
 -- an address at a port, where there are both
 abbrev pub at_port : Option (List ℕ) → Option ℕ → Option Parts
 at_port (Some ip) (Some port) = Some (ip, port, 0, 0)

@@ -107,7 +107,7 @@ abbrev pub path_if : Text → List Row → Option (Option Text)
 path_if name rows = option_map_or path_said (first_of name rows) (Some None)
 
 -- the networks that an option of a command says: none where it isn't there
-abbrev pub networks_in : Text → List Row → Option (List (List ℕ × ℕ))
+abbrev pub networks_in : Text → List Row → Option (List (ℕ × ℕ))
 networks_in name rows = option_map_or networks_of (all_of name rows) (Some [])
 
 -- what a text says of unknown peers

@@ -77,8 +77,8 @@ fn port_behind(text: &[u8]) -> Option<u16>
     }
 }
 
-// The IPv6 that a text says.
-fn read_ipv6(alloc: Global, text: &[u8]) -> Result<Option<Ipv6Addr>, NoMemory>
+/// The IPv6 that a text says.
+pub(crate) fn read_ipv6(alloc: Global, text: &[u8]) -> Result<Option<Ipv6Addr>, NoMemory>
     ensures { IfOk result (λ found. option_map ipv6_octets found ≡ key_of Ipv6 text.now) }
 {
     let Some(key) = read_key(alloc, KeyKind::Ipv6, text)? else {

@@ -1,9 +1,10 @@
 //! What is asked for by the lines that the documents show.
 
-ghost use Rattle.std.specs.Prelude.{ℕ, List};
+ghost use Rattle.std.specs.Prelude.{◌≡◌, ◌≤◌, ◌+◌, ◌-◌, ◌/◌, ◌^◌, ◌==◌, ℕ, List};
 ghost use Rattle.command_line.specs.Lines.{Refuses, ShowsHelp, ShowsVersion, TakesAdminSocket};
 ghost use Rattle.command_line.specs.Lines.{TakesFiles, TakesHttp, TakesImport, TakesJoined};
 ghost use Rattle.command_line.specs.Lines.{TakesNetworks, TakesReplay, TakesUnknownPeers};
+ghost use Rattle.command_line.specs.Networks.{first_bits, mapped};
 
 /// `replay`, `import`, and `listen` with `--peers=` and `--admin=` in either order, are taken for
 /// what they say, whatever the program is called and the two texts are. So are each `--from=`,
@@ -29,4 +30,11 @@ pub fn refused_lines()
     ensures help { (self : List ℕ) → ShowsHelp self }
     ensures version { (self : List ℕ) → ShowsVersion self }
     ensures mistakes { (self text : List ℕ) → Refuses self text }
+{}
+
+/// A network of IPv4s holds those that begin with the same bits of 32.
+pub fn networks_of_ipv4s()
+    ensures { (bits x y : ℕ) → bits ≤ 32
+        → (first_bits (96 + bits) (mapped x) == first_bits (96 + bits) (mapped y))
+        ≡ (x / 2 ^ (32 - bits) == y / 2 ^ (32 - bits)) }
 {}

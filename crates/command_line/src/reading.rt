@@ -134,7 +134,7 @@ fn networks<'a>(alloc: Global) -> Arg<'a>
     Arg::new(alloc, "from")
         .long("from")
         .value_name("NETWORK")
-        .help("Where proxies may connect from, as 10.1.0.0/24; any number [default: everywhere]")
+        .help("Proxies' networks, as 10.1.0.0/24 or 2001:db8::/32; any number [default: all]")
         .action(ArgAction::Append)
 }
 

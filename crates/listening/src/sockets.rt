@@ -88,22 +88,11 @@ impl<'a, R: Clock + Wait> Sockets<'a, R> {
         Ok(Caller { source, writer })
     }
 
-    // Whether a peer may call from here. Networks are IPv4's, and an IPv4 may come as an IPv6.
-    fn is_asked_for(&self, sender: SocketAddr) -> bool {
-        match sender {
-            SocketAddr::V4(sender) => admits(self.from, *sender.ip()),
-            SocketAddr::V6(sender) => match sender.ip().to_ipv4_mapped() {
-                None => self.from.is_empty(),
-                Some(ip) => admits(self.from, ip),
-            },
-        }
-    }
-
     // A peer's connection that came, which waits for its hello from now on. None where it comes
     // from elsewhere, where memory is lacking, or the connection is gone.
     fn waiting(&self, stream: Stream, sender: SocketAddr) -> Option<Visitor<'a, R>> {
         let rt = &self.clock.rt;
-        if !self.is_asked_for(sender) {
+        if !admits(self.from, sender.ip()) {
             self.connections.turn_away(rt, sender);
             return None;
         }

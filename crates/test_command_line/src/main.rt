@@ -2,20 +2,29 @@
 //! asks for no job. Then it reads its own command line so, and ends with that one's status.
 #![tactic(auto)]
 
-use command_line::{Endpoints, Job, UnknownPeers, Usage, admits};
+use command_line::{Endpoints, Job, Network, UnknownPeers, Usage, admits};
 use std::alloc::Global;
 use std::env::Env;
 use std::io;
-use std::net::Ipv4Addr;
+use std::net::{IpAddr, Ipv4Addr, Ipv6Addr};
 use std::process::ExitCode;
 
-/// Addresses that call.
+/// IPv4 addresses that call.
 const ADDRESSES: [[u8; 4]; 5] = [
     [10, 1, 0, 0],
     [10, 1, 0, 7],
     [10, 1, 0, 8],
     [10, 2, 255, 255],
     [192, 168, 7, 1],
+];
+
+/// IPv6 addresses that call; the first two stand for IPv4 ones.
+const WIDE_ADDRESSES: [[u16; 8]; 5] = [
+    [0, 0, 0, 0, 0, 0xffff, 0x0a01, 0x0007],
+    [0, 0, 0, 0, 0, 0xffff, 0x0a01, 0x0008],
+    [0, 0, 0, 0, 0, 0, 0, 1],
+    [0x2001, 0x0db8, 0, 0, 0, 0, 0, 0x0007],
+    [0x2001, 0x0db9, 0, 0, 0, 0, 0, 0x0007],
 ];
 
 fn main(rt: HostRuntime) -> anyhow::Result<ExitCode> {
@@ -85,13 +94,25 @@ fn print_endpoints(rt: &(impl Print + AllocGlobal), endpoints: &Endpoints) -> an
         return Ok(());
     }
     for [a, b, c, d] in ADDRESSES {
-        let address = Ipv4Addr::new(a, b, c, d);
-        let is_taken = admits(from.as_slice(), address);
-        println!(rt;
-            "{address} {}",
-            if is_taken { "may connect" } else { "is closed" }
+        print_address(rt, from.as_slice(), IpAddr::V4(Ipv4Addr::new(a, b, c, d)))?;
+    }
+    for segments in WIDE_ADDRESSES {
+        print_address(
+            rt,
+            from.as_slice(),
+            IpAddr::V6(Ipv6Addr::from_segments(segments)),
         )?;
     }
+    Ok(())
+}
+
+// Whether an address may connect.
+fn print_address(rt: &impl Print, from: &[Network], address: IpAddr) -> anyhow::Result<()> {
+    let is_taken = admits(from, address);
+    println!(rt;
+        "{address} {}",
+        if is_taken { "may connect" } else { "is closed" }
+    )?;
     Ok(())
 }
 
