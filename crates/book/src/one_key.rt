@@ -5,7 +5,7 @@ ghost use Rattle.book.specs.Store.{AreRowsOf};
 
 use crate::foreseen::{found_flat, found_live};
 use crate::machine::Machine;
-use crate::values::found_worth;
+use crate::values::{found_most, found_worth};
 use agg_types::{Col, Key};
 use book_frame::standing::{cols_of, longest_period};
 use crossing::Values;
@@ -90,6 +90,12 @@ impl<'a> Values for OneKey<'a> {
         let machine = self.machine;
         let cols = cols_of(machine.config.tables.as_slice(), table);
         found_worth(self.rows_of(table, key).as_ref(), cols, col, t)
+    }
+
+    fn most(&self, table: usize, key: &Key, col: Col) -> Option<u128> {
+        let machine = self.machine;
+        let cols = cols_of(machine.config.tables.as_slice(), table);
+        found_most(self.rows_of(table, key).as_ref(), cols, col)
     }
 
     fn live(&self, table: usize, key: &Key, t: u64) -> usize {

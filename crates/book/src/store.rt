@@ -18,7 +18,7 @@ ghost use Rattle.book.specs.Store.{AreRowsOf, IsEachKeyOf, IsWalk, put_arrival, 
 
 use crate::at::At;
 use crate::puts::{drop_key, drop_row, new_row, set_row};
-use crate::values::{arriving_worth, found_worth};
+use crate::values::{arriving_worth, found_bound};
 use agg_types::{Cell, Col, Key, NoMemory, Shape};
 use peer_rows::{ByKey, EachKey, OfKey, Rows, Spot};
 use std::alloc::Global;
@@ -219,7 +219,7 @@ impl Store {
             ≤ result }
     {
         let found = self.of_key_at(at.spot, at.table, at.key);
-        let standing = found_worth(found.as_ref(), cols, col, t);
+        let standing = found_bound(found.as_ref(), cols, col, t);
         standing + u128::from(arriving_worth(col, cols, cells))
     }
 

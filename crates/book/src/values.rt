@@ -2,7 +2,8 @@
 
 ghost use Rattle.std.specs.Prelude.{◌≡◌, ◌+◌, ◌-◌, ◌*◌, ◌<◌, ◌≤◌, ◌^◌, ℕ, List, length, map, drop};
 ghost use Rattle.std.specs.Prelude.{IfSome};
-ghost use Rattle.std.specs.List.{list_all};
+ghost use Rattle.std.specs.List.{list_all, position, position_or_len};
+ghost use Rattle.agg_types.specs.Col.{same_col};
 ghost use Rattle.agg_types.specs.Op.{op_holds};
 ghost use Rattle.fleet_model.specs.Keys.{Rows, key_rows, row_worth, worth_of};
 ghost use Rattle.fleet_model.specs.Values.{cell_worth, column_worth, meets, value};
@@ -14,6 +15,9 @@ use crate::store::Store;
 use agg_types::{Cell, Col, Cond, Key};
 use peer_rows::{Held, OfKey, Row, RowCells};
 use period_rate::Rate;
+
+// What the sum of a bound and a cell still fits beside.
+const LARGEST_BOUND: u128 = u128::MAX - (1 << 64);
 
 // What a cell is worth so many ms after it arrived.
 #[tactic(auto, unfolding(fleet_model::specs::Values::cell_worth))]
@@ -123,6 +127,59 @@ pub fn found_worth(rows: Option<&OfKey<'_>>, cols: &[(Col, u32)], col: Col, t: u
     match rows {
         None => 0,
         Some(rows) => worth(rows, cols, col, t),
+    }
+}
+
+// Where a table stores a column, if it does.
+fn stored_at(cols: &[(Col, u32)], col: Col) -> Option<usize>
+    ensures { result ≡ position (λ stored. same_col stored.0 col) cols.now }
+{
+    cols.iter().position(|stored| stored.0.id() == col.id())
+}
+
+// Where the cell of a column lies: behind the last where the column isn't stored.
+fn place_of(cols: &[(Col, u32)], col: Col) -> usize
+    ensures { result ≡ position_or_len (λ stored. same_col stored.0 col) cols.now }
+{
+    match stored_at(cols, col) {
+        None => cols.len(),
+        Some(place) => place,
+    }
+}
+
+/// The most that the rows of a key that were found are worth in a column at any moment, where that
+/// is at hand.
+pub fn found_most(rows: Option<&OfKey<'_>>, cols: &[(Col, u32)], col: Col) -> Option<u128>
+    ensures { IfSome result (λ most. (t : ℕ) → found_worth cols.now col t rows.entry ≤ most) }
+{
+    match rows {
+        None => Some(0),
+        Some(rows) => rows.most(place_of(cols, col)),
+    }
+}
+
+/// At least what the rows of a key that were found are worth at a moment. Of more than one row the
+/// most that they are ever worth, where that is at hand.
+pub fn found_bound(rows: Option<&OfKey<'_>>, cols: &[(Col, u32)], col: Col, t: u64) -> u128
+    requires { IfSome rows (λ rows. length rows.now < 2 ^ 64) }
+    ensures bound { found_worth cols.now col t rows.entry ≤ result }
+    ensures small { result + 2 ^ 64 ≤ 2 ^ 128 }
+{
+    if has_several(rows) {
+        if let Some(most) = found_most(rows, cols, col) {
+            if most <= LARGEST_BOUND {
+                return most;
+            }
+        }
+    }
+    found_worth(rows, cols, col, t)
+}
+
+// Whether several rows were found.
+fn has_several(rows: Option<&OfKey<'_>>) -> bool {
+    match rows {
+        None => false,
+        Some(rows) => rows.len() > 1,
     }
 }
 

@@ -4,6 +4,7 @@ use Rattle.fleet_model.specs.Machine.{with_row}
 use Rattle.fleet_model.specs.Values.{column_worth}
 use Rattle.book.specs.Planned.{place_at}
 use Rattle.book.specs.Store.{AreFound, put_arrival}
+use Rattle.book.proofs.Bounding.{worth_found}
 use Rattle.book.proofs.Leading.{arriving_more}
 use Rattle.book.proofs.store.Store.worth_with.Goals as goal
 
@@ -11,20 +12,18 @@ pub returns-clause-before : goal.returns-clause-before
 returns-clause-before c =
     let found : AreFound c.args.self.now.rows c.args.at.table c.args.at.key.now
     c.as_ref.result = search rules in
-    let standing : c.found_worth-standing.result ≡ worth_of c.args.cols.now
-    (key_rows c.args.self.now.rows c.args.at.table c.args.at.key.now) c.args.col c.args.t =
-    c.found_worth-standing.ensures.of_key c.args.self.now.rows c.args.at.table c.args.at.key.now
-    found in
-    omega arith
+    let under = c.found_bound-standing.ensures.bound in
+    let standing = worth_found c.args.self.now.rows c.args.at.table c.args.at.key.now
+    c.args.cols.now c.args.col c.args.t c.as_ref.result found in
+    omega (arith, under, standing)
 
 pub returns-clause-after : goal.returns-clause-after
 returns-clause-after c = λ life.
     let found : AreFound c.args.self.now.rows c.args.at.table c.args.at.key.now
     c.as_ref.result = search rules in
-    let standing : c.found_worth-standing.result ≡ worth_of c.args.cols.now
-    (key_rows c.args.self.now.rows c.args.at.table c.args.at.key.now) c.args.col c.args.t =
-    c.found_worth-standing.ensures.of_key c.args.self.now.rows c.args.at.table c.args.at.key.now
-    found in
+    let under = c.found_bound-standing.ensures.bound in
+    let standing = worth_found c.args.self.now.rows c.args.at.table c.args.at.key.now
+    c.args.cols.now c.args.col c.args.t c.as_ref.result found in
     let own : c.from.result ≡ column_worth c.args.col 0 c.args.cols.now c.args.cells.now =
     c.from.ensures ∙ c.arriving_worth.ensures in
     let more : worth_of c.args.cols.now
@@ -35,4 +34,4 @@ returns-clause-after c = λ life.
     c.args.col c.args.t + column_worth c.args.col 0 c.args.cols.now c.args.cells.now =
     arriving_more c.args.cols.now c.args.self.now.rows c.args.t (place_at c.args.at) life
     c.args.cells.now c.args.col c.requires in
-    omega arith
+    omega (arith, under, standing, own, more)
