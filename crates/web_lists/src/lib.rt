@@ -8,4 +8,4 @@ mod lists;
 mod summing;
 
 pub use lists::{filter_list, rank_list, row_list, table_list};
-pub use summing::summed_up;
+pub use summing::{held_by, summed_up};

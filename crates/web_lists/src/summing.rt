@@ -5,7 +5,7 @@ ghost use Rattle.std.specs.Prelude.{◌<◌, length};
 use agg_types::{Filter, NoMemory, Rank};
 use book::Book;
 use std::alloc::Global;
-use web_text::{FilterSum, RankSum, Summary};
+use web_text::{FilterSum, PeerRows, RankSum, Summary};
 
 /// How many keys of a filter, and of a ranked list, a summary keeps at most.
 const MOST_KEYS: usize = 20;
@@ -15,6 +15,10 @@ pub fn summed_up(alloc: Global, book: &Book, events: u64) -> Result<Summary, NoM
     let mut tables = Vec::new(alloc);
     for table in 0..book.config().tables.len() {
         tables.push(book.used(table))?;
+    }
+    let mut peers = Vec::new(alloc);
+    for peer in 0..book.config().peers.len() {
+        peers.push(held_by_table(alloc, book, peer)?)?;
     }
     let mut filters = Vec::new(alloc);
     for (place, filter) in book.config().filters.as_slice().iter().enumerate() {
@@ -28,9 +32,43 @@ pub fn summed_up(alloc: Global, book: &Book, events: u64) -> Result<Summary, NoM
         events,
         moment: book.moment(),
         tables,
+        peers,
         filters,
         ranks,
     })
+}
+
+// What a peer holds of a table.
+fn held_of(book: &Book, peer: usize, table: usize) -> PeerRows
+    requires peer_in { peer < length book.now.config.peers }
+    requires table_in { table < length book.now.config.tables }
+{
+    PeerRows {
+        rows: book.rows_held(table, peer),
+        dropped: book.dropped(table, peer),
+    }
+}
+
+/// What a peer of the configuration holds of all tables. Takes no memory.
+pub fn held_by(book: &Book, peer: usize) -> PeerRows
+    requires { peer < length book.now.config.peers }
+{
+    let mut held = PeerRows::none();
+    for table in 0..book.config().tables.len() {
+        held.add(held_of(book, peer, table));
+    }
+    held
+}
+
+// What a peer holds of each table.
+fn held_by_table(alloc: Global, book: &Book, peer: usize) -> Result<Vec<PeerRows>, NoMemory>
+    requires { peer < length book.now.config.peers }
+{
+    let mut held = Vec::new(alloc);
+    for table in 0..book.config().tables.len() {
+        held.push(held_of(book, peer, table))?;
+    }
+    Ok(held)
 }
 
 fn filter_sum(

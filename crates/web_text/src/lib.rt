@@ -25,4 +25,4 @@ pub use peers::{AskFault, Entries, begin_list, end_list, peer_list};
 pub use prometheus::figures;
 pub use shown::{overview, put_table};
 pub use standing::{PeerStanding, Standing};
-pub use summary::{FilterSum, RankSum, Summary};
+pub use summary::{FilterSum, PeerRows, RankSum, Summary};

@@ -73,7 +73,8 @@ pub fn peer_list(
             break;
         }
         left -= 1;
-        put_peer(alloc, &mut json, name.as_slice(), peer, standing.now)?;
+        let held = summary.of_peer(place);
+        put_peer(alloc, &mut json, name.as_slice(), peer, held, standing.now)?;
     }
     Ok(end_list(json, more)?)
 }

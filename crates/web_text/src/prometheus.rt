@@ -2,7 +2,7 @@
 
 use crate::labels::append_label;
 use crate::standing::{PeerStanding, Standing};
-use crate::summary::{FilterSum, RankSum, Summary};
+use crate::summary::{FilterSum, PeerRows, RankSum, Summary};
 use agg_types::{Config, NoMemory};
 use std::alloc::Global;
 use std::fmt;
@@ -148,6 +148,7 @@ pub fn figures(
     };
     put_collector(&mut lines, summary, standing)?;
     put_peers(&mut lines, config, standing)?;
+    put_held(&mut lines, config, summary)?;
     put_tables(&mut lines, config, summary)?;
     put_filters(&mut lines, config, summary)?;
     put_ranks(&mut lines, config, summary)?;
@@ -291,6 +292,62 @@ fn put_peers(lines: &mut Lines, config: &Config, standing: &Standing) -> Result<
                 lines.value(figure, &[(b"peer", name.as_slice())], value)?;
             }
         }
+    }
+    Ok(())
+}
+
+/// What is told of the rows that a peer holds of a table.
+#[derive(Clone, Copy)]
+enum OfHeld {
+    Rows,
+    Dropped,
+}
+
+impl OfHeld {
+    const ALL: [OfHeld; 2] = [OfHeld::Rows, OfHeld::Dropped];
+
+    fn figure(self) -> Figure {
+        match self {
+            OfHeld::Rows => gauge(b"peer_rows", b"Rows of a table that a peer holds."),
+            OfHeld::Dropped => counter(
+                b"peer_dropped_updates_total",
+                b"Updates of new keys of a peer that a full table didn't take.",
+            ),
+        }
+    }
+
+    fn of(self, held: PeerRows) -> Value {
+        match self {
+            OfHeld::Rows => count(held.rows),
+            OfHeld::Dropped => count(held.dropped),
+        }
+    }
+}
+
+fn put_held(lines: &mut Lines, config: &Config, summary: &Summary) -> Result<(), NoMemory> {
+    for of_held in OfHeld::ALL {
+        lines.head(of_held.figure())?;
+        for (place, held) in summary.peers.as_slice().iter().enumerate() {
+            if let Some(peer) = config.peers.get(place) {
+                put_held_by(lines, config, of_held, peer.as_slice(), held.as_slice())?;
+            }
+        }
+    }
+    Ok(())
+}
+
+// What a peer holds of each table.
+fn put_held_by(
+    lines: &mut Lines,
+    config: &Config,
+    of_held: OfHeld,
+    peer: &[u8],
+    held: &[PeerRows],
+) -> Result<(), NoMemory> {
+    for (place, held) in held.iter().enumerate() {
+        let table = table_name(config, place);
+        let labels: [Label<'_>; 2] = [(b"peer", peer), (b"table", table)];
+        lines.value(of_held.figure(), &labels, of_held.of(*held))?;
     }
     Ok(())
 }

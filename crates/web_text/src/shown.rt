@@ -2,7 +2,7 @@
 
 use crate::objects::Json;
 use crate::standing::{PeerStanding, Standing};
-use crate::summary::{FilterSum, RankSum, Summary};
+use crate::summary::{FilterSum, PeerRows, RankSum, Summary};
 use agg_types::{Config, KeyKind, NoMemory, Shape};
 use std::alloc::Global;
 
@@ -19,7 +19,7 @@ pub fn overview(
     json.number("moment", summary.moment)?;
     json.text("name", config.me.as_slice())?;
     put_standing(&mut json, standing)?;
-    put_peers(alloc, &mut json, config, standing)?;
+    put_peers(alloc, &mut json, config, summary, standing)?;
     put_tables(&mut json, config, summary)?;
     json.begin_list("filters")?;
     for filter in summary.filters.as_slice() {
@@ -67,12 +67,13 @@ fn ago(moment: Option<u64>, now: u64) -> Option<u64> {
     Some(now.saturating_sub(moment))
 }
 
-/// Puts a peer, as a member of a list, at so many ms after the start.
+/// Puts a peer with what it holds, as a member of a list, at so many ms after the start.
 pub(crate) fn put_peer(
     alloc: Global,
     json: &mut Json,
     name: &[u8],
     peer: &PeerStanding,
+    held: PeerRows,
     now: u64,
 ) -> Result<(), NoMemory> {
     json.begin_object()?;
@@ -88,6 +89,8 @@ pub(crate) fn put_peer(
     json.number_if("since_ms", ago(peer.since, now))?;
     json.number("updates", peer.updates)?;
     json.number_if("last_update_ms", ago(peer.last_update, now))?;
+    json.number("rows", held.rows)?;
+    json.number("dropped", held.dropped)?;
     json.number("unknown_tables", peer.unfollowed as u64)?;
     json.end_object()
 }
@@ -96,6 +99,7 @@ fn put_peers(
     alloc: Global,
     json: &mut Json,
     config: &Config,
+    summary: &Summary,
     standing: &Standing,
 ) -> Result<(), NoMemory> {
     json.begin_list("peers")?;
@@ -103,7 +107,8 @@ fn put_peers(
         let Some(name) = config.peers.get(place) else {
             break;
         };
-        put_peer(alloc, json, name.as_slice(), peer, standing.now)?;
+        let held = summary.of_peer(place);
+        put_peer(alloc, json, name.as_slice(), peer, held, standing.now)?;
     }
     json.end_list()
 }

@@ -25,6 +25,31 @@ pub struct RankSum {
     pub first: Vec<(Key, u128)>,
 }
 
+/// What is told of the rows that a peer holds.
+#[derive(Clone, Copy, Debug, PartialEq, Eq)]
+pub struct PeerRows {
+    /// How many it holds.
+    pub rows: u64,
+    /// How many updates of new keys a full table didn't take.
+    pub dropped: u64,
+}
+
+impl PeerRows {
+    /// Nothing.
+    pub fn none() -> PeerRows {
+        PeerRows {
+            rows: 0,
+            dropped: 0,
+        }
+    }
+
+    /// The sum with another one's. Counts stay at their greatest number.
+    pub fn add(&mut self, other: PeerRows) {
+        self.rows = self.rows.saturating_add(other.rows);
+        self.dropped = self.dropped.saturating_add(other.dropped);
+    }
+}
+
 /// What the figures and the page need of a book that was looked at.
 #[derive(Debug, Drop)]
 pub struct Summary {
@@ -34,6 +59,22 @@ pub struct Summary {
     pub moment: u64,
     /// How many keys each table has.
     pub tables: Vec<u64>,
+    /// What each peer holds of each table: by peer, then by table, each in the configuration's
+    /// order.
+    pub peers: Vec<Vec<PeerRows>>,
     pub filters: Vec<FilterSum>,
     pub ranks: Vec<RankSum>,
+}
+
+impl Summary {
+    /// What a peer holds of all tables, by its place in the configuration.
+    pub fn of_peer(&self, peer: usize) -> PeerRows {
+        let mut held = PeerRows::none();
+        if let Some(tables) = self.peers.get(peer) {
+            for table in tables.as_slice() {
+                held.add(*table);
+            }
+        }
+        held
+    }
 }
