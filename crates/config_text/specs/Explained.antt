@@ -1,0 +1,120 @@
+-- What is told of the faults of a configuration beside their names.
+use Rattle.std.specs.Prelude.{ℕ, ◌-◌, if◌then◌else◌, List, [], ◌++◌, codes}
+use Rattle.std.specs.Prelude.{slice_index_or, Option, None, Some}
+use Rattle.std.specs.Fmt.{decimal}
+use Rattle.std.specs.List.{flat_map}
+use Rattle.std.specs.Str.{bytes_eq}
+use Rattle.agg_types.specs.declared.check.ConfigFault.{ConfigFault}
+use Rattle.agg_types.specs.declared.check.ConfigFault.TheVariants.{Duplicate, TooMany, UnknownTable}
+use Rattle.agg_types.specs.declared.check.ConfigFault.TheVariants.{UnknownColumn, BadPeriod}
+use Rattle.agg_types.specs.declared.check.ConfigFault.TheVariants.{BadSize, BadName, UnknownFilter}
+use Rattle.agg_types.specs.declared.limits.TheConstants.{HOLD_END, LARGEST_SIZE, LONGEST_KEY}
+use Rattle.agg_types.specs.declared.limits.TheConstants.{LONGEST_NAME, LONGEST_RANK, MOST_FILTERS}
+use Rattle.agg_types.specs.declared.limits.TheConstants.{MOST_PEERS, MOST_PUSHES, MOST_RANKS}
+use Rattle.agg_types.specs.declared.limits.TheConstants.{MOST_TABLES, PERIOD_END, SHORTEST_HOLD}
+use Rattle.agg_config.specs.declared.causes.LineCause.{LineCause}
+use Rattle.agg_config.specs.declared.causes.LineCause.TheVariants.{Syntax, Number, Check, NoMemory}
+use Rattle.agg_config.specs.declared.causes.LineFault.{LineFault}
+use Rattle.key_text.specs.Printed.{escaped}
+use Rattle.line_words.specs.Words.{words}
+use Rattle.line_words.specs.declared.misread.Expected.{Expected}
+use Rattle.line_words.specs.declared.misread.Expected.TheVariants as expected
+use Rattle.line_words.specs.declared.misread.Misread.{Misread}
+
+-- the line of this number, from 1; empty where there is none
+abbrev pub line_at : ℕ → List (List ℕ) → List ℕ
+line_at number lines = slice_index_or lines (number - 1) []
+
+-- the word of this number, from 1; empty where there is none
+abbrev pub word_at : ℕ → List (List ℕ) → List ℕ
+word_at number words = slice_index_or words (number - 1) []
+
+-- what had to stand in a place
+abbrev pub expected_text : Expected → List ℕ
+expected_text expected.Name = codes "a name"
+expected_text expected.Keyword = codes "a keyword"
+expected_text expected.End = codes "the line's end"
+expected_text expected.Number = codes "a number of 1 to 20 digits"
+expected_text expected.Column = codes "a column"
+expected_text expected.Columns = codes "columns with commas between, a rate with its period in ms"
+expected_text expected.Condition = codes "data.<column>"
+expected_text expected.Operator = codes "eq, ne, le, ge, lt or gt"
+
+-- how a line is written that begins with this word
+abbrev pub form_named : List ℕ → List ℕ
+form_named kind =
+    if bytes_eq kind (codes "name") then codes "name <name>"
+    else if bytes_eq kind (codes "peer") then codes "peer <name>"
+    else if bytes_eq kind (codes "table")
+    then codes "table <name> type <type> size <rows> store <column>,<rate>(<ms>)"
+    else if bytes_eq kind (codes "filter")
+    then codes "filter <name> <table> data.<column> <operator> <number>"
+    else if bytes_eq kind (codes "rank") then codes "rank <name> <table> <column> <length>"
+    else if bytes_eq kind (codes "push") then codes "push <filter> hold <ms>"
+    else codes "name, peer, table, filter, rank or push first"
+
+-- a word as it is told: its bytes but spaces and what doesn't print, in quotes
+abbrev pub quoted : List ℕ → List ℕ
+quoted word = codes " \"" ++ flat_map escaped word ++ codes "\""
+
+-- a word, or that it is missing
+abbrev pub found_text : Misread → List (List ℕ) → List ℕ
+found_text misread words =
+    if misread.is_missing then codes " is missing" else quoted (word_at misread.word words)
+
+-- what had to stand there, and how such a line is written
+abbrev pub wanted_text : Expected → List (List ℕ) → List ℕ
+wanted_text expected words =
+    codes ": expected " ++ expected_text expected ++ codes "; write: "
+    ++ form_named (word_at 1 words)
+
+-- the word that is wrong or missing, and what was wanted
+abbrev pub misread_text : Misread → List (List ℕ) → List ℕ
+misread_text misread words =
+    codes ", word " ++ decimal misread.word ++ found_text misread words
+    ++ wanted_text misread.expected words
+
+-- what goes against the lines before
+abbrev pub check_text : ConfigFault → List ℕ
+check_text Duplicate =
+    codes "the name stands already, or a column twice; a pushed filter has no table's name"
+check_text TooMany =
+    codes "there may be " ++ decimal MOST_PEERS ++ codes " peers, " ++ decimal MOST_TABLES
+    ++ codes " tables, " ++ decimal MOST_FILTERS ++ codes " filters, " ++ decimal MOST_RANKS
+    ++ codes " ranked lists, " ++ decimal MOST_PUSHES ++ codes " pushes"
+check_text UnknownTable = codes "no line before declares the table"
+check_text UnknownColumn = codes "the table doesn't store the column"
+check_text BadPeriod =
+    codes "a period is 1 to " ++ decimal (PERIOD_END - 1) ++ codes " ms, a hold "
+    ++ decimal SHORTEST_HOLD ++ codes " to " ++ decimal (HOLD_END - 1)
+check_text BadSize =
+    codes "a size is 1 to " ++ decimal LARGEST_SIZE ++ codes ", a len 1 to "
+    ++ decimal LONGEST_KEY ++ codes ", a ranked list's length 1 to " ++ decimal LONGEST_RANK
+check_text BadName =
+    codes "a name has 1 to " ++ decimal LONGEST_NAME ++ codes " bytes, each of 33 to 126"
+check_text UnknownFilter = codes "no line before declares the filter"
+
+-- what is wrong where it is no word
+abbrev pub cause_text : LineCause → List ℕ
+cause_text Syntax = codes "no line gives the collector its name; write: name <name>"
+cause_text Number = codes "expected a number of 1 to 20 digits"
+cause_text (Check fault) = check_text fault
+cause_text NoMemory = codes "out of memory"
+
+-- what is wrong with a line of these words
+abbrev pub reason_text : LineCause → Option Misread → List (List ℕ) → List ℕ
+reason_text cause None words = codes ": " ++ cause_text cause
+reason_text cause (Some misread) words = misread_text misread words
+
+-- a fault of a line
+abbrev pub line_explanation : LineFault → List ℕ → List ℕ
+line_explanation fault line = codes "config line " ++ decimal fault.line
+    ++ reason_text fault.cause fault.place (words line) ++ codes "\n"
+
+-- what is told of a fault of these lines
+abbrev pub explanation : List (List ℕ) → LineFault → List ℕ
+explanation lines fault = line_explanation fault (line_at fault.line lines)
+
+-- a line for each fault
+abbrev pub explanations : List (List ℕ) → List LineFault → List ℕ
+explanations lines faults = flat_map (explanation lines) faults

@@ -1,0 +1,252 @@
+//! What is wrong with a configuration, in words.
+
+ghost use Rattle.std.specs.Prelude.{◌≡◌, ◌++◌, OnOk};
+ghost use Rattle.std.specs.Fmt.{decimal};
+ghost use Rattle.line_words.specs.Words.{lines_of, words};
+ghost use Rattle.config_text.specs.Explained.{cause_text, check_text, expected_text, explanation};
+ghost use Rattle.config_text.specs.Explained.{explanations, form_named, found_text, line_at};
+ghost use Rattle.config_text.specs.Explained.{line_explanation, misread_text, quoted, reason_text};
+ghost use Rattle.config_text.specs.Explained.{wanted_text, word_at};
+ghost use Rattle.agg_types.specs.declared.check.ConfigFault.TheVariants.{TooMany, BadPeriod};
+ghost use Rattle.agg_types.specs.declared.check.ConfigFault.TheVariants.{BadSize, BadName};
+
+use agg_config::{LineCause, LineFault};
+use agg_types::limits::{
+    HOLD_END, LARGEST_SIZE, LONGEST_KEY, LONGEST_NAME, LONGEST_RANK, MOST_FILTERS, MOST_PEERS,
+    MOST_PUSHES, MOST_RANKS, MOST_TABLES, PERIOD_END, SHORTEST_HOLD,
+};
+use agg_types::{ConfigFault, KeyKind, NoMemory};
+use key_text::{append_key, append_number, append_text};
+use line_words::{Expected, Misread, next_line, next_word};
+
+/// The longest period and the longest hold, in ms.
+const LAST_PERIOD: u64 = PERIOD_END as u64 - 1;
+
+const LAST_HOLD: u64 = HOLD_END - 1;
+
+/// Appends what explains the faults of a text's lines, a line for each, with its LF.
+pub fn append_explanations(
+    text: &[u8],
+    faults: &[LineFault],
+    out: &mut Vec<u8>,
+) -> Result<(), NoMemory>
+    ensures { OnOk result
+        (out.new.items ≡ out.old.items ++ explanations (lines_of text.now) faults.now) }
+{
+    for fault in faults {
+        append_explanation(text, *fault, out)?;
+    }
+    Ok(())
+}
+
+/// Appends what explains a fault of a text's lines, with an LF: the line, the word that is wrong or
+/// missing, and what had to stand there.
+pub fn append_explanation(text: &[u8], fault: LineFault, out: &mut Vec<u8>) -> Result<(), NoMemory>
+    ensures { OnOk result
+        (out.new.items ≡ out.old.items ++ explanation (lines_of text.now) fault) }
+{
+    append_line(fault, line_at(text, fault.line), out)
+}
+
+fn append_line(fault: LineFault, line: &[u8], out: &mut Vec<u8>) -> Result<(), NoMemory>
+    ensures { OnOk result
+        (out.new.items ≡ out.old.items ++ line_explanation fault line.now) }
+{
+    append_counted(b"config line ", fault.line as u64, out)?;
+    append_reason(fault, line, out)?;
+    append_text(b"\n", out)
+}
+
+fn append_reason(fault: LineFault, line: &[u8], out: &mut Vec<u8>) -> Result<(), NoMemory>
+    ensures { OnOk result (out.new.items
+        ≡ out.old.items ++ reason_text fault.cause fault.place (words line.now)) }
+{
+    match fault.place {
+        None => {
+            append_text(b": ", out)?;
+            append_cause(fault.cause, out)
+        }
+        Some(misread) => append_misread(misread, line, out),
+    }
+}
+
+fn append_misread(misread: Misread, line: &[u8], out: &mut Vec<u8>) -> Result<(), NoMemory>
+    ensures { OnOk result
+        (out.new.items ≡ out.old.items ++ misread_text misread (words line.now)) }
+{
+    append_counted(b", word ", misread.word as u64, out)?;
+    append_found(misread, line, out)?;
+    append_wanted(misread.expected, line, out)
+}
+
+fn append_found(misread: Misread, line: &[u8], out: &mut Vec<u8>) -> Result<(), NoMemory>
+    ensures { OnOk result
+        (out.new.items ≡ out.old.items ++ found_text misread (words line.now)) }
+{
+    if misread.is_missing {
+        append_text(b" is missing", out)
+    } else {
+        append_quoted(word_at(line, misread.word), out)
+    }
+}
+
+fn append_wanted(expected: Expected, line: &[u8], out: &mut Vec<u8>) -> Result<(), NoMemory>
+    ensures { OnOk result
+        (out.new.items ≡ out.old.items ++ wanted_text expected (words line.now)) }
+{
+    append_text(b": expected ", out)?;
+    append_text(expected_text(expected).as_bytes(), out)?;
+    append_text(b"; write: ", out)?;
+    append_text(form_named(word_at(line, 1)).as_bytes(), out)
+}
+
+fn append_quoted(word: &[u8], out: &mut Vec<u8>) -> Result<(), NoMemory>
+    ensures { OnOk result (out.new.items ≡ out.old.items ++ quoted word.now) }
+{
+    append_text(b" \"", out)?;
+    append_key(KeyKind::Str(0), word, out)?;
+    append_text(b"\"", out)
+}
+
+fn expected_text(expected: Expected) -> &'static str
+    ensures { result.now ≡ expected_text expected }
+{
+    match expected {
+        Expected::Name => "a name",
+        Expected::Keyword => "a keyword",
+        Expected::End => "the line's end",
+        Expected::Number => "a number of 1 to 20 digits",
+        Expected::Column => "a column",
+        Expected::Columns => "columns with commas between, a rate with its period in ms",
+        Expected::Condition => "data.<column>",
+        Expected::Operator => "eq, ne, le, ge, lt or gt",
+    }
+}
+
+fn form_named(kind: &[u8]) -> &'static str
+    ensures { result.now ≡ form_named kind.now }
+{
+    if kind == b"name".as_slice() {
+        "name <name>"
+    } else if kind == b"peer".as_slice() {
+        "peer <name>"
+    } else if kind == b"table".as_slice() {
+        "table <name> type <type> size <rows> store <column>,<rate>(<ms>)"
+    } else if kind == b"filter".as_slice() {
+        "filter <name> <table> data.<column> <operator> <number>"
+    } else if kind == b"rank".as_slice() {
+        "rank <name> <table> <column> <length>"
+    } else if kind == b"push".as_slice() {
+        "push <filter> hold <ms>"
+    } else {
+        "name, peer, table, filter, rank or push first"
+    }
+}
+
+fn append_cause(cause: LineCause, out: &mut Vec<u8>) -> Result<(), NoMemory>
+    ensures { OnOk result (out.new.items ≡ out.old.items ++ cause_text cause) }
+{
+    match cause {
+        LineCause::Syntax => {
+            append_text(
+                b"no line gives the collector its name; write: name <name>",
+                out,
+            )
+        }
+        LineCause::Number => append_text(b"expected a number of 1 to 20 digits", out),
+        LineCause::Check(fault) => append_check(fault, out),
+        LineCause::NoMemory => append_text(b"out of memory", out),
+    }
+}
+
+fn append_check(fault: ConfigFault, out: &mut Vec<u8>) -> Result<(), NoMemory>
+    ensures { OnOk result (out.new.items ≡ out.old.items ++ check_text fault) }
+{
+    match fault {
+        ConfigFault::Duplicate => append_text(
+            b"the name stands already, or a column twice; a pushed filter has no table's name",
+            out,
+        ),
+        ConfigFault::TooMany => append_limits(out),
+        ConfigFault::UnknownTable => append_text(b"no line before declares the table", out),
+        ConfigFault::UnknownColumn => append_text(b"the table doesn't store the column", out),
+        ConfigFault::BadPeriod => append_periods(out),
+        ConfigFault::BadSize => append_sizes(out),
+        ConfigFault::BadName => append_name_limits(out),
+        ConfigFault::UnknownFilter => append_text(b"no line before declares the filter", out),
+    }
+}
+
+fn append_limits(out: &mut Vec<u8>) -> Result<(), NoMemory>
+    ensures { OnOk result (out.new.items ≡ out.old.items ++ check_text TooMany) }
+{
+    append_counted(b"there may be ", MOST_PEERS as u64, out)?;
+    append_counted(b" peers, ", MOST_TABLES as u64, out)?;
+    append_counted(b" tables, ", MOST_FILTERS as u64, out)?;
+    append_counted(b" filters, ", MOST_RANKS as u64, out)?;
+    append_counted(b" ranked lists, ", MOST_PUSHES as u64, out)?;
+    append_text(b" pushes", out)
+}
+
+fn append_periods(out: &mut Vec<u8>) -> Result<(), NoMemory>
+    ensures { OnOk result (out.new.items ≡ out.old.items ++ check_text BadPeriod) }
+{
+    append_counted(b"a period is 1 to ", LAST_PERIOD, out)?;
+    append_counted(b" ms, a hold ", SHORTEST_HOLD, out)?;
+    append_counted(b" to ", LAST_HOLD, out)
+}
+
+fn append_sizes(out: &mut Vec<u8>) -> Result<(), NoMemory>
+    ensures { OnOk result (out.new.items ≡ out.old.items ++ check_text BadSize) }
+{
+    append_counted(b"a size is 1 to ", LARGEST_SIZE, out)?;
+    append_counted(b", a len 1 to ", LONGEST_KEY, out)?;
+    append_counted(b", a ranked list's length 1 to ", LONGEST_RANK, out)
+}
+
+fn append_name_limits(out: &mut Vec<u8>) -> Result<(), NoMemory>
+    ensures { OnOk result (out.new.items ≡ out.old.items ++ check_text BadName) }
+{
+    append_counted(b"a name has 1 to ", LONGEST_NAME as u64, out)?;
+    append_text(b" bytes, each of 33 to 126", out)
+}
+
+// Appends a label and a number.
+fn append_counted(label: &[u8], number: u64, out: &mut Vec<u8>) -> Result<(), NoMemory>
+    ensures { OnOk result (out.new.items ≡ out.old.items ++ label.now ++ decimal number) }
+{
+    append_text(label, out)?;
+    append_number(u128::from(number), out)
+}
+
+// The line of this number, from 1; empty where there is none.
+fn line_at(text: &[u8], number: usize) -> &[u8]
+    ensures { result.now ≡ line_at number (lines_of text.now) }
+{
+    let mut left = text;
+    let mut ahead = number.saturating_sub(1);
+    'lines: while let Some((line, rest)) = next_line(left) {
+        if ahead == 0 {
+            return line;
+        }
+        ahead -= 1;
+        left = rest;
+    }
+    b""
+}
+
+// The word of this number, from 1; empty where there is none.
+fn word_at(line: &[u8], number: usize) -> &[u8]
+    ensures { result.now ≡ word_at number (words line.now) }
+{
+    let mut left = line;
+    let mut ahead = number.saturating_sub(1);
+    'words: while let Some((word, rest)) = next_word(left) {
+        if ahead == 0 {
+            return word;
+        }
+        ahead -= 1;
+        left = rest;
+    }
+    b""
+}
