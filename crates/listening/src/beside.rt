@@ -1,4 +1,4 @@
-//! The doors of a collector, with visits beside them.
+//! The doors of a collector, with visits and a watch beside them.
 
 use agg_types::Config;
 use hub::{Hub, Naming};
@@ -6,18 +6,24 @@ use serve::{Caller, Clock, Doors, Faulted, Gate, Served, Source, serve_all};
 use std::alloc::Global;
 use std::io::Write;
 use std::sync::Wait;
+use std::sync::atomic::{AtomicU64, Ordering};
 use std::thread::Threads;
 use web_serve::Visits;
 
-/// Doors, and visits that are served beside them.
+/// Doors, and visits and a watch that are served beside them.
 #[derive(Drop)]
-struct WithVisits<'d, 'v, D, V> {
+struct WithVisits<'d, 'v, 'w, D, V, F> {
     doors: &'d D,
     visits: &'v V,
+    watch: &'w F,
+    // how many threads came to serve them
+    came: AtomicU64,
 }
 
-impl<'d, 'v, S: Source + Drop, W: Write + Drop, D: Doors<S, W>, V: Visits> Doors<S, W>
-    for WithVisits<'d, 'v, D, V> {
+impl<'d, 'v, 'w, S: Source + Drop, W: Write + Drop, D: Doors<S, W>, V: Visits, F: Visits> Doors<
+    S,
+    W,
+> for WithVisits<'d, 'v, 'w, D, V, F> {
     ghost unread = { D.unread };
 
     ghost blank = { D.blank };
@@ -39,11 +45,16 @@ impl<'d, 'v, S: Source + Drop, W: Write + Drop, D: Doors<S, W>, V: Visits> Doors
     }
 
     fn threads_beside(&self) -> u64 {
-        self.visits.threads()
+        self.visits.threads().saturating_add(1)
     }
 
+    // The first thread watches, the others serve visits.
     fn beside(&self) {
-        self.visits.serve();
+        if self.came.fetch_add(1, Ordering::SeqCst) == 0 {
+            self.watch.serve();
+        } else {
+            self.visits.serve();
+        }
     }
 
     fn part_peer(&self, config: &Config, source: S, writer: W, ended: Result<Served, Faulted>) {
@@ -55,7 +66,8 @@ impl<'d, 'v, S: Source + Drop, W: Write + Drop, D: Doors<S, W>, V: Visits> Doors
     }
 }
 
-/// Serves who comes to these doors as `serve_all` does, and visits beside them.
+/// Serves who comes to these doors as `serve_all` does, and visits and a watch beside them. The
+/// watch takes one thread.
 pub fn serve_beside<
     J: Naming + Send + Sync,
     H: Wait + Drop + Send,
@@ -66,7 +78,13 @@ pub fn serve_beside<
     G: Gate + Sync,
     D: Doors<S, W> + Sync,
     V: Visits + Sync,
->(rt: &R, alloc: Global, doors: &D, visits: &V, clock: &C, hub: &Hub<J, H>, gate: &G) {
-    let doors = WithVisits { doors, visits };
+    F: Visits + Sync,
+>(rt: &R, alloc: Global, doors: &D, visits: &V, watch: &F, clock: &C, hub: &Hub<J, H>, gate: &G) {
+    let doors = WithVisits {
+        doors,
+        visits,
+        watch,
+        came: AtomicU64::new(0),
+    };
     let _ended = serve_all(rt, alloc, &doors, clock, hub, gate);
 }

@@ -28,6 +28,8 @@ struct Standing {
     // since when that is so, in ms; none where it never came
     since: Option<u64>,
     tables: Vec<Defined>,
+    // whether columns of its present or last connection were skipped
+    has_skipped: bool,
 }
 
 /// What a peer's sessions posted.
@@ -77,6 +79,7 @@ impl Board {
                 address: None,
                 since: None,
                 tables: Vec::new(alloc),
+                has_skipped: false,
             })?;
             tallies.push(Tally {
                 updates: AtomicU64::new(0),
@@ -106,6 +109,7 @@ impl Board {
         standing.address = address;
         standing.since = Some(now);
         standing.tables.clear();
+        standing.has_skipped = false;
     }
 
     /// A connection of a peer is over at a moment, in ms.
@@ -182,6 +186,18 @@ impl Board {
             return false;
         };
         add_table(self.alloc, &mut standing.tables, name, verdict)
+    }
+
+    /// Columns of a peer's session are skipped: whether that is news.
+    pub fn skip<R: Wait>(&self, rt: &R, peer: usize) -> bool {
+        let mut guard = self.peers.lock(rt);
+        let peers = &mut *guard;
+        let Some(standing) = peers.get_mut(peer) else {
+            return false;
+        };
+        let is_news = !standing.has_skipped;
+        standing.has_skipped = true;
+        is_news
     }
 
     /// What stands of a peer.

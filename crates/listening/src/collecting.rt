@@ -9,6 +9,7 @@ use crate::board::Board;
 use crate::connections::Connections;
 use crate::disk::Paths;
 use crate::facts::CollectorFacts;
+use crate::fullness::Watch;
 use crate::journal::Journal;
 use crate::log::Event;
 use crate::notes::Notes;
@@ -30,8 +31,9 @@ use std::time::{Clock, Instant};
 use std::{io, thread};
 use web_serve::Web;
 
-/// How many admin connections may look at once: four are served, and each may be about to end.
-const PLACES: usize = 8;
+/// How many may look at once: four admin connections, each of which may be about to end, and who
+/// sees to full tables.
+const PLACES: usize = 9;
 
 /// How many sessions may look at once, where tables are pushed: as many as may have a seat.
 const SESSION_PLACES: usize = 512;
@@ -281,7 +283,15 @@ where
         clock: &clock,
         board: &board,
     };
-    serve_beside(rt, rt.alloc(), &doors, &web, &clock, &hub, &notes);
+    let watch = Watch {
+        rt: *rt,
+        alloc: rt.alloc(),
+        hub: &hub,
+        journal,
+        clock: &clock,
+        connections: &connections,
+    };
+    serve_beside(rt, rt.alloc(), &doors, &web, &watch, &clock, &hub, &notes);
     match connections.take_fault(rt) {
         None => Fault::NoMemory,
         Some(error) => Fault::Closed(error),

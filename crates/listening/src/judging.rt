@@ -1,6 +1,6 @@
 //! Why a table that a peer defines is followed, or not.
 
-use agg_types::{Col, Config, KeyKind, Shape};
+use agg_types::{Col, Config, KeyKind, LAST_TYPE, Shape};
 use peers_msg::Definition;
 use std::fmt;
 
@@ -54,6 +54,12 @@ pub fn judge(config: &Config, definition: &Definition) -> Verdict {
         None => nameless(config, name),
         Some(shape) => judge_for(shape, definition),
     }
+}
+
+/// The types of a definition's columns that come after those that are known, a bit for each: newer
+/// proxies send them, and they are passed over.
+pub fn unknown_types(definition: &Definition) -> u64 {
+    definition.bits & (u64::MAX << (LAST_TYPE + 1))
 }
 
 // A table of no such name.

@@ -35,6 +35,21 @@ pub enum Event<'a> {
         peer: &'a [u8],
         because: Because<'a>,
     },
+    /// A table of a peer's session that is followed has columns that aren't known: of these types
+    /// of the peers protocol, a bit for each.
+    ColumnsSkipped {
+        peer: &'a [u8],
+        table: &'a [u8],
+        types: u64,
+    },
+    /// A table didn't take an update of a peer, which holds as many rows of it as its size. So many
+    /// updates of the peer were dropped by now.
+    TableFull {
+        peer: &'a [u8],
+        table: &'a [u8],
+        size: u64,
+        dropped: u64,
+    },
     /// The connection of a peer is over, after so many updates.
     PeerGone {
         peer: &'a [u8],
@@ -86,6 +101,8 @@ impl<'a> Event<'a> {
             Event::PeerConnected { .. } => "info peer connected",
             Event::TableUnfollowed { .. } => "warn table not followed",
             Event::RateUnfollowed { .. } => "warn rate not followed",
+            Event::ColumnsSkipped { .. } => "warn columns skipped",
+            Event::TableFull { .. } => "warn table full",
             Event::PeerGone { cause: None, .. } => "info peer disconnected",
             Event::PeerGone { .. } => "warn peer ended",
             Event::PeerReplaced { .. } => "info peer replaced",
@@ -125,6 +142,22 @@ impl<'a> fmt::Display for Line<'a> {
             Event::TableUnfollowed { peer, because } | Event::RateUnfollowed { peer, because } => {
                 let (peer, table) = (Value(peer), Value(because.name));
                 write!(f, " peer={peer} table={table} reason=\"{because}\"")
+            }
+            Event::ColumnsSkipped { peer, table, types } => {
+                let (peer, table) = (Value(peer), Value(table));
+                write!(f, " peer={peer} table={table} types={}", Types(types))
+            }
+            Event::TableFull {
+                peer,
+                table,
+                size,
+                dropped,
+            } => {
+                let (peer, table) = (Value(peer), Value(table));
+                write!(
+                    f,
+                    " peer={peer} table={table} size={size} dropped={dropped}"
+                )
             }
             Event::PeerGone {
                 peer,
@@ -200,6 +233,26 @@ impl<'a> fmt::Display for Value<'a> {
         } else {
             write!(f, "\"{text}\"")
         }
+    }
+}
+
+// The numbers of types, a bit for each.
+#[derive(Clone, Copy)]
+struct Types(u64);
+
+impl fmt::Display for Types {
+    fn fmt<W: fmt::Write>(&self, f: &mut fmt::Formatter<W>) -> fmt::Result {
+        let mut is_first = true;
+        for id in 0..64u32 {
+            if (self.0 >> id) & 1 == 1 {
+                if !is_first {
+                    f.write_str(",")?;
+                }
+                write!(f, "{id}")?;
+                is_first = false;
+            }
+        }
+        Ok(())
     }
 }
 

@@ -3,7 +3,7 @@
 use crate::board::Board;
 use crate::connections::{Connections, Unasked};
 use crate::journal::Journal;
-use crate::judging::{Because, judge};
+use crate::judging::{Because, Verdict, judge, unknown_types};
 use crate::log::Event;
 use crate::reporting::{HELP, append_info, append_peers, append_tables};
 use crate::ticks::Ticks;
@@ -94,6 +94,7 @@ impl<'a, R> Notes<'a, R> {
         R: Clock + Wait,
     {
         let verdict = judge(self.config, definition);
+        self.skipped(peer, definition, verdict);
         let table = definition.name.as_slice();
         let is_news = self.board.define(&self.rt, peer, table, verdict);
         if !is_news || verdict.is_expected() {
@@ -109,6 +110,24 @@ impl<'a, R> Notes<'a, R> {
             Event::RateUnfollowed { peer, because }
         } else {
             Event::TableUnfollowed { peer, because }
+        };
+        self.note(event);
+    }
+
+    // A peer's session defined a table: its columns that aren't known are logged, once a session,
+    // where the table is followed.
+    fn skipped(&self, peer: usize, definition: &Definition, verdict: Verdict)
+    where
+        R: Clock + Wait,
+    {
+        let types = unknown_types(definition);
+        if types == 0 || !verdict.is_followed() || !self.board.skip(&self.rt, peer) {
+            return;
+        }
+        let event = Event::ColumnsSkipped {
+            peer: self.name(peer),
+            table: definition.name.as_slice(),
+            types,
         };
         self.note(event);
     }
@@ -208,7 +227,7 @@ impl<'a, R: Clock + Wait> Gate for Notes<'a, R> {
             Status::Info => {
                 append_info(rt, self.alloc, self.board, self.connections, now, book, out)
             }
-            Status::Peers => append_peers(rt, self.alloc, self.board, self.config, now, out),
+            Status::Peers => append_peers(rt, self.alloc, self.board, now, book, out),
             Status::Tables(peer) => {
                 append_tables(rt, self.alloc, self.board, self.config, peer, out)
             }

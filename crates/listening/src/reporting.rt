@@ -1,5 +1,7 @@
 //! The answers to what operators ask of the collector itself.
 
+ghost use Rattle.std.specs.Prelude.{◌<◌, length};
+
 use crate::board::Board;
 use crate::connections::Connections;
 use crate::judging::{Because, Verdict};
@@ -10,7 +12,8 @@ use std::alloc::Global;
 use std::fmt;
 use std::net::SocketAddr;
 use std::sync::Wait;
-use web_text::PeerStanding;
+use web_lists::held_by;
+use web_text::{PeerRows, PeerStanding};
 
 /// The commands, a line each.
 pub const HELP: &[u8] = b"add filter <filter> <table> data.<column> <operator> <value> ..
@@ -50,13 +53,23 @@ fn keys_in(book: &Book) -> u64 {
     keys
 }
 
+// How many rows all peers hold.
+fn rows_in(book: &Book) -> u64 {
+    let mut rows = 0u64;
+    for peer in 0..book.config().peers.len() {
+        rows = rows.saturating_add(held_by(book, peer).rows);
+    }
+    rows
+}
+
 // Appends what a book and its configuration tell.
 fn append_book(alloc: Global, book: &Book, out: &mut Vec<u8>) -> Result<(), NoMemory> {
     let config = book.config();
     append_line(alloc, "tables", config.tables.len(), out)?;
     append_line(alloc, "filters", config.filters.len(), out)?;
     append_line(alloc, "ranks", config.ranks.len(), out)?;
-    append_line(alloc, "keys", keys_in(book), out)
+    append_line(alloc, "keys", keys_in(book), out)?;
+    append_line(alloc, "rows", rows_in(book), out)
 }
 
 /// Appends the collector's counters, so many ms after its start.
@@ -127,12 +140,18 @@ fn state_of(peer: &PeerStanding) -> &'static str {
 struct PeerLine<'a> {
     name: &'a [u8],
     peer: PeerStanding,
+    held: PeerRows,
     now: u64,
 }
 
 impl<'a> fmt::Display for PeerLine<'a> {
     fn fmt<W: fmt::Write>(&self, f: &mut fmt::Formatter<W>) -> fmt::Result {
-        let PeerLine { name, peer, now } = *self;
+        let PeerLine {
+            name,
+            peer,
+            held,
+            now,
+        } = *self;
         let since = now.saturating_sub(peer.since.unwrap_or(0));
         let name = name.escape_ascii();
         write!(f, "peer={name} state={}", state_of(&peer))?;
@@ -142,26 +161,28 @@ impl<'a> fmt::Display for PeerLine<'a> {
             now,
         };
         write!(f, " updates={} last_update_ms={last}", peer.updates)?;
+        write!(f, " rows={} dropped={}", held.rows, held.dropped)?;
         write!(f, " unknown_tables={}", peer.unfollowed)
     }
 }
 
-/// Appends a line for each peer of a configuration, at a moment, in ms.
+/// Appends a line for each peer of a book's configuration, at a moment, in ms.
 pub fn append_peers<R: Wait>(
     rt: &R,
     alloc: Global,
     board: &Board,
-    config: &Config,
     now: u64,
+    book: &Book,
     out: &mut Vec<u8>,
 ) -> Result<(), NoMemory> {
-    for (place, name) in config.peers.as_slice().iter().enumerate() {
+    for (place, name) in book.config().peers.as_slice().iter().enumerate() {
         let Some(peer) = board.peer(rt, place) else {
             return Ok(());
         };
         let line = PeerLine {
             name: name.as_slice(),
             peer,
+            held: held_by(book, place),
             now,
         };
         let line = format!(in alloc; "{line}\n")?;

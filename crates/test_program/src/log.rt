@@ -1,7 +1,7 @@
 //! Lines of the log.
 
 use crate::scene::{Few, Still};
-use crate::status;
+use crate::{full, status};
 use hub::PostFault;
 use listening::{Board, Connections, Event, Journal, Notes, Ticks};
 use serve::{Cause, Gate, Gone, News, Place};
@@ -132,6 +132,7 @@ pub fn show<R: Print + Wait + Copy + AllocGlobal>(rt: &R) -> io::Result<()> {
     journal.write_out(&notes.rt);
     show_moments(rt);
     show_crowd(rt);
+    full::show(rt, &notes)?;
     println!(rt; "== what operators ask")?;
     match agg_config::read(rt.alloc(), CONFIGURATION) {
         Ok(config) => status::show(rt, &notes, config),

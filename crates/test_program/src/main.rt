@@ -5,6 +5,7 @@
 //! behind that.
 #![tactic(auto)]
 
+mod full;
 mod log;
 mod scene;
 mod status;
