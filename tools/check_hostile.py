@@ -519,8 +519,13 @@ def checking(report, options):
     report.check("also one in a file", 1, lambda: "" if run(named) == (0, b"ok\n", b"") else run(named))
     faulty = b"name agg\npeer\ntable t type ip size 1x\npeer lb1\npeer lb1\n"
     wanted = b"config line 2: Syntax\nconfig line 3: Number\nconfig line 5: Duplicate\n"
-    report.check("every faulty line is told", 1,
-                 lambda: "" if run(["check"], faulty) == (3, wanted, b"") else run(["check"], faulty))
+    form = b"; write: table <name> type <type> size <rows> store <column>,<rate>(<ms>)\n"
+    explained = (b"config line 2, word 2 is missing: expected a name; write: peer <name>\n"
+                 b"config line 3, word 6 \"1x\": expected a number of 1 to 20 digits" + form +
+                 b"config line 5: the name stands already, or a column twice; "
+                 b"a pushed filter has no table's name\n")
+    report.check("every faulty line is told and explained", 1,
+                 lambda: "" if run(["check"], faulty) == (3, wanted, explained) else run(["check"], faulty))
     status, printed, told = run(["check", "--config", "/nowhere/fleet.conf"])
     report.check("a file that isn't there is told with status 5", 1, lambda: "" if status == 5 and not printed
                  and told.startswith(b"cannot read the configuration: ") else (status, printed, told))
@@ -558,9 +563,11 @@ def surroundings(report, options):
     report.check("a bad address is told with status 2", 1,
                  lambda: "" if status == 2 and b"bad address" in told else (status, told))
     wrong = text.replace(b"size 200000", b"size 0")
-    status, told, _ = run(["--peers", peers, "--admin", admin], wrong)
+    status, told, explained = run(["--peers", peers, "--admin", admin], wrong)
     report.check("a fault of the configuration is told with its line and status 3", 1,
                  lambda: "" if status == 3 and told.startswith(b"config line ") else (status, told))
+    report.check("and explained on standard error", 1,
+                 lambda: "" if b": a size is 1 to " in explained else explained)
     for which in (signal.SIGINT, signal.SIGTERM):
         collector = Collector(options.collector, *free_ports(2))
         peer = call(collector.peers, HELLO)

@@ -1,5 +1,5 @@
 -- What the words of a command line do to the streams, and what is left to do.
-use Rattle.std.specs.Prelude.{◌≡◌, ◌≢◌, ◌⊎◌, ℕ, List, [], codes, Option, IfSome}
+use Rattle.std.specs.Prelude.{◌≡◌, ◌≢◌, ◌⊎◌, ℕ, List, [], ◌∷◌, codes, Option, IfSome}
 use Rattle.std.specs.Io.KnownBytes.{Appends, Keeps}
 use Rattle.agg_types.specs.Check.{config_faults}
 use Rattle.agg_types.specs.declared.config.Config.{Config}
@@ -8,6 +8,7 @@ use Rattle.agg_config.specs.declared.causes.LineCause.TheVariants as cause
 use Rattle.agg_config.specs.declared.causes.LineFault.{LineFault}
 use Rattle.line_words.specs.Words.{lines_of}
 use Rattle.clap.specs.Words.{Text}
+use Rattle.config_text.specs.Explained.{explanation, explanations}
 use Rattle.command_line.specs.Asked.{AsksFor, IsRefused}
 use Rattle.command_line.specs.Status.{status_of as usage_status, text_of as usage_text}
 use Rattle.command_line.specs.declared.job.Endpoints.{Endpoints}
@@ -67,13 +68,16 @@ pub record Collects (input : Option (List ℕ)) (endpoints : Endpoints) (s : Str
   pub faultless : config_faults config ≡ []
   pub silent : Prints s []
 
--- its first fault was printed on standard output
+-- its first fault was printed on standard output, and what explains it on standard error
 pub record IsFaulty (input : Option (List ℕ)) (s : Streams) (prepared : Prepared) : Type 0 where
+  pub text : List ℕ
+  pub read : IfSome input (λ known. text ≡ known)
   pub fault : LineFault
   pub ended : prepared ≡ Ended 3
-  pub first : IfSome input (λ text. IsFirstFault (lines_of text) fault)
+  pub first : IsFirstFault (lines_of text) fault
   pub faulty : fault.cause ≢ cause.NoMemory
-  pub told : Prints s (line_text fault)
+  pub told : Appends s.output0 s.output (line_text fault)
+  pub explained : Appends s.errors0 s.errors (explanation (lines_of text) fault)
 
 -- it wasn't read, or an allocation failed, which was printed on standard error
 pub record Breaks (s : Streams) (prepared : Prepared) : Type 0 where
@@ -83,12 +87,26 @@ pub record Breaks (s : Streams) (prepared : Prepared) : Type 0 where
   pub is : IsTextOf fault text
   pub told : Complains s text
 
--- all faults of the configuration were printed on standard output, or that there is none
+-- all faults of the configuration were printed on standard output, or that there is none, and what
+-- explains them on standard error
 pub record IsChecked (input : Option (List ℕ)) (s : Streams) (prepared : Prepared) : Type 0 where
+  pub text : List ℕ
+  pub read : IfSome input (λ known. text ≡ known)
   pub faults : List LineFault
   pub ended : prepared ≡ Ended (checked_status faults)
-  pub all : IfSome input (λ text. AreFaults (lines_of text) faults)
-  pub told : Prints s (checked_text faults)
+  pub all : AreFaults (lines_of text) faults
+  pub told : Appends s.output0 s.output (checked_text faults)
+  pub explained : Appends s.errors0 s.errors (explanations (lines_of text) faults)
+
+-- what is wrong with a configuration was told and explained, or an allocation failed
+pub record Reports (text : List ℕ) (faults : List LineFault) (s : Streams) (prepared : Prepared)
+    : Type 0 where
+  pub ended : prepared ≡ Ended (checked_status faults)
+  pub told : Appends s.output0 s.output (checked_text faults)
+  pub explained : Appends s.errors0 s.errors (explanations (lines_of text) faults)
+
+abbrev pub Reported : List ℕ → List LineFault → Streams → Prepared → Type 0
+Reported text faults s prepared = Reports text faults s prepared ⊎ Breaks s prepared
 
 abbrev pub Checks : Option (List ℕ) → Streams → Prepared → Type 0
 Checks input s prepared = IsChecked input s prepared ⊎ Breaks s prepared
@@ -134,6 +152,48 @@ Prepares words holds input s prepared =
 abbrev pub IsCut : Streams → Type 0
 IsCut s = Keeps s.output0 s.output ⊎ Keeps s.errors0 s.errors
 
--- an allocation or a write failed
-abbrev pub Fails : Streams → Prepared → Type 0
-Fails s prepared = (prepared ≡ Ended 5) × IsCut s
+-- these faults were told on standard output, and what explains them was begun on standard error
+abbrev pub IsBegun : List LineFault → Streams → Type 0
+IsBegun faults s = (faults ≢ []) × Appends s.output0 s.output (checked_text faults)
+
+-- the first fault of the lines, alone
+abbrev pub IsFirstAlone : List (List ℕ) → List LineFault → Type 0
+IsFirstAlone lines faults =
+    (fault : LineFault) × (faults ≡ fault ∷ []) × IsFirstFault lines fault
+    × (fault.cause ≢ cause.NoMemory)
+
+-- such faults of a configuration were told, and what explains them was begun
+pub record IsUnexplained (Are : List (List ℕ) → List LineFault → Type 0)
+    (input : Option (List ℕ)) (s : Streams) : Type 0 where
+  pub text : List ℕ
+  pub read : IfSome input (λ known. text ≡ known)
+  pub faults : List LineFault
+  pub are : Are (lines_of text) faults
+  pub told : IsBegun faults s
+
+-- what was told of faults was cut, or what explains them
+abbrev pub StopsReport : List LineFault → Streams → Type 0
+StopsReport faults s = IsCut s ⊎ IsBegun faults s
+
+abbrev pub StopsTelling : (Are : List (List ℕ) → List LineFault → Type 0)
+    → Option (List ℕ) → Streams → Type 0
+StopsTelling Are input s = IsCut s ⊎ IsUnexplained Are input s
+
+-- how the streams of a job are left where an allocation or a write failed
+abbrev pub Stops : (holds : List ℕ → Option (List ℕ)) (input : Option (List ℕ)) → Job → Streams
+    → Type 0
+Stops holds input Replay s = IsCut s
+Stops holds input Import s = IsCut s
+Stops holds input (Check config) s = StopsTelling AreFaults (read_from holds config input) s
+Stops holds input (Listen config endpoints) s =
+    StopsTelling IsFirstAlone (read_from holds config input) s
+
+-- an allocation or a write failed, of the job that the words ask for or where there is none
+abbrev pub Halts : (words : List Text) (holds : List ℕ → Option (List ℕ))
+    (input : Option (List ℕ)) → Streams → Type 0
+Halts words holds input s =
+    IsCut s ⊎ ((job : Job) × AsksFor words job × Stops holds input job s)
+
+abbrev pub Fails : (words : List Text) (holds : List ℕ → Option (List ℕ))
+    (input : Option (List ℕ)) → Streams → Prepared → Type 0
+Fails words holds input s prepared = (prepared ≡ Ended 5) × Halts words holds input s

@@ -4,11 +4,13 @@ ghost use Rattle.std.specs.Prelude.{◌≡◌, ℕ, List, map, IfErr, IfOk, OnOk
 ghost use Rattle.std.specs.Io.KnownBytes.{Appends};
 ghost use Rattle.line_words.specs.Words.{lines_of};
 ghost use Rattle.agg_config.specs.Reading.{IsFirstFault, Write};
+ghost use Rattle.config_text.specs.Explained.{explanations};
 ghost use Rattle.program.specs.Checking.{AreFaults, checked_text, faults_text};
 ghost use Rattle.program.specs.Faults.{line_text};
 
 use agg_config::{LineCause, LineFault, Reader};
 use agg_types::{Config, NoMemory};
+use config_text::append_explanations;
 use line_words::next_line;
 use std::alloc::Global;
 use std::io;
@@ -38,6 +40,19 @@ pub(crate) fn faults_of(alloc: Global, text: &[u8]) -> Result<Vec<LineFault>, No
     Err(NoMemory)
 }
 
+/// What explains the faults of a text's lines.
+pub(crate) fn explained_faults(
+    alloc: Global,
+    text: &[u8],
+    faults: &[LineFault],
+) -> Result<Vec<u8>, NoMemory>
+    ensures { IfOk result (λ lines. lines.items ≡ explanations (lines_of text.now) faults.now) }
+{
+    let mut lines = Vec::new(alloc);
+    append_explanations(text, faults, &mut lines)?;
+    Ok(lines)
+}
+
 // The lines of a text.
 fn lines_of(alloc: Global, text: &[u8]) -> Result<Vec<&[u8]>, NoMemory>
     ensures { IfOk result (λ lines. map (λ line. line.now) lines.items ≡ lines_of text.now) }
@@ -64,8 +79,8 @@ fn read_lines(alloc: Global, lines: &[&[u8]]) -> Result<Result<Config, LineFault
     Ok(reader.finish())
 }
 
-/// Prints a faulty line of a configuration.
-pub(crate) fn print_line<O: Write>(fault: LineFault, output: &mut O) -> io::Result<()>
+// Prints a faulty line of a configuration.
+fn print_line<O: Write>(fault: LineFault, output: &mut O) -> io::Result<()>
     ensures { OnOk result
         (Appends (O.contents output.old) (O.contents output.new) (line_text fault)) }
 {

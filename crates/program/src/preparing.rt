@@ -2,12 +2,12 @@
 
 ghost use Rattle.std.specs.Prelude.{◌≡◌, ◌⊎◌, ℕ, List, Option, map, IfOk, IfSome, OnErr, OnOk};
 ghost use Rattle.std.specs.Io.KnownBytes.{Appends};
-ghost use Rattle.program.specs.Faults.{line_text};
-ghost use Rattle.program.specs.Wiring.{Begins, Breaks, Checks, Does, Fails, Imports, IsCut};
-ghost use Rattle.program.specs.Wiring.{Prepares};
-ghost use Rattle.program.specs.Wiring.{Replays, Tells, streams};
+ghost use Rattle.program.specs.Checking.{AreFaults, checked_text};
+ghost use Rattle.program.specs.Wiring.{Begins, Breaks, Checks, Does, Fails, Halts, Imports, IsCut};
+ghost use Rattle.program.specs.Wiring.{IsFirstAlone, Prepares, Replays, Reported, Stops};
+ghost use Rattle.program.specs.Wiring.{StopsReport, StopsTelling, Tells, streams};
 
-use crate::checking::{faults_of, print_faults, print_line};
+use crate::checking::{explained_faults, faults_of, print_faults};
 use crate::fault::{FAULT, Fault, tell};
 use crate::files::{Files, read_text};
 use crate::prepared::{Asked, Prepared};
@@ -38,7 +38,7 @@ pub fn prepare<S: AsStr, F: Files, I: BufRead, O: Write, E: Write>(
     ensures { let s = streams (O.contents output.old) (O.contents output.new)
         (E.contents errors.old) (E.contents errors.new) in
         Prepares (map S.text words.now) (F.holds files.now) (I.remaining input.old) s result
-        ⊎ Fails s result }
+        ⊎ Fails (map S.text words.now) (F.holds files.now) (I.remaining input.old) s result }
 {
     match try_prepare(alloc, words, files, input, output, errors) {
         Ok(prepared) => prepared,
@@ -58,7 +58,8 @@ fn try_prepare<S: AsStr, F: Files, I: BufRead, O: Write, E: Write>(
     ensures done { IfOk result (Prepares (map S.text words.now) (F.holds files.now)
         (I.remaining input.old) (streams (O.contents output.old) (O.contents output.new)
         (E.contents errors.old) (E.contents errors.new))) }
-    ensures cut { OnErr result (IsCut (streams (O.contents output.old) (O.contents output.new)
+    ensures cut { OnErr result (Halts (map S.text words.now) (F.holds files.now)
+        (I.remaining input.old) (streams (O.contents output.old) (O.contents output.new)
         (E.contents errors.old) (E.contents errors.new))) }
 {
     match command_line::read(alloc, words) {
@@ -79,7 +80,8 @@ fn do_job<F: Files, I: BufRead, O: Write, E: Write>(
     ensures done { IfOk result (Does (F.holds files.now) (I.remaining input.old) job.entry
         (streams (O.contents output.old) (O.contents output.new)
         (E.contents errors.old) (E.contents errors.new))) }
-    ensures cut { OnErr result (IsCut (streams (O.contents output.old) (O.contents output.new)
+    ensures cut { OnErr result (Stops (F.holds files.now) (I.remaining input.old) job.entry
+        (streams (O.contents output.old) (O.contents output.new)
         (E.contents errors.old) (E.contents errors.new))) }
 {
     match job {
@@ -161,19 +163,14 @@ fn check<O: Write, E: Write>(
     ensures done { (known : Option (List ℕ)) → IfSome known (λ bytes. text.now ≡ bytes)
         → IfOk result (Checks known (streams (O.contents output.old) (O.contents output.new)
         (E.contents errors.old) (E.contents errors.new))) }
-    ensures cut { OnErr result (IsCut (streams (O.contents output.old) (O.contents output.new)
-        (E.contents errors.old) (E.contents errors.new))) }
+    ensures cut { (known : Option (List ℕ)) → IfSome known (λ bytes. text.now ≡ bytes)
+        → OnErr result (StopsTelling AreFaults known (streams (O.contents output.old)
+        (O.contents output.new) (E.contents errors.old) (E.contents errors.new))) }
 {
     let Ok(faults) = faults_of(alloc, text) else {
         return end(alloc, &Fault::NoMemory, errors);
     };
-    print_faults(faults.as_slice(), output)?;
-    output.flush()?;
-    if faults.is_empty() {
-        Ok(Prepared::Ended(FINE))
-    } else {
-        Ok(Prepared::Ended(BAD_CONFIGURATION))
-    }
+    report(alloc, text, faults.as_slice(), output, errors)
 }
 
 // Reads a configuration, and reports what is wrong with it first.
@@ -187,17 +184,18 @@ fn listen<O: Write, E: Write>(
     ensures done { (known : Option (List ℕ)) → IfSome known (λ bytes. text.now ≡ bytes)
         → IfOk result (Begins known endpoints (streams (O.contents output.old)
         (O.contents output.new) (E.contents errors.old) (E.contents errors.new))) }
-    ensures cut { OnErr result (IsCut (streams (O.contents output.old) (O.contents output.new)
-        (E.contents errors.old) (E.contents errors.new))) }
+    ensures cut { (known : Option (List ℕ)) → IfSome known (λ bytes. text.now ≡ bytes)
+        → OnErr result (StopsTelling IsFirstAlone known (streams (O.contents output.old)
+        (O.contents output.new) (E.contents errors.old) (E.contents errors.new))) }
 {
-    match agg_config::read(alloc, text) {
-        Ok(config) => Ok(Prepared::Collect(Asked { config, endpoints })),
-        Err(fault) if fault.cause == LineCause::NoMemory => end(alloc, &Fault::NoMemory, errors),
-        Err(fault) => {
-            print_fault(fault, output)?;
-            Ok(Prepared::Ended(BAD_CONFIGURATION))
-        }
+    let fault = match agg_config::read(alloc, text) {
+        Ok(config) => return Ok(Prepared::Collect(Asked { config, endpoints })),
+        Err(fault) => fault,
+    };
+    if fault.cause == LineCause::NoMemory {
+        return end(alloc, &Fault::NoMemory, errors);
     }
+    report(alloc, text, &[fault], output, errors)
 }
 
 // Ends by a fault, which is reported.
@@ -208,11 +206,37 @@ fn end<E: Write>(alloc: Global, fault: &Fault, errors: &mut E) -> io::Result<Pre
     Ok(Prepared::Ended(tell(alloc, fault, errors)?))
 }
 
-// Prints the first faulty line of a configuration.
-fn print_fault<O: Write>(fault: LineFault, output: &mut O) -> io::Result<()>
-    ensures { OnOk result
-        (Appends (O.contents output.old) (O.contents output.new) (line_text fault)) }
+// Prints what is wrong with a configuration, and then what explains it.
+fn report<O: Write, E: Write>(
+    alloc: Global,
+    text: &[u8],
+    faults: &[LineFault],
+    output: &mut O,
+    errors: &mut E,
+) -> io::Result<Prepared>
+    ensures done { IfOk result (Reported text.now faults.now (streams (O.contents output.old)
+        (O.contents output.new) (E.contents errors.old) (E.contents errors.new))) }
+    ensures cut { OnErr result (StopsReport faults.now (streams (O.contents output.old)
+        (O.contents output.new) (E.contents errors.old) (E.contents errors.new))) }
 {
-    print_line(fault, output)?;
+    let Ok(explained) = explained_faults(alloc, text, faults) else {
+        return end(alloc, &Fault::NoMemory, errors);
+    };
+    print_whole(faults, output)?;
+    match faults {
+        [] => Ok(Prepared::Ended(FINE)),
+        _ => {
+            errors.write_all(explained.as_slice())?;
+            Ok(Prepared::Ended(BAD_CONFIGURATION))
+        }
+    }
+}
+
+// Prints what is wrong with a configuration.
+fn print_whole<O: Write>(faults: &[LineFault], output: &mut O) -> io::Result<()>
+    ensures { OnOk result
+        (Appends (O.contents output.old) (O.contents output.new) (checked_text faults.now)) }
+{
+    print_faults(faults, output)?;
     output.flush()
 }
