@@ -10,23 +10,25 @@ use std::time::Instant;
 /// How many keys are asked for one by one.
 const KEYS_ASKED: u32 = 1000;
 
-/// What stands: a filter that holds one key in a thousand, one that holds every key, and a list of
-/// the ten keys with the greatest rates.
+/// What stands: a filter on the rate that holds one key in a thousand, one on a count and one on
+/// the rate that hold every key, and a list of the ten keys with the greatest rates.
 #[derive(Clone, Copy, Default)]
 pub struct Standing {
     pub rare: bool,
     pub every: bool,
+    pub busy: bool,
     pub rank: bool,
 }
 
 impl Standing {
-    /// Its lines of a configuration, and an empty one for each that doesn't stand.
+    /// Its lines of a configuration but for the filter of few keys, and an empty one for each that
+    /// doesn't stand.
     pub fn lines(self) -> [&'static [u8]; 3] {
-        let rare: &[u8] = b"filter rare t data.http_req_rate gt 100\n";
+        let busy: &[u8] = b"filter busy t data.http_req_rate ge 1\n";
         let every: &[u8] = b"filter every t data.gpc0 ge 1\n";
         let rank: &[u8] = b"rank first t http_req_rate 10\n";
         [
-            if self.rare { rare } else { b"\n" },
+            if self.busy { busy } else { b"\n" },
             if self.every { every } else { b"\n" },
             if self.rank { rank } else { b"\n" },
         ]

@@ -9,8 +9,10 @@ use anyhow::Result;
 use std::alloc::Global;
 use test_support::{config, scattered};
 
-/// Of one key in so many the rate is above 100.
+/// Of one key in so many the rate at each proxy is above this.
 const KEYS_A_FAST_ONE: u32 = 1000;
+
+const FAST_RATE: u32 = 100;
 
 /// Two counts, and a rate over the last ten seconds: of 105, and of 45.
 const FAST: &[u8] = b"\x02\x05\xf4\x8d\x00\x1e\x64";
@@ -48,7 +50,7 @@ pub enum Order {
 }
 
 impl Load {
-    /// The collector `agg` of proxies `lb1` and so on, with the table that they send and what
+    /// The collector `agg` of proxies `lbaa` and so on, with the table that they send and what
     /// stands over it.
     pub fn config(self, alloc: Global) -> Result<Config>
         ensures { IfOk result (λ config. config_faults config ≡ []) }
@@ -68,6 +70,11 @@ impl Load {
         text.extend_from_slice(if self.texts { TEXTS } else { ADDRESSES })?;
         for line in self.standing.lines() {
             text.extend_from_slice(line)?;
+        }
+        if self.standing.rare {
+            let bound = FAST_RATE.saturating_mul(u32::from(self.peers));
+            let line = format!(in alloc; "filter rare t data.http_req_rate gt {bound}\n")?;
+            text.extend_from_slice(line.as_bytes())?;
         }
         Ok(text)
     }
@@ -146,9 +153,15 @@ fn drawn(place: u64) -> u64 {
     number ^ (number >> 31)
 }
 
-/// The name of a proxy.
-fn peer_name(peer: u8) -> [u8; 3] {
-    [b'l', b'b', b'1'.saturating_add(peer)]
+/// The name of a proxy: its number behind `lb`, in two letters from `a` on.
+fn peer_name(peer: u8) -> [u8; 4] {
+    let (high, low) = (peer / 16, peer % 16);
+    [
+        b'l',
+        b'b',
+        b'a'.saturating_add(high),
+        b'a'.saturating_add(low),
+    ]
 }
 
 /// A text of 20 bytes for a number.

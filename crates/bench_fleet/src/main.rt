@@ -1,14 +1,15 @@
 //! Measures how fast a fleet takes the updates of its proxies, and what a key costs in memory.
 //!
-//! `bench_fleet <keys> <updates> [lives] [four] [texts] [rare] [every] [rank]` lets one proxy send
-//! one update of each key, then so many more over the keys in turn, and then so many over keys
-//! drawn from a fixed generator, each of an address, two counts and a rate, in pieces of 16 KB. The
-//! keys come in a scattered order. With `lives` rows live for ten minutes, and the clock goes on by
-//! 100 ms after each 100,000 updates. With `four` four proxies send the same, in turn by 100,000;
-//! with `texts` keys are texts of 20 bytes. With `rare` a filter stands that holds one key in a
-//! thousand, with `every` one that holds them all, and with `rank` a list of the ten keys with the
-//! greatest rates. At last the rows are asked for, then their text and that of one row in a
-//! thousand, some keys, the filters and the list.
+//! `bench_fleet <keys> <updates> [lives] [four|sixteen|sixty-four] [texts] [rare] [every] [busy]
+//! [rank]` lets one proxy send one update of each key, then so many more over the keys in turn, and
+//! then so many over keys drawn from a fixed generator, each of an address, two counts and a rate,
+//! in pieces of 16 KB. The keys come in a scattered order. With `lives` rows live for ten minutes,
+//! and the clock goes on by 100 ms after each 100,000 updates. With `four`, `sixteen` or
+//! `sixty-four` so many proxies send the same, in turn by 100,000; with `texts` keys are texts of
+//! 20 bytes. With `rare` a filter on the rate stands that holds one key in a thousand, with `every`
+//! one on a count and with `busy` one on the rate that hold them all, and with `rank` a list of the
+//! ten keys with the greatest rates. At last the rows are asked for, then their text and that of
+//! one row in a thousand, some keys, the filters and the list.
 //!
 //! What was done goes to standard output; how fast, with the resident memory that a key costs where
 //! the system tells it, to standard error.
@@ -198,10 +199,13 @@ fn asked(rt: HostRuntime) -> Result<Option<Load>> {
     for word in words {
         match word.as_str() {
             "four" => load.peers = 4,
+            "sixteen" => load.peers = 16,
+            "sixty-four" => load.peers = 64,
             "texts" => load.texts = true,
             "lives" => load.lives = true,
             "rare" => load.standing.rare = true,
             "every" => load.standing.every = true,
+            "busy" => load.standing.busy = true,
             "rank" => load.standing.rank = true,
             _ => return Ok(None),
         }
@@ -212,7 +216,8 @@ fn asked(rt: HostRuntime) -> Result<Option<Load>> {
 fn main(rt: HostRuntime) -> Result<()> {
     let Some(load) = asked(rt)? else {
         return Err(anyhow!(
-            "bench_fleet <keys> <updates> [lives] [four] [texts] [rare] [every] [rank]"
+            "bench_fleet <keys> <updates> [lives] [four|sixteen|sixty-four] [texts] \
+             [rare] [every] [busy] [rank]"
         ));
     };
     let mut proxies = Proxies::connect(rt.alloc(), load)?;
