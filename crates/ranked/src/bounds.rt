@@ -82,6 +82,13 @@ impl Bounds {
         }
     }
 
+    /// Takes all bounds away, in the time that they take. Takes no memory.
+    pub fn clear(&mut self)
+        ensures { self.new ≡ [] }
+    {
+        *self = Bounds::new(self.alloc);
+    }
+
     /// A ranked list at a moment: the first keys of its table by its column, if each key with a
     /// live row has a bound of at least its value. Takes all memory that the list needs.
     pub fn top<'a, V: Values>(

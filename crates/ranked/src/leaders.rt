@@ -1,4 +1,4 @@
-ghost use Rattle.std.specs.Prelude.{◌≡◌, ◌+◌, ◌*◌, ◌<◌, ◌≤◌, ℕ, [], length, IfOk, OnOk, OnErr};
+ghost use Rattle.std.specs.Prelude.{◌≡◌, ◌≢◌, ◌+◌, ◌*◌, ◌<◌, ◌≤◌, ℕ, [], length, IfOk, OnOk, OnErr};
 ghost use Rattle.std.specs.Option.{IsSomeAnd};
 ghost use Rattle.std.specs.Map.{keys_of};
 ghost use Rattle.agg_types.specs.declared.limits.TheConstants.{LONGEST_RANK};
@@ -59,6 +59,17 @@ impl Leaders {
         ensures others { IsOneKeyOf list key.now self.old self.new }
     {
         self.lists[list].drop_key(key);
+    }
+
+    /// Takes all bounds of a list away. Takes no memory.
+    pub fn clear(&mut self, list: usize)
+        requires { list < length self.old }
+        ensures gone { bounds_of self.new list ≡ [] }
+        ensures others { (other : ℕ) → other ≢ list
+            → bounds_of self.new other ≡ bounds_of self.old other }
+        ensures count { length self.new ≡ length self.old }
+    {
+        self.lists[list].clear();
     }
 
     /// A ranked list at a moment, as `Bounds::top` finds it.
