@@ -106,6 +106,10 @@ all_pass : (rows : List (Spot × Row)) → map (λ r. r) (filter (λ r. true) ro
 all_pass [] = refl
 all_pass (r ∷ rows) = ap (λ rest. r ∷ rest) (all_pass rows)
 
+none_pass : (rows : List (Spot × Row)) → filter (λ r. false) rows ≡ []
+none_pass [] = refl
+none_pass (r ∷ rows) = none_pass rows
+
 keys_of-filter : (test : RowKey → Bool) (es : List (RowKey × Row))
     → keys_of (filter (λ e. test e.0) es) ≡ filter test (keys_of es)
 keys_of-filter test [] = refl
@@ -155,6 +159,12 @@ module _ (ts : List TableRows) (i : ℕ) (table : TableRows) (found : slice_get 
   placed-clear key new is = ap (λ es. spread place es) (numbered-set ts i i 0 new (omega arith))
       ∙ rw is (filter_not-spread place (is_at (nat_cmp i)) (λ s. same_key key s.0)
       (of_table_key i key) (key_splits i key) (numbered 0 ts) table.entries once here)
+
+  pub placed-emptied : (new : TableRows) → new.entries ≡ []
+      → placed (set ts i new) ≡ filter (λ e. not (in_table i e.0)) (placed ts)
+  placed-emptied new is = ap (λ es. spread place es) (numbered-set ts i i 0 new (omega arith))
+      ∙ rw (is ∙ sym (none_pass table.entries)) (filter_not-spread place (is_at (nat_cmp i))
+      (λ s. true) (in_table i) (table_splits i) (numbered 0 ts) table.entries once here)
 
   pub by_key-placed : map (λ e. ((e.0.key, e.0.peer), e.1))
       (filter (λ e. in_table i e.0) (placed ts)) ≡ table.entries
@@ -300,6 +310,18 @@ module _ (peers : ℕ) (ts : List TableRows) (i : ℕ) (new table : TableRows)
           keys_of-filter (λ p. not (of_table_key i key p))
               (placed ts),
         ) (IsStrictlySortedBy-filter row_key_cmp (λ p. not (of_table_key i key p))
+        (keys_of (placed ts)) are.ordered);
+  }
+
+  pub tables-emptied : new.entries ≡ [] → AreTables peers (set ts i new)
+  tables-emptied is = record {
+    agree = agreed;
+    ordered =
+        rw (
+          placed-emptied ts i table found new is,
+          keys_of-filter (λ p. not (in_table i p))
+              (placed ts),
+        ) (IsStrictlySortedBy-filter row_key_cmp (λ p. not (in_table i p))
         (keys_of (placed ts)) are.ordered);
   }
 

@@ -54,6 +54,11 @@ abbrev pub without_key : RowMap → ℕ → List ℕ → RowMap
 without_key rows table key =
     record rows { entries = filter (λ e. not (of_table_key table key e.0)) rows.entries }
 
+-- the rows without those of a table
+abbrev pub without_table : RowMap → ℕ → RowMap
+without_table rows table =
+    record rows { entries = filter (λ e. not (in_table table e.0)) rows.entries }
+
 -- the rows of a table, each with its key and its peer
 abbrev pub rows_of : RowMap → ℕ → List (Spot × Row)
 rows_of rows table =

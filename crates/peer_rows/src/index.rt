@@ -109,6 +109,13 @@ impl Index {
         self.keys.first_from(from)
     }
 
+    /// Takes all places away. Takes no memory.
+    pub(crate) fn clear(&mut self, alloc: Global)
+        ensures { self.new.places ≡ [] }
+    {
+        *self = Index::new(alloc, self.peers);
+    }
+
     /// Makes room for so many further keys.
     pub(crate) fn reserve(&mut self, keys: usize) -> Result<(), NoMemory>
         ensures places { self.new.places ≡ self.old.places }

@@ -195,6 +195,13 @@ impl Keyed {
         Some(taken(&mut self.index, at))
     }
 
+    /// Takes all rows out.
+    pub(crate) fn clear(&mut self)
+        ensures { self.new ≡ [] }
+    {
+        self.index.clear(self.alloc);
+    }
+
     /// Takes the rows out that have ended at a moment, and counts them down at their peers. The
     /// keys that have none left are told, as far as there is memory for them.
     pub(crate) fn end_rows(

@@ -53,7 +53,7 @@ impl fmt::Debug for Rows {
 impl Rows {
     ghost use Rattle.peer_rows.specs.Rows.{row_at, with_row, without_row, without_key};
     ghost use Rattle.peer_rows.specs.Rows.{rows_of, peers_of, used_in, in_table, of_table_key};
-    ghost use Rattle.peer_rows.specs.Rows.{of_table_peer, living, AreInOrder};
+    ghost use Rattle.peer_rows.specs.Rows.{of_table_peer, living, without_table, AreInOrder};
 
     /// No rows, for these numbers of peers and of tables.
     pub fn new(alloc: Global, peers: usize, tables: usize) -> Result<Rows, NoMemory>
@@ -139,6 +139,16 @@ impl Rows {
         ensures ordered { AreInOrder self.new.entries }
     {
         self.clear_key_at(None, table, key)
+    }
+
+    /// Takes all rows of a table out, in the time that its places take, and gives their memory back.
+    /// Takes no memory.
+    pub fn clear_table(&mut self, table: usize)
+        requires { table < self.old.tables }
+        ensures after { self.new ≡ without_table self.old table }
+        ensures ordered { AreInOrder self.new.entries }
+    {
+        self.tables[table].clear();
     }
 
     /// Lends the rows of a table, each once, by key, then by peer, in one walk, in an order that is

@@ -1,5 +1,6 @@
 ghost use Rattle.std.specs.Prelude.{◌≡◌, ◌+◌, ◌<◌, ◌≤◌, ℕ, [], length, filter, not, map};
 ghost use Rattle.std.specs.Prelude.{slice_index, IsOk, IsSome, IfNone, IfOk, OnOk, OnErr, Some};
+ghost use Rattle.std.specs.Prelude.{replicate};
 ghost use Rattle.std.specs.Prelude.{MatchBool, MatchOption, is_some, if◌then◌else◌};
 ghost use Rattle.std.specs.Option.{option_copied};
 ghost use Rattle.std.specs.List.{dedup};
@@ -183,6 +184,14 @@ impl Table {
         }
     }
 
+    /// Takes all rows out.
+    pub(crate) fn clear(&mut self)
+        ensures { self.new ≡ record self.old { entries = [] } }
+    {
+        self.keys.clear();
+        count_none(&mut self.counts);
+    }
+
     /// Takes the rows out that have ended at a moment. The keys that have none left are told with
     /// the position of the table, as far as there is memory for them.
     pub(crate) fn end_rows(&mut self, t: u64, table: usize, gone: &mut Gone)
@@ -215,6 +224,15 @@ impl Table {
         ensures { IfOk result (λ rows. rows ≡ self.now.entries) }
     {
         self.keys.by_key()
+    }
+}
+
+// Counts no row at any peer.
+fn count_none(counts: &mut [usize])
+    ensures { counts.new ≡ replicate (length counts.old) 0 }
+{
+    for peer in 0..counts.len() {
+        counts[peer] = 0;
     }
 }
 
