@@ -6,7 +6,6 @@ use Rattle.std.proofs.Math.Numerals.{add-one}
 use Rattle.std.proofs.Math.Seq.{drop-cons}
 use Rattle.std.proofs.lemmas.List.{length-map}
 use Rattle.std.proofs.lemmas.List.Sums.{sum_by-cons}
-use Rattle.std.specs.Borrow.{Bor}
 use Rattle.std.specs.List.{AllByRecursion, AllZip, IsDistinct, filter, sum_by}
 use Rattle.std.specs.Prelude.{count_by}
 use Rattle.agg_types.specs.declared.config.Filter.{Filter}
@@ -25,7 +24,7 @@ use Rattle.fleet_model.specs.Moments.{is_live}
 use Rattle.fleet_model.specs.Next.{flat_moment, longest_period}
 use Rattle.fleet_model.specs.Sound.{IsSound}
 use Rattle.fleet_model.specs.State.{State}
-use Rattle.fleet_model.specs.Values.{cols_of, live_keys}
+use Rattle.fleet_model.specs.Values.{cols_of}
 use Rattle.standing_filters.proofs.Walking.{due_moment}
 use Rattle.standing_filters.specs.Turns.{AreDue, AreReadFor, IsQuiet, is_due}
 use Rattle.standing_filters.specs.Verdicts.{holds_at}
@@ -207,21 +206,6 @@ pairs_more state position inside =
     ∙ sum_by-cons keys (filter_of state position) (drop (suc position) state.config.filters)
     ∙ ap (λ (n : ℕ). keys (filter_of state position) + sum_by keys (drop n state.config.filters))
     (sym (add-one position))
-
-pub added_few : (state : State) (moment table : ℕ) (keys : List (Bor (List ℕ)))
-    (before read : ℕ) → IsSound state → moment ≡ state.moment
-    → map (λ (k : Bor (List ℕ)). k.now) keys ≡ live_keys state.rows table state.moment
-    → (((key : List ℕ) → IsFlatSoon moment
-    (flat_within (cols_of state.config.tables table) (key_rows state.rows table key)))
-    → read ≤ before + 505 * length keys)
-    → read ≤ before + 505 * length (keys_of state table)
-unfolding keys_of
-added_few state moment table keys before read sound now listed counted =
-    subst (λ (n : ℕ). read ≤ before + 505 * n)
-    (sym (length-map keys (λ (k : Bor (List ℕ)). k.now)) ∙ ap length listed)
-    (counted (λ key. subst (λ (t : ℕ). IsFlatSoon t
-    (flat_within (cols_of state.config.tables table) (key_rows state.rows table key)))
-    (sym now) (flat_soon state table key sound)))
 
 pub count_all : (state : State) (ws : List Watched) → AreAll state ws
     → length ws ≡ length state.config.filters

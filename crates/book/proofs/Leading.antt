@@ -128,7 +128,7 @@ worth : List Shape → Rank → Rows → ℕ → ℕ
 worth tables rank rows t = worth_of (cols_of tables rank.table) rows rank.col t
 
 -- a key whose rows and bound stay
-stays : (tables : List Shape) (rows later : Rows) (t : ℕ) (rank : Rank) (old new : Bounds)
+pub stays : (tables : List Shape) (rows later : Rows) (t : ℕ) (rank : Rank) (old new : Bounds)
     (key : List ℕ) → IsLed tables rows t rank old
     → key_rows later rank.table key ≡ key_rows rows rank.table key
     → bound_at new key ≡ bound_at old key → 0 < living_of (key_rows later rank.table key) t
@@ -185,7 +185,7 @@ same_led tables rows later t rank bounds led same =
 
 -- ---- all lists
 -- of a list, or of all others
-other_list : (P : ℕ → Type 0) (list : ℕ) → P list → ((other : ℕ) → other ≢ list → P other)
+pub other_list : (P : ℕ → Type 0) (list : ℕ) → P list → ((other : ℕ) → other ≢ list → P other)
     → (other : ℕ) → P other
 other_list P list own rest other = by (other == list) refl
   where
@@ -299,7 +299,7 @@ elsewhere_rows rows t place row rank item other ordered is apart =
     by false e = ap (λ (b : Bool). b && same_key other place.key) e
 
 -- ---- a key's bounds dropped
-none_alive : {C : Type 0} (n : ℕ) → n ≡ 0 → 0 < n → C
+pub none_alive : {C : Type 0} (n : ℕ) → n ≡ 0 → 0 < n → C
 none_alive n none some = absurd (omega arith)
 
 pub dropped_more : (ranks : List Rank) (table : ℕ) (key : List ℕ) (list : ℕ) (old mid new : Lists)

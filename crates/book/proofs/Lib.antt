@@ -13,3 +13,5 @@ pub mod FewReads
 pub mod Columns
 pub mod Heads
 pub mod Meeting
+pub mod Ahead
+pub mod Clearing

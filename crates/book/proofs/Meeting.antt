@@ -67,7 +67,7 @@ pub if_any-map : {X Y : Type 0} (f : X → Y) (xs : List X)
 if_any-map f [] = refl
 if_any-map f (x ∷ xs) = refl
 
-any_of : {X : Type 0} (xs ys : List X) → Some ys ≡ if_any xs → xs ≡ ys
+pub any_of : {X : Type 0} (xs ys : List X) → Some ys ≡ if_any xs → xs ≡ ys
 any_of [] ys is = cc
 any_of (x ∷ xs) ys is = cc
 
@@ -148,7 +148,7 @@ met_own true (row ∷ own) found is = (cc, λ none. cc)
 met_own false own found is = cc
 
 -- what holds at each place holds of all
-each_place : (P : List ℕ × PeerRows → Type 0) (keys : Keys)
+pub each_place : (P : List ℕ × PeerRows → Type 0) (keys : Keys)
     → ((i : ℕ) (e : List ℕ × PeerRows) → slice_get keys i ≡ Some e → P e) → AllByRecursion P keys
 each_place P [] each = tt
 each_place P (e ∷ keys) each = (each zero e refl, each_place P keys (λ i. each (suc i)))
@@ -160,7 +160,8 @@ paired cols t sum [] each = refl
 paired cols t sum (e ∷ keys) each = λ i. (e.0, each.0 i) ∷ paired cols t sum keys each.1 i
 
 -- ---- the keys that are chosen are those that hold
-is_some-mapped : {X Y : Type 0} (f : X → Y) (o : Option X) → is_some o ≡ is_some (option_map f o)
+pub is_some-mapped : {X Y : Type 0} (f : X → Y) (o : Option X)
+    → is_some o ≡ is_some (option_map f o)
 is_some-mapped f None = refl
 is_some-mapped f (Some x) = refl
 

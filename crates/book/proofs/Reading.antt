@@ -209,7 +209,7 @@ no_spots peers tables table (e ∷ es) outside inside =
     rw other (no_spots peers tables table es outside inside.1)
 
 -- ---- clears
-each_filter : {X : Type 0} (p q : X → Bool) → ((x : X) → p x ≡ q x) → (xs : List X)
+pub each_filter : {X : Type 0} (p q : X → Bool) → ((x : X) → p x ≡ q x) → (xs : List X)
     → filter p xs ≡ filter q xs
 each_filter p q same [] = refl
 each_filter p q same (x ∷ xs) =
@@ -301,25 +301,9 @@ none_more table left first now none before =
     ∙ sym (ap (λ ks. rest_left table ks now) none)
     ∙ before
 
-and_yes : (b : Bool) → b ≡ (b && true)
+pub and_yes : (b : Bool) → b ≡ (b && true)
 and_yes true = refl
 and_yes false = refl
-
-pub table_chosen : (table : ℕ) (rows : List Shown)
-    → map (λ row. row.0.key) (filter (λ row. row.0.table == table) rows) ≡ map (λ row. row.0.key)
-    (filter (λ row. (row.0.table == table) && true) rows)
-table_chosen table rows = ap (map (λ (row : Shown). row.0.key))
-    (each_filter (λ row. row.0.table == table) (λ row. (row.0.table == table) && true)
-    (λ row. and_yes (row.0.table == table)) rows)
-
-pub where_chosen : (table : ℕ) (meets : List ℕ → Bool) (rows : List Shown)
-    → filter meets (map (λ row. row.0.key) (filter (λ row. row.0.table == table) rows))
-    ≡ map (λ row. row.0.key) (filter (λ row. (row.0.table == table) && meets row.0.key) rows)
-where_chosen table meets rows =
-    sym (map-filter (λ (row : Shown). row.0.key) meets (filter (λ row. row.0.table == table) rows))
-    ∙ ap (map (λ (row : Shown). row.0.key))
-    (two_filters (λ row. meets row.0.key) (λ row. row.0.table == table)
-    (λ row. (row.0.table == table) && meets row.0.key) (λ row. refl) rows)
 
 -- ---- keys of the rows of a table
 pub spot_keys : (table : ℕ) (rows : List (Spot × Row))

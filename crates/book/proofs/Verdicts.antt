@@ -4,11 +4,9 @@ use Rattle.std.proofs.Common.{[], ◌∷◌, ◌++◌, length, get_or, take, map
 use Rattle.std.proofs.Common.{refl, sym, ap, ◌∙◌, subst, arith, Ok, Err}
 use Rattle.std.specs.Prelude.{Result, OnOk}
 use Rattle.std.specs.Result.{is_err}
-use Rattle.std.proofs.lemmas.Bool.Decides.{nat_tests}
 use Rattle.std.proofs.lemmas.List.{get_or-map, length-map, map-append, take_all}
 use Rattle.std.proofs.lemmas.List.{take_more}
 use Rattle.std.proofs.lemmas.List.Elements.{All-from_recursion}
-use Rattle.std.specs.Borrow.{Bor}
 use Rattle.std.proofs.lemmas.Bool.{false≢true}
 use Rattle.std.proofs.Common.{Bool, true, ◌&&◌, ◌||◌, ◌==◌, eq-eqb}
 use Rattle.std.specs.List.{AllByRecursion, list_all, list_any}
@@ -20,33 +18,29 @@ use Rattle.standing_filters.specs.declared.judging.Verdict.{Verdict}
 use Rattle.agg_types.specs.declared.config.Config.{Config}
 use Rattle.agg_types.specs.declared.config.Filter.{Filter}
 use Rattle.agg_types.specs.declared.config.Shape.{Shape}
-use Rattle.agg_types.specs.declared.limits.TheConstants.{LAST_MOMENT}
 use Rattle.book.proofs.Lists.{all-append}
 use Rattle.fleet_model.specs.Answers.{filter_of, no_filter, set_at}
-use Rattle.fleet_model.specs.Keys.{AreKeysOf, Rows, has_live, holds, key_rows}
-use Rattle.fleet_model.specs.Laws.{is_key_among}
+use Rattle.fleet_model.specs.Keys.{AreKeysOf, Rows, holds, key_rows}
 use Rattle.fleet_model.specs.Next.{IsNextChange}
 use Rattle.fleet_model.specs.Sound.{IsSound}
 use Rattle.fleet_model.specs.State.{State}
-use Rattle.fleet_model.specs.Values.{cols_of, live_keys, same_key}
+use Rattle.fleet_model.specs.Values.{cols_of}
 use Rattle.fleet_model.proofs.KeyChanges.{first-change, no-change}
-use Rattle.fleet_model.proofs.KeyRows.{held-keys, live-rows, only-keys}
+use Rattle.fleet_model.proofs.KeyRows.{held-keys, only-keys}
 use Rattle.fleet_model.proofs.Members.{any-map}
-use Rattle.fleet_model.proofs.Sets.{live_keys-exact}
 use Rattle.fleet_model.proofs.Small.{flat_if_sound}
-use Rattle.standing_filters.specs.Laws.{AddGivesVerdicts, AreVerdicts, FirstChangeIsTheSets}
+use Rattle.standing_filters.specs.Laws.{AreVerdicts, FirstChangeIsTheSets}
 use Rattle.standing_filters.specs.Laws.{IsChanged, MomentKeepsVerdicts, TouchKeepsVerdicts}
 use Rattle.standing_filters.specs.Turns.{AreTurned}
 use Rattle.standing_filters.specs.Verdicts.{holds_at}
-use Rattle.standing_filters.specs.Watched.{AllWatched, AreTouched, IsAdded, IsFirstChange, Watched}
-use Rattle.standing_filters.specs.Watched.{is_among, verdicts_of, unheld, verdict_at}
+use Rattle.standing_filters.specs.Watched.{AllWatched, AreTouched, IsFirstChange, Watched}
+use Rattle.standing_filters.specs.Watched.{verdicts_of, unheld, verdict_at}
 use Rattle.standing_filters.specs.Watched.{no_filter as nothing}
 use Rattle.crossing.specs.First.{IsFirstFrom}
-use Rattle.book.specs.Flatness.{living_falls}
-use Rattle.book.specs.Foreseen.{living_of, living_within, within, worth_within}
+use Rattle.book.specs.Foreseen.{living_within, worth_within}
 use Rattle.book.specs.Held.{AreAll, AreFirst, AreHeld, AreJudged, ChangesKey, ChangesTable}
 use Rattle.book.specs.Held.{GoesOn, HasMore, IsJudged, IsOneMore, Stays, living_in, sums_in}
-use Rattle.book.proofs.Foresight.{bool_same, holds_within, live_any}
+use Rattle.book.proofs.Foresight.{bool_same, holds_within}
 
 -- what is read of a key is what a filter says of it
 pub holds_in : (state : State) (filtering : Filter) (key : List ℕ) (t : ℕ) → IsSound state
@@ -234,34 +228,6 @@ turned_held law state later old new sound still goes turned held = record {
     )
 
 -- ---- a filter is added
-none_live : (n : ℕ) → nat_lt 0 n ≡ false → n ≡ 0
-none_live n none = grind (arith, nat_tests)
-
-dead_now : (state : State) (table : ℕ) (key : List ℕ) (keys : List (Bor (List ℕ))) → IsSound state
-    → map (λ (k : Bor (List ℕ)). k.now) keys ≡ live_keys state.rows table state.moment
-    → is_among keys key ≡ false → living_in state table key state.moment ≡ 0
-dead_now state table key keys sound listed none =
-    let small : state.moment ≤ LAST_MOMENT = sound.in_range in
-    let now : within state.moment ≡ state.moment = omega arith in
-    let rows : Rows = key_rows state.rows table key in
-    let dead : has_live rows state.moment ≡ false =
-    sym (live-rows state.rows table key state.moment)
-    ∙ sym (live_keys-exact state.rows table state.moment key)
-    ∙ ap (is_key_among key) (sym listed)
-    ∙ any-map (same_key key) (λ (k : Bor (List ℕ)). k.now) keys ∙ none in
-    ap (living_of rows) now
-    ∙ none_live (living_of rows state.moment) (live_any rows state.moment ∙ dead)
-
-pub added_judged : AddGivesVerdicts → (state : State) (filtering : Filter)
-    (keys : List (Bor (List ℕ))) (w : Watched) → IsSound state
-    → map (λ (k : Bor (List ℕ)). k.now) keys ≡ live_keys state.rows filtering.table state.moment
-    → IsAdded (sums_in state) (living_in state) state.moment filtering keys w → IsJudged state w
-added_judged law state filtering keys w sound listed added =
-    law (sums_in state) (living_in state) state.moment filtering keys w
-    (λ key t up. living_falls (key_rows state.rows filtering.table key) state.moment t up)
-    (λ key none. dead_now state filtering.table key keys sound listed none)
-    added
-
 pub first_more : (state : State) (position : ℕ) (filtering : Filter) (old new : List Watched)
     → position < length state.config.filters → filtering ≡ filter_of state position
     → AreFirst state position old → IsOneMore state filtering old new

@@ -1,5 +1,5 @@
 -- Bounds on the values of keys, by which ranked lists are found.
-use Rattle.std.specs.Prelude.{◌≡◌, ℕ, ◌<◌, ◌==◌, ◌&&◌, false, List, length, slice_index_or}
+use Rattle.std.specs.Prelude.{◌≡◌, ◌≢◌, ℕ, ◌<◌, ◌==◌, ◌&&◌, false, List, length, slice_index_or}
 use Rattle.agg_types.specs.declared.config.Config.{Config}
 use Rattle.agg_types.specs.declared.config.Rank.{Rank}
 use Rattle.agg_types.specs.declared.config.Shape.{Shape}
@@ -38,6 +38,12 @@ pub record IsKeyDropped (ranks : List Rank) (table : ℕ) (key : List ℕ) (old 
   pub others : (list : ℕ) (other : List ℕ)
       → ((rank_at ranks list).table == table) && same_key key other ≡ false
       → bound_at (bounds_of new list) other ≡ bound_at (bounds_of old list) other
+
+-- the bounds of a table may be gone, and those of others are what they were
+pub record IsTableDropped (ranks : List Rank) (table : ℕ) (old new : Lists) : Type 0 where
+  pub count : length new ≡ length old
+  pub others : (list : ℕ) → (rank_at ranks list).table ≢ table
+      → bounds_of new list ≡ bounds_of old list
 
 -- what is led at a moment is led by these bounds later
 abbrev pub StaysLed : List Rank → Rows → ℕ → Lists → Rows → ℕ → Lists → Type 0

@@ -10,4 +10,5 @@ pub mod Reads
 pub use Rattle.book_frame.specs.Lent
 pub mod Heads
 pub mod Listing
+pub mod Ahead
 pub mod Dropped

@@ -1,8 +1,9 @@
 -- What a listing of a table's keys lends.
-use Rattle.std.specs.Prelude.{◌≡◌, ℕ, Bool, if◌then◌else◌, List, [], Option, None, map, unwrap_or}
+use Rattle.std.specs.Prelude.{◌≡◌, ◌≢◌, ℕ, Bool, if◌then◌else◌, List, [], Option, None, map}
+use Rattle.std.specs.Prelude.{unwrap_or}
 use Rattle.std.specs.BTreeMap.{is_at}
 use Rattle.std.specs.Cmp.Lexicographic.{slice_cmp}
-use Rattle.std.specs.List.{IsDistinct, list_all}
+use Rattle.std.specs.List.{IsDistinct, list_all, list_any}
 use Rattle.std.specs.List.Sorted.{IsStrictlySortedBy}
 use Rattle.std.specs.Map.{keys_of, lookup}
 use Rattle.std.specs.Option.{option_map}
@@ -13,6 +14,7 @@ use Rattle.agg_types.specs.declared.column.Col.{Col}
 use Rattle.agg_types.specs.declared.config.Cond.{Cond}
 use Rattle.fleet_model.specs.Answers.{tally}
 use Rattle.fleet_model.specs.Keys.{Rows, key_rows, meet_at}
+use Rattle.fleet_model.specs.Values.{meets, same_key}
 use Rattle.fleet_model.specs.declared.arrival.Arrival.{Arrival}
 use Rattle.fleet_model.specs.declared.summed.Summed.{Summed}
 use Rattle.agg_types.specs.declared.row_key.RowKey.{RowKey}
@@ -51,6 +53,11 @@ pub record AreMeeting (rows : Rows) (table : ℕ) (cols : List (Col × ℕ)) (co
   pub exact : (key : List ℕ)
       → option_map (map (of_peer table key)) (lookup (is_at (slice_cmp nat_cmp key)) keys)
       ≡ if_met cols conds t (key_rows rows table key)
+
+-- of the keys of a table that have rows, these are the ones that meet all conditions at t
+abbrev pub AreThoseMeeting : Rows → ℕ → List (Col × ℕ) → List Cond → ℕ → List (List ℕ) → Type 0
+AreThoseMeeting rows table cols conds t keys = (key : List ℕ) → key_rows rows table key ≢ []
+    → list_any (λ other. same_key other key) keys ≡ meets cols rows table key t conds
 
 -- what is listed are these keys in order, each with what its rows sum up to
 pub record ListsMeeting (rows : Rows) (table : ℕ) (cols : List (Col × ℕ)) (conds : List Cond)

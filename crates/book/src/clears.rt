@@ -1,16 +1,18 @@
-//! Clears of several keys: the keys are found first, then their rows are taken away.
+//! Clears. A whole table goes at once. Where conditions choose, the keys are found in one walk of
+//! the rows as they lie, and then their rows are taken away one by one.
 
-ghost use Rattle.std.specs.Prelude.{◌≡◌, ◌≤◌, ◌&&◌, ◌==◌, true, not, filter, length, map, IfOk};
+ghost use Rattle.std.specs.Prelude.{◌≡◌, ◌≤◌, ◌&&◌, ◌==◌, not, filter, length, map, IfOk};
 ghost use Rattle.std.specs.Prelude.{OnOk, OnErr};
 ghost use Rattle.std.specs.List.{list_any};
 ghost use Rattle.fleet_model.specs.Values.{meets, same_key};
 ghost use Rattle.book.specs.Leading.{StaysLed};
+ghost use Rattle.book.specs.Listing.{AreThoseMeeting, rows_meet};
 
-use crate::leaders::drop_bounds;
+use crate::leaders::{drop_bounds, drop_table_bounds};
 use crate::store::Store;
-use crate::values::meets;
+use crate::values::found_meets;
 use agg_types::{Col, Cond, Key, NoMemory, Rank};
-use peer_rows::ByKey;
+use peer_rows::EachKey;
 use ranked::Leaders;
 use std::alloc::Global;
 
@@ -34,25 +36,16 @@ pub fn clear_key(
     store.clear_key(table, &key);
 }
 
-/// Takes away the rows of a table, and the bounds of its keys.
-pub fn clear_table(
-    alloc: Global,
-    store: &mut Store,
-    leaders: &mut Leaders,
-    ranks: &[Rank],
-    table: usize,
-    t: u64,
-) -> Result<(), NoMemory>
+/// Takes away the rows of a table, and the bounds of its keys. Takes no memory.
+pub fn clear_table(store: &mut Store, leaders: &mut Leaders, ranks: &[Rank], table: usize, t: u64)
     requires { length ranks.now ≤ length leaders.old }
-    ensures ok { OnOk result (store.new ≡ record store.old {
-      rows = filter (λ row. not ((row.0.table == table) && true)) store.old.rows;
-    }) }
-    ensures err { OnErr result (store.new ≡ store.old) }
+    ensures rows { store.new ≡ record store.old {
+      rows = filter (λ row. not (row.0.table == table)) store.old.rows;
+    } }
     ensures led { StaysLed ranks.now store.old.rows t leaders.old store.new.rows t leaders.new }
 {
-    let keys = table_keys(alloc, store, table)?;
-    clear_keys(store, leaders, ranks, table, keys, t);
-    Ok(())
+    drop_table_bounds(leaders, ranks, table);
+    store.clear_table(table);
 }
 
 /// Takes away the rows of each key of a table whose values meet the conditions, as they were
@@ -81,28 +74,8 @@ pub fn clear_where(
     Ok(())
 }
 
-// The keys of a table, one for each row.
-fn table_keys(alloc: Global, store: &Store, table: usize) -> Result<Vec<Key>, NoMemory>
-    ensures { IfOk result (λ keys. keys.items
-        ≡ map (λ row. row.0.key) (filter (λ row. row.0.table == table) store.now.rows)) }
-{
-    let found = store.by_key(table)?;
-    match found {
-        None => Ok(Vec::new(alloc)),
-        Some(rows) => row_keys(alloc, rows),
-    }
-}
-
-fn row_keys(alloc: Global, rows: ByKey<'_>) -> Result<Vec<Key>, NoMemory>
-    ensures { IfOk result (λ keys. keys.items ≡ map (λ s. s.0.0) rows.entry) }
-{
-    let mut keys = Vec::new(alloc);
-    for (key, _, _) in rows {
-        keys.push(key.duplicate(alloc)?)?;
-    }
-    Ok(keys)
-}
-
+// The keys of a table that have rows and meet the conditions, in no order: one walk of the rows as
+// they lie.
 fn keys_that_meet(
     alloc: Global,
     store: &Store,
@@ -111,12 +84,34 @@ fn keys_that_meet(
     t: u64,
     conds: &[Cond],
 ) -> Result<Vec<Key>, NoMemory>
-    ensures { IfOk result (λ keys. keys.items
-        ≡ filter (λ key. meets cols.now store.now.rows table key t conds.now)
-        (map (λ row. row.0.key) (filter (λ row. row.0.table == table) store.now.rows))) }
+    ensures { IfOk result (λ keys. AreThoseMeeting store.now.rows table cols.now conds.now t
+        keys.items) }
 {
-    let mut keys = table_keys(alloc, store, table)?;
-    keys.retain(|key| meets(store, cols, table, key, t, conds));
+    fleet_model::laws::keys::a_key_answers_by_its_rows();
+    match store.each_key(table) {
+        None => Ok(Vec::new(alloc)),
+        Some(walk) => kept_keys(alloc, walk, cols, t, conds),
+    }
+}
+
+// The keys whose rows meet the conditions.
+fn kept_keys(
+    alloc: Global,
+    walk: EachKey<'_>,
+    cols: &[(Col, u32)],
+    t: u64,
+    conds: &[Cond],
+) -> Result<Vec<Key>, NoMemory>
+    ensures { IfOk result (λ keys. keys.items
+        ≡ map (λ e. e.0) (filter (λ e. rows_meet cols.now conds.now t e.1) walk.entry)) }
+{
+    let mut keys = Vec::new(alloc);
+    for (key, rows) in walk {
+        let _few = rows.len();
+        if found_meets(Some(&rows), cols, t, conds) {
+            keys.push(key.duplicate(alloc)?)?;
+        }
+    }
     Ok(keys)
 }
 

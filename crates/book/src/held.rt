@@ -21,9 +21,9 @@ ghost use Rattle.book.specs.Held.{AreStill, GoesOn, HasFewer, HasMore, IsAddedPl
 ghost use Rattle.book.specs.Held.{IsLeaving, IsOneMore, keys_in};
 ghost use Rattle.book.specs.Reads.{IsFewFor, IsForDue, MayRenew, filters_at, pairs_from};
 
+use crate::adding::judged;
 use crate::machine::Machine;
 use crate::one_key::OneKey;
-use crate::queries::live_keys;
 use agg_types::{Config, Declared, Filter, Key, Name, NoMemory, Select, What};
 use crossing::Meter;
 use peer_rows::Spot;
@@ -367,9 +367,8 @@ fn add_one(
     ensures few { meter.new.evals ≤ meter.old.evals
         + 505 * length (keys_of machine.now filter.now.table) }
 {
-    standing_filters::laws::add_gives_verdicts();
-    let keys = live_keys(machine.alloc, &machine.rows, filter.table, machine.moment)?;
-    standing.add(filter, keys.as_slice(), machine, machine.moment, meter)
+    let adding = judged(standing, machine, filter, meter)?;
+    standing.add(adding)
 }
 
 /// The keys that a filter holds by its verdicts, in order.

@@ -12,7 +12,7 @@ ghost use Rattle.fleet_model.specs.Keys.{AreInOrder};
 ghost use Rattle.fleet_model.specs.Machine.{with_row};
 ghost use Rattle.fleet_model.specs.Moments.{is_live};
 ghost use Rattle.fleet_model.specs.Rows.{arrival_of};
-ghost use Rattle.book.specs.Leading.{AreLed, IsKeyDropped, StaysLed};
+ghost use Rattle.book.specs.Leading.{AreLed, IsKeyDropped, IsTableDropped, StaysLed};
 ghost use Rattle.book.specs.Planned.{IsInside, IsShort, place_at};
 
 use crate::at::At;
@@ -134,6 +134,18 @@ pub fn drop_bounds(leaders: &mut Leaders, ranks: &[Rank], table: usize, key: &Ke
     for (list, rank) in ranks.iter().enumerate() {
         if rank.table == table {
             leaders.drop_key(list, key);
+        }
+    }
+}
+
+/// Takes the bounds of all keys of a table away.
+pub fn drop_table_bounds(leaders: &mut Leaders, ranks: &[Rank], table: usize)
+    requires { length ranks.now ≤ length leaders.old }
+    ensures { IsTableDropped ranks.now table leaders.old leaders.new }
+{
+    for (list, rank) in ranks.iter().enumerate() {
+        if rank.table == table {
+            leaders.clear(list);
         }
     }
 }

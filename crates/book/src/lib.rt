@@ -29,6 +29,7 @@
 //! and a bound stays while it holds and isn't far above what it bounds.
 #![tactic(auto)]
 
+mod adding;
 mod at;
 mod book;
 mod clears;

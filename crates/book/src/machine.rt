@@ -364,7 +364,10 @@ fn clear(
 {
     let ranks = config.ranks.as_slice();
     match sel {
-        Select::All => clear_table(alloc, rows, leaders, ranks, table, t),
+        Select::All => {
+            clear_table(rows, leaders, ranks, table, t);
+            Ok(())
+        }
         Select::One(key) => {
             clear_key(rows, leaders, ranks, table, key.duplicate(alloc)?, t);
             Ok(())

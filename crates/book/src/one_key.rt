@@ -1,6 +1,6 @@
 //! The values of keys, where the rows of one of them are found already.
 
-ghost use Rattle.std.specs.Prelude.{◌≡◌, ◌<◌, ◌^◌, length, IfSome};
+ghost use Rattle.std.specs.Prelude.{◌≡◌, ◌<◌, ◌^◌, length, IfSome, Some};
 ghost use Rattle.book.specs.Store.{AreRowsOf};
 
 use crate::foreseen::{found_flat, found_live};
@@ -51,6 +51,25 @@ impl<'a> OneKey<'a> {
             table,
             key,
             rows: machine.rows.of_key_at(hint, table, key),
+        }
+    }
+
+    /// The values of a machine's keys, where these are the rows of this one.
+    pub(crate) fn of_rows(
+        machine: &'a Machine,
+        table: usize,
+        key: &'a Key,
+        rows: OfKey<'a>,
+    ) -> OneKey<'a>
+        requires { AreRowsOf machine.now.rows table key.now (Some rows) }
+        ensures { result ≡ machine.entry.now }
+    {
+        let _few = rows.len();
+        OneKey {
+            machine,
+            table,
+            key,
+            rows: Some(rows),
         }
     }
 

@@ -7,7 +7,7 @@ ghost use Rattle.std.specs.Map.{remove_entry};
 ghost use Rattle.agg_types.specs.RowKey.{row_key_cmp};
 ghost use Rattle.agg_types.specs.declared.limits.TheConstants.{LAST_MOMENT};
 ghost use Rattle.fleet_model.specs.Normalized.{normalized_cell, normalized_cells};
-ghost use Rattle.peer_rows.specs.Rows.{without_key};
+ghost use Rattle.peer_rows.specs.Rows.{without_key, without_table};
 ghost use Rattle.book.specs.Planned.{AreRows, IsInside, IsShort, place_at};
 ghost use Rattle.book.specs.Shown.{arrivals, as_arrival, cell_of};
 ghost use Rattle.book.specs.Store.{put_arrival};
@@ -139,6 +139,16 @@ pub fn drop_row(rows: &mut Rows, size: Size, at: At<'_>)
     ensures kept { AreRows size.peers size.tables rows.new }
 {
     rows.take_at(at.spot, at.peer, at.table, at.key);
+}
+
+/// Takes the rows of a table away.
+pub fn drop_table(rows: &mut Rows, size: Size, table: usize)
+    requires rows { AreRows size.peers size.tables rows.old }
+    requires inside { table < size.tables }
+    ensures after { rows.new ≡ without_table rows.old table }
+    ensures kept { AreRows size.peers size.tables rows.new }
+{
+    rows.clear_table(table);
 }
 
 /// Takes the rows of a key away.

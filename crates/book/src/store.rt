@@ -17,7 +17,7 @@ ghost use Rattle.book.specs.Planned.{IsInside, IsShort, place_at};
 ghost use Rattle.book.specs.Store.{AreRowsOf, IsEachKeyOf, IsWalk, put_arrival, row_keys};
 
 use crate::at::At;
-use crate::puts::{drop_key, drop_row, new_row, set_row};
+use crate::puts::{drop_key, drop_row, drop_table, new_row, set_row};
 use crate::values::{arriving_worth, found_bound};
 use agg_types::{Cell, Col, Key, NoMemory, Shape};
 use peer_rows::{ByKey, EachKey, OfKey, Rows, Spot};
@@ -221,6 +221,17 @@ impl Store {
         let found = self.of_key_at(at.spot, at.table, at.key);
         let standing = found_bound(found.as_ref(), cols, col, t);
         standing + u128::from(arriving_worth(col, cols, cells))
+    }
+
+    /// Takes away the rows of a table.
+    pub(crate) fn clear_table(&mut self, table: usize)
+        ensures { self.new ≡ record self.old {
+          rows = filter (λ row. not (row.0.table == table)) self.old.rows;
+        } }
+    {
+        if table < self.size.tables {
+            drop_table(&mut self.rows, self.size, table);
+        }
     }
 
     /// Takes away the rows of a key, over all peers.

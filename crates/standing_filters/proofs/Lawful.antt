@@ -1,5 +1,6 @@
 -- The laws of kept verdicts.
-use Rattle.std.proofs.Common.{◌≡◌, ℕ, ◌+◌, ◌<◌, ◌≤◌, Bool, true, false, ◌&&◌, nat_lt, List, Option}
+use Rattle.std.proofs.Common.{◌≡◌, ℕ, ◌+◌, ◌<◌, ◌≤◌, Bool, true, false, ◌&&◌, ◌||◌, nat_lt, List}
+use Rattle.std.proofs.Common.{Option}
 use Rattle.std.proofs.Common.{None, Some, refl, sym, ap, ◌∙◌, subst, arith, inl, inr, ⊎_elim}
 use Rattle.std.specs.Prelude.{◌≢◌, ◌⊎◌}
 use Rattle.std.proofs.lemmas.Bool.{cases_Bool, cases_eq, cases_lt, false≢true, true≢false}
@@ -13,15 +14,15 @@ use Rattle.agg_types.specs.Op.{op_holds}
 use Rattle.agg_types.specs.declared.column.Col.{Col}
 use Rattle.agg_types.specs.declared.config.Filter.{Filter}
 use Rattle.crossing.specs.First.{IsFirstAt, IsFirstFrom}
-use Rattle.standing_filters.specs.Laws.{AddGivesVerdicts, FirstChangeIsTheSets, MomentKeepsVerdicts}
-use Rattle.standing_filters.specs.Laws.{TouchKeepsVerdicts}
-use Rattle.standing_filters.specs.Turns.{has_come, is_due}
+use Rattle.standing_filters.specs.Laws.{AddingBegins, AddingGoesOn, FirstChangeIsTheSets}
+use Rattle.standing_filters.specs.Laws.{MomentKeepsVerdicts, TouchKeepsVerdicts}
+use Rattle.standing_filters.specs.Turns.{has_come, is_due, same_key}
 use Rattle.standing_filters.specs.Verdicts.{Foretells, IsVerdict, holds_at, out}
 use Rattle.standing_filters.specs.Watched.{is_among, verdict_at}
 use Rattle.standing_filters.specs.declared.judging.Verdict.{Verdict}
 use Rattle.standing_filters.proofs.Members.{equal_from}
 use Rattle.standing_filters.proofs.Told.{dead_never, told_same}
-use Rattle.standing_filters.proofs.Walking.{not_come}
+use Rattle.standing_filters.proofs.Walking.{key_itself, not_come, one_key}
 
 quiet : (truth : ℕ → Bool) (now : ℕ) (v : Verdict) → Foretells truth now v → v.next ≡ None
     → IsFirstFrom (now + 1) (λ t. truth t ≢ truth now) None
@@ -197,13 +198,35 @@ none_told truth now never = record {
       omega arith in differs (never s from ∙ sym (never now same));
 }
 
-pub add_gives_verdicts : AddGivesVerdicts
-add_gives_verdicts summed living now filter keys w falls dead added key =
-    subst (λ f. IsVerdict summed living f now key (verdict_at w.kept key)) (sym added.same) (⊎_elim
-    (λ among. added.judged key among)
-    (λ apart. subst (λ v. IsVerdict summed living filter now key v) (sym (added.others key apart))
-    (none_told (λ t. holds_at summed living filter key t) now
-    (λ t later. dead_never (living filter.table key)
-    (λ t. list_all (λ cond. op_holds cond.op (summed filter.table key cond.col t) cond.bound)
-    filter.conds) now t (dead key apart) (falls key t later))))
-    (cases_Bool (is_among keys key)))
+pub adding_begins : AddingBegins
+adding_begins summed living now filter keys falls dead = record {
+  judged = λ key apart. none_told (λ t. holds_at summed living filter key t) now
+      (λ t later. dead_never (living filter.table key)
+      (λ t. list_all (λ cond. op_holds cond.op (summed filter.table key cond.col t) cond.bound)
+      filter.conds) now t (dead key apart) (falls key t later));
+  unjudged = λ key among. refl;
+}
+
+pub adding_goes_on : AddingGoesOn
+adding_goes_on summed living now key ahead old new once but touched = record {
+  judged = λ q apart. by q apart (same_key q key) refl;
+  unjudged = λ q among. touched.others q (λ is. false≢true (sym (ap (is_among ahead) is ∙ once)
+      ∙ among)) ∙ but.unjudged q (or_right (same_key q key) (is_among ahead q) among);
+}
+  where
+    or_right : (a b : Bool) → b ≡ true → (a || b) ≡ true
+    or_right true b is = refl
+    or_right false b is = is
+
+    by : (q : List ℕ) → is_among ahead q ≡ false → (b : Bool) → same_key q key ≡ b
+        → IsVerdict summed living new.filter now q (verdict_at new.kept q)
+    by q apart true same = subst (λ k. IsVerdict summed living new.filter now k
+        (verdict_at new.kept k)) (sym (one_key q key same))
+        (subst (λ f. IsVerdict summed living f now key (verdict_at new.kept key))
+        (sym touched.filter) (touched.judged refl))
+    by q apart false differs =
+        let other : q ≢ key = λ is. false≢true (sym differs ∙ ap (λ k. same_key k key) is
+        ∙ key_itself key) in
+        subst (λ f. IsVerdict summed living f now q (verdict_at new.kept q)) (sym touched.filter)
+        (subst (λ v. IsVerdict summed living old.filter now q v) (sym (touched.others q other))
+        (but.judged q (ap (λ b. b || is_among ahead q) differs ∙ apart)))

@@ -6,5 +6,4 @@ pub mod Told
 pub mod Touched
 pub mod Ahead
 pub mod Walking
-pub mod Added
 pub mod Removed

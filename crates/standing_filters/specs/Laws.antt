@@ -1,12 +1,11 @@
 -- What kept verdicts say of a filter's set, now and as the clock goes on.
-use Rattle.std.specs.Prelude.{◌≡◌, ◌≢◌, ◌⊎◌, ℕ, ◌+◌, ◌≤◌, false, List, Option}
-use Rattle.std.specs.Borrow.{Bor}
+use Rattle.std.specs.Prelude.{◌≡◌, ◌≢◌, ◌⊎◌, ℕ, ◌+◌, ◌≤◌, true, false, List, ◌∷◌, Option}
 use Rattle.agg_types.specs.declared.column.Col.{Col}
 use Rattle.agg_types.specs.declared.config.Filter.{Filter}
 use Rattle.crossing.specs.First.{IsFirstFrom}
 use Rattle.standing_filters.specs.Turns.{IsTurned}
-use Rattle.standing_filters.specs.Verdicts.{IsVerdict, holds_at}
-use Rattle.standing_filters.specs.Watched.{IsAdded, IsFirstChange, IsTouched, Watched, is_among}
+use Rattle.standing_filters.specs.Verdicts.{IsVerdict, holds_at, out}
+use Rattle.standing_filters.specs.Watched.{IsFirstChange, IsTouched, Watched, is_among, unheld}
 use Rattle.standing_filters.specs.Watched.{verdict_at}
 
 -- every key has its verdict of a moment
@@ -45,12 +44,26 @@ MomentKeepsVerdicts = (before after : ℕ → List ℕ → Col → ℕ → ℕ) 
     → AreVerdicts before living now old → IsTurned after lives t old new
     → AreVerdicts after lives t new
 
--- where no other key of its table has a live row, every key has its verdict by a filter that was
--- added with these keys
-abbrev pub AddGivesVerdicts : Type 0
-AddGivesVerdicts = (summed : ℕ → List ℕ → Col → ℕ → ℕ) (living : ℕ → List ℕ → ℕ → ℕ) (now : ℕ)
-    (filter : Filter) (keys : List (Bor (List ℕ))) (w : Watched)
+-- every key has its verdict of a moment but those that lie ahead, which are `out` until then
+pub record AreVerdictsBut (summed : ℕ → List ℕ → Col → ℕ → ℕ) (living : ℕ → List ℕ → ℕ → ℕ)
+    (now : ℕ) (ahead : List (List ℕ)) (w : Watched) : Type 0 where
+  pub judged : (key : List ℕ) → is_among ahead key ≡ false
+      → IsVerdict summed living w.filter now key (verdict_at w.kept key)
+  pub unjudged : (key : List ℕ) → is_among ahead key ≡ true → verdict_at w.kept key ≡ out
+
+-- where no other key of its table has a live row, a filter that holds no key is to judge these keys
+abbrev pub AddingBegins : Type 0
+AddingBegins = (summed : ℕ → List ℕ → Col → ℕ → ℕ) (living : ℕ → List ℕ → ℕ → ℕ) (now : ℕ)
+    (filter : Filter) (keys : List (List ℕ))
     → ((key : List ℕ) (t : ℕ) → now ≤ t
     → living filter.table key t ≤ living filter.table key now)
     → ((key : List ℕ) → is_among keys key ≡ false → living filter.table key now ≡ 0)
-    → IsAdded summed living now filter keys w → AreVerdicts summed living now w
+    → AreVerdictsBut summed living now keys (unheld filter)
+
+-- once it has judged the first of the keys that lie ahead, the others do
+abbrev pub AddingGoesOn : Type 0
+AddingGoesOn = (summed : ℕ → List ℕ → Col → ℕ → ℕ) (living : ℕ → List ℕ → ℕ → ℕ) (now : ℕ)
+    (key : List ℕ) (ahead : List (List ℕ)) (old new : Watched) → is_among ahead key ≡ false
+    → AreVerdictsBut summed living now (key ∷ ahead) old
+    → IsTouched summed living old.filter.table key now old new
+    → AreVerdictsBut summed living now ahead new

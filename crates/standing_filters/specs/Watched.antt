@@ -1,8 +1,7 @@
 -- What contracts see of standing filters: each with the keys on which its verdict isn't `out`, in
 -- order, and their verdicts.
-use Rattle.std.specs.Prelude.{◌≡◌, ◌≢◌, ◌==◌, ℕ, ◌≤◌, Bool, true, false, List, [], Option, None}
+use Rattle.std.specs.Prelude.{◌≡◌, ◌≢◌, ◌==◌, ℕ, ◌≤◌, Bool, List, [], Option, None}
 use Rattle.std.specs.Prelude.{Some, count_by, filter, map, slice_index_or, unwrap_or}
-use Rattle.std.specs.Borrow.{Bor}
 use Rattle.std.specs.BTreeMap.{is_at}
 use Rattle.std.specs.Cmp.Lexicographic.{slice_cmp}
 use Rattle.std.specs.List.{AllZip, list_any}
@@ -69,13 +68,5 @@ AreTouched summed living table key now old new =
     AllZip (λ a b. IsTouched summed living table key now a b) old new
 
 -- whether a key is one of these
-abbrev pub is_among : List (Bor (List ℕ)) → List ℕ → Bool
-is_among keys key = list_any (λ other. is_at (slice_cmp nat_cmp key) other.now) keys
-
--- a filter with the verdict of each of these keys at a moment, and `out` for all others
-pub record IsAdded (summed : ℕ → List ℕ → Col → ℕ → ℕ) (living : ℕ → List ℕ → ℕ → ℕ) (now : ℕ)
-    (filter : Filter) (keys : List (Bor (List ℕ))) (w : Watched) : Type 0 where
-  pub same : w.filter ≡ filter
-  pub judged : (key : List ℕ) → is_among keys key ≡ true
-      → IsVerdict summed living filter now key (verdict_at w.kept key)
-  pub others : (key : List ℕ) → is_among keys key ≡ false → verdict_at w.kept key ≡ out
+abbrev pub is_among : List (List ℕ) → List ℕ → Bool
+is_among keys key = list_any (λ other. is_at (slice_cmp nat_cmp key) other) keys

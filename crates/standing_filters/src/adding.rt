@@ -1,55 +1,81 @@
-//! A filter that is added where keys have rows: each of them is judged, or there is no filter.
+//! A filter that is to be added: first it judges the keys that have rows, one by one.
 
-ghost use Rattle.std.specs.Prelude.{◌≡◌, ◌≤◌, ◌+◌, ◌*◌, ℕ, List, length, IfOk, OnOk};
+ghost use Rattle.std.specs.Prelude.{◌≡◌, ◌≤◌, ◌+◌, length, IfOk, IsOk, OnOk, OnErr};
 ghost use Rattle.agg_types.specs.declared.limits.TheConstants.{MOST_CONDS};
 ghost use Rattle.crossing.specs.First.{IsFlatSoon};
 ghost use Rattle.standing_filters.specs.Plans.{IsWatch, view_of_watch};
-ghost use Rattle.standing_filters.specs.Watched.{IsAdded, IsTouched};
+ghost use Rattle.standing_filters.specs.Verdicts.{out};
+ghost use Rattle.standing_filters.specs.Watched.{IsTouched, unheld, verdict_at};
 
 use crate::watch::Watch;
 use agg_types::{Filter, Key, NoMemory};
 use crossing::{Meter, Values};
 use std::alloc::Global;
+use std::marker::Model;
 
-/// A standing filter with the verdicts on these keys at a moment.
-pub(crate) fn watch_keys<V: Values>(
-    alloc: Global,
-    filter: &Filter,
-    keys: &[&Key],
-    values: &V,
-    now: u64,
-    meter: &mut Meter,
-) -> Result<Watch, NoMemory>
-    requires few { length filter.now.conds ≤ MOST_CONDS }
-    ensures watch { IfOk result IsWatch }
-    ensures added { IfOk result (λ w. IsAdded (V.summed values.now) (V.living values.now) now
-        filter.now keys.now (view_of_watch w)) }
-    ensures counted { ((key : List ℕ)
-        → IsFlatSoon now (V.flat values.now filter.now.table key))
-        → meter.new.evals ≤ meter.old.evals + 505 * length keys.now }
-{
-    let mut watch = Watch::new(alloc, filter.duplicate(alloc)?)?;
-    for key in keys {
-        judge_one(&mut watch, *key, values, now, meter)?;
-    }
-    Ok(watch)
+/// A filter that isn't among the standing ones yet, with the verdicts on the keys that it judged.
+///
+/// Contracts see the filter with these verdicts.
+#[derive(Drop)]
+pub struct Adding {
+    watch: Watch,
 }
 
-// Judges a key by a filter of its table.
-fn judge_one<V: Values>(
-    watch: &mut Watch,
-    key: &Key,
-    values: &V,
-    now: u64,
-    meter: &mut Meter,
-) -> Result<(), NoMemory>
-    requires { IsWatch watch.old }
-    ensures stay { OnOk result (IsWatch watch.new) }
-    ensures touched { OnOk result (IsTouched (V.summed values.now) (V.living values.now)
-        watch.old.filter.table key.now now (view_of_watch watch.old) (view_of_watch watch.new)) }
-    ensures counted { IsFlatSoon now (V.flat values.now watch.old.filter.table key.now)
-        → meter.new.evals ≤ meter.old.evals + 505 }
-{
-    let verdict = watch.judge(key, values, now, meter);
-    watch.change(key, verdict)
+impl Model for Adding {
+    ghost use Rattle.standing_filters.specs.Plans.{IsWatch, view_of_watch};
+    ghost use Rattle.standing_filters.specs.Watched.{Watched};
+
+    ghost Value = { Watched };
+
+    ghost view = { λ a. view_of_watch a.watch };
+
+    ghost invariant = { λ a. IsWatch a.watch };
+}
+
+impl Adding {
+    // A filter that has judged no key yet.
+    pub(crate) fn new(alloc: Global, filter: &Filter) -> Result<Adding, NoMemory>
+        requires few { length filter.now.conds ≤ MOST_CONDS }
+        ensures { IfOk result (λ adding. adding ≡ unheld filter.now) }
+    {
+        Ok(Adding {
+            watch: Watch::new(alloc, filter.duplicate(alloc)?)?,
+        })
+    }
+
+    /// Judges a key that wasn't judged yet, by its values at a moment, in ms. After `NoMemory`
+    /// nothing has changed. A key that the filter doesn't hold, and never will by the clock alone,
+    /// takes no memory and no search. Reads at most 505 values where they stay from 2^33 ms on, and
+    /// counts them, after `NoMemory` too.
+    pub fn judge<V: Values>(
+        &mut self,
+        key: &Key,
+        values: &V,
+        now: u64,
+        meter: &mut Meter,
+    ) -> Result<(), NoMemory>
+        ensures ok { verdict_at self.old.kept key.now ≡ out → OnOk result
+            (IsTouched (V.summed values.now) (V.living values.now) self.old.filter.table key.now
+            now self.old self.new) }
+        ensures filter { self.new.filter ≡ self.old.filter }
+        ensures err { OnErr result (self.new ≡ self.old) }
+        ensures dead { V.living values.now self.old.filter.table key.now now ≡ 0 → IsOk result }
+        ensures counted { IsFlatSoon now (V.flat values.now self.old.filter.table key.now)
+            → meter.new.evals ≤ meter.old.evals + 505 }
+    {
+        let verdict = self.watch.judge(key, values, now, meter);
+        if verdict.is_out() {
+            return Ok(());
+        }
+        self.watch.change(key, verdict)
+    }
+
+    // The verdicts.
+    pub(crate) fn into_watch(self) -> Watch
+        ensures watch { IsWatch result }
+        ensures view { view_of_watch result ≡ self }
+    {
+        let Adding { watch } = self;
+        watch
+    }
 }

@@ -1,6 +1,6 @@
 //! What kept verdicts say of a filter's set.
 
-ghost use Rattle.standing_filters.specs.Laws.{AddGivesVerdicts, FirstChangeIsTheSets};
+ghost use Rattle.standing_filters.specs.Laws.{AddingBegins, AddingGoesOn, FirstChangeIsTheSets};
 ghost use Rattle.standing_filters.specs.Laws.{MomentKeepsVerdicts, TouchKeepsVerdicts};
 
 /// Where every key has its verdict of now, the first change of a verdict is the first moment at
@@ -21,8 +21,13 @@ pub fn moment_keeps_verdicts()
     ensures { MomentKeepsVerdicts }
 {}
 
-/// Where a filter was added with all keys of its table that have a live row, every key has its
-/// verdict.
-pub fn add_gives_verdicts()
-    ensures { AddGivesVerdicts }
+/// A filter that holds no key has its verdict on every key, but on those that have a live row.
+pub fn adding_begins()
+    ensures { AddingBegins }
+{}
+
+/// Where a filter has its verdict on every key but some, and judges one of these, it has its
+/// verdict on that one too.
+pub fn adding_goes_on()
+    ensures { AddingGoesOn }
 {}

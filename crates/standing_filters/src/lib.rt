@@ -11,8 +11,9 @@
 //! Promised: a verdict is exact; none is named as its change exactly where it never changes; at
 //! most 505 values are read for it where they stay from 2^33 ms on. A touch gives the key's
 //! verdicts at its moment and leaves all others, `moment` gives each key whose change has come its
-//! verdict then, however many changes were passed, and `add` adds a last filter. Each changes
-//! nothing where it runs out of memory; `remove`, which takes a filter away, needs none. `keys`
+//! verdict then, however many changes were passed, and `add` adds a last filter, which has judged
+//! the keys one by one before (`begin`, `Adding`). Each changes nothing where it runs out of
+//! memory; `remove`, which takes a filter away, needs none. `keys`
 //! lends the keys whose verdict is that they are held, `planned` the moments at which verdicts
 //! change, each with its key, and `next_change` is the least of them. That a key which can't come
 //! into a set again is known by one value of each condition, or by none where the values tell the
@@ -31,6 +32,7 @@ mod touching;
 mod turning;
 mod watch;
 
+pub use adding::Adding;
 pub use judging::{Verdict, judge};
 pub use keys::Keys;
 pub use standing::Standing;

@@ -12,11 +12,11 @@ ghost use Rattle.crossing.specs.First.{IsFlatSoon};
 ghost use Rattle.expiry_wheel.specs.Entries.{IsInOrder};
 ghost use Rattle.standing_filters.specs.Plans.{IsPlanOf};
 ghost use Rattle.standing_filters.specs.Turns.{AreReadFor, AreTurned, IsQuiet};
-ghost use Rattle.standing_filters.specs.Watched.{AreTouched, IsAdded, IsFirstChange, Watched};
+ghost use Rattle.standing_filters.specs.Watched.{AreTouched, IsFirstChange};
 ghost use Rattle.standing_filters.specs.Watched.{filters_of, keys_held, unheld, verdict_at};
 ghost use Rattle.standing_filters.specs.Watched.{verdicts_of};
 
-use crate::adding::watch_keys;
+use crate::adding::Adding;
 use crate::keys::Keys;
 use crate::touching::touch_each;
 use crate::turning::turn_each;
@@ -111,29 +111,21 @@ impl Standing {
         turn_each(self.watches.as_mut_slice(), values, t, meter)
     }
 
-    /// Adds a filter behind the others, with the verdicts on these keys of its table by their
-    /// values at a moment, in ms. A key that is not among them isn't held. After `NoMemory` nothing
-    /// has changed. Reads at most 505 values for each key where they stay from 2^33 ms on, and
-    /// counts them, after `NoMemory` too.
-    pub fn add<V: Values>(
-        &mut self,
-        filter: &Filter,
-        keys: &[&Key],
-        values: &V,
-        now: u64,
-        meter: &mut Meter,
-    ) -> Result<(), NoMemory>
+    /// A filter that is to be added: it holds no key, and judges those that have rows before it is
+    /// added. After `NoMemory` there is none.
+    pub fn begin(&self, filter: &Filter) -> Result<Adding, NoMemory>
         requires few { length filter.now.conds ≤ MOST_CONDS }
-        ensures ok { OnOk result ((added : Watched)
-            × (self.new.filters ≡ self.old.filters ++ added ∷ [])
-            × IsAdded (V.summed values.now) (V.living values.now) now filter.now keys.now added) }
-        ensures err { OnErr result (self.new ≡ self.old) }
-        ensures counted { ((key : List ℕ)
-            → IsFlatSoon now (V.flat values.now filter.now.table key))
-            → meter.new.evals ≤ meter.old.evals + 505 * length keys.now }
+        ensures { IfOk result (λ adding. adding ≡ unheld filter.now) }
     {
-        let watch = watch_keys(self.alloc, filter, keys, values, now, meter)?;
-        self.watches.push(watch)?;
+        Adding::new(self.alloc, filter)
+    }
+
+    /// Adds a filter behind the others, with its verdicts. After `NoMemory` nothing has changed.
+    pub fn add(&mut self, adding: Adding) -> Result<(), NoMemory>
+        ensures ok { OnOk result (self.new.filters ≡ self.old.filters ++ adding ∷ []) }
+        ensures err { OnErr result (self.new ≡ self.old) }
+    {
+        self.watches.push(adding.into_watch())?;
         Ok(())
     }
 
@@ -200,8 +192,7 @@ impl Standing {
             ≡ self.old.filters ++ unheld filter.now ∷ []) }
         ensures err { OnErr result (self.new ≡ self.old) }
     {
-        let watch = Watch::new(self.alloc, filter.duplicate(self.alloc)?)?;
-        self.watches.push(watch)?;
-        Ok(())
+        let adding = self.begin(filter)?;
+        self.add(adding)
     }
 }

@@ -1,5 +1,14 @@
+use Rattle.std.proofs.Common.{◌∙◌, ap}
+use Rattle.fleet_model.specs.Keys.{Rows}
+use Rattle.book.proofs.Clearing.{table_gone}
 use Rattle.book.proofs.Leading.{led_by}
 use Rattle.book.proofs.machine.clear.Goals as goal
+
+pub returns-in-All-clause-ok : goal.returns-in-All-clause-ok
+returns-in-All-clause-ok c =
+    rw c.in-All.is (c.clear_table.ensures.rows
+    ∙ ap (λ (rows : Rows). record c.args.rows.now { rows = rows })
+    (table_gone c.args.table c.args.rows.now.rows))
 
 pub returns-in-All-clause-led : goal.returns-in-All-clause-led
 returns-in-All-clause-led c =
