@@ -56,12 +56,8 @@ fn with_limit(words: Words, text: &[u8]) -> Result<Words, TargetFault>
     if words.limit.is_some() {
         return Err(TargetFault::Twice);
     }
-    let limit = limit_of(text)?;
-    Ok(Words {
-        limit: Some(limit),
-        after: words.after,
-        conds: words.conds,
-    })
+    let limit = Some(limit_of(text)?);
+    Ok(Words { limit, ..words })
 }
 
 #[tactic(auto, unfolding(crate::specs::Targets::with_after))]
@@ -71,12 +67,8 @@ fn with_after(alloc: Global, words: Words, text: &[u8]) -> Result<Words, TargetF
     if words.after.is_some() {
         return Err(TargetFault::Twice);
     }
-    let after = query_bytes(alloc, text)?;
-    Ok(Words {
-        limit: words.limit,
-        after: Some(after),
-        conds: words.conds,
-    })
+    let after = Some(query_bytes(alloc, text)?);
+    Ok(Words { after, ..words })
 }
 
 #[tactic(auto, unfolding(crate::specs::Targets::with_conds))]
@@ -86,12 +78,8 @@ fn with_conds(alloc: Global, words: Words, text: &[u8]) -> Result<Words, TargetF
     if words.conds.is_some() {
         return Err(TargetFault::Twice);
     }
-    let conds = query_bytes(alloc, text)?;
-    Ok(Words {
-        limit: words.limit,
-        after: words.after,
-        conds: Some(conds),
-    })
+    let conds = Some(query_bytes(alloc, text)?);
+    Ok(Words { conds, ..words })
 }
 
 // The words, with one more piece of the query.
