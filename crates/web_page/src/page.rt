@@ -66,13 +66,16 @@ svg path { vector-effect: non-scaling-stroke; }
 }
 .peers { display: grid; gap: 4px 12px; margin: 0; padding: 0; list-style: none;
   grid-template-columns: repeat(auto-fill, minmax(min(250px, 100%), 1fr)); }
-.peers li { display: flex; gap: 8px; align-items: baseline; min-width: 0; }
+.peers li { display: grid; gap: 0 8px; align-items: baseline; min-width: 0;
+  grid-template-columns: auto minmax(0, 1fr) auto; }
 .peers li::before { content: "\25CF"; color: var(--never); flex: none; }
 .peers li.connected::before { color: var(--good); }
 .peers li.away::before { content: "\25D0"; color: var(--away); }
 .peers li.never::before { content: "\25CB"; }
 .peers b { font-weight: 600; overflow: hidden; text-overflow: ellipsis; white-space: nowrap; }
-.peers span { color: var(--dim); font-size: .85rem; margin-left: auto; white-space: nowrap; }
+.peers span { color: var(--dim); font-size: .85rem; white-space: nowrap; }
+.peers .held { grid-column: 2 / -1; white-space: normal; font-variant-numeric: tabular-nums; }
+.peers .held.full { color: var(--bad); }
 .more { margin: 8px 0 0; color: var(--dim); }
 .keys:empty, .more:empty, .peers:empty { display: none; }
 a { color: inherit; }
@@ -235,6 +238,7 @@ function buildPeer() {
   const node = document.createElement("li");
   node.name = make("b", node);
   node.about = make("span", node);
+  node.held = make("span", node, "held");
   return node;
 }
 
@@ -245,6 +249,10 @@ function showPeer(node, peer) {
     : peer.state + " " + span(peer.since_ms) + ", " + number.format(peer.updates);
   if (peer.unknown_tables > 0) about += ", " + peer.unknown_tables + " tables passed over";
   say(node.about, about);
+  say(node.held, number.format(peer.rows) + (peer.rows === 1 ? " row, " : " rows, ")
+    + number.format(peer.dropped) + " dropped");
+  const held = peer.dropped > 0 ? "held full" : "held";
+  if (node.held.className !== held) node.held.className = held;
   const title = peer.from ? "from " + peer.from : "";
   if (node.title !== title) node.title = title;
 }
