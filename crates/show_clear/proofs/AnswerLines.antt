@@ -80,7 +80,7 @@ headings_lines state table (shape ∷ shapes) all =
     (heading_lines shape (length (keys_of state table)) h.0)
     (headings_lines state (table + 1) shapes h.1)
 
-title_stays : (title name : List ℕ) (shape : Shape) → list_all is_line_byte title ≡ true
+pub title_stays : (title name : List ℕ) (shape : Shape) → list_all is_line_byte title ≡ true
     → list_all is_line_byte name ≡ true → list_all is_line_byte shape.name ≡ true
     → list_all is_line_byte (title_text title name shape) ≡ true
 title_stays title name shape begins named its =
@@ -252,35 +252,43 @@ at_position p (x ∷ xs) (suc i) other all is =
     at_position p xs i other (both (p x) (list_all p xs) all).1 is
 
 -- the names that answers have
-record NamesStay (state : State) : Type 0 where
+pub record NamesStay (state : State) : Type 0 where
   pub tables : list_all (stays (λ shape. shape.name)) state.config.tables ≡ true
+  pub filters : list_all (stays (λ filter. filter.name)) state.config.filters ≡ true
+  pub ranks : list_all (stays (λ rank. rank.name)) state.config.ranks ≡ true
   pub shape : (table : ℕ) → list_all is_line_byte (shape_of state table).name ≡ true
   pub filter : (filter : ℕ) → list_all is_line_byte (filter_of state filter).name ≡ true
   pub rank : (rank : ℕ) → list_all is_line_byte (rank_of state rank).name ≡ true
 
-names_of : (state : State) → config_faults state.config ≡ [] → NamesStay state
+pub names_of : (state : State) → config_faults state.config ≡ [] → NamesStay state
 names_of state none =
     let h = faultless state.config none in
     let tables : list_all (stays (λ shape. shape.name)) state.config.tables ≡ true =
     names_stay (λ shape. shape.name) table_faults (λ before x e. (table_fits before x e).named) []
     state.config.tables h.tables in
+    let filters : list_all (stays (λ filter. filter.name)) state.config.filters ≡ true =
+    names_stay (λ filter. filter.name) (filter_faults state.config.tables)
+    (λ before x e. (filter_fits state.config.tables before x e).named) []
+    state.config.filters h.filters in
+    let ranks : list_all (stays (λ rank. rank.name)) state.config.ranks ≡ true =
+    names_stay (λ rank. rank.name) (rank_faults state.config.tables)
+    (λ before x e. (rank_fits state.config.tables before x e).named) []
+    state.config.ranks h.ranks in
     record {
       tables = tables;
+      filters = filters;
+      ranks = ranks;
       shape = λ table. at_position (stays (λ shape. shape.name)) state.config.tables table no_shape
           tables refl;
       filter = λ filter. at_position (stays (λ filter. filter.name)) state.config.filters filter
-          no_filter (names_stay (λ filter. filter.name) (filter_faults state.config.tables)
-          (λ before x e. (filter_fits state.config.tables before x e).named) []
-          state.config.filters h.filters) refl;
+          no_filter filters refl;
       rank = λ rank. at_position (stays (λ rank. rank.name)) state.config.ranks rank no_rank
-          (names_stay (λ rank. rank.name) (rank_faults state.config.tables)
-          (λ before x e. (rank_fits state.config.tables before x e).named) []
-          state.config.ranks h.ranks) refl;
+          ranks refl;
     }
 
 -- ---- each answer
 
-question_lines : (state : State) (question : Question) (text : List ℕ) → NamesStay state
+pub question_lines : (state : State) (question : Question) (text : List ℕ) → NamesStay state
     → IsAnswerTo state question text → HasLines text
 question_lines state Tables text names is =
     subst HasLines (sym is) (headings_lines state 0 state.config.tables names.tables)
@@ -303,7 +311,7 @@ question_lines state (NextChange at) text names is =
     subst HasLines (sym is.2) (change_lines filter (shape_of state filter.table) is.0
     (names.filter at) (names.shape filter.table))
 
-command_lines : (state : State) (command : Command) (text : List ℕ) → NamesStay state
+pub command_lines : (state : State) (command : Command) (text : List ℕ) → NamesStay state
     → IsAnswer state command text → HasLines text
 command_lines state (Ask question) text names is = question_lines state question text names is
 command_lines state (Changes change) text names is =

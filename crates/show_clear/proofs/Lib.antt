@@ -7,5 +7,7 @@ pub mod Returns
 pub mod KeyBytes
 pub mod AnswerPieces
 pub mod AnswerLines
+pub mod PeopleLines
+pub mod TextsBehind
 pub mod CommandWords
 pub mod CommandBack

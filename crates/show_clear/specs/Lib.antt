@@ -1,7 +1,9 @@
 pub mod Answer
 pub mod AnswerLines
 pub mod Change
+pub mod Explained
 pub mod Parse
+pub mod People
 pub mod Refusal
 pub mod Selected
 pub mod Tables

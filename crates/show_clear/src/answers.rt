@@ -8,9 +8,10 @@ ghost use Rattle.show_clear.specs.Answer.{Answers, AnswersQuestion, AppendsNext,
 ghost use Rattle.show_clear.specs.Answer.{NamesExist, filter_text};
 ghost use Rattle.show_clear.specs.Answer.{headings, rank_text, row_lines, rows_text, shape_of};
 ghost use Rattle.show_clear.specs.Answer.{table_text};
+ghost use Rattle.show_clear.specs.People.{AnswersPeople, AppendsAhead, AppendsTold};
 
 use crate::fleet::{Book, BookRows};
-use crate::lists::{append_change, append_held, append_ranking};
+use crate::lists::{append_change, append_change_ahead, append_held, append_ranking};
 use crate::tables::{append_heading, append_row};
 use crate::{Command, Question};
 use agg_types::{Cond, Filter, Key, NoMemory, Rank, Select, Shape};
@@ -37,6 +38,63 @@ pub fn answer(
         return Err(NoMemory);
     }
     Ok(())
+}
+
+/// Appends what people are answered: what `answer` does, and behind the moment of a filter's next
+/// change how far off it is, in ms. After `NoMemory` the bytes of `out` are as they were.
+///
+/// The command names what stands in the book, as one that `parse` read over it does.
+pub fn answer_people(
+    alloc: Global,
+    book: &Book,
+    command: &Command,
+    out: &mut Vec<u8>,
+) -> Result<(), NoMemory>
+    requires { NamesExist book.now command.now }
+    ensures ok { OnOk result (AnswersPeople book.now command.now out.old.items out.new.items) }
+    ensures err { OnErr result (out.new.items ≡ out.old.items) }
+{
+    let len = out.len();
+    if append_told(alloc, book, command, out).is_err() {
+        out.truncate(len);
+        return Err(NoMemory);
+    }
+    Ok(())
+}
+
+fn append_told(
+    alloc: Global,
+    book: &Book,
+    command: &Command,
+    out: &mut Vec<u8>,
+) -> Result<(), NoMemory>
+    requires { NamesExist book.now command.now }
+    ensures ok { OnOk result (AnswersPeople book.now command.now out.old.items out.new.items) }
+    ensures begins { take (length out.old.items) out.new.items ≡ out.old.items }
+{
+    match command {
+        Command::Ask(question) => append_asked_ahead(alloc, book, question, out),
+        Command::Change(_) => append_text(b"ok\n", out),
+    }
+}
+
+fn append_asked_ahead(
+    alloc: Global,
+    book: &Book,
+    question: &Question,
+    out: &mut Vec<u8>,
+) -> Result<(), NoMemory>
+    requires { AskedExists book.now question.now }
+    ensures ok { OnOk result (AppendsTold book.now question.now out.old.items out.new.items) }
+    ensures begins { take (length out.old.items) out.new.items ≡ out.old.items }
+{
+    match question {
+        Question::NextChange(filter) => append_ahead(alloc, book, *filter, out),
+        Question::Tables
+        | Question::Table { .. }
+        | Question::FilterKeys(_)
+        | Question::Ranking(_) => append_asked(alloc, book, question, out),
+    }
 }
 
 fn append_answer(
@@ -225,4 +283,21 @@ fn append_next(alloc: Global, book: &Book, filter: usize, out: &mut Vec<u8>) -> 
     let standing = filter_at(book, filter);
     let t = book.next_change(alloc, filter)?;
     append_change(standing, shape_of(book, standing.table), t, out)
+}
+
+fn append_ahead(
+    alloc: Global,
+    book: &Book,
+    filter: usize,
+    out: &mut Vec<u8>,
+) -> Result<(), NoMemory>
+    requires { filter < length book.now.config.filters }
+    ensures ok { OnOk result
+        (AppendsAhead book.now (filter_of book.now filter) out.old.items out.new.items) }
+    ensures begins { take (length out.old.items) out.new.items ≡ out.old.items }
+{
+    let standing = filter_at(book, filter);
+    let t = book.next_change(alloc, filter)?;
+    let shape = shape_of(book, standing.table);
+    append_change_ahead(standing, shape, book.moment(), t, out)
 }

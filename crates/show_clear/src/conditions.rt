@@ -26,8 +26,8 @@ fn stored_col(shape: &Shape, name: &[u8]) -> Result<Col, CommandFault>
     }
 }
 
-// The column that a condition's first word names.
-fn cond_col(shape: &Shape, word: &[u8]) -> Result<Col, CommandFault>
+/// The column that a condition's first word names.
+pub(crate) fn cond_col(shape: &Shape, word: &[u8]) -> Result<Col, CommandFault>
     ensures { result ≡ cond_col shape.now.cols word.now }
 {
     match word.strip_prefix(DATA) {

@@ -13,7 +13,9 @@ ghost use Rattle.fleet_model.specs.declared.summed.Summed.{Summed};
 ghost use Rattle.line_words.specs.Words.{lines_of};
 ghost use Rattle.show_clear.specs.Answer.{IsAnswer, all_hold, rows_text};
 ghost use Rattle.show_clear.specs.AnswerLines.{AreAnswerLines, is_answer_line};
+ghost use Rattle.show_clear.specs.Explained.{explained_refusal};
 ghost use Rattle.show_clear.specs.Parse.{command_of};
+ghost use Rattle.show_clear.specs.People.{IsPeoplesAnswer};
 ghost use Rattle.show_clear.specs.Refusal.{refusal_text};
 ghost use Rattle.show_clear.specs.Selected.{key_row, taken_keys};
 ghost use Rattle.show_clear.specs.Written.{can_ask, command_line};
@@ -33,15 +35,22 @@ pub fn what_is_shown_is_what_a_clear_takes()
 {}
 
 /// No line of an answer is empty or a refusal's, and each has its LF. So who reads answers sees by
-/// their lines where one ends, at an empty line, and whether a command was refused.
+/// their lines where one ends, at an empty line, and whether a command was refused. The same holds
+/// of what people are told: an explained refusal is one line, whatever the refused line has.
 ///
 /// It holds of each state of a book: its configuration has no faults
 /// (`fleet_model::laws::states_are_sound`).
 pub fn answers_are_no_refusals()
     ensures answers { (state : State) (command : Command) (text : List ℕ)
         → config_faults state.config ≡ [] → IsAnswer state command text → AreAnswerLines text }
+    ensures people { (state : State) (command : Command) (text : List ℕ)
+        → config_faults state.config ≡ [] → IsPeoplesAnswer state command text
+        → AreAnswerLines text }
     ensures refusals { (fault : CommandFault)
         → map is_answer_line (lines_of (refusal_text fault)) ≡ false ∷ [] }
+    ensures explained { (state : State) (line : List ℕ) (fault : CommandFault)
+        → config_faults state.config ≡ []
+        → map is_answer_line (lines_of (explained_refusal state line fault)) ≡ false ∷ [] }
 {}
 
 /// A command written out is read as that command, for each kind of question and change: where what

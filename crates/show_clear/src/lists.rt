@@ -3,6 +3,7 @@
 ghost use Rattle.std.specs.Prelude.{◌≡◌, ◌++◌, ◌≤◌, ◌<◌, ◌^◌, length, map, take, OnOk};
 ghost use Rattle.show_clear.specs.Answer.{change_text, held_text, key_line, period_of, place_text};
 ghost use Rattle.show_clear.specs.Answer.{places_text, ranking_text, title_text};
+ghost use Rattle.show_clear.specs.People.{change_ahead, distance_text};
 ghost use Rattle.std.specs.List.{flat_map};
 
 use crate::fleet::Ranked;
@@ -76,6 +77,37 @@ pub(crate) fn append_change(
     append_text(b", at:", out)?;
     append_ms(t, out)?;
     append_text(b"\n", out)
+}
+
+/// Appends the moment at which a standing filter holds other keys, if there is one, and how far off
+/// it is at a moment.
+#[tactic(auto, using(key_text::proofs::Begins::begins_then))]
+pub(crate) fn append_change_ahead(
+    filter: &Filter,
+    shape: &Shape,
+    now: u64,
+    t: Option<u64>,
+    out: &mut Vec<u8>,
+) -> Result<(), NoMemory>
+    ensures ok { OnOk result
+        (out.new.items ≡ out.old.items ++ change_ahead filter.now shape.now now t) }
+    ensures begins { take (length out.old.items) out.new.items ≡ out.old.items }
+{
+    append_title(b"# next: ", filter.name.as_slice(), shape, out)?;
+    append_text(b", at:", out)?;
+    append_ms(t, out)?;
+    append_distance(now, t, out)?;
+    append_text(b"\n", out)
+}
+
+fn append_distance(now: u64, t: Option<u64>, out: &mut Vec<u8>) -> Result<(), NoMemory>
+    ensures ok { OnOk result (out.new.items ≡ out.old.items ++ distance_text now t) }
+    ensures begins { take (length out.old.items) out.new.items ≡ out.old.items }
+{
+    match t {
+        None => Ok(()),
+        Some(t) => append_counted(b" in:", u128::from(t.saturating_sub(now)), out),
+    }
 }
 
 /// Appends the heading of a ranked list, and its keys.

@@ -31,7 +31,8 @@ fn append_counts(size: u64, used: u64, out: &mut Vec<u8>) -> Result<(), NoMemory
     append_text(b"\n", out)
 }
 
-fn kind_name(kind: KeyKind) -> &'static [u8]
+/// The name of a kind of keys.
+pub(crate) fn kind_name(kind: KeyKind) -> &'static [u8]
     ensures { result.now ≡ kind_name kind }
 {
     match kind {

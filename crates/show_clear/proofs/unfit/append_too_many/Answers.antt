@@ -1,0 +1,15 @@
+use Rattle.std.proofs.Common.{◌≡◌, ◌∙◌, ◌++◌, append_assoc, codes, decimal}
+use Rattle.std.proofs.lemmas.Result.{on_ok_weaker}
+use Rattle.agg_types.specs.declared.limits.TheConstants.{MOST_CONDS}
+use Rattle.show_clear.proofs.TextsBehind.{text_behind}
+use Rattle.show_clear.proofs.unfit.append_too_many.Goals as goal
+
+pub returns : goal.returns
+returns c =
+    let before = c.args.out.now.items in
+    let so = codes "there may be " ++ decimal MOST_CONDS in
+    let at : c.append_counted.new.out.items ≡ before ++ so =
+    c.in_ok-append_counted.ensures.ok ∙ append_assoc before (codes "there may be ")
+    (decimal MOST_CONDS) in
+    on_ok_weaker c.append_text.result (λ more. text_behind before _ _ so (codes " conditions") at
+    more) c.append_text.ensures.ok
