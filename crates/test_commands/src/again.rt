@@ -9,7 +9,7 @@ ghost use Rattle.show_clear.specs.Answer.{NamesExist};
 use agg_types::What;
 use anyhow::{Result, ensure};
 use book::Book;
-use show_clear::{Command, CommandFault, answer, parse, refusal};
+use show_clear::{Command, CommandFault, answer, answer_people, explain, parse, refusal};
 use std::alloc::Global;
 
 /// What a line asks for, or its first fault, which isn't out of memory unless two allocations
@@ -45,6 +45,43 @@ pub fn refused(fault: &CommandFault, before: &[u8], out: &mut Vec<u8>) -> Result
     if refusal(fault, out).is_err() {
         ensure!(out.as_slice() == before, "a refused refusal left something");
         refusal(fault, out)?;
+    }
+    Ok(())
+}
+
+/// Appends what people are told of a refused line. What was there stays where an allocation failed.
+pub fn explained(
+    alloc: Global,
+    book: &Book,
+    line: &[u8],
+    fault: &CommandFault,
+    out: &mut Vec<u8>,
+) -> Result<()> {
+    let before = out.len();
+    if explain(alloc, book, line, fault, out).is_err() {
+        ensure!(out.len() == before, "a refused explanation left something");
+        explain(alloc, book, line, fault, out)?;
+    }
+    Ok(())
+}
+
+/// Appends what people are answered, if that isn't what stands behind these bytes.
+pub fn answered_to_people(
+    alloc: Global,
+    book: &Book,
+    command: &Command,
+    before: &[u8],
+    out: &mut Vec<u8>,
+) -> Result<()>
+    requires { NamesExist book.now command.now }
+{
+    let mut told = Vec::new(alloc);
+    if answer_people(alloc, book, command, &mut told).is_err() {
+        ensure!(told.is_empty(), "a refused answer left something");
+        answer_people(alloc, book, command, &mut told)?;
+    }
+    if out.get(before.len()..) != Some(told.as_slice()) {
+        out.extend_from_slice(told.as_slice())?;
     }
     Ok(())
 }

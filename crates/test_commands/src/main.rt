@@ -1,4 +1,5 @@
-//! Asks the fleet of data/fleet each line of data/commands, and prints what is answered.
+//! Asks the fleet of data/fleet each line of data/commands, and prints what is answered; behind it
+//! what people are answered, where that is something else.
 //!
 //! A clear or an added filter is then done, as the steps of a fleet are.
 #![tactic(auto)]
@@ -83,10 +84,12 @@ fn ask(
     match again::parsed(alloc, book, line) {
         Err(fault) => {
             again::refused(&fault, before, out)?;
+            again::explained(alloc, book, line, &fault, out)?;
             Ok(false)
         }
         Ok(command) => {
             again::answered(alloc, book, &command, before, out)?;
+            again::answered_to_people(alloc, book, &command, before, out)?;
             let Some(what) = command.into_event() else {
                 return Ok(false);
             };
