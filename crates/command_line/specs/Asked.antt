@@ -25,15 +25,6 @@ use Rattle.command_line.specs.declared.usage.Usage.TheVariants.{BadUnknownPeers,
 abbrev pub IsLocal : Command → Type 0
 IsLocal command = (fields_of command).has_globals ≡ false
 
--- an option that has to be there, with its value
-abbrev pub option : Text → Rule
-option name = record (new_rule name) {
-  long = Some name;
-  action = Some Set;
-  required = true;
-  value_names = 1;
-}
-
 -- an option that may be there, with its value
 abbrev pub value_option : Text → Rule
 value_option name = record (new_rule name) {
@@ -42,13 +33,13 @@ value_option name = record (new_rule name) {
   value_names = 1;
 }
 
+-- an option that has to be there, with its value
+abbrev pub needed_option : Text → Rule
+needed_option name = record (value_option name) { required = true }
+
 -- an option that may be there any number of times, each with its value
 abbrev pub many_option : Text → Rule
-many_option name = record (new_rule name) {
-  long = Some name;
-  action = Some Append;
-  value_names = 1;
-}
+many_option name = record (value_option name) { action = Some Append }
 
 -- `replay`
 abbrev pub replay : App
@@ -66,7 +57,7 @@ check = with_rule (new_app (codes "check")) (value_option (codes "config"))
 -- --from NETWORK .. --unknown-peers WHAT`
 abbrev pub listen : App
 listen = with_rule (with_rule (with_rule (with_rule (with_rule (with_rule (with_rule
-    (new_app (codes "listen")) (value_option (codes "config"))) (option (codes "peers")))
+    (new_app (codes "listen")) (value_option (codes "config"))) (needed_option (codes "peers")))
     (value_option (codes "admin"))) (value_option (codes "admin-socket")))
     (value_option (codes "http"))) (many_option (codes "from")))
     (value_option (codes "unknown-peers"))

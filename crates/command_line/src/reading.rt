@@ -7,8 +7,8 @@ ghost use Rattle.command_line.specs.Address.{parts_of};
 ghost use Rattle.command_line.specs.Asked.{AsksFor, IsCommand, IsJob, IsNoJob, IsRefused};
 ghost use Rattle.command_line.specs.Asked.{IsLocal, SaysAddresses, SaysFile, address_if};
 ghost use Rattle.command_line.specs.Asked.{address_in, address_said, choice_in, choice_of, listen};
-ghost use Rattle.command_line.specs.Asked.{many_option, networks_in, option, path_if, path_said};
-ghost use Rattle.command_line.specs.Asked.{program, value_option};
+ghost use Rattle.command_line.specs.Asked.{many_option, needed_option, networks_in, path_if};
+ghost use Rattle.command_line.specs.Asked.{path_said, program, value_option};
 ghost use Rattle.command_line.specs.Networks.{network_parts, networks_of};
 
 use crate::address::read_address;
@@ -26,12 +26,21 @@ use std::net::SocketAddr;
 /// The version of the program, as CHANGELOG.md has it.
 pub const VERSION: &str = "0.3.0";
 
-/// What help says of the places that needn't be bound.
+/// What help says of the options.
+const CONFIG: &str = "The configuration [default: standard input]";
+
+const PEERS: &str = "Where proxies connect, as 10.1.0.9:10000 or [2001:db8::9]:10000";
+
 const ADMIN: &str = "Where operators connect, as 127.0.0.1:9999; this or --admin-socket";
 
 const ADMIN_SOCKET: &str = "The socket of operators of this machine, as /run/sesamejoist/admin";
 
 const HTTP: &str = "Where browsers and Prometheus connect, as 127.0.0.1:9998 [default: nowhere]";
+
+const FROM: &str = "Proxies' networks, as 10.1.0.0/24 or 2001:db8::/32; any number [default: all]";
+
+const UNKNOWN_PEERS: &str =
+    "Peers that aren't configured: refuse, or wait until they are [default: refuse]";
 
 /// The job that the words of a command line ask for, the first of them the program's name. Help
 /// that is asked for and words that aren't the program's are `Usage::Words`; of words that are, an
@@ -61,7 +70,7 @@ fn program<'a>(alloc: Global) -> Result<Command<'a>, Error>
     );
     let check = Command::new(alloc, "check")
         .about("Reads a configuration and says what is wrong with it")
-        .arg(file(alloc))?;
+        .arg(option(alloc, "config", "FILE", CONFIG))?;
     let command = Command::new(alloc, "aggregator")
         .about("Collects HAProxy stick tables of a fleet")
         .version(VERSION)
@@ -80,42 +89,17 @@ fn listen<'a>(alloc: Global) -> Result<Command<'a>, AllocError>
 {
     Command::new(alloc, "listen")
         .about("Reads a configuration and collects what proxies send")
-        .arg(file(alloc))?
-        .arg(peers(alloc))?
-        .arg(place(alloc, "admin", "ADDRESS", ADMIN))?
-        .arg(place(alloc, "admin-socket", "PATH", ADMIN_SOCKET))?
-        .arg(place(alloc, "http", "ADDRESS", HTTP))?
-        .arg(networks(alloc))?
-        .arg(unknown_peers(alloc))
+        .arg(option(alloc, "config", "FILE", CONFIG))?
+        .arg(needed(alloc, "peers", "ADDRESS", PEERS))?
+        .arg(option(alloc, "admin", "ADDRESS", ADMIN))?
+        .arg(option(alloc, "admin-socket", "PATH", ADMIN_SOCKET))?
+        .arg(option(alloc, "http", "ADDRESS", HTTP))?
+        .arg(repeated(alloc, "from", "NETWORK", FROM))?
+        .arg(option(alloc, "unknown-peers", "WHAT", UNKNOWN_PEERS))
 }
 
-// The file of a configuration.
-fn file<'a>(alloc: Global) -> Arg<'a>
-    ensures rule { rule_of result ≡ value_option (codes "config") }
-    ensures local { result.global ≡ false }
-{
-    Arg::new(alloc, "config")
-        .long("config")
-        .value_name("FILE")
-        .help("The configuration [default: standard input]")
-        .action(ArgAction::Set)
-}
-
-// The address to bind for proxies.
-fn peers<'a>(alloc: Global) -> Arg<'a>
-    ensures rule { rule_of result ≡ option (codes "peers") }
-    ensures local { result.global ≡ false }
-{
-    Arg::new(alloc, "peers")
-        .long("peers")
-        .value_name("ADDRESS")
-        .help("Where proxies connect, as 10.1.0.9:10000 or [2001:db8::9]:10000")
-        .required(true)
-        .action(ArgAction::Set)
-}
-
-// A place to bind where that is asked for.
-fn place<'a>(alloc: Global, name: &'a str, value: &'a str, help: &'a str) -> Arg<'a>
+// An option that may be there, with its value.
+fn option<'a>(alloc: Global, name: &'a str, value: &'a str, help: &'a str) -> Arg<'a>
     ensures rule { rule_of result ≡ value_option name.entry.now }
     ensures local { result.global ≡ false }
 {
@@ -126,28 +110,20 @@ fn place<'a>(alloc: Global, name: &'a str, value: &'a str, help: &'a str) -> Arg
         .action(ArgAction::Set)
 }
 
-// Networks to take connections from.
-fn networks<'a>(alloc: Global) -> Arg<'a>
-    ensures rule { rule_of result ≡ many_option (codes "from") }
+// An option that has to be there, with its value.
+fn needed<'a>(alloc: Global, name: &'a str, value: &'a str, help: &'a str) -> Arg<'a>
+    ensures rule { rule_of result ≡ needed_option name.entry.now }
     ensures local { result.global ≡ false }
 {
-    Arg::new(alloc, "from")
-        .long("from")
-        .value_name("NETWORK")
-        .help("Proxies' networks, as 10.1.0.0/24 or 2001:db8::/32; any number [default: all]")
-        .action(ArgAction::Append)
+    option(alloc, name, value, help).required(true)
 }
 
-// What is done about a hello of a peer that isn't in the configuration.
-fn unknown_peers<'a>(alloc: Global) -> Arg<'a>
-    ensures rule { rule_of result ≡ value_option (codes "unknown-peers") }
+// An option that may be there any number of times, each with its value.
+fn repeated<'a>(alloc: Global, name: &'a str, value: &'a str, help: &'a str) -> Arg<'a>
+    ensures rule { rule_of result ≡ many_option name.entry.now }
     ensures local { result.global ≡ false }
 {
-    Arg::new(alloc, "unknown-peers")
-        .long("unknown-peers")
-        .value_name("WHAT")
-        .help("Peers that aren't configured: refuse, or wait until they are [default: refuse]")
-        .action(ArgAction::Set)
+    option(alloc, name, value, help).action(ArgAction::Append)
 }
 
 // What a command with its options asks for.

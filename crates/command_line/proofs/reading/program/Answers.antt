@@ -16,13 +16,13 @@ returns-clause-ok c =
     let import_local : (fields_of c.about-import.result).has_globals ≡ false =
     ap (λ f. f.has_globals) c.about-import.ensures ∙ c.new-2.ensures.local in
     let check_is : app_of c.in_ok-check.check ≡ check =
-    c.in_ok-check.ensures.shape c.file.ensures.local
+    c.in_ok-check.ensures.shape c.option.ensures.local
     ∙ ap₂ with_rule (ap app_of_fields c.about.ensures ∙ c.new-3.ensures.app)
-    c.file.ensures.rule in
+    c.option.ensures.rule in
     let check_local : (fields_of c.in_ok-check.check).has_globals ≡ false =
     c.in_ok-check.ensures.globals
     ∙ ap₂ (λ x y. x || y) (ap (λ f. f.has_globals) c.about.ensures ∙ c.new-3.ensures.local)
-    c.file.ensures.local in
+    c.option.ensures.local in
     let versioned : app_of c.version.result
     ≡ on_top (λ (s : Shape). record s { has_version = true })
     (new_app (codes "aggregator")) =
