@@ -66,15 +66,15 @@ svg path { vector-effect: non-scaling-stroke; }
 }
 .peers { display: grid; gap: 4px 12px; margin: 0; padding: 0; list-style: none;
   grid-template-columns: repeat(auto-fill, minmax(min(250px, 100%), 1fr)); }
-.peers li { display: grid; gap: 0 8px; align-items: baseline; min-width: 0;
-  grid-template-columns: auto minmax(0, 1fr) auto; }
+.peers li { display: grid; gap: 0 8px; align-items: baseline; align-content: start; min-width: 0;
+  grid-template-columns: auto minmax(5em, 1fr) minmax(0, auto); }
 .peers li::before { content: "\25CF"; color: var(--never); flex: none; }
 .peers li.connected::before { color: var(--good); }
 .peers li.away::before { content: "\25D0"; color: var(--away); }
 .peers li.never::before { content: "\25CB"; }
 .peers b { font-weight: 600; overflow: hidden; text-overflow: ellipsis; white-space: nowrap; }
-.peers span { color: var(--dim); font-size: .85rem; white-space: nowrap; }
-.peers .held { grid-column: 2 / -1; white-space: normal; font-variant-numeric: tabular-nums; }
+.peers span { color: var(--dim); font-size: .85rem; text-align: right; }
+.peers .held { grid-column: 2 / -1; text-align: left; font-variant-numeric: tabular-nums; }
 .peers .held.full { color: var(--bad); }
 .more { margin: 8px 0 0; color: var(--dim); }
 .keys:empty, .more:empty, .peers:empty { display: none; }
