@@ -4,11 +4,13 @@
 //! page need of a book that was looked at, so that one look serves both for a while. A `Standing`
 //! is what stands of the collector beside the book.
 //!
-//! Promised: of a list of keys exactly the part is told that was asked for (`keys_from`), and the
-//! text of a label's value is exact (`append_label`). What the texts say beside that, tests show.
-//! No clause says that an allocation fails only where there is no memory.
+//! Promised: of a list of keys exactly the part is told that was asked for (`keys_from`), the text
+//! of a label's value is exact (`append_label`), and so are a peer's state (`PeerStanding::state`)
+//! and what it holds of all tables (`Summary::of_peer`). What the texts say beside that, tests
+//! show. No clause says that an allocation fails only where there is no memory.
 #![tactic(auto)]
 
+mod figure;
 mod labels;
 mod objects;
 mod part;

@@ -1,5 +1,8 @@
 //! Lists as JSON: which entries, and the peers.
 
+ghost use Rattle.std.specs.Prelude.{◌≡◌};
+ghost use Rattle.web_text.specs.declared.peers.AskFault.TheVariants.{NoMemory as Lack};
+
 use crate::objects::Json;
 use crate::shown::put_peer;
 use crate::standing::Standing;
@@ -17,6 +20,8 @@ pub enum AskFault {
 }
 
 impl From<NoMemory> for AskFault {
+    ghost from_gives = { λ _ fault. fault ≡ Lack };
+
     fn from(_: NoMemory) -> AskFault {
         AskFault::NoMemory
     }

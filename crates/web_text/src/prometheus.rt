@@ -1,5 +1,6 @@
 //! Figures in Prometheus's text format.
 
+use crate::figure::*;
 use crate::labels::append_label;
 use crate::standing::{PeerStanding, Standing};
 use crate::summary::{FilterSum, PeerRows, RankSum, Summary};
@@ -30,30 +31,6 @@ impl fmt::Display for Value {
 // A count.
 fn count(count: u64) -> Value {
     Value::Count(u128::from(count))
-}
-
-/// A figure's name without what comes before it, whether it only grows, and what it is.
-#[derive(Clone, Copy)]
-struct Figure {
-    name: &'static [u8],
-    grows: bool,
-    help: &'static [u8],
-}
-
-fn gauge(name: &'static [u8], help: &'static [u8]) -> Figure {
-    Figure {
-        name,
-        grows: false,
-        help,
-    }
-}
-
-fn counter(name: &'static [u8], help: &'static [u8]) -> Figure {
-    Figure {
-        name,
-        grows: true,
-        help,
-    }
 }
 
 /// A label with its value.
@@ -161,66 +138,18 @@ fn put_collector(
     summary: &Summary,
     standing: &Standing,
 ) -> Result<(), NoMemory> {
-    lines.head(build_info())?;
+    lines.head(BUILD_INFO)?;
     let version = standing.version.as_bytes();
-    lines.value(build_info(), &[(b"version", version)], count(1))?;
+    lines.value(BUILD_INFO, &[(b"version", version)], count(1))?;
     let late = standing.now.saturating_sub(summary.moment);
-    lines.alone(uptime(), Value::Time(standing.now))?;
-    lines.alone(behind(), Value::Time(late))?;
-    lines.alone(peers_connected(), count(standing.connected as u64))?;
-    lines.alone(updates(), count(standing.updates))?;
-    lines.alone(posts(), count(standing.posts))?;
-    lines.alone(refused(), count(standing.refused))?;
-    lines.alone(waiting(), count(standing.waiting as u64))?;
-    lines.alone(seats(), count(standing.seats))
-}
-
-fn build_info() -> Figure {
-    gauge(b"build_info", b"The version of the collector; always 1.")
-}
-
-fn uptime() -> Figure {
-    gauge(b"uptime_seconds", b"Time since the start.")
-}
-
-fn behind() -> Figure {
-    gauge(
-        b"behind_seconds",
-        b"How far the book that was looked at is behind.",
-    )
-}
-
-fn peers_connected() -> Figure {
-    gauge(b"peers_connected", b"Configured peers that are connected.")
-}
-
-fn updates() -> Figure {
-    counter(
-        b"updates_total",
-        b"Updates of followed tables that were posted.",
-    )
-}
-
-fn posts() -> Figure {
-    counter(b"posts_total", b"Batches that were posted for peers.")
-}
-
-fn refused() -> Figure {
-    counter(
-        b"connections_refused_total",
-        b"Connections that were closed before they were served.",
-    )
-}
-
-fn waiting() -> Figure {
-    gauge(
-        b"connections_waiting",
-        b"Connections whose hello is awaited.",
-    )
-}
-
-fn seats() -> Figure {
-    gauge(b"seats", b"Workers that may post.")
+    lines.alone(UPTIME, Value::Time(standing.now))?;
+    lines.alone(BEHIND, Value::Time(late))?;
+    lines.alone(PEERS_CONNECTED, count(standing.connected as u64))?;
+    lines.alone(UPDATES, count(standing.updates))?;
+    lines.alone(POSTS, count(standing.posts))?;
+    lines.alone(REFUSED, count(standing.refused))?;
+    lines.alone(WAITING, count(standing.waiting as u64))?;
+    lines.alone(SEATS, count(standing.seats))
 }
 
 /// What is told of each peer.
@@ -244,23 +173,11 @@ impl OfPeer {
 
     fn figure(self) -> Figure {
         match self {
-            OfPeer::Connected => gauge(b"peer_connected", b"Whether a peer is connected."),
-            OfPeer::Since => gauge(
-                b"peer_state_seconds",
-                b"How long a peer has been connected, or away.",
-            ),
-            OfPeer::Updates => counter(
-                b"peer_updates_total",
-                b"Updates of a peer that were posted.",
-            ),
-            OfPeer::LastUpdate => gauge(
-                b"peer_last_update_seconds",
-                b"How long ago the last update of a peer was posted.",
-            ),
-            OfPeer::Unfollowed => gauge(
-                b"peer_unfollowed_tables",
-                b"Tables of a peer's present or last connection that are passed over.",
-            ),
+            OfPeer::Connected => PEER_CONNECTED,
+            OfPeer::Since => PEER_STATE,
+            OfPeer::Updates => PEER_UPDATES,
+            OfPeer::LastUpdate => PEER_LAST_UPDATE,
+            OfPeer::Unfollowed => PEER_UNFOLLOWED,
         }
     }
 
@@ -308,11 +225,8 @@ impl OfHeld {
 
     fn figure(self) -> Figure {
         match self {
-            OfHeld::Rows => gauge(b"peer_rows", b"Rows of a table that a peer holds."),
-            OfHeld::Dropped => counter(
-                b"peer_dropped_updates_total",
-                b"Updates of new keys of a peer that a full table didn't take.",
-            ),
+            OfHeld::Rows => PEER_ROWS,
+            OfHeld::Dropped => PEER_DROPPED,
         }
     }
 
@@ -352,30 +266,16 @@ fn put_held_by(
     Ok(())
 }
 
-fn table_keys() -> Figure {
-    gauge(
-        b"table_keys",
-        b"Keys of a table that some peer has a row of.",
-    )
-}
-
-fn table_size() -> Figure {
-    gauge(
-        b"table_size",
-        b"How many rows of a table each peer may have.",
-    )
-}
-
 fn put_tables(lines: &mut Lines, config: &Config, summary: &Summary) -> Result<(), NoMemory> {
-    lines.head(table_keys())?;
+    lines.head(TABLE_KEYS)?;
     for (place, keys) in summary.tables.as_slice().iter().enumerate() {
         let name = table_name(config, place);
-        lines.value(table_keys(), &[(b"table", name)], count(*keys))?;
+        lines.value(TABLE_KEYS, &[(b"table", name)], count(*keys))?;
     }
-    lines.head(table_size())?;
+    lines.head(TABLE_SIZE)?;
     for table in config.tables.as_slice() {
         lines.value(
-            table_size(),
+            TABLE_SIZE,
             &[(b"table", table.name.as_slice())],
             count(table.size),
         )?;
@@ -383,44 +283,29 @@ fn put_tables(lines: &mut Lines, config: &Config, summary: &Summary) -> Result<(
     Ok(())
 }
 
-fn filter_keys() -> Figure {
-    gauge(b"filter_keys", b"Keys that a standing filter holds.")
-}
-
-fn filter_change() -> Figure {
-    gauge(
-        b"filter_next_change_seconds",
-        b"Time until the clock alone changes a filter's set; missing where it never does.",
-    )
-}
-
 fn put_filters(lines: &mut Lines, config: &Config, summary: &Summary) -> Result<(), NoMemory> {
-    lines.head(filter_keys())?;
+    lines.head(FILTER_KEYS)?;
     for filter in summary.filters.as_slice() {
         let labels = filter_labels(config, filter);
-        lines.value(filter_keys(), &labels, count(filter.keys as u64))?;
+        lines.value(FILTER_KEYS, &labels, count(filter.keys as u64))?;
     }
-    lines.head(filter_change())?;
+    lines.head(FILTER_CHANGE)?;
     for filter in summary.filters.as_slice() {
         if let Some(next) = filter.next {
             let left = next.saturating_sub(summary.moment);
             let labels = filter_labels(config, filter);
-            lines.value(filter_change(), &labels, Value::Time(left))?;
+            lines.value(FILTER_CHANGE, &labels, Value::Time(left))?;
         }
     }
     Ok(())
 }
 
-fn rank_top() -> Figure {
-    gauge(b"rank_top_value", b"The first value of a ranked list.")
-}
-
 fn put_ranks(lines: &mut Lines, config: &Config, summary: &Summary) -> Result<(), NoMemory> {
-    lines.head(rank_top())?;
+    lines.head(RANK_TOP)?;
     for rank in summary.ranks.as_slice() {
         if let Some((_, value)) = rank.first.as_slice().first() {
             let labels = rank_labels(config, rank);
-            lines.value(rank_top(), &labels, Value::Count(*value))?;
+            lines.value(RANK_TOP, &labels, Value::Count(*value))?;
         }
     }
     Ok(())

@@ -50,17 +50,6 @@ fn put_standing(json: &mut Json, standing: &Standing) -> Result<(), NoMemory> {
     json.end_list()
 }
 
-/// A peer's state in a word.
-fn state_of(peer: &PeerStanding) -> &'static str {
-    if peer.is_connected {
-        "connected"
-    } else if peer.since.is_some() {
-        "away"
-    } else {
-        "never"
-    }
-}
-
 // How long ago a moment was.
 fn ago(moment: Option<u64>, now: u64) -> Option<u64> {
     let moment = moment?;
@@ -78,7 +67,7 @@ pub(crate) fn put_peer(
 ) -> Result<(), NoMemory> {
     json.begin_object()?;
     json.text("name", name)?;
-    json.text("state", state_of(peer).as_bytes())?;
+    json.text("state", peer.state().as_bytes())?;
     match peer.address {
         None => json.null("from")?,
         Some(address) => {

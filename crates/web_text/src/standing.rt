@@ -1,3 +1,6 @@
+ghost use Rattle.std.specs.Prelude.{◌≡◌};
+ghost use Rattle.web_text.specs.Standing.{state_word};
+
 use std::net::SocketAddr;
 
 /// What stands of a peer. Moments are in ms since the start.
@@ -14,6 +17,21 @@ pub struct PeerStanding {
     pub last_update: Option<u64>,
     /// How many tables of its present or last connection aren't followed.
     pub unfollowed: usize,
+}
+
+impl PeerStanding {
+    /// Its state in a word: `connected`; `away` where it came before; else `never`.
+    pub fn state(&self) -> &'static str
+        ensures { result.now ≡ state_word self.now }
+    {
+        if self.is_connected {
+            "connected"
+        } else if self.since.is_some() {
+            "away"
+        } else {
+            "never"
+        }
+    }
 }
 
 /// What stands of a collector beside its book.

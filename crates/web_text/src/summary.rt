@@ -1,3 +1,6 @@
+ghost use Rattle.std.specs.Prelude.{◌≡◌};
+ghost use Rattle.web_text.specs.Standing.{no_rows, rows_of_peer, rows_together, with_rows};
+
 use agg_types::{Key, Name};
 
 /// A standing filter as a look found it.
@@ -36,7 +39,9 @@ pub struct PeerRows {
 
 impl PeerRows {
     /// Nothing.
-    pub fn none() -> PeerRows {
+    pub fn none() -> PeerRows
+        ensures { result ≡ no_rows }
+    {
         PeerRows {
             rows: 0,
             dropped: 0,
@@ -44,7 +49,9 @@ impl PeerRows {
     }
 
     /// The sum with another one's. Counts stay at their greatest number.
-    pub fn add(&mut self, other: PeerRows) {
+    pub fn add(&mut self, other: PeerRows)
+        ensures { self.new ≡ with_rows self.old other }
+    {
         self.rows = self.rows.saturating_add(other.rows);
         self.dropped = self.dropped.saturating_add(other.dropped);
     }
@@ -67,14 +74,25 @@ pub struct Summary {
 }
 
 impl Summary {
-    /// What a peer holds of all tables, by its place in the configuration.
-    pub fn of_peer(&self, peer: usize) -> PeerRows {
-        let mut held = PeerRows::none();
-        if let Some(tables) = self.peers.get(peer) {
-            for table in tables.as_slice() {
-                held.add(*table);
-            }
+    /// What a peer holds of all tables, by its place in the configuration; nothing where there is
+    /// no such peer.
+    pub fn of_peer(&self, peer: usize) -> PeerRows
+        ensures { result ≡ rows_of_peer self.now peer }
+    {
+        match self.peers.get(peer) {
+            None => PeerRows::none(),
+            Some(tables) => together(tables.as_slice()),
         }
-        held
     }
+}
+
+// What is held of tables, together.
+fn together(tables: &[PeerRows]) -> PeerRows
+    ensures { result ≡ rows_together tables.now }
+{
+    let mut held = PeerRows::none();
+    for table in tables {
+        held.add(*table);
+    }
+    held
 }
