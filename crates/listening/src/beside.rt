@@ -2,7 +2,7 @@
 
 use agg_types::Config;
 use hub::{Hub, Naming};
-use serve::{Caller, Clock, Doors, Faulted, Gate, Served, Source, serve_all};
+use serve::{Caller, Clock, Door, Doors, Faulted, Gate, Served, Source, serve_all};
 use std::alloc::Global;
 use std::io::Write;
 use std::sync::Wait;
@@ -36,6 +36,10 @@ impl<'d, 'v, 'w, S: Source + Drop, W: Write + Drop, D: Doors<S, W>, V: Visits, F
         self.doors.admin()
     }
 
+    fn door(&self, source: &S) -> Door {
+        self.doors.door(source)
+    }
+
     fn greet(&self, config: &Config, source: &mut S) -> bool {
         self.doors.greet(config, source)
     }
@@ -61,8 +65,15 @@ impl<'d, 'v, 'w, S: Source + Drop, W: Write + Drop, D: Doors<S, W>, V: Visits, F
         self.doors.part_peer(config, source, writer, ended);
     }
 
-    fn part_admin(&self, config: &Config, source: S, writer: W, ended: Result<Served, Faulted>) {
-        self.doors.part_admin(config, source, writer, ended);
+    fn part_admin(
+        &self,
+        config: &Config,
+        source: S,
+        writer: W,
+        door: Door,
+        ended: Result<Served, Faulted>,
+    ) {
+        self.doors.part_admin(config, source, writer, door, ended);
     }
 }
 

@@ -11,7 +11,7 @@ use crate::streams::Stream;
 use crate::ticks::Ticks;
 use agg_types::Config;
 use command_line::{Network, UnknownPeers, admits};
-use serve::{Caller, Doors, Faulted, Served};
+use serve::{Caller, Door, Doors, Faulted, Served};
 use std::alloc::Global;
 use std::io;
 use std::net::{SocketAddr, TcpListener};
@@ -169,6 +169,10 @@ impl<'a, R: Clock + Wait> Doors<Incoming<'a, R>, Outgoing<'a, R>> for Sockets<'a
             }
         }
         None
+    }
+
+    fn door(&self, source: &Incoming<'a, R>) -> Door {
+        source.stream.door()
     }
 
     fn greet(&self, config: &Config, source: &mut Incoming<'a, R>) -> bool {

@@ -2,6 +2,7 @@
 
 ghost use Rattle.std.specs.Io.{ReadsAtMost, WritesAtMost};
 
+use serve::Door;
 use std::io;
 use std::io::{Read, Write};
 use std::net::{Shutdown, TcpStream};
@@ -45,6 +46,15 @@ impl Stream {
                 let mut writer = stream;
                 writer.write(bytes)
             }
+        }
+    }
+
+    /// Who reads what an operator is answered: people come by the socket of this machine, programs
+    /// over TCP.
+    pub fn door(&self) -> Door {
+        match self {
+            Stream::Tcp(_) => Door::Programs,
+            Stream::Unix(_) => Door::People,
         }
     }
 

@@ -1,6 +1,6 @@
 -- An admin at work: how it goes on, and how it stops.
 use Rattle.std.proofs.Common.{◌≡◌, Bool, true, false, ℕ, ◌==◌, inl, inr, List, [], ◌∷◌, ◌++◌}
-use Rattle.std.proofs.Common.{Option, None, Some, Err, IfSome, refl, sym, ap, ◌∙◌}
+use Rattle.std.proofs.Common.{Option, None, Some, Err, IfSome, codes, refl, sym, ap, ◌∙◌}
 use Rattle.std.proofs.Common.{subst, append-nil, append_assoc}
 use Rattle.std.specs.Io.KnownBytes.{Appends}
 use Rattle.std.specs.Bool.{if◌then◌else◌}
@@ -26,7 +26,7 @@ use Rattle.hub.specs.Roll.{MayPost}
 use Rattle.hub.specs.Views.{IsBookOf, Seeing}
 use Rattle.hub.specs.declared.faults.PostFault.{PostFault}
 use Rattle.serve.proofs.Later.{follows_on, follows_self, shows_last, shows_on}
-use Rattle.serve.proofs.Kept.{kept_asks, kept_says}
+use Rattle.serve.proofs.Kept.{kept_asks, kept_says, kept_tells}
 use Rattle.serve.proofs.Pieces.{none_in_both}
 use Rattle.serve.proofs.Works.{wrote_more, wrote_none}
 use Rattle.serve.specs.Commands.{AllAnswered, AnsweredToQuit, EndsCommands, HasNoEnd}
@@ -37,7 +37,7 @@ use Rattle.serve.specs.Commanding.{HasLearned, HasLooked, HasObeyed, HasQuit, Is
 use Rattle.serve.specs.Commanding.{Stops, Works, WorksIf}
 use Rattle.serve.specs.Commanding.{kept_of, reply_of}
 use Rattle.serve.specs.Faults.{cause_of_line}
-use Rattle.serve.specs.Status.{asked_in, quits}
+use Rattle.serve.specs.Status.{IsStatus, asked_in, quits}
 use Rattle.serve.specs.Told.{HasTold, IsServed, TellsLast, stored_of}
 use Rattle.serve.specs.Traffic.{Traffic, so_far}
 use Rattle.serve.specs.Turns.{WroteFront}
@@ -50,7 +50,10 @@ use Rattle.serve.specs.declared.served.Cause.{Cause}
 use Rattle.serve.specs.declared.served.Cause.TheVariants.{Read, Write, Session, Post, Look}
 use Rattle.serve.specs.declared.served.Faulted.{Faulted}
 use Rattle.serve.specs.declared.served.Served.{Served}
+use Rattle.serve.specs.declared.door.Door.{Door}
 use Rattle.serve.specs.declared.status.Asked.{Asked}
+use Rattle.serve.specs.declared.status.Asked.TheVariants as asks
+use Rattle.show_clear.specs.declared.fault.CommandFault.TheVariants.{NoTable}
 
 -- ---- what may be posted
 
@@ -170,12 +173,26 @@ pushed_one batch old what ok pushed none is =
     pushed ∙ (ap (λ (b : Bool). if b then old ++ what ∷ [] else old) is
     ∙ ap (λ (os : List What). os ++ what ∷ []) none)
 
+-- what is told of a line stands in what is kept of it
+status_kept : (door : Door) (asked : Asked) (book : State) (line answer : List ℕ)
+    → IsStatus door book (kept_of line) asked answer → IsStatus door book line asked answer
+status_kept door (asks.Status status) book line answer is = is
+status_kept door asks.Config book line answer is = is
+status_kept door asks.Filters book line answer is = is
+status_kept door asks.Ranks book line answer is = is
+status_kept door asks.NoPeer book line answer is = is ∙ kept_tells door book line NoTable
+
 -- what a line is answered that asks for this
-replied_to : (asked : Option Asked) (book : State) (line : List ℕ) (change : Option What)
-    (text : List ℕ) → RepliesTo asked book (kept_of line) change text
-    → RepliesTo asked book line change text
-replied_to (Some asked) book line change text says = says
-replied_to None book line change text says =
+replied_to : (door : Door) (asked : Option Asked) (book : State) (line : List ℕ)
+    (change : Option What) (text : List ℕ) → RepliesTo door asked book (kept_of line) change text
+    → RepliesTo door asked book line change text
+replied_to door (Some asked) book line change text says = record {
+  answer = says.answer;
+  is = status_kept door asked book line says.answer says.is;
+  none = says.none;
+  ends = says.ends;
+}
+replied_to door None book line change text says =
     elim says [
       | inl is ↦ inl (record {
         command = is.command;
@@ -189,27 +206,29 @@ replied_to None book line change text says =
         says = λ other. sym (kept_says book line)
             ∙ refusal.says other;
         none = refusal.none;
-        tells = refusal.tells;
+        tells = refusal.tells
+            ∙ ap (λ told. told ++ codes "\n") (kept_tells door book line refusal.fault);
       })
     ]
 
-replied_kept : (book : State) (line : List ℕ) (change : Option What) (text : List ℕ)
-    → Replies book (kept_of line) change text
-    → Replies book line change text
-replied_kept book line change text says =
-    replied_to (asked_in book.config line) book line change text
-    (subst (λ (asked : Option Asked). RepliesTo asked book (kept_of line) change text)
+replied_kept : (door : Door) (book : State) (line : List ℕ) (change : Option What) (text : List ℕ)
+    → Replies door book (kept_of line) change text
+    → Replies door book line change text
+replied_kept door book line change text says =
+    replied_to door (asked_in book.config line) book line change text
+    (subst (λ (asked : Option Asked). RepliesTo door asked book (kept_of line) change text)
     (kept_asks book.config line) says)
 
 -- a line that was answered over a look
-pub looked : (hub since : Beginning) (seat : ℕ) (old new : Worker) (whats : List What)
+pub looked : {door : Door} (hub since : Beginning) (seat : ℕ) (old new : Worker) (whats : List What)
     (line : List ℕ) (book : State) (answered : Answered) (seen : Beginning)
     → new.poster ≡ old.poster → new.lens.seen ≡ seen → Follows old.lens.seen seen
     → IsBookOf book seen
-    → Replies book (kept_of line) answered.change answered.text.items → HasNoEnd line
+    → Replies door book (kept_of line) answered.change answered.text.items → HasNoEnd line
     → quits line ≡ false → HasLearned hub since seat old whats
-    → HasLooked hub since seat new whats line answered
-looked hub since seat old new whats line book answered seen poster same later stands says whole
+    → HasLooked door hub since seat new whats line answered
+looked {door} hub since seat old new whats line book answered seen poster same later stands says
+    whole
     stays learned =
     let now : HasLearned hub since seat new whats =
     learned_later hub since seat old new whats poster
@@ -222,7 +241,7 @@ looked hub since seat old new whats line book answered seen poster same later st
         shows = now.shows;
         book = book;
         stands = subst (λ (b : Beginning). IsBookOf book b) (sym same) stands;
-        says = replied_kept book line answered.change answered.text.items says;
+        says = replied_kept door book line answered.change answered.text.items says;
       };
     }
 
@@ -249,11 +268,11 @@ line_goes_on earlier line rest = ap (λ xs. lines_in earlier ++ xs) (sym (append
 -- ---- an admin at work
 
 -- nothing of the later lines was told nor answered
-pub stops_refused : (hub : Beginning) (seat : ℕ) (old new : Worker) (rest : List ℕ)
+pub stops_refused : {door : Door} (hub : Beginning) (seat : ℕ) (old new : Worker) (rest : List ℕ)
     (start : Traffic) (given before after : Option (List ℕ)) (fault : PostFault)
-    → (w : Works hub seat old rest start (so_far given before))
+    → (w : Works door hub seat old rest start (so_far given before))
     → HasTold hub new.poster (changes_in w.replies) (stored_of fault 1)
-    → Appends before after [] → Stops hub seat new start (so_far given after) (Post fault)
+    → Appends before after [] → Stops door hub seat new start (so_far given after) (Post fault)
 stops_refused hub seat old new rest start given before after fault w told none = record {
   bytes = lines_in w.replies ++ (w.line ++ rest);
   written = texts_in w.replies;
@@ -273,11 +292,11 @@ stops_refused hub seat old new rest start given before after fault w told none =
   };
 }
 
-pub stops_unseen : (hub : Beginning) (seat : ℕ) (old new : Worker) (rest : List ℕ)
+pub stops_unseen : {door : Door} (hub : Beginning) (seat : ℕ) (old new : Worker) (rest : List ℕ)
     (start : Traffic) (given before after : Option (List ℕ))
-    → (w : Works hub seat old rest start (so_far given before))
+    → (w : Works door hub seat old rest start (so_far given before))
     → HasTold hub new.poster (changes_in w.replies) 0
-    → Appends before after [] → Stops hub seat new start (so_far given after) Look
+    → Appends before after [] → Stops door hub seat new start (so_far given after) Look
 stops_unseen hub seat old new rest start given before after w told none = record {
   bytes = lines_in w.replies ++ (w.line ++ rest);
   written = texts_in w.replies;
@@ -298,10 +317,10 @@ stops_unseen hub seat old new rest start given before after w told none = record
 }
 
 -- a read failed
-pub stops_failed : (hub : Beginning) (seat : ℕ) (worker : Worker)
+pub stops_failed : {door : Door} (hub : Beginning) (seat : ℕ) (worker : Worker)
     (start now : Traffic)
-    → Works hub seat worker [] start now
-    → Stops hub seat worker start now Read
+    → Works door hub seat worker [] start now
+    → Stops door hub seat worker start now Read
 stops_failed hub seat worker start now w = record {
   bytes = lines_in w.replies ++ w.line;
   written = texts_in w.replies;
@@ -322,10 +341,10 @@ stops_failed hub seat worker start now w = record {
 }
 
 -- a piece was read
-pub works_piece : (hub : Beginning) (seat : ℕ) (worker : Worker) (piece : List ℕ)
+pub works_piece : {door : Door} (hub : Beginning) (seat : ℕ) (worker : Worker) (piece : List ℕ)
     (start : Traffic) (given after taken : Option (List ℕ)) → Appends given after piece
-    → Works hub seat worker [] start (so_far given taken)
-    → Works hub seat worker piece start (so_far after taken)
+    → Works door hub seat worker [] start (so_far given taken)
+    → Works door hub seat worker piece start (so_far after taken)
 works_piece hub seat worker piece start given after taken gives w = record {
   replies = w.replies;
   line = w.line;
@@ -344,11 +363,11 @@ works_piece hub seat worker piece start given after taken gives w = record {
 }
 
 -- the same poster, lens and line
-pub works_alike : (hub : Beginning) (seat : ℕ) (old new : Worker) (rest : List ℕ)
+pub works_alike : {door : Door} (hub : Beginning) (seat : ℕ) (old new : Worker) (rest : List ℕ)
     (start now : Traffic) → new.poster ≡ old.poster
     → new.lens.seen ≡ old.lens.seen → new.line.bytes.items ≡ old.line.bytes.items
-    → Works hub seat old rest start now
-    → Works hub seat new rest start now
+    → Works door hub seat old rest start now
+    → Works door hub seat new rest start now
 works_alike hub seat old new rest start now poster lens line w = record {
   replies = w.replies;
   line = w.line;
@@ -361,9 +380,9 @@ works_alike hub seat old new rest start now poster lens line w = record {
 }
 
 -- an admin that has read nothing
-pub works_none : (hub : Beginning) (seat : ℕ) (worker : Worker) (start : Traffic)
+pub works_none : {door : Door} (hub : Beginning) (seat : ℕ) (worker : Worker) (start : Traffic)
     → worker.line.bytes.items ≡ []
-    → HasLearned hub hub seat worker [] → Works hub seat worker [] start start
+    → HasLearned hub hub seat worker [] → Works door hub seat worker [] start start
 works_none hub seat worker start line learned = record {
   replies = [];
   line = [];
@@ -378,11 +397,11 @@ works_none hub seat worker start line learned = record {
 }
 
 -- bytes couldn't be kept
-pub stops_unkept : (hub : Beginning) (seat : ℕ) (old new : Worker) (rest : List ℕ)
+pub stops_unkept : {door : Door} (hub : Beginning) (seat : ℕ) (old new : Worker) (rest : List ℕ)
     (start now : Traffic) (fault : PostFault)
     → new.poster ≡ old.poster → stored_of fault 1 ≡ 0
-    → Works hub seat old rest start now
-    → Stops hub seat new start now (Post fault)
+    → Works door hub seat old rest start now
+    → Stops door hub seat new start now (Post fault)
 stops_unkept hub seat old new rest start now fault poster none w =
     let told : HasTold hub new.poster (changes_in w.replies) 0 =
     subst (λ (d : Poster). HasTold hub d (changes_in w.replies) 0) (sym poster) w.learned.told in
@@ -391,13 +410,13 @@ stops_unkept hub seat old new rest start now fault poster none w =
     (wrote_none now.taken)
 
 -- bytes of a line that hasn't ended were kept
-pub works_kept : (hub : Beginning) (seat : ℕ) (old new : Worker) (rest : List ℕ)
+pub works_kept : {door : Door} (hub : Beginning) (seat : ℕ) (old new : Worker) (rest : List ℕ)
     (start now : Traffic) → new.poster ≡ old.poster
     → new.lens.seen ≡ old.lens.seen → HasNoEnd rest
     → ((line : List ℕ) → old.line.bytes.items ≡ kept_of line
     → new.line.bytes.items ≡ kept_of (line ++ rest))
-    → Works hub seat old rest start now
-    → Works hub seat new [] start now
+    → Works door hub seat old rest start now
+    → Works door hub seat new [] start now
 works_kept hub seat old new rest start now poster lens whole keeps w = record {
   replies = w.replies;
   line = w.line ++ rest;
@@ -414,15 +433,16 @@ works_kept hub seat old new rest start now poster lens whole keeps w = record {
 }
 
 -- a line that ended was obeyed, and the next one begins
-pub works_obeyed : (hub : Beginning) (seat : ℕ) (old mid new : Worker) (bytes rest : List ℕ)
+pub works_obeyed : {door : Door} (hub : Beginning) (seat : ℕ) (old mid new : Worker)
+    (bytes rest : List ℕ)
     (start : Traffic) (given before after : Option (List ℕ))
     (reply : Reply) → new.poster ≡ mid.poster → new.lens.seen ≡ mid.lens.seen
     → new.line.bytes.items ≡ []
-    → (w : Works hub seat old (bytes ++ 10 ∷ rest) start (so_far given before))
-    → HasObeyed hub (seen_by hub w.replies) seat mid (changes_in w.replies) (w.line ++ bytes)
+    → (w : Works door hub seat old (bytes ++ 10 ∷ rest) start (so_far given before))
+    → HasObeyed door hub (seen_by hub w.replies) seat mid (changes_in w.replies) (w.line ++ bytes)
     reply
     → Appends before after reply.text
-    → Works hub seat new rest start (so_far given after)
+    → Works door hub seat new rest start (so_far given after)
 works_obeyed hub seat old mid new bytes rest start given before after reply poster lens
     cleared w obeyed wrote = record {
       replies = reply ∷ w.replies;
@@ -442,10 +462,10 @@ works_obeyed hub seat old mid new bytes rest start given before after reply post
     }
 
 -- a line that ended asks to quit
-pub has_quit : (hub : Beginning) (seat : ℕ) (old new : Worker) (bytes rest : List ℕ)
+pub has_quit : {door : Door} (hub : Beginning) (seat : ℕ) (old new : Worker) (bytes rest : List ℕ)
     (start : Traffic) (given taken : Option (List ℕ)) → new.poster ≡ old.poster
-    → HasNoEnd bytes → (w : Works hub seat old (bytes ++ 10 ∷ rest) start (so_far given taken))
-    → quits (w.line ++ bytes) ≡ true → HasQuit hub seat new start (so_far given taken)
+    → HasNoEnd bytes → (w : Works door hub seat old (bytes ++ 10 ∷ rest) start (so_far given taken))
+    → quits (w.line ++ bytes) ≡ true → HasQuit door hub seat new start (so_far given taken)
 has_quit hub seat old new bytes rest start given taken poster whole w leaves = record {
   bytes = lines_in w.replies ++ (w.line ++ (bytes ++ 10 ∷ rest));
   written = texts_in w.replies;
@@ -465,19 +485,20 @@ has_quit hub seat old new bytes rest start given taken poster whole w leaves = r
 }
 
 -- an admin that works on may end as well
-pub works_if : (goes : Bool) (hub : Beginning) (seat : ℕ) (worker : Worker) (start now : Traffic)
-    → Works hub seat worker [] start now → WorksIf goes hub seat worker [] start now
+pub works_if : {door : Door} (goes : Bool) (hub : Beginning) (seat : ℕ) (worker : Worker)
+    (start now : Traffic)
+    → Works door hub seat worker [] start now → WorksIf door goes hub seat worker [] start now
 works_if true hub seat worker start now w = w
 works_if false hub seat worker start now w = inl w
 
 -- of the answer only a beginning was written
-pub stops_cut : (hub : Beginning) (seat : ℕ) (old new : Worker) (bytes rest : List ℕ)
+pub stops_cut : {door : Door} (hub : Beginning) (seat : ℕ) (old new : Worker) (bytes rest : List ℕ)
     (start : Traffic) (given before after : Option (List ℕ))
-    (reply : Reply) → (w : Works hub seat old (bytes ++ 10 ∷ rest) start (so_far given before))
-    → HasObeyed hub (seen_by hub w.replies) seat new (changes_in w.replies) (w.line ++ bytes)
+    (reply : Reply) → (w : Works door hub seat old (bytes ++ 10 ∷ rest) start (so_far given before))
+    → HasObeyed door hub (seen_by hub w.replies) seat new (changes_in w.replies) (w.line ++ bytes)
     reply
     → WroteFront before after reply.text
-    → Stops hub seat new start (so_far given after) Write
+    → Stops door hub seat new start (so_far given after) Write
 stops_cut hub seat old new bytes rest start given before after reply w obeyed wrote =
     record {
       bytes = lines_in w.replies ++ (w.line ++ (bytes ++ 10 ∷ rest));
@@ -502,12 +523,15 @@ stops_cut hub seat old new bytes rest start given before after reply w obeyed wr
     }
 
 -- a line that ended, at a fault
-pub stops_obeying : (hub : Beginning) (seat : ℕ) (old new : Worker) (bytes rest : List ℕ)
+pub stops_obeying : {door : Door} (hub : Beginning) (seat : ℕ) (old new : Worker)
+    (bytes rest : List ℕ)
     (start : Traffic) (given before after : Option (List ℕ))
-    (fault : LineFault) → (w : Works hub seat old (bytes ++ 10 ∷ rest) start (so_far given before))
-    → ObeysTo hub (seen_by hub w.replies) seat new (changes_in w.replies) (w.line ++ bytes) before
+    (fault : LineFault) → (w : Works door hub seat old (bytes ++ 10 ∷ rest) start
+    (so_far given before))
+    → ObeysTo door hub (seen_by hub w.replies) seat new (changes_in w.replies)
+    (w.line ++ bytes) before
     after (Err fault)
-    → Stops hub seat new start (so_far given after) (cause_of_line fault)
+    → Stops door hub seat new start (so_far given after) (cause_of_line fault)
 stops_obeying hub seat old new bytes rest start given before after faults.Write w obeys =
     stops_cut hub seat old new bytes rest start given before after obeys.0 w obeys.1 obeys.2
 stops_obeying hub seat old new bytes rest start given before after (faults.Post fault) w
@@ -531,11 +555,12 @@ obeys_unlooked hub poster whats wrote fault none told = (
 )
 
 -- a line whose change was told
-pub has_obeyed : (hub since : Beginning) (seat : ℕ) (worker : Worker) (whats : List What)
+pub has_obeyed : {door : Door} (hub since : Beginning) (seat : ℕ) (worker : Worker)
+    (whats : List What)
     (line : List ℕ) (change : Option What) (text : List ℕ) (seen : Beginning)
-    → IsReply since seat whats (reply_of line change text seen)
+    → IsReply door since seat whats (reply_of line change text seen)
     → HasLearned hub seen seat worker (whats ++ option_to_list change)
-    → HasObeyed hub since seat worker whats line (reply_of line change text seen)
+    → HasObeyed door hub since seat worker whats line (reply_of line change text seen)
 has_obeyed hub since seat worker whats line change text seen is learned =
     record { answers = refl; is = is; learned = learned }
 
@@ -548,10 +573,10 @@ changes_none hub since seat worker whats learned =
 
 -- ---- what the receipts show at the end
 
-all_served : (hub : Beginning) (seat : ℕ) (Told Shown : List What → ℕ → Type 0)
+all_served : {door : Door} (hub : Beginning) (seat : ℕ) (Told Shown : List What → ℕ → Type 0)
     (bytes written : List ℕ)
     → ((whats : List What) (waiting : ℕ) → Told whats waiting → Shown whats waiting)
-    → AllAnswered hub seat Told bytes written → AllAnswered hub seat Shown bytes written
+    → AllAnswered door hub seat Told bytes written → AllAnswered door hub seat Shown bytes written
 all_served hub seat Told Shown bytes written f a = record {
   replies = a.replies;
   line = a.line;
@@ -562,10 +587,10 @@ all_served hub seat Told Shown bytes written f a = record {
   answered = a.answered;
 }
 
-cut_served : (hub : Beginning) (seat : ℕ) (Told Shown : List What → ℕ → Type 0)
+cut_served : {door : Door} (hub : Beginning) (seat : ℕ) (Told Shown : List What → ℕ → Type 0)
     (bytes written : List ℕ)
     → ((whats : List What) (waiting : ℕ) → Told whats waiting → Shown whats waiting)
-    → LastCutShort hub seat Told bytes written → LastCutShort hub seat Shown bytes written
+    → LastCutShort door hub seat Told bytes written → LastCutShort door hub seat Shown bytes written
 cut_served hub seat Told Shown bytes written f a = record {
   replies = a.replies;
   last = a.last;
@@ -579,11 +604,11 @@ cut_served hub seat Told Shown bytes written f a = record {
   answered = a.answered;
 }
 
-refused_served : (hub : Beginning) (seat : ℕ) (Told Shown : List What → ℕ → Type 0)
+refused_served : {door : Door} (hub : Beginning) (seat : ℕ) (Told Shown : List What → ℕ → Type 0)
     (bytes written : List ℕ) (stored : ℕ)
     → ((whats : List What) (waiting : ℕ) → Told whats waiting → Shown whats waiting)
-    → LaterRefused hub seat Told bytes written stored
-    → LaterRefused hub seat Shown bytes written stored
+    → LaterRefused door hub seat Told bytes written stored
+    → LaterRefused door hub seat Shown bytes written stored
 refused_served hub seat Told Shown bytes written stored f a = record {
   replies = a.replies;
   later = a.later;
@@ -593,25 +618,26 @@ refused_served hub seat Told Shown bytes written stored f a = record {
   answered = a.answered;
 }
 
-ends_served : (hub : Beginning) (seat : ℕ) (Told Shown : List What → ℕ → Type 0)
+ends_served : (door : Door) (hub : Beginning) (seat : ℕ) (Told Shown : List What → ℕ → Type 0)
     (bytes written : List ℕ) (cause : Cause)
     → ((whats : List What) (waiting : ℕ) → Told whats waiting → Shown whats waiting)
-    → EndsCommands hub seat Told bytes written cause → EndsCommands hub seat Shown
+    → EndsCommands door hub seat Told bytes written cause → EndsCommands door hub seat Shown
     bytes written cause
-ends_served hub seat Told Shown bytes written Read f ends =
+ends_served door hub seat Told Shown bytes written Read f ends =
     all_served hub seat Told Shown bytes written f ends
-ends_served hub seat Told Shown bytes written Write f ends =
+ends_served door hub seat Told Shown bytes written Write f ends =
     cut_served hub seat Told Shown bytes written f ends
-ends_served hub seat Told Shown bytes written (Session cause) f ends = absurd ends
-ends_served hub seat Told Shown bytes written (Post fault) f ends =
+ends_served door hub seat Told Shown bytes written (Session cause) f ends = absurd ends
+ends_served door hub seat Told Shown bytes written (Post fault) f ends =
     refused_served hub seat Told Shown bytes written (stored_of fault 1) f ends
-ends_served hub seat Told Shown bytes written Look f ends =
+ends_served door hub seat Told Shown bytes written Look f ends =
     refused_served hub seat Told Shown bytes written 0 f ends
 
-quit_served : (hub : Beginning) (seat : ℕ) (Told Shown : List What → ℕ → Type 0)
+quit_served : {door : Door} (hub : Beginning) (seat : ℕ) (Told Shown : List What → ℕ → Type 0)
     (bytes written : List ℕ)
     → ((whats : List What) (waiting : ℕ) → Told whats waiting → Shown whats waiting)
-    → AnsweredToQuit hub seat Told bytes written → AnsweredToQuit hub seat Shown bytes written
+    → AnsweredToQuit door hub seat Told bytes written
+    → AnsweredToQuit door hub seat Shown bytes written
 quit_served hub seat Told Shown bytes written f a = record {
   replies = a.replies;
   line = a.line;
@@ -624,12 +650,12 @@ quit_served hub seat Told Shown bytes written f a = record {
   answered = a.answered;
 }
 
-pub commanded_whole : (hub : Beginning) (seat : ℕ) (worker : Worker)
+pub commanded_whole : {door : Door} (hub : Beginning) (seat : ℕ) (worker : Worker)
     (start now : Traffic) (served : Served)
     → ((whats : List What) (waiting : ℕ) → HasTold hub worker.poster whats waiting
     → IsServed hub seat whats waiting served)
-    → IsDone hub seat worker start now
-    → IsCommandedWhole hub seat start now served
+    → IsDone door hub seat worker start now
+    → IsCommandedWhole door hub seat start now served
 commanded_whole hub seat worker start now served f (inl w) =
     let stops = stops_failed hub seat worker start now w in record {
       bytes = stops.bytes;
@@ -648,17 +674,17 @@ commanded_whole hub seat worker start now served f (inr quit) = record {
       quit.ends);
 }
 
-pub commanded_until : (hub : Beginning) (seat : ℕ) (worker : Worker)
+pub commanded_until : {door : Door} (hub : Beginning) (seat : ℕ) (worker : Worker)
     (start now : Traffic) (faulted : Faulted)
     → ((whats : List What) (waiting : ℕ) → HasTold hub worker.poster whats waiting
     → IsServed hub seat whats waiting faulted.served)
-    → Stops hub seat worker start now faulted.cause → IsCommandedUntil hub seat
+    → Stops door hub seat worker start now faulted.cause → IsCommandedUntil door hub seat
     start now faulted
-commanded_until hub seat worker start now faulted f stops = record {
+commanded_until {door} hub seat worker start now faulted f stops = record {
   bytes = stops.bytes;
   written = stops.written;
   carried = stops.carried;
-  ends = ends_served hub seat (HasTold hub worker.poster)
+  ends = ends_served door hub seat (HasTold hub worker.poster)
       (λ whats waiting. IsServed hub seat whats waiting faulted.served) stops.bytes stops.written
       faulted.cause f stops.ends;
 }

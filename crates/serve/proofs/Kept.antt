@@ -2,7 +2,8 @@
 use Rattle.std.proofs.Common.{◌≡◌, ℕ, zero, suc, ◌+◌, ◌<◌, ◌≤◌, true, false, not, subst}
 use Rattle.std.proofs.Common.{eqb, ltb, List, [], ◌∷◌, ◌++◌, length, take, drop, Option, Some, None}
 use Rattle.std.proofs.Common.{refl, ap, sym, ◌∙◌, inl, inr, arith, append-nil}
-use Rattle.std.proofs.Common.{length-take-le, Err}
+use Rattle.std.proofs.Common.{length-take-le, Err, codes}
+use Rattle.std.specs.Fmt.{decimal}
 use Rattle.std.specs.Prelude.{if◌then◌else◌, nat_lt}
 use Rattle.std.specs.Option.{option_or, option_to_list}
 use Rattle.std.proofs.Math.Seq.{take-append-add, drop-append-add}
@@ -17,9 +18,14 @@ use Rattle.fleet_model.specs.State.{State}
 use Rattle.show_clear.proofs.Returns.{are_returns, returns_before, returns_behind}
 use Rattle.line_words.specs.Words.{words}
 use Rattle.show_clear.specs.Parse.{asked, command_of, without_returns}
+use Rattle.show_clear.specs.Explained.{long_text, words_text}
+use Rattle.show_clear.specs.Refusal.{fault_name, fault_number}
+use Rattle.show_clear.specs.declared.fault.CommandFault.{CommandFault}
 use Rattle.show_clear.specs.declared.fault.CommandFault.TheVariants.{Unknown}
 use Rattle.serve.specs.Commanding.{kept_of, text_byte}
-use Rattle.serve.specs.Status.{asked_by, asked_in, by_words, is_quit, quits}
+use Rattle.serve.specs.Status.{asked_by, asked_in, by_words, is_quit, quits, refusal_at}
+use Rattle.serve.specs.declared.door.Door.{Door}
+use Rattle.serve.specs.declared.door.Door.TheVariants.{Programs, People}
 
 -- ---- what a line says stands in what is kept of it
 
@@ -102,6 +108,15 @@ pub kept_asks : (config : Config) (line : List ℕ) → asked_in config (kept_of
     ≡ asked_in config line
 unfolding asked_in
 kept_asks config line = kept_words None (asked_by config) line
+
+-- what is told of a refused line stands in what is kept of it
+pub kept_tells : (door : Door) (book : State) (line : List ℕ) (fault : CommandFault)
+    → refusal_at door book (kept_of line) fault ≡ refusal_at door book line fault
+kept_tells Programs book line fault = refl
+kept_tells People book line fault =
+    ap (λ (told : List ℕ). codes "refused " ++ decimal (fault_number fault) ++ codes " "
+    ++ fault_name fault ++ codes ": " ++ told ++ codes "\n")
+    (kept_words long_text (λ ws. words_text book ws fault) line)
 
 pub kept_quits : (line : List ℕ) → quits (kept_of line) ≡ quits line
 unfolding quits

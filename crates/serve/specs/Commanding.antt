@@ -12,6 +12,7 @@ use Rattle.hub.specs.History.{Beginning}
 use Rattle.hub.specs.Posts.{Follows}
 use Rattle.serve.specs.declared.admin.Answered.{Answered}
 use Rattle.serve.specs.declared.admin.Worker.{Worker}
+use Rattle.serve.specs.declared.door.Door.{Door}
 use Rattle.serve.specs.declared.faults.LineFault.{LineFault}
 use Rattle.serve.specs.declared.faults.LineFault.TheVariants.{Write, Post, Look}
 use Rattle.serve.specs.declared.served.Cause.{Cause}
@@ -57,19 +58,20 @@ reply_of line change text seen =
     record { line = line; change = change; text = text; seen = seen }
 
 -- a line is answered over what its lens has seen
-pub record HasLooked (hub since : Beginning) (seat : ℕ) (worker : Worker) (whats : List What)
+pub record HasLooked (door : Door) (hub since : Beginning) (seat : ℕ) (worker : Worker)
+    (whats : List What)
     (line : List ℕ) (answered : Answered) : Type 0 where
   pub learned : HasLearned hub worker.lens.seen seat worker whats
-  pub is : IsReply since seat whats
+  pub is : IsReply door since seat whats
       (reply_of line answered.change answered.text.items worker.lens.seen)
 
 -- the same, else no copy could be entered, or an allocation failed, and no more was told
-abbrev pub LooksTo : Beginning → Beginning → ℕ → Worker → List What → List ℕ
+abbrev pub LooksTo : Door → Beginning → Beginning → ℕ → Worker → List What → List ℕ
     → Result (Option Answered) NoMemory → Type 0
-LooksTo hub since seat worker whats line (Ok (Some answered)) =
-    HasLooked hub since seat worker whats line answered
-LooksTo hub since seat worker whats line (Ok None) = HasTold hub worker.poster whats 0
-LooksTo hub since seat worker whats line (Err want) = HasTold hub worker.poster whats 0
+LooksTo door hub since seat worker whats line (Ok (Some answered)) =
+    HasLooked door hub since seat worker whats line answered
+LooksTo door hub since seat worker whats line (Ok None) = HasTold hub worker.poster whats 0
+LooksTo door hub since seat worker whats line (Err want) = HasTold hub worker.poster whats 0
 
 -- what a line asks for is told behind what was told before it, and learned; or refused
 abbrev pub ChangesTo : Beginning → Beginning → ℕ → Worker → List What → List What
@@ -80,88 +82,95 @@ ChangesTo hub since seat worker whats batch (Err fault) =
     HasTold hub worker.poster whats (stored_of fault 1)
 
 -- a line has a reply, and what it asks for was told and learned
-pub record HasObeyed (hub since : Beginning) (seat : ℕ) (worker : Worker) (whats : List What)
+pub record HasObeyed (door : Door) (hub since : Beginning) (seat : ℕ) (worker : Worker)
+    (whats : List What)
     (line : List ℕ) (reply : Reply) : Type 0 where
   pub answers : reply.line ≡ line
-  pub is : IsReply since seat whats reply
+  pub is : IsReply door since seat whats reply
   pub learned : HasLearned hub reply.seen seat worker (whats ++ option_to_list reply.change)
 
 -- its answer was written, or a beginning of it; or nothing of a line was told nor written
-abbrev pub ObeysTo : Beginning → Beginning → ℕ → Worker → List What → List ℕ → Option (List ℕ)
+abbrev pub ObeysTo : Door → Beginning → Beginning → ℕ → Worker → List What → List ℕ
+    → Option (List ℕ)
     → Option (List ℕ) → Result (Unit {0}) LineFault → Type 0
-ObeysTo hub since seat worker whats line before after (Ok done) =
-    (reply : Reply) × HasObeyed hub since seat worker whats line reply
+ObeysTo door hub since seat worker whats line before after (Ok done) =
+    (reply : Reply) × HasObeyed door hub since seat worker whats line reply
     × Appends before after reply.text
-ObeysTo hub since seat worker whats line before after (Err Write) =
-    (reply : Reply) × HasObeyed hub since seat worker whats line reply
+ObeysTo door hub since seat worker whats line before after (Err Write) =
+    (reply : Reply) × HasObeyed door hub since seat worker whats line reply
     × WroteFront before after reply.text
-ObeysTo hub since seat worker whats line before after (Err (Post fault)) =
+ObeysTo door hub since seat worker whats line before after (Err (Post fault)) =
     HasTold hub worker.poster whats (stored_of fault 1) × Appends before after []
-ObeysTo hub since seat worker whats line before after (Err Look) =
+ObeysTo door hub since seat worker whats line before after (Err Look) =
     HasTold hub worker.poster whats 0 × Appends before after []
 
 -- an admin at work, with what its source gave and its writer took since it began; so many bytes of
 -- a piece are left
-pub record Works (hub : Beginning) (seat : ℕ) (worker : Worker) (rest : List ℕ)
+pub record Works (door : Door) (hub : Beginning) (seat : ℕ) (worker : Worker) (rest : List ℕ)
     (start now : Traffic) : Type 0 where
   pub replies : List Reply
   pub line : List ℕ
-  pub are : AreReplies hub seat replies
+  pub are : AreReplies door hub seat replies
   pub learned : HasLearned hub (seen_by hub replies) seat worker (changes_in replies)
   pub keeps : worker.line.bytes.items ≡ kept_of line
   pub unended : HasNoEnd line
   pub carried : Advances start now (lines_in replies ++ (line ++ rest)) (texts_in replies)
 
 -- it has ended for this cause
-pub record Stops (hub : Beginning) (seat : ℕ) (worker : Worker)
+pub record Stops (door : Door) (hub : Beginning) (seat : ℕ) (worker : Worker)
     (start now : Traffic) (cause : Cause) : Type 0 where
   pub bytes : List ℕ
   pub written : List ℕ
   pub carried : Advances start now bytes written
-  pub ends : EndsCommands hub seat (HasTold hub worker.poster) bytes written cause
+  pub ends : EndsCommands door hub seat (HasTold hub worker.poster) bytes written cause
 
 -- a line asked to quit
-pub record HasQuit (hub : Beginning) (seat : ℕ) (worker : Worker) (start now : Traffic)
+pub record HasQuit (door : Door) (hub : Beginning) (seat : ℕ) (worker : Worker)
+    (start now : Traffic)
     : Type 0 where
   pub bytes : List ℕ
   pub written : List ℕ
   pub carried : Advances start now bytes written
-  pub ends : AnsweredToQuit hub seat (HasTold hub worker.poster) bytes written
+  pub ends : AnsweredToQuit door hub seat (HasTold hub worker.poster) bytes written
 
 -- it has done all that it read asks for, up to a line that asks to quit if there is one
-abbrev pub IsDone : Beginning → ℕ → Worker → Traffic → Traffic → Type 0
-IsDone hub seat worker start now =
-    Works hub seat worker [] start now ⊎ HasQuit hub seat worker start now
+abbrev pub IsDone : Door → Beginning → ℕ → Worker → Traffic → Traffic → Type 0
+IsDone door hub seat worker start now =
+    Works door hub seat worker [] start now ⊎ HasQuit door hub seat worker start now
 
 -- it works on, or is done
-abbrev pub WorksIf : Bool → Beginning → ℕ → Worker → List ℕ → Traffic → Traffic → Type 0
-WorksIf true hub seat worker rest start now = Works hub seat worker rest start now
-WorksIf false hub seat worker rest start now = IsDone hub seat worker start now
+abbrev pub WorksIf : Door → Bool → Beginning → ℕ → Worker → List ℕ → Traffic → Traffic → Type 0
+WorksIf door true hub seat worker rest start now = Works door hub seat worker rest start now
+WorksIf door false hub seat worker rest start now = IsDone door hub seat worker start now
 
 -- it works on, is done, or has ended for a cause
-abbrev pub WorksOn : Beginning → ℕ → Worker → List ℕ → Traffic → Traffic → Result Bool Cause
+abbrev pub WorksOn : Door → Beginning → ℕ → Worker → List ℕ → Traffic → Traffic → Result Bool Cause
     → Type 0
-WorksOn hub seat worker rest start now (Ok goes) = WorksIf goes hub seat worker rest start now
-WorksOn hub seat worker rest start now (Err cause) =
-    Stops hub seat worker start now cause
+WorksOn door hub seat worker rest start now (Ok goes) =
+    WorksIf door goes hub seat worker rest start now
+WorksOn door hub seat worker rest start now (Err cause) =
+    Stops door hub seat worker start now cause
 
 -- the same after a step, which can't fail for every cause
-abbrev pub GoesOn : Beginning → ℕ → Worker → List ℕ → Traffic → Traffic → Result Bool LineFault
+abbrev pub GoesOn : Door → Beginning → ℕ → Worker → List ℕ → Traffic → Traffic
+    → Result Bool LineFault
     → Type 0
-GoesOn hub seat worker rest start now (Ok goes) = WorksIf goes hub seat worker rest start now
-GoesOn hub seat worker rest start now (Err fault) =
-    Stops hub seat worker start now (cause_of_line fault)
+GoesOn door hub seat worker rest start now (Ok goes) =
+    WorksIf door goes hub seat worker rest start now
+GoesOn door hub seat worker rest start now (Err fault) =
+    Stops door hub seat worker start now (cause_of_line fault)
 
 -- it is done, or has ended for a cause
-abbrev pub RunsOut : Beginning → ℕ → Worker → Traffic → Traffic → Result (Unit {0}) Cause → Type 0
-RunsOut hub seat worker start now (Ok done) = IsDone hub seat worker start now
-RunsOut hub seat worker start now (Err cause) = Stops hub seat worker start now cause
+abbrev pub RunsOut : Door → Beginning → ℕ → Worker → Traffic → Traffic
+    → Result (Unit {0}) Cause → Type 0
+RunsOut door hub seat worker start now (Ok done) = IsDone door hub seat worker start now
+RunsOut door hub seat worker start now (Err cause) = Stops door hub seat worker start now cause
 
 -- a step that takes bytes which were read, and leaves some of them, whatever was read and written
 -- before
-abbrev pub Takes : Beginning → Worker → Worker → List ℕ → List ℕ
+abbrev pub Takes : Door → Beginning → Worker → Worker → List ℕ → List ℕ
     → Option (List ℕ) → Option (List ℕ) → Result Bool LineFault → Type 0
-Takes hub old new bytes rest before after result =
+Takes door hub old new bytes rest before after result =
     (seat : ℕ) (start : Traffic) (given : Option (List ℕ))
-    → Works hub seat old bytes start (so_far given before)
-    → GoesOn hub seat new rest start (so_far given after) result
+    → Works door hub seat old bytes start (so_far given before)
+    → GoesOn door hub seat new rest start (so_far given after) result

@@ -2,6 +2,7 @@
 use Rattle.std.specs.Prelude.{◌≡◌, ℕ, Option, Result, MatchResult}
 use Rattle.agg_types.specs.declared.config.Config.{Config}
 use Rattle.hub.specs.History.{Beginning}
+use Rattle.serve.specs.declared.door.Door.{Door}
 use Rattle.serve.specs.declared.served.Faulted.{Faulted}
 use Rattle.serve.specs.declared.served.Served.{Served}
 use Rattle.serve.specs.Commands.{IsCommandedUntil, IsCommandedWhole}
@@ -18,14 +19,14 @@ pub record WasServed (config : Config) (start now : Traffic)
   pub how : MatchResult ended (IsServedWhole hub seat start now)
       (IsServedUntil hub seat start now)
 
--- a hub of this configuration served an admin
-pub record WasCommanded (config : Config) (start now : Traffic)
+-- a hub of this configuration served an admin whose answers are for these readers
+pub record WasCommanded (door : Door) (config : Config) (start now : Traffic)
     (ended : Result Served Faulted) : Type 0 where
   pub hub : Beginning
   pub of : hub.config ≡ config
   pub seat : ℕ
-  pub how : MatchResult ended (IsCommandedWhole hub seat start now)
-      (IsCommandedUntil hub seat start now)
+  pub how : MatchResult ended (IsCommandedWhole door hub seat start now)
+      (IsCommandedUntil door hub seat start now)
 
 -- a timer told a hub moments of a clock, at some seat
 pub record WasTimed (gives : ℕ → Type 0) (ended : Result Served Faulted) : Type 0 where

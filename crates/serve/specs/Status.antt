@@ -6,10 +6,15 @@ use Rattle.agg_config.specs.Written.{text_of}
 use Rattle.agg_types.specs.declared.config.Config.{Config}
 use Rattle.agg_types.specs.declared.limits.TheConstants.{LONGEST_COMMAND_LINE}
 use Rattle.config_text.specs.Spaced.{filter_lines, rank_lines}
+use Rattle.fleet_model.specs.State.{State}
 use Rattle.line_words.specs.Words.{words}
+use Rattle.show_clear.specs.Explained.{explained_refusal}
 use Rattle.show_clear.specs.Parse.{without_returns}
 use Rattle.show_clear.specs.Refusal.{refusal_text}
+use Rattle.show_clear.specs.declared.fault.CommandFault.{CommandFault}
 use Rattle.show_clear.specs.declared.fault.CommandFault.TheVariants.{NoTable}
+use Rattle.serve.specs.declared.door.Door.{Door}
+use Rattle.serve.specs.declared.door.Door.TheVariants.{Programs, People}
 use Rattle.serve.specs.declared.status.Asked.{Asked}
 use Rattle.serve.specs.declared.status.Asked.TheVariants as asks
 use Rattle.serve.specs.declared.status.Status.TheVariants.{Help, Info, Peers, Tables}
@@ -72,10 +77,15 @@ is_quit (word ∷ more ∷ ws) = false
 unfoldable pub quits : List ℕ → Bool
 quits line = by_words false is_quit line
 
+-- the refusal of a line: people are told which word is wrong, and what was expected
+abbrev pub refusal_at : Door → State → List ℕ → CommandFault → List ℕ
+refusal_at Programs book line fault = refusal_text fault
+refusal_at People book line fault = explained_refusal book line fault
+
 -- The answer to what is asked for. What a gate tells no clause says.
-abbrev pub IsStatus : Config → Asked → List ℕ → Type 0
-IsStatus config (asks.Status status) answer = Unit {0}
-IsStatus config asks.Config answer = answer ≡ text_of config
-IsStatus config asks.Filters answer = answer ≡ filter_lines config
-IsStatus config asks.Ranks answer = answer ≡ rank_lines config
-IsStatus config asks.NoPeer answer = answer ≡ refusal_text NoTable
+abbrev pub IsStatus : Door → State → List ℕ → Asked → List ℕ → Type 0
+IsStatus door book line (asks.Status status) answer = Unit {0}
+IsStatus door book line asks.Config answer = answer ≡ text_of book.config
+IsStatus door book line asks.Filters answer = answer ≡ filter_lines book.config
+IsStatus door book line asks.Ranks answer = answer ≡ rank_lines book.config
+IsStatus door book line asks.NoPeer answer = answer ≡ refusal_at door book line NoTable

@@ -9,17 +9,17 @@ ghost use Rattle.agg_types.specs.declared.event.What.{What};
 ghost use Rattle.hub.specs.History.{Beginning};
 ghost use Rattle.hub.specs.Posts.{Follows, SitsDown};
 ghost use Rattle.hub.specs.Roll.{MayPost};
-ghost use Rattle.serve.specs.Commands.{AnswersWith, HasNoEnd, IsCommandedUntil, IsCommandedWhole};
-ghost use Rattle.serve.specs.Commands.{IsTold, Replies, RepliesTo};
-ghost use Rattle.serve.specs.Status.{IsStatus, quits};
+ghost use Rattle.serve.specs.Commands.{AnswersAt, AnswersWith, HasNoEnd, IsCommandedUntil};
+ghost use Rattle.serve.specs.Commands.{IsCommandedWhole, IsTold, Replies, RepliesTo};
+ghost use Rattle.serve.specs.Status.{IsStatus, quits, refusal_at};
 ghost use Rattle.serve.specs.Told.{stored_of};
 ghost use Rattle.serve.specs.Traffic.{Traffic, so_far};
 ghost use Rattle.show_clear.specs.Answer.{NamesExist};
 ghost use Rattle.show_clear.specs.Change.{asked_event};
-ghost use Rattle.show_clear.specs.Refusal.{refusal_text};
 
 use crate::clock::Clock;
 use crate::context::{Context, Link};
+use crate::door::Door;
 use crate::faults::LineFault;
 use crate::gate::{Gate, Place};
 use crate::lines::{Line, split_line};
@@ -33,7 +33,7 @@ use agg_types::{NoMemory, What};
 use book::Book;
 use config_text::{append_config, append_filters, append_ranks};
 use hub::{Lens, Naming, Pass, PostFault};
-use show_clear::{Command, CommandFault, answer, parse, refusal};
+use show_clear::{Command, CommandFault, answer, answer_people, explain, parse, refusal};
 use std::alloc::Global;
 use std::io::Write;
 use std::sync::Wait;
@@ -55,14 +55,49 @@ fn refused(alloc: Global) -> PostFault
     PostFault::NoMemory(Vec::new(alloc))
 }
 
+/// Appends the answer to a command.
+fn append_answer(
+    alloc: Global,
+    book: &Book,
+    command: &Command,
+    door: Door,
+    out: &mut Vec<u8>,
+) -> Result<(), NoMemory>
+    requires { NamesExist book.now command.now }
+    ensures { OnOk result (AnswersAt door book.now command.now out.old.items out.new.items) }
+{
+    match door {
+        Door::Programs => answer(alloc, book, command, out),
+        Door::People => answer_people(alloc, book, command, out),
+    }
+}
+
+/// Appends the refusal of a line.
+fn append_refusal(
+    alloc: Global,
+    book: &Book,
+    line: &[u8],
+    fault: CommandFault,
+    door: Door,
+    out: &mut Vec<u8>,
+) -> Result<(), NoMemory>
+    ensures { OnOk result
+        (out.new.items ≡ out.old.items ++ refusal_at door book.now line.now fault) }
+{
+    match door {
+        Door::Programs => refusal(&fault, out),
+        Door::People => explain(alloc, book, line, &fault, out),
+    }
+}
+
 /// The answer to a command.
-fn obeyed(alloc: Global, book: &Book, command: Command) -> Result<Answered, NoMemory>
+fn obeyed(alloc: Global, book: &Book, command: Command, door: Door) -> Result<Answered, NoMemory>
     requires { NamesExist book.now command }
     ensures change { IfOk result (λ a. a.change ≡ asked_event command) }
-    ensures text { IfOk result (λ a. AnswersWith book.now command a.text.items) }
+    ensures text { IfOk result (λ a. AnswersWith door book.now command a.text.items) }
 {
     let mut text = Vec::new(alloc);
-    answer(alloc, book, &command, &mut text)?;
+    append_answer(alloc, book, &command, door, &mut text)?;
     text.push(b'\n')?;
     Ok(Answered {
         change: command.into_event(),
@@ -71,25 +106,38 @@ fn obeyed(alloc: Global, book: &Book, command: Command) -> Result<Answered, NoMe
 }
 
 /// The refusal of a line.
-fn refused_line(alloc: Global, fault: CommandFault) -> Result<Answered, NoMemory>
+fn refused_line(
+    alloc: Global,
+    book: &Book,
+    line: &[u8],
+    fault: CommandFault,
+    door: Door,
+) -> Result<Answered, NoMemory>
     ensures change { IfOk result (λ a. a.change ≡ None) }
-    ensures text { IfOk result (λ a. a.text.items ≡ refusal_text fault ++ codes "\n") }
+    ensures text { IfOk result
+        (λ a. a.text.items ≡ refusal_at door book.now line.now fault ++ codes "\n") }
 {
     let mut text = Vec::new(alloc);
-    refusal(&fault, &mut text)?;
+    append_refusal(alloc, book, line, fault, door, &mut text)?;
     text.push(b'\n')?;
     Ok(Answered { change: None, text })
 }
 
 /// What a command's line is answered over a book.
-fn answer_to_command(alloc: Global, book: &Book, line: &[u8]) -> Result<Answered, NoMemory>
-    ensures replies { IfOk result (λ a. RepliesTo None book.now line.now a.change a.text.items) }
+fn answer_to_command(
+    alloc: Global,
+    book: &Book,
+    line: &[u8],
+    door: Door,
+) -> Result<Answered, NoMemory>
+    ensures replies { IfOk result
+        (λ a. RepliesTo door None book.now line.now a.change a.text.items) }
     ensures fits { (config : Config) → config.tables ≡ book.now.config.tables
         → IfOk result (λ a. IfSome a.change (MayPost config)) }
 {
     match parse(alloc, book, line) {
-        Ok(command) => obeyed(alloc, book, command),
-        Err(fault) => refused_line(alloc, fault),
+        Ok(command) => obeyed(alloc, book, command, door),
+        Err(fault) => refused_line(alloc, book, line, fault, door),
     }
 }
 
@@ -98,9 +146,11 @@ fn status_text<G: Gate>(
     alloc: Global,
     gate: &G,
     book: &Book,
+    line: &[u8],
     asked: Asked,
+    door: Door,
 ) -> Result<Vec<u8>, NoMemory>
-    ensures { IfOk result (λ text. IsStatus book.now.config asked text.items) }
+    ensures { IfOk result (λ text. IsStatus door book.now line.now asked text.items) }
 {
     let mut text = Vec::new(alloc);
     match asked {
@@ -108,17 +158,27 @@ fn status_text<G: Gate>(
         Asked::Config => append_config(book.config(), &mut text)?,
         Asked::Filters => append_filters(book.config(), &mut text)?,
         Asked::Ranks => append_ranks(book.config(), &mut text)?,
-        Asked::NoPeer => refusal(&CommandFault::NoTable, &mut text)?,
+        Asked::NoPeer => {
+            append_refusal(alloc, book, line, CommandFault::NoTable, door, &mut text)?
+        }
     }
     Ok(text)
 }
 
 /// What is answered to what is asked for beside commands.
-fn told<G: Gate>(alloc: Global, gate: &G, book: &Book, asked: Asked) -> Result<Answered, NoMemory>
+fn told<G: Gate>(
+    alloc: Global,
+    gate: &G,
+    book: &Book,
+    line: &[u8],
+    asked: Asked,
+    door: Door,
+) -> Result<Answered, NoMemory>
     ensures change { IfOk result (λ a. a.change ≡ None) }
-    ensures told { IfOk result (λ a. IsTold book.now asked a.change a.text.items) }
+    ensures told { IfOk result
+        (λ a. IsTold door book.now line.now asked a.change a.text.items) }
 {
-    let mut text = status_text(alloc, gate, book, asked)?;
+    let mut text = status_text(alloc, gate, book, line, asked, door)?;
     text.push(b'\n')?;
     Ok(Answered { change: None, text })
 }
@@ -129,14 +189,15 @@ fn answer_to<G: Gate>(
     gate: &G,
     book: &Book,
     line: &[u8],
+    door: Door,
 ) -> Result<Answered, NoMemory>
-    ensures replies { IfOk result (λ a. Replies book.now line.now a.change a.text.items) }
+    ensures replies { IfOk result (λ a. Replies door book.now line.now a.change a.text.items) }
     ensures fits { (config : Config) → config.tables ≡ book.now.config.tables
         → IfOk result (λ a. IfSome a.change (MayPost config)) }
 {
     match asked_in(book.config(), line) {
-        None => answer_to_command(alloc, book, line),
-        Some(asked) => told(alloc, gate, book, asked),
+        None => answer_to_command(alloc, book, line, door),
+        Some(asked) => told(alloc, gate, book, line, asked, door),
     }
 }
 
@@ -172,7 +233,12 @@ impl Worker {
 
     // Answers the line that is kept, over a look that has all that was posted and learned. None
     // where no copy of the book could be entered.
-    fn look<G: Gate>(&mut self, alloc: Global, gate: &G) -> Result<Option<Answered>, NoMemory>
+    fn look<G: Gate>(
+        &mut self,
+        alloc: Global,
+        gate: &G,
+        door: Door,
+    ) -> Result<Option<Answered>, NoMemory>
         ensures poster { self.new.poster ≡ self.old.poster }
         ensures lens { Follows self.old.lens.seen self.new.lens.seen }
         ensures fits { (hub : Beginning) → Follows hub self.old.lens.seen
@@ -180,12 +246,12 @@ impl Worker {
         ensures looks { (hub since : Beginning) (seat : ℕ) (whats : List What) (line : List ℕ)
             → HasLearned hub since seat self.old whats → self.old.line.bytes.items ≡ kept_of line
             → HasNoEnd line → quits line ≡ false
-            → LooksTo hub since seat self.new whats line result }
+            → LooksTo door hub since seat self.new whats line result }
     {
         let Some(look) = self.lens.look() else {
             return Ok(None);
         };
-        let answered = answer_to(alloc, gate, look.book(), self.line.as_slice())?;
+        let answered = answer_to(alloc, gate, look.book(), self.line.as_slice(), door)?;
         Ok(Some(answered))
     }
 
@@ -257,7 +323,8 @@ impl<'a, J: Naming, H: Wait + Drop, R: Wait, C: Clock, G: Gate> Context<'a, J, H
         }
     }
 
-    // Does what a line asks for that was looked at, and writes its answer.
+    // Does what a line asks for that was looked at, and writes its answer, which is for the readers
+    // at some door.
     fn reply<W: Write>(
         &self,
         worker: &mut Worker,
@@ -267,9 +334,10 @@ impl<'a, J: Naming, H: Wait + Drop, R: Wait, C: Clock, G: Gate> Context<'a, J, H
         requires at { IsAtHub self.now.hub.now worker.old }
         requires fits { IfSome answered.change (MayPost self.now.hub.now.config) }
         ensures keeps { KeepsPoster self.now.hub.now worker.old worker.new }
-        ensures obeys { (since : Beginning) (seat : ℕ) (whats : List What) (line : List ℕ)
-            → HasLooked self.now.hub.now since seat worker.old whats line answered
-            → ObeysTo self.now.hub.now since seat worker.new whats line (W.contents writer.old)
+        ensures obeys { (door : Door) (since : Beginning) (seat : ℕ) (whats : List What)
+            (line : List ℕ)
+            → HasLooked door self.now.hub.now since seat worker.old whats line answered
+            → ObeysTo door self.now.hub.now since seat worker.new whats line (W.contents writer.old)
             (W.contents writer.new) result }
     {
         let Answered { change, text } = answered;
@@ -279,17 +347,22 @@ impl<'a, J: Naming, H: Wait + Drop, R: Wait, C: Clock, G: Gate> Context<'a, J, H
     }
 
     // Does what the line that is kept asks for, and writes its answer.
-    fn obey<W: Write>(&self, worker: &mut Worker, writer: &mut W) -> Result<(), LineFault>
+    fn obey<W: Write>(
+        &self,
+        worker: &mut Worker,
+        writer: &mut W,
+        door: Door,
+    ) -> Result<(), LineFault>
         requires { IsAtHub self.now.hub.now worker.old }
         ensures keeps { KeepsPoster self.now.hub.now worker.old worker.new }
         ensures obeys { (since : Beginning) (seat : ℕ) (whats : List What) (line : List ℕ)
             → HasLearned self.now.hub.now since seat worker.old whats
             → worker.old.line.bytes.items ≡ kept_of line → HasNoEnd line → quits line ≡ false
-            → ObeysTo self.now.hub.now since seat worker.new whats line (W.contents writer.old)
+            → ObeysTo door self.now.hub.now since seat worker.new whats line (W.contents writer.old)
             (W.contents writer.new) result }
     {
         self.gate.turn(Place::Admin);
-        match worker.look(self.alloc, self.gate) {
+        match worker.look(self.alloc, self.gate, door) {
             Ok(Some(answered)) => self.reply(worker, writer, answered),
             Ok(None) => Err(LineFault::Look),
             Err(NoMemory) => Err(LineFault::Post(refused(self.alloc))),
@@ -302,11 +375,12 @@ impl<'a, J: Naming, H: Wait + Drop, R: Wait, C: Clock, G: Gate> Context<'a, J, H
         worker: &mut Worker,
         writer: &mut W,
         bytes: &[u8],
+        door: Door,
     ) -> Result<bool, LineFault>
         requires { IsAtHub self.now.hub.now worker.old }
         ensures keeps { KeepsPoster self.now.hub.now worker.old worker.new }
         ensures takes { (rest : List ℕ) → HasNoEnd bytes.now
-            → Takes self.now.hub.now worker.old worker.new (bytes.now ++ 10 ∷ rest) rest
+            → Takes door self.now.hub.now worker.old worker.new (bytes.now ++ 10 ∷ rest) rest
             (W.contents writer.old) (W.contents writer.new) result }
     {
         if worker.keep(bytes).is_err() {
@@ -315,7 +389,7 @@ impl<'a, J: Naming, H: Wait + Drop, R: Wait, C: Clock, G: Gate> Context<'a, J, H
         if quits(worker.line.as_slice()) {
             return Ok(false);
         }
-        self.obey(worker, writer)?;
+        self.obey(worker, writer, door)?;
         worker.line.clear();
         Ok(true)
     }
@@ -327,15 +401,16 @@ impl<'a, J: Naming, H: Wait + Drop, R: Wait, C: Clock, G: Gate> Context<'a, J, H
         worker: &mut Worker,
         writer: &mut W,
         piece: &[u8],
+        door: Door,
     ) -> Result<bool, LineFault>
         requires { IsAtHub self.now.hub.now worker.old }
         ensures keeps { KeepsPoster self.now.hub.now worker.old worker.new }
-        ensures takes { Takes self.now.hub.now worker.old worker.new piece.now []
+        ensures takes { Takes door self.now.hub.now worker.old worker.new piece.now []
             (W.contents writer.old) (W.contents writer.new) result }
     {
         let mut rest = piece;
         while let Some((front, behind)) = split_line(rest) {
-            let goes = self.end_line(worker, writer, front)?;
+            let goes = self.end_line(worker, writer, front, door)?;
             if !goes {
                 return Ok(false);
             }
@@ -353,6 +428,7 @@ impl<'a, J: Naming, H: Wait + Drop, R: Wait, C: Clock, G: Gate> Context<'a, J, H
         worker: &mut Worker,
         link: &mut Link<S, W>,
         buffer: &mut [u8],
+        door: Door,
     ) -> Result<bool, Cause>
         requires reads { S.reads link.old.source < 2 ^ 62 }
         requires at { IsAtHub self.now.hub.now worker.old }
@@ -362,9 +438,9 @@ impl<'a, J: Naming, H: Wait + Drop, R: Wait, C: Clock, G: Gate> Context<'a, J, H
         ensures read { result ≡ Err Cause.Read
             → S.failed link.old.source < S.failed link.new.source }
         ensures works { (seat : ℕ) (start : Traffic)
-            → Works self.now.hub.now seat worker.old [] start
+            → Works door self.now.hub.now seat worker.old [] start
             (so_far (S.given link.old.source) (W.contents link.old.writer))
-            → WorksOn self.now.hub.now seat worker.new [] start
+            → WorksOn door self.now.hub.now seat worker.new [] start
             (so_far (S.given link.new.source) (W.contents link.new.writer)) result }
     {
         match link.source.read(buffer) {
@@ -373,7 +449,7 @@ impl<'a, J: Naming, H: Wait + Drop, R: Wait, C: Clock, G: Gate> Context<'a, J, H
             Ok(Came::Nothing) => Ok(worker.wait()),
             Ok(Came::Bytes(count)) => {
                 worker.silent = 0;
-                Ok(self.take_lines(worker, &mut link.writer, front(buffer, count))?)
+                Ok(self.take_lines(worker, &mut link.writer, front(buffer, count), door)?)
             }
         }
     }
@@ -383,6 +459,7 @@ impl<'a, J: Naming, H: Wait + Drop, R: Wait, C: Clock, G: Gate> Context<'a, J, H
         &self,
         worker: &mut Worker,
         link: &mut Link<S, W>,
+        door: Door,
     ) -> Result<(), Cause>
         requires reads { S.reads link.old.source ≡ 0 }
         requires at { IsAtHub self.now.hub.now worker.old }
@@ -390,7 +467,7 @@ impl<'a, J: Naming, H: Wait + Drop, R: Wait, C: Clock, G: Gate> Context<'a, J, H
         requires learned { HasLearned self.now.hub.now self.now.hub.now worker.old.poster.pass.seat
             worker.old [] }
         ensures keeps { KeepsPoster self.now.hub.now worker.old worker.new }
-        ensures works { RunsOut self.now.hub.now worker.old.poster.pass.seat worker.new
+        ensures works { RunsOut door self.now.hub.now worker.old.poster.pass.seat worker.new
             (so_far (S.given link.old.source) (W.contents link.old.writer))
             (so_far (S.given link.new.source) (W.contents link.new.writer)) result }
         ensures read { result ≡ Err Cause.Read
@@ -404,7 +481,7 @@ impl<'a, J: Naming, H: Wait + Drop, R: Wait, C: Clock, G: Gate> Context<'a, J, H
             if self.gate.stop() {
                 return Ok(());
             }
-            let goes = self.turn_admin(worker, link, buffer.as_mut_slice())?;
+            let goes = self.turn_admin(worker, link, buffer.as_mut_slice(), door)?;
             if !goes {
                 return Ok(());
             }
@@ -417,12 +494,14 @@ impl<'a, J: Naming, H: Wait + Drop, R: Wait, C: Clock, G: Gate> Context<'a, J, H
     /// A line ends with LF; one that hasn't ended when the connection does is dropped. Its answer
     /// has an empty line behind it, and is made whole, and the look given up, before anything is
     /// posted or written. A change is posted and learned, and then answered `ok`. A line `quit`
-    /// ends the connection, without an answer; so do 20 reads in a row that gave nothing.
+    /// ends the connection, without an answer; so do 20 reads in a row that gave nothing. `door`
+    /// says for whom the answers are.
     pub fn serve_admin<S: Source, W: Write>(
         &self,
         link: &mut Link<S, W>,
         lens: Lens,
         pass: Pass,
+        door: Door,
     ) -> Result<Served, Faulted>
         requires pass { SitsDown pass × Follows self.now.hub.now pass.seen }
         requires lens { Follows self.now.hub.now lens.seen }
@@ -430,10 +509,10 @@ impl<'a, J: Naming, H: Wait + Drop, R: Wait, C: Clock, G: Gate> Context<'a, J, H
 
         // What was read, changed and answered; and what the receipts show of that.
         ensures served { MatchResult result
-            (IsCommandedWhole self.now.hub.now pass.seat
+            (IsCommandedWhole door self.now.hub.now pass.seat
             (so_far (S.given link.old.source) (W.contents link.old.writer))
             (so_far (S.given link.new.source) (W.contents link.new.writer)))
-            (IsCommandedUntil self.now.hub.now pass.seat
+            (IsCommandedUntil door self.now.hub.now pass.seat
             (so_far (S.given link.old.source) (W.contents link.old.writer))
             (so_far (S.given link.new.source) (W.contents link.new.writer))) }
 
@@ -443,7 +522,7 @@ impl<'a, J: Naming, H: Wait + Drop, R: Wait, C: Clock, G: Gate> Context<'a, J, H
             ⊎ (S.reads link.new.source ≡ 2 ^ 40)) }
     {
         let mut worker = Worker::new(self.alloc, lens, pass);
-        let ended = self.run_admin(&mut worker, link);
+        let ended = self.run_admin(&mut worker, link, door);
         let served = worker.into_poster().leave(self.rt, self.hub);
         match ended {
             Ok(()) => Ok(served),

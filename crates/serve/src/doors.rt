@@ -8,6 +8,7 @@ ghost use Rattle.serve.specs.Traffic.{so_far};
 use crate::clock::Clock;
 use crate::context::{Context, Link};
 use crate::counts::{ADMINS, Counts, Ended};
+use crate::door::Door;
 use crate::gate::{Gate, News, Place};
 use crate::served::{Faulted, Served};
 use crate::source::Source;
@@ -51,6 +52,11 @@ pub trait Doors<S: Source + Drop, W: Write + Drop> {
         ensures unread { IfSome result (λ caller. S.given caller.source ≡ unread) }
         ensures blank { IfSome result (λ caller. W.contents caller.writer ≡ blank) };
 
+    /// Who reads the answers of an admin connection.
+    fn door(&self, _source: &S) -> Door {
+        Door::Programs
+    }
+
     /// Waits for the hello of a peer's connection, in the connection's own thread and before it has
     /// a seat: whether it would be accepted. Only then does the connection get a seat. What was
     /// read for that is what its source gives first.
@@ -82,9 +88,16 @@ pub trait Doors<S: Source + Drop, W: Write + Drop> {
     {}
 
     /// Takes back an admin connection that is over. What was read, changed and answered is what
-    /// `serve_admin` promises.
-    fn part_admin(&self, _config: &Config, _source: S, _writer: W, _ended: Result<Served, Faulted>)
-        requires { WasCommanded _config.now (so_far unread blank)
+    /// `serve_admin` promises of answers for these readers.
+    fn part_admin(
+        &self,
+        _config: &Config,
+        _source: S,
+        _writer: W,
+        _door: Door,
+        _ended: Result<Served, Faulted>,
+    )
+        requires { WasCommanded _door _config.now (so_far unread blank)
             (so_far (S.given _source) (W.contents _writer)) _ended }
     {}
 }
@@ -296,13 +309,14 @@ impl<
             return;
         };
         self.gate.tell(Place::Admin, News::Sat);
-        let ended = self.context(rt).serve_admin(&mut link, lens, pass);
+        let door = doors.door(&link.source);
+        let ended = self.context(rt).serve_admin(&mut link, lens, pass, door);
         self.counts.count(ended.is_ok());
         if has_left(&ended) {
             self.gate.tell(Place::Admin, News::Left);
         }
         let Link { source, writer } = link;
-        doors.part_admin(self.hub.config(), source, writer, ended);
+        doors.part_admin(self.hub.config(), source, writer, door, ended);
     }
 
     // Its seat is taken first; then connections are served.

@@ -8,8 +8,9 @@
 //! written only behind its facts. What it tells its proxy of pushed filters is, after each telling,
 //! exactly their sets at one list of the history, and these lists go on from one another. No clause
 //! says when a telling is made. Promised of an admin: exactly the changes that its lines ask for
-//! are told, in their order, and each line is answered over a book that shows those before it; a
-//! change is answered only once it was told. Promised of a timer: it tells moments of its clock.
+//! are told, in their order, and each line is answered over a book that shows those before it, for
+//! programs or for people (`Door`); a change is answered only once it was told. Promised of a
+//! timer: it tells moments of its clock.
 //! Each goes back from `serve_all` with what is promised of it; no clause says what `serve_all`
 //! starts, when it ends, or what it counts.
 #![tactic(auto)]
@@ -18,6 +19,7 @@ mod admin;
 mod clock;
 mod context;
 mod counts;
+mod door;
 mod doors;
 mod faults;
 mod gate;
@@ -38,6 +40,7 @@ mod writing;
 pub use clock::Clock;
 pub use context::{Context, Link};
 pub use counts::Ended;
+pub use door::Door;
 pub use doors::{Caller, Doors, serve_all};
 pub use gate::{Gate, Gone, News, Place};
 pub use served::{Cause, Faulted, Served};

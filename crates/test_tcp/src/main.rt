@@ -3,7 +3,7 @@
 //! The collector runs in a thread, with the configuration on standard input. A peer says hello,
 //! defines a table and sends three updates, each once the one before it is acknowledged; then an
 //! admin asks for the table and what else stands, and quits. Another one asks by the socket, which
-//! was left there before. A stranger that says nothing is connected all the while, and a newer
+//! was left there before, and is told what is wrong with its lines. A stranger that says nothing is connected all the while, and a newer
 //! connection of the peer ends the older one. What each is answered is printed. The collector
 //! doesn't end by itself: the program ends while it runs.
 #![tactic(auto)]
@@ -212,7 +212,7 @@ fn ask_by_socket<R: Print + AllocGlobal + Net + Files>(rt: &R) -> Result<()> {
     println!(rt; "the socket has mode {mode:o}")?;
     let mut here = UnixStream::connect(rt, SOCKET)?;
     here.set_read_timeout(Some(Duration::from_millis(LIMIT)))?;
-    here.write_all(b"show table\nshow nothing\nquit\n")?;
+    here.write_all(b"show table\nshow nothing\nshow filter clients\nquit\n")?;
     let mut answer = Vec::new(rt.alloc());
     here.read_to_end(&mut answer)?;
     io::writer(rt).write_all(answer.as_slice())?;

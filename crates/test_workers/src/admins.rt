@@ -9,7 +9,7 @@ use crate::peers::{Case, say};
 use crate::told::Ending;
 use anyhow::{Result, anyhow};
 use hub::{Hub, Lens, Naming, Pass};
-use serve::{Context, Faulted, Link, Served};
+use serve::{Context, Door, Faulted, Link, Served};
 use std::alloc::Global;
 use std::sync::Wait;
 
@@ -19,12 +19,13 @@ fn serve<J: Naming, H: Wait + Drop, R: Wait>(
     link: &mut Link<Script<'_>, Paper>,
     lens: Lens,
     pass: Pass,
+    door: Door,
 ) -> Result<Served, Faulted>
     requires pass { SitsDown pass × Follows context.now.hub.now pass.seen }
     requires lens { Follows context.now.hub.now lens.seen }
     requires reads { link.old.source.reads ≡ 0 }
 {
-    context.serve_admin(link, lens, pass)
+    context.serve_admin(link, lens, pass, door)
 }
 
 /// A lens of this hub.
@@ -42,6 +43,7 @@ fn command<J: Naming, H: Wait + Drop, R: Wait>(
     hub: &Hub<J, H>,
     case: Case,
     paper: Paper,
+    door: Door,
 ) -> Option<(Paper, Ending)> {
     let watch = Watch::new();
     let mut link = Link {
@@ -58,20 +60,21 @@ fn command<J: Naming, H: Wait + Drop, R: Wait>(
         clock: &watch,
         gate: &gate,
     };
-    let ended = serve(&context, &mut link, lens, pass);
+    let ended = serve(&context, &mut link, lens, pass, door);
     let Link { writer, .. } = link;
     Some((writer, Ending::of(&ended)))
 }
 
-/// Serves an admin over a paper that looks.
+/// Serves an admin over a paper that looks, with answers for these readers.
 pub fn row<J: Naming, H: Wait + Drop, R: Wait + Print>(
     rt: &R,
     alloc: Global,
     hub: &Hub<J, H>,
     case: Case,
+    door: Door,
 ) -> Result<()> {
     let paper = Paper::new(alloc, case.pen, hub.lens(rt).ok());
-    match command(rt, alloc, hub, case, paper) {
+    match command(rt, alloc, hub, case, paper, door) {
         None => Err(anyhow!("no seat, or no lens")),
         Some((paper, ending)) => say(rt, case.title, &paper, ending),
     }
@@ -88,7 +91,7 @@ pub fn leavers<J: Naming, H: Wait + Drop, R: Wait>(
     let mut left = 0u64;
     for _ in 0..count {
         let paper = Paper::new(alloc, case.pen, None);
-        if let Some((_, ending)) = command(rt, alloc, hub, case, paper)
+        if let Some((_, ending)) = command(rt, alloc, hub, case, paper, Door::Programs)
             && ending.has_left()
         {
             left = left.saturating_add(1);

@@ -222,6 +222,46 @@ pub const ADMINS: [(&str, &[Step]); 20] = [
     ("20 reads of nothing before a command", &TWENTY),
 ];
 
+/// What an admin sends behind the sessions of both peers, where people read the answers.
+pub const PEOPLE: [(&str, &[Step]); 6] = [
+    (
+        "no command, for people",
+        &[Step::Bytes(
+            b"\n  shw table\r\nshow\nshow tabel\nadd\nhelp x\nshow info x\nclear table\n",
+        )],
+    ),
+    (
+        "no such name, for people",
+        &[Step::Bytes(
+            b"show table x\nclear table x\nshow filter x\nshow next x\nshow rank x\n\
+            add filter f x data.gpc0 ge 1\ndel filter x\nshow peers lb9\n",
+        )],
+    ),
+    (
+        "conditions and keys, for people",
+        &[Step::Bytes(
+            b"show table t dta.gpc0 ge 1\nshow table t data.gpc0 ge 1 data.gpc1 ge 1\n\
+            show table t data.gpc0 gtt 1\nadd filter f t data.gpc0 ge 1 data.gpc0 le 1x\n\
+            clear table t key 10.0.0.1.2\nshow table t data.gpc0 ge\n",
+        )],
+    ),
+    (
+        "a filter, for people",
+        &[Step::Bytes(
+            b"add filter f t data.gpc0 ge 13\nadd filter f t data.gpc0 ge 1\nadd filter \xe9 t\n\
+            show filter g\nshow next f\nshow filter f\n",
+        )],
+    ),
+    (
+        "a word that is long and doesn't print, for people",
+        &[Step::Bytes(b"\x1b[31m\"\t0123456789012345678901234567890123456789\n")],
+    ),
+    (
+        "a long line, for people",
+        &[Step::Bytes(&LONG), Step::Bytes(b"\nshow table\n")],
+    ),
+];
+
 const NOTHING: Step = Step::Silent(0);
 
 const SHOW: Step = Step::Bytes(b"show table\n");

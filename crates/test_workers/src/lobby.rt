@@ -6,7 +6,7 @@ use crate::order::{Order, Who};
 use crate::paper::{EVEN, Paper};
 use crate::told::Ending;
 use agg_types::Config;
-use serve::{Caller, Came, Clock, Doors, Faulted, Gate, Place, ReadFailed, Served, Source};
+use serve::{Caller, Came, Clock, Door, Doors, Faulted, Gate, Place, ReadFailed, Served, Source};
 use std::alloc::Global;
 use std::sync::Wait;
 use std::sync::atomic::{AtomicUsize, Ordering};
@@ -145,6 +145,7 @@ impl<'a, R: Wait + Print> Doors<Said<'a, R>, Paper> for Lobby<'a, R> {
         _config: &Config,
         _source: Said<'a, R>,
         writer: Paper,
+        _door: Door,
         ended: Result<Served, Faulted>,
     ) {
         self.part(&writer, Ending::of(&ended));

@@ -111,6 +111,14 @@ fn add_failed_writes(scenes: &mut Vec<Scene>) -> Result<()> {
     Ok(())
 }
 
+/// Admins whose answers people read.
+fn add_people(scenes: &mut Vec<Scene>) -> Result<()> {
+    for (title, steps) in cases::PEOPLE {
+        scenes.push(Scene::Person(whole(title, steps)))?;
+    }
+    Ok(())
+}
+
 /// Sessions and admins whose gate closes.
 fn add_gates(scenes: &mut Vec<Scene>) -> Result<()> {
     for (title, looks) in cases::LOOKS {
@@ -156,6 +164,7 @@ fn scenes(alloc: Global) -> Result<Vec<Scene>> {
     add_sessions(&mut scenes)?;
     add_failed_reads(&mut scenes)?;
     add_failed_writes(&mut scenes)?;
+    add_people(&mut scenes)?;
     add_gates(&mut scenes)?;
     add_last(&mut scenes)?;
     Ok(scenes)

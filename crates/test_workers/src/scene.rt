@@ -6,6 +6,7 @@ use crate::peers::Case;
 use crate::{admins, cases, peers, timers};
 use anyhow::Result;
 use hub::{Hub, Naming};
+use serve::Door;
 use std::alloc::Global;
 use std::sync::Wait;
 use std::time::Clock;
@@ -19,6 +20,8 @@ pub enum Scene {
     Next(Case),
     /// An admin, after the sessions of both peers.
     Admin(Case),
+    /// The same, where people read the answers.
+    Person(Case),
     /// A timer over these moments.
     Timer([u64; 4]),
     /// So many sessions one after the other.
@@ -93,10 +96,11 @@ fn admin<J: Naming, H: Wait + Drop, R: Wait + Clock + Print>(
     alloc: Global,
     hub: &Hub<J, H>,
     case: Case,
+    door: Door,
 ) -> Result<()> {
     let _ = peers::leavers(rt, alloc, hub, whole("", &cases::TALK), 1);
     let _ = peers::leavers(rt, alloc, hub, whole("", &cases::OTHER_TALK), 1);
-    admins::row(rt, alloc, hub, case)?;
+    admins::row(rt, alloc, hub, case, door)?;
     peers::say_sum(rt, alloc, hub.lens(rt).ok())
 }
 
@@ -115,7 +119,8 @@ pub fn play<J: Naming, H: Wait + Drop, R: Wait + Clock + Print>(
     match scene {
         Scene::Session(case) => peers::row(rt, alloc, hub, case),
         Scene::Next(case) => next(rt, alloc, hub, case),
-        Scene::Admin(case) => admin(rt, alloc, hub, case),
+        Scene::Admin(case) => admin(rt, alloc, hub, case, Door::Programs),
+        Scene::Person(case) => admin(rt, alloc, hub, case, Door::People),
         Scene::Timer(moments) => timers::row(rt, alloc, hub, moments),
         Scene::Leaving(case, count) => {
             say_left(rt, case, count, peers::leavers(rt, alloc, hub, case, count))

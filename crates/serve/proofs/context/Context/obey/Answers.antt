@@ -11,7 +11,7 @@ pub returns-in-Ok-Some-clause-obeys : goal.returns-in-Ok-Some-clause-obeys
 returns-in-Ok-Some-clause-obeys g c =
     λ since seat whats line learned kept whole stays.
     let looks = rw c.in-Ok-Some.field-0-is at c.in-Ok-Some.ensures.looks in
-    c.reply.ensures.obeys since seat whats line
+    c.reply.ensures.obeys c.args.door since seat whats line
     (looks c.args.self.now.hub.now since seat whats line learned kept whole stays)
 
 pub returns-in-Ok-None-clause-obeys : goal.returns-in-Ok-None-clause-obeys

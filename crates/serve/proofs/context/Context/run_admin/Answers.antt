@@ -18,7 +18,7 @@ pub loop-made-preserved : goal.loop-made-preserved
 loop-made-preserved g c =
     let i = c.loop-made.invariant in
     let turned = c.turn_admin.ensures in record {
-      works = subst (λ (goes : Bool). WorksIf goes c.args.self.now.hub.now
+      works = subst (λ (goes : Bool). WorksIf c.args.door goes c.args.self.now.hub.now
           c.args.worker.now.poster.pass.seat c.turn_admin.new.worker []
           (so_far (g.S.Source.given c.args.link.now.source)
           (g.W.Write.contents c.args.link.now.writer))
@@ -41,7 +41,7 @@ returns-then-stop-clause-works g c = inl c.loop-made.invariant.works
 
 pub returns-then-not-goes-clause-works : goal.returns-then-not-goes-clause-works
 returns-then-not-goes-clause-works g c =
-    subst (λ (goes : Bool). WorksIf goes c.args.self.now.hub.now
+    subst (λ (goes : Bool). WorksIf c.args.door goes c.args.self.now.hub.now
     c.args.worker.now.poster.pass.seat c.turn_admin.new.worker []
     (so_far (g.S.Source.given c.args.link.now.source)
     (g.W.Write.contents c.args.link.now.writer))

@@ -1,21 +1,22 @@
 use Rattle.std.proofs.Common.{◌≡◌, ℕ, ◌≤◌, []}
 use Rattle.hub.specs.History.{Beginning}
 use Rattle.serve.specs.declared.admin.Worker.{Worker}
+use Rattle.serve.specs.declared.door.Door.{Door}
 use Rattle.serve.specs.Commanding.{KeepsPoster, Works}
 use Rattle.serve.specs.Traffic.{Traffic, so_far}
 use Rattle.serve.proofs.context.Context.run_admin.Given as goal
 
 -- the admin works on, and how often its source was read
-pub record Runs (hub : Beginning) (old worker : Worker) (start now : Traffic)
+pub record Runs (door : Door) (hub : Beginning) (old worker : Worker) (start now : Traffic)
     (reads made failed0 failed : ℕ) : Type 0 where
-  pub works : Works hub old.poster.pass.seat worker [] start now
+  pub works : Works door hub old.poster.pass.seat worker [] start now
   pub keeps : KeepsPoster hub old worker
   pub counted : reads ≡ made
   pub fails : failed0 ≤ failed
 
 abbrev pub invariant-loop-made : goal.invariant-loop-made
 invariant-loop-made g l =
-    Runs l.self.hub.now l.fn.worker l.worker
+    Runs l.door l.self.hub.now l.fn.worker l.worker
     (so_far (g.S.Source.given l.fn.link.source) (g.W.Write.contents l.fn.link.writer))
     (so_far (g.S.Source.given l.link.source) (g.W.Write.contents l.link.writer))
     (g.S.Source.reads l.link.source) l.made

@@ -24,7 +24,7 @@ returns-in-Ok-clause-served g c =
     let left : c.into_poster.result.pass.seat ≡ c.args.pass.seat =
     ap (λ (d : Poster). d.pass.seat) c.into_poster.ensures ∙
     (c.run_admin-ended.ensures.keeps.seat ∙ seat0) in
-    let works = subst (λ (r : Result (Unit {0}) Cause). RunsOut hub
+    let works = subst (λ (r : Result (Unit {0}) Cause). RunsOut c.args.door hub
     c.new-worker.result.poster.pass.seat c.run_admin-ended.new.worker
     (so_far (g.S.Source.given c.args.link.now.source)
     (g.W.Write.contents c.args.link.now.writer))
@@ -41,7 +41,7 @@ returns-in-Ok-clause-served g c =
     subst (λ (s : ℕ). IsServed hub s whats n c.leave-served.result) left
     (c.leave-served.ensures whats n (subst (λ (poster : Poster). HasTold hub poster whats n)
     (sym c.into_poster.ensures) told)))
-    (subst (λ (s : ℕ). RunsOut hub s c.run_admin-ended.new.worker
+    (subst (λ (s : ℕ). RunsOut c.args.door hub s c.run_admin-ended.new.worker
     (so_far (g.S.Source.given c.args.link.now.source)
     (g.W.Write.contents c.args.link.now.writer))
     (so_far (g.S.Source.given c.run_admin-ended.new.link.source)
@@ -56,7 +56,7 @@ returns-in-Err-clause-served g c =
     let left : c.into_poster.result.pass.seat ≡ c.args.pass.seat =
     ap (λ (d : Poster). d.pass.seat) c.into_poster.ensures ∙
     (c.run_admin-ended.ensures.keeps.seat ∙ seat0) in
-    let works = subst (λ (r : Result (Unit {0}) Cause). RunsOut hub
+    let works = subst (λ (r : Result (Unit {0}) Cause). RunsOut c.args.door hub
     c.new-worker.result.poster.pass.seat c.run_admin-ended.new.worker
     (so_far (g.S.Source.given c.args.link.now.source)
     (g.W.Write.contents c.args.link.now.writer))
@@ -73,7 +73,7 @@ returns-in-Err-clause-served g c =
     subst (λ (s : ℕ). IsServed hub s whats n c.leave-served.result) left
     (c.leave-served.ensures whats n (subst (λ (poster : Poster). HasTold hub poster whats n)
     (sym c.into_poster.ensures) told)))
-    (subst (λ (s : ℕ). RunsOut hub s c.run_admin-ended.new.worker
+    (subst (λ (s : ℕ). RunsOut c.args.door hub s c.run_admin-ended.new.worker
     (so_far (g.S.Source.given c.args.link.now.source)
     (g.W.Write.contents c.args.link.now.writer))
     (so_far (g.S.Source.given c.run_admin-ended.new.link.source)

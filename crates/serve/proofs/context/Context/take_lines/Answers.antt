@@ -14,7 +14,8 @@ returns-in_err-goes-clause-takes g c =
     let p = err_from_is_err_and c.from_residual.result c.from_residual.ensures.1 in
     rw (p.1, p.2) (c.in_err-goes.ensures.takes c.in-Some.behind.now c.in-Some.ensures.line seat
     start given
-    (subst (λ (rest : List ℕ). Works c.args.self.now.hub.now seat c.loop-front.worker rest start
+    (subst (λ (rest : List ℕ). Works c.args.door c.args.self.now.hub.now seat
+    c.loop-front.worker rest start
     (so_far given before)) c.in-Some.ensures.parts
     (c.loop-front.invariant.works seat start given w)))
 
@@ -41,10 +42,12 @@ returns-then-not-goes-clause-takes g c =
     λ seat start given w.
     let before = g.W.Write.contents c.loop-front.writer in
     let after = g.W.Write.contents c.end_line.new.writer in
-    subst (λ (goes : Bool). WorksIf goes c.args.self.now.hub.now seat c.end_line.new.worker
+    subst (λ (goes : Bool). WorksIf c.args.door goes c.args.self.now.hub.now seat
+    c.end_line.new.worker
     c.in-Some.behind.now start (so_far given after)) c.if-not-goes.true
     (c.in_ok-goes.ensures.takes c.in-Some.behind.now c.in-Some.ensures.line seat start given
-    (subst (λ (rest : List ℕ). Works c.args.self.now.hub.now seat c.loop-front.worker rest start
+    (subst (λ (rest : List ℕ). Works c.args.door c.args.self.now.hub.now seat
+    c.loop-front.worker rest start
     (so_far given before)) c.in-Some.ensures.parts
     (c.loop-front.invariant.works seat start given w)))
 
@@ -59,9 +62,10 @@ loop-front-preserved g c =
         seat = c.end_line.ensures.keeps.seat ∙ i.keeps.seat;
       };
       works = λ seat start given w.
-          subst (λ (goes : Bool). WorksIf goes c.args.self.now.hub.now seat
+          subst (λ (goes : Bool). WorksIf c.args.door goes c.args.self.now.hub.now seat
           c.end_line.new.worker c.in-Some.behind.now start (so_far given after)) c.if-not-goes.false
           (c.in_ok-goes.ensures.takes c.in-Some.behind.now c.in-Some.ensures.line seat start given
-          (subst (λ (rest : List ℕ). Works c.args.self.now.hub.now seat c.loop-front.worker rest
+          (subst (λ (rest : List ℕ). Works c.args.door c.args.self.now.hub.now seat
+          c.loop-front.worker rest
           start (so_far given before)) c.in-Some.ensures.parts (i.works seat start given w)));
     }

@@ -1,21 +1,22 @@
 use Rattle.std.proofs.Common.{ℕ, List, Option, length}
 use Rattle.hub.specs.History.{Beginning}
 use Rattle.serve.specs.declared.admin.Worker.{Worker}
+use Rattle.serve.specs.declared.door.Door.{Door}
 use Rattle.serve.specs.Commanding.{KeepsPoster, Works}
 use Rattle.serve.specs.Traffic.{Traffic, so_far}
 use Rattle.serve.proofs.context.Context.take_lines.Given as goal
 
 -- the lines so far were obeyed, and these bytes of the piece are left
-pub record TakesSome (hub : Beginning) (old worker : Worker) (piece rest : List ℕ)
+pub record TakesSome (door : Door) (hub : Beginning) (old worker : Worker) (piece rest : List ℕ)
     (before after : Option (List ℕ)) : Type 0 where
   pub keeps : KeepsPoster hub old worker
   pub works : (seat : ℕ) (start : Traffic) (given : Option (List ℕ))
-      → Works hub seat old piece start (so_far given before)
-      → Works hub seat worker rest start (so_far given after)
+      → Works door hub seat old piece start (so_far given before)
+      → Works door hub seat worker rest start (so_far given after)
 
 abbrev pub invariant-loop-front : goal.invariant-loop-front
 invariant-loop-front g l =
-    TakesSome l.self.hub.now l.fn.worker l.worker l.fn.piece l.rest
+    TakesSome l.door l.self.hub.now l.fn.worker l.worker l.fn.piece l.rest
     (g.W.Write.contents l.fn.writer) (g.W.Write.contents l.writer)
 
 abbrev pub decreases-loop-front : goal.decreases-loop-front
