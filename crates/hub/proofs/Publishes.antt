@@ -7,7 +7,7 @@ use Rattle.fleet_model.specs.State.{IsStateOf}
 use Rattle.left_right.specs.Register.{Admits, Forks, Merges, Turns, TurnsAt}
 use Rattle.atomic_table.proofs.Lists.{at_set, at_snoc}
 use Rattle.hub.specs.History.{Beginning}
-use Rattle.hub.specs.Copied.{Copied, Fits, IsWhole, Keeps, Sees, whole}
+use Rattle.hub.specs.Copied.{Copied, Copy, Fits, IsWhole, Keeps, Sees, whole}
 use Rattle.hub.specs.Kept.{IsTold}
 use Rattle.hub.specs.Posts.{Follows}
 use Rattle.logbook.specs.Pages.{Book}
@@ -21,18 +21,18 @@ fits_newcomer : (x : Copied) (v : View) → None ≡ v → Fits x v
 fits_newcomer x v e = subst (Fits x) e tt
 
 -- a new hub's writer was told nothing
-pub begins : (x : Copied) → IsWhole x → Keeps x (None ∷ [])
+pub begins : (x : Copy) → IsWhole x.copied → Keeps x (None ∷ [])
 begins x is = (
   is,
   λ seat v at. ⊎_elim (λ (e : get_elem? [] seat ≡ some v). absurd (cc e))
-      (fits_newcomer x v) (at_snoc [] None v seat at),
+      (fits_newcomer x.copied v) (at_snoc [] None v seat at),
 )
 
 -- a new reader was told nothing
 pub admits : Admits Keeps None
 admits x views h = (
   h.0,
-  λ seat v at. ⊎_elim (h.1 seat v) (fits_newcomer x v)
+  λ seat v at. ⊎_elim (h.1 seat v) (fits_newcomer x.copied v)
       (at_snoc views None v seat at),
 )
 
@@ -50,12 +50,12 @@ fits_set x y views place w same h fits seat v at =
     (at_set views place seat w v at)
 
 -- another copy of the same log is shown
-pub publishes : (seat : ℕ) (v : View) (x y : Copied) → IsWhole y → y.at.of ≡ x.at.of
-    → TurnsAt Keeps seat v x y Sees
+pub publishes : (seat : ℕ) (v : View) (x y : Copy) → IsWhole y.copied
+    → y.copied.at.of ≡ x.copied.at.of → TurnsAt Keeps seat v x y Sees
 publishes seat v x y is same views h at = (
-  Some y.at,
-  (is, fits_set x y views seat (Some y.at) same h.1 refl),
-  (is, fits_same x y v same (h.1 seat v at), refl),
+  Some y.copied.at,
+  (is, fits_set x.copied y.copied views seat (Some y.copied.at) same h.1 refl),
+  (is, fits_same x.copied y.copied v same (h.1 seat v at), refl),
 )
 
 -- a reader finds the copy that is shown
@@ -67,19 +67,20 @@ pub forks : (seat : ℕ) (v : View) → Forks Keeps seat v v v
 forks seat v x views h at =
     let fits = h.1 seat v at in (
       h.0,
-      λ place u there. ⊎_elim (fits_set x x views seat v refl h.1 fits place u)
-          (λ (e : v ≡ u). subst (Fits x) e fits) (at_snoc (set views seat v) v u place there),
+      λ place u there. ⊎_elim (fits_set x.copied x.copied views seat v refl h.1 fits place u)
+          (λ (e : v ≡ u). subst (Fits x.copied) e fits) (at_snoc
+          (set views seat v) v u place there),
     )
 
 -- a reader takes in what the writer told
 pub merges : (seat : ℕ) (v : View) (other : ℕ) (w : View) → Merges Keeps seat v other w w None
 merges seat v other w x views h at apart there =
-    let fits : Fits x w = ⊎_elim (λ (t : (other ≡ seat) × (w ≡ w)). absurd (apart t.0))
+    let fits : Fits x.copied w = ⊎_elim (λ (t : (other ≡ seat) × (w ≡ w)). absurd (apart t.0))
     (λ (t : (other ≢ seat) × (get_elem? views other ≡ some w)). h.1 other w t.1)
     (at_set views seat other w w there) in (
       h.0,
-      fits_set x x (set views seat w) other None refl (fits_set x x views seat w refl h.1 fits)
-          tt,
+      fits_set x.copied x.copied (set views seat w) other None refl
+          (fits_set x.copied x.copied views seat w refl h.1 fits) tt,
     )
 
 -- a copy that has taken exactly a beginning is whole
@@ -88,10 +89,10 @@ unfolding IsStateOf
 whole_is x b is = subst IsWhole (sym is) refl
 
 -- what publishing owes, where the operations bring the copy to a beginning of its log
-pub shows : (seat : ℕ) (v : View) (x y : Copied) (b : Beginning) → y ≡ whole b → x.at.of ≡ b.of
-    → TurnsAt Keeps seat v x y Sees
-shows seat v x y b is same = publishes seat v x y (whole_is y b is) (ap (λ (c : Copied). c.at.of) is
-    ∙ sym same)
+pub shows : (seat : ℕ) (v : View) (x y : Copy) (b : Beginning) → y.copied ≡ whole b
+    → x.copied.at.of ≡ b.of → TurnsAt Keeps seat v x y Sees
+shows seat v x y b is same =
+    publishes seat v x y (whole_is y.copied b is) (ap (λ (c : Copied). c.at.of) is ∙ sym same)
 
 -- who finds the copy is told of the log that it was told of before
 pub told_again : (book : Book) (x : Copied) (v w : View) → IsTold book v → Fits x v

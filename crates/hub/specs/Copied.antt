@@ -1,5 +1,5 @@
 -- The copies of the book that readers enter, and what readers are told.
-use Rattle.std.specs.Prelude.{◌≡◌, ℕ, List, Option, None, Some, fold}
+use Rattle.std.specs.Prelude.{◌≡◌, ℕ, Bool, List, Option, None, Some, fold}
 use mathlib.Core.Option.{some}
 use lib.ListN.{get_elem?}
 use Rattle.agg_types.specs.declared.event.Event.{Event}
@@ -12,14 +12,19 @@ pub record Copied : Type 0 where
   pub at : Beginning
   pub state : State
 
--- an event on its way into a copy, and the beginning that it ends
+-- a copy, and whether it has a part of a batch beyond that
+pub record Copy : Type 0 where
+  pub copied : Copied
+  pub part : Bool
+
+-- events on their way into a copy as one, and the beginning that they end
 pub record Brought : Type 0 where
-  pub event : Event
+  pub events : List Event
   pub at : Beginning
 
--- a copy after one event more
+-- a copy after these events more
 abbrev pub taken : Copied → Brought → Copied
-taken x brought = record { at = brought.at; state = after x.state brought.event }
+taken x brought = record { at = brought.at; state = fold after x.state brought.events }
 
 abbrev pub all_taken : Copied → List Brought → Copied
 all_taken x brought = fold taken x brought
@@ -38,13 +43,13 @@ Fits x None = Unit {0}
 Fits x (Some told) = told.of ≡ x.at.of
 
 -- the copy is whole, and of the log that each was told of
-abbrev pub Keeps : Copied → List (Option Beginning) → Type 0
-Keeps x views = IsWhole x
-    × ((seat : ℕ) (v : Option Beginning) → get_elem? views seat ≡ some v → Fits x v)
+abbrev pub Keeps : Copy → List (Option Beginning) → Type 0
+Keeps x views = IsWhole x.copied
+    × ((seat : ℕ) (v : Option Beginning) → get_elem? views seat ≡ some v → Fits x.copied v)
 
 -- the copy y was found or shown, and is known from then on
-abbrev pub Sees : Option Beginning → Copied → Copied → Option Beginning → Type 0
-Sees v x y w = IsWhole y × Fits y v × (w ≡ Some y.at)
+abbrev pub Sees : Option Beginning → Copy → Copy → Option Beginning → Type 0
+Sees v x y w = IsWhole y.copied × Fits y.copied v × (w ≡ Some y.copied.at)
 
 -- what was put behind the queue brings a copy from one beginning to another
 abbrev pub Stores : List Brought → Beginning → List Brought → Beginning → Type 0

@@ -1,66 +1,212 @@
 //! The two copies of the book that readers enter, and the rule over the copy that is shown.
 
-ghost use Rattle.std.specs.Prelude.{◌≡◌};
+ghost use Rattle.std.specs.Prelude.{◌≡◌, ◌∷◌, [], true, false, OnOk, OnErr};
+ghost use Rattle.hub.specs.Batches.{events_in};
+ghost use Rattle.hub.specs.Copied.{taken};
 
+use crate::batch::{Batch, Run};
 use crate::log::Front;
-use agg_types::Event;
+use agg_types::{Event, NoMemory};
 use atomic_table::{Join, Split};
-use book::{Book, Spot};
+use book::Book;
 use crossbeam_utils::rule::{Outcome, Protocol};
 use left_right::Absorb;
 use std::alloc::AllocError;
-use std::cell::Cell;
 use std::marker::Model;
+use std::sync::Arc;
 
-/// A copy of the book, with the beginning of the history that it has taken.
-#[derive(Drop)]
-pub struct Shown {
-    pub book: Book,
-    pub at: Front,
+/// What both copies have in common once they took the same. No value of it is made.
+pub struct Whole {
+    book: Book,
+    at: Front,
 }
 
-impl Model for Shown {
+impl Drop for Whole {
+    fn drop(self) {
+        let Whole { book: _, at: _ } = self;
+    }
+}
+
+impl Model for Whole {
     ghost use Rattle.hub.specs.Copied.{Copied};
 
     ghost Value = { Copied };
 
-    ghost view = { λ s. record { at = s.at; state = s.book } };
+    ghost view = { λ w. record { at = w.at; state = w.book } };
+}
+
+/// A copy of the book, with the beginning of the history that it has taken.
+///
+/// Where an allocation failed in the middle of a batch, the rest of the batch is kept, and taken
+/// before anything else. Contracts see the book as the rest brings it on, and whether there is a
+/// rest: while there is, nobody reads the book.
+#[derive(Drop)]
+pub struct Shown {
+    book: Book,
+    pub at: Front,
+    rest: Option<Rest>,
+}
+
+/// A batch of which a book has so much.
+pub struct Rest {
+    batch: Arc<Batch>,
+    done: usize,
+}
+
+impl Drop for Rest {
+    fn drop(self) {
+        let Rest { batch: _, done: _ } = self;
+    }
+}
+
+impl Model for Shown {
+    ghost use Rattle.std.specs.Prelude.{◌≤◌, length, is_some, IfSome};
+    ghost use Rattle.std.specs.Arc.{arc_value};
+    ghost use Rattle.hub.specs.Begun.{brought_on};
+    ghost use Rattle.hub.specs.Copied.{Copy};
+
+    ghost Value = { Copy };
+
+    ghost view = { λ s. record {
+      copied = record { at = s.at; state = brought_on s.book s.rest };
+      part = is_some s.rest;
+    } };
+
+    ghost invariant = { λ s. IfSome s.rest (λ r. r.done ≤ length (arc_value r.batch).whats) };
 }
 
 impl Shown {
     /// A copy of the book as it was opened.
     pub fn new(book: Book, at: Front) -> Shown
-        ensures { (result.state ≡ book) × (result.at ≡ at) }
+        ensures { result ≡ record { copied = record { at = at; state = book }; part = false } }
     {
-        Shown { book, at }
+        Shown {
+            book,
+            at,
+            rest: None,
+        }
+    }
+
+    /// Whether the rest of a batch is still to be taken.
+    pub fn has_part(&self) -> bool
+        ensures { result ≡ self.now.part }
+    {
+        self.rest.is_some()
+    }
+
+    /// The book, where it has all of each batch.
+    pub fn book(&self) -> &Book
+        requires { self.now.part ≡ false }
+        ensures { result.now ≡ self.now.copied.state }
+    {
+        &self.book
+    }
+
+    // Takes the rest of the batch that was begun, and says whether it has all of it.
+    fn finish(&mut self) -> bool
+        ensures whole { result ≡ true → self.new.part ≡ false }
+        ensures same { self.new.copied ≡ self.old.copied }
+    {
+        let Some(mut rest) = self.rest.take() else {
+            return true;
+        };
+        rest.done = rest.batch.go_on(&mut self.book, rest.done);
+        if rest.done == rest.batch.len() {
+            return true;
+        }
+        self.rest = Some(rest);
+        false
+    }
+
+    // Takes an event, and then has this beginning.
+    fn take_event(&mut self, event: &Event, at: &Front) -> Result<(), NoMemory>
+        requires { self.old.part ≡ false }
+        ensures ok { OnOk result (self.new.copied
+            ≡ taken self.old.copied (record { events = event.now ∷ []; at = at.now })) }
+        ensures err { OnErr result (self.new.copied ≡ self.old.copied) }
+    {
+        self.book.step(event)?;
+        self.at = at.again();
+        Ok(())
+    }
+
+    // Takes a batch, or begins to and keeps the rest, and then has this beginning.
+    fn take_batch(&mut self, run: &Run, at: &Front) -> Result<(), NoMemory>
+        requires { self.old.part ≡ false }
+        ensures ok { OnOk result (self.new.copied
+            ≡ taken self.old.copied (record { events = events_in run.now; at = at.now })) }
+        ensures err { OnErr result (self.new.copied ≡ self.old.copied) }
+    {
+        let Some(batch) = run.share() else {
+            return Err(NoMemory);
+        };
+        let done = run.apply(&mut self.book);
+        self.at = at.again();
+        if done < run.batch().len() {
+            self.rest = Some(Rest { batch, done });
+        }
+        Ok(())
     }
 }
 
-/// An event on its way into both copies, with the beginning that it ends.
-#[derive(Drop)]
+/// What a seat posted as one, on its way into both copies, with the beginning that it ends.
 pub struct Op {
-    event: Event,
+    posted: Posted,
     at: Front,
-    // Where the first copy found the rows of a Put's key, for the second, which looks there.
-    hint: Cell<Option<Spot>>,
+}
+
+impl Drop for Op {
+    fn drop(self) {
+        let Op { posted: _, at: _ } = self;
+    }
+}
+
+/// A single event, for which no memory is taken, or a batch; or the end of a batch, at which a copy
+/// has all of it.
+#[derive(Drop)]
+pub enum Posted {
+    Event(Event),
+    Batch(Run),
+    End,
 }
 
 impl Model for Op {
     ghost use Rattle.hub.specs.Copied.{Brought};
+    ghost use Rattle.hub.specs.Begun.{events_of};
 
     ghost Value = { Brought };
 
-    ghost view = { λ o. record { event = o.event; at = o.at } };
+    ghost view = { λ o. record { events = events_of o.posted; at = o.at } };
 }
 
 impl Op {
-    pub fn new(event: Event, at: Front) -> Op
-        ensures { (result.event ≡ event) × (result.at ≡ at) }
+    /// A single event.
+    pub fn event(event: Event, at: Front) -> Op
+        ensures { result ≡ record { events = event ∷ []; at = at } }
     {
         Op {
-            event,
+            posted: Posted::Event(event),
             at,
-            hint: Cell::new(None),
+        }
+    }
+
+    /// A batch.
+    pub fn batch(run: Run, at: Front) -> Op
+        ensures { result ≡ record { events = events_in run; at = at } }
+    {
+        Op {
+            posted: Posted::Batch(run),
+            at,
+        }
+    }
+
+    /// The end of a batch.
+    pub fn end(at: Front) -> Op
+        ensures { result ≡ record { events = []; at = at } }
+    {
+        Op {
+            posted: Posted::End,
+            at,
         }
     }
 }
@@ -68,21 +214,25 @@ impl Op {
 impl Absorb<Op> for Shown {
     ghost use Rattle.hub.specs.Copied.{taken};
 
-    type State = Shown;
+    type State = Whole;
 
-    ghost state = { λ s. s };
+    ghost state = { λ s. s.copied };
 
     ghost applied = { taken };
 
     fn absorb_first(&mut self, operation: &Op, _other: &Shown) -> Result<(), AllocError> {
-        match self.book.step_at(&operation.event, operation.hint.get()) {
-            Ok(answer) => {
-                operation.hint.set(answer.spot);
+        if !self.finish() {
+            return Err(AllocError);
+        }
+        let taken = match &operation.posted {
+            Posted::Event(event) => self.take_event(event, &operation.at),
+            Posted::Batch(run) => self.take_batch(run, &operation.at),
+            Posted::End => {
                 self.at = operation.at.again();
                 Ok(())
             }
-            Err(_) => Err(AllocError),
-        }
+        };
+        taken.map_err(|_| AllocError)
     }
 }
 

@@ -62,14 +62,14 @@ pub fn show<W: Wait>(
     writer: HubWriter,
     front: &Front,
 ) -> (HubWriter, Result<(), AllocError>)
-    requires brings { all_taken writer.desk.shown.value (drop writer.behind writer.log.items)
+    requires brings { all_taken writer.desk.shown.value.copied (drop writer.behind writer.log.items)
         ≡ whole front.now }
-    requires named { writer.desk.shown.value.at.of ≡ front.now.of }
+    requires named { writer.desk.shown.value.copied.at.of ≡ front.now.of }
     ensures { MatchResult result.1
-        (λ _. (result.0.desk.shown.value ≡ whole front.now)
+        (λ _. (result.0.desk.shown.value.copied ≡ whole front.now)
         × (drop result.0.behind result.0.log.items ≡ [])
         × (view result.0.desk.place ≡ Some front.now))
-        (λ _. (result.0.desk.shown.value ≡ writer.desk.shown.value)
+        (λ _. (result.0.desk.shown.value.copied ≡ writer.desk.shown.value.copied)
         × (drop result.0.behind result.0.log.items ≡ drop writer.behind writer.log.items)
         × (view result.0.desk.place ≡ view writer.desk.place)) }
 {

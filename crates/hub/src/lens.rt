@@ -55,7 +55,7 @@ impl Drop for Lens {
 }
 
 impl Model for Lens {
-    ghost use Rattle.std.specs.Prelude.{◌≡◌, IfSome, is_some};
+    ghost use Rattle.std.specs.Prelude.{◌≡◌, IfSome, false, is_some};
     ghost use Rattle.left_right.specs.Sides.{view as view_of};
     ghost use Rattle.hub.specs.Copied.{IsWhole};
     ghost use Rattle.hub.specs.Kept.{IsTold};
@@ -66,7 +66,8 @@ impl Model for Lens {
     ghost view = { λ l. record { seen = l.front; inside = is_some l.visit } };
 
     ghost invariant = { λ l. IfSome l.reader (λ r. IsTold l.front.of (view_of r.place))
-        × IfSome l.visit (λ v. IsWhole v.reading.part.value × (v.reading.part.value.at ≡ l.front)
+        × IfSome l.visit (λ v. IsWhole v.reading.part.value.copied
+        × (v.reading.part.value.copied.at ≡ l.front) × (v.reading.part.value.part ≡ false)
         × IsTold l.front.of (view_of v.reading.place)) };
 }
 
@@ -137,10 +138,7 @@ impl Lens {
     {
         match &self.visit {
             None => unreachable!(),
-            Some(visit) => {
-                let shown = visit.reading.get();
-                &shown.book
-            }
+            Some(visit) => { visit.reading.get().book() }
         }
     }
 
@@ -171,6 +169,10 @@ impl Lens {
             Ok(reading) => {
                 let at = reading.get().at.again();
                 if !self.front.compare(&at) {
+                    self.reader = Some(reading.leave());
+                    return false;
+                }
+                if reading.get().has_part() {
                     self.reader = Some(reading.leave());
                     return false;
                 }

@@ -16,6 +16,7 @@
 #![tactic(auto)]
 
 mod awaiting;
+mod batch;
 mod copies;
 mod desk;
 mod entry;

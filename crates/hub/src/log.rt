@@ -7,8 +7,8 @@ ghost use Rattle.fleet_model.specs.Machine.{counts_now, opened};
 ghost use Rattle.fleet_model.specs.State.{state_of};
 ghost use Rattle.hub.specs.History.{AllCount, IsLonger};
 
+use crate::batch::Posting;
 use crate::entry::Entry;
-use agg_types::Event;
 use book::Book;
 use logbook::{Gain, Offer, Opening, Plain, Play, Rule, Seen, Start, Word};
 use std::marker::Model;
@@ -63,7 +63,7 @@ impl Play<Entry, u64> for Add {
 }
 
 /// What a step asks for: the event.
-impl Plain<Event, Entry, u64> for Add {
+impl<'a> Plain<Posting<'a>, Entry, u64> for Add {
     ghost use Rattle.std.specs.Prelude.{None};
     ghost use Rattle.hub.specs.declared.entry.Entry.TheVariants.{Happened};
 
@@ -170,7 +170,7 @@ impl Front {
 
     /// Adds an event to all that was seen, and says whether it did. It did not where the history is
     /// longer.
-    pub fn add(&mut self, log: &Log, event: &Event) -> bool
+    pub fn add(&mut self, log: &Log, event: &Posting<'_>) -> bool
         requires log { log.now ≡ self.old.of }
         requires room { length self.old.events < 2 ^ 63 }
         requires counts { counts_now (state_of self.old.config self.old.opening self.old.events)
@@ -182,7 +182,7 @@ impl Front {
     {
         let mut offer: Offer<Entry, u64, Law, Nothing> = self
             .seen
-            .plain::<Nothing, Event, Add>(event);
+            .plain::<Nothing, Posting<'_>, Add>(event);
         let mut pen = self.seen.no_pen();
         let count = self.count;
         let found = log

@@ -1,17 +1,19 @@
-ghost use Rattle.std.specs.Prelude.{◌≡◌, ◌≤◌, ◌<◌, ◌+◌, length, Some, vec_len, MatchOption};
+ghost use Rattle.std.specs.Prelude.{◌≡◌, ◌<◌, ◌≤◌, ◌+◌, length, Some, vec_len, MatchOption};
+ghost use Rattle.std.specs.Prelude.{MatchResult};
 ghost use Rattle.std.specs.BTreeMap.{is_at};
 ghost use Rattle.std.specs.List.{All};
 ghost use Rattle.std.specs.Map.{lookup};
 ghost use Rattle.std.specs.Ordering.{nat_cmp};
 ghost use Rattle.std.specs.VecDeque.{deque_len, deque_capacity};
 ghost use Rattle.agg_types.specs.declared.limits.TheConstants.{NUMBERS_END};
-ghost use Rattle.fleet_model.specs.Seats.{numbered};
+ghost use Rattle.hub.specs.Batches.{events_in};
 ghost use Rattle.hub.specs.Copied.{Stores};
 ghost use Rattle.hub.specs.History.{longer_by, own};
 ghost use Rattle.hub.specs.Posts.{FindsReplaced, NoneReplaced, advanced};
 ghost use Rattle.hub.specs.Roll.{IsCountOf, MayPost};
 ghost use Rattle.hub.specs.Sitting.{Recalls};
 
+use crate::batch::Run;
 use crate::copies::Op;
 use crate::log::{Front, Log};
 use crate::receipt::Receipt;
@@ -121,7 +123,19 @@ impl Pass {
         None
     }
 
-    // Adds what it posts to the history, and goes on behind it.
+    // A batch of its next posts. Without memory they come back.
+    pub(crate) fn batch(&self, whats: Vec<What>) -> Result<Run, Vec<What>>
+        requires last { self.now.number + vec_len whats < NUMBERS_END }
+        ensures { MatchResult result (λ run. run ≡ record {
+          seat = self.now.seat;
+          first = self.now.number;
+          whats = whats.items;
+        }) (λ back. back.items ≡ whats.items) }
+    {
+        Run::new(self.seat(), self.number(), whats)
+    }
+
+    // Adds a batch of its next posts to the history, and goes on behind it.
     pub(crate) fn store<R: Wait>(
         &mut self,
         rt: &R,
@@ -129,30 +143,30 @@ impl Pass {
         front: &mut Front,
         queue: &mut VecDeque<Op>,
         roll: &mut Roll,
-        whats: Vec<What>,
+        run: Run,
     )
         requires log { log.now ≡ front.old.of }
         requires of { front.old.of ≡ self.old.seen.of }
         requires counted { IsCountOf roll.old front.old }
         requires owns { length (own self.old.seat front.old.events) ≡ self.old.number }
-        requires fits { All (MayPost front.old.config) whats.items }
+        requires seat { run.seat ≡ self.old.seat }
+        requires first { run.first ≡ self.old.number }
+        requires fits { All (MayPost front.old.config) run.whats }
         requires due { lookup (is_at (nat_cmp self.old.seat)) roll.old.seats
             ≡ Some self.old.number }
-        requires last { self.old.number + vec_len whats < NUMBERS_END }
-        requires room { deque_len queue.old + vec_len whats ≤ deque_capacity queue.old }
-        ensures front { front.new
-            ≡ longer_by front.old (numbered self.old.seat self.old.number whats.items) }
+        requires room { deque_len queue.old + 2 ≤ deque_capacity queue.old }
+        ensures front { front.new ≡ longer_by front.old (events_in run) }
         ensures stored { Stores queue.old.items front.old queue.new.items front.new }
         ensures counted { IsCountOf roll.new front.new }
-        ensures len { deque_len queue.new ≡ deque_len queue.old + vec_len whats }
+        ensures len { deque_len queue.new ≡ deque_len queue.old + 2 }
         ensures capacity { deque_capacity queue.new ≡ deque_capacity queue.old }
-        ensures pass { self.new ≡ advanced self.old (vec_len whats) }
+        ensures pass { self.new ≡ advanced self.old (length run.whats) }
     {
         if !self.stored.compare(front) {
             hang(rt);
             unreachable!();
         }
-        store_all(rt, log, front, queue, roll, &mut self.sitting, whats);
+        store_all(rt, log, front, queue, roll, &mut self.sitting, run);
         self.stored = front.again();
     }
 }

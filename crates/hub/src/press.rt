@@ -44,9 +44,9 @@ impl<J: Naming, R: Wait + Drop> Model for Press<J, R> {
 
     ghost Value = { Pressed };
 
-    ghost view = { λ p. record { taken = p.taken; shown = p.hand.writer.desk.shown.value } };
+    ghost view = { λ p. record { taken = p.taken; shown = p.hand.writer.desk.shown.value.copied } };
 
-    ghost invariant = { λ p. IsPressed J.book p.hand.writer.desk.shown.value
+    ghost invariant = { λ p. IsPressed J.book p.hand.writer.desk.shown.value.copied
         (view_of p.hand.writer.desk.place) (drop p.hand.writer.behind p.hand.writer.log.items)
         p.queue.items p.taken × (MOST_SEATS ≤ deque_capacity p.queue) };
 }

@@ -102,7 +102,7 @@ impl Model for Showing {
 impl Showing {
     /// What this writer shows.
     pub fn of(writer: &HubWriter) -> Showing
-        ensures { result ≡ writer.now.desk.shown.value.at }
+        ensures { result ≡ writer.now.desk.shown.value.copied.at }
     {
         Showing {
             front: writer.published().at.again(),

@@ -9,7 +9,8 @@ ghost use Rattle.agg_types.specs.declared.limits.TheConstants.{NUMBERS_END};
 ghost use Rattle.fleet_model.specs.Seats.{is_sit, is_leave};
 ghost use Rattle.hub.specs.Roll.{last_after};
 
-use agg_types::{Event, LAST_SEAT, MOST_SEATS, NoMemory, What};
+use crate::batch::Posting;
+use agg_types::{LAST_SEAT, MOST_SEATS, NoMemory, What};
 use std::alloc::Global;
 use std::collections::BTreeMap;
 use std::marker::Model;
@@ -101,7 +102,7 @@ impl Roll {
     }
 
     /// Something happens at a seat that sits, under its next number.
-    pub fn count(&mut self, event: &Event)
+    pub fn count(&mut self, event: &Posting<'_>)
         requires due { lookup (is_at (nat_cmp event.now.seat)) self.old.seats
             ≡ Some event.now.seq }
         requires small { event.now.seq < NUMBERS_END }
@@ -117,7 +118,7 @@ impl Roll {
             Ok(_) => {}
             Err(_) => unreachable!(),
         }
-        if let What::Open(peer) = &event.what
+        if let What::Open(peer) = event.what
             && let Some(last) = self.last.get_mut(*peer)
         {
             *last = Some(event.seat);

@@ -7,7 +7,7 @@ ghost use Rattle.fleet_model.specs.Sessions.{opens};
 ghost use Rattle.hub.specs.Sitting.{opened_after, replacer, replacer_at};
 
 use crate::roll::Roll;
-use agg_types::{Event, NoMemory, What};
+use agg_types::{NoMemory, What};
 use std::alloc::Global;
 use std::marker::Model;
 
@@ -56,30 +56,22 @@ impl Sitting {
     }
 
     /// Something happens at the seat, under its next number.
-    pub fn make(&mut self, what: What) -> Event
+    pub fn note(&mut self, what: &What)
         requires { self.old.number < NUMBERS_END }
-        ensures event { result
-            ≡ record { seat = self.old.seat; seq = self.old.number; what = what } }
-        ensures recalled { self.new ≡
+        ensures { self.new ≡
             record {
               seat = self.old.seat;
               number = self.old.number + 1;
               opened =
-                  opened_after self.old.opened what;
+                  opened_after self.old.opened what.now;
             } }
     {
-        if let What::Open(peer) = &what
+        if let What::Open(peer) = what
             && let Some(opened) = self.opened.get_mut(*peer)
         {
             *opened = true;
         }
-        let seq = self.number;
         self.number += 1;
-        Event {
-            seat: self.seat,
-            seq,
-            what,
-        }
     }
 
     /// Another seat that opened this peer last, where this one opened it before.

@@ -1,25 +1,25 @@
 //! Events on their way into the history.
 
-ghost use Rattle.std.specs.Prelude.{◌≡◌, ◌<◌, ◌≤◌, ◌+◌, ◌++◌, ◌∷◌, [], Some, true, vec_len};
+ghost use Rattle.std.specs.Prelude.{◌≡◌, ◌<◌, ◌≤◌, ◌+◌, ◌++◌, ◌∷◌, [], Some, true, length};
 ghost use Rattle.std.specs.BTreeMap.{is_at};
 ghost use Rattle.std.specs.List.{All};
 ghost use Rattle.std.specs.Map.{lookup};
 ghost use Rattle.std.specs.Ordering.{nat_cmp};
 ghost use Rattle.std.specs.VecDeque.{deque_len, deque_capacity};
-ghost use Rattle.agg_types.specs.declared.limits.TheConstants.{NUMBERS_END};
 ghost use Rattle.fleet_model.specs.Machine.{counts_now};
-ghost use Rattle.fleet_model.specs.Seats.{numbered};
 ghost use Rattle.fleet_model.specs.State.{state_of};
-ghost use Rattle.hub.specs.History.{longer_by};
+ghost use Rattle.hub.specs.Batches.{events_in};
 ghost use Rattle.hub.specs.Copied.{Stores};
+ghost use Rattle.hub.specs.History.{longer_by};
 ghost use Rattle.hub.specs.Roll.{IsCountOf, MayPost};
 ghost use Rattle.hub.specs.Sitting.{Recalls};
 
+use crate::batch::{Batch, Posting, Run};
 use crate::copies::Op;
 use crate::log::{Front, Log};
 use crate::roll::Roll;
 use crate::sitting::Sitting;
-use agg_types::{Event, What};
+use agg_types::Event;
 use std::collections::VecDeque;
 use std::sync::Wait;
 
@@ -34,7 +34,19 @@ pub fn hang<R: Wait>(rt: &R)
     unreachable!()
 }
 
-/// Adds an event to the history, and puts it behind those that no copy has yet.
+/// Adds an event to the history.
+fn add<R: Wait>(rt: &R, log: &Log, front: &mut Front, event: &Posting<'_>)
+    requires log { log.now ≡ front.old.of }
+    requires counts { counts_now (state_of front.old.config front.old.opening front.old.events)
+        event.now ≡ true }
+    ensures { front.new ≡ record front.old { events = front.old.events ++ event.now ∷ [] } }
+{
+    if front.len() >= MOST_EVENTS || !front.add(log, event) {
+        hang(rt);
+    }
+}
+
+/// Adds an event to the history, and puts it behind what no copy has yet.
 pub fn store<R: Wait>(rt: &R, log: &Log, front: &mut Front, queue: &mut VecDeque<Op>, event: Event)
     requires log { log.now ≡ front.old.of }
     requires counts { counts_now (state_of front.old.config front.old.opening front.old.events)
@@ -42,17 +54,22 @@ pub fn store<R: Wait>(rt: &R, log: &Log, front: &mut Front, queue: &mut VecDeque
     requires room { deque_len queue.old < deque_capacity queue.old }
     ensures front { front.new ≡ record front.old { events = front.old.events ++ event ∷ [] } }
     ensures queue { queue.new.items
-        ≡ queue.old.items ++ record { event = event; at = front.new } ∷ [] }
+        ≡ queue.old.items ++ record { events = event ∷ []; at = front.new } ∷ [] }
     ensures len { deque_len queue.new ≡ deque_len queue.old + 1 }
     ensures capacity { deque_capacity queue.new ≡ deque_capacity queue.old }
 {
-    if front.len() >= MOST_EVENTS || !front.add(log, &event) {
-        hang(rt);
-    }
-    queue.push_back_reserved(Op::new(event, front.again()));
+    let posting = Posting {
+        seat: event.seat,
+        seq: event.seq,
+        what: &event.what,
+    };
+    add(rt, log, front, &posting);
+    drop(posting);
+    queue.push_back_reserved(Op::event(event, front.again()));
 }
 
-/// Adds what a seat posts to the history, under the seat's next numbers.
+/// Adds what a seat posts to the history, under the seat's next numbers, and puts it behind what no
+/// copy has yet, as one.
 pub fn store_all<R: Wait>(
     rt: &R,
     log: &Log,
@@ -60,29 +77,59 @@ pub fn store_all<R: Wait>(
     queue: &mut VecDeque<Op>,
     roll: &mut Roll,
     sitting: &mut Sitting,
-    whats: Vec<What>,
+    run: Run,
 )
     requires log { log.now ≡ front.old.of }
     requires counted { IsCountOf roll.old front.old }
     requires recalled { Recalls sitting.old front.old }
-    requires fits { All (MayPost front.old.config) whats.items }
+    requires seat { run.seat ≡ sitting.old.seat }
+    requires first { run.first ≡ sitting.old.number }
+    requires fits { All (MayPost front.old.config) run.whats }
     requires due { lookup (is_at (nat_cmp sitting.old.seat)) roll.old.seats
         ≡ Some sitting.old.number }
-    requires last { sitting.old.number + vec_len whats < NUMBERS_END }
-    requires room { deque_len queue.old + vec_len whats ≤ deque_capacity queue.old }
-    ensures front { front.new
-        ≡ longer_by front.old (numbered sitting.old.seat sitting.old.number whats.items) }
+    requires room { deque_len queue.old + 2 ≤ deque_capacity queue.old }
+    ensures front { front.new ≡ longer_by front.old (events_in run) }
     ensures stored { Stores queue.old.items front.old queue.new.items front.new }
     ensures counted { IsCountOf roll.new front.new }
     ensures recalled { Recalls sitting.new front.new }
-    ensures len { deque_len queue.new ≡ deque_len queue.old + vec_len whats }
+    ensures len { deque_len queue.new ≡ deque_len queue.old + 2 }
     ensures capacity { deque_capacity queue.new ≡ deque_capacity queue.old }
     ensures seat { sitting.new.seat ≡ sitting.old.seat }
-    ensures number { sitting.new.number ≡ sitting.old.number + vec_len whats }
+    ensures number { sitting.new.number ≡ sitting.old.number + length run.whats }
 {
-    for what in whats {
-        let event = sitting.make(what);
-        roll.count(&event);
-        store(rt, log, front, queue, event);
+    add_all(rt, log, front, roll, sitting, run.batch());
+    queue.push_back_reserved(Op::batch(run, front.again()));
+    queue.push_back_reserved(Op::end(front.again()));
+}
+
+// Adds a batch to the history, event by event.
+fn add_all<R: Wait>(
+    rt: &R,
+    log: &Log,
+    front: &mut Front,
+    roll: &mut Roll,
+    sitting: &mut Sitting,
+    batch: &Batch,
+)
+    requires log { log.now ≡ front.old.of }
+    requires counted { IsCountOf roll.old front.old }
+    requires recalled { Recalls sitting.old front.old }
+    requires seat { batch.now.seat ≡ sitting.old.seat }
+    requires first { batch.now.first ≡ sitting.old.number }
+    requires fits { All (MayPost front.old.config) batch.now.whats }
+    requires due { lookup (is_at (nat_cmp sitting.old.seat)) roll.old.seats
+        ≡ Some sitting.old.number }
+    ensures front { front.new ≡ longer_by front.old (events_in batch.now) }
+    ensures counted { IsCountOf roll.new front.new }
+    ensures recalled { Recalls sitting.new front.new }
+    ensures seat { sitting.new.seat ≡ sitting.old.seat }
+    ensures number { sitting.new.number ≡ sitting.old.number + length batch.now.whats }
+{
+    let count = batch.len();
+    for place in 0..count {
+        let posting = batch.at(place);
+        roll.count(&posting);
+        sitting.note(posting.what);
+        add(rt, log, front, &posting);
     }
 }

@@ -75,20 +75,21 @@ impl<J: Naming, R: Wait + Drop> Desk<J, R> {
         ensures all { MatchResult result
             (λ _. self.new.all
             ≡ longer_by self.old.all (numbered pass.old.seat pass.old.number whats.items))
-            (λ back. (back ≡ whats) × (self.new.all ≡ self.old.all)) }
+            (λ back. (back.items ≡ whats.items) × (self.new.all ≡ self.old.all)) }
         ensures pass { MatchResult result (λ _. pass.new ≡ advanced pass.old (vec_len whats))
             (λ _. pass.new ≡ pass.old) }
     {
-        let Ok(()) = self.queue.reserve(whats.len() + self.sitting) else {
+        let Ok(()) = self.queue.reserve(self.sitting + 2) else {
             return Err(whats);
         };
+        let run = pass.batch(whats)?;
         pass.store(
             rt,
             log,
             &mut self.front,
             &mut self.queue,
             &mut self.roll,
-            whats,
+            run,
         );
         Ok(())
     }

@@ -1,32 +1,24 @@
-use Rattle.std.proofs.Common.{List, subst, arith, ap, length, ◌∙◌}
-use Rattle.agg_types.specs.declared.event.What.{What}
-use Rattle.std.specs.Vec.Iter.{into_iter_items}
-use Rattle.hub.proofs.Filling.{Filling, filled_one, filling_counts}
+use Rattle.std.proofs.Common.{ap, ◌∙◌, [], ◌∷◌, ◌++◌}
+use Rattle.hub.specs.Batches.{Batched, events_in}
+use Rattle.hub.specs.Copied.{Brought}
+use Rattle.hub.specs.History.{Beginning, longer_by}
+use Rattle.hub.proofs.Filling.{stored_all, stored_end}
 use Rattle.hub.proofs.store.store_all.Goals as goal
 
-pub store-requires-clause-counts : goal.store-requires-clause-counts
-store-requires-clause-counts g c =
-    let l = c.loop-what in
-    let P : List What → Type 0 = λ items. Filling c.args.sitting.now c.args.whats.items
-    c.args.queue.now.items c.args.front.now items l.queue.items l.front l.roll l.sitting in
-    filling_counts c.args.sitting.now c.args.whats.items c.args.queue.now.items c.args.front.now
-    c.in-Some.what (into_iter_items c.next.new.self) l.queue.items l.front l.roll l.sitting
-    (subst P c.in-Some.ensures.steps.0 l.invariant.2) _ c.make-event.ensures.event
-
-pub loop-what-preserved : goal.loop-what-preserved
-loop-what-preserved g c =
-    let l = c.loop-what in
-    let P : List What → Type 0 = λ items. Filling c.args.sitting.now c.args.whats.items
-    c.args.queue.now.items c.args.front.now items l.queue.items l.front l.roll l.sitting in (
-      tt,
-      tt,
-      filled_one c.args.sitting.now c.args.whats.items c.args.queue.now.items c.args.front.now
-          c.in-Some.what (into_iter_items c.next.new.self) l.queue.items l.front l.roll l.sitting
-          (subst P c.in-Some.ensures.steps.0 l.invariant.2)
-          c.make-event.result c.store.new.front c.store.new.queue.items c.count.new.self
-          c.make-event.new.self c.make-event.ensures.event c.store.ensures.front
-          c.store.ensures.queue c.count.ensures c.make-event.ensures.recalled,
-      (let n = ap length c.in-Some.ensures.steps.0 in
-          omega (arith, c.store.ensures.len, l.invariant.3)),
-      c.store.ensures.capacity ∙ l.invariant.4,
-    )
+pub returns-clause-stored : goal.returns-clause-stored
+returns-clause-stored g c =
+    let queue = c.args.queue.now.items in
+    let front = c.args.front.now in
+    let run = c.args.run in
+    let later = c.push_back_reserved.new.self.items in
+    let all = c.add_all.new.front in
+    stored_end queue later c.push_back_reserved-2.new.self.items front all
+    (stored_all queue later front all (events_in run)
+    (c.add_all.ensures.front
+    ∙ ap (λ (b : Batched). longer_by front (events_in b)) c.batch.ensures)
+    (c.push_back_reserved.ensures.items
+    ∙ ap (λ (op : Brought). queue ++ op ∷ []) (c.batch-2.ensures
+    ∙ ap (λ (b : Beginning). record { events = events_in run; at = b }) c.again.ensures)))
+    (c.push_back_reserved-2.ensures.items
+    ∙ ap (λ (op : Brought). later ++ op ∷ []) (c.end.ensures
+    ∙ ap (λ (b : Beginning). record { events = []; at = b }) c.again-2.ensures))

@@ -9,7 +9,7 @@ use Rattle.fleet_model.specs.Seats.{numbered}
 use Rattle.hub.specs.Kept.{Kept}
 use Rattle.hub.specs.Roll.{Counted, IsCountOf}
 use Rattle.hub.specs.Sitting.{Recalled, Recalls, sits_new}
-use Rattle.hub.proofs.Filling.{stored_one}
+use Rattle.hub.proofs.Filling.{stored_all}
 use Rattle.hub.proofs.Held.{desked_longer, sat_down, seated}
 use Rattle.hub.proofs.Recalling.{recalls_new}
 use Rattle.hub.proofs.Rolling.{event_at, longer, sit_counts, sit_more, state_at}
@@ -90,7 +90,8 @@ invariant_of-self-2 g c =
           c.reserve.new.self.items c.store.new.queue.items (numbered seat 0 (Sit ∷ []))
           c.store.new.front c.sit.new.self
           c.reserve.ensures.items c.store.ensures.front
-          (stored_one c.reserve.new.self.items c.store.new.queue.items front c.store.new.front e
+          (stored_all c.reserve.new.self.items c.store.new.queue.items front c.store.new.front
+          (e ∷ [])
           c.store.ensures.front c.store.ensures.queue)
           (subst (IsCountOf c.sit.new.self) (sym c.store.ensures.front) count''),
       omega (arith, c.store.ensures.len, c.store.ensures.capacity, c.in-Ok.ensures.ok),

@@ -7,7 +7,7 @@ use Rattle.fleet_model.specs.Seats.{numbered}
 use Rattle.hub.specs.Kept.{Kept}
 use Rattle.hub.specs.Roll.{Counted, IsCountOf}
 use Rattle.hub.proofs.Counting.{found}
-use Rattle.hub.proofs.Filling.{stored_one}
+use Rattle.hub.proofs.Filling.{stored_all}
 use Rattle.hub.proofs.Held.{desked_longer}
 use Rattle.hub.proofs.Rolling.{event_at, leave_more, post_counts}
 use Rattle.hub.proofs.desk.Desk.stand_up.Goals as goal
@@ -39,7 +39,7 @@ invariant_of-self g c =
           c.self.invariant.0 queue.items c.store.new.queue.items
           (numbered seat c.args.number (Leave ∷ [])) c.store.new.front c.leave.new.self
           refl c.store.ensures.front
-          (stored_one queue.items c.store.new.queue.items front c.store.new.front e
+          (stored_all queue.items c.store.new.queue.items front c.store.new.front (e ∷ [])
           c.store.ensures.front c.store.ensures.queue)
           (subst (λ (r : Counted). IsCountOf r c.store.new.front) (sym c.leave.ensures) count),
       omega (arith, c.store.ensures.len, c.store.ensures.capacity, c.self.invariant.1),

@@ -1,6 +1,6 @@
 use Rattle.std.proofs.Common.{◌≡◌, IfSome, ap, sym, subst, ◌∙◌}
 use Rattle.left_right.specs.Sides.{view}
-use Rattle.hub.specs.Copied.{Copied}
+use Rattle.hub.specs.Copied.{Copy}
 use Rattle.hub.specs.History.{Beginning}
 use Rattle.hub.specs.Kept.{IsTold}
 use Rattle.hub.specs.Posts.{Follows}
@@ -11,28 +11,52 @@ use Rattle.hub.proofs.lens.Lens.enter.Goals as goal
 pub enter_as-requires : goal.enter_as-requires
 enter_as-requires c = looks _ _
 
+pub compare-requires : goal.compare-requires
+compare-requires c =
+    let told : IsTold c.self.inside.front.of (view c.in-Some.reader.place) =
+    subst (λ o. IfSome o (λ r. IsTold c.self.inside.front.of (view r.place)))
+    (sym c.in-Some.ensures.value) c.self.invariant.0 in
+    let at : c.again-at.result ≡ c.in-Ok.reading.part.value.copied.at = c.again-at.ensures
+    ∙ ap (λ (x : Copy). x.copied.at) (c.behind-reading.view_is ∙ c.get.ensures) in
+    ap (λ (b : Beginning). b.of) at
+    ∙ log_of c.self.inside.front.of c.in-Ok.reading.part.value.copied
+    (view c.in-Some.reader.place) told c.in-Ok.ensures.1.1
+
 pub invariant_of-self-then-not-compare : goal.invariant_of-self-then-not-compare
 invariant_of-self-then-not-compare c =
     let told : IsTold c.self.inside.front.of (view c.in-Some.reader.place) =
     subst (λ o. IfSome o (λ r. IsTold c.self.inside.front.of (view r.place)))
     (sym c.in-Some.ensures.value) c.self.invariant.0 in (
-      told_again c.self.inside.front.of c.in-Ok.reading.part.value (view c.in-Some.reader.place)
+      told_again c.self.inside.front.of c.in-Ok.reading.part.value.copied
+          (view c.in-Some.reader.place)
           (view c.leave-then-not-compare.result.place) told c.in-Ok.ensures.1.1
           (c.leave-then-not-compare.ensures.1 ∙ c.in-Ok.ensures.1.2),
       c.self.invariant.1,
     )
 
-pub returns-else-not-compare-clause-seen : goal.returns-else-not-compare-clause-seen
-returns-else-not-compare-clause-seen c =
+pub invariant_of-self-then-has_part : goal.invariant_of-self-then-has_part
+invariant_of-self-then-has_part c =
+    let told : IsTold c.self.inside.front.of (view c.in-Some.reader.place) =
+    subst (λ o. IfSome o (λ r. IsTold c.self.inside.front.of (view r.place)))
+    (sym c.in-Some.ensures.value) c.self.invariant.0 in (
+      told_again c.self.inside.front.of c.in-Ok.reading.part.value.copied
+          (view c.in-Some.reader.place)
+          (view c.leave-then-has_part.result.place) told c.in-Ok.ensures.1.1
+          (c.leave-then-has_part.ensures.1 ∙ c.in-Ok.ensures.1.2),
+      c.self.invariant.1,
+    )
+
+pub returns-else-has_part-clause-seen : goal.returns-else-has_part-clause-seen
+returns-else-has_part-clause-seen c =
     let told : IsTold c.self.inside.front.of (view c.in-Some.reader.place) =
     subst (λ o. IfSome o (λ r. IsTold c.self.inside.front.of (view r.place)))
     (sym c.in-Some.ensures.value) c.self.invariant.0 in
-    let at : c.again-at.result ≡ c.in-Ok.reading.part.value.at = c.again-at.ensures
-    ∙ ap (λ (x : Copied). x.at) (c.behind-reading.view_is ∙ c.get.ensures) in
+    let at : c.again-at.result ≡ c.in-Ok.reading.part.value.copied.at = c.again-at.ensures
+    ∙ ap (λ (x : Copy). x.copied.at) (c.behind-reading.view_is ∙ c.get.ensures) in
     let of : c.again-at.result.of ≡ c.self.inside.front.of =
     ap (λ (b : Beginning). b.of) at
-    ∙ log_of c.self.inside.front.of c.in-Ok.reading.part.value (view c.in-Some.reader.place)
-    told c.in-Ok.ensures.1.1 in
+    ∙ log_of c.self.inside.front.of c.in-Ok.reading.part.value.copied
+    (view c.in-Some.reader.place) told c.in-Ok.ensures.1.1 in
     let seen : c.self.inside.front ≡ c.args.self.now.seen =
     ap (λ (s : Seeing). s.seen) (c.self.view_is ∙ c.leave.ensures) in
     subst (λ (b : Beginning). Follows b c.again-at.result) seen

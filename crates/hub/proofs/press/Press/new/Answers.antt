@@ -1,6 +1,6 @@
 use Rattle.std.proofs.Common.{◌≡◌, drop, ap, ◌∙◌, arith}
 use Rattle.left_right.specs.Sides.{view}
-use Rattle.hub.specs.Copied.{all_taken, whole}
+use Rattle.hub.specs.Copied.{Copy, all_taken, whole}
 use Rattle.hub.proofs.Held.{opened_whole, pressed_whole}
 use Rattle.hub.proofs.Publishes.{begins, whole_is}
 use Rattle.hub.proofs.press.Press.new.Goals as goal
@@ -8,23 +8,27 @@ use Rattle.hub.proofs.press.Press.new.Goals as goal
 pub new-requires-clause-rule : goal.new-requires-clause-rule
 new-requires-clause-rule g c =
     let x = c.new-first.result in
-    let is : x ≡ whole c.args.front = opened_whole x c.args.front (c.new-first.ensures.1
-    ∙ c.again.ensures) (c.new-first.ensures.0 ∙ c.requires.opened.0) c.requires.empty in
-    begins x (whole_is x c.args.front is)
+    let made = c.new-first.ensures in
+    let is : x.copied ≡ whole c.args.front = opened_whole x.copied c.args.front
+    (ap (λ (y : Copy). y.copied.at) made ∙ c.again.ensures)
+    (ap (λ (y : Copy). y.copied.state) made ∙ c.requires.opened.0) c.requires.empty in
+    begins x (whole_is x.copied c.args.front is)
 
 pub show-writer-requires-clause-brings : goal.show-writer-requires-clause-brings
 show-writer-requires-clause-brings g c =
     let x = c.new-first.result in
-    let is : x ≡ whole c.args.front = opened_whole x c.args.front (c.new-first.ensures.1
-    ∙ c.again.ensures) (c.new-first.ensures.0 ∙ c.requires.opened.0) c.requires.empty in
-    ap (all_taken c.in_ok-writer.writer.desk.shown.value) c.in_ok-writer.ensures.1
-    ∙ (c.in_ok-writer.ensures.0 ∙ is)
+    let made = c.new-first.ensures in
+    let is : x.copied ≡ whole c.args.front = opened_whole x.copied c.args.front
+    (ap (λ (y : Copy). y.copied.at) made ∙ c.again.ensures)
+    (ap (λ (y : Copy). y.copied.state) made ∙ c.requires.opened.0) c.requires.empty in
+    ap (all_taken c.in_ok-writer.writer.desk.shown.value.copied) c.in_ok-writer.ensures.1
+    ∙ (ap (λ (y : Copy). y.copied) c.in_ok-writer.ensures.0 ∙ is)
 
 pub invariant_of-result : goal.invariant_of-result
 invariant_of-result g c =
     let h = rw c.in-Ok.is at c.show-writer.ensures in
     let writer = c.show-writer.result.0 in (
-      pressed_whole g.J.Naming.book writer.desk.shown.value (view writer.desk.place)
+      pressed_whole g.J.Naming.book writer.desk.shown.value.copied (view writer.desk.place)
           (drop writer.behind writer.log.items) c.in_ok-queue.queue.items c.args.front
           c.requires.named h.0 h.2 h.1 c.in_ok-queue.ensures.items,
       omega (arith, c.in_ok-queue.ensures.capacity),

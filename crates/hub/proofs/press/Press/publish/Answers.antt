@@ -14,10 +14,11 @@ invariant_of-press g c =
     c.hand_over.ensures.kept
     ∙ ap (λ w. drop w.behind w.log.items ++ c.self.inside.queue.items)
     c.open-writer.ensures in (
-      pressed_moved g.J.Naming.book old.desk.shown.value new.desk.shown.value (view old.desk.place)
+      pressed_moved g.J.Naming.book old.desk.shown.value.copied new.desk.shown.value.copied
+          (view old.desk.place)
           (view new.desk.place) (drop old.behind old.log.items) (drop new.behind new.log.items)
           c.self.inside.queue.items c.hand_over.new.queue.items c.self.inside.taken
-          c.self.invariant.0 (ap (λ d. d.shown.value) desk)
+          c.self.invariant.0 (ap (λ d. d.shown.value.copied) desk)
           (ap (λ d. view d.place) desk) kept,
       omega (arith, c.hand_over.ensures.room, c.self.invariant.1),
     )
@@ -26,7 +27,7 @@ pub invariant_of-press-in-Ok : goal.invariant_of-press-in-Ok
 invariant_of-press-in-Ok g c =
     let shown = rw c.in-Ok.is at c.show-writer.ensures in
     let new = c.show-writer.result.0 in (
-      pressed_whole g.J.Naming.book new.desk.shown.value (view new.desk.place)
+      pressed_whole g.J.Naming.book new.desk.shown.value.copied (view new.desk.place)
           (drop new.behind new.log.items) c.hand_over.new.queue.items c.self.inside.taken
           c.self.invariant.0.named shown.0 shown.2 shown.1
           (c.hand_over.ensures.done c.if-not-hand_over.false),
@@ -46,10 +47,11 @@ invariant_of-press-in-Err g c =
     c.hand_over.ensures.kept
     ∙ ap (λ w. drop w.behind w.log.items ++ c.self.inside.queue.items)
     c.open-writer.ensures in (
-      pressed_moved g.J.Naming.book old.desk.shown.value new.desk.shown.value (view old.desk.place)
+      pressed_moved g.J.Naming.book old.desk.shown.value.copied new.desk.shown.value.copied
+          (view old.desk.place)
           (view new.desk.place) (drop old.behind old.log.items) (drop new.behind new.log.items)
           c.self.inside.queue.items c.hand_over.new.queue.items c.self.inside.taken
-          c.self.invariant.0 (shown.0 ∙ ap (λ d. d.shown.value) desk)
+          c.self.invariant.0 (shown.0 ∙ ap (λ d. d.shown.value.copied) desk)
           (shown.2 ∙ ap (λ d. view d.place) desk)
           (ap (λ lacking. lacking ++ c.hand_over.new.queue.items) shown.1 ∙ kept),
       omega (arith, c.hand_over.ensures.room, c.self.invariant.1),

@@ -1,0 +1,19 @@
+-- What a seat posts as one.
+use Rattle.std.specs.Prelude.{ℕ, ◌+◌, List, drop}
+use Rattle.agg_types.specs.declared.event.Event.{Event}
+use Rattle.agg_types.specs.declared.event.What.{What}
+use Rattle.fleet_model.specs.Seats.{numbered}
+
+-- a seat, the number of the first event, and what happened
+pub record Batched : Type 0 where
+  pub seat : ℕ
+  pub first : ℕ
+  pub whats : List What
+
+-- its events from a place on
+abbrev pub left_of : Batched → ℕ → List Event
+left_of batch place = numbered batch.seat (batch.first + place) (drop place batch.whats)
+
+-- all its events
+abbrev pub events_in : Batched → List Event
+events_in batch = numbered batch.seat batch.first batch.whats

@@ -1,0 +1,186 @@
+//! Batches: what seats post as one.
+
+ghost use Rattle.std.specs.Prelude.{◌≡◌, ◌<◌, ◌≤◌, ◌+◌, ◌∷◌, drop, fold, length, vec_len};
+ghost use Rattle.std.specs.Prelude.{IsTrue, IfSome, MatchResult};
+ghost use Rattle.std.specs.Arc.{arc_value};
+ghost use Rattle.agg_types.specs.declared.limits.TheConstants.{NUMBERS_END};
+ghost use Rattle.fleet_model.specs.Machine.{after};
+ghost use Rattle.hub.specs.Batches.{events_in, left_of};
+
+use agg_types::What;
+use book::{Book, Spot};
+use std::cell::Cell;
+use std::marker::Model;
+use std::sync::Arc;
+
+/// What happened at a seat, under its number. Contracts see the event.
+#[derive(Drop)]
+pub struct Posting<'a> {
+    pub seat: u64,
+    pub seq: u64,
+    pub what: &'a What,
+}
+
+impl<'a> Model for Posting<'a> {
+    ghost use Rattle.agg_types.specs.declared.event.Event.{Event};
+
+    ghost Value = { Event };
+
+    ghost view = { λ p. record { seat = p.seat; seq = p.seq; what = p.what.now } };
+}
+
+/// What a seat posts as one, under its numbers from a first one on.
+#[derive(Drop)]
+pub struct Batch {
+    seat: u64,
+    first: u64,
+    whats: Vec<What>,
+}
+
+impl Model for Batch {
+    ghost use Rattle.std.specs.Prelude.{◌<◌, ◌+◌, vec_len};
+    ghost use Rattle.agg_types.specs.declared.limits.TheConstants.{NUMBERS_END};
+    ghost use Rattle.hub.specs.Batches.{Batched};
+
+    ghost Value = { Batched };
+
+    ghost view = { λ b. record { seat = b.seat; first = b.first; whats = b.whats.items } };
+
+    ghost invariant = { λ b. b.first + vec_len b.whats < NUMBERS_END };
+}
+
+impl Batch {
+    /// How much happened.
+    pub fn len(&self) -> usize
+        ensures count { result ≡ length self.now.whats }
+        ensures last { self.now.first + length self.now.whats < NUMBERS_END }
+    {
+        self.whats.len()
+    }
+
+    /// What happened at a place.
+    pub fn at(&self, place: usize) -> Posting<'_>
+        requires { place < length self.now.whats }
+        ensures parts { (result.seat ≡ self.now.seat) × (result.seq ≡ self.now.first + place)
+            × (drop place self.now.whats ≡ result.what ∷ drop (place + 1) self.now.whats) }
+        ensures event { left_of self.now place ≡ result ∷ left_of self.now (place + 1) }
+    {
+        Posting {
+            seat: self.seat,
+            seq: self.first + place as u64,
+            what: &self.whats[place],
+        }
+    }
+
+    /// Applies to a book what happened from a place on, up to the first for which an allocation
+    /// fails, and answers the place that it came to. The hints are where another book found the
+    /// rows of keys, by place, or, where there are none, take up where this one finds them.
+    pub fn apply(&self, book: &mut Book, from: usize, hints: &mut Vec<Option<Spot>>) -> usize
+        requires { from ≤ length self.now.whats }
+        ensures within { result ≤ length self.now.whats }
+        ensures brings { fold after book.new (left_of self.now result)
+            ≡ fold after book.old (left_of self.now from) }
+    {
+        let mut done = from;
+        'places: while done < self.len() {
+            let posting = self.at(done);
+            let hint = hints.get(done).copied().flatten();
+            let Ok(taken) = book.apply_at(posting.seat, posting.seq, posting.what, hint) else {
+                return done;
+            };
+            if hints.len() == done {
+                note(hints, taken.spot);
+            }
+            done += 1;
+        }
+        done
+    }
+
+    /// Applies what is left of it from a place on, as `apply` does, without hints.
+    pub fn go_on(&self, book: &mut Book, from: usize) -> usize
+        requires { from ≤ length self.now.whats }
+        ensures within { result ≤ length self.now.whats }
+        ensures brings { fold after book.new (left_of self.now result)
+            ≡ fold after book.old (left_of self.now from) }
+    {
+        let mut hints = Vec::new(*self.whats.allocator());
+        self.apply(book, from, &mut hints)
+    }
+}
+
+// Notes where rows were found, if there is memory for it.
+fn note(hints: &mut Vec<Option<Spot>>, spot: Option<Spot>) {
+    let _noted = hints.push(spot);
+}
+
+/// A batch on its way into both copies of the book.
+pub struct Run {
+    batch: Arc<Batch>,
+    // Where the first copy found the rows of each key, for the second, which looks there.
+    hints: Cell<Vec<Option<Spot>>>,
+}
+
+impl Drop for Run {
+    fn drop(self) {
+        let Run { batch: _, hints: _ } = self;
+    }
+}
+
+impl Model for Run {
+    ghost use Rattle.std.specs.Arc.{arc_value};
+    ghost use Rattle.hub.specs.Batches.{Batched};
+
+    ghost Value = { Batched };
+
+    ghost view = { λ r. arc_value r.batch };
+}
+
+impl Run {
+    /// A batch of a seat, under its numbers from `first` on. Without memory what was to be posted
+    /// comes back.
+    pub fn new(seat: u64, first: u64, whats: Vec<What>) -> Result<Run, Vec<What>>
+        requires { first + vec_len whats < NUMBERS_END }
+        ensures { MatchResult result
+            (λ run. run ≡ record { seat = seat; first = first; whats = whats.items })
+            (λ back. back.items ≡ whats.items) }
+    {
+        let alloc = *whats.allocator();
+        match Arc::new(alloc, Batch { seat, first, whats }) {
+            Ok(batch) => Ok(Run {
+                batch,
+                hints: Cell::new(Vec::new(alloc)),
+            }),
+            Err(failed) => {
+                let Batch { whats, .. } = failed.value;
+                Err(whats)
+            }
+        }
+    }
+
+    /// The batch.
+    pub fn batch(&self) -> &Batch
+        ensures { result.now ≡ self.now }
+    {
+        &self.batch
+    }
+
+    /// Another owner of the batch.
+    pub fn share(&self) -> Option<Arc<Batch>>
+        ensures { IfSome result (λ batch. arc_value batch ≡ self.now) }
+    {
+        Arc::try_clone(&self.batch).ok()
+    }
+
+    /// Applies it to a book, as `Batch::apply` does, with the hints that are kept.
+    pub fn apply(&self, book: &mut Book) -> usize
+        ensures within { result ≤ length self.now.whats }
+        ensures brings { fold after book.new (left_of self.now result)
+            ≡ fold after book.old (events_in self.now) }
+    {
+        let alloc = *self.batch.whats.allocator();
+        let mut hints = self.hints.replace(Vec::new(alloc));
+        let done = self.batch.apply(book, 0, &mut hints);
+        self.hints.set(hints);
+        done
+    }
+}
