@@ -12,6 +12,7 @@ use crate::facts::CollectorFacts;
 use crate::fullness::Watch;
 use crate::journal::Journal;
 use crate::log::Event;
+use crate::memory::Memory;
 use crate::notes::Notes;
 use crate::sockets::Sockets;
 use crate::ticks::Ticks;
@@ -81,7 +82,7 @@ impl Stopped {
 pub fn collect<R, P, O>(rt: &R, paths: &P, asked: Asked, output: &mut O) -> Stopped
 where
     R: Threads + Wait + Copy + Send + Sync + 'static,
-    R: Eprint + AllocGlobal + Clock + RandomSource,
+    R: Eprint + AllocGlobal + Clock + RandomSource + Memory,
     R: Net<Listener = TcpListener, Stream = TcpStream>,
     P: Paths,
     O: Write,
@@ -217,7 +218,7 @@ fn serve<J: Naming + Send + Sync, R, P, O>(
 ) -> Fault
 where
     R: Threads + Wait + Copy + Send + Sync + 'static,
-    R: Eprint + AllocGlobal + Clock + RandomSource,
+    R: Eprint + AllocGlobal + Clock + RandomSource + Memory,
     R: Net<Listener = TcpListener, Stream = TcpStream>,
     P: Paths,
     O: Write,
@@ -252,7 +253,7 @@ fn serve_at<J: Naming + Send + Sync, R>(
 ) -> Fault
 where
     R: Threads + Wait + Copy + Send + Sync + 'static,
-    R: Eprint + AllocGlobal + Clock + RandomSource,
+    R: Eprint + AllocGlobal + Clock + RandomSource + Memory,
 {
     let (peers, admins, web) = listeners;
     let clock = Ticks { rt: *rt, start };

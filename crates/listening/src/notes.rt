@@ -5,6 +5,7 @@ use crate::connections::{Connections, Unasked};
 use crate::journal::Journal;
 use crate::judging::{Because, Verdict, judge, unknown_types};
 use crate::log::Event;
+use crate::memory::Memory;
 use crate::reporting::{HELP, append_info, append_peers, append_tables};
 use crate::ticks::Ticks;
 use agg_types::{Config, NoMemory};
@@ -181,7 +182,7 @@ impl<'a, R> Notes<'a, R> {
     }
 }
 
-impl<'a, R: Clock + Wait> Gate for Notes<'a, R> {
+impl<'a, R: Clock + Wait + Memory> Gate for Notes<'a, R> {
     // The timer comes every 100 ms, and tells what was counted.
     fn turn(&self, place: Place) {
         if place != Place::Timer {

@@ -5,6 +5,7 @@ ghost use Rattle.std.specs.Prelude.{◌<◌, length};
 use crate::board::Board;
 use crate::connections::Connections;
 use crate::judging::{Because, Verdict};
+use crate::memory::Memory;
 use agg_types::{Config, NoMemory};
 use book::Book;
 use command_line::VERSION;
@@ -72,8 +73,21 @@ fn append_book(alloc: Global, book: &Book, out: &mut Vec<u8>) -> Result<(), NoMe
     append_line(alloc, "rows", rows_in(book), out)
 }
 
-/// Appends the collector's counters, so many ms after its start.
-pub fn append_info<R: Wait>(
+// A number, or a dash.
+#[derive(Clone, Copy)]
+struct Known(Option<u64>);
+
+impl fmt::Display for Known {
+    fn fmt<W: fmt::Write>(&self, f: &mut fmt::Formatter<W>) -> fmt::Result {
+        match self.0 {
+            None => f.write_str("-"),
+            Some(number) => write!(f, "{number}"),
+        }
+    }
+}
+
+/// Appends the collector's counters, so many ms after its start, and its memory.
+pub fn append_info<R: Wait + Memory>(
     rt: &R,
     alloc: Global,
     board: &Board,
@@ -92,7 +106,8 @@ pub fn append_info<R: Wait>(
     append_book(alloc, book, out)?;
     append_line(alloc, "seats", totals.seats, out)?;
     append_line(alloc, "waiting", connections.count_waiting(rt), out)?;
-    append_line(alloc, "refused", totals.refused, out)
+    append_line(alloc, "refused", totals.refused, out)?;
+    append_line(alloc, "memory", Known(rt.resident()), out)
 }
 
 // The address of a connection, or a dash.
@@ -104,22 +119,6 @@ impl fmt::Display for From {
         match self.0 {
             None => f.write_str("-"),
             Some(address) => write!(f, "{address}"),
-        }
-    }
-}
-
-// How long ago a moment was, or a dash.
-#[derive(Clone, Copy)]
-struct Ago {
-    moment: Option<u64>,
-    now: u64,
-}
-
-impl fmt::Display for Ago {
-    fn fmt<W: fmt::Write>(&self, f: &mut fmt::Formatter<W>) -> fmt::Result {
-        match self.moment {
-            None => f.write_str("-"),
-            Some(moment) => write!(f, "{}", self.now.saturating_sub(moment)),
         }
     }
 }
@@ -156,10 +155,7 @@ impl<'a> fmt::Display for PeerLine<'a> {
         let name = name.escape_ascii();
         write!(f, "peer={name} state={}", state_of(&peer))?;
         write!(f, " from={} since_ms={since}", From(peer.address))?;
-        let last = Ago {
-            moment: peer.last_update,
-            now,
-        };
+        let last = Known(peer.last_update.map(|moment| now.saturating_sub(moment)));
         write!(f, " updates={} last_update_ms={last}", peer.updates)?;
         write!(f, " rows={} dropped={}", held.rows, held.dropped)?;
         write!(f, " unknown_tables={}", peer.unfollowed)

@@ -2,6 +2,7 @@
 
 use crate::collecting::collect;
 use crate::disk::Paths;
+use crate::memory::Memory;
 use program::{FAULT, Files, Prepared, arguments, prepare, tell};
 use std::convert::AsStr;
 use std::env::Env;
@@ -19,7 +20,7 @@ use std::time::Clock;
 pub fn run<R, H, F, E>(rt: &R, host: &H, files: &F, errors: &mut E) -> u8
 where
     R: Threads + Wait + Copy + Send + Sync + 'static,
-    R: Eprint + AllocGlobal + Clock + RandomSource,
+    R: Eprint + AllocGlobal + Clock + RandomSource + Memory,
     R: Net<Listener = TcpListener, Stream = TcpStream>,
     H: Env + Input + Print + AllocGlobal,
     F: Files + Paths,
@@ -35,7 +36,7 @@ where
 fn try_run<R, H, F, E>(rt: &R, host: &H, files: &F, errors: &mut E) -> io::Result<u8>
 where
     R: Threads + Wait + Copy + Send + Sync + 'static,
-    R: Eprint + AllocGlobal + Clock + RandomSource,
+    R: Eprint + AllocGlobal + Clock + RandomSource + Memory,
     R: Net<Listener = TcpListener, Stream = TcpStream>,
     H: Env + Input + Print + AllocGlobal,
     F: Files + Paths,
@@ -61,7 +62,7 @@ pub fn run_words<R, S, F, I, O, E>(
 ) -> u8
 where
     R: Threads + Wait + Copy + Send + Sync + 'static,
-    R: Eprint + AllocGlobal + Clock + RandomSource,
+    R: Eprint + AllocGlobal + Clock + RandomSource + Memory,
     R: Net<Listener = TcpListener, Stream = TcpStream>,
     S: AsStr,
     F: Files + Paths,

@@ -11,6 +11,7 @@ mod scene;
 mod status;
 
 use command_line::Endpoints;
+use listening::Memory;
 use program::{Asked, Prepared, prepare};
 use scene::{Scene, Shelf, Torn};
 use std::io;
@@ -126,7 +127,7 @@ fn show_words(rt: &impl Print, words: &[&[u8]]) -> io::Result<()> {
 fn show_run<R>(rt: &R, words: &'static [&'static [u8]], input: &'static [u8]) -> io::Result<()>
 where
     R: Threads + Wait + Copy + Send + Sync + 'static,
-    R: Print + Eprint + AllocGlobal + Clock + RandomSource,
+    R: Print + Eprint + AllocGlobal + Clock + RandomSource + Memory,
     R: Net<Listener = TcpListener, Stream = TcpStream>,
 {
     show_words(rt, words)?;
@@ -242,7 +243,7 @@ fn show_torn(rt: &(impl Print + AllocGlobal)) -> io::Result<()> {
 fn listen<R, E>(rt: &R, peers: SocketAddrV4, admin: SocketAddrV4, errors: &mut E) -> io::Result<u8>
 where
     R: Threads + Wait + Copy + Send + Sync + 'static,
-    R: Print + Eprint + AllocGlobal + Clock + RandomSource,
+    R: Print + Eprint + AllocGlobal + Clock + RandomSource + Memory,
     R: Net<Listener = TcpListener, Stream = TcpStream>,
     E: Write,
 {
@@ -259,7 +260,7 @@ where
 fn show_in_use<R>(rt: &R, peers: SocketAddrV4, admin: SocketAddrV4, port: u16) -> io::Result<()>
 where
     R: Threads + Wait + Copy + Send + Sync + 'static,
-    R: Print + Eprint + AllocGlobal + Clock + RandomSource,
+    R: Print + Eprint + AllocGlobal + Clock + RandomSource + Memory,
     R: Net<Listener = TcpListener, Stream = TcpStream>,
 {
     let mut errors = Vec::new(rt.alloc());
@@ -274,7 +275,7 @@ where
 fn show_socket_in_use<R>(rt: &R, peers: SocketAddrV4) -> io::Result<()>
 where
     R: Threads + Wait + Copy + Send + Sync + 'static,
-    R: Print + Eprint + AllocGlobal + Clock + RandomSource,
+    R: Print + Eprint + AllocGlobal + Clock + RandomSource + Memory,
     R: Net<Listener = TcpListener, Stream = TcpStream>,
 {
     println!(rt; "== listen: the socket of the operators is in use")?;
@@ -297,7 +298,7 @@ where
 fn show_addresses_in_use<R>(rt: &R) -> io::Result<()>
 where
     R: Threads + Wait + Copy + Send + Sync + 'static,
-    R: Print + Eprint + AllocGlobal + Clock + RandomSource,
+    R: Print + Eprint + AllocGlobal + Clock + RandomSource + Memory,
     R: Net<Listener = TcpListener, Stream = TcpStream>,
 {
     let any = SocketAddrV4::new(Ipv4Addr::LOCALHOST, 0);

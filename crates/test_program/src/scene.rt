@@ -2,7 +2,7 @@
 
 ghost use Rattle.std.specs.Prelude.{None};
 
-use listening::Paths;
+use listening::{Memory, Paths};
 use std::alloc::{Allocator, Global};
 use std::env::{Env, FillError};
 use std::fmt::Display;
@@ -97,7 +97,8 @@ impl Write for Torn {
     }
 }
 
-/// A standard error that is another's standard output, and a clock that stands still.
+/// A standard error that is another's standard output, a clock that stands still, and memory that
+/// stays the same.
 #[derive(Drop)]
 pub struct Still<R> {
     pub rt: R,
@@ -127,6 +128,12 @@ impl<R> Clock for Still<R> {
             None => Err(io::Error::from(ErrorKind::Unsupported)),
             Some(seconds) => Ok(Duration::from_secs(seconds)),
         }
+    }
+}
+
+impl<R> Memory for Still<R> {
+    fn resident(&self) -> Option<u64> {
+        Some(13_381_632)
     }
 }
 

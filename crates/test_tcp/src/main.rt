@@ -9,7 +9,7 @@
 #![tactic(auto)]
 
 use anyhow::{Result, anyhow};
-use listening::Disk;
+use listening::{Disk, Memory};
 use std::alloc::Global;
 use std::fs::Files;
 use std::io::{BufReader, Read, Write};
@@ -111,13 +111,19 @@ fn ask(rt: &impl Print, alloc: Global, stream: &TcpStream, line: &[u8]) -> Resul
 }
 
 /// What begins a line or a word whose value isn't the same each time.
-const VARYING: [&[u8]; 5] = [
+const VARYING: [&[u8]; 6] = [
     b"uptime_ms: ",
     b"now_ms: ",
+    b"memory: ",
     b"from=",
     b"since_ms=",
     b"last_update_ms=",
 ];
+
+/// Whether these bytes begin with a label and a value, which is no dash.
+fn has_value(bytes: &[u8], label: &[u8]) -> bool {
+    bytes.starts_with(label) && !matches!(bytes.get(label.len()), Some(b'-'))
+}
 
 /// Asks, and prints the answer, with a # for each value that isn't the same each time.
 fn ask_varying(rt: &impl Print, alloc: Global, stream: &TcpStream, line: &[u8]) -> Result<()> {
@@ -127,7 +133,7 @@ fn ask_varying(rt: &impl Print, alloc: Global, stream: &TcpStream, line: &[u8]) 
         let Some((first, behind)) = rest.split_first() else {
             break;
         };
-        if let Some(label) = VARYING.iter().find(|label| rest.starts_with(label)) {
+        if let Some(label) = VARYING.iter().find(|label| has_value(rest, label)) {
             io::writer(rt).write_all(label)?;
             io::writer(rt).write_all(b"#")?;
             rest = behind_value(rest, label.len());
@@ -173,7 +179,7 @@ fn ask_status(rt: &impl Print, alloc: Global, asking: &TcpStream) -> Result<()> 
 fn run<R>(rt: &R, peers: SocketAddr, admin: SocketAddr) -> Result<u8>
 where
     R: Threads + Wait + Copy + Send + Sync + 'static,
-    R: Input + Print + Eprint + AllocGlobal + Clock + RandomSource,
+    R: Input + Print + Eprint + AllocGlobal + Clock + RandomSource + Memory,
     R: Net<Listener = TcpListener, Stream = TcpStream> + Files,
 {
     let peers = format!(in rt.alloc(); "--peers={peers}")?;
