@@ -13,6 +13,7 @@ failed; the status is 1 where one failed. It takes about a minute and a half; `-
 
 import argparse
 import json
+import re
 import resource
 import shutil
 import signal
@@ -234,13 +235,17 @@ def parts(report, port):
     report.check("peers behind one", 1, lambda: differs([p["name"] for p in behind["entries"]], ["lb2"]))
 
 
-def figures(report, port):
+def figures(report, collector, port):
     """Figures, as Prometheus reads them."""
     text = get(port, "/metrics")[2].decode()
     odd = ODD_FILTER.replace("\\", "\\\\").replace('"', '\\"')
     wanted = f'sesamejoist_filter_keys{{filter="{odd}",table="/t"}} {KEYS - 100}\n'
     report.check("a label with a quote and a backslash", 1, lambda: "" if wanted in text else text)
     report.check("the updates of a peer", 1, lambda: "" if f' {KEYS}\n' in text else text)
+    for name, told_by in (("the figure", text), ("show info", collector.ask("show info"))):
+        found = re.search(r"^(?:process_resident_memory_bytes|memory:) (\d+)$", told_by, re.M)
+        report.check(f"the memory by {name}", 1, lambda: "" if found and
+                     abs(int(found[1]) - collector.resident()) < 10_000_000 else told_by)
     if shutil.which("promtool"):
         done = subprocess.run(["promtool", "check", "metrics"], input=text, text=True, capture_output=True)
         report.check("promtool check metrics", 1, lambda: differs((done.returncode, done.stderr), (0, "")))
@@ -457,7 +462,7 @@ def main():
     sound(report, port)
     peer = push(peers)
     parts(report, port)
-    figures(report, port)
+    figures(report, collector, port)
     never_shrinks(report, port)
     hostile(report, port)
     budget(report, port)

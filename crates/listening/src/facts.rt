@@ -2,6 +2,7 @@
 
 use crate::board::Board;
 use crate::connections::Connections;
+use crate::memory::Memory;
 use crate::ticks::Ticks;
 use agg_types::{Config, NoMemory};
 use command_line::VERSION;
@@ -38,7 +39,7 @@ impl<'a, R: Clock + Wait> CollectorFacts<'a, R> {
     }
 }
 
-impl<'a, R: Clock + Wait> Facts for CollectorFacts<'a, R> {
+impl<'a, R: Clock + Wait + Memory> Facts for CollectorFacts<'a, R> {
     fn now(&self) -> u64 {
         self.clock.moment()
     }
@@ -65,6 +66,7 @@ impl<'a, R: Clock + Wait> Facts for CollectorFacts<'a, R> {
             seats: totals.seats,
             waiting: self.connections.count_waiting(&self.clock.rt),
             refused: totals.refused,
+            memory: self.clock.rt.resident(),
             peers: self.peers()?,
             rates: self.board.rates(&self.clock.rt)?,
         })

@@ -78,6 +78,7 @@ pub fn standing(alloc: Global, now: u64) -> Result<Standing> {
         seats: 2,
         waiting: 3,
         refused: 5,
+        memory: Some(13_381_632),
         peers,
         rates,
     })

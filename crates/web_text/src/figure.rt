@@ -1,6 +1,6 @@
 //! The figures that are told, by their names.
 
-/// A figure's name without what comes before it, whether it only grows, and what it is.
+/// A figure's name, whether it only grows, and what it is.
 #[derive(Clone, Copy)]
 pub(crate) struct Figure {
     pub(crate) name: &'static [u8],
@@ -9,127 +9,133 @@ pub(crate) struct Figure {
 }
 
 pub(crate) const BUILD_INFO: Figure = Figure {
-    name: b"build_info",
+    name: b"sesamejoist_build_info",
     grows: false,
     help: b"The version of the collector; always 1.",
 };
 
 pub(crate) const UPTIME: Figure = Figure {
-    name: b"uptime_seconds",
+    name: b"sesamejoist_uptime_seconds",
     grows: false,
     help: b"Time since the start.",
 };
 
 pub(crate) const BEHIND: Figure = Figure {
-    name: b"behind_seconds",
+    name: b"sesamejoist_behind_seconds",
     grows: false,
     help: b"How far the book that was looked at is behind.",
 };
 
 pub(crate) const PEERS_CONNECTED: Figure = Figure {
-    name: b"peers_connected",
+    name: b"sesamejoist_peers_connected",
     grows: false,
     help: b"Configured peers that are connected.",
 };
 
 pub(crate) const UPDATES: Figure = Figure {
-    name: b"updates_total",
+    name: b"sesamejoist_updates_total",
     grows: true,
     help: b"Updates of followed tables that were posted.",
 };
 
 pub(crate) const POSTS: Figure = Figure {
-    name: b"posts_total",
+    name: b"sesamejoist_posts_total",
     grows: true,
     help: b"Batches that were posted for peers.",
 };
 
 pub(crate) const REFUSED: Figure = Figure {
-    name: b"connections_refused_total",
+    name: b"sesamejoist_connections_refused_total",
     grows: true,
     help: b"Connections that were closed before they were served.",
 };
 
 pub(crate) const WAITING: Figure = Figure {
-    name: b"connections_waiting",
+    name: b"sesamejoist_connections_waiting",
     grows: false,
     help: b"Connections whose hello is awaited.",
 };
 
 pub(crate) const SEATS: Figure = Figure {
-    name: b"seats",
+    name: b"sesamejoist_seats",
     grows: false,
     help: b"Workers that may post.",
 };
 
+pub(crate) const MEMORY: Figure = Figure {
+    name: b"process_resident_memory_bytes",
+    grows: false,
+    help: b"Resident memory of the process.",
+};
+
 pub(crate) const PEER_CONNECTED: Figure = Figure {
-    name: b"peer_connected",
+    name: b"sesamejoist_peer_connected",
     grows: false,
     help: b"Whether a peer is connected.",
 };
 
 pub(crate) const PEER_STATE: Figure = Figure {
-    name: b"peer_state_seconds",
+    name: b"sesamejoist_peer_state_seconds",
     grows: false,
     help: b"How long a peer has been connected, or away.",
 };
 
 pub(crate) const PEER_UPDATES: Figure = Figure {
-    name: b"peer_updates_total",
+    name: b"sesamejoist_peer_updates_total",
     grows: true,
     help: b"Updates of a peer that were posted.",
 };
 
 pub(crate) const PEER_LAST_UPDATE: Figure = Figure {
-    name: b"peer_last_update_seconds",
+    name: b"sesamejoist_peer_last_update_seconds",
     grows: false,
     help: b"How long ago the last update of a peer was posted.",
 };
 
 pub(crate) const PEER_UNFOLLOWED: Figure = Figure {
-    name: b"peer_unfollowed_tables",
+    name: b"sesamejoist_peer_unfollowed_tables",
     grows: false,
     help: b"Tables of a peer's present or last connection that are passed over.",
 };
 
 pub(crate) const PEER_ROWS: Figure = Figure {
-    name: b"peer_rows",
+    name: b"sesamejoist_peer_rows",
     grows: false,
     help: b"Rows of a table that a peer holds.",
 };
 
 pub(crate) const PEER_DROPPED: Figure = Figure {
-    name: b"peer_dropped_updates_total",
+    name: b"sesamejoist_peer_dropped_updates_total",
     grows: true,
     help: b"Updates of new keys of a peer that a full table didn't take.",
 };
 
 pub(crate) const TABLE_KEYS: Figure = Figure {
-    name: b"table_keys",
+    name: b"sesamejoist_table_keys",
     grows: false,
     help: b"Keys of a table that some peer has a row of.",
 };
 
 pub(crate) const TABLE_SIZE: Figure = Figure {
-    name: b"table_size",
+    name: b"sesamejoist_table_size",
     grows: false,
     help: b"How many rows of a table each peer may have.",
 };
 
 pub(crate) const FILTER_KEYS: Figure = Figure {
-    name: b"filter_keys",
+    name: b"sesamejoist_filter_keys",
     grows: false,
     help: b"Keys that a standing filter holds.",
 };
 
 pub(crate) const FILTER_CHANGE: Figure = Figure {
-    name: b"filter_next_change_seconds",
+    name: b"sesamejoist_filter_next_change_seconds",
     grows: false,
     help: b"Time until the clock alone changes a filter's set; missing where it never does.",
 };
 
 pub(crate) const RANK_TOP: Figure = Figure {
-    name: b"rank_top_value",
+    name: b"sesamejoist_rank_top_value",
     grows: false,
     help: b"The first value of a ranked list.",
 };

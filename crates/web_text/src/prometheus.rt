@@ -8,9 +8,6 @@ use agg_types::{Config, NoMemory};
 use std::alloc::Global;
 use std::fmt;
 
-/// What comes before each name.
-const PREFIX: &[u8] = b"sesamejoist_";
-
 /// A figure's value.
 #[derive(Clone, Copy)]
 enum Value {
@@ -62,12 +59,10 @@ impl Lines {
     // The two lines before a figure's values.
     fn head(&mut self, figure: Figure) -> Result<(), NoMemory> {
         self.put(b"# HELP ")?;
-        self.put(PREFIX)?;
         self.put(figure.name)?;
         self.put(b" ")?;
         self.put(figure.help)?;
         self.put(b"\n# TYPE ")?;
-        self.put(PREFIX)?;
         self.put(figure.name)?;
         if figure.grows {
             self.put(b" counter\n")
@@ -98,7 +93,6 @@ impl Lines {
         labels: &[Label<'_>],
         value: Value,
     ) -> Result<(), NoMemory> {
-        self.put(PREFIX)?;
         self.put(figure.name)?;
         self.labels(labels)?;
         let text = format!(in self.alloc; " {value}\n")?;
@@ -149,7 +143,11 @@ fn put_collector(
     lines.alone(POSTS, count(standing.posts))?;
     lines.alone(REFUSED, count(standing.refused))?;
     lines.alone(WAITING, count(standing.waiting as u64))?;
-    lines.alone(SEATS, count(standing.seats))
+    lines.alone(SEATS, count(standing.seats))?;
+    match standing.memory {
+        None => Ok(()),
+        Some(bytes) => lines.alone(MEMORY, count(bytes)),
+    }
 }
 
 /// What is told of each peer.

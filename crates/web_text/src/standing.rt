@@ -48,6 +48,8 @@ pub struct Standing {
     pub waiting: usize,
     /// How many connections were closed before they were served.
     pub refused: u64,
+    /// The resident memory of the process, in bytes, where it is known.
+    pub memory: Option<u64>,
     /// Those of the configuration, in its order.
     pub peers: Vec<PeerStanding>,
     /// How many updates came in each of the last seconds, the oldest first.
