@@ -9,7 +9,7 @@ ghost use Rattle.replay.specs.Given.{IsSettled};
 ghost use Rattle.replay.specs.Tellings.{count_text, key_line, shown_text, table_head, table_text};
 ghost use Rattle.replay.specs.Tellings.{tables_from};
 
-use agg_types::{Key, KeyKind, NoMemory};
+use agg_types::{KeyKind, NoMemory};
 use fleet_core::{Fleet, Step};
 use key_text::{append_key, append_number, append_text};
 use std::alloc::Global;
@@ -75,7 +75,12 @@ fn append_tables(
 }
 
 // Appends a pushed table of a connection, with the keys that it was told.
-fn append_table(conn: u64, table: &Pushed, keys: &[&Key], out: &mut Vec<u8>) -> Result<(), NoMemory>
+fn append_table(
+    conn: u64,
+    table: &Pushed,
+    keys: &[&[u8]],
+    out: &mut Vec<u8>,
+) -> Result<(), NoMemory>
     ensures { OnOk result (out.new.items
         ≡ out.old.items ++ table_text conn table.now (map (λ key. key.now) keys.now)) }
 {
@@ -103,12 +108,12 @@ fn append_count(count: u128, out: &mut Vec<u8>) -> Result<(), NoMemory>
 }
 
 // Appends a line for each key.
-fn append_keys(kind: KeyKind, keys: &[&Key], out: &mut Vec<u8>) -> Result<(), NoMemory>
+fn append_keys(kind: KeyKind, keys: &[&[u8]], out: &mut Vec<u8>) -> Result<(), NoMemory>
     ensures { OnOk result (out.new.items
         ≡ out.old.items ++ flat_map (key_line kind) (map (λ key. key.now) keys.now)) }
 {
     for key in keys {
-        append_line(kind, key.as_slice(), out)?;
+        append_line(kind, key, out)?;
     }
     Ok(())
 }

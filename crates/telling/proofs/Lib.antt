@@ -1,3 +1,4 @@
+pub mod Packing
 pub mod Texts
 pub mod Rest
 pub mod Left
@@ -5,4 +6,4 @@ pub mod Turns
 pub mod Quiet
 pub mod Whole
 pub mod Brought
-pub mod Marks
+pub mod Among

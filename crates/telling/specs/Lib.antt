@@ -1,3 +1,4 @@
+pub mod Packed
 pub mod Rules
 pub mod Stands
 pub mod Told

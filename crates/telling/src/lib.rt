@@ -14,6 +14,7 @@
 
 mod change;
 pub mod laws;
+mod marks;
 mod pushed;
 mod stands;
 mod teller;
@@ -22,6 +23,7 @@ mod turning;
 mod written;
 
 pub use change::{Change, Turn};
+pub use marks::Marks;
 pub use pushed::{Pushed, pushed_of};
 pub use teller::Teller;
 pub use told::{Mark, ToldTable};

@@ -3,9 +3,10 @@
 ghost use Rattle.std.specs.Prelude.{◌≡◌, [], ◌∷◌, length, map, MatchOption};
 ghost use Rattle.std.specs.Iterator.{at_most};
 ghost use Rattle.std.specs.Map.Iter.{TakesFirst};
+ghost use Rattle.telling.specs.Packed.{lent, marks_of};
 ghost use Rattle.telling.specs.Stands.{in_set, only_told, shown, stands};
 
-use crate::told::Mark;
+use crate::marks::{Lent, Packed};
 use agg_types::Key;
 use std::cmp::Ordering;
 use std::marker::Model;
@@ -14,7 +15,7 @@ use std::marker::Model;
 /// was last put, if it was.
 #[derive(Clone, Copy)]
 pub struct Standing<'a> {
-    pub key: &'a Key,
+    pub key: &'a [u8],
     pub is_in: bool,
     pub put: Option<u64>,
 }
@@ -25,22 +26,23 @@ pub struct Standing<'a> {
 #[derive(Drop)]
 pub struct Stands<'a> {
     set: &'a [&'a Key],
-    marks: &'a [Mark],
+    marks: Packed<'a>,
 }
 
 impl<'a> Model for Stands<'a> {
     ghost use Rattle.std.specs.Prelude.{List, map};
+    ghost use Rattle.telling.specs.Packed.{marks_of};
     ghost use Rattle.telling.specs.Stands.{Stand, stands};
 
     ghost Value = { List Stand };
 
-    ghost view = { λ left. stands (map (λ key. key.now) left.set.now) left.marks.now };
+    ghost view = { λ left. stands (map (λ key. key.now) left.set.now) (marks_of left.marks) };
 }
 
 impl<'a> Stands<'a> {
     /// The keys of a set and of these marks, both in order.
-    pub fn new(set: &'a [&'a Key], marks: &'a [Mark]) -> Stands<'a>
-        ensures { result ≡ stands (map (λ key. key.now) set.now) marks.now }
+    pub fn new(set: &'a [&'a Key], marks: Packed<'a>) -> Stands<'a>
+        ensures { result ≡ stands (map (λ key. key.now) set.now) (marks_of marks.entry) }
     {
         Stands { set, marks }
     }
@@ -62,18 +64,18 @@ impl<'a> Iterator for Stands<'a> {
 
 // The first key of a set and of what was told, and what is left of both behind it.
 #[tactic(auto, unfolding(crate::specs::Stands::stands))]
-fn first_standing<'a>(set: &'a [&'a Key], marks: &'a [Mark]) -> Option<(Standing<'a>, Stands<'a>)>
-    ensures { MatchOption result (stands (map (λ key. key.now) set.now) marks.now ≡ [])
-        (λ found. stands (map (λ key. key.now) set.now) marks.now ≡ shown found.0 ∷ found.1) }
+fn first_standing<'a>(set: &'a [&'a Key], marks: Packed<'a>) -> Option<(Standing<'a>, Stands<'a>)>
+    ensures { MatchOption result (stands (map (λ key. key.now) set.now) (marks_of marks.entry) ≡ [])
+        (λ found. stands (map (λ key. key.now) set.now) (marks_of marks.entry)
+        ≡ shown found.0 ∷ found.1) }
 {
     let [key, others @ ..] = set else {
-        let [mark, rest @ ..] = marks else {
-            return None;
-        };
+        let (mark, rest) = marks.split_first()?;
         return Some((told_alone(mark), Stands::new(set, rest)));
     };
     let key: &Key = key;
-    let [mark, rest @ ..] = marks else {
+    let key = key.as_slice();
+    let Some((mark, rest)) = marks.split_first() else {
         return Some((held(key, None), Stands::new(others, marks)));
     };
     match key.cmp(&mark.key) {
@@ -84,7 +86,7 @@ fn first_standing<'a>(set: &'a [&'a Key], marks: &'a [Mark]) -> Option<(Standing
 }
 
 // A key of the set.
-fn held<'a>(key: &'a Key, put: Option<u64>) -> Standing<'a>
+fn held(key: &[u8], put: Option<u64>) -> Standing<'_>
     ensures { shown result ≡ in_set key.now put }
 {
     Standing {
@@ -95,11 +97,11 @@ fn held<'a>(key: &'a Key, put: Option<u64>) -> Standing<'a>
 }
 
 // A key that was told and isn't in the set.
-fn told_alone(mark: &Mark) -> Standing<'_>
-    ensures { shown result ≡ only_told mark.now }
+fn told_alone(mark: Lent<'_>) -> Standing<'_>
+    ensures { shown result ≡ only_told (lent mark.entry) }
 {
     Standing {
-        key: &mark.key,
+        key: mark.key,
         is_in: false,
         put: Some(mark.put),
     }

@@ -2,14 +2,16 @@
 
 ghost use Rattle.std.specs.Prelude.{◌≡◌, [], map, slice_get, IfOk, IsTrue, OnOk, OnErr};
 ghost use Rattle.std.specs.Option.{option_copied};
+ghost use Rattle.telling.specs.Packed.{marks_of};
 ghost use Rattle.telling.specs.Telling.{asked, defined_before, first_definitions, text_of};
 ghost use Rattle.telling.specs.Telling.{keys_told, told_after, told_keys, turn_at, turn_text};
 ghost use Rattle.telling.specs.Telling.{untold};
 
 use crate::change::{Turn, is_told};
+use crate::marks::Packed;
 use crate::turning::{are_quiet, define_all, tell_all, told_at};
 use crate::written::Written;
-use crate::{Mark, Pushed, ToldTable};
+use crate::{Pushed, ToldTable};
 use agg_types::{Items, Key, NoMemory};
 use std::alloc::Global;
 use std::marker::Model;
@@ -100,7 +102,7 @@ impl Teller {
         pushed: &[Pushed],
         place: usize,
         now: u64,
-    ) -> Result<Vec<&Key>, NoMemory>
+    ) -> Result<Vec<&[u8]>, NoMemory>
         ensures { IfOk result (λ keys. map (λ key. key.now) keys.items
             ≡ told_keys pushed.now self.now place now) }
     {
@@ -163,16 +165,18 @@ fn keys_told<'a>(
     alloc: Global,
     table: &Pushed,
     now: u64,
-    marks: &'a [Mark],
-) -> Result<Vec<&'a Key>, NoMemory>
+    marks: Packed<'a>,
+) -> Result<Vec<&'a [u8]>, NoMemory>
     ensures { IfOk result (λ keys. map (λ key. key.now) keys.items
-        ≡ keys_told table.now now marks.now) }
+        ≡ keys_told table.now now (marks_of marks.entry)) }
 {
     let mut keys = Vec::new(alloc);
-    for mark in marks {
+    let mut left = marks;
+    while let Some((mark, rest)) = left.split_first() {
         if is_told(table, now, mark.put) {
-            keys.push(&mark.key)?;
+            keys.push(mark.key)?;
         }
+        left = rest;
     }
     Ok(keys)
 }

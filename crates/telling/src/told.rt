@@ -1,8 +1,9 @@
 //! What one connection was told of a table.
 
-use agg_types::{Items, Key};
+use crate::Marks;
+use agg_types::Key;
 
-/// A key, and the moment, in ms, at which it was last put.
+/// A key, and the moment, in ms, at which it was last put, as contracts see them in `Marks`.
 #[derive(Debug, Drop)]
 pub struct Mark {
     pub key: Key,
@@ -14,5 +15,5 @@ pub struct Mark {
 #[derive(Debug, Drop)]
 pub struct ToldTable {
     pub last: u32,
-    pub marks: Items<Mark>,
+    pub marks: Marks,
 }

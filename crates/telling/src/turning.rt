@@ -3,6 +3,7 @@
 ghost use Rattle.std.specs.Prelude.{◌≡◌, ◌+◌, ◌++◌, ◌<◌, ◌^◌, []};
 ghost use Rattle.std.specs.Prelude.{ℕ, length, map, slice_index_or, IfOk};
 ghost use Rattle.std.specs.Prelude.{IsTrue, OnOk};
+ghost use Rattle.telling.specs.Packed.{marks_of};
 ghost use Rattle.telling.specs.Told.{no_table};
 ghost use Rattle.telling.specs.Telling.{defined_after, last_defined, table_turn, table_turns};
 ghost use Rattle.telling.specs.Telling.{text_of, update_messages, with_definition, AreQuiet};
@@ -10,10 +11,11 @@ ghost use Rattle.telling.specs.Telling.{definitions, last_after, key_change, key
 ghost use Rattle.telling.specs.Stands.{shown, stands};
 
 use crate::change::{Turn, change_of, put_after};
+use crate::marks::{Marks, Packed};
 use crate::stands::{Standing, Stands};
 use crate::written::Written;
-use crate::{Mark, Pushed, ToldTable};
-use agg_types::{Items, Key, NoMemory};
+use crate::{Pushed, ToldTable};
+use agg_types::{Items, Key, KeyKind, NoMemory};
 use std::alloc::Global;
 
 /// Writes the definitions of these tables.
@@ -88,14 +90,14 @@ fn tell_at(
 }
 
 /// The last id of a table and its marks, by its place.
-pub fn told_at(told: &[ToldTable], place: usize) -> (u32, &[Mark])
+pub fn told_at(told: &[ToldTable], place: usize) -> (u32, Packed<'_>)
     ensures last { result.0 ≡ (slice_index_or told.now place no_table).last }
-    ensures marks { result.1.now ≡ (slice_index_or told.now place no_table).marks }
+    ensures marks { marks_of result.1 ≡ (slice_index_or told.now place no_table).marks }
 {
     let Some(table) = told.get(place) else {
-        return (0, &[]);
+        return (0, Packed::none());
     };
-    (table.last, table.marks.as_slice())
+    (table.last, table.marks.lend())
 }
 
 // Tells a table, by its id, what has changed of its set, and gives what was told behind it.
@@ -106,29 +108,45 @@ fn tell(
     pushed: &Pushed,
     set: &[&Key],
     last: u32,
-    marks: &[Mark],
+    marks: Packed<'_>,
 ) -> Result<ToldTable, NoMemory>
     ensures bytes { OnOk result (written.new.bytes.items ≡ written.old.bytes.items
         ++ text_of (with_definition written.old.defined id pushed.now
         (table_turn turn id pushed.now (map (λ key. key.now) set.now)
-        (record { last = last; marks = marks.now })).updates)) }
+        (record { last = last; marks = marks_of marks.entry })).updates)) }
     ensures defined { OnOk result (written.new.defined ≡ defined_after written.old.defined id
         (table_turn turn id pushed.now (map (λ key. key.now) set.now)
-        (record { last = last; marks = marks.now })).updates) }
+        (record { last = last; marks = marks_of marks.entry })).updates) }
     ensures after { IfOk result (λ after. after
         ≡ (table_turn turn id pushed.now (map (λ key. key.now) set.now)
-        (record { last = last; marks = marks.now })).after) }
+        (record { last = last; marks = marks_of marks.entry })).after) }
 {
     let mut last = last;
-    let mut kept = Vec::new(*written.bytes.allocator());
+    let alloc = *written.bytes.allocator();
+    let mut kept = Marks::with_room(alloc, set.len(), bytes_of(pushed.kind, set))?;
     for standing in Stands::new(set, marks) {
         last = say(written, turn, id, pushed, last, standing)?;
         keep(&mut kept, turn, pushed, standing)?;
     }
-    Ok(ToldTable {
-        last,
-        marks: Items::from_vec(kept),
-    })
+    Ok(ToldTable { last, marks: kept })
+}
+
+// How many bytes the keys of a set have together, to make room for.
+fn bytes_of(kind: KeyKind, set: &[&Key]) -> usize {
+    match kind {
+        KeyKind::Integer | KeyKind::Ip => set.len().saturating_mul(4),
+        KeyKind::Ipv6 => set.len().saturating_mul(16),
+        KeyKind::Str(_) | KeyKind::Binary(_) => bytes_counted(set),
+    }
+}
+
+// The same where keys differ in length.
+fn bytes_counted(set: &[&Key]) -> usize {
+    let mut bytes = 0usize;
+    for key in set {
+        bytes = bytes.saturating_add(key.as_slice().len());
+    }
+    bytes
 }
 
 // Writes what has changed of a key, and gives the id of the last update.
@@ -158,20 +176,18 @@ fn say(
 
 // Keeps the mark of a key that is told behind the turn.
 fn keep(
-    marks: &mut Vec<Mark>,
+    marks: &mut Marks,
     turn: Turn,
     pushed: &Pushed,
     standing: Standing<'_>,
 ) -> Result<(), NoMemory>
-    ensures { OnOk result (marks.new.items
-        ≡ marks.old.items ++ key_mark pushed.now turn (shown standing.entry)) }
+    ensures { OnOk result (marks.new
+        ≡ marks.old ++ key_mark pushed.now turn (shown standing.entry)) }
 {
     let Some(put) = put_after(pushed, turn, standing.is_in, standing.put) else {
         return Ok(());
     };
-    let key = standing.key.duplicate(*marks.allocator())?;
-    marks.push(Mark { key, put })?;
-    Ok(())
+    marks.push(standing.key, put)
 }
 
 /// Whether a turn writes nothing about these tables and leaves each as it is.
@@ -216,9 +232,9 @@ fn is_quiet_at(
 }
 
 // Whether a turn writes nothing about a table and leaves its marks as they are.
-fn is_quiet(turn: Turn, pushed: &Pushed, set: &[&Key], marks: &[Mark]) -> bool
-    ensures { IsTrue result
-        → AreQuiet pushed.now turn (stands (map (λ key. key.now) set.now) marks.now) }
+fn is_quiet(turn: Turn, pushed: &Pushed, set: &[&Key], marks: Packed<'_>) -> bool
+    ensures { IsTrue result → AreQuiet pushed.now turn
+        (stands (map (λ key. key.now) set.now) (marks_of marks.entry)) }
 {
     for standing in Stands::new(set, marks) {
         let change = change_of(pushed, turn, standing.is_in, standing.put);

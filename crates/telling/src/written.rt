@@ -10,7 +10,7 @@ ghost use Rattle.telling.specs.Telling.{text_of, type_number, update_of};
 
 use crate::{Change, Pushed};
 use agg_types::limits::LONGEST_KEY;
-use agg_types::{Key, KeyKind, NoMemory};
+use agg_types::{KeyKind, NoMemory};
 use peers_msg::put_int;
 use std::alloc::Global;
 
@@ -68,7 +68,7 @@ impl Written {
         table: u64,
         pushed: &Pushed,
         id: u32,
-        key: &Key,
+        key: &[u8],
         change: Change,
     ) -> Result<(), NoMemory>
         ensures bytes { OnOk result (self.new.bytes.items ≡ self.old.bytes.items
@@ -87,7 +87,7 @@ impl Written {
         &mut self,
         pushed: &Pushed,
         id: u32,
-        key: &Key,
+        key: &[u8],
         change: Change,
     ) -> Result<(), NoMemory>
         ensures bytes { OnOk result (self.new.bytes.items ≡ self.old.bytes.items
@@ -128,7 +128,7 @@ fn append_fields(id: u64, pushed: &Pushed, out: &mut Vec<u8>) -> Result<(), NoMe
 fn append_update(
     pushed: &Pushed,
     id: u32,
-    key: &Key,
+    key: &[u8],
     change: Change,
     out: &mut Vec<u8>,
 ) -> Result<(), NoMemory>
@@ -146,14 +146,13 @@ fn append_update(
 }
 
 // Appends a key as its table's updates have it.
-fn append_key(kind: KeyKind, key: &Key, out: &mut Vec<u8>) -> Result<(), NoMemory>
+fn append_key(kind: KeyKind, key: &[u8], out: &mut Vec<u8>) -> Result<(), NoMemory>
     ensures { OnOk result (out.new.items ≡ out.old.items ++ key_spelling kind key.now) }
 {
-    let bytes = key.as_slice();
     if let KeyKind::Str(_) = kind {
-        put_int(bytes.len() as u64, out)?;
+        put_int(key.len() as u64, out)?;
     }
-    Ok(out.extend_from_slice(bytes)?)
+    Ok(out.extend_from_slice(key)?)
 }
 
 // The number of a key's type in a definition.

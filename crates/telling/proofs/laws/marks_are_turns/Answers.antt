@@ -4,7 +4,7 @@ use Rattle.telling.specs.Among.{AllMarks, IsAmong, IsMarkOf}
 use Rattle.telling.specs.Telling.{table_at, turn_at}
 use Rattle.telling.specs.declared.told.Mark.{Mark}
 use Rattle.telling.proofs.Brought.{marks_at, set_marks}
-use Rattle.telling.proofs.Marks.{all_weaker, each_mark}
+use Rattle.telling.proofs.Among.{all_weaker, each_mark}
 use Rattle.telling.proofs.laws.marks_are_turns.Goals as goal
 
 pub returns : goal.returns

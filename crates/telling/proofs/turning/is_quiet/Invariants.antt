@@ -1,4 +1,5 @@
 use Rattle.std.proofs.Common.{map}
+use Rattle.telling.specs.Packed.{marks_of}
 use Rattle.telling.specs.Stands.{stands}
 use Rattle.telling.specs.Telling.{AreQuiet}
 use Rattle.telling.proofs.turning.is_quiet.Given as goal
@@ -6,4 +7,4 @@ use Rattle.telling.proofs.turning.is_quiet.Given as goal
 -- if the keys that are left are quiet, all are
 abbrev pub invariant-loop-standing : goal.invariant-loop-standing
 invariant-loop-standing l = AreQuiet l.pushed l.turn l.standing-iterator
-    → AreQuiet l.pushed l.turn (stands (map (λ key. key.now) l.fn.set) l.marks)
+    → AreQuiet l.pushed l.turn (stands (map (λ key. key.now) l.fn.set) (marks_of l.marks))

@@ -1,4 +1,5 @@
-use Rattle.std.proofs.Common.{[], ◌∷◌, map, ◌∙◌, sym, subst, List}
+use Rattle.std.proofs.Common.{[], ◌∷◌, map, sym, subst, List}
+use Rattle.telling.specs.Packed.{marks_of}
 use Rattle.telling.specs.Stands.{Stand, shown, stands}
 use Rattle.telling.specs.Telling.{table_turn}
 use Rattle.telling.proofs.Left.{Done, IsDone, done_more, none_done}
@@ -10,13 +11,13 @@ loop-standing-preserved c = λ new h.
       bytes = c.loop-standing.written.bytes.items;
       defined = c.loop-standing.written.defined;
       last = c.loop-standing.last;
-      kept = c.loop-standing.kept.items;
+      kept = c.loop-standing.kept;
     } in
     let then : Done = record {
       bytes = c.say.new.written.bytes.items;
       defined = c.say.new.written.defined;
       last = c.in_ok-last.last;
-      kept = c.keep.new.marks.items;
+      kept = c.keep.new.marks;
     } in
     let more : IsDone c.args.id c.args.pushed.now c.args.turn at
     (shown c.in-Some.standing ∷ c.next.new.self) new =
@@ -28,25 +29,25 @@ loop-standing-preserved c = λ new h.
     (sym c.in-Some.ensures.steps) more)
 
 -- all is done where no key is left
-all_done : (c : goal.After-from_vec) → IsDone c.args.id c.args.pushed.now c.args.turn
+all_done : (c : goal.In-None) → IsDone c.args.id c.args.pushed.now c.args.turn
     (record {
       bytes = c.args.written.now.bytes.items;
       defined = c.args.written.now.defined;
       last = c.args.last;
       kept = [];
-    }) (stands (map (λ key. key.now) c.args.set.now) c.args.marks.now)
+    }) (stands (map (λ key. key.now) c.args.set.now) (marks_of c.args.marks))
     (record {
       bytes = c.loop-standing.written.bytes.items;
       defined = c.loop-standing.written.defined;
       last = c.loop-standing.last;
-      kept = c.loop-standing.kept.items;
+      kept = c.loop-standing.kept;
     })
 all_done c =
     let at : Done = record {
       bytes = c.loop-standing.written.bytes.items;
       defined = c.loop-standing.written.defined;
       last = c.loop-standing.last;
-      kept = c.loop-standing.kept.items;
+      kept = c.loop-standing.kept;
     } in
     c.loop-standing.invariant at
     (subst (λ (keys : List Stand). IsDone c.args.id c.args.pushed.now c.args.turn at keys at)
@@ -64,4 +65,4 @@ pub returns-clause-after : goal.returns-clause-after
 unfolding table_turn
 returns-clause-after c =
     let done = all_done c in
-    λ i. record { last = done.last i; marks = (c.from_vec.ensures ∙ done.kept) i }
+    λ i. record { last = done.last i; marks = done.kept i }

@@ -1,4 +1,5 @@
 use Rattle.std.proofs.Common.{[], map}
+use Rattle.telling.specs.Packed.{marks_of}
 use Rattle.telling.specs.Stands.{stands}
 use Rattle.telling.proofs.Left.{Done, IsDone}
 use Rattle.telling.proofs.turning.tell.Given as goal
@@ -10,10 +11,10 @@ invariant-loop-standing l =
       bytes = l.written.bytes.items;
       defined = l.written.defined;
       last = l.last;
-      kept = l.kept.items;
+      kept = l.kept;
     }) l.standing-iterator new → IsDone l.id l.pushed l.turn (record {
       bytes = l.fn.written.bytes.items;
       defined = l.fn.written.defined;
       last = l.fn.last;
       kept = [];
-    }) (stands (map (λ key. key.now) l.fn.set) l.marks) new
+    }) (stands (map (λ key. key.now) l.fn.set) (marks_of l.marks)) new
