@@ -1,4 +1,5 @@
 pub mod Packing
+pub mod Still
 pub mod Texts
 pub mod Rest
 pub mod Left

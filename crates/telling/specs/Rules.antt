@@ -1,6 +1,6 @@
 -- What a turn does about one key.
-use Rattle.std.specs.Prelude.{ℕ, ◌+◌, ◌-◌, ◌*◌, Bool, true, false, ◌&&◌, ◌||◌, not, nat_le, nat_lt}
-use Rattle.std.specs.Prelude.{if◌then◌else◌, Option, None, Some}
+use Rattle.std.specs.Prelude.{◌≡◌, ◌≤◌, ℕ, ◌+◌, ◌-◌, ◌*◌, Bool, true, false, ◌&&◌, ◌||◌, not}
+use Rattle.std.specs.Prelude.{nat_le, nat_lt, if◌then◌else◌, Option, None, Some}
 use Rattle.std.specs.Bool.{then_some}
 use Rattle.telling.specs.declared.change.TheConstants.{REFRESH_AHEAD}
 use Rattle.telling.specs.declared.change.Change.{Change}
@@ -20,6 +20,10 @@ is_due pushed now s = nat_le pushed.life (2 * (now - s + REFRESH_AHEAD))
 abbrev pub is_written : Pushed → Turn → Option ℕ → Bool
 is_written pushed turn None = true
 is_written pushed turn (Some s) = turn.anew || is_due pushed turn.now s
+
+-- a key of the set that was put at this moment or later isn't put anew
+abbrev pub IsStillFrom : Pushed → Turn → ℕ → Type 0
+IsStillFrom pushed turn from = (put : ℕ) → from ≤ put → is_written pushed turn (Some put) ≡ false
 
 -- whether a key that isn't in the set is still told
 abbrev pub is_left : Pushed → Turn → Option ℕ → Bool

@@ -9,7 +9,7 @@
 //! on this crate.
 //!
 //! After `NoMemory` a teller is as it was. No clause says that memory is there, nor how fast it
-//! goes; a turn walks the sets and what was told once.
+//! goes; a turn walks the sets and what was told once, and again where it writes.
 #![tactic(auto)]
 
 mod change;

@@ -10,7 +10,7 @@ ghost use Rattle.telling.specs.Telling.{text_of, update_messages, with_definitio
 ghost use Rattle.telling.specs.Telling.{definitions, last_after, key_change, key_mark, updates};
 ghost use Rattle.telling.specs.Stands.{shown, stands};
 
-use crate::change::{Turn, change_of, put_after};
+use crate::change::{Turn, change_of, put_after, still_from};
 use crate::marks::{Marks, Packed};
 use crate::stands::{Standing, Stands};
 use crate::written::Written;
@@ -236,12 +236,18 @@ fn is_quiet(turn: Turn, pushed: &Pushed, set: &[&Key], marks: Packed<'_>) -> boo
     ensures { IsTrue result → AreQuiet pushed.now turn
         (stands (map (λ key. key.now) set.now) (marks_of marks.entry)) }
 {
-    for standing in Stands::new(set, marks) {
+    let Some(from) = still_from(pushed, turn) else {
+        return false;
+    };
+    let mut left = Stands::new(set, marks);
+    left.pass_still(from);
+    while let Some(standing) = left.next() {
         let change = change_of(pushed, turn, standing.is_in, standing.put);
         let put = put_after(pushed, turn, standing.is_in, standing.put);
         if change.is_some() || put != standing.put {
             return false;
         }
+        left.pass_still(from);
     }
     true
 }
