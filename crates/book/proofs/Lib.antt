@@ -8,6 +8,7 @@ pub mod Leading
 pub mod FirstKeys
 pub mod Verdicts
 pub mod Dropped
+pub mod Updates
 pub mod Following
 pub mod FewReads
 pub mod Columns

@@ -12,3 +12,4 @@ pub mod Heads
 pub mod Listing
 pub mod Ahead
 pub mod Dropped
+pub mod Runs

@@ -60,10 +60,10 @@ pub struct Taken {
 /// filters that stand, the moment, the rows in force, the sessions and the seats. It is always
 /// sound.
 pub struct Book {
-    machine: Machine,
-    held: Held,
+    pub(crate) machine: Machine,
+    pub(crate) held: Held,
     // what full tables didn't take
-    drops: Drops,
+    pub(crate) drops: Drops,
 }
 
 // By hand, so that a crate that drops a book proves nothing of its parts.

@@ -21,6 +21,10 @@
 //! at most 505 for each pair of a filter and a key that it concerns (`specs/Reads.antt`). That
 //! verdicts are kept while there is memory for them, no clause says.
 //!
+//! `Book::step_run` takes a seat's events as one: what updates of one peer that follow each other
+//! have in common is looked up once, and the seat is counted up once behind them (`runs`). It
+//! promises the state that the events make one by one.
+//!
 //! `Taken` says whether an event is an update that a full table doesn't take. A book counts these
 //! by table and peer, beside what contracts see of it. So what `Book::dropped` answers, tests show.
 //!
@@ -46,6 +50,7 @@ mod puts;
 mod queries;
 mod ranking;
 mod row;
+mod runs;
 mod sets;
 mod store;
 mod values;

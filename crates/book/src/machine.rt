@@ -50,8 +50,8 @@ pub(crate) struct Applied {
 }
 
 impl Applied {
-    // No row was seen, and nothing was dropped.
-    fn unseen() -> Applied
+    /// No row was seen, and nothing was dropped.
+    pub(crate) fn unseen() -> Applied
         ensures { result.dropped ≡ false }
     {
         Applied {
@@ -386,7 +386,7 @@ fn clear(
 }
 
 /// Puts a row, if its seat is the session in force and there is room. Whether there was no room.
-fn put(
+pub(crate) fn put(
     rows: &mut Store,
     leaders: &mut Leaders,
     config: &Config,

@@ -1,7 +1,7 @@
 //! Work on the seats that sit and on the sessions in force.
 
 ghost use Rattle.std.specs.Prelude.{◌≡◌, ◌+◌, ◌<◌, ◌==◌, ◌&&◌, not, filter, length, nat_lt};
-ghost use Rattle.std.specs.Prelude.{IsTrue, OnOk, OnErr};
+ghost use Rattle.std.specs.Prelude.{IsTrue, OnOk, OnErr, is_some};
 ghost use Rattle.std.specs.BTreeMap.{insert_entry, is_at};
 ghost use Rattle.std.specs.Map.{lookup, remove_entry};
 ghost use Rattle.std.specs.Ordering.{nat_cmp};
@@ -91,6 +91,16 @@ pub fn count_up(seats: &mut Seats, seat: u64, seq: u64)
 {
     if let Some(number) = seats.get_mut(&seat) {
         *number = seq + 1;
+    }
+}
+
+/// The number of the next event of a seat that sits, whatever it was.
+pub fn count_to(seats: &mut Seats, seat: u64, number: u64)
+    requires sits { IsTrue (is_some (lookup (is_at (nat_cmp seat)) seats.old.entries)) }
+    ensures { seats.new.entries ≡ insert_entry nat_cmp seats.old.entries seat number }
+{
+    if let Some(next) = seats.get_mut(&seat) {
+        *next = number;
     }
 }
 

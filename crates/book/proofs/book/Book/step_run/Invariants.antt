@@ -1,0 +1,14 @@
+use Rattle.std.proofs.Common.{◌≤◌, ◌-◌, length}
+use Rattle.book.specs.Runs.{IsPartApplied}
+use Rattle.book.proofs.book.Book.step_run.Given as goal
+
+-- the events up to here have been applied
+abbrev pub invariant-places : goal.invariant-places
+invariant-places l = record {
+  onwards : l.fn.from ≤ l.done;
+  within : l.done ≤ length l.whats;
+  applied : IsPartApplied l.seat l.first l.whats l.fn.from l.done l.fn.self l.self;
+}
+
+abbrev pub decreases-places : goal.decreases-places
+decreases-places l = length l.whats - l.done

@@ -1,0 +1,52 @@
+use Rattle.std.proofs.Common.{rules, refl, sym, ap, subst, ◌∙◌, ◌≡◌, ◌+◌, ◌<◌, length, arith, ℕ}
+use Rattle.std.proofs.Common.{List}
+use Rattle.agg_types.specs.declared.event.What.{What}
+use Rattle.fleet_model.specs.Machine.{session_of}
+use Rattle.fleet_model.specs.State.{State}
+use Rattle.book.specs.Runs.{IsPartApplied, IsUpdateOf, counted_to, with_update}
+use Rattle.book.proofs.Updates.{left_next, part_none, turn_counted, update_more}
+use Rattle.book.proofs.runs.take_each.Goals as goal
+
+pub updates-init : goal.updates-init
+updates-init c =
+    let turn = c.args.turn in
+    record {
+      onwards = omega arith;
+      within = c.requires.from_in;
+      session = c.requires.turn.session;
+      seats = refl;
+      book = c.requires.book;
+      applied = part_none turn.seat c.args.first c.args.from c.args.whats.now c.args.machine.now
+          (counted_to c.args.machine.now turn.seat (c.args.first + c.args.from))
+          (turn_counted c.args.machine.now turn.seat (c.args.first + c.args.from) turn.peer
+          turn.session c.requires.book.sound c.requires.turn);
+    }
+
+pub updates-preserved : goal.updates-preserved
+updates-preserved c =
+    let turn = c.args.turn in
+    let first : ℕ = c.args.first in
+    let place : ℕ = c.updates.place in
+    let whats : List What = c.args.whats.now in
+    let state : State = c.updates.machine in
+    let what : What = c.index-whats-place.result in
+    let there : c.updates.place < length c.args.whats.now = c.updates-test.true in
+    let update : IsUpdateOf c.updates.machine.config c.args.turn.peer c.index-whats-place.result =
+    search rules in
+    let turned : c.take_one.new.machine
+    ≡ with_update c.updates.machine c.args.turn.seat c.index-whats-place.result =
+    c.in-Ok.ensures.ok in
+    record {
+      onwards = let before = c.updates.invariant.onwards in omega arith;
+      within = omega arith;
+      session = c.updates.invariant.session
+          ∙ sym (ap (λ (s : State). session_of s turn.peer) turned);
+      seats = ap (λ (s : State). s.seats) turned ∙ c.updates.invariant.seats;
+      book = c.in-Ok.ensures.book;
+      applied = subst (λ (s : State). IsPartApplied turn.seat first whats c.args.from (place + 1)
+          c.args.machine.now (counted_to s turn.seat (first + (place + 1)))) (sym turned)
+          (update_more turn.seat first c.args.from place turn.peer whats what c.args.machine.now
+          state c.updates.invariant.book.sound update
+          (let small = c.requires.small in omega arith) c.updates.invariant.applied
+          (left_next whats place what there c.index-whats-place.is));
+    }

@@ -1,0 +1,27 @@
+use Rattle.std.proofs.Common.{sym, subst}
+use Rattle.fleet_model.specs.Sound.{IsSound}
+use Rattle.fleet_model.specs.State.{State}
+use Rattle.book.specs.Held.{Follows}
+use Rattle.book.proofs.Updates.{follows_update, put_drops_none, sound_update}
+use Rattle.book.proofs.runs.take_one.Goals as goal
+
+pub follow-requires-clause-sound : goal.follow-requires-clause-sound
+follow-requires-clause-sound c =
+    subst IsSound (sym c.in_ok-applied.ensures.ok)
+    (sound_update c.args.machine.now c.args.turn.seat c.args.turn.peer c.args.what.now
+    c.requires.book.sound c.requires.update)
+
+pub returns-clause-book : goal.returns-clause-book
+returns-clause-book c =
+    let state : State = c.args.machine.now in
+    record {
+      sound = subst IsSound (sym c.in_ok-applied.ensures.ok)
+          (sound_update state c.args.turn.seat c.args.turn.peer c.args.what.now
+          c.requires.book.sound c.requires.update);
+      held = c.follow.ensures.held state c.requires.book.sound
+          (subst (Follows c.args.what.now state) (sym c.in_ok-applied.ensures.ok)
+          (follows_update state c.args.turn.seat c.args.turn.peer c.args.what.now
+          c.requires.book.sound c.requires.update))
+          (put_drops_none c.args.turn.peer c.args.what.now state c.requires.update.put)
+          c.requires.book.held;
+    }

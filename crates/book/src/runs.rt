@@ -1,0 +1,306 @@
+//! Runs of updates: what those of one peer have in common is looked up once, and their seat is
+//! counted up once, behind the last.
+
+ghost use Rattle.std.specs.Prelude.{◌≡◌, ◌+◌, ◌<◌, ◌≤◌, fold, length, IfOk, IfSome, IsTrue};
+ghost use Rattle.std.specs.Prelude.{OnErr, OnOk, is_some};
+ghost use Rattle.agg_types.specs.declared.limits.TheConstants.{NUMBERS_END};
+ghost use Rattle.fleet_model.specs.Machine.{after, number_of, session_of};
+ghost use Rattle.fleet_model.specs.Sound.{IsSound};
+ghost use Rattle.book.specs.Due.{FitsPlace};
+ghost use Rattle.book.specs.Dropped.{lacks_room};
+ghost use Rattle.book.specs.Held.{IsBook};
+ghost use Rattle.book.specs.Runs.{IsPartApplied, IsPutOf, IsTurn, IsUpdateOf, counted_to};
+ghost use Rattle.book.specs.Runs.{left_at, with_update};
+
+use crate::at::At;
+use crate::book::Book;
+use crate::drops::Drops;
+use crate::held::Held;
+use crate::machine::{Applied, Machine, put};
+use agg_types::{NoMemory, What};
+use book_frame::seats;
+use book_frame::seats::{count_to, is_number};
+use crossing::Meter;
+use peer_rows::Spot;
+
+/// Whose updates come one after the other, and the session in force of the peer.
+#[derive(Clone, Copy)]
+pub(crate) struct Turn {
+    pub(crate) seat: u64,
+    pub(crate) peer: usize,
+    pub(crate) session: Option<u64>,
+}
+
+/// How far a run came, and whether an allocation failed at that place.
+#[derive(Clone, Copy)]
+pub(crate) struct Came {
+    pub(crate) place: usize,
+    pub(crate) refused: bool,
+}
+
+impl Book {
+    /// Applies what a seat posted as one, under its numbers from a first one on, from a place on,
+    /// up to the first event for which an allocation fails, and answers the place that it came to.
+    /// Each event up to there is applied as by `apply`. The hints are where another book found the
+    /// rows of keys, by place; where they end, they take up where this one finds them, as far as
+    /// there is memory.
+    ///
+    /// What updates of one peer have in common is looked up once for all that come one after the
+    /// other. How much was read for a run, no clause says.
+    pub fn step_run(
+        &mut self,
+        seat: u64,
+        first: u64,
+        whats: &[What],
+        from: usize,
+        hints: &mut Vec<Option<Spot>>,
+    ) -> usize
+        requires from_in { from ≤ length whats.now }
+        requires small { first + length whats.now < NUMBERS_END }
+        ensures onwards { from ≤ result }
+        ensures within { result ≤ length whats.now }
+        ensures applied { IsPartApplied seat first whats.now from result self.old self.new }
+        ensures brings { fold after self.new (left_at seat first whats.now result)
+            ≡ fold after self.old (left_at seat first whats.now from) }
+        ensures sound { IsSound self.new }
+    {
+        let mut done = from;
+        'places: while done < whats.len() {
+            let came = self.take_updates(seat, first, whats, done, hints);
+            done = came.place;
+            if came.refused || done == whats.len() {
+                break;
+            }
+            let hint = hint_at(hints, done);
+            let Ok(taken) = self.apply_at(seat, first + done as u64, &whats[done], hint) else {
+                break;
+            };
+            note(hints, done, taken.spot);
+            done += 1;
+        }
+        let _ = &self.machine;
+        done
+    }
+
+    // Takes the updates of one peer that follow each other from a place on.
+    fn take_updates(
+        &mut self,
+        seat: u64,
+        first: u64,
+        whats: &[What],
+        from: usize,
+        hints: &mut Vec<Option<Spot>>,
+    ) -> Came
+        requires from_in { from < length whats.now }
+        requires small { first + length whats.now < NUMBERS_END }
+        ensures onwards { from ≤ result.place }
+        ensures within { result.place ≤ length whats.now }
+        ensures applied { IsPartApplied seat first whats.now from result.place self.old self.new }
+    {
+        take_updates(
+            &mut self.machine,
+            &mut self.held,
+            &mut self.drops,
+            seat,
+            first,
+            whats,
+            from,
+            hints,
+        )
+    }
+}
+
+impl Machine {
+    /// The turn that begins with an event, if it is an update and its number is due.
+    fn turn_at(&self, seat: u64, number: u64, what: &What) -> Option<Turn>
+        ensures seat { IfSome result (λ turn. turn.seat ≡ seat) }
+        ensures turn { IfSome result
+            (λ turn. IsTurn self.now seat number turn.peer turn.session) }
+    {
+        let What::Put { peer, .. } = what else {
+            return None;
+        };
+        if !is_number(seats::number_of(&self.seats, seat), number) {
+            return None;
+        }
+        Some(Turn {
+            seat,
+            peer: *peer,
+            session: seats::session_of(&self.sessions, *peer),
+        })
+    }
+
+    /// Whether an event is an update of a peer that fits.
+    fn takes(&self, peer: usize, what: &What) -> bool
+        ensures { IsTrue result → IsUpdateOf self.now.config peer what.now }
+    {
+        match what {
+            What::Put { peer: other, .. } => *other == peer && self.config.fits(what),
+            _ => false,
+        }
+    }
+
+    /// The number of a seat's next event from now on.
+    fn count_to(&mut self, seat: u64, number: u64)
+        requires sits { IsTrue (is_some (number_of self.old seat)) }
+        ensures { self.new ≡ counted_to self.old seat number }
+    {
+        count_to(&mut self.seats, seat, number);
+    }
+
+    // The row of an update of a turn, whatever the hint; its seat isn't counted up. Nothing has
+    // changed after NoMemory.
+    #[tactic(auto, unfolding(crate::specs::Dropped::lacks_room, fleet_model::specs::Machine::happened, fleet_model::specs::Machine::with_put))]
+    fn put_row(&mut self, turn: Turn, what: &What, hint: Option<Spot>) -> Result<Applied, NoMemory>
+        requires session { turn.session ≡ session_of self.old turn.peer }
+        requires put { IsPutOf turn.peer what.now }
+        requires placed { FitsPlace self.old.config what.now }
+        ensures ok { OnOk result (self.new ≡ with_update self.old turn.seat what.now) }
+        ensures dropped { IfOk result (λ applied. applied.dropped
+            ≡ lacks_room self.old turn.seat what.now) }
+        ensures err { OnErr result (self.new ≡ self.old) }
+    {
+        let What::Put {
+            peer,
+            table,
+            key,
+            life,
+            cells,
+        } = what
+        else {
+            return Ok(Applied::unseen());
+        };
+        let at = At {
+            table: *table,
+            key,
+            peer: *peer,
+            spot: self.rows.spot_near(hint, *table, key),
+        };
+        let dropped = put(
+            &mut self.rows,
+            &mut self.leaders,
+            &self.config,
+            turn.session,
+            turn.seat,
+            self.moment,
+            at,
+            *life,
+            cells,
+        )?;
+        Ok(Applied {
+            spot: at.spot,
+            dropped,
+        })
+    }
+}
+
+/// The hint at where the rows of an event's key lie, by its place.
+pub(crate) fn hint_at(hints: &Vec<Option<Spot>>, place: usize) -> Option<Spot> {
+    hints.get(place).copied().flatten()
+}
+
+/// Notes where rows were found, where hints are taken up, if there is memory for it.
+pub(crate) fn note(hints: &mut Vec<Option<Spot>>, place: usize, spot: Option<Spot>) {
+    if hints.len() == place {
+        let _noted = hints.push(spot);
+    }
+}
+
+// Takes an update of a turn: its row is put and its key judged. Nothing has changed after NoMemory.
+fn take_one(
+    machine: &mut Machine,
+    held: &mut Held,
+    drops: &mut Drops,
+    turn: Turn,
+    what: &What,
+    hint: Option<Spot>,
+) -> Result<Option<Spot>, NoMemory>
+    requires session { turn.session ≡ session_of machine.old turn.peer }
+    requires update { IsUpdateOf machine.old.config turn.peer what.now }
+    requires book { IsBook machine.old held.old.standing }
+    ensures ok { OnOk result (machine.new ≡ with_update machine.old turn.seat what.now) }
+    ensures err { OnErr result (machine.new ≡ machine.old) }
+    ensures book { IsBook machine.new held.new.standing }
+{
+    let applied = machine.put_row(turn, what, hint)?;
+    let mut meter = Meter::new();
+    held.follow(machine, what, applied.spot, None, 0, &mut meter);
+    drops.note(what, applied.dropped);
+    Ok(applied.spot)
+}
+
+// Takes the updates of a turn that follow each other, for which the seat isn't counted up.
+fn take_each(
+    machine: &mut Machine,
+    held: &mut Held,
+    drops: &mut Drops,
+    turn: Turn,
+    first: u64,
+    whats: &[What],
+    from: usize,
+    hints: &mut Vec<Option<Spot>>,
+) -> Came
+    requires from_in { from ≤ length whats.now }
+    requires small { first + length whats.now < NUMBERS_END }
+    requires turn { IsTurn machine.old turn.seat (first + from) turn.peer turn.session }
+    requires book { IsBook machine.old held.old.standing }
+    ensures onwards { from ≤ result.place }
+    ensures within { result.place ≤ length whats.now }
+    ensures seats { machine.new.seats ≡ machine.old.seats }
+    ensures book { IsBook machine.new held.new.standing }
+    ensures applied { IsPartApplied turn.seat first whats.now from result.place machine.old
+        (counted_to machine.new turn.seat (first + result.place)) }
+{
+    let mut place = from;
+    'updates: while place < whats.len() {
+        let what = &whats[place];
+        if !machine.takes(turn.peer, what) {
+            break;
+        }
+        let hint = hint_at(hints, place);
+        let Ok(spot) = take_one(machine, held, drops, turn, what, hint) else {
+            return Came {
+                place,
+                refused: true,
+            };
+        };
+        note(hints, place, spot);
+        place += 1;
+    }
+    Came {
+        place,
+        refused: false,
+    }
+}
+
+/// Takes the updates of one peer that follow each other from a place on, up to the first that
+/// doesn't fit or for which an allocation fails. Where the event there isn't an update that is due,
+/// it takes none.
+pub(crate) fn take_updates(
+    machine: &mut Machine,
+    held: &mut Held,
+    drops: &mut Drops,
+    seat: u64,
+    first: u64,
+    whats: &[What],
+    from: usize,
+    hints: &mut Vec<Option<Spot>>,
+) -> Came
+    requires from_in { from < length whats.now }
+    requires small { first + length whats.now < NUMBERS_END }
+    requires book { IsBook machine.old held.old.standing }
+    ensures onwards { from ≤ result.place }
+    ensures within { result.place ≤ length whats.now }
+    ensures book { IsBook machine.new held.new.standing }
+    ensures applied { IsPartApplied seat first whats.now from result.place machine.old machine.new }
+{
+    let Some(turn) = machine.turn_at(seat, first + from as u64, &whats[from]) else {
+        return Came {
+            place: from,
+            refused: false,
+        };
+    };
+    let came = take_each(machine, held, drops, turn, first, whats, from, hints);
+    machine.count_to(seat, first + came.place as u64);
+    came
+}
