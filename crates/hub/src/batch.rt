@@ -1,7 +1,7 @@
 //! Batches: what seats post as one.
 
 ghost use Rattle.std.specs.Prelude.{◌≡◌, ◌<◌, ◌≤◌, ◌+◌, ◌∷◌, drop, fold, length, vec_len};
-ghost use Rattle.std.specs.Prelude.{IsTrue, IfSome, MatchResult};
+ghost use Rattle.std.specs.Prelude.{IfSome, MatchResult};
 ghost use Rattle.std.specs.Arc.{arc_value};
 ghost use Rattle.agg_types.specs.declared.limits.TheConstants.{NUMBERS_END};
 ghost use Rattle.fleet_model.specs.Machine.{after};
@@ -81,19 +81,7 @@ impl Batch {
         ensures brings { fold after book.new (left_of self.now result)
             ≡ fold after book.old (left_of self.now from) }
     {
-        let mut done = from;
-        'places: while done < self.len() {
-            let posting = self.at(done);
-            let hint = hints.get(done).copied().flatten();
-            let Ok(taken) = book.apply_at(posting.seat, posting.seq, posting.what, hint) else {
-                return done;
-            };
-            if hints.len() == done {
-                note(hints, taken.spot);
-            }
-            done += 1;
-        }
-        done
+        book.step_run(self.seat, self.first, self.whats.as_slice(), from, hints)
     }
 
     /// Applies what is left of it from a place on, as `apply` does, without hints.
@@ -106,11 +94,6 @@ impl Batch {
         let mut hints = Vec::new(*self.whats.allocator());
         self.apply(book, from, &mut hints)
     }
-}
-
-// Notes where rows were found, if there is memory for it.
-fn note(hints: &mut Vec<Option<Spot>>, spot: Option<Spot>) {
-    let _noted = hints.push(spot);
 }
 
 /// A batch on its way into both copies of the book.
