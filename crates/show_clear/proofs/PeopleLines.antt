@@ -1,4 +1,5 @@
--- No line of what people are answered is empty or a refusal's, and an explained refusal is one line.
+-- No line of what people are answered is empty or a refusal's, and an explained refusal is one
+-- line.
 use Rattle.std.proofs.Common.{◌≡◌, ℕ, Bool, true, false, ◌&&◌, leb, if◌then◌else◌}
 use Rattle.std.proofs.Common.{List, [], ◌∷◌, ◌++◌, length, map, take, Option, None, Some, codes}
 use Rattle.std.proofs.Common.{refl, ap, sym, ◌∙◌, subst, append-nil, arith, inl, inr}
@@ -22,11 +23,13 @@ use Rattle.line_words.proofs.TextLines.{is_line_byte, lines_back}
 use Rattle.line_words.proofs.WordsBack.{both}
 use Rattle.show_clear.specs.Answer.{shape_of, title_text}
 use Rattle.show_clear.specs.AnswerLines.{AreAnswerLines, is_answer_line}
-use Rattle.show_clear.specs.Explained.{add_form, clear_form, del_form, lone_form, no_word, status_form}
+use Rattle.show_clear.specs.Explained.{add_form, clear_form, del_form, lone_form, no_word}
+use Rattle.show_clear.specs.Explained.{status_form}
 use Rattle.show_clear.specs.Explained.{explained_refusal, explanation, form_of, form_text}
 use Rattle.show_clear.specs.Explained.{kind_text, listed, long_text, names_text, no_command}
 use Rattle.show_clear.specs.Explained.{no_filter_named, no_name, no_peer_named, no_rank_named}
-use Rattle.show_clear.specs.Explained.{is_begun, no_table, not_added, printed, quoted, shape_in, unknown_text}
+use Rattle.show_clear.specs.Explained.{is_begun, no_table, not_added, printed, quoted, shape_in}
+use Rattle.show_clear.specs.Explained.{unknown_text}
 use Rattle.show_clear.specs.Explained.{show_form, stored_text, word_at, words_text}
 use Rattle.show_clear.specs.Explained.{wrong_cond}
 use Rattle.show_clear.specs.Parse.{without_returns}
@@ -260,7 +263,8 @@ words_stay state ws faults.Unknown names =
 words_stay state ws faults.NoTable names = (name_stays state ws names).all
 words_stay state ws faults.BadColumn names =
     labelled (quoted (wrong_cond (shape_in state ws) ws)
-    ++ codes " names no column that the table stores; it stores: ") (stored_text (shape_in state ws))
+    ++ codes " names no column that the table stores; it stores: ")
+    (stored_text (shape_in state ws))
     (ahead_of (wrong_cond (shape_in state ws) ws)
     (codes " names no column that the table stores; it stores: ") refl)
     (stored_stays (shape_in state ws))
@@ -342,7 +346,8 @@ lines_explained state line fault none =
 
 distance_stays : (now : ℕ) (t : Option ℕ) → list_all is_line_byte (distance_text now t) ≡ true
 distance_stays now None = refl
-distance_stays now (Some t) = labelled (codes " in:") (decimal (t - now)) refl (number_stays (t - now))
+distance_stays now (Some t) =
+    labelled (codes " in:") (decimal (t - now)) refl (number_stays (t - now))
 
 ahead_lines : (filter : Filter) (shape : Shape) (now : ℕ) (t : Option ℕ)
     → list_all is_line_byte filter.name ≡ true → list_all is_line_byte shape.name ≡ true

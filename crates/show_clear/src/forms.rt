@@ -2,7 +2,8 @@
 
 ghost use Rattle.std.specs.Prelude.{◌≡◌, ◌++◌, OnOk};
 ghost use Rattle.show_clear.specs.Explained.{add_form, clear_form, del_form, form_of, form_text};
-ghost use Rattle.show_clear.specs.Explained.{is_begun, lone_form, missing_text, no_command, no_word};
+ghost use Rattle.show_clear.specs.Explained.{is_begun, lone_form, missing_text, no_command};
+ghost use Rattle.show_clear.specs.Explained.{no_word};
 ghost use Rattle.show_clear.specs.Explained.{show_form, status_form, stranger_text, unknown_text};
 
 use crate::pieces::append_labelled;

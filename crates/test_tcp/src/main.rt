@@ -3,9 +3,9 @@
 //! The collector runs in a thread, with the configuration on standard input. A peer says hello,
 //! defines a table and sends three updates, each once the one before it is acknowledged; then an
 //! admin asks for the table and what else stands, and quits. Another one asks by the socket, which
-//! was left there before, and is told what is wrong with its lines. A stranger that says nothing is connected all the while, and a newer
-//! connection of the peer ends the older one. What each is answered is printed. The collector
-//! doesn't end by itself: the program ends while it runs.
+//! was left there before, and is told what is wrong with its lines. A stranger that says nothing is
+//! connected all the while, and a newer connection of the peer ends the older one. What each is
+//! answered is printed. The collector doesn't end by itself: the program ends while it runs.
 #![tactic(auto)]
 
 use anyhow::{Result, anyhow};
