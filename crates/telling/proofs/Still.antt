@@ -2,9 +2,9 @@
 use Rattle.std.proofs.Common.{◌≡◌, ℕ, ◌≤◌, ◌<◌, true, false, List, ◌∷◌, length}
 use Rattle.std.proofs.Common.{Some, None, sym, ap, subst, ◌∙◌, arith}
 use Rattle.std.proofs.lemmas.Map.Text.{is_eq-slice_cmp}
-use Rattle.std.specs.Prelude.{bytes_eq}
+use Rattle.std.proofs.lemmas.Bool.Decides.{nat_tests}
 use Rattle.std.specs.Bool.{then_some}
-use Rattle.std.specs.Prelude.{if◌then◌else◌}
+use Rattle.std.specs.Prelude.{bytes_eq, if◌then◌else◌, nat_lt}
 use Rattle.std.specs.Cmp.{Equal-is}
 use Rattle.std.specs.Cmp.Lexicographic.{slice_cmp}
 use Rattle.std.specs.Ordering.{nat_cmp}
@@ -17,13 +17,17 @@ use Rattle.telling.specs.declared.change.Turn.{Turn}
 use Rattle.telling.specs.declared.pushed.Pushed.{Pushed}
 use Rattle.telling.specs.declared.told.Mark.{Mark}
 
+not_before : (from put : ℕ) → from ≤ put → nat_lt put from ≡ false
+not_before from put late = grind (arith, nat_tests)
+
 -- such a key is quiet, so all are if those behind it are
 pub quiet_behind : (from : ℕ) (all left : List Stand) → AreBehindStill from all left → (p : Pushed)
     (turn : Turn) → IsStillFrom p turn from → AreQuiet p turn left → AreQuiet p turn all
 unfolding change_of put_after
 quiet_behind from all left still p turn limit quiet =
     let put : ℕ = still.put in
-    let undue : is_written p turn (Some put) ≡ false = limit put still.late in
+    let undue : is_written p turn (Some put) ≡ false =
+    limit put ∙ not_before from put still.late in
     let unchanged : change_of p turn true (Some put) ≡ None = ap (λ b. then_some b Put) undue in
     let kept : put_after p turn true (Some put) ≡ Some put =
     ap (λ b. if b then Some turn.now else Some put) undue in

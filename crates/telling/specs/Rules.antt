@@ -1,5 +1,5 @@
 -- What a turn does about one key.
-use Rattle.std.specs.Prelude.{◌≡◌, ◌≤◌, ℕ, ◌+◌, ◌-◌, ◌*◌, Bool, true, false, ◌&&◌, ◌||◌, not}
+use Rattle.std.specs.Prelude.{◌≡◌, ℕ, ◌+◌, ◌-◌, ◌*◌, Bool, true, false, ◌&&◌, ◌||◌, not}
 use Rattle.std.specs.Prelude.{nat_le, nat_lt, if◌then◌else◌, Option, None, Some}
 use Rattle.std.specs.Bool.{then_some}
 use Rattle.telling.specs.declared.change.TheConstants.{REFRESH_AHEAD}
@@ -21,9 +21,13 @@ abbrev pub is_written : Pushed → Turn → Option ℕ → Bool
 is_written pushed turn None = true
 is_written pushed turn (Some s) = turn.anew || is_due pushed turn.now s
 
--- a key of the set that was put at this moment or later isn't put anew
+-- a key of the set is put anew exactly where it was put before this moment
 abbrev pub IsStillFrom : Pushed → Turn → ℕ → Type 0
-IsStillFrom pushed turn from = (put : ℕ) → from ≤ put → is_written pushed turn (Some put) ≡ false
+IsStillFrom pushed turn from = (put : ℕ) → is_written pushed turn (Some put) ≡ nat_lt put from
+
+-- every key of the set is put anew
+abbrev pub NoneIsStill : Pushed → Turn → Type 0
+NoneIsStill pushed turn = (put : ℕ) → is_written pushed turn (Some put) ≡ true
 
 -- whether a key that isn't in the set is still told
 abbrev pub is_left : Pushed → Turn → Option ℕ → Bool

@@ -1,8 +1,8 @@
 //! What a turn does about one key.
 
-ghost use Rattle.std.specs.Prelude.{◌≡◌, IfSome, Option};
-ghost use Rattle.telling.specs.Rules.{IsStillFrom, change_of, is_due, is_left, is_told, is_written};
-ghost use Rattle.telling.specs.Rules.{put_after};
+ghost use Rattle.std.specs.Prelude.{◌≡◌, MatchOption, Option};
+ghost use Rattle.telling.specs.Rules.{change_of, is_due, is_left, is_told, is_written, put_after};
+ghost use Rattle.telling.specs.Rules.{IsStillFrom, NoneIsStill};
 
 use crate::Pushed;
 
@@ -52,7 +52,8 @@ fn is_written(pushed: &Pushed, turn: Turn, put: Option<u64>) -> bool
 /// The moment, in ms, from which on a key of the set that was put isn't put anew; none where every
 /// key is.
 pub fn still_from(pushed: &Pushed, turn: Turn) -> Option<u64>
-    ensures { IfSome result (λ from. IsStillFrom pushed.now turn from) }
+    ensures { MatchOption result (NoneIsStill pushed.now turn)
+        (λ from. IsStillFrom pushed.now turn from) }
 {
     let life = u64::from(pushed.life);
     let ahead = 2 * REFRESH_AHEAD;
