@@ -5,6 +5,7 @@
 //! printable ASCII are escaped, so that a line break that a sender chose begins no line.
 
 use crate::judging::Because;
+use command_line::VERSION;
 use hub::PostFault;
 use jiff::Timestamp;
 use serve::Cause;
@@ -14,7 +15,8 @@ use std::net::SocketAddr;
 /// What happened.
 #[derive(Clone, Copy)]
 pub enum Event<'a> {
-    /// Proxies and operators may come, at these addresses and by the socket of this path.
+    /// Proxies and operators may come, at these addresses and by the socket of this path. Its line
+    /// has the program's version too.
     Listening {
         peers: SocketAddr,
         admin: Option<SocketAddr>,
@@ -136,7 +138,8 @@ impl<'a> fmt::Display for Line<'a> {
                 http,
             } => {
                 let (admin, http) = (Door(" admin=", admin), Door(" http=", http));
-                write!(f, " peers={peers}{admin}{}{http}", Socket(admin_socket))
+                let socket = Socket(admin_socket);
+                write!(f, " version={VERSION} peers={peers}{admin}{socket}{http}")
             }
             Event::PeerConnected { peer } => write!(f, " peer={}", Value(peer)),
             Event::TableUnfollowed { peer, because } | Event::RateUnfollowed { peer, because } => {
