@@ -1,8 +1,9 @@
 -- What a seat posts as one.
-use Rattle.std.specs.Prelude.{ℕ, ◌+◌, List, drop}
+use Rattle.std.specs.Prelude.{ℕ, List}
 use Rattle.agg_types.specs.declared.event.Event.{Event}
 use Rattle.agg_types.specs.declared.event.What.{What}
 use Rattle.fleet_model.specs.Seats.{numbered}
+use Rattle.book.specs.Runs.{left_at}
 
 -- a seat, the number of the first event, and what happened
 pub record Batched : Type 0 where
@@ -12,7 +13,7 @@ pub record Batched : Type 0 where
 
 -- its events from a place on
 abbrev pub left_of : Batched → ℕ → List Event
-left_of batch place = numbered batch.seat (batch.first + place) (drop place batch.whats)
+left_of batch place = left_at batch.seat batch.first batch.whats place
 
 -- all its events
 abbrev pub events_in : Batched → List Event
