@@ -9,7 +9,7 @@ use Rattle.std.proofs.lemmas.List.{map-append}
 use Rattle.peer_rows.specs.declared.row.Held.{Held}
 use Rattle.peer_rows.specs.Few.{cell_at, cells_of, kind_of, total_width, width}
 use Rattle.peer_rows.specs.declared.few.Kind.{Kind}
-use Rattle.peer_rows.specs.declared.few.Kind.TheVariants.{Small, Large, Rated}
+use Rattle.peer_rows.specs.declared.few.Kind.TheVariants.{Small, Large, Rated, Narrow}
 use Rattle.peer_rows.specs.declared.packed.Packed.{Packed}
 use Rattle.peer_rows.specs.Packed.{held_of}
 
@@ -25,6 +25,11 @@ cell_at-same Rated words more at same = rw (
   same (at + 2) (omega arith),
   same (at + 3) (omega arith),
   same (at + 4) (omega arith),
+) refl
+cell_at-same Narrow words more at same = rw (
+  same at (omega arith),
+  same (at + 1) (omega arith),
+  same (at + 2) (omega arith),
 ) refl
 
 -- the words of a cell say it wherever they stand
@@ -46,6 +51,9 @@ cell_at-moved Rated words own at same = let first : get_or words at 0 ≡ get_or
       same 3 (omega arith),
       same 4 (omega arith),
     ) refl
+cell_at-moved Narrow words own at same = let first : get_or words at 0 ≡ get_or own 0 0 =
+    ap (λ n. get_or words n 0) (sym (add-zero at)) ∙ same 0 (omega arith) in
+    rw (first, same 1 (omega arith), same 2 (omega arith)) refl
 
 cells_of-same : (len kinds : ℕ) (words more : List ℕ)
     → ((k : ℕ) → k < total_width len kinds → get_or more k 0 ≡ get_or words k 0)

@@ -4,20 +4,25 @@ ghost use Rattle.std.specs.Prelude.{slice_get, slice_index, if◌then◌else◌}
 ghost use Rattle.peer_rows.specs.Few.{cell_at, cells_of, kind_of, total_width, width};
 
 use crate::Held;
+use crate::narrow::{narrowed, widened};
 use crate::packed::{Packed, halves};
+use period_rate::Rate;
 
-/// How many words there are: as many as two rates take, or a rate and five small counts.
-pub(crate) const WORDS: usize = 10;
+/// How many words there are: as many as two narrow rates and a small count take, or a wide rate and
+/// two small counts.
+pub(crate) const WORDS: usize = 7;
 
 /// The words of a few cells.
 pub(crate) type Words = [u32; WORDS];
 
-// What a cell is, and so how many words it takes: a count below 2^32 one, another two, a rate five.
+// What a cell is, and so how many words it takes: a count below 2^32 one, another two, a rate five,
+// and a narrow one three.
 #[derive(Clone, Copy)]
 enum Kind {
     Small,
     Large,
     Rated,
+    Narrow,
 }
 
 impl Kind {
@@ -28,7 +33,8 @@ impl Kind {
         match kinds % 4 {
             0 => Kind::Small,
             1 => Kind::Large,
-            _ => Kind::Rated,
+            2 => Kind::Rated,
+            _ => Kind::Narrow,
         }
     }
 
@@ -41,6 +47,7 @@ impl Kind {
             Kind::Small => 0,
             Kind::Large => 1,
             Kind::Rated => 2,
+            Kind::Narrow => 3,
         }
     }
 
@@ -53,6 +60,7 @@ impl Kind {
             Kind::Small => 1,
             Kind::Large => 2,
             Kind::Rated => 5,
+            Kind::Narrow => 3,
         }
     }
 }
@@ -87,7 +95,20 @@ pub(crate) fn push(len: &mut u8, kinds: &mut u16, words: &mut Words, held: &Held
 {
     match held {
         Held::Count(count) => push_count(len, kinds, words, *count),
-        Held::Rate(rate) => push_words(len, kinds, words, Kind::Rated, &rate.to_words()),
+        Held::Rate(rate) => push_rate(len, kinds, words, rate),
+    }
+}
+
+// Adds a rate, in three words if it fits there.
+fn push_rate(len: &mut u8, kinds: &mut u16, words: &mut Words, rate: &Rate) -> bool
+    ensures { cells_of len.new kinds.new words.new ≡ (if result
+        then cells_of len.old kinds.old words.old ++ Held.Rate rate.now ∷ []
+        else cells_of len.old kinds.old words.old) }
+{
+    let wide = rate.to_words();
+    match narrowed(&wide) {
+        Some(narrow) => push_words(len, kinds, words, Kind::Narrow, &narrow),
+        None => push_words(len, kinds, words, Kind::Rated, &wide),
     }
 }
 
@@ -145,6 +166,10 @@ fn cell(kind: Kind, words: &Words, at: usize) -> Held
     match kind {
         Kind::Small => Held::Count(u64::from(first)),
         Kind::Large => Packed::Count([first, word(words, at + 1)]).held(),
+        Kind::Narrow => {
+            let wide = widened([first, word(words, at + 1), word(words, at + 2)]);
+            Held::Rate(Rate::from_words(wide))
+        }
         Kind::Rated => Packed::Rate([
             first,
             word(words, at + 1),
@@ -166,7 +191,7 @@ fn word(words: &Words, at: usize) -> u32
 // Writes a cell's words from a place on: one by one where there are as many as a cell has, since a
 // copy of a few words is dearer.
 fn write(words: &mut Words, at: usize, cell: &[u32])
-    requires { at + length cell.now ≤ 10 }
+    requires { at + length cell.now ≤ 7 }
     ensures here { (k : ℕ) → k < length cell.now
         → slice_index words.new (at + k) ≡ slice_index cell.now k }
     ensures before { (k : ℕ) → k < at → slice_index words.new k ≡ slice_index words.old k }
@@ -176,6 +201,11 @@ fn write(words: &mut Words, at: usize, cell: &[u32])
         [low, high] => {
             words[at] = *low;
             words[at + 1] = *high;
+        }
+        [first, second, third] => {
+            words[at] = *first;
+            words[at + 1] = *second;
+            words[at + 2] = *third;
         }
         [first, second, third, fourth, fifth] => {
             words[at] = *first;

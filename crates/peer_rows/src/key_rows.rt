@@ -20,7 +20,7 @@ use std::mem;
 /// A row with the peer that holds it.
 pub(crate) type PeerRow = (usize, Row);
 
-const _: () = prove!(size_of::<KeyRows>() == 72);
+const _: () = prove!(size_of::<KeyRows>() == 56);
 
 /// The rows of one key: at least one, each with the peer that holds it, by peer.
 ///

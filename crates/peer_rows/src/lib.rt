@@ -33,6 +33,7 @@ mod key_rows;
 mod keyed;
 mod listing;
 mod mosts;
+mod narrow;
 mod of_key;
 mod packed;
 mod row;

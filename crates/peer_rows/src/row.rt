@@ -49,15 +49,16 @@ impl Held {
 
 /// The cells of a row, in the order of its table's columns. Contracts see the list of them.
 ///
-/// Cells of up to ten words lie in the value itself and take no memory beside it: a count below
-/// 2^32 takes one, another two, a rate five. Others lie in a block.
+/// Cells of up to seven words lie in the value itself and take no memory beside it: a count below
+/// 2^32 takes one, another two, a rate of counts below 2^16 three, another five. Others lie in a
+/// block.
 #[derive(Debug, Drop)]
 pub struct RowCells {
     form: Form,
     alloc: Global,
 }
 
-const _: () = prove!(size_of::<RowCells>() == 48);
+const _: () = prove!(size_of::<RowCells>() == 32);
 
 #[derive(Debug, Drop)]
 enum Form {
@@ -218,7 +219,7 @@ pub struct Row {
     pub ends: RowEnd,
 }
 
-const _: () = prove!(size_of::<Row>() == 64);
+const _: () = prove!(size_of::<Row>() == 48);
 
 impl Row {
     /// A row without cells, which never ends, to be left where one is taken. Takes no memory.
