@@ -1,9 +1,12 @@
 -- A joint truth changes only where one of its conditions turns.
 use Rattle.std.proofs.Common.{◌≡◌, ◌≢◌, ℕ, ◌+◌, ◌-◌, ◌<◌, ◌≤◌, zero, suc, Bool, true, false, ◌&&◌}
-use Rattle.std.proofs.Common.{List, [], ◌∷◌, length, get_or, drop, Option, None, Some, ◌⊎◌, inl}
+use Rattle.std.proofs.Common.{nat_le, List, [], ◌∷◌, length, get_or, drop, Option, None, Some, ◌⊎◌, inl}
 use Rattle.std.proofs.Common.{inr, refl, sym, ap, subst, ◌∙◌, take, arith}
 use Rattle.std.specs.Prelude.{IfSome}
 use Rattle.std.proofs.lemmas.List.{take_rest}
+use Rattle.agg_types.specs.Op.{op_holds}
+use Rattle.agg_types.specs.declared.config.Op.{Op}
+use Rattle.agg_types.specs.declared.config.Op.TheVariants.{Ge}
 use Rattle.crossing.specs.First.{IsFirstFrom}
 use Rattle.crossing.specs.Parts.{AnyTurnsAfter, IsBy, TurnsAfter, all_hold, part_holds}
 use Rattle.crossing.specs.declared.change.Part.{Part}
@@ -79,3 +82,12 @@ is_first_change truth now (Some t) step is = record {
       same_before truth now (Some t) step (s - now) (λ u a b by. absurd (omega arith)) in
       other (ap truth (omega arith) ∙ same);
 }
+
+-- a value that falls turns no longer at least a bound
+pub turned_ge : (op : Op) (bound now next : ℕ) → op ≡ Ge → next ≤ now
+    → op_holds op next bound ≢ op_holds op now bound → (bound ≤ now) × (next < bound)
+turned_ge op bound now next is falls turns =
+    of_ge (subst (λ op. op_holds op next bound ≢ op_holds op now bound) is turns)
+  where
+    of_ge : nat_le bound next ≢ nat_le bound now → (bound ≤ now) × (next < bound)
+    of_ge turns = grind (arith, falls, turns)

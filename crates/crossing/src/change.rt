@@ -1,11 +1,11 @@
 ghost use Rattle.std.specs.Prelude.{◌≡◌, ◌⊎◌, ℕ, ◌+◌, ◌*◌, ◌<◌, ◌≤◌, suc, length, MatchBool};
-ghost use Rattle.std.specs.Prelude.{IfSome, Option, None, Some};
+ghost use Rattle.std.specs.Prelude.{IfSome, Option, None, Some, true};
 ghost use Rattle.crossing.specs.First.{IsFirstFrom, IsFlatSoon};
 ghost use Rattle.crossing.specs.Parts.{AnyTurnsAfter, AreFlatSoon, Differs, IsBy, IsOneOf};
 ghost use Rattle.crossing.specs.Parts.{TurnsAfter, all_hold, part_holds};
 
-use crate::first::first_up_to;
-use crate::{Falls, Meter, first_below};
+use crate::first::{above_up_to, first_above, likely_above};
+use crate::{Falls, Meter};
 use agg_types::Op;
 
 /// A condition on a value that only falls: it is compared with the bound.
@@ -69,6 +69,7 @@ fn soonest<F: Falls>(
     meter: &mut Meter,
 ) -> Option<u64>
     requires held { held ≡ all_hold F.value all.now now }
+    requires rest_held { held ≡ true → all_hold F.value rest.now now ≡ true }
     requires found { IfSome found (λ t. (now < t) × Differs F.value all.now now t) }
     ensures differs { IfSome result (λ t. (now < t) × Differs F.value all.now now t) }
     ensures kept { (t : ℕ) → IsBy found t → IsBy result t }
@@ -80,7 +81,7 @@ fn soonest<F: Falls>(
     match rest {
         [] => found,
         [part, rest @ ..] => {
-            let (first, second) = turns(part, now, found, meter);
+            let (first, second) = turns(part, now, held, found, meter);
             let found = sooner(all, now, held, found, first, meter);
             let found = sooner(all, now, held, found, second, meter);
             soonest(all, rest, now, held, found, meter)
@@ -127,8 +128,30 @@ fn is_by(found: Option<u64>, t: u64) -> bool
 }
 
 // The moments above `now` at which the truth of a condition may turn: there are no others before
-// the moment that was found.
+// the moment that was found. Where all conditions hold, so does this one.
 fn turns<F: Falls>(
+    part: &Part<F>,
+    now: u64,
+    held: bool,
+    found: Option<u64>,
+    meter: &mut Meter,
+) -> (Option<u64>, Option<u64>)
+    requires held { held ≡ true → part_holds F.value part.now now ≡ true }
+    ensures turns { (d : ℕ) → now ≤ d → TurnsAfter F.value d part.now
+        → IsBy found (suc d) ⊎ IsOneOf result (suc d) }
+    ensures counted { IsFlatSoon now (F.flat part.now.fall)
+        → meter.new.evals ≤ meter.old.evals + 70 }
+{
+    let bound = u128::from(part.bound);
+    match part.op {
+        Op::Gt if held => (drop_above(&part.fall, now, bound + 1, found, meter), None),
+        Op::Ge if held => (drop_above(&part.fall, now, bound, found, meter), None),
+        _ => turns_of(part, now, found, meter),
+    }
+}
+
+// The same where nothing is known of the condition.
+fn turns_of<F: Falls>(
     part: &Part<F>,
     now: u64,
     found: Option<u64>,
@@ -164,8 +187,31 @@ fn drop_of<F: Falls>(
     ensures counted { IsFlatSoon now (F.flat fall.now)
         → meter.new.evals ≤ meter.old.evals + 35 }
 {
+    if meter.read(fall, now) < bound {
+        return None;
+    }
     match found {
-        None => first_below(fall, now, bound, meter),
-        Some(found) => first_up_to(fall, now, found.saturating_sub(1), bound, meter),
+        None => first_above(fall, now, bound, meter),
+        Some(found) => above_up_to(fall, now, found.saturating_sub(1), bound, meter),
+    }
+}
+
+// The same where the value isn't below the bound at `now`: reads it once less.
+fn drop_above<F: Falls>(
+    fall: &F,
+    now: u64,
+    bound: u128,
+    found: Option<u64>,
+    meter: &mut Meter,
+) -> Option<u64>
+    requires not_yet { bound ≤ F.value fall.now now }
+    ensures drop { (d : ℕ) → now ≤ d → bound ≤ F.value fall.now d
+        → F.value fall.now (suc d) < bound → IsBy found (suc d) ⊎ (result ≡ Some (suc d)) }
+    ensures counted { IsFlatSoon now (F.flat fall.now)
+        → meter.new.evals ≤ meter.old.evals + 35 }
+{
+    match found {
+        None => likely_above(fall, now, bound, meter),
+        Some(found) => above_up_to(fall, now, found.saturating_sub(1), bound, meter),
     }
 }

@@ -20,6 +20,13 @@ pub trait Falls {
     fn flat_from(&self) -> u64
         ensures { result ≡ flat self.now };
 
+    /// A moment above `from`, in ms, that may be the first at which the value is below a bound, as
+    /// far as one is known without reading. It is a hint: what is found never depends on it, and a
+    /// wrong one only costs reads.
+    fn likely(&self, from: u64, bound: u128) -> Option<u64> {
+        None
+    }
+
     ghost never_rises: { (f : Self) (t later : ℕ) → t ≤ later → value f later ≤ value f t };
 
     ghost stays: { (f : Self) (t : ℕ) → flat f ≤ t → value f t ≡ value f (flat f) };

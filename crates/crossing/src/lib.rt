@@ -5,7 +5,9 @@
 //! rows as they end. Standing filters plan by this crate when a key comes into their set or leaves
 //! it; ranked lists take its `Values`. `Falls` is one such value, `Values` gives those of all keys,
 //! and `Of` is one key's of them. Who keeps at hand the most that a key is ever worth tells it by
-//! `Values::most`, so that no row is read where that settles what is asked.
+//! `Values::most`, so that no row is read where that settles what is asked, and who can tell when a
+//! value is likely to fall below a bound says so by `likely`, so that it is mostly read twice there
+//! in place of halving the time up to the moment from which it stays.
 //!
 //! Promised: `first_below` gives the least moment at which a value is below a bound, and
 //! `next_change` the least later moment at which the truth of all conditions together differs from
@@ -15,6 +17,7 @@
 //! now. Nothing takes memory. No clause says how long reading a value takes.
 #![tactic(auto)]
 
+mod between;
 mod change;
 mod falls;
 mod first;

@@ -37,6 +37,13 @@ pub trait Values {
     fn flat_from(&self, table: usize, key: &Key) -> u64
         ensures { result ≡ flat self.now table key.now };
 
+    /// A moment above `from`, in ms, that may be the first at which a key's summed value of a
+    /// column is below a bound, as far as one is known without reading values. It is a hint: no
+    /// answer depends on it, and a wrong one only costs reads.
+    fn likely(&self, table: usize, key: &Key, col: Col, from: u64, bound: u128) -> Option<u64> {
+        None
+    }
+
     ghost sums_fall: { (v : Self) (table : ℕ) (key : List ℕ) (col : Col) (t later : ℕ)
         → t ≤ later → summed v table key col later ≤ summed v table key col t };
 
@@ -87,6 +94,13 @@ impl<'a, V: Values> Falls for Of<'a, V> {
 
     fn flat_from(&self) -> u64 {
         self.values.flat_from(self.table, self.key)
+    }
+
+    fn likely(&self, from: u64, bound: u128) -> Option<u64> {
+        match self.measured {
+            Measured::Column(col) => self.values.likely(self.table, self.key, col, from, bound),
+            Measured::LiveRows => None,
+        }
     }
 
     ghost never_rises = { λ of. measured_falls

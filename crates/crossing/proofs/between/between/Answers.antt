@@ -1,6 +1,6 @@
 use Rattle.std.proofs.Common.{arith}
-use Rattle.crossing.proofs.Halves.{one_read}
-use Rattle.crossing.proofs.first.between.Goals as goal
+use Rattle.crossing.proofs.Halves.{begun, one_look}
+use Rattle.crossing.proofs.between.between.Goals as goal
 
 pub loop-high-init : goal.loop-high-init
 loop-high-init g c = record {
@@ -10,7 +10,7 @@ loop-high-init g c = record {
     not_yet = c.requires.not_yet;
     below = c.requires.below;
   };
-  within = λ halvings span. record { left = halvings; length = omega arith; enough = omega arith };
+  within = λ span. begun _ _ _ _ (c.spare_looks-spare.ensures (omega arith));
 }
 
 pub loop-high-preserved-then-read-bound : goal.loop-high-preserved-then-read-bound
@@ -21,8 +21,8 @@ loop-high-preserved-then-read-bound g c = record {
     not_yet = c.loop-high.invariant.span.not_yet;
     below = omega arith;
   };
-  within = λ halvings span. one_read _ _ _ _ _ (omega arith) c.loop-high-test.true (omega arith)
-      (c.loop-high.invariant.within halvings span);
+  within = λ span. one_look _ _ _ _ _ _ _ (omega arith) c.loop-high-test.true (omega arith)
+      (λ none. (c.look_at-look.ensures.halves none).0) (omega arith) (c.loop-high.invariant.within span);
 }
 
 pub loop-high-preserved : goal.loop-high-preserved
@@ -33,6 +33,6 @@ loop-high-preserved g c = record {
     not_yet = omega arith;
     below = c.loop-high.invariant.span.below;
   };
-  within = λ halvings span. one_read _ _ _ _ _ (omega arith) c.loop-high-test.true (omega arith)
-      (c.loop-high.invariant.within halvings span);
+  within = λ span. one_look _ _ _ _ _ _ _ (omega arith) c.loop-high-test.true (omega arith)
+      (λ none. (c.look_at-look.ensures.halves none).1) (omega arith) (c.loop-high.invariant.within span);
 }

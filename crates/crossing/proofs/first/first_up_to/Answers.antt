@@ -1,8 +1,0 @@
-use Rattle.std.proofs.Common.{◌+◌, ◌≤◌, arith}
-use Rattle.crossing.proofs.first.first_up_to.Goals as goal
-
-pub returns-clause-counted : goal.returns-clause-counted
-returns-clause-counted g c = λ soon.
-    let rest : c.between.new.meter.evals ≤ c.read-else-last-now-2.new.self.evals + 33 =
-    c.between.ensures.counted 33 (omega arith) in
-    omega arith
