@@ -20,6 +20,7 @@ use crate::foreseen::live_rows;
 use crate::store::Store;
 use agg_types::{Cell, Config, Key, NoMemory, Rank, Shape};
 use book_frame::standing::cols_of;
+use peer_rows::Spot;
 use ranked::Leaders;
 
 /// Sees to it that bounds hold of a key as a row of it arrives, before and after.
@@ -49,7 +50,8 @@ pub fn lead(
     Ok(())
 }
 
-/// Puts a row that arrives at a moment, in ms, with bounds that hold before and after.
+/// Puts a row that arrives at a moment, in ms, with bounds that hold before and after, and answers
+/// where the rows of its key lay, if that was seen.
 pub fn put_led(
     rows: &mut Store,
     leaders: &mut Leaders,
@@ -58,7 +60,7 @@ pub fn put_led(
     at: At<'_>,
     life: Option<u64>,
     cells: &[Cell],
-) -> Result<(), NoMemory>
+) -> Result<Option<Spot>, NoMemory>
     requires in_range { t ≤ LAST_MOMENT }
     requires inside { IsInside rows.old.peers rows.old.tables (place_at at) }
     requires short { IsShort life }
@@ -89,7 +91,7 @@ fn lead_and_put(
     at: At<'_>,
     life: Option<u64>,
     cells: &[Cell],
-) -> Result<(), NoMemory>
+) -> Result<Option<Spot>, NoMemory>
     requires in_range { t ≤ LAST_MOMENT }
     requires inside { IsInside rows.old.peers rows.old.tables (place_at at) }
     requires short { IsShort life }

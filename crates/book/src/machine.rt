@@ -43,7 +43,7 @@ use std::marker::Model;
 /// What became of an event, beside the state that it leaves.
 #[derive(Clone, Copy, Debug)]
 pub(crate) struct Applied {
-    /// Where the rows of a Put's key lay before it, if that was seen lately.
+    /// Where the rows of a Put's key lay before it, if that was seen.
     pub(crate) spot: Option<Spot>,
     /// Whether it is an update that a full table didn't take.
     pub(crate) dropped: bool,
@@ -226,6 +226,16 @@ impl Machine {
         seats::is_due(&self.config, &self.seats, self.next_seat, seat, seq, what)
     }
 
+    /// Where the rows of an update's key may lie, for the calls that take an `At`. Ranked lists
+    /// read them before one is put.
+    pub(crate) fn spot_for(&self, hint: Option<Spot>, table: usize, key: &Key) -> Option<Spot>
+        requires { table < length self.now.config.tables }
+    {
+        let ranks = self.config.ranks.as_slice();
+        let is_ranked = ranks.iter().any(|rank| rank.table == table);
+        self.rows.spot_for(hint, is_ranked, table, key)
+    }
+
     // Whether an event counts, and then what its number and its seat are.
     fn is_due(&self, seat: u64, seq: u64, what: &What) -> bool
         ensures exact { result ≡ counts_now self.now (event_of seat seq what.now) }
@@ -277,9 +287,9 @@ impl Machine {
                     table: *table,
                     key,
                     peer: *peer,
-                    spot: self.rows.spot_near(hint, *table, key),
+                    spot: self.spot_for(hint, *table, key),
                 };
-                let dropped = put(
+                let applied = put(
                     &mut self.rows,
                     &mut self.leaders,
                     &self.config,
@@ -291,10 +301,7 @@ impl Machine {
                     cells,
                 )?;
                 count_up(&mut self.seats, seat, seq);
-                Ok(Applied {
-                    spot: at.spot,
-                    dropped,
-                })
+                Ok(applied)
             }
             What::Clear { table, sel } => {
                 clear(
@@ -385,7 +392,8 @@ fn clear(
     }
 }
 
-/// Puts a row, if its seat is the session in force and there is room. Whether there was no room.
+/// Puts a row, if its seat is the session in force and there is room, and answers whether there was
+/// none.
 pub(crate) fn put(
     rows: &mut Store,
     leaders: &mut Leaders,
@@ -396,7 +404,7 @@ pub(crate) fn put(
     at: At<'_>,
     life: Option<u64>,
     cells: &Cells,
-) -> Result<bool, NoMemory>
+) -> Result<Applied, NoMemory>
     requires in_range { t ≤ LAST_MOMENT }
     requires inside { IsInside rows.old.peers rows.old.tables (place_at at) }
     requires short { IsShort life }
@@ -408,17 +416,23 @@ pub(crate) fn put(
           (arrival_of config.now.tables at.entry.table t life cells.now)
           else rows.old.rows;
     }) }
-    ensures dropped { IfOk result (λ dropped. dropped ≡ (is_number session seat
+    ensures dropped { IfOk result (λ applied. applied.dropped ≡ (is_number session seat
         && not (has_room config.now.tables rows.old.rows (place_at at.entry)))) }
     ensures err { OnErr result (rows.new ≡ rows.old) }
     ensures led { AreLed config.now.tables config.now.ranks rows.new.rows t leaders.new }
 {
     if !is_number(session, seat) {
-        return Ok(false);
+        return Ok(Applied::unseen());
     }
     if !rows.has_room(config.tables.as_slice(), at) {
-        return Ok(true);
+        return Ok(Applied {
+            spot: at.spot,
+            dropped: true,
+        });
     }
-    put_led(rows, leaders, config, t, at, life, cells.as_slice())?;
-    Ok(false)
+    let spot = put_led(rows, leaders, config, t, at, life, cells.as_slice())?;
+    Ok(Applied {
+        spot,
+        dropped: false,
+    })
 }

@@ -15,7 +15,7 @@ ghost use Rattle.book.specs.Store.{put_arrival};
 use crate::at::At;
 use crate::store::Size;
 use agg_types::{Cell, Col, Key, NoMemory};
-use peer_rows::{Held, Row, RowCells, RowEnd, Rows};
+use peer_rows::{Held, Row, RowCells, RowEnd, Rows, Spot};
 use period_rate::Rate;
 use std::alloc::Global;
 use std::mem;
@@ -76,14 +76,14 @@ fn hold_cell(t: u64, period: u32, cell: Cell) -> Held
     }
 }
 
-// Puts a row at a place: one that stands there is exchanged for it.
+// Puts a row at a place: one that stands there is exchanged for it. Answers the place's hint.
 fn put_row(
     alloc: Global,
     rows: &mut Rows,
     size: Size,
     at: At<'_>,
     row: &mut Row,
-) -> Result<(), NoMemory>
+) -> Result<Option<Spot>, NoMemory>
     requires rows { AreRows size.peers size.tables rows.old }
     requires inside { IsInside size.peers size.tables (place_at at) }
     ensures ok { OnOk result (rows.new ≡ record rows.old
@@ -92,22 +92,23 @@ fn put_row(
     ensures kept { AreRows size.peers size.tables rows.new }
 {
     if rows.exchange_at(at.spot, at.peer, at.table, at.key, row) {
-        return Ok(());
+        return Ok(at.spot);
     }
     let row = mem::replace(row, Row::blank(alloc));
     rows.put_at(at.spot, at.peer, at.table, at.key, row)?;
-    Ok(())
+    Ok(at.spot)
 }
 
 /// Puts a row that has arrived, in the place of the one that stood there; another row is left where
-/// it was taken. A key whose spot isn't known is searched once, whether it has rows or not.
+/// it was taken. A key whose spot isn't known is searched once, whether it has rows or not. Answers
+/// where its rows lay, if it had any.
 pub fn set_row(
     alloc: Global,
     rows: &mut Rows,
     size: Size,
     at: At<'_>,
     row: &mut Row,
-) -> Result<(), NoMemory>
+) -> Result<Option<Spot>, NoMemory>
     requires rows { AreRows size.peers size.tables rows.old }
     requires inside { IsInside size.peers size.tables (place_at at) }
     ensures ok { OnOk result (arrivals rows.new.entries ≡ insert_entry row_key_cmp
@@ -119,7 +120,7 @@ pub fn set_row(
         return put_row(alloc, rows, size, at, row);
     }
     match rows.insert_first(at.peer, at.table, at.key, row)? {
-        None => Ok(()),
+        None => Ok(None),
         Some(spot) => {
             let at = At {
                 spot: Some(spot),

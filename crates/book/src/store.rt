@@ -78,15 +78,44 @@ impl Store {
         self.rows.end_rows(t)
     }
 
-    /// Where the rows of a key lie, if it has any, for the calls that take an `At`.
-    pub(crate) fn spot_near(&self, hint: Option<Spot>, table: usize, key: &Key) -> Option<Spot>
+    /// Where the rows of a key may lie, for the calls that take an `At`: what the hint says. Where
+    /// there is none, they are searched for if they are read before one is put.
+    pub(crate) fn spot_for(
+        &self,
+        hint: Option<Spot>,
+        are_read: bool,
+        table: usize,
+        key: &Key,
+    ) -> Option<Spot>
         requires { table < self.now.tables }
     {
-        self.rows.spot_near(hint, table, key)
+        if are_read && hint.is_none() {
+            return self.rows.spot_near(None, table, key);
+        }
+        hint
     }
 
-    /// Puts a row that arrives at a moment, in ms, in the place of the one that stood there. One
-    /// whose life is over takes that one away.
+    /// A hint at where the rows of a key may lie, by its hash alone.
+    pub(crate) fn guess(&self, table: usize, key: &Key) -> Option<Spot> {
+        if table < self.size.tables {
+            self.rows.guess(table, key)
+        } else {
+            None
+        }
+    }
+
+    /// Where the rows of a key lie, if a hint says so or a search.
+    pub(crate) fn spot_near(&self, hint: Option<Spot>, table: usize, key: &Key) -> Option<Spot> {
+        if table < self.size.tables {
+            self.rows.spot_near(hint, table, key)
+        } else {
+            None
+        }
+    }
+
+    /// Puts a row that arrives at a moment, in ms, in the place of the one that stood there, and
+    /// answers where the rows of its key lay, if that was seen. One whose life is over takes the
+    /// row away.
     #[tactic(auto, unfolding(fleet_model::specs::Machine::with_row))]
     pub(crate) fn put(
         &mut self,
@@ -95,7 +124,7 @@ impl Store {
         life: Option<u64>,
         cols: &[(Col, u32)],
         cells: &[Cell],
-    ) -> Result<(), NoMemory>
+    ) -> Result<Option<Spot>, NoMemory>
         requires in_range { t ≤ LAST_MOMENT }
         requires inside { IsInside self.old.peers self.old.tables (place_at at) }
         requires short { IsShort life }
@@ -107,11 +136,10 @@ impl Store {
     {
         if is_over(life) {
             drop_row(&mut self.rows, self.size, at);
-            return Ok(());
+            return Ok(at.spot);
         }
         let mut row = new_row(self.alloc, t, life, cols, cells)?;
-        set_row(self.alloc, &mut self.rows, self.size, at, &mut row)?;
-        Ok(())
+        Ok(set_row(self.alloc, &mut self.rows, self.size, at, &mut row)?)
     }
 
     /// The rows of a key, by peer: one search. None where there is no such table.
