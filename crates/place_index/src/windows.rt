@@ -242,11 +242,16 @@ impl Windows {
     }
 }
 
-// The remainder of a division, which by 0 leaves all.
+// The remainder of a division, which by 0 leaves all. That by a power of two, which it mostly is,
+// is made without a division.
 #[inline]
 fn modulo(hash: u32, by: u32) -> u32
     ensures { result ≡ hash % by }
 {
+    let power = by.trailing_zeros();
+    if power < 32 && by == 1 << power {
+        return hash & (by - 1);
+    }
     if by == 0 { hash } else { hash % by }
 }
 
