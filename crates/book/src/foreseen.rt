@@ -11,6 +11,7 @@ ghost use Rattle.book.specs.Foreseen.{IsFirstOf, earlier, flat_within, living_of
 ghost use Rattle.book.specs.Shown.{as_arrival, of_peer};
 ghost use Rattle.book.specs.Store.{AreFound};
 
+use crate::likely::found_likely;
 use crate::machine::Machine;
 use crate::next::flat_from;
 use crate::row::is_live;
@@ -47,6 +48,17 @@ impl Values for Machine {
 
     fn flat_from(&self, table: usize, key: &Key) -> u64 {
         self.key_flat(table, key)
+    }
+
+    fn likely(&self, table: usize, key: &Key, col: Col, from: u64, bound: u128) -> Option<u64> {
+        let cols = cols_of(self.config.tables.as_slice(), table);
+        found_likely(
+            self.rows.of_key(table, key).as_ref(),
+            cols,
+            col,
+            from,
+            bound,
+        )
     }
 
     ghost sums_fall = { λ v table key col t later.

@@ -41,6 +41,7 @@ mod drops;
 mod foreseen;
 mod held;
 mod leaders;
+mod likely;
 mod listed;
 mod listing;
 mod machine;

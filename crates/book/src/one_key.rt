@@ -4,6 +4,7 @@ ghost use Rattle.std.specs.Prelude.{◌≡◌, ◌<◌, ◌^◌, length, IfSome,
 ghost use Rattle.book.specs.Store.{AreRowsOf};
 
 use crate::foreseen::{found_flat, found_live};
+use crate::likely::found_likely;
 use crate::machine::Machine;
 use crate::values::{found_most, found_worth};
 use agg_types::{Col, Key};
@@ -125,6 +126,12 @@ impl<'a> Values for OneKey<'a> {
         let machine = self.machine;
         let cols = cols_of(machine.config.tables.as_slice(), table);
         found_flat(self.rows_of(table, key).as_ref(), longest_period(cols))
+    }
+
+    fn likely(&self, table: usize, key: &Key, col: Col, from: u64, bound: u128) -> Option<u64> {
+        let machine = self.machine;
+        let cols = cols_of(machine.config.tables.as_slice(), table);
+        found_likely(self.rows_of(table, key).as_ref(), cols, col, from, bound)
     }
 
     ghost sums_fall = { λ v table key col t later.

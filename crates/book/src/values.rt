@@ -130,8 +130,8 @@ pub fn found_worth(rows: Option<&OfKey<'_>>, cols: &[(Col, u32)], col: Col, t: u
     }
 }
 
-// Where a table stores a column, if it does.
-fn stored_at(cols: &[(Col, u32)], col: Col) -> Option<usize>
+/// Where a table stores a column, if it does.
+pub fn stored_at(cols: &[(Col, u32)], col: Col) -> Option<usize>
     ensures { result ≡ position (λ stored. same_col stored.0 col) cols.now }
 {
     cols.iter().position(|stored| stored.0.id() == col.id())
