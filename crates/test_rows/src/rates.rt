@@ -1,3 +1,5 @@
+//! Rates, at the moments at which they change.
+
 use anyhow::Result;
 use period_rate::Rate;
 use std::io::Print;

@@ -1,3 +1,5 @@
+//! Both kinds of due index, on the same entries.
+
 use agg_types::NoMemory;
 use anyhow::{Result, anyhow};
 use expiry_wheel::{Due, DueEntry, DueIndex, OrderedDue, Wheel};
