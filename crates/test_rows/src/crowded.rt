@@ -1,6 +1,6 @@
 //! Keys whose hashes choose one window: what it has no room for goes to the ordered map.
 
-use crate::laying::{key, lay, place};
+use crate::laying::{has_value, key, lay};
 use agg_types::{Key, NoMemory};
 use anyhow::Result;
 use place_index::{IndexKey, PlaceIndex};
@@ -28,9 +28,7 @@ fn colliding(alloc: Global) -> Result<Vec<u32>, NoMemory> {
 fn held(alloc: Global, index: &PlaceIndex<Key, u32>, numbers: &[u32]) -> Result<u32> {
     let mut count = 0u32;
     for number in numbers {
-        if let Some(at) = place(alloc, index, *number)?
-            && index.value(at) == Some(number)
-        {
+        if has_value(alloc, index, *number, *number)? {
             count = count.saturating_add(1);
         }
     }

@@ -15,23 +15,45 @@ pub fn place(alloc: Global, index: &PlaceIndex<Key, u32>, number: u32) -> Result
     Ok(index.find(&key(alloc, number)?))
 }
 
+/// Where the key of a number lies, or comes to lie, with it as its value. None where memory was
+/// refused.
+fn try_lay(
+    alloc: Global,
+    index: &mut PlaceIndex<Key, u32>,
+    number: u32,
+) -> Result<Option<usize>, NoMemory> {
+    let wanted = key(alloc, number)?;
+    match index.find(&wanted) {
+        Some(at) => Ok(Some(at)),
+        None => Ok(index.insert(wanted, number).ok()),
+    }
+}
+
 /// Inserts the key of a number, with it as its value, and answers where, or where it lies already.
 pub fn lay(alloc: Global, index: &mut PlaceIndex<Key, u32>, number: u32) -> Result<usize> {
-    let wanted = key(alloc, number)?;
-    if let Some(at) = index.find(&wanted) {
-        return Ok(at);
-    }
     let before = index.places();
-    if let Ok(at) = index.insert(wanted, number) {
+    if let Some(at) = try_lay(alloc, index, number)? {
         return Ok(at);
     }
-    let again = key(alloc, number)?;
-    if index.places() != before || index.find(&again).is_some() {
+    if index.places() != before || place(alloc, index, number)?.is_some() {
         return Err(anyhow!("a refused insert changed something"));
     }
-    match index.insert(again, number) {
-        Ok(at) => Ok(at),
-        Err(_) => Err(anyhow!("refused again")),
+    match try_lay(alloc, index, number)? {
+        Some(at) => Ok(at),
+        None => Err(anyhow!("refused again")),
+    }
+}
+
+/// Whether the key of a number lies in a place that has this value.
+pub fn has_value(
+    alloc: Global,
+    index: &PlaceIndex<Key, u32>,
+    number: u32,
+    value: u32,
+) -> Result<bool> {
+    match place(alloc, index, number)? {
+        Some(at) => Ok(index.value(at).copied() == Some(value)),
+        None => Ok(false),
     }
 }
 
@@ -39,9 +61,7 @@ pub fn lay(alloc: Global, index: &mut PlaceIndex<Key, u32>, number: u32) -> Resu
 pub fn held(alloc: Global, index: &PlaceIndex<Key, u32>, from: u32, to: u32) -> Result<u32> {
     let mut count = 0u32;
     for number in from..to {
-        if let Some(at) = place(alloc, index, number)?
-            && index.value(at) == Some(&number)
-        {
+        if has_value(alloc, index, number, number)? {
             count = count.saturating_add(1);
         }
     }

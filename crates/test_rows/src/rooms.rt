@@ -1,6 +1,6 @@
 //! Room that is made beforehand, values that are exchanged, and how many places are filled.
 
-use crate::laying::key;
+use crate::laying::{has_value, key};
 use agg_types::Key;
 use anyhow::Result;
 use place_index::PlaceIndex;
@@ -47,9 +47,7 @@ fn exchange(index: &mut PlaceIndex<Key, u32>) -> u32 {
 fn raised(alloc: Global, index: &PlaceIndex<Key, u32>) -> Result<u32> {
     let mut count = 0u32;
     for number in 0..NUMBER {
-        if let Some(at) = index.find(&key(alloc, number)?)
-            && index.value(at) == Some(&number.saturating_add(1))
-        {
+        if has_value(alloc, index, number, number.saturating_add(1))? {
             count = count.saturating_add(1);
         }
     }
