@@ -1,9 +1,9 @@
 use Rattle.std.proofs.Common.{◌+◌, ◌-◌, ◌^◌, arith}
 use Rattle.std.proofs.Math.Nat.{le-max_left, le-max_right, min-le_left}
-use Rattle.test_ranks.proofs.Within.{weaker, within_put, within_set}
-use Rattle.test_ranks.specs.Board.{AreWithin}
+use Rattle.test_filters.proofs.Within.{weaker, within_put, within_set}
+use Rattle.test_filters.specs.Board.{AreWithin}
 use Rattle.ranked.specs.Bounds.{bound_at}
-use Rattle.test_ranks.proofs.board.Board.set.Goals as goal
+use Rattle.test_filters.proofs.board.Board.set.Goals as goal
 
 pub invariant_of-self-in_err-insert : goal.invariant_of-self-in_err-insert
 invariant_of-self-in_err-insert c =

@@ -8,7 +8,7 @@ use Rattle.std.specs.Ordering.{is_eq, nat_cmp}
 use Rattle.std.proofs.lemmas.Map.Lookups.{exact_bytes}
 use Rattle.fleet_model.proofs.Entries.{equal_from}
 use Rattle.ranked.specs.Bounds.{AreAllBounded, AreOthersKept, IsBounded, bound_at}
-use Rattle.test_ranks.specs.Board.{AreWithin, faded, rows_of, start_at}
+use Rattle.test_filters.specs.Board.{AreWithin, faded, rows_of, start_at}
 
 abbrev Entries : Type 0
 Entries = List (List ℕ × ℕ)

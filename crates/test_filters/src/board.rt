@@ -1,5 +1,5 @@
 ghost use Rattle.std.specs.Prelude.{◌≡◌, ◌≤◌};
-ghost use Rattle.test_ranks.specs.Board.{faded, start_at};
+ghost use Rattle.test_filters.specs.Board.{faded, start_at};
 
 use agg_types::{Col, Key, NoMemory, Rank};
 use crossing::Values;
@@ -29,8 +29,8 @@ impl Starts {
 }
 
 impl Values for Starts {
-    ghost use Rattle.test_ranks.specs.Board.{faded, faded_falls, faded_stays, flat_of, rows_of};
-    ghost use Rattle.test_ranks.specs.Board.{start_at};
+    ghost use Rattle.test_filters.specs.Board.{faded, faded_falls, faded_stays, flat_of, rows_of};
+    ghost use Rattle.test_filters.specs.Board.{start_at};
     ghost use Rattle.std.proofs.Common.{le_refl, refl};
 
     ghost summed = { λ v table key col t. faded (start_at v.by_key.entries key) t };
@@ -78,7 +78,7 @@ pub struct Board {
 
 impl Model for Board {
     ghost use Rattle.std.specs.Prelude.{ℕ};
-    ghost use Rattle.test_ranks.specs.Board.{AreWithin};
+    ghost use Rattle.test_filters.specs.Board.{AreWithin};
 
     ghost Value = { ℕ };
 

@@ -1,26 +1,19 @@
-//! Runs ranked lists by bounds over keys whose values fall, and prints each list and how many
-//! entries of the index it looked at.
-//!
-//! It shows what no contract says: that these calls succeed while there is memory, how few entries
-//! a list takes on some values, and that it asks of no other key.
-#![tactic(auto)]
+//! Ranked lists by bounds, over keys whose values fall.
 
 ghost use Rattle.std.specs.Prelude.{◌≡◌, ◌≤◌, IfOk};
 
-mod board;
-
+use crate::board::Board;
 use agg_types::{Col, Key, Name, NoMemory, Rank};
 use anyhow::Result;
-use board::Board;
 use std::alloc::Global;
 use std::io::Print;
 
-fn main(rt: HostRuntime) -> Result<()> {
-    let alloc = rt.alloc();
-    alike(&rt, alloc)?;
-    fallen(&rt, alloc)?;
-    steep(&rt, alloc)?;
-    level(&rt, alloc)
+/// Prints ranked lists of values that are alike, fallen, steep and level.
+pub fn run<R: Print>(rt: &R, alloc: Global) -> Result<()> {
+    alike(rt, alloc)?;
+    fallen(rt, alloc)?;
+    steep(rt, alloc)?;
+    level(rt, alloc)
 }
 
 // A key of two bytes.
