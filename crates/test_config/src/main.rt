@@ -1,138 +1,23 @@
-//! Reads each configuration on standard input, and prints what it declares, or its first faulty
-//! line.
+//! Reads what people write to set a collector up, and prints what it says.
 //!
-//! Rows begin with `~` and a title, which fills the line; the configuration follows.
+//! Each configuration of data/configurations: what it declares, or its first faulty line. Each
+//! haproxy.cfg of data/haproxy_files: the configuration that it gives. Each command line on
+//! standard input: what it asks for, or the text and the exit status of one that asks for no job;
+//! then the program's own, with whose status it ends.
+//!
+//! What is read is read once more where an allocation failed.
 #![tactic(auto)]
 
-use agg_config::{LineCause, LineFault};
-use agg_types::{Col, Config, Filter, KeyKind, Push, Rank, Shape};
-use line_words::{next_line, next_part};
-use std::alloc::Global;
-use std::io;
-use std::io::{BufReader, BufWriter, Read, Write};
+mod command_lines;
+mod configurations;
+mod imports;
+mod rows;
 
-fn main(rt: HostRuntime) -> io::Result<()> {
-    let mut rows = Vec::new(rt.alloc());
-    BufReader::new(rt.alloc(), rt.reader())?.read_to_end(&mut rows)?;
-    let mut out = BufWriter::new(rt.alloc(), io::writer(&rt))?;
-    let mut left = Some(rows.as_slice());
-    for _ in 0..rows.len() {
-        let Some(text) = left else {
-            return out.flush();
-        };
-        let (row, rest) = next_part(text, b'~');
-        if let Some((title, text)) = next_line(row) {
-            print_row(rt.alloc(), title, text, &mut out)?;
-        }
-        left = rest;
-    }
-    out.flush()
-}
+use rows::Kind;
+use std::process::ExitCode;
 
-fn print_row<W: Write>(alloc: Global, title: &[u8], text: &[u8], out: &mut W) -> io::Result<()> {
-    out.write_all(b"== ")?;
-    out.write_all(title)?;
-    out.write_all(b": ")?;
-    match read(alloc, text) {
-        Ok(config) => print_config(&config, out),
-        Err(
-            LineFault {
-                line,
-                cause,
-                place: _,
-            },
-        ) => writeln!(out, "config line {line}: {cause}"),
-    }
-}
-
-// Reads a configuration, once more where an allocation failed: so what is printed is the same
-// whichever allocation fails.
-fn read(alloc: Global, text: &[u8]) -> Result<Config, LineFault> {
-    match agg_config::read(alloc, text) {
-        Err(
-            LineFault {
-                line: _,
-                cause: LineCause::NoMemory,
-                place: _,
-            },
-        ) => agg_config::read(alloc, text),
-        read => read,
-    }
-}
-
-fn print_config<W: Write>(config: &Config, out: &mut W) -> io::Result<()> {
-    out.write_all(config.me.as_slice())?;
-    for peer in config.peers.as_slice() {
-        print_named(" peer ", peer.as_slice(), out)?;
-    }
-    writeln!(out)?;
-    for shape in config.tables.as_slice() {
-        print_table(shape, out)?;
-    }
-    for filter in config.filters.as_slice() {
-        print_filter(filter, out)?;
-    }
-    for rank in config.ranks.as_slice() {
-        print_rank(rank, out)?;
-    }
-    for push in config.pushes.as_slice() {
-        print_push(push, out)?;
-    }
-    Ok(())
-}
-
-fn print_named<W: Write>(kind: &str, name: &[u8], out: &mut W) -> io::Result<()> {
-    out.write_all(kind.as_bytes())?;
-    out.write_all(name)
-}
-
-fn print_table<W: Write>(shape: &Shape, out: &mut W) -> io::Result<()> {
-    print_named("table ", shape.name.as_slice(), out)?;
-    let size = shape.size;
-    match shape.kind {
-        KeyKind::Integer => write!(out, " integer size {size}")?,
-        KeyKind::Ip => write!(out, " ip size {size}")?,
-        KeyKind::Ipv6 => write!(out, " ipv6 size {size}")?,
-        KeyKind::Str(len) => write!(out, " string {len} size {size}")?,
-        KeyKind::Binary(len) => write!(out, " binary {len} size {size}")?,
-    }
-    for col in shape.cols.as_slice() {
-        print_col(*col, out)?;
-    }
-    writeln!(out)
-}
-
-fn print_col<W: Write>(col: (Col, u32), out: &mut W) -> io::Result<()> {
-    let name = col.0.name();
-    let period = col.1;
-    write!(out, " {name}({period})")
-}
-
-fn print_filter<W: Write>(filter: &Filter, out: &mut W) -> io::Result<()> {
-    print_named("filter ", filter.name.as_slice(), out)?;
-    let table = filter.table;
-    write!(out, " of table {table}")?;
-    for cond in filter.conds.as_slice() {
-        let name = cond.col.name();
-        let op = cond.op;
-        let bound = cond.bound;
-        write!(out, ", {name} {op:?} {bound}")?;
-    }
-    writeln!(out)
-}
-
-fn print_rank<W: Write>(rank: &Rank, out: &mut W) -> io::Result<()> {
-    print_named("rank ", rank.name.as_slice(), out)?;
-    let table = rank.table;
-    let name = rank.col.name();
-    let n = rank.n;
-    writeln!(out, " of table {table}: {n} by {name}")
-}
-
-fn print_push<W: Write>(push: &Push, out: &mut W) -> io::Result<()> {
-    print_named("push ", push.name.as_slice(), out)?;
-    match push.hold {
-        None => writeln!(out, " while it holds"),
-        Some(hold) => writeln!(out, " hold {hold}"),
-    }
+fn main(rt: HostRuntime) -> anyhow::Result<ExitCode> {
+    rows::run(&rt, "configurations", Kind::Configuration)?;
+    rows::run(&rt, "haproxy_files", Kind::Haproxy)?;
+    command_lines::run(&rt)
 }

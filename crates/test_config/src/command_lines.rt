@@ -1,6 +1,4 @@
-//! Prints what each line on standard input asks for, and the text and the exit status of one that
-//! asks for no job. Then it reads its own command line so, and ends with that one's status.
-#![tactic(auto)]
+//! What command lines ask for, and the texts and exit statuses of those that ask for no job.
 
 use command_line::{Endpoints, Job, Network, UnknownPeers, Usage, admits};
 use std::alloc::Global;
@@ -27,18 +25,20 @@ const WIDE_ADDRESSES: [[u16; 8]; 5] = [
     [0x2001, 0x0db9, 0, 0, 0, 0, 0, 0x0007],
 ];
 
-fn main(rt: HostRuntime) -> anyhow::Result<ExitCode> {
+/// Prints what each line on standard input asks for. Then reads the command line of the program
+/// itself so, and answers that one's status.
+pub fn run(rt: &HostRuntime) -> anyhow::Result<ExitCode> {
     for line in rt.lines(rt.alloc()) {
-        print_row(&rt, line?.as_str())?;
+        print_row(rt, line?.as_str())?;
     }
     let mut words: Vec<String> = Vec::new(rt.alloc());
-    for word in std::env::args(&rt)? {
+    for word in std::env::args(rt)? {
         words.push(word)?;
     }
     match command_line::read(rt.alloc(), words.as_slice()) {
         Ok(_) => Ok(ExitCode::SUCCESS),
         Err(usage) => {
-            usage.print(&mut io::writer(&rt), &mut rt.stderr())?;
+            usage.print(&mut io::writer(rt), &mut rt.stderr())?;
             Ok(ExitCode::from(usage.status()))
         }
     }
