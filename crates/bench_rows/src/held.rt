@@ -13,7 +13,7 @@ use test_support::address;
 const UPDATES: u32 = 4;
 
 /// The key of 4 bytes at a place of an order in which no key stands beside its neighbour.
-fn scattered(alloc: Global, place: u32, number: u32) -> Result<Key, NoMemory> {
+pub fn scattered(alloc: Global, place: u32, number: u32) -> Result<Key, NoMemory> {
     address(alloc, test_support::scattered(place, number))
 }
 

@@ -1,20 +1,22 @@
-//! Measures what rows and planned moments cost. What was done goes to standard output, and how long
-//! it took, and in how much memory, to standard error.
+//! Measures what rows, planned moments and an index of keys cost. What was done goes to standard
+//! output, and how long it took, and in how much memory, to standard error.
 //!
-//! Arguments: how many rows or planned moments there are, and which part is measured alone (`rows`,
-//! `peers`, `ordered` or `wheel`), since memory is only right for what runs first.
+//! Arguments: how many rows, planned moments or keys there are, and which part is measured alone
+//! (`rows`, `held`, `peers`, `ordered`, `wheel` or `index`), since memory is only right for what
+//! runs first.
 #![tactic(auto)]
 
 mod counted;
 mod due;
 mod held;
+mod index;
 mod measure;
 mod peers;
 
 use anyhow::{Context, Result};
 use std::env;
 
-/// How many rows and planned moments there are where no argument says.
+/// How many rows, planned moments and keys there are where no argument says.
 const NUMBER: u32 = 10_000;
 
 /// Whether a part is to be measured: each is where none is asked for.
@@ -46,6 +48,9 @@ fn main(rt: HostRuntime) -> Result<()> {
     }
     if is_wanted(&part, "wheel") {
         due::run_wheel(&rt, number)?;
+    }
+    if is_wanted(&part, "index") {
+        index::run(&rt, number)?;
     }
     Ok(())
 }

@@ -1,23 +1,10 @@
-//! Measures what finding and inserting keys costs. What was done goes to standard output, and how
-//! long it took, and in how much memory, to standard error.
-//!
-//! Argument: how many keys there are.
-#![tactic(auto)]
-
-mod measure;
-mod scattered;
-
+use crate::held::scattered;
 use crate::measure::{print_memory, print_time, resident, time_used};
-use crate::scattered::key;
 use agg_types::{Key, NoMemory};
-use anyhow::{Context, Result};
+use anyhow::Result;
 use place_index::PlaceIndex;
 use std::alloc::Global;
-use std::env;
 use std::time::Duration;
-
-/// How many keys there are where no argument says.
-const NUMBER: u32 = 10_000;
 
 /// Inserts a key that isn't there, and answers whether it did.
 fn insert(index: &mut PlaceIndex<Key, u64>, key: Key, value: u64) -> Result<bool, NoMemory> {
@@ -36,7 +23,7 @@ fn insert_all(
 ) -> Result<u32, NoMemory> {
     let mut new = 0u32;
     for place in 0..number {
-        if insert(index, key(alloc, place, number)?, u64::from(place))? {
+        if insert(index, scattered(alloc, place, number)?, u64::from(place))? {
             new = new.saturating_add(1);
         }
     }
@@ -47,7 +34,7 @@ fn insert_all(
 fn make_all(alloc: Global, number: u32) -> Result<u32, NoMemory> {
     let mut made = 0u32;
     for place in 0..number {
-        if key(alloc, place, number)?.as_slice().len() == 4 {
+        if scattered(alloc, place, number)?.as_slice().len() == 4 {
             made = made.saturating_add(1);
         }
     }
@@ -58,7 +45,7 @@ fn make_all(alloc: Global, number: u32) -> Result<u32, NoMemory> {
 fn find_all(alloc: Global, index: &PlaceIndex<Key, u64>, number: u32) -> Result<u32, NoMemory> {
     let mut found = 0u32;
     for place in 0..number {
-        if index.find(&key(alloc, place, number)?).is_some() {
+        if index.find(&scattered(alloc, place, number)?).is_some() {
             found = found.saturating_add(1);
         }
     }
@@ -73,7 +60,7 @@ fn remove_all(
 ) -> Result<u32, NoMemory> {
     let mut removed = 0u32;
     for place in 0..number {
-        if let Some(at) = index.find(&key(alloc, place, number)?) {
+        if let Some(at) = index.find(&scattered(alloc, place, number)?) {
             if index.remove(at).is_some() {
                 removed = removed.saturating_add(1);
             }
@@ -129,9 +116,9 @@ fn print_longest(rt: &HostRuntime, number: u32) -> Result<()> {
     let mut longest_empty = Duration::ZERO;
     for place in 0..number {
         let start = time_used(rt)?;
-        let _empty = key(alloc, place, number)?;
+        let _empty = scattered(alloc, place, number)?;
         let between = time_used(rt)?;
-        insert(&mut index, key(alloc, place, number)?, 0)?;
+        insert(&mut index, scattered(alloc, place, number)?, 0)?;
         let end = time_used(rt)?;
         longest_empty = longer(longest_empty, start, between);
         longest_insert = longer(longest_insert, between, end);
@@ -141,24 +128,15 @@ fn print_longest(rt: &HostRuntime, number: u32) -> Result<()> {
     Ok(())
 }
 
-/// How many keys there are: the first argument, if there is one.
-fn number_of_keys(rt: &HostRuntime) -> Result<u32> {
-    let mut args = env::args(rt)?.skip(1);
-    match args.next() {
-        Some(text) => text.as_str().parse::<u32>().context("a number of keys"),
-        None => Ok(NUMBER),
-    }
-}
-
-fn main(rt: HostRuntime) -> Result<()> {
-    let number = number_of_keys(&rt)?;
-    let made = time_making(&rt, number)?;
+/// Measures what finding and inserting keys costs.
+pub fn run(rt: &HostRuntime, number: u32) -> Result<()> {
+    let made = time_making(rt, number)?;
     let mut index = PlaceIndex::<Key, u64>::new(rt.alloc());
-    let new = time_inserting(&rt, &mut index, number)?;
-    let found = time_finding(&rt, &index, number)?;
-    let removed = time_removing(&rt, &mut index, number)?;
+    let new = time_inserting(rt, &mut index, number)?;
+    let found = time_finding(rt, &index, number)?;
+    let removed = time_removing(rt, &mut index, number)?;
     println!(rt; "{made} keys made, {new} inserted, {found} found, {removed} removed")?;
-    print_longest(&rt, number)?;
+    print_longest(rt, number)?;
     println!(rt; "{number} inserts timed one by one")?;
     Ok(())
 }
