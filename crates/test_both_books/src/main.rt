@@ -7,12 +7,19 @@
 //! An event for which an allocation failed has to leave each answer as it was, and then happens
 //! once more. `test_both_books again` compares at the end of a run and where an allocation failed:
 //! `tools/refuse_growths.py` lets each of its allocations fail in turn.
+//!
+//! With no such word, runs over a plain book alone follow. What it answers at each moment is
+//! printed: how many keys have a row, how many the filter holds and when that changes next, each
+//! summed row, and the ranked list.
 #![tactic(auto)]
 
 mod answers;
 mod deeds;
 mod drawn;
 mod fleet;
+mod plain;
+mod plain_fleet;
+mod runs;
 mod worked;
 
 use crate::deeds::Deed;
@@ -172,6 +179,7 @@ fn main(rt: HostRuntime) -> Result<()> {
     if again {
         runs_again(&rt, rt.alloc())
     } else {
-        all_runs(&rt, rt.alloc())
+        all_runs(&rt, rt.alloc())?;
+        plain::play_all(&rt, rt.alloc())
     }
 }

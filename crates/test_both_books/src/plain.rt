@@ -1,13 +1,7 @@
-//! Plays runs over a plain book, each a few rows and then some moments, and prints what the book
-//! answers at each moment: how many keys have a row, how many the filter holds and when that
-//! changes next, each summed row, and the ranked list. What it prints is compared with figures
-//! worked out by hand.
-#![tactic(auto)]
+//! Runs over a plain book alone, each a few rows and then some moments. What is printed is compared
+//! with figures worked out by hand.
 
-mod fleet;
-mod runs;
-
-use crate::fleet::{fleet, happen, put};
+use crate::plain_fleet::{fleet, happen, put};
 use crate::runs::{Run, runs};
 use agg_types::What;
 use anyhow::Result;
@@ -60,9 +54,10 @@ fn play(rt: &impl Print, alloc: Global, run: &Run) -> Result<()> {
     Ok(())
 }
 
-fn main(rt: HostRuntime) -> Result<()> {
+/// Plays all runs.
+pub fn play_all(rt: &impl Print, alloc: Global) -> Result<()> {
     for run in runs() {
-        play(&rt, rt.alloc(), &run)?;
+        play(rt, alloc, &run)?;
     }
     Ok(())
 }
