@@ -1,19 +1,21 @@
 //! Replays each script that is named on standard input, a name a line, and prints how it ended and
 //! what it printed. The scripts lie in `data/`.
+//!
+//! Then replays scripts whose reading or writing fails, one whose output is watched as it is read,
+//! and scripts with lines of 10 MB, and prints how each ends.
 #![tactic(auto)]
 
-use std::io::Write;
-use std::{fs, io};
+mod failing;
+mod lines;
+mod order;
+mod scripts;
+
+use std::io;
 
 fn main(rt: HostRuntime) -> io::Result<()> {
-    for line in rt.lines(rt.alloc()) {
-        let name = line?;
-        let script = fs::read(&rt, name.as_str())?;
-        let mut out = Vec::new(rt.alloc());
-        let ending = replay::replay(rt.alloc(), script.as_slice(), &mut out)?;
-        let status = ending.status();
-        println!(rt; "== {name}: {status}")?;
-        io::writer(&rt).write_all(out.as_slice())?;
-    }
-    Ok(())
+    scripts::show(&rt)?;
+    failing::show_reads(&rt)?;
+    failing::show_writes(&rt)?;
+    order::show(&rt)?;
+    lines::show(&rt)
 }
