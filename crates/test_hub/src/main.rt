@@ -1,98 +1,36 @@
 //! Seats, posts, receipts and looks of a hub, in one thread.
+//!
+//! Then posts, seats, lenses and leaves, each made once more where an allocation failed. So what is
+//! printed of these is the same whichever allocation fails: `test_hub again` runs them alone, and
+//! `tools/refuse_growths.py` lets each of its allocations fail in turn.
 #![tactic(auto)]
 
-ghost use Rattle.std.specs.Prelude.{◌≡◌};
-
+mod again;
+mod fleet;
+mod no_memory;
+mod posting;
 mod replaced;
 mod seats;
+mod shown;
 
-use agg_types::What;
 use anyhow::Result;
-use hub::{Hub, Lens, Naming, Opening};
-use replaced::replace;
-use seats::{fill, has_place};
-use std::alloc::Global;
+use no_memory::{fleet_opened, opened};
+use posting::{late, run_alone};
+use std::env::Env;
 use std::marker::Brand;
-use std::sync::Wait;
-use test_hub_support::{lens, opening, post, seen, session, sit};
-use test_support::{alone, put};
-
-/// Two sessions, one after the other, each with a peer of its own; what they posted is learned.
-fn learn_both<J: Naming, H: Wait + Drop, W: Wait>(
-    rt: &W,
-    alloc: Global,
-    hub: &Hub<J, H>,
-    lens: &mut Lens,
-) -> Result<()>
-    requires { lens.old.seen.of ≡ hub.now.of }
-{
-    let receipt = session(rt, alloc, hub, 0, 5)?;
-    lens.learn(&receipt);
-    let receipt = session(rt, alloc, hub, 1, 7)?;
-    lens.learn(&receipt);
-    Ok(())
-}
-
-/// What a lens shows once it learned of two sessions.
-fn look_on<J: Naming, H: Wait + Drop, W: Wait + Print>(
-    rt: &W,
-    alloc: Global,
-    hub: &Hub<J, H>,
-) -> Result<()> {
-    let mut lens = lens(rt, hub)?;
-    println!(rt; "a second lens: {}", has_place(rt, hub))?;
-    learn_both(rt, alloc, hub, &mut lens)?;
-    println!(rt; "both learned: {}", seen(alloc, &mut lens)?)?;
-    Ok(())
-}
-
-/// A peer speaks, and puts the first 1,000 addresses in turn, so often in all.
-fn long_batch(alloc: Global, peer: usize, puts: u32) -> Result<Vec<What>> {
-    let mut whats = alone(alloc, What::Open(peer))?;
-    for turn in 0..puts {
-        whats.push(put(alloc, peer, turn % 1000, 1)?)?;
-    }
-    Ok(whats)
-}
-
-/// Batches of no event, of one and of 100,001.
-fn sizes<J: Naming, H: Wait + Drop, W: Wait + Print>(
-    rt: &W,
-    alloc: Global,
-    hub: &Hub<J, H>,
-) -> Result<()> {
-    let mut pass = sit(rt, hub)?;
-    for puts in [0, 100_000] {
-        let receipt = post(rt, alloc, hub, &mut pass, long_batch(alloc, 0, puts)?)?;
-        println!(rt; "a batch of {}: {} events in all", puts + 1, receipt.len())?;
-    }
-    let receipt = post(rt, alloc, hub, &mut pass, Vec::new(alloc))?;
-    println!(rt; "a batch of 0: {} events in all", receipt.len())?;
-    Ok(())
-}
-
-/// Steps over a hub with one place for a lens.
-fn run_alone<J: Naming, R: Print + Wait>(rt: &R, alloc: Global, opening: Opening) -> Result<()>
-    requires { opening.of ≡ J.book }
-{
-    let hub = Hub::<J, &R>::new(alloc, rt, opening, 1)?;
-    look_on(rt, alloc, &hub)?;
-    sizes(rt, alloc, &hub)?;
-    println!(rt; "seats: {}", fill(rt, &hub)?)?;
-    println!(rt; "then: {}", fill(rt, &hub)?)?;
-    Ok(())
-}
-
-/// Two seats that open one peer.
-fn late<J: Naming, R: Print + Wait>(rt: &R, alloc: Global, opening: Opening) -> Result<()>
-    requires { opening.of ≡ J.book }
-{
-    let hub = Hub::<J, &R>::new(alloc, rt, opening, 1)?;
-    let mut lens = lens(rt, &hub)?;
-    replace(rt, alloc, &hub, &mut lens)
-}
+use test_hub_support::opening;
 
 fn main(rt: HostRuntime) -> Result<()> {
-    run_alone::<Brand, HostRuntime>(&rt, rt.alloc(), opening(rt.alloc())?)?;
-    late::<Brand, HostRuntime>(&rt, rt.alloc(), opening(rt.alloc())?)
+    let alloc = rt.alloc();
+    let is_again = std::env::args(&rt)?.any(|word| word.as_str() == "again");
+    if !is_again {
+        run_alone::<Brand, HostRuntime>(&rt, alloc, opening(alloc)?)?;
+        late::<Brand, HostRuntime>(&rt, alloc, opening(alloc)?)?;
+    }
+    for _ in 0..2 {
+        if opened::<Brand, HostRuntime>(&rt, alloc, fleet_opened(alloc)?)? {
+            break;
+        }
+    }
+    Ok(())
 }

@@ -6,3 +6,6 @@ ghosts-run_alone g a = record { book = a.opening.of }
 
 abbrev pub ghosts-late : goal.ghosts-late
 ghosts-late g a = record { book = a.opening.of }
+
+abbrev pub ghosts-opened : goal.ghosts-opened
+ghosts-opened g a = record { book = a.opening.of }

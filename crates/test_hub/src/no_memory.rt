@@ -1,23 +1,13 @@
-//! Posts, seats, lenses and leaves of a hub in one thread, each made once more where an allocation
-//! failed.
-//!
-//! So what is printed is the same whichever allocation fails: `tools/refuse_growths.py` lets each
-//! fail in turn.
-#![tactic(auto)]
+//! Posts, seats, lenses and leaves, each made once more where an allocation failed.
 
 ghost use Rattle.std.specs.Prelude.{◌≡◌, IfOk};
 
-mod again;
-mod fleet;
-mod seen;
-
-use again::{leave, post};
+use crate::again::{leave, post};
+use crate::fleet::{Batch, opening};
+use crate::shown::seen;
 use anyhow::{Context, Result};
-use fleet::{Batch, opening};
 use hub::{Hub, Lens, Naming, Opening, Pass, Receipt};
-use seen::seen;
 use std::alloc::Global;
-use std::marker::Brand;
 use std::sync::Wait;
 use test_hub_support::sit;
 
@@ -130,7 +120,7 @@ fn run<J: Naming, H: Wait + Drop, W: Wait + Print>(
 }
 
 /// Runs over a hub of this fleet, and says whether there was memory for one.
-fn opened<J: Naming, R: Print + Wait>(rt: &R, alloc: Global, opening: Opening) -> Result<bool>
+pub fn opened<J: Naming, R: Print + Wait>(rt: &R, alloc: Global, opening: Opening) -> Result<bool>
     requires { opening.of ≡ J.book }
 {
     match Hub::<J, &R>::new(alloc, rt, opening, 2) {
@@ -143,18 +133,9 @@ fn opened<J: Naming, R: Print + Wait>(rt: &R, alloc: Global, opening: Opening) -
 }
 
 /// The fleet, opened once more where an allocation failed.
-fn fleet_opened(alloc: Global) -> Result<Opening> {
+pub fn fleet_opened(alloc: Global) -> Result<Opening> {
     match opening(alloc) {
         Err(_) => opening(alloc),
         opened => opened,
     }
-}
-
-fn main(rt: HostRuntime) -> Result<()> {
-    for _ in 0..2 {
-        if opened::<Brand, HostRuntime>(&rt, rt.alloc(), fleet_opened(rt.alloc())?)? {
-            break;
-        }
-    }
-    Ok(())
 }

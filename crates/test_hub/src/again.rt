@@ -5,7 +5,7 @@
 
 ghost use Rattle.std.specs.Prelude.{◌≡◌, IfOk, IfSome};
 
-use crate::seen::seen;
+use crate::shown::seen;
 use agg_types::What;
 use anyhow::{Result, anyhow, ensure};
 use hub::{Hub, Lens, Naming, Pass, PostFault, Receipt};

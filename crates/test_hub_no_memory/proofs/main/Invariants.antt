@@ -1,5 +1,0 @@
-use Rattle.test_hub_no_memory.proofs.main.Given as goal
-
--- the log that was just opened
-abbrev pub ghosts-opened : goal.ghosts-opened
-ghosts-opened g a = record { book = a.opening.of }
