@@ -1,26 +1,28 @@
 //! Runs the program in memory, and prints what it writes to each stream and its exit status; then
-//! lines of the log.
+//! lines of the log. What it writes to standard output is printed as it comes, what it writes to
+//! standard error behind that.
 //!
-//! What it writes to standard output is printed as it comes, what it writes to standard error
-//! behind that.
+//! Last it runs `aggregator listen` on sockets, with a peer and admins: `tcp` says how. That
+//! collector is still running when the program ends.
 #![tactic(auto)]
 
 mod full;
 mod log;
 mod scene;
 mod status;
+mod tcp;
 
 use command_line::Endpoints;
 use listening::Memory;
 use program::{Asked, Prepared, prepare};
 use scene::{Scene, Shelf, Torn};
-use std::io;
 use std::io::{BufRead, BufReader, Write};
 use std::net::{Ipv4Addr, Net, SocketAddr, SocketAddrV4, TcpListener, TcpStream};
 use std::random::RandomSource;
 use std::sync::Wait;
 use std::thread::Threads;
 use std::time::Clock;
+use std::{io, thread};
 
 /// A configuration, and a script that begins with it.
 const CONFIGURATION: &[u8] = b"name agg\npeer lb1\ntable t type ip size 100 store gpc0\n";
@@ -98,14 +100,19 @@ const RUNS: [(&[&[u8]], &[u8]); 21] = [
     (&[b"import"], HAPROXY),
 ];
 
-fn main(rt: HostRuntime) -> io::Result<()> {
+fn main(rt: HostRuntime) -> anyhow::Result<()> {
     for (words, input) in RUNS {
         show_run(&rt, words, input)?;
     }
     show_prepared(&rt)?;
     show_torn(&rt)?;
     show_addresses_in_use(&rt)?;
-    log::show(&rt)
+    log::show(&rt)?;
+    let (peers, admin) = tcp::addresses(&rt)?;
+    let _collector = thread::spawn(&rt, move || {
+        let _ = tcp::collect(&rt, peers, admin);
+    })?;
+    tcp::show(&rt, peers, admin)
 }
 
 /// Prints what was written to standard error, and the exit status.

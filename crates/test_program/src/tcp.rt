@@ -6,7 +6,6 @@
 //! was left there before, and is told what is wrong with its lines. A stranger that says nothing is
 //! connected all the while, and a newer connection of the peer ends the older one. What each is
 //! answered is printed. The collector doesn't end by itself: the program ends while it runs.
-#![tactic(auto)]
 
 use anyhow::{Result, anyhow};
 use listening::{Disk, Memory};
@@ -20,7 +19,7 @@ use std::random::RandomSource;
 use std::sync::Wait;
 use std::thread::Threads;
 use std::time::{Clock, Duration};
-use std::{fs, io, thread};
+use std::{fs, io};
 
 /// What the peer sends, and how many bytes it is answered: a hello; a definition of the table `t`,
 /// of addresses with gpc0, whose rows never end, and behind it an update of 10.0.0.1 to 5; one of
@@ -176,7 +175,7 @@ fn ask_status(rt: &impl Print, alloc: Global, asking: &TcpStream) -> Result<()> 
 }
 
 /// Runs the program over `listen` at these addresses.
-fn run<R>(rt: &R, peers: SocketAddr, admin: SocketAddr) -> Result<u8>
+pub fn collect<R>(rt: &R, peers: SocketAddr, admin: SocketAddr) -> Result<u8>
 where
     R: Threads + Wait + Copy + Send + Sync + 'static,
     R: Input + Print + Eprint + AllocGlobal + Clock + RandomSource + Memory,
@@ -238,23 +237,25 @@ fn call_again(rt: &HostRuntime, peers: SocketAddr, older: &TcpStream) -> Result<
     Ok(())
 }
 
-fn main(rt: HostRuntime) -> Result<()> {
-    let peers = free_address(&rt)?;
-    let admin = free_address(&rt)?;
-    leave_socket(&rt)?;
-    let _collector = thread::spawn(&rt, move || {
-        let _ = run(&rt, peers, admin);
-    })?;
-    let _stranger = connect(&rt, peers)?;
-    let peer = connect(&rt, peers)?;
+/// The addresses of the peers and of the admins. It leaves the operators' socket behind.
+pub fn addresses(rt: &HostRuntime) -> io::Result<(SocketAddr, SocketAddr)> {
+    leave_socket(rt)?;
+    let peers = free_address(rt)?;
+    Ok((peers, free_address(rt)?))
+}
+
+/// Prints what a peer and admins are answered by a collector that runs meanwhile.
+pub fn show(rt: &HostRuntime, peers: SocketAddr, admin: SocketAddr) -> Result<()> {
+    let _stranger = connect(rt, peers)?;
+    let peer = connect(rt, peers)?;
     for (piece, count) in TALK {
-        say(&rt, &peer, piece, count)?;
+        say(rt, &peer, piece, count)?;
     }
-    let asking = connect(&rt, admin)?;
-    ask(&rt, rt.alloc(), &asking, b"show table t\n")?;
-    ask(&rt, rt.alloc(), &asking, b"clear table t key 10.0.0.2\n")?;
-    ask(&rt, rt.alloc(), &asking, b"show table\n")?;
-    ask_status(&rt, rt.alloc(), &asking)?;
-    ask_by_socket(&rt)?;
-    call_again(&rt, peers, &peer)
+    let asking = connect(rt, admin)?;
+    ask(rt, rt.alloc(), &asking, b"show table t\n")?;
+    ask(rt, rt.alloc(), &asking, b"clear table t key 10.0.0.2\n")?;
+    ask(rt, rt.alloc(), &asking, b"show table\n")?;
+    ask_status(rt, rt.alloc(), &asking)?;
+    ask_by_socket(rt)?;
+    call_again(rt, peers, &peer)
 }
