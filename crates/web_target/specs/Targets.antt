@@ -32,6 +32,11 @@ abbrev pub Reads : {A : Type 0} → Read A → Read A → Type 0
 Reads expected result = MatchResult result (λ x. expected ≡ Ok x)
     (λ fault. fault ≢ NoMemory → expected ≡ Err fault)
 
+-- where words tell what is expected of them, a result tells what is made of that
+abbrev pub ReadsBehind : {A B : Type 0} → (Read A → Read B) → Read A → Read B → Type 0
+ReadsBehind {A} make words result =
+    (expected : Read A) → Reads expected words → Reads (make expected) result
+
 -- a `+` of a query stands for a space
 abbrev pub plus_to_space : ℕ → ℕ
 plus_to_space byte = if byte == 43 then 32 else byte
@@ -54,27 +59,22 @@ with_limit words text =
     if is_some words.limit then Err Twice
     else limit_of text >>= λ limit. Ok (record words { limit = Some limit })
 
+-- the text of a word that may stand there once
+abbrev pub text_once : Option (List ℕ) → List ℕ → Read (Option (List ℕ))
+text_once had text = if is_some had then Err Twice else Ok (Some (query_bytes text))
+
 unfoldable pub with_after : Words → List ℕ → Read Words
-with_after words text =
-    if is_some words.after then Err Twice
-    else Ok (record words { after = Some (query_bytes text) })
+with_after words text = text_once words.after text >>= λ after. Ok (record words { after = after })
 
 unfoldable pub with_conds : Words → List ℕ → Read Words
-with_conds words text =
-    if is_some words.conds then Err Twice
-    else Ok (record words { conds = Some (query_bytes text) })
+with_conds words text = text_once words.conds text >>= λ conds. Ok (record words { conds = conds })
 
--- a piece that gives conditions, or means nothing
-unfoldable pub if_conds : Words → List ℕ → Read Words
-if_conds words piece =
-    if starts_with nat_eq piece (codes "where=") then with_conds words (drop 6 piece)
-    else Err Unknown
-
--- a piece that gives a text
+-- a piece that gives a text, or means nothing
 unfoldable pub with_text : Words → List ℕ → Read Words
 with_text words piece =
     if starts_with nat_eq piece (codes "after=") then with_after words (drop 6 piece)
-    else if_conds words piece
+    else if starts_with nat_eq piece (codes "where=") then with_conds words (drop 6 piece)
+    else Err Unknown
 
 -- words with one more piece of a query; an empty one says nothing
 unfoldable pub with_piece : Words → List ℕ → Read Words
@@ -125,19 +125,14 @@ filter_of name words = part_of words >>= λ part. Ok (asks.Filter name part)
 unfoldable pub rank_of : List ℕ → Words → Read Question
 rank_of name words = part_of words >>= λ part. Ok (asks.Rank name part)
 
--- a ranked list, behind `/api/v1/`
-unfoldable pub ranked_of : List ℕ → Read Words → Read Question
-ranked_of path words =
-    if starts_with nat_eq path (codes "ranks/")
-    then (words >>= λ said. rank_of (percent_decode (drop 6 path)) said)
-    else Err NotFound
-
 -- a list of keys
 unfoldable pub listed_of : List ℕ → Read Words → Read Question
 listed_of path words =
     if starts_with nat_eq path (codes "filters/")
     then (words >>= λ said. filter_of (percent_decode (drop 8 path)) said)
-    else ranked_of path words
+    else if starts_with nat_eq path (codes "ranks/")
+    then (words >>= λ said. rank_of (percent_decode (drop 6 path)) said)
+    else Err NotFound
 
 -- a list of a name
 unfoldable pub named_of : List ℕ → Read Words → Read Question

@@ -3,7 +3,7 @@
 ghost use Rattle.std.specs.Prelude.{◌≡◌, IfOk};
 ghost use Rattle.std.specs.Option.{option_copied};
 ghost use Rattle.percent_encoding.specs.Percent.{percent_decode};
-ghost use Rattle.web_target.specs.Targets.{Reads, if_conds, limit_of, plus_to_space, query_bytes};
+ghost use Rattle.web_target.specs.Targets.{Reads, limit_of, plus_to_space, query_bytes, text_once};
 ghost use Rattle.web_target.specs.Targets.{with_after, with_conds, with_limit, with_piece};
 ghost use Rattle.web_target.specs.Targets.{with_text, words_in};
 
@@ -60,14 +60,25 @@ fn with_limit(words: Words, text: &[u8]) -> Result<Words, TargetFault>
     Ok(Words { limit, ..words })
 }
 
+// The text of a word that wasn't there before.
+fn text_once(
+    alloc: Global,
+    had: &Option<Items<u8>>,
+    text: &[u8],
+) -> Result<Option<Items<u8>>, TargetFault>
+    ensures { Reads (text_once had.now text.now) result }
+{
+    if had.is_some() {
+        return Err(TargetFault::Twice);
+    }
+    Ok(Some(query_bytes(alloc, text)?))
+}
+
 #[tactic(auto, unfolding(crate::specs::Targets::with_after))]
 fn with_after(alloc: Global, words: Words, text: &[u8]) -> Result<Words, TargetFault>
     ensures { Reads (with_after words text.now) result }
 {
-    if words.after.is_some() {
-        return Err(TargetFault::Twice);
-    }
-    let after = Some(query_bytes(alloc, text)?);
+    let after = text_once(alloc, &words.after, text)?;
     Ok(Words { after, ..words })
 }
 
@@ -75,14 +86,11 @@ fn with_after(alloc: Global, words: Words, text: &[u8]) -> Result<Words, TargetF
 fn with_conds(alloc: Global, words: Words, text: &[u8]) -> Result<Words, TargetFault>
     ensures { Reads (with_conds words text.now) result }
 {
-    if words.conds.is_some() {
-        return Err(TargetFault::Twice);
-    }
-    let conds = Some(query_bytes(alloc, text)?);
+    let conds = text_once(alloc, &words.conds, text)?;
     Ok(Words { conds, ..words })
 }
 
-// The words, with one more piece of the query.
+// The words, with one more piece of the query; an empty one says nothing.
 #[tactic(auto, unfolding(crate::specs::Targets::with_piece))]
 fn with_piece(alloc: Global, words: Words, piece: &[u8]) -> Result<Words, TargetFault>
     ensures { Reads (with_piece words piece.now) result }
@@ -101,19 +109,12 @@ fn with_piece(alloc: Global, words: Words, piece: &[u8]) -> Result<Words, Target
 fn with_text(alloc: Global, words: Words, piece: &[u8]) -> Result<Words, TargetFault>
     ensures { Reads (with_text words piece.now) result }
 {
-    match piece.strip_prefix(b"after=") {
-        Some(text) => with_after(alloc, words, text),
-        None => if_conds(alloc, words, piece),
-    }
-}
-
-#[tactic(auto, unfolding(crate::specs::Targets::if_conds))]
-fn if_conds(alloc: Global, words: Words, piece: &[u8]) -> Result<Words, TargetFault>
-    ensures { Reads (if_conds words piece.now) result }
-{
-    match piece.strip_prefix(b"where=") {
-        Some(text) => with_conds(alloc, words, text),
-        None => Err(TargetFault::Unknown),
+    if let Some(text) = piece.strip_prefix(b"after=") {
+        with_after(alloc, words, text)
+    } else if let Some(text) = piece.strip_prefix(b"where=") {
+        with_conds(alloc, words, text)
+    } else {
+        Err(TargetFault::Unknown)
     }
 }
 

@@ -1,11 +1,10 @@
 //! Targets, read.
 
 ghost use Rattle.std.specs.Prelude.{◌≡◌};
-ghost use Rattle.web_target.specs.declared.question.Words.{Words as Said};
 ghost use Rattle.std.specs.Option.{option_copied};
-ghost use Rattle.web_target.specs.Targets.{Read, Reads, asked_of, called_of, filter_of, listed_of};
-ghost use Rattle.web_target.specs.Targets.{named_of, part_of, peers_of, question_of, rank_of};
-ghost use Rattle.web_target.specs.Targets.{ranked_of, table_of};
+ghost use Rattle.web_target.specs.Targets.{Reads, ReadsBehind, asked_of, called_of, entries_of};
+ghost use Rattle.web_target.specs.Targets.{filter_of, listed_of, named_of, part_of, peers_of};
+ghost use Rattle.web_target.specs.Targets.{question_of, rank_of, table_of};
 
 use crate::query::{path_bytes, words_in};
 use crate::question::{Part, Question, TargetFault, USUAL, Words};
@@ -36,7 +35,7 @@ fn asked_of(
     path: &[u8],
     words: Result<Words, TargetFault>,
 ) -> Result<Question, TargetFault>
-    ensures { (said : Read Said) → Reads said words → Reads (asked_of path.now said) result }
+    ensures { ReadsBehind (asked_of path.now) words result }
 {
     match path.strip_prefix(b"/api/v1/") {
         None => Err(TargetFault::NotFound),
@@ -51,7 +50,7 @@ fn called_of(
     behind: &[u8],
     words: Result<Words, TargetFault>,
 ) -> Result<Question, TargetFault>
-    ensures { (said : Read Said) → Reads said words → Reads (called_of behind.now said) result }
+    ensures { ReadsBehind (called_of behind.now) words result }
 {
     if behind == b"overview".as_slice() {
         Ok(Question::Overview)
@@ -69,7 +68,7 @@ fn named_of(
     behind: &[u8],
     words: Result<Words, TargetFault>,
 ) -> Result<Question, TargetFault>
-    ensures { (said : Read Said) → Reads said words → Reads (named_of behind.now said) result }
+    ensures { ReadsBehind (named_of behind.now) words result }
 {
     match behind.strip_prefix(b"tables/") {
         Some(text) => Ok(table_of(alloc, path_bytes(alloc, text)?, words?)),
@@ -84,30 +83,20 @@ fn listed_of(
     behind: &[u8],
     words: Result<Words, TargetFault>,
 ) -> Result<Question, TargetFault>
-    ensures { (said : Read Said) → Reads said words → Reads (listed_of behind.now said) result }
+    ensures { ReadsBehind (listed_of behind.now) words result }
 {
-    match behind.strip_prefix(b"filters/") {
-        Some(text) => filter_of(path_bytes(alloc, text)?, words?),
-        None => ranked_of(alloc, behind, words),
+    if let Some(text) = behind.strip_prefix(b"filters/") {
+        filter_of(path_bytes(alloc, text)?, words?)
+    } else if let Some(text) = behind.strip_prefix(b"ranks/") {
+        rank_of(path_bytes(alloc, text)?, words?)
+    } else {
+        Err(TargetFault::NotFound)
     }
 }
 
-#[tactic(auto, unfolding(crate::specs::Targets::ranked_of))]
-fn ranked_of(
-    alloc: Global,
-    behind: &[u8],
-    words: Result<Words, TargetFault>,
-) -> Result<Question, TargetFault>
-    ensures { (said : Read Said) → Reads said words → Reads (ranked_of behind.now said) result }
-{
-    match behind.strip_prefix(b"ranks/") {
-        Some(text) => rank_of(path_bytes(alloc, text)?, words?),
-        None => Err(TargetFault::NotFound),
-    }
-}
-
-fn table_of(alloc: Global, name: Items<u8>, words: Words) -> Question
-    ensures { result ≡ table_of name words }
+// Which entries words ask for, and their conditions.
+fn entries_of(words: Words) -> (Part, Option<Items<u8>>)
+    ensures { result ≡ (entries_of words, words.conds) }
 {
     let Words {
         limit,
@@ -115,30 +104,29 @@ fn table_of(alloc: Global, name: Items<u8>, words: Words) -> Question
         conds,
     } = words;
     let limit = limit.unwrap_or(USUAL);
-    Question::Table {
-        name,
-        conds: match conds {
-            None => Items::from_vec(Vec::new(alloc)),
-            Some(conds) => conds,
-        },
-        part: Part { limit, after },
-    }
+    (Part { limit, after }, conds)
+}
+
+fn table_of(alloc: Global, name: Items<u8>, words: Words) -> Question
+    ensures { result ≡ table_of name words }
+{
+    let (part, conds) = entries_of(words);
+    let conds = match conds {
+        None => Items::from_vec(Vec::new(alloc)),
+        Some(conds) => conds,
+    };
+    Question::Table { name, conds, part }
 }
 
 // Which entries are asked for, where no conditions are.
 fn part_of(words: Words) -> Result<Part, TargetFault>
     ensures { result ≡ part_of words }
 {
-    let Words {
-        limit,
-        after,
-        conds,
-    } = words;
+    let (part, conds) = entries_of(words);
     if conds.is_some() {
         return Err(TargetFault::Unknown);
     }
-    let limit = limit.unwrap_or(USUAL);
-    Ok(Part { limit, after })
+    Ok(part)
 }
 
 #[tactic(auto, unfolding(crate::specs::Targets::peers_of))]
