@@ -4,11 +4,13 @@ ghost use Rattle.web_target.specs.declared.question.TargetFault.TheVariants.{NoM
 use agg_types::{Items, NoMemory};
 use thiserror::Error;
 
-/// The fewest entries that may be asked for, the most, and how many come where none are asked for.
+/// The fewest entries that may be asked for.
 pub const FEWEST: u64 = 1;
 
+/// The most entries that may be asked for.
 pub const MOST: u64 = 10_000;
 
+/// How many entries are asked for where `limit` isn't there.
 pub const USUAL: u64 = 1_000;
 
 /// What a target asks for. Names are the bytes that a path's text stands for.
@@ -46,15 +48,20 @@ pub enum Question {
 /// Which entries of a list: at most so many, of those behind one, or from the first on.
 #[derive(Debug, Drop)]
 pub struct Part {
+    /// At most so many, from `FEWEST` to `MOST`.
     pub limit: u64,
+    /// The bytes that the text of `after` stands for: a key as answers write it, or a peer's name.
     pub after: Option<Items<u8>>,
 }
 
-/// The words of a query so far.
+/// The words of a query so far, each none until it came.
 #[derive(Debug, Drop)]
 pub struct Words {
+    /// The number of `limit`.
     pub limit: Option<u64>,
+    /// The bytes that the text of `after` stands for.
     pub after: Option<Items<u8>>,
+    /// The bytes that the text of `where` stands for.
     pub conds: Option<Items<u8>>,
 }
 

@@ -12,7 +12,7 @@ use agg_types::Items;
 use std::alloc::Global;
 
 /// What a target asks for: its path, and its query where it has one. Of several faults the first
-/// from the left is told.
+/// from the left is told; `NoMemory` only where an allocation failed.
 #[tactic(auto, unfolding(crate::specs::Targets::question_of))]
 pub fn read(alloc: Global, path: &[u8], query: Option<&[u8]>) -> Result<Question, TargetFault>
     ensures { Reads (question_of path.now (option_copied query.entry)) result }
