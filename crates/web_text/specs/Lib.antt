@@ -1,3 +1,4 @@
 pub mod Labels
 pub mod Parts
+pub mod Places
 pub mod Standing

@@ -6,7 +6,7 @@ use key_text::append_key;
 use std::alloc::Global;
 use std::str;
 
-/// JSON on its way to text. Who writes nests it.
+/// JSON on its way to text. Who writes nests it. After `NoMemory` the text is of no use.
 pub struct Json {
     alloc: Global,
     writer: Writer,
@@ -22,6 +22,7 @@ impl Drop for Json {
 }
 
 impl Json {
+    /// No text yet.
     pub fn new(alloc: Global) -> Json {
         Json {
             alloc,
@@ -35,10 +36,12 @@ impl Json {
         writer.into_inner()
     }
 
+    /// The outermost object begins, or one in a list.
     pub fn begin_object(&mut self) -> Result<(), NoMemory> {
         Ok(self.writer.begin_object()?)
     }
 
+    /// The object that was begun last ends.
     pub fn end_object(&mut self) -> Result<(), NoMemory> {
         Ok(self.writer.end_object()?)
     }
@@ -49,6 +52,7 @@ impl Json {
         Ok(self.writer.begin_array()?)
     }
 
+    /// The list that was begun last ends.
     pub fn end_list(&mut self) -> Result<(), NoMemory> {
         Ok(self.writer.end_array()?)
     }
@@ -59,17 +63,18 @@ impl Json {
         self.begin_object()
     }
 
+    /// A member that is a number.
     pub fn number(&mut self, name: &str, value: u64) -> Result<(), NoMemory> {
         self.writer.key(name)?;
         Ok(self.writer.u64(value)?)
     }
 
-    /// A sum, or the greatest number of 64 bits where it is greater.
+    /// A member that is a sum, or the greatest number of 64 bits where it is greater.
     pub fn sum(&mut self, name: &str, value: u128) -> Result<(), NoMemory> {
         self.number(name, u64::try_from(value).unwrap_or(u64::MAX))
     }
 
-    /// A number, or null.
+    /// A member that is a number, or null.
     pub fn number_if(&mut self, name: &str, value: Option<u64>) -> Result<(), NoMemory> {
         match value {
             Some(value) => self.number(name, value),
@@ -77,23 +82,25 @@ impl Json {
         }
     }
 
+    /// A member that is null.
     pub fn null(&mut self, name: &str) -> Result<(), NoMemory> {
         self.writer.key(name)?;
         Ok(self.writer.null()?)
     }
 
+    /// A member that is true or false.
     pub fn truth(&mut self, name: &str, value: bool) -> Result<(), NoMemory> {
         self.writer.key(name)?;
         Ok(self.writer.boolean(value)?)
     }
 
-    /// A member that is a text: bytes of ASCII, as names have.
+    /// A member that is a text: bytes of ASCII, as names have. Null where they are no UTF-8.
     pub fn text(&mut self, name: &str, value: &[u8]) -> Result<(), NoMemory> {
         self.writer.key(name)?;
         self.item(value)
     }
 
-    /// A text in a list.
+    /// A text in a list. Null where the bytes are no UTF-8.
     pub fn item(&mut self, value: &[u8]) -> Result<(), NoMemory> {
         match str::from_utf8(value) {
             Ok(text) => Ok(self.writer.string(text)?),

@@ -2,6 +2,7 @@
 
 use crate::figure::*;
 use crate::labels::append_label;
+use crate::shown::ago;
 use crate::standing::{PeerStanding, Standing};
 use crate::summary::{FilterSum, PeerRows, RankSum, Summary};
 use agg_types::{Config, NoMemory};
@@ -23,6 +24,11 @@ impl fmt::Display for Value {
             Value::Time(time) => write!(f, "{}.{:03}", *time / 1000, *time % 1000),
         }
     }
+}
+
+// How long ago a moment was, if it came.
+fn time_ago(moment: Option<u64>, now: u64) -> Option<Value> {
+    Some(Value::Time(ago(moment, now)?))
 }
 
 // A count.
@@ -106,7 +112,8 @@ impl Lines {
     }
 }
 
-/// The figures of a collector, of a book that was looked at and of what else stands.
+/// The figures of a collector, of a book that was looked at and of what else stands. Times are in
+/// seconds, with three digits behind the point.
 pub fn figures(
     alloc: Global,
     config: &Config,
@@ -183,13 +190,9 @@ impl OfPeer {
     fn of(self, peer: &PeerStanding, now: u64) -> Option<Value> {
         match self {
             OfPeer::Connected => Some(count(u64::from(peer.is_connected))),
-            OfPeer::Since => peer
-                .since
-                .map(|since| Value::Time(now.saturating_sub(since))),
+            OfPeer::Since => time_ago(peer.since, now),
             OfPeer::Updates => Some(count(peer.updates)),
-            OfPeer::LastUpdate => peer
-                .last_update
-                .map(|last| Value::Time(now.saturating_sub(last))),
+            OfPeer::LastUpdate => time_ago(peer.last_update, now),
             OfPeer::Unfollowed => Some(count(peer.unfollowed as u64)),
         }
     }

@@ -1,12 +1,15 @@
 //! What the page shows, as JSON.
 
+ghost use Rattle.std.specs.Prelude.{◌≡◌, IfOk};
+ghost use Rattle.web_text.specs.Places.{kind_at};
+
 use crate::objects::Json;
 use crate::standing::{PeerStanding, Standing};
 use crate::summary::{FilterSum, PeerRows, RankSum, Summary};
 use agg_types::{Config, KeyKind, NoMemory, Shape};
 use std::alloc::Global;
 
-/// What the page shows of a book that was looked at and of what else stands.
+/// What the page shows of a book that was looked at and of what else stands. Times are in ms.
 pub fn overview(
     alloc: Global,
     config: &Config,
@@ -50,8 +53,8 @@ fn put_standing(json: &mut Json, standing: &Standing) -> Result<(), NoMemory> {
     json.end_list()
 }
 
-// How long ago a moment was.
-fn ago(moment: Option<u64>, now: u64) -> Option<u64> {
+/// How long ago a moment was, in ms: 0 where it is still to come, none where there is none.
+pub(crate) fn ago(moment: Option<u64>, now: u64) -> Option<u64> {
     let moment = moment?;
     Some(now.saturating_sub(moment))
 }
@@ -113,8 +116,11 @@ fn put_tables(json: &mut Json, config: &Config, summary: &Summary) -> Result<(),
     json.end_list()
 }
 
-/// Puts the name of a table at a place of the configuration, and answers the kind of its keys.
-pub fn put_table(json: &mut Json, config: &Config, place: usize) -> Result<KeyKind, NoMemory> {
+/// Puts the name of a table at a place of the configuration, or null where it has none there, and
+/// answers the kind of its keys. After `NoMemory` the text is of no use.
+pub fn put_table(json: &mut Json, config: &Config, place: usize) -> Result<KeyKind, NoMemory>
+    ensures { IfOk result (λ kind. kind ≡ kind_at config.now place) }
+{
     match config.tables.get(place) {
         None => {
             json.null("table")?;

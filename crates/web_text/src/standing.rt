@@ -6,6 +6,7 @@ use std::net::SocketAddr;
 /// What stands of a peer. Moments are in ms since the start.
 #[derive(Clone, Copy, Debug, PartialEq, Eq)]
 pub struct PeerStanding {
+    /// Whether a session of it is open now.
     pub is_connected: bool,
     /// Where its present or last connection comes from.
     pub address: Option<SocketAddr>,
@@ -13,7 +14,7 @@ pub struct PeerStanding {
     pub since: Option<u64>,
     /// How many updates its sessions posted.
     pub updates: u64,
-    /// When the last of them was posted.
+    /// When the last of them was posted; none where none was.
     pub last_update: Option<u64>,
     /// How many tables of its present or last connection aren't followed.
     pub unfollowed: usize,
@@ -37,12 +38,17 @@ impl PeerStanding {
 /// What stands of a collector beside its book.
 #[derive(Debug, Drop)]
 pub struct Standing {
+    /// The version of the program.
     pub version: &'static str,
     /// The time since the start, in ms.
     pub now: u64,
+    /// How many configured peers are connected.
     pub connected: usize,
+    /// How many updates of followed tables were posted.
     pub updates: u64,
+    /// How many batches were posted for peers.
     pub posts: u64,
+    /// How many workers may post.
     pub seats: u64,
     /// How many connections wait for their hello.
     pub waiting: usize,

@@ -6,6 +6,7 @@ use agg_types::{Key, Name};
 /// A standing filter as a look found it.
 #[derive(Debug, Drop)]
 pub struct FilterSum {
+    /// What it is called.
     pub name: Name,
     /// Its table, by its place in the configuration.
     pub table: usize,
@@ -20,7 +21,9 @@ pub struct FilterSum {
 /// A ranked list as a look found it.
 #[derive(Debug, Drop)]
 pub struct RankSum {
+    /// What it is called.
     pub name: Name,
+    /// Its table, by its place in the configuration.
     pub table: usize,
     /// The name of its column.
     pub column: &'static str,
@@ -69,7 +72,9 @@ pub struct Summary {
     /// What each peer holds of each table: by peer, then by table, each in the configuration's
     /// order.
     pub peers: Vec<Vec<PeerRows>>,
+    /// The standing filters, in the book's order.
     pub filters: Vec<FilterSum>,
+    /// The ranked lists, in the configuration's order.
     pub ranks: Vec<RankSum>,
 }
 
