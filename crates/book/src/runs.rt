@@ -17,7 +17,6 @@ use crate::book::Book;
 use crate::drops::Drops;
 use crate::held::Held;
 use crate::machine::{Applied, Machine, put};
-use crate::store::Store;
 use agg_types::{NoMemory, What};
 use book_frame::seats;
 use book_frame::seats::{count_to, is_number};
@@ -196,68 +195,6 @@ pub(crate) fn hint_at(hints: &Vec<Option<Spot>>, place: usize) -> Option<Spot> {
     hints.get(place).copied().flatten()
 }
 
-// How many updates are looked for together: the processor then waits for the memory of several of
-// them at once.
-const GROUP: usize = 16;
-
-// With so many keys a table lies beyond the nearest caches.
-const MANY: usize = 8192;
-
-// Looks where the rows of the next updates' keys lie, before the first of them is applied: first in
-// the index for all of them, then at the rows. Answers the place up to which that is noted, in the
-// hints. Of a table with few keys nothing is looked for.
-fn look_ahead(rows: &Store, whats: &[What], from: usize, hints: &mut Vec<Option<Spot>>) -> usize {
-    let end = whats.len().min(from.saturating_add(GROUP));
-    if !has_many(rows, whats, from) {
-        return end;
-    }
-    for place in from..end {
-        if hint_at(hints, place).is_none() {
-            set_hint(hints, place, guessed(rows, whats, place));
-        }
-    }
-    for place in from..end {
-        let hint = hint_at(hints, place);
-        if hint.is_some() {
-            set_hint(hints, place, found(rows, whats, place, hint));
-        }
-    }
-    end
-}
-
-// Whether the table of an update has many keys.
-fn has_many(rows: &Store, whats: &[What], place: usize) -> bool {
-    match whats.get(place) {
-        Some(What::Put { table, .. }) => rows.used(*table) >= MANY,
-        _ => false,
-    }
-}
-
-// Where the rows of an update's key may lie.
-fn guessed(rows: &Store, whats: &[What], place: usize) -> Option<Spot> {
-    match whats.get(place) {
-        Some(What::Put { table, key, .. }) => rows.guess(*table, key),
-        _ => None,
-    }
-}
-
-// Where the rows of an update's key lie.
-fn found(rows: &Store, whats: &[What], place: usize, hint: Option<Spot>) -> Option<Spot> {
-    match whats.get(place) {
-        Some(What::Put { table, key, .. }) => rows.spot_near(hint, *table, key),
-        _ => None,
-    }
-}
-
-// Sets a hint, if there is memory for it.
-fn set_hint(hints: &mut Vec<Option<Spot>>, place: usize, hint: Option<Spot>) {
-    if place < hints.len() {
-        hints[place] = hint;
-    } else {
-        note(hints, place, hint);
-    }
-}
-
 /// Notes where rows were found, where hints are taken up, if there is memory for it.
 pub(crate) fn note(hints: &mut Vec<Option<Spot>>, place: usize, spot: Option<Spot>) {
     if hints.len() == place {
@@ -311,11 +248,7 @@ fn take_each(
         (counted_to machine.new turn.seat (first + result.place)) }
 {
     let mut place = from;
-    let mut ahead = from;
     'updates: while place < whats.len() {
-        if place == ahead {
-            ahead = look_ahead(&machine.rows, whats, place, hints);
-        }
         let what = &whats[place];
         if !machine.takes(turn.peer, what) {
             break;

@@ -95,24 +95,6 @@ impl Store {
         hint
     }
 
-    /// A hint at where the rows of a key may lie, by its hash alone.
-    pub(crate) fn guess(&self, table: usize, key: &Key) -> Option<Spot> {
-        if table < self.size.tables {
-            self.rows.guess(table, key)
-        } else {
-            None
-        }
-    }
-
-    /// Where the rows of a key lie, if a hint says so or a search.
-    pub(crate) fn spot_near(&self, hint: Option<Spot>, table: usize, key: &Key) -> Option<Spot> {
-        if table < self.size.tables {
-            self.rows.spot_near(hint, table, key)
-        } else {
-            None
-        }
-    }
-
     /// Puts a row that arrives at a moment, in ms, in the place of the one that stood there, and
     /// answers where the rows of its key lay, if that was seen. One whose life is over takes the
     /// row away.

@@ -83,12 +83,6 @@ impl Index {
         self.keys.find(key)
     }
 
-    /// A place that may have a key, or none.
-    #[inline]
-    pub(crate) fn guess(&self, key: &Key) -> Option<usize> {
-        self.keys.guess(key)
-    }
-
     /// The key in a place.
     #[inline]
     pub(crate) fn key(&self, at: usize) -> Option<&Key>

@@ -70,11 +70,6 @@ impl Keyed {
         Some(Spot::new(find(&self.index, hint, key)?))
     }
 
-    /// A hint at where the rows of a key may lie.
-    pub(crate) fn guess(&self, key: &Key) -> Option<Spot> {
-        Some(Spot::new(self.index.guess(key)?))
-    }
-
     /// The rows of a key.
     pub(crate) fn get(&self, hint: Option<Spot>, key: &Key) -> Option<&KeyRows>
         ensures value { option_copied result ≡ lookup (is_at (slice_cmp nat_cmp key.now)) self.now }

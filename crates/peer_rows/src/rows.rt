@@ -203,13 +203,6 @@ impl Rows {
         self.tables[table].spot_near(hint, key)
     }
 
-    /// A hint at where the rows of a key may lie, if it has any. No row is read for it.
-    pub fn guess(&self, table: usize, key: &Key) -> Option<Spot>
-        requires { table < self.now.tables }
-    {
-        self.tables[table].guess(key)
-    }
-
     /// What `get` answers, whatever the hint: one that doesn't fit costs a search.
     pub fn get_at(&self, hint: Option<Spot>, peer: usize, table: usize, key: &Key) -> Option<&Row>
         requires peer_in { peer < self.now.peers }

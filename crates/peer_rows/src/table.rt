@@ -107,11 +107,6 @@ impl Table {
         self.keys.spot_near(hint, key)
     }
 
-    /// A hint at where the rows of a key may lie.
-    pub(crate) fn guess(&self, key: &Key) -> Option<Spot> {
-        self.keys.guess(key)
-    }
-
     /// Exchanges the row of a peer and key for this one, if there is one.
     pub(crate) fn exchange(
         &mut self,

@@ -87,13 +87,6 @@ impl<K: IndexKey, V: Drop> PlaceIndex<K, V> {
         look(&self.slots, &self.reach, key)
     }
 
-    /// A place that may have a key, or none. No place is read for it, and nothing is promised of
-    /// it: whoever looks for many keys can so begin with all of them.
-    #[inline]
-    pub fn guess(&self, key: &K) -> Option<usize> {
-        self.reach.guess(key)
-    }
-
     /// The key in a place.
     #[inline]
     pub fn key(&self, at: usize) -> Option<&K>

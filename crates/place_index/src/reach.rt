@@ -55,19 +55,6 @@ impl<K: IndexKey> Reach<K> {
         loose_in(&self.loose, slots, key)
     }
 
-    /// A place that may have the key: the first that the key's window names for its hash.
-    #[inline]
-    pub(crate) fn guess(&self, key: &K) -> Option<usize> {
-        let hash = short(key.hash_of());
-        let window = self.windows.window(hash);
-        for index in 0..window.len() {
-            if let Some(at) = guessed(window, index, hash) {
-                return Some(at);
-            }
-        }
-        None
-    }
-
     /// Takes memory for so many keys, or for none.
     pub(crate) fn reserve(&mut self, keys: usize) -> Result<(), NoMemory>
         ensures others { (k : K) (q : ℕ) → Leads K.cmp K.hashed self.old k q
@@ -119,15 +106,6 @@ impl<K: IndexKey> Reach<K> {
             return;
         }
         self.windows.grow();
-    }
-}
-
-// The place that the word of an index names for a hash.
-#[inline]
-fn guessed(window: &[Word], index: usize, hash: u32) -> Option<usize> {
-    match word_at(window, index) {
-        Some(word) => word.named(hash),
-        None => None,
     }
 }
 
