@@ -161,12 +161,15 @@ impl Drop for Op {
     }
 }
 
-/// A single event, for which no memory is taken, or a batch; or the end of a batch, at which a copy
-/// has all of it.
+/// What is on its way into a copy. An event and an end take no memory on that way; a batch lies on
+/// the heap, where both copies share it. What a copy makes of them may take memory.
 #[derive(Drop)]
 pub enum Posted {
+    /// A single event.
     Event(Event),
+    /// A batch, which both copies share. A copy may keep a rest of it.
     Batch(Run),
+    /// The end of a batch, at which a copy has all of it.
     End,
 }
 

@@ -13,8 +13,10 @@ use std::alloc::AllocError;
 use std::collections::VecDeque;
 use std::sync::Wait;
 
+/// The side of the two copies that writes, with what it hands them.
 pub type HubWriter = Writer<Shown, Op, Option<Front>, Published>;
 
+/// A side that looks at the copy that is shown.
 pub type HubReader = Reader<Shown, Option<Front>, Published>;
 
 /// A writer with the handle by which its drop waits for readers.
@@ -31,6 +33,7 @@ impl<R: Wait + Drop> Drop for Hand<R> {
 }
 
 impl<R: Wait + Drop> Hand<R> {
+    /// The writer, and its handle.
     pub fn open(self) -> (HubWriter, R)
         ensures { result.0 ≡ self.writer }
     {

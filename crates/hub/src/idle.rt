@@ -29,6 +29,7 @@ impl<J: Naming> Model for Idle<J> {
 }
 
 impl<J: Naming> Idle<J> {
+    /// Nobody has this reader.
     pub fn new(reader: HubReader) -> Idle<J>
         requires { IsTold J.book (view reader.place) }
     {

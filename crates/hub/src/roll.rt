@@ -15,10 +15,13 @@ use std::alloc::Global;
 use std::collections::BTreeMap;
 use std::marker::Model;
 
+/// The seats that sit, with the numbers of their next events, and who opened each peer last.
 #[derive(Drop)]
 pub struct Roll {
     seats: BTreeMap<u64, u64>,
+    // The least number for a seat to come.
     next_seat: u64,
+    // By the peers' places in the configuration.
     last: Vec<Option<u64>>,
 }
 

@@ -22,7 +22,7 @@ use std::sync::{Condvar, CondvarTimeouts, Wait};
 use std::time::Duration;
 
 impl<J: Naming, R: Wait + Drop> Hub<J, R> {
-    // Where those wait that wait for a round.
+    /// Where those wait that wait for a round.
     pub fn bell(&self, round: u64) -> &Condvar {
         if round % 2 == 0 {
             &self.even
@@ -50,7 +50,7 @@ impl<J: Naming, R: Wait + Drop> Hub<J, R> {
         showed
     }
 
-    // Where the last showing was refused, tries it again; whether none is refused now.
+    /// Where the last showing was refused, tries it again; whether none is refused now.
     pub fn catch_up<W: Wait>(&self, rt: &W) -> bool {
         for _ in rt.forever() {
             let mut desk = self.desk.lock(rt);
@@ -69,8 +69,8 @@ impl<J: Naming, R: Wait + Drop> Hub<J, R> {
         unreachable!()
     }
 
-    // Waits until a ticket's list is shown, and publishes where nobody does. None where that was
-    // refused.
+    /// Waits until a ticket's list is shown, and publishes where nobody does. None where that was
+    /// refused.
     pub fn show<W: Wait>(&self, rt: &W, ticket: Ticket) -> Option<Receipt>
         requires { ticket.of ≡ self.now.of }
         ensures { IfSome result (λ r. r ≡ ticket) }
