@@ -41,6 +41,7 @@ pub struct Counts {
 }
 
 impl Counts {
+    /// No connection has ended, and nothing is known of the start.
     pub fn new() -> Counts {
         Counts {
             ended: AtomicU64::new(0),
@@ -52,15 +53,18 @@ impl Counts {
         }
     }
 
+    /// A connection that was served ended: by itself, or with a fault.
     pub fn count(&self, is_ok: bool) {
         let counter = if is_ok { &self.ended } else { &self.faulted };
         counter.fetch_add(1, Ordering::SeqCst);
     }
 
+    /// A connection ended before it was served.
     pub fn refuse(&self) {
         self.refused.fetch_add(1, Ordering::SeqCst);
     }
 
+    /// A thread has found its door closed.
     pub fn close(&self) {
         self.closed.fetch_add(1, Ordering::SeqCst);
     }
@@ -78,6 +82,7 @@ impl Counts {
         self.begun.store(GIVES_UP, Ordering::SeqCst);
     }
 
+    /// Whether all have given up.
     pub fn has_given_up(&self) -> bool {
         self.begun.load(Ordering::SeqCst) == GIVES_UP
     }
@@ -99,6 +104,7 @@ impl Counts {
         self.serving.fetch_add(1, Ordering::SeqCst);
     }
 
+    /// A connection of a peer that was begun is no longer served.
     pub fn end(&self) {
         self.serving.fetch_sub(1, Ordering::SeqCst);
     }
@@ -110,6 +116,7 @@ impl Counts {
         have_ended || self.has_given_up()
     }
 
+    /// How many connections have ended so far.
     pub fn so_far(&self) -> Ended {
         Ended {
             ended: self.ended.load(Ordering::SeqCst),
