@@ -1,7 +1,7 @@
 -- What a pass keeps of its seat, as the history goes on.
-use Rattle.std.proofs.Common.{◌≡◌, ◌≢◌, ℕ, zero, suc, ◌+◌, ◌<◌, ◌≤◌, ◌==◌, ◌&&◌, Bool, true, false}
-use Rattle.std.proofs.Common.{cond, List, [], ◌∷◌, ◌++◌, length, replicate, get_or, set, refl, sym}
-use Rattle.std.proofs.Common.{ap, ◌∙◌, subst, arith, append-nil, length-append}
+use Rattle.std.proofs.Common.{◌≡◌, ◌≢◌, ℕ, zero, suc, ◌+◌, ◌<◌, ◌==◌, ◌&&◌, Bool, true, false}
+use Rattle.std.proofs.Common.{List, [], ◌∷◌, ◌++◌, length, replicate, get_or, set, refl, sym}
+use Rattle.std.proofs.Common.{ap, ◌∙◌, arith, append-nil, length-append}
 use Rattle.std.proofs.lemmas.Bool.Decides.{nat_tests}
 use Rattle.std.proofs.lemmas.List.{get_or-set_other, get_or-set_same, length-replicate}
 use Rattle.std.proofs.lemmas.List.Elements.{filter-append}
@@ -21,7 +21,7 @@ use Rattle.fleet_model.specs.Sessions.{opens}
 use Rattle.hub.specs.History.{AllCount, Beginning, own}
 use Rattle.hub.specs.Roll.{Counted, IsCountOf}
 use Rattle.hub.specs.Sitting.{Recalled, Recalls, opened_after, sits_new}
-use Rattle.hub.proofs.Counting.{own-more, own-this}
+use Rattle.hub.proofs.Counting.{own-this}
 use Rattle.hub.proofs.Held.{sits_alone}
 use Rattle.hub.proofs.Rolling.{event_at, longer}
 

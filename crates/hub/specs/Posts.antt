@@ -90,9 +90,10 @@ pub record IsNotNext (p : Seated) (found : ℕ) (shown : Beginning) : Type 0 whe
   pub owns : length (own p.seat shown.events) ≡ found
   pub other : found ≢ p.number
 
--- some posted Put is of a peer that another seat opened later
+-- some posted Put is of a peer that another seat opened later; the pass has the seat's next number
 pub record IsReplaced (p : Seated) (whats : List What) (by : ℕ) (shown : Beginning) : Type 0 where
   pub seen : Follows p.seen shown
+  pub owns : length (own p.seat shown.events) ≡ p.number
   pub found : FindsReplaced p shown.events whats by
 
 -- the pass after its batch was stored, and not shown yet
@@ -104,9 +105,14 @@ advanced p count = record p { number = p.number + count }
 abbrev pub Appends : Seated → Seated → List What → Beginning → Type 0
 Appends p p' whats ticket = ShowsBatch p whats ticket × (p' ≡ advanced p (length whats))
 
--- the numbers of a seat don't go as far
-abbrev pub IsSpent : Seated → List What → Type 0
-IsSpent p whats = NUMBERS_END ≤ p.number + length whats
+-- the numbers of a seat don't go as far, in a list of the history in which the pass has its next
+-- number, and no Put of the batch is of a peer that another seat opened later
+pub record IsSpent (p : Seated) (whats : List What) : Type 0 where
+  pub before : Beginning
+  pub seen : Follows p.seen before
+  pub owns : length (own p.seat before.events) ≡ p.number
+  pub none_replaced : NoneReplaced p before.events whats
+  pub spent : NUMBERS_END ≤ p.number + length whats
 
 -- why a batch wasn't appended
 abbrev pub IsRefused : Seated → List What → AppendFault → Type 0

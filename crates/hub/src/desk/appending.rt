@@ -1,7 +1,7 @@
 //! What is appended to the history.
 
 ghost use Rattle.std.specs.Prelude.{◌≡◌, ◌<◌, ◌+◌, length, false, Some, vec_len, MatchOption};
-ghost use Rattle.std.specs.Prelude.{MatchResult};
+ghost use Rattle.std.specs.Prelude.{MatchResult, ◌≤◌, IsTrue, IsFalse};
 ghost use Rattle.std.specs.BTreeMap.{is_at};
 ghost use Rattle.std.specs.List.{All};
 ghost use Rattle.std.specs.Map.{lookup};
@@ -123,7 +123,7 @@ impl<J: Naming, R: Wait + Drop> Desk<J, R> {
             let now = self.ticket();
             return Err((AppendFault::Replaced { by, now }, whats));
         }
-        if found >= NUMBERS_END || whats.len() as u64 >= NUMBERS_END - found {
+        if is_spent(found, whats.len()) {
             return Err((AppendFault::Spent, whats));
         }
         self.put_in(rt, log, pass, whats)
@@ -158,4 +158,12 @@ impl<J: Naming, R: Wait + Drop> Desk<J, R> {
         }
         Ok(self.ticket())
     }
+}
+
+// Whether a seat's numbers don't go so far behind those that were given.
+fn is_spent(given: u64, further: usize) -> bool
+    ensures yes { IsTrue result → NUMBERS_END ≤ given + further }
+    ensures no { IsFalse result → given + further < NUMBERS_END }
+{
+    given >= NUMBERS_END || further as u64 >= NUMBERS_END - given
 }
