@@ -1,6 +1,6 @@
 -- How a talk ends: by what came, never by silence.
-use Rattle.std.proofs.Common.{◌≡◌, ℕ, Bool, true, false, if◌then◌else◌, List, [], ◌∷◌, Option, None}
-use Rattle.std.proofs.Common.{Some, Result, Ok, Err, is_some, refl}
+use Rattle.std.proofs.Common.{◌≡◌, ℕ, Bool, true, false, if◌then◌else◌, List, [], ◌∷◌, ◌++◌, Option}
+use Rattle.std.proofs.Common.{None, Some, Result, Ok, Err, is_some, refl}
 use Rattle.std.specs.Option.{option_map}
 use Rattle.agg_types.specs.declared.config.Shape.{Shape}
 use Rattle.agg_types.specs.declared.event.What.{What}
@@ -9,6 +9,7 @@ use Rattle.peers_msg.specs.declared.fault.WireCause.{WireCause}
 use Rattle.peers_msg.specs.declared.fault.WireCause.TheVariants.{BadField}
 use Rattle.peers_msg.specs.declared.message.Message.{Message}
 use Rattle.peers_msg.specs.declared.message.Message.TheVariants as messages
+use Rattle.session_core.specs.Batched.{Batched}
 use Rattle.session_core.specs.Cause.{cause_of}
 use Rattle.session_core.specs.Hello.{hello_of}
 use Rattle.session_core.specs.InForce.{followed_ids, table_in_force}
@@ -17,11 +18,14 @@ use Rattle.session_core.specs.Piece.{Setup, first_end}
 use Rattle.session_core.specs.Talk.{Words, end_read, is_too_many, meaning, row_or_end, stage_after}
 use Rattle.session_core.specs.Talk.{stage_at, stage_of, talk, talk_after, update_under, words_of}
 use Rattle.session_core.specs.Talk.{words_on, words_read}
+use Rattle.session_core.specs.TalkAnswers.{FaultAnswersTalk}
 use Rattle.session_core.specs.Tracked.{followed_of, put_of}
 use Rattle.session_core.specs.declared.cause.End.{End as Ending}
 use Rattle.session_core.specs.declared.cause.End.TheVariants as ends
+use Rattle.session_core.specs.declared.cause.SessionCause.{SessionCause}
 use Rattle.session_core.specs.declared.cause.SessionCause.TheVariants as causes
 use Rattle.session_core.specs.declared.cause.Status.{Status}
+use Rattle.session_core.specs.declared.stage.Stage.{Stage}
 use Rattle.session_core.specs.declared.stage.Stage.TheVariants.{Greeting}
 use Rattle.session_core.specs.declared.track.Followed.{Followed}
 
@@ -127,6 +131,17 @@ pub never_late : (setup : Setup) (seated : Bool) (bytes : List ℕ)
     → option_map cause_of (talk setup seated bytes).end ≡ Some causes.TimedOut → ⊥
 never_late setup seated bytes =
     not_late (talk setup seated bytes).end (talk_own setup seated bytes)
+
+-- nor does a piece end a session by silence
+pub never_late_by : (cause : SessionCause) (batch : Batched) (setup : Setup) (seated : Bool)
+    (taken piece : List ℕ) (stage : Stage)
+    → FaultAnswersTalk cause batch setup seated taken piece stage → cause ≡ causes.TimedOut → ⊥
+never_late_by (causes.Refused status) batch setup seated taken piece stage told is = cc is
+never_late_by (causes.Wire wire) batch setup seated taken piece stage told is = cc is
+never_late_by causes.PeerError batch setup seated taken piece stage told is = cc is
+never_late_by causes.NoMemory batch setup seated taken piece stage told is = cc is
+never_late_by causes.TimedOut batch setup seated taken piece stage told is =
+    never_late setup seated (taken ++ piece) told.ends
 
 greets_at : (tables : List Shape) (peer : ℕ) (reading : Reading) (end : Option Ending)
     → stage_at tables peer reading end ≡ Greeting [] → ⊥

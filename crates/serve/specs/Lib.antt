@@ -11,3 +11,4 @@ pub mod Moments
 pub mod Commands
 pub mod Commanding
 pub mod Parting
+pub mod Silent

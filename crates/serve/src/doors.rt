@@ -104,7 +104,7 @@ pub trait Doors<S: Source + Drop, W: Write + Drop> {
 
 /// A connection that came through these doors.
 #[derive(Drop)]
-struct Guest<'a, S: Source + Drop, W: Write + Drop, D: Doors<S, W>> {
+struct Connection<'a, S: Source + Drop, W: Write + Drop, D: Doors<S, W>> {
     caller: Caller<S, W>,
     doors: &'a D,
     ghost unread: { S.given caller.source ≡ D.unread },
@@ -176,7 +176,7 @@ fn has_left(ended: &Result<Served, Faulted>) -> bool {
 
 /// What all workers of a collector share.
 #[derive(Drop)]
-struct House<'a, J: Naming, H: Wait + Drop, C, G, D> {
+struct Collector<'a, J: Naming, H: Wait + Drop, C, G, D> {
     alloc: Global,
     doors: &'a D,
     clock: &'a C,
@@ -185,7 +185,7 @@ struct House<'a, J: Naming, H: Wait + Drop, C, G, D> {
     counts: &'a Counts,
 }
 
-impl<'a, J: Naming, H: Wait + Drop, C, G: Gate, D> House<'a, J, H, C, G, D> {
+impl<'a, J: Naming, H: Wait + Drop, C, G: Gate, D> Collector<'a, J, H, C, G, D> {
     // What a worker stands on.
     fn context<'b, R>(&'b self, rt: &'b R) -> Context<'b, J, H, R, C, G>
         ensures hub { result.hub.now ≡ self.now.hub.now }
@@ -214,7 +214,7 @@ impl<'a, J: Naming, H: Wait + Drop, C, G: Gate, D> House<'a, J, H, C, G, D> {
     }
 }
 
-impl<'a, J: Naming, H: Wait + Drop, C: Clock, G: Gate, D> House<'a, J, H, C, G, D> {
+impl<'a, J: Naming, H: Wait + Drop, C: Clock, G: Gate, D> Collector<'a, J, H, C, G, D> {
     // Serves a connection of a peer that came through these doors, with its seat if it has one.
     fn serve_peer<R: Wait + std::rt::Clock, S: Source + Drop, W: Write + Drop>(
         &self,
@@ -250,25 +250,25 @@ impl<
     S: Source + Drop,
     W: Write + Drop,
     D: Doors<S, W>,
-> Workers<Guest<'a, S, W, D>> for House<'a, J, H, C, G, D> {
-    fn next_peer(&self) -> Option<Guest<'a, S, W, D>> {
+> Workers<Connection<'a, S, W, D>> for Collector<'a, J, H, C, G, D> {
+    fn next_peer(&self) -> Option<Connection<'a, S, W, D>> {
         let caller = self.doors.peer()?;
-        Some(Guest {
+        Some(Connection {
             caller,
             doors: self.doors,
         })
     }
 
-    fn next_admin(&self) -> Option<Guest<'a, S, W, D>> {
+    fn next_admin(&self) -> Option<Connection<'a, S, W, D>> {
         let caller = self.doors.admin()?;
-        Some(Guest {
+        Some(Connection {
             caller,
             doors: self.doors,
         })
     }
 
-    fn sender(&self, guest: &Guest<'a, S, W, D>) -> Option<SocketAddr> {
-        guest.caller.source.sender()
+    fn sender(&self, connection: &Connection<'a, S, W, D>) -> Option<SocketAddr> {
+        connection.caller.source.sender()
     }
 
     fn turn_away(&self, sender: Option<SocketAddr>) {
@@ -277,8 +277,8 @@ impl<
 
     // A seat is taken only behind a welcome hello: any other is answered without one. Where no seat
     // is free it is closed without an answer, so that the peer calls again.
-    fn peer<R: Wait + std::rt::Clock>(&self, rt: &R, guest: Guest<'a, S, W, D>) {
-        let Guest { caller, doors } = guest;
+    fn peer<R: Wait + std::rt::Clock>(&self, rt: &R, connection: Connection<'a, S, W, D>) {
+        let Connection { caller, doors } = connection;
         let Caller { mut source, writer } = caller;
         if !doors.greet(self.hub.config(), &mut source) {
             self.serve_peer(rt, doors, Caller { source, writer }, None);
@@ -296,8 +296,8 @@ impl<
 
     // Without a seat or a lens it is closed.
     #[tactic(auto, using(crate::proofs::Commanded::lens_follows))]
-    fn admin<R: Wait>(&self, rt: &R, guest: Guest<'a, S, W, D>) {
-        let Guest { caller, doors } = guest;
+    fn admin<R: Wait>(&self, rt: &R, connection: Connection<'a, S, W, D>) {
+        let Connection { caller, doors } = connection;
         let Caller { source, writer } = caller;
         let mut link = Link { source, writer };
         let Ok(lens) = self.hub.lens(rt) else {
@@ -454,7 +454,7 @@ pub fn serve_all<
     D: Doors<S, W> + Sync,
 >(rt: &R, alloc: Global, doors: &D, clock: &C, hub: &Hub<J, H>, gate: &G) -> Ended {
     let counts = Counts::new();
-    let house = House {
+    let collector = Collector {
         alloc,
         doors,
         clock,
@@ -462,6 +462,6 @@ pub fn serve_all<
         gate,
         counts: &counts,
     };
-    open(rt, &house, &counts);
+    open(rt, &collector, &counts);
     counts.so_far()
 }

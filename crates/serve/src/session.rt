@@ -5,6 +5,8 @@ ghost use Rattle.std.specs.Option.{option_map};
 ghost use Rattle.agg_types.specs.declared.event.What.{What};
 ghost use Rattle.hub.specs.Posts.{Follows, SitsDown};
 ghost use Rattle.serve.specs.declared.served.Cause.{Cause};
+ghost use Rattle.session_core.specs.declared.cause.SessionCause.{SessionCause};
+ghost use Rattle.serve.specs.Silent.{WasSilent};
 ghost use Rattle.serve.specs.Traffic.{so_far};
 ghost use Rattle.serve.specs.Turns.{PosterTells, IsPosterOf, SeatIsServed, seat_at};
 ghost use Rattle.serve.specs.Working.{IsServedUntil, IsServedWhole};
@@ -71,6 +73,10 @@ impl<'a, J: Naming, H: Wait + Drop, R: Wait + std::rt::Clock, C: Clock, G: Gate>
             (IsServedUntil self.now.hub.now (option_map (λ p. p.seat) pass)
             (so_far (S.given link.old.source) (W.contents link.old.writer))
             (so_far (S.given link.new.source) (W.contents link.new.writer))) }
+
+        // It ends for silence only where the clock gave two moments 5,000 ms apart.
+        ensures silent { IfErr result (λ faulted. faulted.cause
+            ≡ Cause.Session SessionCause.TimedOut → WasSilent (C.gives self.now.clock.now)) }
 
         // It ends with Read only where a read failed, or 2^40 were made.
         ensures read { IfErr result (λ faulted. faulted.cause ≡ Cause.Read

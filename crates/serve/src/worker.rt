@@ -1,7 +1,7 @@
 //! A session at work.
 
 ghost use Rattle.std.specs.Prelude.{Bool, is_some, ◌≡◌, ◌<◌, ◌≤◌, ◌+◌, ◌^◌, ◌⊎◌, ℕ, List, []};
-ghost use Rattle.std.specs.Prelude.{None, Option, IfSome, Err};
+ghost use Rattle.std.specs.Prelude.{None, Option, IfOk, IfSome, Err, false};
 ghost use Rattle.std.specs.List.{All};
 ghost use Rattle.std.specs.Option.{option_map};
 ghost use Rattle.agg_types.specs.declared.event.What.{What};
@@ -54,6 +54,7 @@ fn updates_of(told: u64) -> u64 {
 }
 
 impl Worker {
+    ghost use Rattle.serve.specs.Silent.{HearsAt};
     ghost use Rattle.serve.specs.Tellings.{asked_pushing};
     ghost use Rattle.serve.specs.Turns.{seat_at};
     ghost use Rattle.serve.specs.Working.{IsAtWork, Takes};
@@ -64,6 +65,8 @@ impl Worker {
             → IsAtWork hub result.session.seated result [] }
         ensures seated { result.session.seated ≡ is_some (option_map (λ p. p.seat) pass) }
         ensures seat { seat_at result.poster ≡ option_map (λ p. p.seat) pass }
+        ensures heard { result.session.last_input ≡ now }
+        ensures in_time { result.session.late ≡ false }
     {
         let poster = match pass {
             None => None,
@@ -183,6 +186,8 @@ impl Worker {
         ensures seat { seat_at self.new.poster ≡ seat_at self.old.poster }
         ensures takes { (hub : Beginning) → Takes hub self.old self.new [] (W.contents writer.old)
             (W.contents writer.new) result }
+        ensures heard { self.old.session.late ≡ false
+            → HearsAt now self.old.session self.new.session result }
     {
         match self.session.idle(now) {
             Idle::Nothing => Ok(()),
@@ -204,6 +209,7 @@ impl<'a, J: Naming, H: Wait + Drop, R: Wait + std::rt::Clock, C: Clock, G: Gate>
     C,
     G,
 > {
+    ghost use Rattle.serve.specs.Silent.{HearsAt, HearsOn, HearsUntil, IsHeard};
     ghost use Rattle.serve.specs.Traffic.{Traffic, so_far};
     ghost use Rattle.serve.specs.Turns.{PosterTells, IsPosterOf, Turn, seat_at};
     ghost use Rattle.serve.specs.Waiting.{BeatsThen, PostsTo};
@@ -282,6 +288,7 @@ impl<'a, J: Naming, H: Wait + Drop, R: Wait + std::rt::Clock, C: Clock, G: Gate>
             → PosterTells self.now.hub.now worker.old.poster whats 0
             → EndsTo self.now.hub.now worker.old.poster worker.new.poster whats fault
             written (W.contents writer.new) result) }
+        ensures cause { IfOk result (λ cause. cause ≡ fault.cause) }
     {
         let SessionFault { cause, batch } = fault;
         match cause {
@@ -306,6 +313,8 @@ impl<'a, J: Naming, H: Wait + Drop, R: Wait + std::rt::Clock, C: Clock, G: Gate>
         ensures seat { seat_at worker.new.poster ≡ seat_at worker.old.poster }
         ensures takes { Takes self.now.hub.now worker.old worker.new piece.now
             (W.contents writer.old) (W.contents writer.new) result }
+        ensures heard { worker.old.session.late ≡ false
+            → HearsAt now worker.old.session worker.new.session result }
     {
         match worker.session.feed(self.hub.config(), piece, now) {
             Ok(batch) => {
@@ -328,6 +337,7 @@ impl<'a, J: Naming, H: Wait + Drop, R: Wait + std::rt::Clock, C: Clock, G: Gate>
         requires work { (seated : Bool) × (turns : List Turn)
             × IsAtWork self.now.hub.now seated worker.old turns }
         ensures seat { seat_at worker.new.poster ≡ seat_at worker.old.poster }
+        ensures session { worker.new.session ≡ worker.old.session }
         ensures said { (seated : Bool) (turns : List Turn)
             → IsAtWork self.now.hub.now seated worker.old turns
             → SaysAt self.now.hub.now seated worker.new turns
@@ -353,6 +363,8 @@ impl<'a, J: Naming, H: Wait + Drop, R: Wait + std::rt::Clock, C: Clock, G: Gate>
         ensures seat { seat_at worker.new.poster ≡ seat_at worker.old.poster }
         ensures takes { Takes self.now.hub.now worker.old worker.new [] (W.contents writer.old)
             (W.contents writer.new) result }
+        ensures heard { worker.old.session.late ≡ false
+            → HearsAt now worker.old.session worker.new.session result }
     {
         let Some(text) = self.said(worker, now) else {
             return Ok(());
@@ -374,6 +386,8 @@ impl<'a, J: Naming, H: Wait + Drop, R: Wait + std::rt::Clock, C: Clock, G: Gate>
         ensures seat { seat_at worker.new.poster ≡ seat_at worker.old.poster }
         ensures takes { Takes self.now.hub.now worker.old worker.new [] (W.contents writer.old)
             (W.contents writer.new) result }
+        ensures heard { worker.old.session.late ≡ false
+            → HearsAt now worker.old.session worker.new.session result }
     {
         worker.rest(writer, now)?;
         self.tell(worker, writer, now)
@@ -392,6 +406,8 @@ impl<'a, J: Naming, H: Wait + Drop, R: Wait + std::rt::Clock, C: Clock, G: Gate>
         ensures seat { seat_at worker.new.poster ≡ seat_at worker.old.poster }
         ensures takes { Takes self.now.hub.now worker.old worker.new piece.now
             (W.contents writer.old) (W.contents writer.new) result }
+        ensures heard { IsHeard (C.gives self.now.clock.now) worker.old.session
+            → HearsOn (C.gives self.now.clock.now) worker.new.session result }
     {
         self.gate.turn(worker.place());
         worker.listen(piece);
@@ -421,6 +437,8 @@ impl<'a, J: Naming, H: Wait + Drop, R: Wait + std::rt::Clock, C: Clock, G: Gate>
         ensures failed { S.failed link.old.source ≤ S.failed link.new.source }
         ensures read { result ≡ Err Cause.Read
             → S.failed link.old.source < S.failed link.new.source }
+        ensures heard { IsHeard (C.gives self.now.clock.now) worker.old.session
+            → HearsUntil (C.gives self.now.clock.now) worker.new.session result }
     {
         match link.source.read(buffer) {
             Err(_) => Err(Cause::Read),
@@ -465,6 +483,8 @@ impl<'a, J: Naming, H: Wait + Drop, R: Wait + std::rt::Clock, C: Clock, G: Gate>
         ensures read { result ≡ Err Cause.Read
             → (S.failed link.old.source < S.failed link.new.source)
             ⊎ (S.reads link.new.source ≡ 2 ^ 40) }
+        ensures heard { IsHeard (C.gives self.now.clock.now) worker.old.session
+            → HearsUntil (C.gives self.now.clock.now) worker.new.session result }
     {
         let Some(mut buffer) = self.make_room(worker) else {
             return Err(Cause::Session(SessionCause::NoMemory));

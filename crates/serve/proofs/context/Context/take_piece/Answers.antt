@@ -3,6 +3,8 @@ use Rattle.std.proofs.lemmas.Result.{err_from_is_err_and}
 use Rattle.session_core.specs.Piece.{setup_of}
 use Rattle.session_core.specs.State.{SessionState}
 use Rattle.session_core.specs.TalkAnswers.{FaultAnswersTalk, ContinuesTalk}
+use Rattle.session_core.specs.declared.cause.SessionCause.TheVariants as causes
+use Rattle.serve.proofs.Ends.{never_late_by}
 use Rattle.serve.proofs.Facts.{fact_may_post, fault_may_post}
 use Rattle.serve.proofs.Works.{ended_by, fault_at, seat_kept, settled, stands_at, unsettled}
 use Rattle.serve.specs.Traffic.{so_far}
@@ -155,3 +157,21 @@ returns-in_err-cause-in-Err-clause-takes g c =
     (taken_in w.turns) c.args.piece.now stage)
     (sym (ap (λ (s : SessionState). s.stage) c.end_session.ensures.session)) answers)
     (then.goes_on (facts_in (setup_of hub.config) seated w.turns) w.work.told))
+
+pub returns-in_ok-cause-in-Err-clause-heard : goal.returns-in_ok-cause-in-Err-clause-heard
+returns-in_ok-cause-in-Err-clause-heard g c =
+    λ in_time late.
+    let hub = c.args.self.now.hub.now in
+    let fault = c.in-Err.fault in
+    let seated = c.requires.work.0 in
+    let taken = taken_in c.requires.work.1 in
+    let w = c.requires.work.2 in
+    let answers : FaultAnswersTalk fault.cause fault.batch (setup_of hub.config) seated taken
+    c.args.piece.now c.feed.new.self.stage =
+    fault_at c.config.result.now hub.config c.args.worker.now.session.seated seated taken
+    c.args.piece.now c.args.worker.now.session.stage c.feed.new.self.stage fault
+    c.config.ensures w.has_seat w.stands c.in-Err.ensures.talk in
+    let is : c.in_ok-cause-in-Err.cause ≡ causes.TimedOut = cc late in
+    absurd (never_late_by fault.cause fault.batch (setup_of hub.config) seated taken
+    c.args.piece.now c.feed.new.self.stage answers
+    (sym c.in_ok-cause-in-Err.ensures.cause ∙ is))
