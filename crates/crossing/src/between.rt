@@ -40,7 +40,7 @@ pub(crate) fn between<F: Falls>(
         let reach = stride;
         spare = spare.saturating_sub(1);
         stride = stride.saturating_mul(4);
-        if meter.read(fall, look) < bound {
+        if meter.is_below(fall, look, bound) {
             high = look;
             guess = look.saturating_sub(reach);
         } else {

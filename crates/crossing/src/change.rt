@@ -1,10 +1,10 @@
 ghost use Rattle.std.specs.Prelude.{◌≡◌, ◌⊎◌, ℕ, ◌+◌, ◌*◌, ◌<◌, ◌≤◌, suc, length, MatchBool};
-ghost use Rattle.std.specs.Prelude.{IfSome, Option, None, Some, true};
+ghost use Rattle.std.specs.Prelude.{IfSome, Option, None, Some, true, false};
 ghost use Rattle.crossing.specs.First.{IsFirstFrom, IsFlatSoon};
 ghost use Rattle.crossing.specs.Parts.{AnyTurnsAfter, AreFlatSoon, Differs, IsBy, IsOneOf};
 ghost use Rattle.crossing.specs.Parts.{TurnsAfter, all_hold, part_holds};
 
-use crate::first::{above_up_to, first_above, likely_above};
+use crate::first::{above_up_to, first_above, known_above};
 use crate::{Falls, Meter};
 use agg_types::Op;
 
@@ -14,6 +14,26 @@ pub struct Part<F> {
     pub op: Op,
     pub bound: u64,
     pub fall: F,
+}
+
+impl<F: Falls> Part<F> {
+    /// Whether the condition holds at a moment, in ms, by one look at its value.
+    pub fn holds(&self, t: u64, meter: &mut Meter) -> bool
+        ensures value { result ≡ part_holds F.value self.now t }
+        ensures counted { meter.new.evals ≤ meter.old.evals + 1 }
+    {
+        let bound = u128::from(self.bound);
+        match self.op {
+            Op::Gt => !meter.is_below(&self.fall, t, bound + 1),
+            Op::Ge => !meter.is_below(&self.fall, t, bound),
+            Op::Lt => meter.is_below(&self.fall, t, bound),
+            Op::Le => meter.is_below(&self.fall, t, bound + 1),
+            Op::Eq | Op::Ne => {
+                let value = meter.read(&self.fall, t);
+                self.op.holds(value, self.bound)
+            }
+        }
+    }
 }
 
 /// The least moment above `now`, in ms, at which the conditions hold together and didn't at `now`,
@@ -51,10 +71,7 @@ fn hold_all<F: Falls>(parts: &[Part<F>], t: u64, meter: &mut Meter) -> bool
 {
     match parts {
         [] => true,
-        [part, rest @ ..] => {
-            let value = meter.read(&part.fall, t);
-            part.op.holds(value, part.bound) && hold_all(rest, t, meter)
-        }
+        [part, rest @ ..] => { part.holds(t, meter) && hold_all(rest, t, meter) }
     }
 }
 
@@ -69,7 +86,8 @@ fn soonest<F: Falls>(
     meter: &mut Meter,
 ) -> Option<u64>
     requires held { held ≡ all_hold F.value all.now now }
-    requires rest_held { held ≡ true → all_hold F.value rest.now now ≡ true }
+    requires among { (t : ℕ) → all_hold F.value all.now t ≡ true
+        → all_hold F.value rest.now t ≡ true }
     requires found { IfSome found (λ t. (now < t) × Differs F.value all.now now t) }
     ensures differs { IfSome result (λ t. (now < t) × Differs F.value all.now now t) }
     ensures kept { (t : ℕ) → IsBy found t → IsBy result t }
@@ -81,37 +99,39 @@ fn soonest<F: Falls>(
     match rest {
         [] => found,
         [part, rest @ ..] => {
-            let (first, second) = turns(part, now, held, found, meter);
-            let found = sooner(all, now, held, found, first, meter);
-            let found = sooner(all, now, held, found, second, meter);
+            let (first, second, surely) = turns(part, now, held, found, meter);
+            let found = sooner(all, now, held, found, (first, surely), meter);
+            let found = sooner(all, now, held, found, (second, false), meter);
             soonest(all, rest, now, held, found, meter)
         }
     }
 }
 
-// The sooner of a moment that was found and another, if all conditions together differ there.
+// The sooner of a moment that was found and another, if all conditions together differ there:
+// surely, or as their values are looked at.
 fn sooner<F: Falls>(
     all: &[Part<F>],
     now: u64,
     held: bool,
     found: Option<u64>,
-    turn: Option<u64>,
+    turn: (Option<u64>, bool),
     meter: &mut Meter,
 ) -> Option<u64>
     requires held { held ≡ all_hold F.value all.now now }
     requires found { IfSome found (λ t. (now < t) × Differs F.value all.now now t) }
+    requires surely { turn.1 ≡ true → IfSome turn.0 (Differs F.value all.now now) }
     ensures differs { IfSome result (λ t. (now < t) × Differs F.value all.now now t) }
     ensures kept { (t : ℕ) → IsBy found t → IsBy result t }
-    ensures turn { IfSome turn (λ t. now < t → Differs F.value all.now now t → IsBy result t) }
+    ensures turn { IfSome turn.0 (λ t. now < t → Differs F.value all.now now t → IsBy result t) }
     ensures counted { meter.new.evals ≤ meter.old.evals + length all.now }
 {
-    let Some(t) = turn else {
+    let (Some(t), surely) = turn else {
         return found;
     };
     if t <= now || is_by(found, t) {
         return found;
     }
-    if hold_all(all, t, meter) == held {
+    if !surely && hold_all(all, t, meter) == held {
         return found;
     }
     Some(t)
@@ -128,25 +148,37 @@ fn is_by(found: Option<u64>, t: u64) -> bool
 }
 
 // The moments above `now` at which the truth of a condition may turn: there are no others before
-// the moment that was found. Where all conditions hold, so does this one.
+// the moment that was found. Where all conditions hold, so does this one, and it may be told that
+// it surely fails at the first of them.
 fn turns<F: Falls>(
     part: &Part<F>,
     now: u64,
     held: bool,
     found: Option<u64>,
     meter: &mut Meter,
-) -> (Option<u64>, Option<u64>)
+) -> (Option<u64>, Option<u64>, bool)
     requires held { held ≡ true → part_holds F.value part.now now ≡ true }
     ensures turns { (d : ℕ) → now ≤ d → TurnsAfter F.value d part.now
-        → IsBy found (suc d) ⊎ IsOneOf result (suc d) }
+        → IsBy found (suc d) ⊎ IsOneOf (result.0, result.1) (suc d) }
+    ensures surely { result.2 ≡ true → (held ≡ true)
+        × IfSome result.0 (λ t. part_holds F.value part.now t ≡ false) }
     ensures counted { IsFlatSoon now (F.flat part.now.fall)
         → meter.new.evals ≤ meter.old.evals + 70 }
 {
     let bound = u128::from(part.bound);
     match part.op {
-        Op::Gt if held => (drop_above(&part.fall, now, bound + 1, found, meter), None),
-        Op::Ge if held => (drop_above(&part.fall, now, bound, found, meter), None),
-        _ => turns_of(part, now, found, meter),
+        Op::Gt if held => {
+            let first = drop_above(&part.fall, now, bound + 1, found, meter);
+            (first, None, true)
+        }
+        Op::Ge if held => {
+            let first = drop_above(&part.fall, now, bound, found, meter);
+            (first, None, true)
+        }
+        _ => {
+            let (first, second) = turns_of(part, now, found, meter);
+            (first, second, false)
+        }
     }
 }
 
@@ -205,13 +237,14 @@ fn drop_above<F: Falls>(
     meter: &mut Meter,
 ) -> Option<u64>
     requires not_yet { bound ≤ F.value fall.now now }
+    ensures below { IfSome result (λ t. F.value fall.now t < bound) }
     ensures drop { (d : ℕ) → now ≤ d → bound ≤ F.value fall.now d
         → F.value fall.now (suc d) < bound → IsBy found (suc d) ⊎ (result ≡ Some (suc d)) }
     ensures counted { IsFlatSoon now (F.flat fall.now)
-        → meter.new.evals ≤ meter.old.evals + 35 }
+        → meter.new.evals ≤ meter.old.evals + 36 }
 {
     match found {
-        None => likely_above(fall, now, bound, meter),
+        None => known_above(fall, now, bound, meter),
         Some(found) => above_up_to(fall, now, found.saturating_sub(1), bound, meter),
     }
 }

@@ -1,4 +1,5 @@
-ghost use Rattle.std.specs.Prelude.{◌≡◌, ℕ, ◌+◌, ◌^◌, ◌-◌, ◌≤◌, min};
+ghost use Rattle.std.specs.Prelude.{◌≡◌, ℕ, ◌+◌, ◌^◌, ◌-◌, ◌<◌, ◌≤◌, min, nat_lt, IfSome};
+ghost use Rattle.crossing.specs.First.{IsDropAt};
 
 use period_rate::Rate;
 use std::marker::Model;
@@ -16,6 +17,13 @@ pub trait Falls {
     fn at(&self, t: u64) -> u128
         ensures { result ≡ value self.now t };
 
+    /// Whether the value is below a bound at a moment. Who adds a value up can tell it from a part.
+    fn is_below(&self, t: u64, bound: u128) -> bool
+        ensures { result ≡ nat_lt (value self.now t) bound }
+    {
+        self.at(t) < bound
+    }
+
     /// A moment from which the value stays.
     fn flat_from(&self) -> u64
         ensures { result ≡ flat self.now };
@@ -24,6 +32,14 @@ pub trait Falls {
     /// far as one is known without reading. It is a hint: what is found never depends on it, and a
     /// wrong one only costs reads.
     fn likely(&self, from: u64, bound: u128) -> Option<u64> {
+        None
+    }
+
+    /// The first moment above `from`, in ms, at which the value is below a bound, which it isn't at
+    /// `from`, where it can be told at once.
+    fn known_drop(&self, from: u64, bound: u128) -> Option<u64>
+        ensures { IfSome result (IsDropAt from (value self.now) bound) }
+    {
         None
     }
 
@@ -75,5 +91,24 @@ impl Meter {
     {
         self.evals = self.evals.saturating_add(1);
         fall.at(t)
+    }
+    /// Tells whether a value is below a bound at a moment, in ms, and counts that.
+    pub fn is_below<F: Falls>(&mut self, fall: &F, t: u64, bound: u128) -> bool
+        ensures value { result ≡ nat_lt (F.value fall.now t) bound }
+        ensures counted { self.new.evals ≡ min (self.old.evals + 1) (2 ^ 64 - 1) }
+    {
+        self.evals = self.evals.saturating_add(1);
+        fall.is_below(t, bound)
+    }
+
+    /// The first moment above `from`, in ms, at which a value is below a bound, which it isn't at
+    /// `from`, where it can be told at once. Counts that as one value that was read.
+    pub fn known_drop<F: Falls>(&mut self, fall: &F, from: u64, bound: u128) -> Option<u64>
+        ensures first { IfSome result (IsDropAt from (F.value fall.now) bound) }
+        ensures counted { self.new.evals ≤ self.old.evals + 1 }
+    {
+        let known = fall.known_drop(from, bound)?;
+        self.evals = self.evals.saturating_add(1);
+        Some(known)
     }
 }

@@ -22,7 +22,7 @@ pub fn first_below<F: Falls>(fall: &F, now: u64, bound: u128, meter: &mut Meter)
     ensures late { F.flat fall.now ≤ now + 2 ^ 32 → bound ≤ F.value fall.now (F.flat fall.now - 1)
         → meter.new.evals ≤ meter.old.evals + 3 }
 {
-    if meter.read(fall, now) < bound {
+    if meter.is_below(fall, now, bound) {
         return Some(now);
     }
     first_above(fall, now, bound, meter)
@@ -43,7 +43,7 @@ pub(crate) fn first_above<F: Falls>(
         → meter.new.evals ≤ meter.old.evals + 2 }
 {
     let flat = fall.flat_from();
-    if flat <= now || meter.read(fall, flat) >= bound {
+    if flat <= now || !meter.is_below(fall, flat, bound) {
         return None;
     }
     Some(drop_until(fall, now, flat, bound, meter))
@@ -64,7 +64,7 @@ pub(crate) fn likely_above<F: Falls>(
     let Some(likely) = fall.likely(now, bound) else {
         return first_above(fall, now, bound, meter);
     };
-    if likely <= now || likely - now > NEAR_MS || meter.read(fall, likely) >= bound {
+    if likely <= now || likely - now > NEAR_MS || !meter.is_below(fall, likely, bound) {
         return first_above(fall, now, bound, meter);
     }
     Some(between(fall, now, likely, bound, Some(likely - 1), 33, meter))
@@ -85,10 +85,10 @@ pub(crate) fn above_up_to<F: Falls>(
     ensures counted { IsFlatSoon now (F.flat fall.now)
         → meter.new.evals ≤ meter.old.evals + 34 }
 {
-    let last = last.min(fall.flat_from());
-    if last <= now || meter.read(fall, last) >= bound {
+    if last <= now || !meter.is_below(fall, last, bound) {
         return None;
     }
+    let last = last.min(fall.flat_from());
     let likely = fall.likely(now, bound);
     Some(between(fall, now, last, bound, likely, 33, meter))
 }
@@ -109,9 +109,27 @@ fn drop_until<F: Falls>(fall: &F, not_yet: u64, flat: u64, bound: u128, meter: &
         return between(fall, not_yet, flat, bound, None, 33, meter);
     }
     let before = flat - 1;
-    if meter.read(fall, before) >= bound {
+    if !meter.is_below(fall, before, bound) {
         return flat;
     }
     let likely = fall.likely(not_yet, bound);
     between(fall, not_yet, before, bound, likely, 32, meter)
+}
+
+/// What `likely_above` answers, told at once where that can be.
+pub(crate) fn known_above<F: Falls>(
+    fall: &F,
+    now: u64,
+    bound: u128,
+    meter: &mut Meter,
+) -> Option<u64>
+    requires not_yet { bound ≤ F.value fall.now now }
+    ensures first { IsFirstFrom now (λ t. F.value fall.now t < bound) result }
+    ensures counted { IsFlatSoon now (F.flat fall.now)
+        → meter.new.evals ≤ meter.old.evals + 36 }
+{
+    if let Some(known) = meter.known_drop(fall, now, bound) {
+        return Some(known);
+    }
+    likely_above(fall, now, bound, meter)
 }

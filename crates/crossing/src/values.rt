@@ -1,4 +1,5 @@
-ghost use Rattle.std.specs.Prelude.{◌≡◌, ℕ, ◌≤◌, List, IfSome};
+ghost use Rattle.std.specs.Prelude.{◌≡◌, ℕ, ◌≤◌, List, IfSome, nat_lt};
+ghost use Rattle.crossing.specs.First.{IsDropAt};
 ghost use Rattle.agg_types.specs.declared.column.Col.{Col};
 
 use crate::Falls;
@@ -21,6 +22,13 @@ pub trait Values {
     fn value(&self, table: usize, key: &Key, col: Col, t: u64) -> u128
         ensures { result ≡ summed self.now table key.now col t };
 
+    /// Whether a key's summed value of a column is below a bound at a moment.
+    fn is_below(&self, table: usize, key: &Key, col: Col, t: u64, bound: u128) -> bool
+        ensures { result ≡ nat_lt (summed self.now table key.now col t) bound }
+    {
+        self.value(table, key, col, t) < bound
+    }
+
     /// The most that a key is worth in a column at any moment, where that is known without a look
     /// at its rows.
     fn most(&self, table: usize, key: &Key, col: Col) -> Option<u128>
@@ -33,6 +41,13 @@ pub trait Values {
     fn live(&self, table: usize, key: &Key, t: u64) -> usize
         ensures { result ≡ living self.now table key.now t };
 
+    /// Whether fewer rows of a key than a bound live at a moment.
+    fn are_fewer(&self, table: usize, key: &Key, t: u64, bound: u128) -> bool
+        ensures { result ≡ nat_lt (living self.now table key.now t) bound }
+    {
+        (self.live(table, key, t) as u128) < bound
+    }
+
     /// A moment from which a key's values stay.
     fn flat_from(&self, table: usize, key: &Key) -> u64
         ensures { result ≡ flat self.now table key.now };
@@ -41,6 +56,14 @@ pub trait Values {
     /// column is below a bound, as far as one is known without reading values. It is a hint: no
     /// answer depends on it, and a wrong one only costs reads.
     fn likely(&self, table: usize, key: &Key, col: Col, from: u64, bound: u128) -> Option<u64> {
+        None
+    }
+
+    /// The first moment above `from`, in ms, at which a key's summed value of a column is below a
+    /// bound, which it isn't at `from`, where it can be told at once.
+    fn known_drop(&self, table: usize, key: &Key, col: Col, from: u64, bound: u128) -> Option<u64>
+        ensures { IfSome result (IsDropAt from (summed self.now table key.now col) bound) }
+    {
         None
     }
 
@@ -92,6 +115,13 @@ impl<'a, V: Values> Falls for Of<'a, V> {
         }
     }
 
+    fn is_below(&self, t: u64, bound: u128) -> bool {
+        match self.measured {
+            Measured::Column(col) => self.values.is_below(self.table, self.key, col, t, bound),
+            Measured::LiveRows => self.values.are_fewer(self.table, self.key, t, bound),
+        }
+    }
+
     fn flat_from(&self) -> u64 {
         self.values.flat_from(self.table, self.key)
     }
@@ -99,6 +129,16 @@ impl<'a, V: Values> Falls for Of<'a, V> {
     fn likely(&self, from: u64, bound: u128) -> Option<u64> {
         match self.measured {
             Measured::Column(col) => self.values.likely(self.table, self.key, col, from, bound),
+            Measured::LiveRows => None,
+        }
+    }
+
+    fn known_drop(&self, from: u64, bound: u128) -> Option<u64> {
+        match self.measured {
+            Measured::Column(col) => {
+                self.values
+                    .known_drop(self.table, self.key, col, from, bound)
+            }
             Measured::LiveRows => None,
         }
     }

@@ -3,7 +3,7 @@
 ghost use Rattle.std.specs.Prelude.{◌≡◌, ◌↔◌, ℕ, ◌+◌, ◌≤◌, IsTrue, false, length, nat_lt};
 ghost use Rattle.std.specs.Prelude.{MatchOption};
 ghost use Rattle.crossing.specs.First.{IsFlatSoon};
-ghost use Rattle.crossing.specs.Parts.{AreFlatSoon, all_hold};
+ghost use Rattle.crossing.specs.Parts.{AreFlatSoon, all_hold, part_holds};
 ghost use Rattle.crossing.specs.Shown.{measured};
 ghost use Rattle.agg_types.specs.Op.{op_holds};
 ghost use Rattle.std.specs.List.{list_all};
@@ -199,15 +199,36 @@ fn hold_now<F: Falls>(parts: &[Part<F>], now: u64, meter: &mut Meter) -> Option<
 {
     match parts {
         [] => Some(true),
-        [part, rest @ ..] => {
-            let value = meter.read(&part.fall, now);
-            if part.op.holds(value, part.bound) {
-                return hold_now(rest, now, meter);
+        [part, rest @ ..] => match holds_now(part, now, meter) {
+            None => None,
+            Some(false) => Some(false),
+            Some(true) => hold_now(rest, now, meter),
+        },
+    }
+}
+
+// The same of one condition. A lower bound that isn't met never will be.
+fn holds_now<F: Falls>(part: &Part<F>, now: u64, meter: &mut Meter) -> Option<bool>
+    ensures value { MatchOption result
+        ((t : ℕ) → now ≤ t → part_holds F.value part.now t ≡ false)
+        (λ holds. holds ≡ part_holds F.value part.now now) }
+    ensures counted { meter.new.evals ≤ meter.old.evals + 1 }
+{
+    match part.op {
+        Op::Gt | Op::Ge => {
+            if part.holds(now, meter) {
+                Some(true)
+            } else {
+                None
             }
+        }
+        Op::Lt | Op::Le | Op::Ne => Some(part.holds(now, meter)),
+        Op::Eq => {
+            let value = meter.read(&part.fall, now);
             if fails_for_good(part.op, value, part.bound) {
                 return None;
             }
-            Some(false)
+            Some(part.op.holds(value, part.bound))
         }
     }
 }

@@ -7,6 +7,6 @@ returns-then-flat-not_yet-gt-SHORT_MS-clause-counted g c = λ soon. c.between.en
 
 pub returns-clause-counted : goal.returns-clause-counted
 returns-clause-counted g c = λ soon.
-    let rest : c.between-2.new.meter.evals ≤ c.read.new.self.evals + 32 =
+    let rest : c.between-2.new.meter.evals ≤ c.is_below.new.self.evals + 32 =
     c.between-2.ensures.counted (omega arith) in
     omega arith
