@@ -2,6 +2,7 @@ pub mod Lists
 pub mod Inside
 pub mod Reading
 pub mod Bounding
+pub mod Placing
 pub mod Counting
 pub mod Foresight
 pub mod Leading

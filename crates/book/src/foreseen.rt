@@ -1,7 +1,7 @@
 //! When a filter's set changes by the clock alone: when the first of its keys comes or goes.
 
 ghost use Rattle.std.specs.Prelude.{◌≡◌, ◌≤◌, ◌<◌, ◌^◌, ◌-◌, ℕ, List, length, map, min};
-ghost use Rattle.std.specs.Prelude.{IfSome};
+ghost use Rattle.std.specs.Prelude.{IfSome, nat_lt};
 ghost use Rattle.agg_types.specs.declared.limits.TheConstants.{MOST_CONDS};
 ghost use Rattle.fleet_model.specs.Keys.{Rows, key_rows, worth_of};
 ghost use Rattle.fleet_model.specs.Changes.{IsKeyChange};
@@ -140,6 +140,36 @@ fn count_live(rows: OfKey<'_>, t: u64) -> usize
         }
     }
     live
+}
+
+/// Whether fewer rows of a key that were found than a bound live at a moment: no more of them are
+/// looked at than it takes to reach the bound.
+pub fn found_fewer(rows: Option<&OfKey<'_>>, t: u64, bound: u128) -> bool
+    requires { IfSome rows (λ rows. length rows.now < 2 ^ 64) }
+    ensures { (all : Rows) (table : ℕ) (key : List ℕ) → AreFound all table key rows.entry
+        → result ≡ nat_lt (living_of (key_rows all table key) t) bound }
+{
+    match rows {
+        None => bound > 0,
+        Some(rows) => are_fewer(rows.duplicate(), t, bound),
+    }
+}
+
+fn are_fewer(rows: OfKey<'_>, t: u64, bound: u128) -> bool
+    requires { length rows < 2 ^ 64 }
+    ensures { (table : ℕ) (key : List ℕ)
+        → result ≡ nat_lt (living_of (map (of_peer table key) rows.entry) t) bound }
+{
+    let mut live = 0u128;
+    for (_, row) in rows {
+        if is_live(t, row) {
+            live += 1;
+        }
+        if live >= bound {
+            return false;
+        }
+    }
+    live < bound
 }
 
 // The moment from which the clock changes nothing of a key, or the last one of all.

@@ -46,6 +46,7 @@ mod listed;
 mod listing;
 mod machine;
 mod next;
+mod nothing;
 mod one_key;
 mod puts;
 mod queries;

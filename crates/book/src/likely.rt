@@ -12,9 +12,9 @@ const ROWS: usize = 64;
 /// After how many looks at such a sum what has been found is good enough.
 const LOOKS: u32 = 40;
 
-// One row's rate, as it falls. Moments are in ms.
+/// One row's rate, as it falls. Moments are in ms.
 #[derive(Clone, Copy)]
-struct Falling {
+pub struct Falling {
     // The last moment of the second of the periods in which its events count.
     last: u64,
     // From when on the row has ended.
@@ -32,8 +32,8 @@ impl Falling {
         prev: 0,
     };
 
-    // The rate that a row holds in a place, if it holds one there.
-    fn of(row: &Row, place: usize, period: u32) -> Option<Falling> {
+    /// The rate that a row holds in a place, if it holds one there.
+    pub fn of(row: &Row, place: usize, period: u32) -> Option<Falling> {
         let Held::Rate(rate) = row.cells.get(place)? else {
             return None;
         };
@@ -66,13 +66,13 @@ impl Falling {
         }
     }
 
-    // From when on it is nothing.
-    fn over_from(self) -> u64 {
+    /// From when on it is nothing.
+    pub fn over_from(self) -> u64 {
         self.last.saturating_add(1).min(self.ends)
     }
 
-    // The first moment at which it is below a bound above 0.
-    fn below_from(self, period: u32, bound: u64) -> u64 {
+    /// The first moment at which it is below a bound above 0.
+    pub fn below_from(self, period: u32, bound: u64) -> u64 {
         let period = u64::from(period);
         let left = if self.cur < bound {
             if self.prev == 0 {

@@ -3,10 +3,11 @@
 ghost use Rattle.std.specs.Prelude.{◌≡◌, ◌<◌, ◌^◌, length, IfSome, Some};
 ghost use Rattle.book.specs.Store.{AreRowsOf};
 
-use crate::foreseen::{found_flat, found_live};
+use crate::foreseen::{found_fewer, found_flat, found_live};
 use crate::likely::found_likely;
 use crate::machine::Machine;
-use crate::values::{found_most, found_worth};
+use crate::nothing::found_drop;
+use crate::values::{found_below, found_most, found_worth};
 use agg_types::{Col, Key};
 use book_frame::standing::{cols_of, longest_period};
 use crossing::Values;
@@ -112,6 +113,12 @@ impl<'a> Values for OneKey<'a> {
         found_worth(self.rows_of(table, key).as_ref(), cols, col, t)
     }
 
+    fn is_below(&self, table: usize, key: &Key, col: Col, t: u64, bound: u128) -> bool {
+        let machine = self.machine;
+        let cols = cols_of(machine.config.tables.as_slice(), table);
+        found_below(self.rows_of(table, key).as_ref(), cols, col, t, bound)
+    }
+
     fn most(&self, table: usize, key: &Key, col: Col) -> Option<u128> {
         let machine = self.machine;
         let cols = cols_of(machine.config.tables.as_slice(), table);
@@ -120,6 +127,10 @@ impl<'a> Values for OneKey<'a> {
 
     fn live(&self, table: usize, key: &Key, t: u64) -> usize {
         found_live(self.rows_of(table, key).as_ref(), t)
+    }
+
+    fn are_fewer(&self, table: usize, key: &Key, t: u64, bound: u128) -> bool {
+        found_fewer(self.rows_of(table, key).as_ref(), t, bound)
     }
 
     fn flat_from(&self, table: usize, key: &Key) -> u64 {
@@ -132,6 +143,12 @@ impl<'a> Values for OneKey<'a> {
         let machine = self.machine;
         let cols = cols_of(machine.config.tables.as_slice(), table);
         found_likely(self.rows_of(table, key).as_ref(), cols, col, from, bound)
+    }
+
+    fn known_drop(&self, table: usize, key: &Key, col: Col, from: u64, bound: u128) -> Option<u64> {
+        let machine = self.machine;
+        let cols = cols_of(machine.config.tables.as_slice(), table);
+        found_drop(self.rows_of(table, key).as_ref(), cols, col, from, bound)
     }
 
     ghost sums_fall = { λ v table key col t later.

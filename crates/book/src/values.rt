@@ -1,19 +1,21 @@
 //! The values of a key, by adding up over its rows.
 
-ghost use Rattle.std.specs.Prelude.{◌≡◌, ◌+◌, ◌-◌, ◌*◌, ◌<◌, ◌≤◌, ◌^◌, ℕ, List, length, map, drop};
+ghost use Rattle.std.specs.Prelude.{◌≡◌, ◌+◌, ◌-◌, ◌*◌, ◌<◌, ◌≤◌, ◌^◌, ℕ, List, length, nat_lt};
 ghost use Rattle.std.specs.Prelude.{IfSome};
 ghost use Rattle.std.specs.List.{list_all, position, position_or_len};
 ghost use Rattle.agg_types.specs.Col.{same_col};
 ghost use Rattle.agg_types.specs.Op.{op_holds};
+ghost use Rattle.agg_types.specs.declared.column.Col.{Col as ColName};
 ghost use Rattle.fleet_model.specs.Keys.{Rows, key_rows, row_worth, worth_of};
 ghost use Rattle.fleet_model.specs.Values.{cell_worth, column_worth, meets, value};
+ghost use Rattle.book.specs.Placed.{found_in};
 ghost use Rattle.book.specs.Shown.{as_arrival, cell_of, found_worth, rows_worth};
 ghost use Rattle.book.specs.Store.{AreFound};
 
 use crate::row::is_live;
 use crate::store::Store;
 use agg_types::{Cell, Col, Cond, Key};
-use peer_rows::{Held, OfKey, Row, RowCells};
+use peer_rows::{Held, OfKey, Row};
 use period_rate::Rate;
 
 // What the sum of a bound and a cell still fits beside.
@@ -35,31 +37,21 @@ fn cell_worth(period: u32, arrived: u64, since: u64, held: Held) -> u64
     }
 }
 
-// What the cell of a column is worth, of the cells from a position on.
-fn column_worth(
-    col: Col,
-    arrived: u64,
-    since: u64,
-    cols: &[(Col, u32)],
-    cells: &RowCells,
-    position: usize,
-) -> u64
-    ensures { result
-        ≡ column_worth col since cols.now (map (cell_of arrived) (drop position cells.now)) }
+/// Where the rows of a table hold a column: its position and its period, if it is stored.
+pub fn found_in(cols: &[(Col, u32)], col: Col) -> Option<(usize, u32)>
+    ensures place { result ≡ found_in cols.now col }
+    ensures inside { IfSome result (λ place. place.0 < length cols.now) }
 {
     match cols {
-        [] => 0,
+        [] => None,
         [stored, cols @ ..] => {
-            if position >= cells.len() {
-                return 0;
+            if stored.0.id() == col.id() {
+                return Some((0, stored.1));
             }
-            if stored.0.id() != col.id() {
-                return column_worth(col, arrived, since, cols, cells, position + 1);
+            match found_in(cols, col) {
+                None => None,
+                Some((place, period)) => Some((place + 1, period)),
             }
-            let Some(held) = cells.get(position) else {
-                return 0;
-            };
-            cell_worth(stored.1, arrived, since, held)
         }
     }
 }
@@ -93,14 +85,21 @@ fn arriving_cell(period: u32, cell: Cell) -> u64
     }
 }
 
-fn row_worth(cols: &[(Col, u32)], col: Col, t: u64, row: &Row) -> u64
-    ensures { result ≡ row_worth cols.now col t (as_arrival row.now) }
+/// What a row is worth at a moment in a column that lies at a place.
+pub fn row_worth(found: Option<(usize, u32)>, t: u64, row: &Row) -> u64
+    ensures { (cols : List (ColName × ℕ)) (col : ColName) → found ≡ found_in cols col
+        → result ≡ row_worth cols col t (as_arrival row.now) }
 {
     if !is_live(t, row) {
         return 0;
     }
-    let since = t.saturating_sub(row.arrived);
-    column_worth(col, row.arrived, since, cols, &row.cells, 0)
+    match found {
+        None => 0,
+        Some((place, period)) => match row.cells.get(place) {
+            None => 0,
+            Some(held) => cell_worth(period, row.arrived, t.saturating_sub(row.arrived), held),
+        },
+    }
 }
 
 /// What rows of one key sum up to in a column at a moment.
@@ -109,11 +108,47 @@ pub fn worth(rows: &OfKey<'_>, cols: &[(Col, u32)], col: Col, t: u64) -> u128
     ensures exact { result ≡ rows_worth cols.now col t rows.now }
     ensures small { result + 2 ^ 64 ≤ 2 ^ 128 }
 {
+    let found = found_in(cols, col);
     let mut total = 0u128;
     for (_, row) in rows.duplicate() {
-        total += u128::from(row_worth(cols, col, t, row));
+        total += u128::from(row_worth(found, t, row));
     }
     total
+}
+
+/// Whether rows of one key sum up to less than a bound in a column at a moment: no more of them are
+/// looked at than it takes to reach the bound.
+pub fn is_below(rows: &OfKey<'_>, cols: &[(Col, u32)], col: Col, t: u64, bound: u128) -> bool
+    requires { length rows.now < 2 ^ 64 }
+    ensures { result ≡ nat_lt (rows_worth cols.now col t rows.now) bound }
+{
+    let found = found_in(cols, col);
+    let mut total = 0u128;
+    for (_, row) in rows.duplicate() {
+        total += u128::from(row_worth(found, t, row));
+        if total >= bound {
+            return false;
+        }
+    }
+    total < bound
+}
+
+/// Whether the rows of a key that were found sum up to less than a bound.
+pub fn found_below(
+    rows: Option<&OfKey<'_>>,
+    cols: &[(Col, u32)],
+    col: Col,
+    t: u64,
+    bound: u128,
+) -> bool
+    requires { IfSome rows (λ rows. length rows.now < 2 ^ 64) }
+    ensures { (all : Rows) (table : ℕ) (key : List ℕ) → AreFound all table key rows.entry
+        → result ≡ nat_lt (worth_of cols.now (key_rows all table key) col t) bound }
+{
+    match rows {
+        None => bound > 0,
+        Some(rows) => is_below(rows, cols, col, t, bound),
+    }
 }
 
 /// What the rows of a key that were found sum up to: nothing where none were.

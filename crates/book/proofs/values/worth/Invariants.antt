@@ -4,7 +4,7 @@ use Rattle.book.proofs.values.worth.Given as goal
 
 abbrev pub invariant-loop-row : goal.invariant-loop-row
 invariant-loop-row l = record {
-  so_far : l.total + rows_worth l.cols l.col l.t l.row-iterator ≡ rows_worth l.cols l.col
-      l.t l.fn.rows;
+  so_far : l.total + rows_worth l.fn.cols l.fn.col l.t l.row-iterator ≡ rows_worth l.fn.cols
+      l.fn.col l.t l.fn.rows;
   small : l.total + 2 ^ 64 * length l.row-iterator ≤ 2 ^ 64 * length l.fn.rows;
 }

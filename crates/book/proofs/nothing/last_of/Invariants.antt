@@ -1,0 +1,13 @@
+use Rattle.std.proofs.Common.{ℕ, ◌≤◌, List, IfSome}
+use Rattle.agg_types.specs.declared.column.Col.{Col}
+use Rattle.fleet_model.specs.Keys.{row_worth}
+use Rattle.book.specs.Shown.{as_arrival, rows_worth}
+use Rattle.book.proofs.nothing.last_of.Given as goal
+
+abbrev pub invariant-loop-row : goal.invariant-loop-row
+invariant-loop-row l = record {
+  among : (cols : List (Col × ℕ)) (col : Col) (t : ℕ) → rows_worth cols col t l.row-iterator
+      ≤ rows_worth cols col t l.fn.rows;
+  last : (cols : List (Col × ℕ)) (col : Col) (t : ℕ) → IfSome l.last
+      (λ row. row_worth cols col t (as_arrival row.now) ≤ rows_worth cols col t l.fn.rows);
+}
