@@ -1,5 +1,5 @@
 -- What a row holds where a column lies is what the column is worth.
-use Rattle.std.proofs.Common.{◌≡◌, ℕ, suc, ◌+◌, ◌-◌, Bool, true, false, cond, List, [], ◌∷◌}
+use Rattle.std.proofs.Common.{◌≡◌, ℕ, ◌+◌, ◌-◌, ◌*◌, Bool, true, false, cond, List, [], ◌∷◌}
 use Rattle.std.proofs.Common.{Option, Some, None, IfSome, refl, sym, ap, ◌∙◌, ◌^◌, ◌<◌, ◌≤◌, map, arith}
 use Rattle.std.specs.Borrow.{Bor}
 use Rattle.crossing.specs.First.{IsDropAt}
@@ -15,9 +15,15 @@ use Rattle.fleet_model.specs.Keys.{Rows, key_rows, row_worth, worth_of}
 use Rattle.fleet_model.specs.Moments.{is_live}
 use Rattle.fleet_model.specs.Values.{cell_worth, column_worth}
 use Rattle.peer_rows.specs.declared.row.Held.{Held}
+use Rattle.peer_rows.specs.declared.row.Held.TheVariants.{Count, Rate}
+use Rattle.period_rate.proofs.Falling.{rate_ends, rate_falls}
+use Rattle.period_rate.specs.Rate.{elapsed_at}
+use Rattle.period_rate.specs.declared.rate.Rate.{Rate as Rates}
+use Rattle.fleet_model.proofs.Falls.{lived_before}
 use Rattle.peer_rows.specs.declared.row.Row.{Row}
 use Rattle.book.specs.Placed.{found_in}
-use Rattle.book.specs.Shown.{as_arrival, cell_of, found_worth}
+use Rattle.book.specs.Shown.{as_arrival, cell_of, found_worth, rows_worth}
+use Rattle.std.proofs.lemmas.List.Sums.{sum_by-cons}
 
 -- what a cell that was found is worth, and nothing where none was
 abbrev pub held_worth : ℕ → ℕ → ℕ → Option Held → ℕ
@@ -98,6 +104,78 @@ row_holds cols col t row o place period held lives is some there =
     ap (held_worth period (t - row.arrived) row.arrived) there
     ∙ ap (λ o. placed_worth o (t - row.arrived) row.arrived row.cells) (sym some)
     ∙ row_lives cols col t row o lives is
+
+-- ---- a row's worth never rises, and ends
+held_falls : (period since later arrived : ℕ) (o : Option Held) → since ≤ later
+    → held_worth period later arrived o ≤ held_worth period since arrived o
+unfolding cell_worth
+held_falls period since later arrived None h = omega arith
+held_falls period since later arrived (Some (Count n)) h = omega arith
+held_falls period since later arrived (Some (Rate r)) h =
+    rate_falls period r.prev r.cur (elapsed_at r arrived + since) (elapsed_at r arrived + later)
+    (omega arith)
+
+placed_falls : (o : Option (ℕ × ℕ)) (since later arrived : ℕ) (cells : List Held) → since ≤ later
+    → placed_worth o later arrived cells ≤ placed_worth o since arrived cells
+placed_falls None since later arrived cells h = omega arith
+placed_falls (Some place) since later arrived cells h =
+    held_falls place.1 since later arrived (slice_get cells place.0) h
+
+pub row_falls : (cols : List (Col × ℕ)) (col : Col) (t u : ℕ) (row : Row) → t ≤ u
+    → row_worth cols col u (as_arrival row) ≤ row_worth cols col t (as_arrival row)
+row_falls cols col t u row h =
+    by (is_live u (as_arrival row)) (is_live t (as_arrival row)) refl refl
+  where
+    worth : ℕ → ℕ
+    worth at = column_worth col (at - row.arrived) cols (map (cell_of row.arrived) row.cells)
+
+    less : worth u ≤ worth t
+    less =
+        let now = column_found col (t - row.arrived) row.arrived cols row.cells in
+        let then = column_found col (u - row.arrived) row.arrived cols row.cells in
+        let falls = placed_falls (found_in cols col) (t - row.arrived) (u - row.arrived)
+        row.arrived row.cells (omega arith) in
+        omega (arith, now, then, falls)
+
+    by : (a b : Bool) → is_live u (as_arrival row) ≡ a → is_live t (as_arrival row) ≡ b
+        → cond a (worth u) 0 ≤ cond b (worth t) 0
+    by true true e f = less
+    by false b e f = omega arith
+    by true false e f =
+        let lived : is_live t (as_arrival row) ≡ true =
+        lived_before (as_arrival row).life row.arrived t u h e in cc
+
+-- the rate that a row holds in a place is over, or the row has ended
+pub rate_over : (cols : List (Col × ℕ)) (col : Col) (t place period : ℕ) (row : Row) (r : Rates)
+    → found_in cols col ≡ Some (place, period) → Some (Rate r) ≡ slice_get row.cells place
+    → row.arrived + (2 * period + 1) - elapsed_at r row.arrived ≤ t
+    → row_worth cols col t (as_arrival row) ≡ 0
+unfolding cell_worth
+rate_over cols col t place period row r is holds over =
+    row_found cols col t row (found_in cols col) refl ∙ by (is_live t (as_arrival row))
+  where
+    nothing : placed_worth (found_in cols col) (t - row.arrived) row.arrived row.cells ≡ 0
+    nothing =
+        ap (λ o. placed_worth o (t - row.arrived) row.arrived row.cells) is
+        ∙ ap (held_worth period (t - row.arrived) row.arrived) (sym holds)
+        ∙ rate_ends period r.prev r.cur (elapsed_at r row.arrived + (t - row.arrived))
+        (omega arith)
+
+    by : (b : Bool) → cond b (placed_worth (found_in cols col) (t - row.arrived) row.arrived
+        row.cells) 0 ≡ 0
+    by true = nothing
+    by false = refl
+
+pub ended_row : (cols : List (Col × ℕ)) (col : Col) (t : ℕ) (row : Row)
+    → is_live t (as_arrival row) ≡ false → row_worth cols col t (as_arrival row) ≡ 0
+ended_row cols col t row ended = rw ended refl
+
+pub rows_split : (cols : List (Col × ℕ)) (col : Col) (t : ℕ) (rows : List (ℕ × Row)) (p : ℕ × Row)
+    (rest : List (ℕ × Row)) → rows ≡ p ∷ rest
+    → rows_worth cols col t rows ≡ row_worth cols col t (as_arrival p.1) + rows_worth cols col t rest
+rows_split cols col t rows p rest is =
+    ap (rows_worth cols col t) is
+    ∙ sum_by-cons (λ (p : ℕ × Row). row_worth cols col t (as_arrival p.1)) p rest
 
 -- what drops of rows that were found drops of the key's rows, up to the last moment
 pub drop_of_found : (o : Option ℕ) (rows : Rows) (table : ℕ) (key : List ℕ) (cols : List (Col × ℕ))

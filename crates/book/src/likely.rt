@@ -10,28 +10,24 @@ use peer_rows::{Held, OfKey, Row};
 const ROWS: usize = 64;
 
 /// After how many looks at such a sum what has been found is good enough.
-const LOOKS: u32 = 40;
+const LOOKS: u32 = 48;
+
+/// At how many of them, the first ones, a line between the ends says where to look.
+const LINES: u32 = 8;
 
 /// One row's rate, as it falls. Moments are in ms.
 #[derive(Clone, Copy)]
 pub struct Falling {
-    // The last moment of the second of the periods in which its events count.
-    last: u64,
-    // From when on the row has ended.
-    ends: u64,
-    cur: u64,
-    prev: u64,
+    /// The last moment of the second of the periods in which its events count.
+    pub last: u64,
+    /// From when on the row has ended.
+    pub ends: u64,
+    /// The events of the current period, and of the one before.
+    pub cur: u64,
+    pub prev: u64,
 }
 
 impl Falling {
-    // Nothing.
-    const NONE: Falling = Falling {
-        last: 0,
-        ends: 0,
-        cur: 0,
-        prev: 0,
-    };
-
     /// The rate that a row holds in a place, if it holds one there.
     pub fn of(row: &Row, place: usize, period: u32) -> Option<Falling> {
         let Held::Rate(rate) = row.cells.get(place)? else {
@@ -49,20 +45,39 @@ impl Falling {
         })
     }
 
-    // What it is at a moment, in parts of which an event has as many as the period has ms.
-    fn parts_at(self, period: u64, t: u64) -> u64 {
-        if t >= self.ends || t > self.last {
-            return 0;
-        }
-        let left = self.last - t;
-        if left < period {
-            self.cur
-                .saturating_mul(if self.cur <= 1 { period } else { left })
-        } else if self.cur == 0 && self.prev <= 1 {
-            self.prev.saturating_mul(period)
+    // The same, as it is added up.
+    fn share(self, period: u64) -> Share {
+        let until = self.last.min(self.ends.saturating_sub(1));
+        let Falling {
+            last,
+            cur,
+            prev,
+            ..
+        } = self;
+        if cur > 1 || (cur == 0 && prev > 1) {
+            Share {
+                until,
+                last,
+                whole: 0,
+                cur,
+                prev,
+            }
+        } else if cur == 1 {
+            Share {
+                until,
+                last,
+                whole: period,
+                cur: 0,
+                prev,
+            }
         } else {
-            let before = self.prev.saturating_mul(left - period);
-            self.cur.saturating_mul(period).saturating_add(before)
+            Share {
+                until: until.min(last.saturating_sub(period)),
+                last,
+                whole: prev.saturating_mul(period),
+                cur: 0,
+                prev: 0,
+            }
         }
     }
 
@@ -91,6 +106,39 @@ impl Falling {
             .saturating_add(1)
             .saturating_sub(left)
             .min(self.ends)
+    }
+}
+
+// One row's rate, as it is added up: up to a moment a whole part, and what falls evenly in each of
+// two periods. An event has as many parts as the period has ms.
+#[derive(Clone, Copy)]
+struct Share {
+    until: u64,
+    last: u64,
+    whole: u64,
+    cur: u64,
+    prev: u64,
+}
+
+impl Share {
+    // Nothing.
+    const NONE: Share = Share {
+        until: 0,
+        last: 0,
+        whole: 0,
+        cur: 0,
+        prev: 0,
+    };
+
+    // Its parts at a moment.
+    fn parts_at(self, period: u64, t: u64) -> u64 {
+        if t > self.until {
+            return 0;
+        }
+        let left = self.last.saturating_sub(t);
+        let own = self.cur.saturating_mul(left.min(period));
+        let before = self.prev.saturating_mul(left.saturating_sub(period));
+        self.whole.saturating_add(own).saturating_add(before)
     }
 }
 
@@ -136,54 +184,106 @@ fn sum_below(rows: OfKey<'_>, place: usize, period: u32, from: u64, bound: u64) 
         return None;
     }
     let count = rows.len();
-    let mut falling = [Falling::NONE; ROWS];
+    let mut shares = [Share::NONE; ROWS];
     let mut over = 0u64;
-    for (one, (_, row)) in falling.iter_mut().zip(rows) {
-        *one = Falling::of(row, place, period)?;
-        over = over.max(one.over_from());
+    for (share, (_, row)) in shares.iter_mut().zip(rows) {
+        let falling = Falling::of(row, place, period)?;
+        *share = falling.share(u64::from(period));
+        over = over.max(falling.over_from());
     }
-    let falling = falling.get(..count)?;
-    Some(narrowed(falling, u64::from(period), from, over, bound))
+    let sum = Sum {
+        shares: shares.get(..count)?,
+        period: u64::from(period),
+        inverse: (u64::MAX / u64::from(period.max(2))).saturating_add(1),
+    };
+    Some(narrowed(&sum, from, over, bound))
+}
+
+// A sum of rates, each rounded down.
+#[derive(Clone, Copy)]
+struct Sum<'a> {
+    shares: &'a [Share],
+    period: u64,
+    // 2^64 by the period, rounded up: times the inverse is cheaper than a division.
+    inverse: u64,
+}
+
+impl<'a> Sum<'a> {
+    // The events at a moment.
+    fn at(&self, t: u64) -> u64 {
+        let mut sum = 0u64;
+        for share in self.shares {
+            let parts = share.parts_at(self.period, t);
+            let wide = u128::from(parts).wrapping_mul(u128::from(self.inverse));
+            sum = sum.saturating_add(u64::try_from(wide >> 64).unwrap_or(0));
+        }
+        sum
+    }
+}
+
+// A span of moments at whose end a sum is below a bound, and at whose beginning it isn't; and how
+// far above and below it is there, as far as a line from one to the other is to tell.
+#[derive(Clone, Copy)]
+struct Span {
+    low: u64,
+    high: u64,
+    above: u64,
+    below: u64,
+    was_below: Option<bool>,
+}
+
+impl Span {
+    // Where to look inside it: where the line meets the bound, or in the middle.
+    fn inside(&self, by_line: bool) -> u64 {
+        let length = self.high.saturating_sub(self.low);
+        let most = length.saturating_sub(1);
+        let all = self.above.saturating_add(self.below).max(1);
+        let into = if by_line {
+            length.saturating_mul(self.above) / all
+        } else {
+            length / 2
+        };
+        self.low.saturating_add(into.max(1).min(most))
+    }
+
+    // Ends or begins at a moment where the sum is this. Of two ends in turn the other one counts
+    // half as far, so that the line comes to meet the bound behind what is looked for.
+    fn narrow(&mut self, at: u64, sum: u64, bound: u64) {
+        let is_below = sum < bound;
+        let same = self.was_below == Some(is_below);
+        if is_below {
+            self.high = at;
+            self.below = far(bound.saturating_sub(sum).saturating_sub(1));
+            self.above = if same { self.above / 2 } else { self.above };
+        } else {
+            self.low = at;
+            self.above = far(sum.saturating_sub(bound));
+            self.below = if same { self.below / 2 } else { self.below };
+        }
+        self.was_below = Some(is_below);
+    }
+}
+
+// How far a number of events is from half of one.
+fn far(events: u64) -> u64 {
+    events.saturating_mul(2).saturating_add(1)
 }
 
 // From when on a sum is below a bound, between two moments.
-fn narrowed(falling: &[Falling], period: u64, from: u64, over: u64, bound: u64) -> u64 {
-    let (mut low, mut high) = (from, over);
-    for _ in 0..LOOKS {
-        let span = high.saturating_sub(low);
-        if span <= 1 {
+fn narrowed(sum: &Sum<'_>, from: u64, over: u64, bound: u64) -> u64 {
+    let mut span = Span {
+        low: from,
+        high: over,
+        above: far(sum.at(from).saturating_sub(bound)),
+        below: far(bound.saturating_sub(1)),
+        was_below: None,
+    };
+    for look in 0..LOOKS {
+        if span.high.saturating_sub(span.low) <= 1 {
             break;
         }
-        let middle = low.saturating_add(span / 2);
-        if is_below(falling, period, middle, bound) {
-            high = middle;
-        } else {
-            low = middle;
-        }
+        let at = span.inside(look < LINES);
+        span.narrow(at, sum.at(at), bound);
     }
-    high
-}
-
-// Whether rates, each rounded down, sum up to less than a bound. Mostly their parts tell that, and
-// none has to be divided.
-fn is_below(falling: &[Falling], period: u64, t: u64, bound: u64) -> bool {
-    let mut parts = 0u64;
-    for one in falling {
-        parts = parts.saturating_add(one.parts_at(period, t));
-    }
-    if parts < bound.saturating_mul(period) {
-        return true;
-    }
-    if parts
-        >= bound
-            .saturating_add(falling.len() as u64)
-            .saturating_mul(period)
-    {
-        return false;
-    }
-    let mut sum = 0u64;
-    for one in falling {
-        sum = sum.saturating_add(one.parts_at(period, t) / period.max(1));
-    }
-    sum < bound
+    span.high
 }

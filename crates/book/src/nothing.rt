@@ -1,17 +1,21 @@
-//! When the rows of a key come to nothing in a column, told by a pass over them and another.
+//! When the rows of a key come to nothing in a column, told by one pass over them.
 
-ghost use Rattle.std.specs.Prelude.{◌≡◌, ◌<◌, ◌≤◌, ◌^◌, ℕ, List, length, IfSome};
+ghost use Rattle.std.specs.Prelude.{◌≡◌, ◌<◌, ◌≤◌, ◌^◌, ℕ, List, length, IfSome, Some, nat_lt};
 ghost use Rattle.agg_types.specs.declared.column.Col.{Col as ColName};
 ghost use Rattle.crossing.specs.First.{IsDropAt};
+ghost use Rattle.period_rate.specs.Rate.{elapsed_at};
 ghost use Rattle.fleet_model.specs.Keys.{Rows, key_rows, row_worth};
+ghost use Rattle.fleet_model.specs.Moments.{is_live};
 ghost use Rattle.book.specs.Foreseen.{worth_within};
+ghost use Rattle.book.specs.Placed.{found_in};
 ghost use Rattle.book.specs.Shown.{as_arrival, rows_worth};
 ghost use Rattle.book.specs.Store.{AreFound};
 
 use crate::likely::Falling;
-use crate::values::{found_in, is_below, row_worth};
+use crate::values::{found_in, row_worth};
 use agg_types::Col;
-use peer_rows::{OfKey, Row};
+use peer_rows::{Held, OfKey, Row};
+use period_rate::Rate;
 
 /// The first moment above `from` at which the rows of a key that were found are worth less than a
 /// bound in a column, which they aren't at `from`: where the bound is 1, as far as it can be told.
@@ -39,41 +43,89 @@ fn nothing_from(rows: &OfKey<'_>, cols: &[(Col, u32)], col: Col, from: u64) -> O
 {
     let found = found_in(cols, col);
     let (place, period) = found?;
-    let (last, at) = last_of(rows.duplicate(), place, period);
-    let last = last?;
-    if at <= from || row_worth(found, at - 1, last) < 1 || !is_below(rows, cols, col, at, 1) {
+    let (known, at) = last_of(rows.duplicate(), place, period)?;
+    let last = known?;
+    if at <= from || row_worth(found, at - 1, last) < 1 {
         return None;
     }
     Some(at)
 }
 
-// Of rows of one key the one that is likely to be the last to come to nothing, and when.
-fn last_of<'a>(rows: OfKey<'a>, place: usize, period: u32) -> (Option<&'a Row>, u64)
-    ensures { (cols : List (ColName × ℕ)) (col : ColName) (t : ℕ) → IfSome result.0
-        (λ row. row_worth cols col t (as_arrival row.now) ≤ rows_worth cols col t rows.entry) }
+// Of rows of one key one that is worth something until a moment, as is likely, and that moment:
+// from then on none is worth anything.
+fn last_of<'a>(rows: OfKey<'a>, place: usize, period: u32) -> Option<(Option<&'a Row>, u64)>
+    ensures one { (cols : List (ColName × ℕ)) (col : ColName) (t : ℕ) → IfSome result
+        (λ last. IfSome last.0 (λ row. row_worth cols col t (as_arrival row.now)
+        ≤ rows_worth cols col t rows.entry)) }
+    ensures over { (cols : List (ColName × ℕ)) (col : ColName) (t : ℕ)
+        → found_in cols col ≡ Some (place, period) → IfSome result
+        (λ last. last.1 ≤ t → rows_worth cols col t rows.entry ≡ 0) }
 {
     let mut last = None;
     let mut latest = 0u64;
     for (_, row) in rows {
-        let at = nothing_behind(row, place, period, latest);
-        if at > latest {
-            latest = at;
-            last = Some(row);
-        }
-    }
-    (last, latest)
-}
-
-// When a row is likely to come to nothing, if that is behind a moment.
-fn nothing_behind(row: &Row, place: usize, period: u32, latest: u64) -> u64 {
-    match Falling::of(row, place, period) {
-        None => 0,
-        Some(falling) => {
-            if falling.over_from() <= latest {
-                0
-            } else {
-                falling.below_from(period, 1)
+        let (over, falling) = over_from(place, period, row)?;
+        if over > latest {
+            let at = falling.below_from(period, 1).max(latest);
+            if row_worth(Some((place, period)), at, row) > 0 {
+                return None;
+            }
+            if at > latest {
+                latest = at;
+                last = Some(row);
             }
         }
     }
+    Some((last, latest))
+}
+
+// From when on a row is surely worth nothing, if it holds a rate in that place: it has ended, or
+// the rate's two periods are over. With the rate as it falls until then.
+fn over_from(place: usize, period: u32, row: &Row) -> Option<(u64, Falling)>
+    ensures { (cols : List (ColName × ℕ)) (col : ColName) (t : ℕ)
+        → found_in cols col ≡ Some (place, period) → IfSome result
+        (λ over. over.0 ≤ t → row_worth cols col t (as_arrival row.now) ≡ 0) }
+{
+    match row.cells.get(place) {
+        Some(Held::Rate(rate)) => {
+            let elapsed = elapsed_at(rate, row.arrived);
+            let both = 2 * u64::from(period) + 1;
+            let over = row.arrived.checked_add(both)?.saturating_sub(elapsed);
+            match end_of(row) {
+                None => Some((over, falling(rate, over, u64::MAX))),
+                Some(end) => Some((over.min(end), falling(rate, over, end))),
+            }
+        }
+        _ => None,
+    }
+}
+
+// From when on a row has ended, if it ends.
+fn end_of(row: &Row) -> Option<u64>
+    ensures { (t : ℕ) → IfSome result (λ end. is_live t (as_arrival row.now) ≡ nat_lt t end) }
+{
+    match row.ends.get() {
+        None => None,
+        Some(ends) => Some(ends.max(row.arrived)),
+    }
+}
+
+// A rate as it falls until its periods are over, of a row that ends.
+fn falling(rate: Rate, over: u64, ends: u64) -> Falling {
+    let [_, _, _, cur, prev] = rate.to_words();
+    Falling {
+        last: over.saturating_sub(1),
+        ends,
+        cur: u64::from(cur),
+        prev: u64::from(prev),
+    }
+}
+
+// How long a rate's period had lasted at a moment.
+fn elapsed_at(rate: Rate, arrived: u64) -> u64
+    ensures { result ≡ elapsed_at rate arrived }
+{
+    let [own, _, _, _, _] = rate.to_words();
+    let over = 2 * u64::from(own) + 1;
+    over.saturating_sub(rate.zero_at().saturating_sub(arrived))
 }

@@ -1,6 +1,7 @@
-use Rattle.std.proofs.Common.{ℕ, ◌≤◌, List, IfSome}
+use Rattle.std.proofs.Common.{◌≡◌, ℕ, ◌≤◌, List, IfSome, Some}
 use Rattle.agg_types.specs.declared.column.Col.{Col}
 use Rattle.fleet_model.specs.Keys.{row_worth}
+use Rattle.book.specs.Placed.{found_in}
 use Rattle.book.specs.Shown.{as_arrival, rows_worth}
 use Rattle.book.proofs.nothing.last_of.Given as goal
 
@@ -10,4 +11,7 @@ invariant-loop-row l = record {
       ≤ rows_worth cols col t l.fn.rows;
   last : (cols : List (Col × ℕ)) (col : Col) (t : ℕ) → IfSome l.last
       (λ row. row_worth cols col t (as_arrival row.now) ≤ rows_worth cols col t l.fn.rows);
+  over : (cols : List (Col × ℕ)) (col : Col) (t : ℕ)
+      → found_in cols col ≡ Some (l.fn.place, l.fn.period) → l.latest ≤ t
+      → rows_worth cols col t l.fn.rows ≡ rows_worth cols col t l.row-iterator;
 }
