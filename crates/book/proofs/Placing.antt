@@ -1,6 +1,7 @@
 -- What a row holds where a column lies is what the column is worth.
 use Rattle.std.proofs.Common.{◌≡◌, ℕ, ◌+◌, ◌-◌, ◌*◌, Bool, true, false, cond, List, [], ◌∷◌}
-use Rattle.std.proofs.Common.{Option, Some, None, IfSome, refl, sym, ap, ◌∙◌, ◌^◌, ◌<◌, ◌≤◌, map, arith}
+use Rattle.std.proofs.Common.{Option, Some, None, IfSome, refl, sym, ap, ◌∙◌, ◌^◌, ◌<◌, ◌≤◌, map}
+use Rattle.std.proofs.Common.{arith}
 use Rattle.std.specs.Borrow.{Bor}
 use Rattle.crossing.specs.First.{IsDropAt}
 use Rattle.book.specs.Foreseen.{within, worth_within}

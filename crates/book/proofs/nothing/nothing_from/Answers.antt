@@ -1,4 +1,5 @@
-use Rattle.std.proofs.Common.{rules, ◌≡◌, ◌-◌, ◌≤◌, ◌∙◌, ℕ, List, Option, Some, IfSome, ap, sym, subst, arith}
+use Rattle.std.proofs.Common.{rules, ◌≡◌, ◌-◌, ◌≤◌, ◌∙◌, ℕ, List, Option, Some}
+use Rattle.std.proofs.Common.{IfSome, ap, sym, subst, arith}
 use Rattle.std.specs.Borrow.{Bor}
 use Rattle.fleet_model.specs.Keys.{row_worth}
 use Rattle.book.specs.Placed.{found_in}
@@ -14,7 +15,8 @@ returns c =
     let cols = c.args.cols.now in
     let col = c.args.col in
     let at = c.in_ok-known.at in
-    let place : found_in cols col ≡ Some (c.in_ok-place.place, c.in_ok-place.period) = search rules in
+    let place : found_in cols col ≡ Some (c.in_ok-place.place, c.in_ok-place.period) =
+    search rules in
     let told : c.last_of.result ≡ Some (c.in_ok-known.known, at) = search rules in
     let some : c.in_ok-known.known ≡ Some c.in_ok-last.last = search rules in
     let own : c.row_worth.result ≡ row_worth cols col (at - 1) (as_arrival c.in_ok-last.last.now) =

@@ -1,4 +1,5 @@
-use Rattle.std.proofs.Common.{rules, ◌≡◌, ◌<◌, ◌≤◌, ◌+◌, ◌-◌, ◌*◌, ◌∙◌, ℕ, Bool, true, false, Some, min, nat_lt, refl, arith}
+use Rattle.std.proofs.Common.{rules, ◌≡◌, ◌<◌, ◌≤◌, ◌+◌, ◌-◌, ◌*◌, ◌∙◌, ℕ, Bool, true, false}
+use Rattle.std.proofs.Common.{Some, min, nat_lt, refl, arith}
 use Rattle.std.proofs.lemmas.Bool.Decides.{nat_tests}
 use Rattle.std.specs.Prelude.{slice_get}
 use Rattle.fleet_model.specs.Keys.{row_worth}
@@ -11,7 +12,8 @@ use Rattle.book.proofs.nothing.over_from.Goals as goal
 
 pub returns-in-None : goal.returns-in-None
 returns-in-None c = λ cols col t place over.
-    let holds : Some (Rate c.in-Some-Rate.rate) ≡ slice_get c.args.row.now.cells c.args.place = search rules in
+    let holds : Some (Rate c.in-Some-Rate.rate) ≡ slice_get c.args.row.now.cells c.args.place =
+    search rules in
     rate_over cols col t c.args.place c.args.period c.args.row.now c.in-Some-Rate.rate place holds
     (omega arith)
 
@@ -24,7 +26,7 @@ returns-in-Some c = λ cols col t place over.
     - elapsed_at c.in-Some-Rate.rate row.arrived = omega arith in
     elim (nat_lt t c.in-Some.end) as (λ b. nat_lt t c.in-Some.end ≡ b
     → row_worth cols col t (as_arrival row) ≡ 0) [
-      | true ↦ λ e. rate_over cols col t c.args.place c.args.period row c.in-Some-Rate.rate place holds
-          (grind (arith, nat_tests, told, over, e))
+      | true ↦ λ e. rate_over cols col t c.args.place c.args.period row c.in-Some-Rate.rate place
+          holds (grind (arith, nat_tests, told, over, e))
       | false ↦ λ e. ended_row cols col t row (end ∙ e)
     ] refl
