@@ -1,0 +1,83 @@
+//! The same updates over one book, in one thread.
+
+use crate::posting::load::{Load, Share};
+use crate::posting::tell::{Measured, Shown, Speed};
+use agg_types::{NoMemory, What};
+use anyhow::Result;
+use book::Book;
+use std::alloc::Global;
+use std::rt::Clock;
+use std::time::{Duration, Instant};
+
+/// A book and the number of its seat's next event.
+#[derive(Drop)]
+pub struct Alone {
+    book: Book,
+    next: u64,
+}
+
+impl Alone {
+    pub fn new(book: Book) -> Alone {
+        Alone { book, next: 0 }
+    }
+
+    // The seat's next event.
+    fn apply(&mut self, what: &What) -> Result<(), NoMemory> {
+        self.book.apply(0, self.next, what)?;
+        self.next = self.next.saturating_add(1);
+        Ok(())
+    }
+
+    fn apply_all(&mut self, whats: &[What]) -> Result<(), NoMemory> {
+        for what in whats {
+            self.apply(what)?;
+        }
+        Ok(())
+    }
+
+    // Applies the batches of a share, and says how long the slowest took.
+    fn apply_share<R: Clock>(&mut self, rt: &R, alloc: Global, share: Share) -> Result<Duration> {
+        let mut longest = Duration::from_micros(0);
+        for number in 0..share.batches() {
+            let start = Instant::now(rt)?;
+            let whats = share.batch(alloc, number)?;
+            self.apply_all(whats.as_slice())?;
+            longest = longest.max(start.elapsed(rt)?);
+        }
+        Ok(longest)
+    }
+
+    // Applies what one pass would post, and says how long that took.
+    fn timed<R: Clock>(&mut self, rt: &R, alloc: Global, load: Load) -> Result<Speed> {
+        let start = Instant::now(rt)?;
+        let longest = self.apply_share(rt, alloc, load.share(0))?;
+        Ok(Speed {
+            updates: load.updates,
+            looks: 0,
+            time: start.elapsed(rt)?,
+            longest,
+        })
+    }
+
+    // The seat sits down and speaks for the first proxy.
+    fn open(&mut self) -> Result<(), NoMemory> {
+        self.apply(&What::Sit)?;
+        self.apply(&What::Open(0))
+    }
+
+    /// Takes an update of each new key and then of held ones, and says how fast that was.
+    pub fn run<R: Clock>(&mut self, rt: &R, alloc: Global, load: Load) -> Result<Measured> {
+        self.open()?;
+        let new = self.timed(rt, alloc, load.of_new_keys())?;
+        let held = self.timed(rt, alloc, load)?;
+        Ok(Measured {
+            new,
+            held,
+            grown: None,
+            shown: Shown {
+                events: self.next,
+                keys: self.book.used(0),
+            },
+        })
+    }
+}
