@@ -3,19 +3,34 @@
 //!
 //! Then replays scripts whose reading or writing fails, one whose output is watched as it is read,
 //! and scripts with lines of 10 MB, and prints how each ends.
+//!
+//! Last come the steps of a fleet itself. `test_replay again` runs them alone, and
+//! `tools/refuse_growths.py` lets each allocation of that run fail in turn.
 #![tactic(auto)]
 
 mod failing;
 mod lines;
 mod order;
 mod scripts;
+mod steps;
 
+use anyhow::Result;
+use std::env::Env;
 use std::io;
 
-fn main(rt: HostRuntime) -> io::Result<()> {
-    scripts::show(&rt)?;
-    failing::show_reads(&rt)?;
-    failing::show_writes(&rt)?;
-    order::show(&rt)?;
-    lines::show(&rt)
+/// Replays all scripts.
+fn replay_all(rt: &HostRuntime) -> io::Result<()> {
+    scripts::show(rt)?;
+    failing::show_reads(rt)?;
+    failing::show_writes(rt)?;
+    order::show(rt)?;
+    lines::show(rt)
+}
+
+fn main(rt: HostRuntime) -> Result<()> {
+    let is_again = std::env::args(&rt)?.any(|word| word.as_str() == "again");
+    if !is_again {
+        replay_all(&rt)?;
+    }
+    steps::show(&rt)
 }

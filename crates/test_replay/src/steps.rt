@@ -1,16 +1,14 @@
-//! Lets two proxies call a fleet, break off and call again, beside a clock and a clear, and prints
-//! what each step sends and what the fleet then holds.
+//! Lets two proxies call a fleet, break off and call again, beside a clock, a clear and an added
+//! filter, and prints what each step sends and what the fleet then holds.
 //!
-//! A step for which an allocation failed is made once more: `tools/refuse_growths.py` lets each
-//! allocation fail in turn, and what is printed has to stay the same.
-#![tactic(auto)]
-
-mod deeds;
+//! A step for which an allocation failed is made once more, so that what is printed stays the same.
 
 ghost use Rattle.std.specs.Prelude.{◌≡◌, IfOk};
 ghost use Rattle.fleet_core.specs.Possible.{does_fit};
 
-use crate::deeds::{Deed, step};
+mod deeds;
+
+use crate::steps::deeds::{Deed, step};
 use agg_types::NoMemory;
 use anyhow::{Result, anyhow, ensure};
 use book::Book;
@@ -163,11 +161,12 @@ fn play(
     print_held(rt, alloc, fleet.book())
 }
 
-fn main(rt: HostRuntime) -> Result<()> {
+/// Lets the deeds happen to a fleet of two proxies.
+pub fn show(rt: &HostRuntime) -> Result<()> {
     let alloc = rt.alloc();
     let mut fleet = opened(alloc)?;
     for (place, deed) in DEEDS.into_iter().enumerate() {
-        play(&rt, alloc, &mut fleet, place.saturating_add(1), deed)?;
+        play(rt, alloc, &mut fleet, place.saturating_add(1), deed)?;
     }
     Ok(())
 }
