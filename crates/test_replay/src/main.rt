@@ -27,9 +27,13 @@ fn replay_all(rt: &HostRuntime) -> io::Result<()> {
     lines::show(rt)
 }
 
+/// Whether the steps of the fleet are asked for alone.
+fn is_again(rt: &HostRuntime) -> Result<bool> {
+    Ok(std::env::args(rt)?.any(|word| word.as_str() == "again"))
+}
+
 fn main(rt: HostRuntime) -> Result<()> {
-    let is_again = std::env::args(&rt)?.any(|word| word.as_str() == "again");
-    if !is_again {
+    if !is_again(&rt)? {
         replay_all(&rt)?;
     }
     steps::show(&rt)
