@@ -49,10 +49,16 @@ impl Proxies {
         Ok(proxies)
     }
 
-    /// Lets one more proxy call, and say what it says first.
-    fn call(&mut self, alloc: Global, load: Load, peer: u8) -> Result<()> {
+    /// Opens one more connection.
+    fn open(&mut self) -> Result<u64> {
         let conn = self.fleet.step(&Step::Connect)?.conn;
         self.conns.push(conn)?;
+        Ok(conn)
+    }
+
+    /// Lets one more proxy call, and say what it says first.
+    fn call(&mut self, alloc: Global, load: Load, peer: u8) -> Result<()> {
+        let conn = self.open()?;
         let opening = load.opening(alloc, peer)?;
         self.send_piece(alloc, conn, opening.as_slice())
     }
