@@ -1,6 +1,6 @@
 //! Keys whose hashes choose one window: what it has no room for goes to the ordered map.
 
-use crate::laying::{has_value, key, lay};
+use crate::laying::{has_value, key, lay, thin};
 use agg_types::{Key, NoMemory};
 use anyhow::Result;
 use place_index::{IndexKey, PlaceIndex};
@@ -35,26 +35,26 @@ fn held(alloc: Global, index: &PlaceIndex<Key, u32>, numbers: &[u32]) -> Result<
     Ok(count)
 }
 
+/// Lays the keys of the numbers down.
+fn lay_all(alloc: Global, index: &mut PlaceIndex<Key, u32>, numbers: &[u32]) -> Result<()> {
+    for number in numbers {
+        lay(alloc, index, *number)?;
+    }
+    Ok(())
+}
+
 /// Lays the keys down, takes every other one out, and lays them down again.
 pub fn run(rt: &HostRuntime) -> Result<()> {
     let alloc = rt.alloc();
     let numbers = colliding(alloc)?;
     let mut index = PlaceIndex::<Key, u32>::new(alloc);
-    for number in &numbers {
-        lay(alloc, &mut index, *number)?;
-    }
+    lay_all(alloc, &mut index, &numbers)?;
     let (keys, count) = (numbers.len(), held(alloc, &index, &numbers)?);
     println!(rt; "{count} of {keys} crowded keys held")?;
-    for at in 0..index.places() {
-        if at % 2 == 0 {
-            index.remove(at);
-        }
-    }
+    thin(&mut index, 2);
     let count = held(alloc, &index, &numbers)?;
     println!(rt; "{count} once every other place is empty")?;
-    for number in &numbers {
-        lay(alloc, &mut index, *number)?;
-    }
+    lay_all(alloc, &mut index, &numbers)?;
     let (count, places) = (held(alloc, &index, &numbers)?, index.places());
     println!(rt; "{count} again, in {places} places")?;
     Ok(())

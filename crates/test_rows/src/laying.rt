@@ -15,32 +15,51 @@ pub fn place(alloc: Global, index: &PlaceIndex<Key, u32>, number: u32) -> Result
     Ok(index.find(&key(alloc, number)?))
 }
 
-/// Where the key of a number lies, or comes to lie, with it as its value. None where memory was
-/// refused.
-fn try_lay(
-    alloc: Global,
-    index: &mut PlaceIndex<Key, u32>,
-    number: u32,
-) -> Result<Option<usize>, NoMemory> {
-    let wanted = key(alloc, number)?;
+/// Where a key lies, or comes to lie, with a number as its value. None where memory was refused.
+pub fn lay_key(index: &mut PlaceIndex<Key, u32>, wanted: Key, number: u32) -> Option<usize> {
     match index.find(&wanted) {
-        Some(at) => Ok(Some(at)),
-        None => Ok(index.insert(wanted, number).ok()),
+        Some(at) => Some(at),
+        None => index.insert(wanted, number).ok(),
     }
 }
 
 /// Inserts the key of a number, with it as its value, and answers where, or where it lies already.
 pub fn lay(alloc: Global, index: &mut PlaceIndex<Key, u32>, number: u32) -> Result<usize> {
     let before = index.places();
-    if let Some(at) = try_lay(alloc, index, number)? {
-        return Ok(at);
+    match lay_key(index, key(alloc, number)?, number) {
+        Some(at) => Ok(at),
+        None => lay_again(alloc, index, number, before),
     }
-    if index.places() != before || place(alloc, index, number)?.is_some() {
+}
+
+/// Inserts it once more, where the first time nothing may have changed.
+fn lay_again(
+    alloc: Global,
+    index: &mut PlaceIndex<Key, u32>,
+    number: u32,
+    before: usize,
+) -> Result<usize> {
+    let wanted = key(alloc, number)?;
+    if index.places() != before || index.find(&wanted).is_some() {
         return Err(anyhow!("a refused insert changed something"));
     }
-    match try_lay(alloc, index, number)? {
-        Some(at) => Ok(at),
-        None => Err(anyhow!("refused again")),
+    lay_key(index, wanted, number).ok_or(anyhow!("refused again"))
+}
+
+/// Inserts the keys from a number up to another.
+pub fn lay_from(alloc: Global, index: &mut PlaceIndex<Key, u32>, from: u32, to: u32) -> Result<()> {
+    for number in from..to {
+        lay(alloc, index, number)?;
+    }
+    Ok(())
+}
+
+/// Empties every place whose number so many divide.
+pub fn thin(index: &mut PlaceIndex<Key, u32>, each: usize) {
+    for at in 0..index.places() {
+        if at.checked_rem(each) == Some(0) {
+            index.remove(at);
+        }
     }
 }
 

@@ -1,6 +1,6 @@
 //! Room that is made beforehand, values that are exchanged, and how many places are filled.
 
-use crate::laying::{has_value, key};
+use crate::laying::{has_value, key, lay_key};
 use agg_types::Key;
 use anyhow::Result;
 use place_index::PlaceIndex;
@@ -21,8 +21,9 @@ fn reserve(index: &mut PlaceIndex<Key, u32>, keys: usize) -> Result<()> {
 fn lay_all(alloc: Global, index: &mut PlaceIndex<Key, u32>, from: u32, to: u32) -> Result<u32> {
     let mut laid = 0u32;
     for number in from..to {
-        let wanted = key(alloc, number)?;
-        if index.find(&wanted).is_none() && index.insert(wanted, number).is_ok() {
+        let before = index.count();
+        lay_key(index, key(alloc, number)?, number);
+        if index.count() > before {
             laid = laid.saturating_add(1);
         }
     }
