@@ -30,7 +30,7 @@ fn serve<J: Naming, H: Wait + Drop, R: Wait>(
 
 /// A lens of this hub.
 #[tactic(auto, using(serve::proofs::Commanded::lens_follows))]
-fn lens_of<J: Naming, H: Wait + Drop, R: Wait>(rt: &R, hub: &Hub<J, H>) -> Option<Lens>
+pub fn lens_of<J: Naming, H: Wait + Drop, R: Wait>(rt: &R, hub: &Hub<J, H>) -> Option<Lens>
     ensures { IfSome result (λ l. Follows hub.now l.seen) }
 {
     hub.lens(rt).ok()

@@ -37,3 +37,6 @@ pub const NO_FIELD: &[u8] = b"\x0a\x82\x00";
 
 /// The peer reports an error of the protocol.
 pub const ERROR: &[u8] = b"\x01\x00";
+
+/// What an admin asks for in one piece: the table's rows, and those above 10.
+pub const QUESTIONS: &[u8] = b"show table t\nshow table t data.gpc0 gt 10\n";

@@ -16,11 +16,13 @@ mod bytes;
 mod cases;
 mod everyone;
 mod fleet;
+mod known;
 mod lobby;
 mod memory;
 mod order;
 mod paper;
 mod peers;
+mod recording;
 mod scene;
 mod timers;
 mod told;
@@ -50,6 +52,18 @@ fn stage<J: Naming, R: Print + Wait + Clock>(
 {
     let hub = Hub::<J, &R>::new(alloc, rt, opening, 4)?;
     play(rt, alloc, &hub, scene)
+}
+
+/// Serves a session and an admin of known bytes over a hub of their own.
+fn stage_known<J: Naming, R: Print + Wait + Clock>(
+    rt: &R,
+    alloc: Global,
+    opening: Opening,
+) -> Result<()>
+    requires { opening.of ≡ J.book }
+{
+    let hub = Hub::<J, &R>::new(alloc, rt, opening, 4)?;
+    known::row(rt, alloc, &hub)
 }
 
 /// Serves all over a hub of its own.
@@ -177,6 +191,7 @@ fn main(rt: HostRuntime) -> Result<()> {
     for (title, text, writes) in cases::TELLINGS {
         tell(&rt, rt.alloc(), title, text, writes)?;
     }
+    stage_known::<Brand, HostRuntime>(&rt, rt.alloc(), opening(rt.alloc())?)?;
     for course in [WHOLE, CLOSING] {
         stage_all::<Brand, HostRuntime>(&rt, rt.alloc(), opening(rt.alloc())?, course)?;
     }

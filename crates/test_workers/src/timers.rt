@@ -1,6 +1,8 @@
 //! Timers over memory.
 
+ghost use Rattle.std.specs.Prelude.{◌≡◌, ℕ, IfOk, slice_index_or};
 ghost use Rattle.hub.specs.Posts.{Follows, SitsDown};
+ghost use Rattle.serve.specs.Moments.{IsTimed};
 
 use crate::fleet::moment_in;
 use crate::memory::Turnstile;
@@ -20,7 +22,9 @@ struct Beats {
 }
 
 impl Clock for Beats {
-    ghost gives = { λ clock moment. Unit {0} };
+    ghost use Rattle.std.specs.Prelude.{◌≡◌, ℕ, slice_index_or};
+
+    ghost gives = { λ clock moment. (at : ℕ) × (moment ≡ slice_index_or clock.moments at 0) };
 
     fn now(&self) -> u64 {
         let at = self.at.load(Ordering::SeqCst);
@@ -35,7 +39,8 @@ impl Clock for Beats {
 /// The turns that a timer makes before its gate closes.
 const TURNS: u64 = 4;
 
-/// Runs a timer, and has a lens of the same hub learn what its last post shows.
+/// Runs a timer, and has a lens of the same hub learn what its last post shows. What it told at Ok
+/// are some of its clock's four moments, and 0 where the clock had no more.
 fn run<J: Naming, H: Wait + Drop, R: Wait>(
     context: &Context<'_, J, H, R, Beats, Turnstile>,
     pass: Pass,
@@ -43,6 +48,8 @@ fn run<J: Naming, H: Wait + Drop, R: Wait>(
 ) -> Result<Served, Faulted>
     requires pass { SitsDown pass × Follows context.now.hub.now pass.seen }
     requires lens { Follows context.now.hub.now lens.old.seen }
+    ensures { IfOk result (IsTimed context.now.hub.now (λ moment. (at : ℕ)
+        × (moment ≡ slice_index_or context.now.clock.now.moments at 0)) pass.seat 0) }
 {
     let served = context.run_timer(pass)?;
     if let Some(receipt) = &served.last {

@@ -6,3 +6,6 @@ ghosts-stage g a = record { book = a.opening.of }
 
 abbrev pub ghosts-stage_all : goal.ghosts-stage_all
 ghosts-stage_all g a = record { book = a.opening.of }
+
+abbrev pub ghosts-stage_known : goal.ghosts-stage_known
+ghosts-stage_known g a = record { book = a.opening.of }
