@@ -49,7 +49,7 @@ pub trait Source {
 }
 
 /// The room for the bytes of one read.
-const PIECE: usize = 1 << 16;
+const PIECE: usize = 1 << 14;
 
 /// A buffer for what is read.
 pub fn buffer(alloc: Global) -> Option<Vec<u8>> {
