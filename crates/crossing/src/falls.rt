@@ -1,4 +1,5 @@
 ghost use Rattle.std.specs.Prelude.{◌≡◌, ℕ, ◌+◌, ◌^◌, ◌-◌, ◌<◌, ◌≤◌, min, nat_lt, IfSome};
+ghost use Rattle.std.specs.Prelude.{is_some, if◌then◌else◌};
 ghost use Rattle.crossing.specs.First.{IsDropAt};
 
 use period_rate::Rate;
@@ -105,7 +106,8 @@ impl Meter {
     /// `from`, where it can be told at once. Counts that as one value that was read.
     pub fn known_drop<F: Falls>(&mut self, fall: &F, from: u64, bound: u128) -> Option<u64>
         ensures first { IfSome result (IsDropAt from (F.value fall.now) bound) }
-        ensures counted { self.new.evals ≤ self.old.evals + 1 }
+        ensures counted { self.new.evals ≡ (if is_some result
+            then min (self.old.evals + 1) (2 ^ 64 - 1) else self.old.evals) }
     {
         let known = fall.known_drop(from, bound)?;
         self.evals = self.evals.saturating_add(1);
