@@ -7,7 +7,7 @@ use Rattle.serve.specs.declared.faults.TurnFault.TheVariants as faults
 use Rattle.serve.specs.declared.served.Cause.{Cause}
 use Rattle.serve.specs.declared.served.Cause.TheVariants.{Session}
 
--- a clock gave two moments, the later one at least 5,000 ms behind the earlier
+-- a clock can give two moments, the later one at least 5,000 ms behind the earlier
 pub record WasSilent (gives : ℕ → Type 0) : Type 0 where
   pub earlier : ℕ
   pub later : ℕ
@@ -15,7 +15,7 @@ pub record WasSilent (gives : ℕ → Type 0) : Type 0 where
   pub missed : gives later
   pub apart : earlier + 5000 ≤ later
 
--- it was heard last at a moment that a clock gave, and isn't late
+-- it was heard last at a moment that a clock can give, and isn't late
 pub record IsHeard (gives : ℕ → Type 0) (session : SessionState) : Type 0 where
   pub heard : gives session.last_input
   pub in_time : session.late ≡ false
@@ -28,7 +28,7 @@ HearsAt now old new (Ok done) =
 HearsAt now old new (Err fault) =
     fault ≡ faults.Session causes.TimedOut → old.last_input + 5000 ≤ now
 
--- the same at a moment that a clock gave
+-- the same at a moment that a clock can give
 abbrev pub HearsOn : {A : Type 0} → (ℕ → Type 0) → SessionState → Result A TurnFault → Type 0
 HearsOn gives session (Ok done) = IsHeard gives session
 HearsOn gives session (Err fault) = fault ≡ faults.Session causes.TimedOut → WasSilent gives

@@ -74,7 +74,7 @@ impl<'a, J: Naming, H: Wait + Drop, R: Wait + std::rt::Clock, C: Clock, G: Gate>
             (so_far (S.given link.old.source) (W.contents link.old.writer))
             (so_far (S.given link.new.source) (W.contents link.new.writer))) }
 
-        // It ends for silence only where the clock gave two moments 5,000 ms apart.
+        // It ends for silence only where the clock can give two moments 5,000 ms apart.
         ensures silent { IfErr result (λ faulted. faulted.cause
             ≡ Cause.Session SessionCause.TimedOut → WasSilent (C.gives self.now.clock.now)) }
 
