@@ -1,8 +1,8 @@
 -- What rows that are read stand for.
-use Rattle.std.proofs.Common.{◌≡◌, ℕ, zero, suc, ◌^◌, ◌-◌, ◌||◌, not, max, min, nat_lt, is_some}
-use Rattle.std.proofs.Common.{take, ◌+◌, ◌<◌, ◌≤◌, ◌==◌, Bool, true, false, cond, ◌&&◌, List, []}
-use Rattle.std.proofs.Common.{◌∷◌, Option, None, Some, length, refl, sym, ap, ◌∙◌, drop, arith}
-use Rattle.std.specs.Prelude.{filter, map, slice_get, sum_by}
+use Rattle.std.proofs.Common.{◌≡◌, ℕ, suc, ◌^◌, ◌-◌, ◌||◌, not, max, min, nat_lt, is_some}
+use Rattle.std.proofs.Common.{◌+◌, ◌<◌, ◌≤◌, ◌==◌, Bool, true, false, cond, ◌&&◌, List, []}
+use Rattle.std.proofs.Common.{◌∷◌, Option, None, Some, length, refl, sym, ap, ◌∙◌, arith}
+use Rattle.std.specs.Prelude.{filter, map, sum_by}
 use Rattle.std.specs.Cmp.Lexicographic.{slice_cmp}
 use Rattle.std.specs.BTreeMap.{is_at}
 use Rattle.std.specs.Borrow.{Bor}
@@ -10,7 +10,6 @@ use Rattle.std.specs.List.{AllByRecursion, dedup, fold, list_all, list_any}
 use Rattle.std.specs.Option.{MatchOption, option_copied, option_map}
 use Rattle.fleet_model.specs.Answers.{left_of, longer, sum_up, tally}
 use Rattle.fleet_model.specs.declared.summed.Summed.{Summed}
-use Rattle.agg_types.specs.Col.{same_col}
 use Rattle.agg_types.specs.declared.column.Col.{Col}
 use Rattle.fleet_model.specs.Moments.{is_live}
 use Rattle.fleet_model.specs.Next.{flat_moment}
@@ -25,17 +24,15 @@ use Rattle.std.proofs.lemmas.Bool.{and_parts, eqb-true}
 use Rattle.std.proofs.lemmas.Bool.Decides.{nat_tests}
 use Rattle.std.proofs.lemmas.List.Folds.{fold-map}
 use Rattle.std.proofs.lemmas.Map.Lookups.{exact_bytes}
-use Rattle.std.proofs.Math.Numerals.{add-one}
 use Rattle.std.proofs.lemmas.Cmp.{nat_list_cmp_total}
 use Rattle.peer_rows.proofs.Sorted.{equal_itself}
 use Rattle.agg_types.specs.RowKey.{row_key_cmp}
-use Rattle.agg_types.specs.declared.event.Cell.{Cell}
 use Rattle.agg_types.specs.declared.row_key.RowKey.{RowKey}
 use Rattle.agg_types.specs.Col.{all_cols}
 use Rattle.agg_types.specs.Op.{op_holds}
 use Rattle.agg_types.specs.declared.config.Cond.{Cond}
 use Rattle.fleet_model.specs.Keys.{key_rows, meet_at, row_worth, worth_of}
-use Rattle.fleet_model.specs.Values.{column_worth, live_keys, same_key, same_place}
+use Rattle.fleet_model.specs.Values.{live_keys, same_key, same_place}
 use Rattle.fleet_model.specs.declared.arrival.Arrival.{Arrival}
 use Rattle.peer_rows.specs.Rows.{RowMap, in_table, of_table_key, peers_of}
 use Rattle.peer_rows.specs.declared.row.Row.{Row}
@@ -46,23 +43,6 @@ use Rattle.book.proofs.Lists.{all-filter, all-map, map-filter, same_filters, sor
 
 abbrev Entry : Type 0
 Entry = RowKey × Row
-
--- ---- one more item
-found_next : {X : Type 0} (xs : List X) (i : ℕ) (x : X) → slice_get xs i ≡ Some x
-    → drop i xs ≡ x ∷ drop (suc i) xs
-found_next [] i x found = cc
-found_next (y ∷ ys) zero x found = let same : y ≡ x = cc in rw same refl
-found_next (y ∷ ys) (suc i) x found = found_next ys i x found
-
-pub drop_found : {X : Type 0} (xs : List X) (i : ℕ) (x : X) → slice_get xs i ≡ Some x
-    → drop i xs ≡ x ∷ drop (i + 1) xs
-drop_found xs i x found = rw add-one (found_next xs i x found)
-
-pub drop_end : {X : Type 0} (xs : List X) (i : ℕ) → slice_get xs i ≡ None → drop i xs ≡ []
-drop_end [] zero none = refl
-drop_end [] (suc i) none = refl
-drop_end (y ∷ ys) zero none = cc
-drop_end (y ∷ ys) (suc i) none = drop_end ys i none
 
 -- ---- the rows of a key
 pub eq_turned : (a b : ℕ) → (a == b) ≡ (b == a)
@@ -440,24 +420,6 @@ summed_from peers left values worths t rows found is some same =
     let with_values : List ℕ → Option Summed =
     λ vs. Some (record { peers = peers; left = left; values = vs }) in
     ap with_values same ∙ ap (option_map made) (sym some ∙ is)
-
--- ---- the next column and the next cell
-take_all : {X : Type 0} (n : ℕ) (xs : List X) → length xs ≤ n → take n xs ≡ xs
-take_all zero [] upto = refl
-take_all (suc n) [] upto = refl
-take_all zero (x ∷ xs) upto = absurd (omega arith)
-take_all (suc n) (x ∷ xs) upto = let less : length xs ≤ n = omega arith in
-    ap (λ ys. x ∷ ys) (take_all n xs less)
-
-pub worth_next : (col : Col) (since : ℕ) (cols : List (Col × ℕ)) (cell : Cell) (cells : List Cell)
-    → 1 ≤ length cols → ((first : Col × ℕ) (rest : List (Col × ℕ)) → cols ≡ first ∷ rest
-    → same_col first.0 col ≡ false) → column_worth col since (take (length cols - 1) (drop 1 cols))
-    cells ≡ column_worth col since cols (cell ∷ cells)
-worth_next col since [] cell cells some apart = absurd (omega arith)
-worth_next col since (c ∷ cs) cell cells some apart =
-    let less : length cs ≤ length (c ∷ cs) - 1 = omega arith in
-    rw (apart c cs refl) (ap (λ rest. column_worth col since rest cells)
-    (take_all (length (c ∷ cs) - 1) cs less))
 
 -- ---- how many keys there are
 map_map : {X Y Z : Type 0} (g : Y → Z) (f : X → Y) (xs : List X)

@@ -1,5 +1,5 @@
-use Rattle.std.proofs.Common.{rules, ◌≡◌, ◌<◌, ◌^◌, ◌∙◌, ℕ, List, Option, Some}
-use Rattle.std.proofs.Common.{IfSome, sym, subst, arith}
+use Rattle.std.proofs.Common.{rules, ◌≡◌, ◌<◌, ◌^◌, ℕ, List, Option, Some}
+use Rattle.std.proofs.Common.{IfSome, subst, arith}
 use Rattle.std.specs.Borrow.{Bor}
 use Rattle.crossing.specs.First.{IsDropAt}
 use Rattle.book.specs.Shown.{found_worth, rows_worth}

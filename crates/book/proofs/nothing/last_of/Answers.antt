@@ -1,6 +1,4 @@
-use Rattle.std.proofs.Common.{rules, ◌≡◌, ◌<◌, ◌≤◌, ◌+◌, ◌∷◌, ◌∙◌, ℕ, List, sym, arith}
-use Rattle.fleet_model.specs.Keys.{row_worth}
-use Rattle.book.specs.Shown.{as_arrival, rows_worth}
+use Rattle.std.proofs.Common.{rules, ◌≡◌, ◌∷◌, sym, arith}
 use Rattle.book.proofs.Placing.{row_falls, rows_split}
 use Rattle.book.proofs.nothing.last_of.Goals as goal
 

@@ -1,4 +1,4 @@
-use Rattle.std.proofs.Common.{rules, ◌≡◌, ◌-◌, ◌≤◌, ◌∙◌, ℕ, List, Option, Some}
+use Rattle.std.proofs.Common.{rules, ◌≡◌, ◌-◌, ◌≤◌, ◌∙◌, ℕ, Option, Some}
 use Rattle.std.proofs.Common.{IfSome, ap, sym, subst, arith}
 use Rattle.std.specs.Borrow.{Bor}
 use Rattle.fleet_model.specs.Keys.{row_worth}

@@ -1,10 +1,8 @@
-use Rattle.std.proofs.Common.{rules, ◌≡◌, ◌-◌, ◌∙◌, ℕ, Option, Some, None, ap, sym, true, arith}
-use Rattle.std.specs.Prelude.{slice_get}
+use Rattle.std.proofs.Common.{rules, ◌≡◌, ◌∙◌, Some, None, ap, sym, true, arith}
 use Rattle.fleet_model.specs.Moments.{is_live}
 use Rattle.fleet_model.specs.Values.{cell_worth}
 use Rattle.book.specs.Shown.{as_arrival, cell_of}
-use Rattle.peer_rows.specs.declared.row.Held.{Held}
-use Rattle.book.proofs.Placing.{held_worth, placed_worth, row_holds, row_lives}
+use Rattle.book.proofs.Placing.{row_holds, row_lives}
 use Rattle.book.proofs.values.row_worth.Goals as goal
 
 pub returns-in-None : goal.returns-in-None
