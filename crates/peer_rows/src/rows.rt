@@ -17,11 +17,21 @@ use std::marker::Model;
 ///
 /// Peers and tables are named by their positions. Contracts see the numbers of peers and tables,
 /// and the rows as the list of the entries of a finite map, by table, then by key, then by peer.
-#[derive(Drop)]
 pub struct Rows {
     peers: usize,
     tables: Vec<Table>,
     alloc: Global,
+}
+
+// By hand, so that what drops it elsewhere proves nothing of its parts.
+impl Drop for Rows {
+    fn drop(self) {
+        let Rows {
+            peers: _,
+            tables: _,
+            alloc: _,
+        } = self;
+    }
 }
 
 impl Model for Rows {

@@ -88,13 +88,24 @@ impl<T: Drop> Segment<T> {
 /// A list in segments. Contracts see its items, and for how many further ones there is memory.
 ///
 /// No item ever moves: a further one moves at most the addresses of the segments.
-#[derive(Drop)]
 pub struct Segments<T> {
     segments: Vec<Segment<T>>,
     // Segments without items, which come next.
     blank: Vec<Segment<T>>,
     len: usize,
     room: usize,
+}
+
+// By hand, so that what drops it elsewhere proves nothing of its parts.
+impl<T: Drop> Drop for Segments<T> {
+    fn drop(self) {
+        let Segments {
+            segments: _,
+            blank: _,
+            len: _,
+            room: _,
+        } = self;
+    }
 }
 
 impl<T> Model for Segments<T> {

@@ -8,5 +8,5 @@ returns-clause-ok c = search rules
 pub returns-clause-summed : goal.returns-clause-summed
 returns-clause-summed c =
     mosts-second c.in_ok-mosts.mosts c.in-One.field-0 c.args.new.0 c.in-One.held c.args.new.1
-    c.push-3.new.self.items c.in_ok-mosts.ensures.both c.in_ok-mosts.ensures.turned
+    c.push-2.new.self.items c.in_ok-mosts.ensures.both c.in_ok-mosts.ensures.turned
     (rw c.in-One.is at c.requires.apart) (rw c.in-One.is at (returns-clause-ok c))
