@@ -9,6 +9,7 @@ pub mod History
 pub mod State
 pub mod Machine
 pub mod Answers
+pub mod Named
 pub mod Laws
 pub mod Worked
 pub mod Ranking

@@ -19,13 +19,23 @@ use std::marker::Model;
 /// A bound keeps slack, so that a value that moves a little moves nothing here: it is kept while it
 /// holds and isn't above four times of what it bounds. Values only fall by themselves, so a bound
 /// holds as time goes on.
-#[derive(Drop)]
 pub struct Bounds {
     // By the leading zeros of its bound: each key, the greatest bounds first.
     index: OrderedDue<Key>,
     // By key: how many leading zeros its bound has.
     zeros: BTreeMap<Key, u64>,
     alloc: Global,
+}
+
+// By hand, so that what drops it elsewhere proves nothing of its parts.
+impl Drop for Bounds {
+    fn drop(self) {
+        let Bounds {
+            index: _,
+            zeros: _,
+            alloc: _,
+        } = self;
+    }
 }
 
 impl Model for Bounds {

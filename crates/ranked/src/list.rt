@@ -19,7 +19,6 @@ use std::marker::Model;
 /// Contracts see what it has left, how many entries of the index it took, and which lie ahead. When
 /// it has given an item it never took more than there are keys with a bound of at least the item's
 /// value.
-#[derive(Drop)]
 pub struct Ranked<'a, V: Values> {
     index: &'a OrderedDue<Key>,
     ahead: Entries<'a, Key, OrderedDue<Key>>,
@@ -32,6 +31,23 @@ pub struct Ranked<'a, V: Values> {
     // How many keys may still be given.
     left: usize,
     walked: usize,
+}
+
+// By hand, so that what drops it elsewhere proves nothing of its parts.
+impl<V: Values> Drop for Ranked<'_, V> {
+    fn drop(self) {
+        let Ranked {
+            index: _,
+            ahead: _,
+            candidates: _,
+            values: _,
+            table: _,
+            col: _,
+            now: _,
+            left: _,
+            walked: _,
+        } = self;
+    }
 }
 
 impl<'a, V: Values> Model for Ranked<'a, V> {

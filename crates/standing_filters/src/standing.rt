@@ -30,10 +30,19 @@ use std::marker::Model;
 /// Standing filters, each with the keys that it holds or will hold by the clock alone.
 ///
 /// Contracts see each filter with its verdicts.
-#[derive(Drop)]
 pub struct Standing {
     watches: Vec<Watch>,
     alloc: Global,
+}
+
+// By hand, so that what drops it elsewhere proves nothing of its parts.
+impl Drop for Standing {
+    fn drop(self) {
+        let Standing {
+            watches: _,
+            alloc: _,
+        } = self;
+    }
 }
 
 impl Model for Standing {

@@ -19,12 +19,12 @@ overflow_sub-self g c = omega (
 )
 
 -- the slot that the code fills, which is empty
-slot_here : (g : given.Over) (c : goal.After-drop-part-inside g)
+slot_here : (g : given.Over) (c : goal.After-drop-part g)
     → Opened c.self.inside.slots c.slot_at-slot.result
 slot_here g c = opened c.self.inside.slots c.slot_at-slot.result
     (omega (arith, c.slot_at-slot.ensures.within, c.self.invariant.complete))
 
-none_here : (g : given.Over) (c : goal.After-drop-part-inside g) → (slot_here g c).here ≡ []
+none_here : (g : given.Over) (c : goal.After-drop-part g) → (slot_here g c).here ≡ []
 none_here g c = sym (c.slot.ensures ∙ (slot_here g c).read [])
     ∙ c.is_empty.ensures.0 c.if-not-is_empty.false
 
