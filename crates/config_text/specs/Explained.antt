@@ -1,6 +1,6 @@
 -- What is told of the faults of a configuration beside their names.
 use Rattle.std.specs.Prelude.{ℕ, ◌-◌, if◌then◌else◌, List, [], ◌++◌, codes}
-use Rattle.std.specs.Prelude.{slice_index_or, Option, None, Some}
+use Rattle.std.specs.Prelude.{Option, None, Some}
 use Rattle.std.specs.Fmt.{decimal}
 use Rattle.std.specs.List.{flat_map}
 use Rattle.std.specs.Str.{bytes_eq}
@@ -16,18 +16,11 @@ use Rattle.agg_config.specs.declared.causes.LineCause.{LineCause}
 use Rattle.agg_config.specs.declared.causes.LineCause.TheVariants.{Syntax, Number, Check, NoMemory}
 use Rattle.agg_config.specs.declared.causes.LineFault.{LineFault}
 use Rattle.key_text.specs.Printed.{escaped}
+use Rattle.line_words.specs.Numbered.{line_at, word_at}
 use Rattle.line_words.specs.Words.{words}
 use Rattle.line_words.specs.declared.misread.Expected.{Expected}
 use Rattle.line_words.specs.declared.misread.Expected.TheVariants as expected
 use Rattle.line_words.specs.declared.misread.Misread.{Misread}
-
--- the line of this number, from 1; empty where there is none
-abbrev pub line_at : ℕ → List (List ℕ) → List ℕ
-line_at number lines = slice_index_or lines (number - 1) []
-
--- the word of this number, from 1; empty where there is none
-abbrev pub word_at : ℕ → List (List ℕ) → List ℕ
-word_at number words = slice_index_or words (number - 1) []
 
 -- what had to stand in a place
 abbrev pub expected_text : Expected → List ℕ

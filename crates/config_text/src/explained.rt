@@ -4,9 +4,9 @@ ghost use Rattle.std.specs.Prelude.{◌≡◌, ◌++◌, OnOk};
 ghost use Rattle.std.specs.Fmt.{decimal};
 ghost use Rattle.line_words.specs.Words.{lines_of, words};
 ghost use Rattle.config_text.specs.Explained.{cause_text, check_text, expected_text, explanation};
-ghost use Rattle.config_text.specs.Explained.{explanations, form_named, found_text, line_at};
+ghost use Rattle.config_text.specs.Explained.{explanations, form_named, found_text};
 ghost use Rattle.config_text.specs.Explained.{line_explanation, misread_text, quoted, reason_text};
-ghost use Rattle.config_text.specs.Explained.{wanted_text, word_at};
+ghost use Rattle.config_text.specs.Explained.{wanted_text};
 ghost use Rattle.agg_types.specs.declared.check.ConfigFault.TheVariants.{TooMany, BadPeriod};
 ghost use Rattle.agg_types.specs.declared.check.ConfigFault.TheVariants.{BadSize, BadName};
 
@@ -17,7 +17,7 @@ use agg_types::limits::{
 };
 use agg_types::{ConfigFault, KeyKind, NoMemory};
 use key_text::{append_key, append_number, append_text};
-use line_words::{Expected, Misread, next_line, next_word};
+use line_words::{Expected, Misread, line_at, word_at};
 
 /// The longest period and the longest hold, in ms.
 const LAST_PERIOD: u64 = PERIOD_END as u64 - 1;
@@ -217,36 +217,4 @@ fn append_counted(label: &[u8], number: u64, out: &mut Vec<u8>) -> Result<(), No
 {
     append_text(label, out)?;
     append_number(u128::from(number), out)
-}
-
-// The line of this number, from 1; empty where there is none.
-fn line_at(text: &[u8], number: usize) -> &[u8]
-    ensures { result.now ≡ line_at number (lines_of text.now) }
-{
-    let mut left = text;
-    let mut ahead = number.saturating_sub(1);
-    'lines: while let Some((line, rest)) = next_line(left) {
-        if ahead == 0 {
-            return line;
-        }
-        ahead -= 1;
-        left = rest;
-    }
-    b""
-}
-
-// The word of this number, from 1; empty where there is none.
-fn word_at(line: &[u8], number: usize) -> &[u8]
-    ensures { result.now ≡ word_at number (words line.now) }
-{
-    let mut left = line;
-    let mut ahead = number.saturating_sub(1);
-    'words: while let Some((word, rest)) = next_word(left) {
-        if ahead == 0 {
-            return word;
-        }
-        ahead -= 1;
-        left = rest;
-    }
-    b""
 }

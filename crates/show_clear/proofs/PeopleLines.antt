@@ -18,6 +18,7 @@ use Rattle.agg_types.specs.declared.limits.TheConstants.{LONGEST_COMMAND_LINE, L
 use Rattle.agg_types.specs.declared.limits.TheConstants.{MOST_CONDS, MOST_FILTERS}
 use Rattle.fleet_model.specs.Answers.{filter_of}
 use Rattle.fleet_model.specs.State.{State}
+use Rattle.line_words.specs.Numbered.{word_at}
 use Rattle.line_words.specs.Words.{lines_of, words}
 use Rattle.line_words.proofs.TextLines.{is_line_byte, lines_back}
 use Rattle.line_words.proofs.WordsBack.{both}
@@ -30,7 +31,7 @@ use Rattle.show_clear.specs.Explained.{kind_text, listed, long_text, names_text,
 use Rattle.show_clear.specs.Explained.{no_filter_named, no_name, no_peer_named, no_rank_named}
 use Rattle.show_clear.specs.Explained.{is_begun, no_table, not_added, printed, quoted, shape_in}
 use Rattle.show_clear.specs.Explained.{unknown_text}
-use Rattle.show_clear.specs.Explained.{show_form, stored_text, word_at, words_text}
+use Rattle.show_clear.specs.Explained.{show_form, stored_text, words_text}
 use Rattle.show_clear.specs.Explained.{wrong_cond}
 use Rattle.show_clear.specs.Parse.{without_returns}
 use Rattle.show_clear.specs.People.{IsPeoplesAnswer, TellsPeople, change_ahead, distance_text}

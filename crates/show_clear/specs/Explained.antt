@@ -1,7 +1,7 @@
 -- What people are told of a refused line beside its fault: the word that is wrong, and what was
 -- expected.
-use Rattle.std.specs.Prelude.{ℕ, ◌-◌, Bool, true, false, ◌&&◌, ◌||◌, if◌then◌else◌, nat_le, nat_lt}
-use Rattle.std.specs.Prelude.{List, [], ◌∷◌, ◌++◌, codes, drop, length, map, take, slice_index_or}
+use Rattle.std.specs.Prelude.{ℕ, Bool, true, false, ◌&&◌, ◌||◌, if◌then◌else◌, nat_le, nat_lt}
+use Rattle.std.specs.Prelude.{List, [], ◌∷◌, ◌++◌, codes, drop, length, map, take}
 use Rattle.std.specs.Prelude.{position, Option, None, Some, Result, Ok, Err, is_some}
 use Rattle.std.specs.Fmt.{decimal}
 use Rattle.std.specs.Str.{bytes_eq}
@@ -11,6 +11,7 @@ use Rattle.agg_types.specs.declared.config.Shape.{Shape}
 use Rattle.agg_types.specs.declared.limits.TheConstants.{LONGEST_COMMAND_LINE, LONGEST_NAME}
 use Rattle.agg_types.specs.declared.limits.TheConstants.{MOST_CONDS, MOST_FILTERS}
 use Rattle.fleet_model.specs.State.{State}
+use Rattle.line_words.specs.Numbered.{word_at}
 use Rattle.line_words.specs.Numbers.{number_of}
 use Rattle.line_words.specs.Operators.{operator_of}
 use Rattle.line_words.specs.Words.{words}
@@ -37,10 +38,6 @@ printed byte = if nat_le 32 byte && nat_le byte 126 then byte else 63
 -- the first bytes of a word as they are told, in quotes
 abbrev pub quoted : List ℕ → List ℕ
 quoted word = codes "\"" ++ map printed (take MOST_QUOTED word) ++ codes "\""
-
--- the word of this number, from 1; empty where there is none
-abbrev pub word_at : ℕ → List (List ℕ) → List ℕ
-word_at number words = slice_index_or words (number - 1) []
 
 -- names, each behind a comma but the first, which stands behind this
 abbrev pub listed : List ℕ → List (List ℕ) → List ℕ

@@ -9,7 +9,6 @@ use crate::fleet::Book;
 use crate::forms::append_form;
 use crate::parsing::without_returns;
 use crate::pieces::{append_counted, append_labelled};
-use crate::quoting::word_at;
 use crate::unfit::{
     append_bad_column, append_bad_key, append_bad_name, append_bad_operator, append_bad_value,
     append_exists, append_full, append_too_many,
@@ -18,6 +17,7 @@ use crate::unnamed::append_no_name;
 use agg_types::NoMemory;
 use agg_types::limits::LONGEST_COMMAND_LINE;
 use key_text::append_text;
+use line_words::word_at;
 use std::alloc::Global;
 
 /// Appends the refusal of a line over a book, for people: a line with the fault's number and name,

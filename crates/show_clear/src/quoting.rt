@@ -1,14 +1,12 @@
 //! Words of a line, and names, as they are told.
 
-ghost use Rattle.std.specs.Prelude.{◌≡◌, ◌++◌, [], drop, map, take, OnOk};
+ghost use Rattle.std.specs.Prelude.{◌≡◌, ◌++◌, [], map, take, OnOk};
 ghost use Rattle.agg_types.specs.Col.{col_name};
-ghost use Rattle.line_words.specs.Words.{words};
-ghost use Rattle.show_clear.specs.Explained.{listed, names_text, printed, quoted, word_at};
+ghost use Rattle.show_clear.specs.Explained.{listed, names_text, printed, quoted};
 
 use crate::pieces::append_labelled;
 use agg_types::{Col, Named, NoMemory};
 use key_text::append_text;
-use line_words::next_word;
 
 /// How many bytes of a word are told.
 pub(crate) const MOST_QUOTED: usize = 40;
@@ -102,36 +100,4 @@ pub(crate) fn append_columns(cols: &[(Col, u32)], out: &mut Vec<u8>) -> Result<(
         before = COMMA;
     }
     Ok(())
-}
-
-/// The word of this number, from 1; empty where there is none.
-pub(crate) fn word_at(line: &[u8], number: usize) -> &[u8]
-    ensures { result.now ≡ word_at number (words line.now) }
-{
-    let mut left = line;
-    let mut ahead = number.saturating_sub(1);
-    'words: while let Some((word, rest)) = next_word(left) {
-        if ahead == 0 {
-            return word;
-        }
-        ahead -= 1;
-        left = rest;
-    }
-    b""
-}
-
-/// What stands behind so many words.
-pub(crate) fn behind_words(line: &[u8], count: usize) -> &[u8]
-    ensures { words result.now ≡ drop count (words line.now) }
-{
-    let mut left = line;
-    let mut ahead = count;
-    'words: while let Some((_word, rest)) = next_word(left) {
-        if ahead == 0 {
-            return left;
-        }
-        ahead -= 1;
-        left = rest;
-    }
-    left
 }

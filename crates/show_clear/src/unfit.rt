@@ -14,12 +14,12 @@ use crate::answers::shape_of;
 use crate::conditions::cond_col;
 use crate::fleet::Book;
 use crate::pieces::append_counted;
-use crate::quoting::{append_columns, append_quoted, behind_words, word_at};
+use crate::quoting::{append_columns, append_quoted};
 use crate::tables::kind_name;
 use agg_types::limits::LONGEST_NAME;
 use agg_types::{MOST_CONDS, MOST_FILTERS, NoMemory, Shape};
 use key_text::append_text;
-use line_words::{next_word, number, operator};
+use line_words::{behind_words, next_word, number, operator, word_at};
 
 /// What a word of a condition stands for.
 #[derive(Clone, Copy)]

@@ -6,9 +6,10 @@ ghost use Rattle.show_clear.specs.Explained.{no_filter_named, no_name, no_peer_n
 ghost use Rattle.show_clear.specs.Explained.{no_rank_named, no_table, not_added, not_shown};
 
 use crate::fleet::Book;
-use crate::quoting::{append_names, append_quoted, word_at};
+use crate::quoting::{append_names, append_quoted};
 use agg_types::NoMemory;
 use key_text::append_text;
+use line_words::word_at;
 
 /// Appends which name of a line nothing has.
 pub(crate) fn append_no_name(book: &Book, line: &[u8], out: &mut Vec<u8>) -> Result<(), NoMemory>

@@ -1,6 +1,6 @@
 use Rattle.std.proofs.Common.{◌≡◌, drop, length}
 use Rattle.line_words.specs.Words.{words}
-use Rattle.show_clear.proofs.quoting.behind_words.Given as goal
+use Rattle.line_words.proofs.numbered.behind_words.Given as goal
 
 -- the words wanted are as far ahead of what is left
 abbrev pub invariant-words : goal.invariant-words

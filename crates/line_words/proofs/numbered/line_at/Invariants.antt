@@ -1,7 +1,7 @@
 use Rattle.std.proofs.Common.{◌≡◌, ◌-◌, [], length}
 use Rattle.std.specs.Prelude.{slice_index_or}
 use Rattle.line_words.specs.Words.{lines_of}
-use Rattle.config_text.proofs.explained.line_at.Given as goal
+use Rattle.line_words.proofs.numbered.line_at.Given as goal
 
 -- the line wanted is as far ahead of what is left
 abbrev pub invariant-lines : goal.invariant-lines
