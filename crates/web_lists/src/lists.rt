@@ -2,12 +2,31 @@
 
 ghost use Rattle.std.specs.Prelude.{◌<◌, length};
 
-use agg_types::{Cond, Key, KeyKind, NoMemory, Shape};
+use agg_types::{Cond, Key, KeyKind, Name, NoMemory, Shape};
 use book::Book;
 use fleet_model::Summed;
 use key_text::read_key;
 use std::alloc::Global;
 use web_text::{AskFault, Entries, Json, begin_list, end_list, is_behind, keys_from, put_table};
+
+// Which keys of a list are told: so many at most, of those behind one, or from the first on.
+#[derive(Drop)]
+struct Part {
+    kind: KeyKind,
+    after: Option<Key>,
+    limit: usize,
+}
+
+impl Part {
+    // What is asked for, of keys of a kind.
+    fn of(alloc: Global, kind: KeyKind, entries: Entries<'_>) -> Result<Part, AskFault> {
+        Ok(Part {
+            kind,
+            after: key_after(alloc, kind, entries.after)?,
+            limit: entries.limit,
+        })
+    }
+}
 
 // The key that a text says, if there is one.
 fn key_after(alloc: Global, kind: KeyKind, after: Option<&[u8]>) -> Result<Option<Key>, AskFault> {
@@ -18,6 +37,18 @@ fn key_after(alloc: Global, kind: KeyKind, after: Option<&[u8]>) -> Result<Optio
             Some(key) => Ok(Some(key)),
         },
     }
+}
+
+// Begins a list of a book, with what it is a list of.
+fn begin(
+    json: &mut Json,
+    book: &Book,
+    events: u64,
+    what: &str,
+    name: &Name,
+) -> Result<(), NoMemory> {
+    begin_list(json, events, book.moment())?;
+    json.text(what, name.as_slice())
 }
 
 /// The keys that the standing filter at a place holds.
@@ -32,19 +63,37 @@ pub fn filter_list(
 {
     let filter = &book.config().filters.as_slice()[place];
     let mut json = Json::new(alloc);
-    begin_list(&mut json, events, book.moment())?;
-    json.text("filter", filter.name.as_slice())?;
+    begin(&mut json, book, events, "filter", &filter.name)?;
     let kind = put_table(&mut json, book.config(), filter.table)?;
-    let after = key_after(alloc, kind, entries.after)?;
+    let part = Part::of(alloc, kind, entries)?;
+    let more = put_filter(alloc, &mut json, book, place, &part)?;
+    Ok(end_list(json, more)?)
+}
+
+// Puts how many keys a filter holds, when that changes next, and a part of them; answers whether
+// more follow.
+fn put_filter(
+    alloc: Global,
+    json: &mut Json,
+    book: &Book,
+    place: usize,
+    part: &Part,
+) -> Result<bool, NoMemory>
+    requires { place < length book.now.config.filters }
+{
     let keys = book.filter_keys(alloc, place)?;
     json.number("keys", keys.len() as u64)?;
     json.number_if("next_change", book.next_change(alloc, place)?)?;
     json.begin_list("entries")?;
-    let (told, more) = keys_from(alloc, keys.as_slice(), after.as_ref(), entries.limit)?;
+    put_keys(alloc, json, keys.as_slice(), part)
+}
+
+fn put_keys(alloc: Global, json: &mut Json, keys: &[&Key], part: &Part) -> Result<bool, NoMemory> {
+    let (told, more) = keys_from(alloc, keys, part.after.as_ref(), part.limit)?;
     for key in told.as_slice() {
-        json.key_item(kind, key.as_slice())?;
+        json.key_item(part.kind, key.as_slice())?;
     }
-    Ok(end_list(json, more)?)
+    Ok(more)
 }
 
 /// The keys of the ranked list at a place, with their values. What is asked for behind a key that
@@ -60,30 +109,46 @@ pub fn rank_list(
 {
     let rank = &book.config().ranks.as_slice()[place];
     let mut json = Json::new(alloc);
-    begin_list(&mut json, events, book.moment())?;
-    json.text("rank", rank.name.as_slice())?;
+    begin(&mut json, book, events, "rank", &rank.name)?;
     let kind = put_table(&mut json, book.config(), rank.table)?;
     json.text("column", rank.col.name().as_bytes())?;
-    let after = key_after(alloc, kind, entries.after)?;
     json.begin_list("entries")?;
-    let mut is_told = after.is_none();
-    let mut left = entries.limit;
-    let mut more = false;
+    let part = Part::of(alloc, kind, entries)?;
+    let more = put_ranked(alloc, &mut json, book, place, &part)?;
+    Ok(end_list(json, more)?)
+}
+
+// Puts a part of a ranked list, and answers whether more follow.
+fn put_ranked(
+    alloc: Global,
+    json: &mut Json,
+    book: &Book,
+    place: usize,
+    part: &Part,
+) -> Result<bool, NoMemory>
+    requires { place < length book.now.config.ranks }
+{
+    let mut is_told = part.after.is_none();
+    let mut left = part.limit;
     for (key, value) in book.top(alloc, place)? {
         if !is_told {
-            is_told = is_same(after.as_ref(), key);
+            is_told = is_same(part.after.as_ref(), key);
         } else if left == 0 {
-            more = true;
-            break;
+            return Ok(true);
         } else {
             left -= 1;
-            json.begin_object()?;
-            json.key("key", kind, key.as_slice())?;
-            json.sum("value", value)?;
-            json.end_object()?;
+            put_value(json, part.kind, key, value)?;
         }
     }
-    Ok(end_list(json, more)?)
+    Ok(false)
+}
+
+// Puts a key of a ranked list.
+fn put_value(json: &mut Json, kind: KeyKind, key: &Key, value: u128) -> Result<(), NoMemory> {
+    json.begin_object()?;
+    json.key("key", kind, key.as_slice())?;
+    json.sum("value", value)?;
+    json.end_object()
 }
 
 // Whether this is the key that is asked for behind.
@@ -109,6 +174,19 @@ fn put_row(json: &mut Json, shape: &Shape, key: &Key, sums: &Summed) -> Result<(
     json.end_object()
 }
 
+// Begins the list of the table at a place.
+fn begin_table(
+    json: &mut Json,
+    book: &Book,
+    events: u64,
+    place: usize,
+    shape: &Shape,
+) -> Result<(), NoMemory> {
+    begin(json, book, events, "table", &shape.name)?;
+    json.number("keys", book.used(place))?;
+    json.begin_list("entries")
+}
+
 /// The summed rows of the table at a place that meet conditions.
 pub fn table_list(
     alloc: Global,
@@ -121,16 +199,13 @@ pub fn table_list(
     requires { place < length book.now.config.tables }
 {
     let shape = &book.config().tables.as_slice()[place];
-    let after = key_after(alloc, shape.kind, entries.after)?;
+    let part = Part::of(alloc, shape.kind, entries)?;
     let mut json = Json::new(alloc);
-    begin_list(&mut json, events, book.moment())?;
-    json.text("table", shape.name.as_slice())?;
-    json.number("keys", book.used(place))?;
-    json.begin_list("entries")?;
-    let mut left = entries.limit;
+    begin_table(&mut json, book, events, place, shape)?;
+    let mut left = part.limit;
     let mut more = false;
     for (key, sums) in book.rows_where(alloc, place, conds)? {
-        if !is_behind(after.as_ref(), key) {
+        if !is_behind(part.after.as_ref(), key) {
             continue;
         }
         if left == 0 {
@@ -155,10 +230,7 @@ pub fn row_list(
 {
     let shape = &book.config().tables.as_slice()[place];
     let mut json = Json::new(alloc);
-    begin_list(&mut json, events, book.moment())?;
-    json.text("table", shape.name.as_slice())?;
-    json.number("keys", book.used(place))?;
-    json.begin_list("entries")?;
+    begin_table(&mut json, book, events, place, shape)?;
     if let Some(sums) = book.summed(place, key) {
         put_row(&mut json, shape, key, &sums)?;
     }

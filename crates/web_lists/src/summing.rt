@@ -2,7 +2,7 @@
 
 ghost use Rattle.std.specs.Prelude.{◌<◌, length};
 
-use agg_types::{Filter, NoMemory, Rank};
+use agg_types::{Filter, Key, NoMemory, Rank};
 use book::Book;
 use std::alloc::Global;
 use web_text::{FilterSum, PeerRows, RankSum, Summary};
@@ -12,22 +12,10 @@ const MOST_KEYS: usize = 20;
 
 /// Sums a book up that answers for so many events.
 pub fn summed_up(alloc: Global, book: &Book, events: u64) -> Result<Summary, NoMemory> {
-    let mut tables = Vec::new(alloc);
-    for table in 0..book.config().tables.len() {
-        tables.push(book.used(table))?;
-    }
-    let mut peers = Vec::new(alloc);
-    for peer in 0..book.config().peers.len() {
-        peers.push(held_by_table(alloc, book, peer)?)?;
-    }
-    let mut filters = Vec::new(alloc);
-    for (place, filter) in book.config().filters.as_slice().iter().enumerate() {
-        filters.push(filter_sum(alloc, book, place, filter)?)?;
-    }
-    let mut ranks = Vec::new(alloc);
-    for (place, rank) in book.config().ranks.as_slice().iter().enumerate() {
-        ranks.push(rank_sum(alloc, book, place, rank)?)?;
-    }
+    let tables = used_of(alloc, book)?;
+    let peers = held_of_peers(alloc, book)?;
+    let filters = filter_sums(alloc, book)?;
+    let ranks = rank_sums(alloc, book)?;
     Ok(Summary {
         events,
         moment: book.moment(),
@@ -36,6 +24,40 @@ pub fn summed_up(alloc: Global, book: &Book, events: u64) -> Result<Summary, NoM
         filters,
         ranks,
     })
+}
+
+// How many keys each table has.
+fn used_of(alloc: Global, book: &Book) -> Result<Vec<u64>, NoMemory> {
+    let mut tables = Vec::new(alloc);
+    for table in 0..book.config().tables.len() {
+        tables.push(book.used(table))?;
+    }
+    Ok(tables)
+}
+
+// What each peer holds of each table.
+fn held_of_peers(alloc: Global, book: &Book) -> Result<Vec<Vec<PeerRows>>, NoMemory> {
+    let mut peers = Vec::new(alloc);
+    for peer in 0..book.config().peers.len() {
+        peers.push(held_by_table(alloc, book, peer)?)?;
+    }
+    Ok(peers)
+}
+
+fn filter_sums(alloc: Global, book: &Book) -> Result<Vec<FilterSum>, NoMemory> {
+    let mut filters = Vec::new(alloc);
+    for (place, filter) in book.config().filters.as_slice().iter().enumerate() {
+        filters.push(filter_sum(alloc, book, place, filter)?)?;
+    }
+    Ok(filters)
+}
+
+fn rank_sums(alloc: Global, book: &Book) -> Result<Vec<RankSum>, NoMemory> {
+    let mut ranks = Vec::new(alloc);
+    for (place, rank) in book.config().ranks.as_slice().iter().enumerate() {
+        ranks.push(rank_sum(alloc, book, place, rank)?)?;
+    }
+    Ok(ranks)
 }
 
 // What a peer holds of a table.
@@ -79,31 +101,50 @@ fn filter_sum(
 ) -> Result<FilterSum, NoMemory>
     requires { place < length book.now.config.filters }
 {
+    let next = book.next_change(alloc, place)?;
+    let name = filter.name.duplicate(alloc)?;
+    let (keys, first) = first_held(alloc, book, place)?;
+    Ok(FilterSum {
+        name,
+        table: filter.table,
+        keys,
+        next,
+        first,
+    })
+}
+
+// How many keys a filter holds, and the first of them.
+fn first_held(alloc: Global, book: &Book, place: usize) -> Result<(usize, Vec<Key>), NoMemory>
+    requires { place < length book.now.config.filters }
+{
     let keys = book.filter_keys(alloc, place)?;
     let mut first = Vec::new(alloc);
     for key in keys.as_slice().iter().take(MOST_KEYS) {
         first.push(key.duplicate(alloc)?)?;
     }
-    Ok(FilterSum {
-        name: filter.name.duplicate(alloc)?,
-        table: filter.table,
-        keys: keys.len(),
-        next: book.next_change(alloc, place)?,
+    Ok((keys.len(), first))
+}
+
+fn rank_sum(alloc: Global, book: &Book, place: usize, rank: &Rank) -> Result<RankSum, NoMemory>
+    requires { place < length book.now.config.ranks }
+{
+    let name = rank.name.duplicate(alloc)?;
+    let first = first_ranked(alloc, book, place)?;
+    Ok(RankSum {
+        name,
+        table: rank.table,
+        column: rank.col.name(),
         first,
     })
 }
 
-fn rank_sum(alloc: Global, book: &Book, place: usize, rank: &Rank) -> Result<RankSum, NoMemory>
+// The first keys of a ranked list, with their values.
+fn first_ranked(alloc: Global, book: &Book, place: usize) -> Result<Vec<(Key, u128)>, NoMemory>
     requires { place < length book.now.config.ranks }
 {
     let mut first = Vec::new(alloc);
     for (key, value) in book.top(alloc, place)?.take(MOST_KEYS) {
         first.push((key.duplicate(alloc)?, value))?;
     }
-    Ok(RankSum {
-        name: rank.name.duplicate(alloc)?,
-        table: rank.table,
-        column: rank.col.name(),
-        first,
-    })
+    Ok(first)
 }
