@@ -72,6 +72,12 @@ length-cells_of (suc len) kinds words =
     length-append (cells_of len (kinds / 4) words) _
     ∙ (rw (length-cells_of len (kinds / 4) words) (omega arith))
 
+-- the first cells' words and the last cell's
+pub total-last : (len kinds : ℕ) → 0 < len
+    → total_width len kinds ≡ total_width (len - 1) (kinds / 4) + width (kind_of (kinds % 4))
+total-last zero kinds some = absurd (omega (arith, some))
+total-last (suc len) kinds some = let same : suc len - 1 ≡ len = omega arith in rw same refl
+
 -- ---- the cell of a column
 get-last : (cells : List Held) (cell : Held) → slice_get (cells ++ cell ∷ []) (length cells)
     ≡ Some cell

@@ -1,6 +1,6 @@
 //! Cells in words of 32 bits that lie in the row itself, one cell behind the other.
 ghost use Rattle.std.specs.Prelude.{◌≡◌, ◌+◌, ◌*◌, ◌<◌, ◌≤◌, ◌%◌, ℕ, [], ◌∷◌, ◌++◌, length};
-ghost use Rattle.std.specs.Prelude.{slice_get, slice_index, if◌then◌else◌};
+ghost use Rattle.std.specs.Prelude.{slice_get, slice_index, IfNone, IfSome, IsSome};
 ghost use Rattle.peer_rows.specs.Few.{cell_at, cells_of, kind_of, total_width, width};
 
 use crate::Held;
@@ -87,11 +87,14 @@ pub(crate) fn get(len: u8, kinds: u16, words: &Words, col: usize) -> Option<Held
     get(before, kinds / 4, words, col)
 }
 
-/// Adds a cell, if there is room for it.
-pub(crate) fn push(len: &mut u8, kinds: &mut u16, words: &mut Words, held: &Held) -> bool
-    ensures { cells_of len.new kinds.new words.new ≡ (if result
-        then cells_of len.old kinds.old words.old ++ held.now ∷ []
-        else cells_of len.old kinds.old words.old) }
+/// Lays a cell's words behind those of others, if there is room for it, and answers the number whose
+/// digits then are the kinds.
+#[inline]
+pub(crate) fn push(len: u8, kinds: u16, words: &mut Words, held: &Held) -> Option<u16>
+    ensures some { IfSome result (λ later. cells_of (len + 1) later words.new
+        ≡ cells_of len kinds words.old ++ held.now ∷ []) }
+    ensures few { IsSome result → len < 7 }
+    ensures none { IfNone result (words.new ≡ words.old) }
 {
     match held {
         Held::Count(count) => push_count(len, kinds, words, *count),
@@ -99,11 +102,13 @@ pub(crate) fn push(len: &mut u8, kinds: &mut u16, words: &mut Words, held: &Held
     }
 }
 
-// Adds a rate, in three words if it fits there.
-fn push_rate(len: &mut u8, kinds: &mut u16, words: &mut Words, rate: &Rate) -> bool
-    ensures { cells_of len.new kinds.new words.new ≡ (if result
-        then cells_of len.old kinds.old words.old ++ Held.Rate rate.now ∷ []
-        else cells_of len.old kinds.old words.old) }
+// Lays a rate, in three words if it fits there.
+#[inline]
+fn push_rate(len: u8, kinds: u16, words: &mut Words, rate: &Rate) -> Option<u16>
+    ensures some { IfSome result (λ later. cells_of (len + 1) later words.new
+        ≡ cells_of len kinds words.old ++ Held.Rate rate.now ∷ []) }
+    ensures few { IsSome result → len < 7 }
+    ensures none { IfNone result (words.new ≡ words.old) }
 {
     let wide = rate.to_words();
     match narrowed(&wide) {
@@ -112,11 +117,13 @@ fn push_rate(len: &mut u8, kinds: &mut u16, words: &mut Words, rate: &Rate) -> b
     }
 }
 
-// Adds a count, in one word if it fits there.
-fn push_count(len: &mut u8, kinds: &mut u16, words: &mut Words, count: u64) -> bool
-    ensures { cells_of len.new kinds.new words.new ≡ (if result
-        then cells_of len.old kinds.old words.old ++ Held.Count count ∷ []
-        else cells_of len.old kinds.old words.old) }
+// Lays a count, in one word if it fits there.
+#[inline]
+fn push_count(len: u8, kinds: u16, words: &mut Words, count: u64) -> Option<u16>
+    ensures some { IfSome result (λ later. cells_of (len + 1) later words.new
+        ≡ cells_of len kinds words.old ++ Held.Count count ∷ []) }
+    ensures few { IsSome result → len < 7 }
+    ensures none { IfNone result (words.new ≡ words.old) }
 {
     let [low, high] = halves(count);
     if high == 0 {
@@ -126,35 +133,39 @@ fn push_count(len: &mut u8, kinds: &mut u16, words: &mut Words, count: u64) -> b
     }
 }
 
-// Adds a cell of these words.
-fn push_words(len: &mut u8, kinds: &mut u16, words: &mut Words, kind: Kind, own: &[u32]) -> bool
+// Lays these words of a cell.
+#[inline]
+fn push_words(len: u8, kinds: u16, words: &mut Words, kind: Kind, own: &[u32]) -> Option<u16>
     requires { length own.now ≡ width kind }
-    ensures { cells_of len.new kinds.new words.new ≡ (if result
-        then cells_of len.old kinds.old words.old ++ cell_at kind own.now 0 ∷ []
-        else cells_of len.old kinds.old words.old) }
+    ensures some { IfSome result (λ later. cells_of (len + 1) later words.new
+        ≡ cells_of len kinds words.old ++ cell_at kind own.now 0 ∷ []) }
+    ensures few { IsSome result → len < 7 }
+    ensures none { IfNone result (words.new ≡ words.old) }
 {
-    let used = total(*len, *kinds);
-    if *len as usize >= WORDS || WORDS.saturating_sub(used) < own.len() {
-        return false;
+    let used = total(len, kinds);
+    if len as usize >= WORDS || WORDS.saturating_sub(used) < own.len() {
+        return None;
     }
     let Some(before) = kinds.checked_mul(4) else {
-        return false;
+        return None;
     };
     write(words, used, own);
-    *kinds = before + kind.digit();
-    *len += 1;
-    true
+    Some(before + kind.digit())
 }
 
 // How many words cells take, whose kinds are the digits of a number.
+#[inline]
 fn total(len: u8, kinds: u16) -> usize
     ensures value { result ≡ total_width len kinds }
     ensures small { result ≤ 5 * len }
 {
-    if len == 0 {
-        return 0;
+    let (mut left, mut digits, mut used) = (len, kinds, 0);
+    while left > 0 {
+        used += Kind::last(digits).width();
+        digits /= 4;
+        left -= 1;
     }
-    total(len - 1, kinds / 4) + Kind::last(kinds).width()
+    used
 }
 
 // The cell of a kind whose words begin at a place.
@@ -190,6 +201,7 @@ fn word(words: &Words, at: usize) -> u32
 
 // Writes a cell's words from a place on: one by one where there are as many as a cell has, since a
 // copy of a few words is dearer.
+#[inline]
 fn write(words: &mut Words, at: usize, cell: &[u32])
     requires { at + length cell.now ≤ 7 }
     ensures here { (k : ℕ) → k < length cell.now

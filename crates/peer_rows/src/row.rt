@@ -1,8 +1,7 @@
 ghost use Rattle.std.specs.Prelude.{◌≡◌, ◌<◌, ◌==◌, [], ◌∷◌, ◌++◌, length, map, slice_get, IfOk};
-ghost use Rattle.std.specs.Prelude.{OnOk, OnErr};
+ghost use Rattle.std.specs.Prelude.{OnOk, OnErr, if◌then◌else◌};
 ghost use Rattle.peer_rows.specs.Counted.{counted, counted_at};
 ghost use Rattle.peer_rows.specs.Ends.{end_of, lives_at};
-ghost use Rattle.peer_rows.specs.Few.{cells_of};
 ghost use Rattle.peer_rows.specs.Form.{cells_in};
 ghost use Rattle.peer_rows.specs.Most.{most_at, most_of};
 ghost use Rattle.peer_rows.specs.Packed.{held_of};
@@ -85,6 +84,31 @@ impl Form {
             words: [0; WORDS],
         }
     }
+
+    // Adds a cell to few ones, if it fits beside them.
+    #[inline]
+    fn push(&mut self, held: &Held) -> bool
+        ensures { cells_in self.new ≡ (if result then cells_in self.old ++ held.now ∷ []
+            else cells_in self.old) }
+    {
+        let Form::Few { len, kinds, .. } = &*self else {
+            return false;
+        };
+        let (before, digits) = (*len, *kinds);
+        let Form::Few { words, .. } = &mut *self else {
+            return false;
+        };
+        let Some(later) = few::push(before, digits, words, held) else {
+            return false;
+        };
+        if let Form::Few { kinds, .. } = &mut *self {
+            *kinds = later;
+        }
+        if let Form::Few { len, .. } = &mut *self {
+            *len = before + 1;
+        }
+        true
+    }
 }
 
 impl Model for RowCells {
@@ -119,9 +143,21 @@ impl RowCells {
         if let Form::Many(cells) = &mut self.form {
             return Ok(cells.push(Packed::new(&held))?);
         }
-        if let Form::Few { len, kinds, words } = &self.form {
-            self.form = with_cell(self.alloc, *len, *kinds, *words, &held)?;
+        if self.form.push(&held) {
+            return Ok(());
         }
+        self.part(&held)
+    }
+
+    // Adds a cell that doesn't fit beside the few: all go into a block.
+    #[inline(never)]
+    fn part(&mut self, held: &Held) -> Result<(), NoMemory>
+        ensures ok { OnOk result (self.new ≡ self.old ++ held.now ∷ []) }
+        ensures err { OnErr result (self.new ≡ self.old) }
+    {
+        let mut cells = spread(self.alloc, self)?;
+        cells.push(Packed::new(held))?;
+        self.form = Form::Many(cells);
         Ok(())
     }
 
@@ -185,32 +221,13 @@ impl RowCells {
     }
 }
 
-// Few cells and another one, in a block if they don't fit else.
-fn with_cell(
-    alloc: Global,
-    len: u8,
-    kinds: u16,
-    words: Words,
-    held: &Held,
-) -> Result<Form, NoMemory>
-    ensures { IfOk result (λ form. cells_in form ≡ cells_of len kinds words ++ held.now ∷ []) }
-{
-    let (mut len, mut kinds, mut words) = (len, kinds, words);
-    if few::push(&mut len, &mut kinds, &mut words, held) {
-        return Ok(Form::Few { len, kinds, words });
-    }
-    let mut cells = spread(alloc, len, kinds, &words)?;
-    cells.push(Packed::new(held))?;
-    Ok(Form::Many(cells))
-}
-
 // The same cells, packed one by one, with room for one more.
-fn spread(alloc: Global, len: u8, kinds: u16, words: &Words) -> Result<Vec<Packed>, NoMemory>
-    ensures { IfOk result (λ cells. map held_of cells.items ≡ cells_of len kinds words.now) }
+fn spread(alloc: Global, few: &RowCells) -> Result<Vec<Packed>, NoMemory>
+    ensures { IfOk result (λ cells. map held_of cells.items ≡ few.now) }
 {
     let mut cells = Vec::with_capacity(alloc, FEW + 1)?;
-    for col in 0..few::count(len, kinds, words) {
-        if let Some(held) = few::get(len, kinds, words, col) {
+    for col in 0..few.len() {
+        if let Some(held) = few.get(col) {
             cells.push(Packed::new(&held))?;
         }
     }
