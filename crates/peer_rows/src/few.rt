@@ -87,24 +87,26 @@ pub(crate) fn get(len: u8, kinds: u16, words: &Words, col: usize) -> Option<Held
     get(before, kinds / 4, words, col)
 }
 
-/// Lays a cell's words behind those of others, if there is room for it, and answers the number whose
-/// digits then are the kinds.
-#[inline]
+/// Lays a cell's words behind those of others, if there is room for them. Answers the number whose
+/// digits are the kinds then.
+#[inline(always)]
 pub(crate) fn push(len: u8, kinds: u16, words: &mut Words, held: &Held) -> Option<u16>
     ensures some { IfSome result (λ later. cells_of (len + 1) later words.new
         ≡ cells_of len kinds words.old ++ held.now ∷ []) }
     ensures few { IsSome result → len < 7 }
     ensures none { IfNone result (words.new ≡ words.old) }
 {
+    let used = total(len, kinds);
     match held {
-        Held::Count(count) => push_count(len, kinds, words, *count),
-        Held::Rate(rate) => push_rate(len, kinds, words, rate),
+        Held::Count(count) => push_count(len, kinds, used, words, *count),
+        Held::Rate(rate) => push_rate(len, kinds, used, words, rate),
     }
 }
 
 // Lays a rate, in three words if it fits there.
-#[inline]
-fn push_rate(len: u8, kinds: u16, words: &mut Words, rate: &Rate) -> Option<u16>
+#[inline(always)]
+fn push_rate(len: u8, kinds: u16, used: usize, words: &mut Words, rate: &Rate) -> Option<u16>
+    requires { used ≡ total_width len kinds }
     ensures some { IfSome result (λ later. cells_of (len + 1) later words.new
         ≡ cells_of len kinds words.old ++ Held.Rate rate.now ∷ []) }
     ensures few { IsSome result → len < 7 }
@@ -112,14 +114,15 @@ fn push_rate(len: u8, kinds: u16, words: &mut Words, rate: &Rate) -> Option<u16>
 {
     let wide = rate.to_words();
     match narrowed(&wide) {
-        Some(narrow) => push_words(len, kinds, words, Kind::Narrow, &narrow),
-        None => push_words(len, kinds, words, Kind::Rated, &wide),
+        Some(narrow) => push_words(len, kinds, used, words, Kind::Narrow, &narrow),
+        None => push_words(len, kinds, used, words, Kind::Rated, &wide),
     }
 }
 
 // Lays a count, in one word if it fits there.
-#[inline]
-fn push_count(len: u8, kinds: u16, words: &mut Words, count: u64) -> Option<u16>
+#[inline(always)]
+fn push_count(len: u8, kinds: u16, used: usize, words: &mut Words, count: u64) -> Option<u16>
+    requires { used ≡ total_width len kinds }
     ensures some { IfSome result (λ later. cells_of (len + 1) later words.new
         ≡ cells_of len kinds words.old ++ Held.Count count ∷ []) }
     ensures few { IsSome result → len < 7 }
@@ -127,22 +130,29 @@ fn push_count(len: u8, kinds: u16, words: &mut Words, count: u64) -> Option<u16>
 {
     let [low, high] = halves(count);
     if high == 0 {
-        push_words(len, kinds, words, Kind::Small, &[low])
+        push_words(len, kinds, used, words, Kind::Small, &[low])
     } else {
-        push_words(len, kinds, words, Kind::Large, &[low, high])
+        push_words(len, kinds, used, words, Kind::Large, &[low, high])
     }
 }
 
 // Lays these words of a cell.
-#[inline]
-fn push_words(len: u8, kinds: u16, words: &mut Words, kind: Kind, own: &[u32]) -> Option<u16>
-    requires { length own.now ≡ width kind }
+#[inline(always)]
+fn push_words(
+    len: u8,
+    kinds: u16,
+    used: usize,
+    words: &mut Words,
+    kind: Kind,
+    own: &[u32],
+) -> Option<u16>
+    requires used { used ≡ total_width len kinds }
+    requires words { length own.now ≡ width kind }
     ensures some { IfSome result (λ later. cells_of (len + 1) later words.new
         ≡ cells_of len kinds words.old ++ cell_at kind own.now 0 ∷ []) }
     ensures few { IsSome result → len < 7 }
     ensures none { IfNone result (words.new ≡ words.old) }
 {
-    let used = total(len, kinds);
     if len as usize >= WORDS || WORDS.saturating_sub(used) < own.len() {
         return None;
     }
@@ -201,7 +211,7 @@ fn word(words: &Words, at: usize) -> u32
 
 // Writes a cell's words from a place on: one by one where there are as many as a cell has, since a
 // copy of a few words is dearer.
-#[inline]
+#[inline(always)]
 fn write(words: &mut Words, at: usize, cell: &[u32])
     requires { at + length cell.now ≤ 7 }
     ensures here { (k : ℕ) → k < length cell.now

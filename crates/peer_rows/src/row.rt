@@ -86,7 +86,7 @@ impl Form {
     }
 
     // Adds a cell to few ones, if it fits beside them.
-    #[inline]
+    #[inline(always)]
     fn push(&mut self, held: &Held) -> bool
         ensures { cells_in self.new ≡ (if result then cells_in self.old ++ held.now ∷ []
             else cells_in self.old) }
@@ -136,25 +136,26 @@ impl RowCells {
     }
 
     /// Adds a cell behind the others. After `NoMemory` there are the same cells as before.
+    #[inline(always)]
     pub fn push(&mut self, held: Held) -> Result<(), NoMemory>
         ensures ok { OnOk result (self.new ≡ self.old ++ held ∷ []) }
         ensures err { OnErr result (self.new ≡ self.old) }
     {
-        if let Form::Many(cells) = &mut self.form {
-            return Ok(cells.push(Packed::new(&held))?);
-        }
         if self.form.push(&held) {
             return Ok(());
         }
-        self.part(&held)
+        self.push_packed(&held)
     }
 
-    // Adds a cell that doesn't fit beside the few: all go into a block.
+    // Adds a cell behind those of a block, to which few ones are taken.
     #[inline(never)]
-    fn part(&mut self, held: &Held) -> Result<(), NoMemory>
+    fn push_packed(&mut self, held: &Held) -> Result<(), NoMemory>
         ensures ok { OnOk result (self.new ≡ self.old ++ held.now ∷ []) }
         ensures err { OnErr result (self.new ≡ self.old) }
     {
+        if let Form::Many(cells) = &mut self.form {
+            return Ok(cells.push(Packed::new(held))?);
+        }
         let mut cells = spread(self.alloc, self)?;
         cells.push(Packed::new(held))?;
         self.form = Form::Many(cells);
