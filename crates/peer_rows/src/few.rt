@@ -54,6 +54,7 @@ impl Kind {
     // How many words it takes.
     fn width(self) -> usize
         ensures value { result ≡ width self }
+        ensures some { 0 < result }
         ensures small { result ≤ 5 }
     {
         match self {
@@ -106,7 +107,8 @@ pub(crate) fn push(len: u8, kinds: u16, words: &mut Words, held: &Held) -> Optio
 // Lays a rate, in three words if it fits there.
 #[inline(always)]
 fn push_rate(len: u8, kinds: u16, used: usize, words: &mut Words, rate: &Rate) -> Option<u16>
-    requires { used ≡ total_width len kinds }
+    requires used { used ≡ total_width len kinds }
+    requires least { len ≤ used }
     ensures some { IfSome result (λ later. cells_of (len + 1) later words.new
         ≡ cells_of len kinds words.old ++ Held.Rate rate.now ∷ []) }
     ensures few { IsSome result → len < 7 }
@@ -122,7 +124,8 @@ fn push_rate(len: u8, kinds: u16, used: usize, words: &mut Words, rate: &Rate) -
 // Lays a count, in one word if it fits there.
 #[inline(always)]
 fn push_count(len: u8, kinds: u16, used: usize, words: &mut Words, count: u64) -> Option<u16>
-    requires { used ≡ total_width len kinds }
+    requires used { used ≡ total_width len kinds }
+    requires least { len ≤ used }
     ensures some { IfSome result (λ later. cells_of (len + 1) later words.new
         ≡ cells_of len kinds words.old ++ Held.Count count ∷ []) }
     ensures few { IsSome result → len < 7 }
@@ -147,13 +150,15 @@ fn push_words(
     own: &[u32],
 ) -> Option<u16>
     requires used { used ≡ total_width len kinds }
+    requires least { len ≤ used }
     requires words { length own.now ≡ width kind }
+    requires few { (0 < length own.now) × (length own.now ≤ 7) }
     ensures some { IfSome result (λ later. cells_of (len + 1) later words.new
         ≡ cells_of len kinds words.old ++ cell_at kind own.now 0 ∷ []) }
     ensures few { IsSome result → len < 7 }
     ensures none { IfNone result (words.new ≡ words.old) }
 {
-    if len as usize >= WORDS || WORDS.saturating_sub(used) < own.len() {
+    if WORDS.saturating_sub(own.len()) < used {
         return None;
     }
     let Some(before) = kinds.checked_mul(4) else {
@@ -167,6 +172,7 @@ fn push_words(
 #[inline]
 fn total(len: u8, kinds: u16) -> usize
     ensures value { result ≡ total_width len kinds }
+    ensures least { len ≤ result }
     ensures small { result ≤ 5 * len }
 {
     let (mut left, mut digits, mut used) = (len, kinds, 0);

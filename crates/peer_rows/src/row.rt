@@ -144,20 +144,20 @@ impl RowCells {
         if self.form.push(&held) {
             return Ok(());
         }
-        self.push_packed(&held)
+        self.push_packed(held)
     }
 
     // Adds a cell behind those of a block, to which few ones are taken.
     #[inline(never)]
-    fn push_packed(&mut self, held: &Held) -> Result<(), NoMemory>
-        ensures ok { OnOk result (self.new ≡ self.old ++ held.now ∷ []) }
+    fn push_packed(&mut self, held: Held) -> Result<(), NoMemory>
+        ensures ok { OnOk result (self.new ≡ self.old ++ held ∷ []) }
         ensures err { OnErr result (self.new ≡ self.old) }
     {
         if let Form::Many(cells) = &mut self.form {
-            return Ok(cells.push(Packed::new(held))?);
+            return Ok(cells.push(Packed::new(&held))?);
         }
         let mut cells = spread(self.alloc, self)?;
-        cells.push(Packed::new(held))?;
+        cells.push(Packed::new(&held))?;
         self.form = Form::Many(cells);
         Ok(())
     }

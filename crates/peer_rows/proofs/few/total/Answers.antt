@@ -10,5 +10,6 @@ loop-left-preserved c =
     let own : c.width-used.result ≡ width (kind_of (c.loop-left.digits % 4)) =
     rw (← c.last.ensures) c.width-used.ensures.value in (
       omega (arith, own, last, c.loop-left.invariant.0),
-      omega (arith, c.width-used.ensures.small, c.loop-left.invariant.1, c.loop-left-test.true),
+      omega (arith, c.width-used.ensures.some, c.loop-left.invariant.1, c.loop-left-test.true),
+      omega (arith, c.width-used.ensures.small, c.loop-left.invariant.2, c.loop-left-test.true),
     )
