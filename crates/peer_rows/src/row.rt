@@ -141,33 +141,24 @@ impl RowCells {
         ensures ok { OnOk result (self.new ≡ self.old ++ held ∷ []) }
         ensures err { OnErr result (self.new ≡ self.old) }
     {
-        if self.form.push(&held) {
-            return Ok(());
-        }
-        self.push_packed(held)
-    }
-
-    // Adds a cell to a block, to which few ones are taken.
-    #[inline(never)]
-    fn push_packed(&mut self, held: Held) -> Result<(), NoMemory>
-        ensures ok { OnOk result (self.new ≡ self.old ++ held ∷ []) }
-        ensures err { OnErr result (self.new ≡ self.old) }
-    {
         if let Form::Many(cells) = &mut self.form {
             return Ok(cells.push(Packed::new(&held))?);
         }
-        self.part(&held)
+        if self.form.push(&held) {
+            return Ok(());
+        }
+        self.part(held)
     }
 
     // Takes the cells into a block, and adds one that doesn't fit beside few.
     #[cold]
     #[inline(never)]
-    fn part(&mut self, held: &Held) -> Result<(), NoMemory>
-        ensures ok { OnOk result (self.new ≡ self.old ++ held.now ∷ []) }
+    fn part(&mut self, held: Held) -> Result<(), NoMemory>
+        ensures ok { OnOk result (self.new ≡ self.old ++ held ∷ []) }
         ensures err { OnErr result (self.new ≡ self.old) }
     {
         let mut cells = spread(self.alloc, self)?;
-        cells.push(Packed::new(held))?;
+        cells.push(Packed::new(&held))?;
         self.form = Form::Many(cells);
         Ok(())
     }
