@@ -45,12 +45,12 @@ once : (b : Bool) (m n : ℕ) (o : Option ℕ)
 once true m n o = refl
 once false m n o = refl
 
-in_order : (es : Numbers) (seat n : ℕ) → T (is_sorted nat_cmp es)
+pub in_order : (es : Numbers) (seat n : ℕ) → T (is_sorted nat_cmp es)
     → T (is_sorted nat_cmp (insert_entry nat_cmp es seat n))
 in_order es seat n h = sorted-insert nat_cmp nat_cmp_total exact_unsigned es seat n h
 
 -- the later one of two stays
-last_stays : (es : Numbers) (seat m n : ℕ) → T (is_sorted nat_cmp es)
+pub last_stays : (es : Numbers) (seat m n : ℕ) → T (is_sorted nat_cmp es)
     → insert_entry nat_cmp (insert_entry nat_cmp es seat m) seat n ≡ insert_entry nat_cmp es seat n
 last_stays es seat m n h =
     same_lookups nat_cmp nat_cmp_total exact_unsigned
@@ -73,7 +73,7 @@ found_at es seat n q found = by (is_eq (nat_cmp q seat)) refl
     by false other = refl
 
 -- the one that is there may be written again
-same_stays : (es : Numbers) (seat n : ℕ) → T (is_sorted nat_cmp es)
+pub same_stays : (es : Numbers) (seat n : ℕ) → T (is_sorted nat_cmp es)
     → lookup (is_at (nat_cmp seat)) es ≡ Some n → insert_entry nat_cmp es seat n ≡ es
 same_stays es seat n h found =
     same_lookups nat_cmp nat_cmp_total exact_unsigned (insert_entry nat_cmp es seat n) es
@@ -88,6 +88,12 @@ number_counted s seat n =
     written seat n seat s.seats
     ∙ ap (λ r. cond (is_eq r) (Some n) (lookup (is_at (nat_cmp seat)) s.seats))
     (sym (nat_cmp_is seat seat Equal refl))
+
+-- as many events happen as what happens
+pub length-numbered : (seat n : ℕ) (whats : List What)
+    → length (numbered seat n whats) ≡ length whats
+length-numbered seat n [] = refl
+length-numbered seat n (what ∷ whats) = ap suc (length-numbered seat (n + 1) whats)
 
 -- ---- a state whose seat is counted to a number
 pub sound_counted : (s : State) (seat n : ℕ) → IsSound s → IsSound (counted_to s seat n)

@@ -1,6 +1,6 @@
 -- What lies under the lock stays as it must.
 use Rattle.std.proofs.Common.{◌≡◌, ℕ, zero, suc, ◌==◌, ◌≤◌, nat_lt, Bool}
-use Rattle.std.proofs.Common.{true, false, not, if◌then◌else◌, List, [], ◌∷◌, ◌++◌}
+use Rattle.std.proofs.Common.{true, false, not, ◌&&◌, if◌then◌else◌, List, [], ◌∷◌, ◌++◌}
 use Rattle.std.proofs.Common.{length, replicate, get_or, Option, None, Some, refl, sym, ap, ◌∙◌}
 use Rattle.std.proofs.Common.{subst, arith}
 use Rattle.std.proofs.lemmas.Bool.Decides.{nat_tests}
@@ -140,7 +140,8 @@ sat_down k k' book b b' roll p seat k_is k'_is of is all seat_is free small b_is
       sits = record {
         number = refl;
         own_is = sits_alone b roll is all;
-        legal = legal-more b.config b.opening b.events e all (sit_counts b roll is free small);
+        legal = legal-more b.config b.opening b.events (e ∷ []) all
+            (ap (λ t. t && true) (sit_counts b roll is free small));
       };
       of = of;
       follows = record {

@@ -1,6 +1,6 @@
 -- Which seats sit and who opened which peer, as the locked side of the history counts them.
-use Rattle.std.specs.Prelude.{◌≡◌, ℕ, true, false, List, length, Option, None, Some, slice_index_or}
-use Rattle.std.specs.Prelude.{slice_set}
+use Rattle.std.specs.Prelude.{◌≡◌, ℕ, true, false, List, [], ◌∷◌, length, Option, None, Some}
+use Rattle.std.specs.Prelude.{slice_index_or, slice_set}
 use Rattle.agg_types.specs.Fits.{fits}
 use Rattle.agg_types.specs.declared.config.Config.{Config}
 use Rattle.agg_types.specs.declared.event.What.{What}
@@ -41,3 +41,8 @@ last_after last seat (AddFilter filter) = last
 last_after last seat (DropFilter name) = last
 last_after last seat (Moment moment) = last
 last_after last seat Leave = last
+
+-- the last openers after all of these happened
+abbrev pub lasts_after : List (Option ℕ) → ℕ → List What → List (Option ℕ)
+lasts_after last seat [] = last
+lasts_after last seat (what ∷ whats) = lasts_after (last_after last seat what) seat whats

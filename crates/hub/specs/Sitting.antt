@@ -1,6 +1,7 @@
 -- What a pass keeps of its own seat.
 use Rattle.std.specs.Prelude.{◌≡◌, ℕ, Bool, true, false, ◌&&◌, ◌==◌, not, if◌then◌else◌, List}
-use Rattle.std.specs.Prelude.{length, replicate, Option, None, Some, slice_index_or, slice_set}
+use Rattle.std.specs.Prelude.{[], ◌∷◌, length, replicate, Option, None, Some, slice_index_or}
+use Rattle.std.specs.Prelude.{slice_set}
 use Rattle.std.specs.List.{list_any}
 use Rattle.agg_types.specs.declared.event.What.{What}
 use Rattle.agg_types.specs.declared.event.What.TheVariants.{Sit, Open, Put, Clear, AddFilter}
@@ -44,6 +45,11 @@ opened_after opened (AddFilter filter) = opened
 opened_after opened (DropFilter name) = opened
 opened_after opened (Moment moment) = opened
 opened_after opened Leave = opened
+
+-- which peers were opened, after all of these happened
+abbrev pub all_opened_after : List Bool → List What → List Bool
+all_opened_after opened [] = opened
+all_opened_after opened (what ∷ whats) = all_opened_after (opened_after opened what) whats
 
 -- another seat
 abbrev pub other_than : ℕ → Option ℕ → Option ℕ

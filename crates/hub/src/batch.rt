@@ -58,6 +58,13 @@ impl Batch {
         self.whats.len()
     }
 
+    /// The number of what happened first.
+    pub fn first(&self) -> u64
+        ensures { result ≡ self.now.first }
+    {
+        self.first
+    }
+
     /// What happened at a place.
     pub fn at(&self, place: usize) -> Posting<'_>
         requires { place < length self.now.whats }

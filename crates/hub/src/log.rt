@@ -1,13 +1,14 @@
 //! The log of a fleet's history, and the beginnings of it that were seen. Neither keeps a list: the
 //! events stand in proofs alone.
 
-ghost use Rattle.std.specs.Prelude.{◌≡◌, ◌<◌, ◌^◌, ◌++◌, ◌∷◌, [], length, true, MatchBool};
+ghost use Rattle.std.specs.Prelude.{◌≡◌, ◌<◌, ◌+◌, ◌^◌, ◌++◌, ◌∷◌, [], length, true, MatchBool};
 ghost use mathlib.Core.List.{IsPrefix};
 ghost use Rattle.fleet_model.specs.Machine.{counts_now, opened};
 ghost use Rattle.fleet_model.specs.State.{state_of};
-ghost use Rattle.hub.specs.History.{AllCount, IsLonger};
+ghost use Rattle.hub.specs.Batches.{events_in};
+ghost use Rattle.hub.specs.History.{AllCount, IsLonger, all_count};
 
-use crate::batch::Posting;
+use crate::batch::{Batch, Posting};
 use crate::entry::Entry;
 use book::Book;
 use logbook::{Gain, Offer, Opening, Plain, Play, Rule, Seen, Start, Word};
@@ -53,7 +54,7 @@ impl Opening<Book, Entry> for Begin {
     ghost log = { λ count book. Opened book.config book.moment ∷ [] };
 }
 
-/// A step that adds an event.
+/// A step that adds what happened: an event, or a batch as one.
 pub struct Add;
 
 impl Play<Entry, u64> for Add {
@@ -64,12 +65,23 @@ impl Play<Entry, u64> for Add {
 
 /// What a step asks for: the event.
 impl<'a> Plain<Posting<'a>, Entry, u64> for Add {
-    ghost use Rattle.std.specs.Prelude.{None};
+    ghost use Rattle.std.specs.Prelude.{None, [], ◌∷◌};
     ghost use Rattle.hub.specs.declared.entry.Entry.TheVariants.{Happened};
 
-    ghost ask = { λ event. Happened event };
+    ghost ask = { λ event. Happened (event ∷ []) };
 
     ghost state = { λ event. None };
+}
+
+/// What a step asks for: the events of the batch.
+impl Plain<Batch, Entry, u64> for Add {
+    ghost use Rattle.std.specs.Prelude.{None};
+    ghost use Rattle.hub.specs.Batches.{events_in};
+    ghost use Rattle.hub.specs.declared.entry.Entry.TheVariants.{Happened};
+
+    ghost ask = { λ batch. Happened (events_in batch) };
+
+    ghost state = { λ batch. None };
 }
 
 /// The word that all threads share: how many events the history has.
@@ -195,6 +207,31 @@ impl Front {
                 &mut pen,
             );
         self.count = if found == count { count + 1 } else { found };
+        found == count
+    }
+
+    /// Adds a batch to all that was seen, as one, and says whether it did. It did not where the
+    /// history is longer.
+    pub fn add_all(&mut self, log: &Log, batch: &Batch) -> bool
+        requires log { log.now ≡ self.old.of }
+        requires room { length self.old.events < 2 ^ 63 }
+        requires counts { all_count (state_of self.old.config self.old.opening self.old.events)
+            (events_in batch.now) ≡ true }
+        ensures fleet { (self.new.of ≡ self.old.of) × (self.new.config ≡ self.old.config)
+            × (self.new.opening ≡ self.old.opening) }
+        ensures added { MatchBool result (self.new.events ≡ self.old.events ++ events_in batch.now)
+            (IsLonger self.old.events self.new.events) }
+    {
+        let mut offer: Offer<Entry, u64, Law, Nothing> = self
+            .seen
+            .plain::<Nothing, Batch, Add>(batch);
+        let mut pen = self.seen.no_pen();
+        let count = self.count;
+        let later = count + batch.len() as u64;
+        let found = log
+            .head
+            .compare_exchange::<Add, Nothing>(count, later, &mut self.seen, &mut offer, &mut pen);
+        self.count = if found == count { later } else { found };
         found == count
     }
 }

@@ -1,15 +1,14 @@
 //! What the locked side of the history counts: the seats that sit, and who opened which peer last.
 
 ghost use Rattle.std.specs.Prelude.{◌≡◌, [], ◌≤◌, ◌<◌, ◌+◌, ◌-◌, ◌∷◌, false, true, replicate};
-ghost use Rattle.std.specs.Prelude.{length, nat_lt, None, Some, slice_index_or, IfOk, OnOk, OnErr};
+ghost use Rattle.std.specs.Prelude.{length, nat_lt, None, slice_index_or, IfOk, OnOk, OnErr};
+ghost use Rattle.std.specs.Prelude.{is_some, IsTrue};
 ghost use Rattle.std.specs.BTreeMap.{insert_entry, is_at};
 ghost use Rattle.std.specs.Map.{lookup, remove_entry};
 ghost use Rattle.std.specs.Ordering.{nat_cmp};
-ghost use Rattle.agg_types.specs.declared.limits.TheConstants.{NUMBERS_END};
 ghost use Rattle.fleet_model.specs.Seats.{is_sit, is_leave};
 ghost use Rattle.hub.specs.Roll.{last_after};
 
-use crate::batch::Posting;
 use agg_types::{LAST_SEAT, MOST_SEATS, NoMemory, What};
 use std::alloc::Global;
 use std::collections::BTreeMap;
@@ -104,27 +103,26 @@ impl Roll {
         Ok(())
     }
 
-    /// Something happens at a seat that sits, under its next number.
-    pub fn count(&mut self, event: &Posting<'_>)
-        requires due { lookup (is_at (nat_cmp event.now.seat)) self.old.seats
-            ≡ Some event.now.seq }
-        requires small { event.now.seq < NUMBERS_END }
-        ensures { self.new ≡
-            record {
-              seats = insert_entry nat_cmp self.old.seats event.now.seat (event.now.seq + 1);
-              next_seat =
-                  self.old.next_seat;
-              last = last_after self.old.last event.now.seat event.now.what;
-            } }
+    /// Something happens at a seat. Its number isn't counted up.
+    pub fn note(&mut self, seat: u64, what: &What)
+        ensures { self.new ≡ record self.old { last = last_after self.old.last seat what.now } }
     {
-        match self.seats.insert(event.seat, event.seq + 1) {
-            Ok(_) => {}
-            Err(_) => unreachable!(),
-        }
-        if let What::Open(peer) = event.what
+        if let What::Open(peer) = what
             && let Some(last) = self.last.get_mut(*peer)
         {
-            *last = Some(event.seat);
+            *last = Some(seat);
+        }
+    }
+
+    /// A seat that sits counts up to a number.
+    pub fn count_to(&mut self, seat: u64, number: u64)
+        requires sits { IsTrue (is_some (lookup (is_at (nat_cmp seat)) self.old.seats)) }
+        ensures { self.new ≡ record self.old
+            { seats = insert_entry nat_cmp self.old.seats seat number } }
+    {
+        match self.seats.insert(seat, number) {
+            Ok(_) => {}
+            Err(_) => unreachable!(),
         }
     }
 

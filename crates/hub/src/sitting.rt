@@ -1,8 +1,7 @@
 //! What a pass keeps of its own seat.
 
-ghost use Rattle.std.specs.Prelude.{◌≡◌, ◌<◌, ◌+◌, false, replicate, IfOk};
+ghost use Rattle.std.specs.Prelude.{◌≡◌, false, replicate, IfOk};
 ghost use Rattle.std.specs.List.{list_any};
-ghost use Rattle.agg_types.specs.declared.limits.TheConstants.{NUMBERS_END};
 ghost use Rattle.fleet_model.specs.Sessions.{opens};
 ghost use Rattle.hub.specs.Sitting.{opened_after, replacer, replacer_at};
 
@@ -55,23 +54,23 @@ impl Sitting {
         self.number
     }
 
-    /// Something happens at the seat, under its next number.
+    /// Something happens at the seat. Its number isn't counted up.
     pub fn note(&mut self, what: &What)
-        requires { self.old.number < NUMBERS_END }
-        ensures { self.new ≡
-            record {
-              seat = self.old.seat;
-              number = self.old.number + 1;
-              opened =
-                  opened_after self.old.opened what.now;
-            } }
+        ensures { self.new ≡ record self.old
+            { opened = opened_after self.old.opened what.now } }
     {
         if let What::Open(peer) = what
             && let Some(opened) = self.opened.get_mut(*peer)
         {
             *opened = true;
         }
-        self.number += 1;
+    }
+
+    /// The number of its next event from now on.
+    pub fn count_to(&mut self, number: u64)
+        ensures { self.new ≡ record self.old { number = number } }
+    {
+        self.number = number;
     }
 
     /// Another seat that opened this peer last, where this one opened it before.

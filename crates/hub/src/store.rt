@@ -11,8 +11,8 @@ ghost use Rattle.fleet_model.specs.State.{state_of};
 ghost use Rattle.hub.specs.Batches.{events_in};
 ghost use Rattle.hub.specs.Copied.{Stores};
 ghost use Rattle.hub.specs.History.{longer_by};
-ghost use Rattle.hub.specs.Roll.{IsCountOf, MayPost};
-ghost use Rattle.hub.specs.Sitting.{Recalls};
+ghost use Rattle.hub.specs.Roll.{IsCountOf, MayPost, lasts_after};
+ghost use Rattle.hub.specs.Sitting.{Recalls, all_opened_after};
 
 use crate::batch::{Batch, Posting, Run};
 use crate::copies::Op;
@@ -102,7 +102,7 @@ pub fn store_all<R: Wait>(
     queue.push_back_reserved(Op::end(front.again()));
 }
 
-// Adds a batch to the history, event by event.
+// Adds a batch to the history, as one.
 fn add_all<R: Wait>(
     rt: &R,
     log: &Log,
@@ -125,11 +125,25 @@ fn add_all<R: Wait>(
     ensures seat { sitting.new.seat ≡ sitting.old.seat }
     ensures number { sitting.new.number ≡ sitting.old.number + length batch.now.whats }
 {
-    let count = batch.len();
-    for place in 0..count {
+    let later = batch.first() + batch.len() as u64;
+    note_all(roll, sitting, batch);
+    roll.count_to(sitting.seat(), later);
+    sitting.count_to(later);
+    if front.len() >= MOST_EVENTS || !front.add_all(log, batch) {
+        hang(rt);
+    }
+}
+
+// Notes which peers a batch opens, for all and for its seat.
+fn note_all(roll: &mut Roll, sitting: &mut Sitting, batch: &Batch)
+    ensures roll { roll.new ≡ record roll.old
+        { last = lasts_after roll.old.last batch.now.seat batch.now.whats } }
+    ensures sitting { sitting.new ≡ record sitting.old
+        { opened = all_opened_after sitting.old.opened batch.now.whats } }
+{
+    for place in 0..batch.len() {
         let posting = batch.at(place);
-        roll.count(&posting);
+        roll.note(posting.seat, posting.what);
         sitting.note(posting.what);
-        add(rt, log, front, &posting);
     }
 }

@@ -1,52 +1,54 @@
-use Rattle.std.proofs.Common.{◌≡◌, ◌+◌, List, ap, sym, ◌∙◌, subst, arith, drop}
-use Rattle.agg_types.specs.declared.event.Event.{Event}
-use Rattle.agg_types.specs.declared.event.What.{What}
-use Rattle.hub.specs.Sitting.{Recalled, opened_after}
-use Rattle.hub.proofs.Filling.{Filling, event_is, filled_one, filling_counts}
-use Rattle.hub.proofs.Rolling.{event_at}
+use Rattle.std.proofs.Common.{◌+◌, ◌<◌, ◌≡◌, length, subst}
+use Rattle.agg_types.specs.declared.limits.TheConstants.{NUMBERS_END}
+use Rattle.hub.proofs.Filling.{batch_counts, filled}
 use Rattle.hub.proofs.store.add_all.Goals as goal
 
-pub add-requires-clause-counts : goal.add-requires-clause-counts
-add-requires-clause-counts g c =
-    let l = c.loop-place in
-    let b = c.args.batch.now in
-    let s = c.args.sitting.now in
-    let e = c.at-posting.result in
-    let parts = c.at-posting.ensures.parts in
-    let P : List What → Type 0 = λ rest. Filling s b.whats c.args.front.now rest l.front l.roll
-    l.sitting in
-    let is : e ≡ event_at l.sitting.seat l.sitting.number e.what =
-    event_is e l.sitting.seat l.sitting.number
-    (parts.0 ∙ (c.requires.seat ∙ sym l.invariant.filling.seat))
-    (parts.1 ∙ (ap (λ n. n + l.place) c.requires.first ∙ sym l.invariant.number)) in
-    filling_counts s b.whats c.args.front.now e.what (drop (l.place + 1) b.whats) l.front l.roll
-    l.sitting (subst P parts.2 l.invariant.filling) e is
+pub add_all-requires-clause-counts : goal.add_all-requires-clause-counts
+add_all-requires-clause-counts g c =
+    batch_counts c.args.front.now c.args.roll.now c.args.sitting.now c.args.batch.now
+    c.requires.seat c.requires.first (record {
+      counted = c.requires.counted;
+      recalled = c.requires.recalled;
+      fits = c.requires.fits;
+      due = c.requires.due;
+      last = subst (λ n. n + length c.args.batch.now.whats < NUMBERS_END) c.requires.first
+          c.len.ensures.last;
+    })
 
-pub loop-place-preserved : goal.loop-place-preserved
-loop-place-preserved g c =
-    let l = c.loop-place in
-    let b = c.args.batch.now in
-    let s = c.args.sitting.now in
-    let e = c.at-posting.result in
-    let parts = c.at-posting.ensures.parts in
-    let P : List What → Type 0 = λ rest. Filling s b.whats c.args.front.now rest l.front l.roll
-    l.sitting in
-    let is : e ≡ event_at l.sitting.seat l.sitting.number e.what =
-    event_is e l.sitting.seat l.sitting.number
-    (parts.0 ∙ (c.requires.seat ∙ sym l.invariant.filling.seat))
-    (parts.1 ∙ (ap (λ n. n + l.place) c.requires.first ∙ sym l.invariant.number)) in
-    let noted : c.note.new.self ≡ record {
-      seat = l.sitting.seat;
-      number = l.sitting.number + 1;
-      opened = opened_after l.sitting.opened e.what;
-    } = c.note.ensures ∙ ap (λ (e : Event). record {
-      seat = l.sitting.seat;
-      number = l.sitting.number + 1;
-      opened = opened_after l.sitting.opened e.what;
-    }) c.posting.view_is in
-    record {
-      number = omega (arith, ap (λ (r : Recalled). r.number) noted, l.invariant.number);
-      filling = filled_one s b.whats c.args.front.now e.what (drop (l.place + 1) b.whats) l.front
-          l.roll l.sitting (subst P parts.2 l.invariant.filling) e c.add.new.front
-          c.count.new.self c.note.new.self is c.add.ensures c.count.ensures noted;
-    }
+pub returns-else-not-add_all-clause-counted : goal.returns-else-not-add_all-clause-counted
+returns-else-not-add_all-clause-counted g c =
+    let later_is : c.first.result + c.len.result
+    ≡ c.args.batch.now.first + length c.args.batch.now.whats =
+    λ i. (c.first.ensures i) + (c.len.ensures.count i) in
+    (filled c.args.front.now c.args.roll.now c.args.sitting.now c.args.batch.now
+    c.requires.seat c.requires.first (record {
+      counted = c.requires.counted;
+      recalled = c.requires.recalled;
+      fits = c.requires.fits;
+      due = c.requires.due;
+      last = subst (λ n. n + length c.args.batch.now.whats < NUMBERS_END) c.requires.first
+          c.len.ensures.last;
+    }) c.len-2.ensures.legal c.add_all.new.self c.if-not-add_all.ensures.fleet
+    c.if-not-add_all.ensures.added c.note_all.new.roll c.count_to.new.self c.note_all.new.sitting
+    c.count_to-2.new.self c.seat.result (c.first.result + c.len.result) c.note_all.ensures.roll
+    c.note_all.ensures.sitting c.seat.ensures later_is c.count_to.ensures
+    c.count_to-2.ensures).0
+
+pub returns-else-not-add_all-clause-recalled : goal.returns-else-not-add_all-clause-recalled
+returns-else-not-add_all-clause-recalled g c =
+    let later_is : c.first.result + c.len.result
+    ≡ c.args.batch.now.first + length c.args.batch.now.whats =
+    λ i. (c.first.ensures i) + (c.len.ensures.count i) in
+    (filled c.args.front.now c.args.roll.now c.args.sitting.now c.args.batch.now
+    c.requires.seat c.requires.first (record {
+      counted = c.requires.counted;
+      recalled = c.requires.recalled;
+      fits = c.requires.fits;
+      due = c.requires.due;
+      last = subst (λ n. n + length c.args.batch.now.whats < NUMBERS_END) c.requires.first
+          c.len.ensures.last;
+    }) c.len-2.ensures.legal c.add_all.new.self c.if-not-add_all.ensures.fleet
+    c.if-not-add_all.ensures.added c.note_all.new.roll c.count_to.new.self c.note_all.new.sitting
+    c.count_to-2.new.self c.seat.result (c.first.result + c.len.result) c.note_all.ensures.roll
+    c.note_all.ensures.sitting c.seat.ensures later_is c.count_to.ensures
+    c.count_to-2.ensures).1

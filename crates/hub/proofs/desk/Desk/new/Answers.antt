@@ -1,7 +1,6 @@
 use Rattle.std.proofs.Common.{◌≡◌, ap, ◌∙◌, length, arith, false, sym}
 use Rattle.fleet_model.specs.Machine.{opened}
 use Rattle.hub.specs.Copied.{Copied}
-use Rattle.hub.specs.History.{Beginning}
 use Rattle.hub.specs.Kept.{Pressed}
 use Rattle.hub.proofs.Held.{desked_new, nobody_counted, rested_whole}
 use Rattle.hub.proofs.desk.Desk.new.Goals as goal
