@@ -118,7 +118,8 @@ pub fn go_on(rows: &mut Store, leaders: &mut Leaders, config: &Config, now: u64,
         ≡ record rows.old { rows = filter (λ row. is_live later row.1) rows.old.rows } }
     ensures led { AreLed config.now.tables config.now.ranks rows.new.rows later leaders.new }
 {
-    let gone = rows.end_rows(later);
+    // Nobody else asks which keys are gone.
+    let gone = rows.end_rows(later, !config.ranks.is_empty());
     drop_ended(
         leaders,
         config.ranks.as_slice(),

@@ -69,13 +69,13 @@ impl Store {
     }
 
     /// Takes away the rows that have ended at a moment: what is due then is looked at, and no more.
-    /// Answers the keys that have no row left, each with the position of its table, as far as there
-    /// is memory for them.
-    pub(crate) fn end_rows(&mut self, t: u64) -> Vec<(usize, Key)>
+    /// Answers, if they are to be told, the keys that have no row left, each with the position of
+    /// its table, as far as there is memory for them.
+    pub(crate) fn end_rows(&mut self, t: u64, told: bool) -> Vec<(usize, Key)>
         ensures { self.new
             ≡ record self.old { rows = filter (λ row. is_live t row.1) self.old.rows } }
     {
-        self.rows.end_rows(t)
+        self.rows.end_rows(t, told)
     }
 
     /// Where the rows of a key may lie, for the calls that take an `At`: what the hint says. Where

@@ -100,6 +100,7 @@ fn look(
     at: usize,
     t: u64,
     table: usize,
+    told: bool,
     gone: &mut Gone,
 )
     requires { IsKept (in_order keys.old.places) counts.old.items }
@@ -113,9 +114,11 @@ fn look(
     ensures missed { ends.new.missed ≡ false → ends.old.missed ≡ false }
     ensures due { count_due t ends.new.plans ≤ count_due t ends.old.plans }
 {
-    if let Some(key) = end_place(keys, counts, at, t) {
+    if let Some(key) = end_place(keys, counts, at, t)
+        && told
+    {
         // Without memory a key isn't told.
-        let _told = gone.push((table, key));
+        let _pushed = gone.push((table, key));
     }
     let least = least_end(keys, at);
     ends.note(at, t, least);
@@ -128,6 +131,7 @@ pub(crate) fn end_due(
     counts: &mut Vec<usize>,
     t: u64,
     table: usize,
+    told: bool,
     gone: &mut Gone,
 )
     requires kept { IsKept (in_order keys.old.places) counts.old.items }
@@ -140,7 +144,7 @@ pub(crate) fn end_due(
     ensures planned { ArePlanned keys.new.places ends.new }
 {
     while let Some(at) = ends.plans.take_due(t) {
-        look(keys, ends, counts, at, t, table, gone);
+        look(keys, ends, counts, at, t, table, told, gone);
     }
 }
 
@@ -151,6 +155,7 @@ pub(crate) fn end_all(
     counts: &mut Vec<usize>,
     t: u64,
     table: usize,
+    told: bool,
     gone: &mut Gone,
 )
     requires kept { IsKept (in_order keys.old.places) counts.old.items }
@@ -163,6 +168,6 @@ pub(crate) fn end_all(
 {
     ends.missed = false;
     for at in 0..keys.places() {
-        look(keys, ends, counts, at, t, table, gone);
+        look(keys, ends, counts, at, t, table, told, gone);
     }
 }

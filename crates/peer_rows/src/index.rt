@@ -192,12 +192,13 @@ impl Index {
 
 impl Index {
     /// Takes the rows out that have ended at a moment, and counts them down at their peers. The
-    /// keys that have none left are told, as far as there is memory for them.
+    /// keys that have none left are told, if they are to be, as far as there is memory for them.
     pub(crate) fn end_rows(
         &mut self,
         counts: &mut Vec<usize>,
         t: u64,
         table: usize,
+        told: bool,
         gone: &mut Gone,
     )
         requires { IsKept (in_order self.old.places) counts.old.items }
@@ -207,9 +208,9 @@ impl Index {
             ≡ filter (λ e. lives_at t e.1) (rows_in (in_order self.old.places)) }
     {
         if self.ends.missed {
-            end_all(&mut self.keys, &mut self.ends, counts, t, table, gone);
+            end_all(&mut self.keys, &mut self.ends, counts, t, table, told, gone);
         } else {
-            end_due(&mut self.keys, &mut self.ends, counts, t, table, gone);
+            end_due(&mut self.keys, &mut self.ends, counts, t, table, told, gone);
         }
     }
 }

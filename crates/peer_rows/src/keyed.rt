@@ -203,12 +203,13 @@ impl Keyed {
     }
 
     /// Takes the rows out that have ended at a moment, and counts them down at their peers. The
-    /// keys that have none left are told, as far as there is memory for them.
+    /// keys that have none left are told, if they are to be, as far as there is memory for them.
     pub(crate) fn end_rows(
         &mut self,
         counts: &mut Vec<usize>,
         t: u64,
         table: usize,
+        told: bool,
         gone: &mut Gone,
     )
         requires { IsKept self.old counts.old.items }
@@ -216,7 +217,7 @@ impl Keyed {
         ensures peers { length counts.new.items ≡ length counts.old.items }
         ensures rows { rows_in self.new ≡ filter (λ e. lives_at t e.1) (rows_in self.old) }
     {
-        self.index.end_rows(counts, t, table, gone);
+        self.index.end_rows(counts, t, table, told, gone);
     }
 
     /// Each key once with its rows, in no order.

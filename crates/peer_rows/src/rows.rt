@@ -193,14 +193,14 @@ impl Rows {
     }
 
     /// Takes the rows that have ended at a moment out: what is due then is looked at, and no more.
-    /// Answers the keys that have no row left, each with the position of its table, as far as there
-    /// is memory for them. Takes no other memory.
-    pub fn end_rows(&mut self, t: u64) -> Vec<(usize, Key)>
+    /// Answers, if they are to be told, the keys that have no row left, each with the position of
+    /// its table, as far as there is memory for them. Takes no other memory.
+    pub fn end_rows(&mut self, t: u64, told: bool) -> Vec<(usize, Key)>
         ensures after { self.new ≡ living self.old t }
         ensures ordered { AreInOrder self.new.entries }
     {
         let mut gone = Vec::new(self.alloc);
-        end_tables(&mut self.tables, t, &mut gone);
+        end_tables(&mut self.tables, t, told, &mut gone);
         gone
     }
 
@@ -325,10 +325,10 @@ impl Rows {
 }
 
 // Takes the rows that have ended at a moment out of tables.
-fn end_tables(tables: &mut Vec<Table>, t: u64, gone: &mut Gone)
+fn end_tables(tables: &mut Vec<Table>, t: u64, told: bool, gone: &mut Gone)
     ensures { tables.new.items ≡ map (ended t) tables.old.items }
 {
     for table in 0..tables.len() {
-        tables[table].end_rows(t, table, gone);
+        tables[table].end_rows(t, table, told, gone);
     }
 }

@@ -194,10 +194,10 @@ impl Table {
 
     /// Takes the rows out that have ended at a moment. The keys that have none left are told with
     /// the position of the table, as far as there is memory for them.
-    pub(crate) fn end_rows(&mut self, t: u64, table: usize, gone: &mut Gone)
+    pub(crate) fn end_rows(&mut self, t: u64, table: usize, told: bool, gone: &mut Gone)
         ensures { self.new ≡ ended t self.old }
     {
-        self.keys.end_rows(&mut self.counts, t, table, gone);
+        self.keys.end_rows(&mut self.counts, t, table, told, gone);
     }
 
     /// The rows of a key, by peer.
