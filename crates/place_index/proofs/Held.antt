@@ -101,7 +101,7 @@ revalued_past {K} {V} slots new at own value is first =
     ap held same ∙ empty_again (held slots) at (no_item slots at is)
     ∙ ap (λ x. slice_set (held slots) at x) (sym none)
 
-equal_from : (o : Ordering) → is_eq o ≡ true → o ≡ Equal
+pub equal_from : (o : Ordering) → is_eq o ≡ true → o ≡ Equal
 equal_from Less is = absurd (cc)
 equal_from Equal is = refl
 equal_from Greater is = absurd (cc)

@@ -6,3 +6,4 @@ pub mod Leading
 mod Filled
 mod Apart
 mod Lent
+mod Crowded

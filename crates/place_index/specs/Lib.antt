@@ -4,5 +4,7 @@ pub mod Segments
 pub mod Windows
 pub mod Slots
 pub mod Loose
+pub mod Marks
+pub mod Crowd
 pub mod Reach
 pub mod Lending

@@ -1,8 +1,7 @@
 use Rattle.std.specs.Prelude.{◌≡◌, ◌≤◌, ◌-◌, ◌⊎◌, ℕ, List, Option, Some}
 use Rattle.std.specs.declared.cmp.Ordering.{Ordering}
-use Rattle.std.specs.BTreeMap.{is_at}
-use Rattle.std.specs.Map.{lookup}
 use Rattle.std.specs.Vec.{vec_len, vec_capacity}
+use Rattle.place_index.specs.Crowd.{IsCrowded}
 use Rattle.place_index.specs.Loose.{IsLoose}
 use Rattle.place_index.specs.Places.{key_at, filled, AreDistinct}
 use Rattle.place_index.specs.Windows.{Has}
@@ -13,7 +12,7 @@ use Rattle.place_index.specs.declared.reach.Reach.{Reach}
 abbrev pub Leads : {K : Type 0} → (K → K → Ordering) → (K → ℕ) → Reach K → K → ℕ → Type 0
 Leads cmp hashed reach key at =
     Has reach.windows (hashed key) at
-    ⊎ ((lookup (is_at (cmp key)) reach.crowded.entries ≡ Some at) ⊎ IsLoose reach.loose.items at)
+    ⊎ (IsCrowded cmp reach.crowd key (hashed key) at ⊎ IsLoose reach.loose.items at)
 
 -- how many places are reached whatever memory there is
 abbrev pub spare : {K : Type 0} → Reach K → ℕ

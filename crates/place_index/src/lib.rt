@@ -17,11 +17,12 @@
 //! Words name the places. A key's hash chooses a window of 16 words, and a key that finds no free
 //! word there goes to an ordered map. A word has 24 bits of the hash and 24 of the place's number,
 //! so a key beyond the first 16,777,215 places goes there too. So keys that are made to collide
-//! cost what an ordered map costs, and the hash needs no secret. Where the map has no memory, the
-//! place goes to a short list whose memory was taken with the room, and each search that ends there
-//! walks it. Nothing that a word, the map or the list says is believed before the place's key was
-//! looked at. So all that is proved of them is one direction: each filled place is reached from its
-//! key.
+//! cost what an ordered map costs, and the hash needs no secret. Beside the map the hashes of its
+//! keys are marked, so that most keys which it doesn't have are known without a search there. Where
+//! the map has no memory, the place goes to a short list whose memory was taken with the room, and
+//! each search that ends there walks it. Nothing that a word, the map or the list says is believed
+//! before the place's key was looked at. So all that is proved of them is one direction: each
+//! filled place is reached from its key.
 //!
 //! Windows are made one by one as places come, each out of one other whose words it parts. Places
 //! and windows lie in segments of 1,024, which never move; the memory of a segment is taken at
@@ -29,15 +30,18 @@
 //! segments' addresses where that grows: at most 48 KB, up to four million places. `Segments` is
 //! that list of items by itself.
 //!
-//! No clause says how long a call takes; that keys stand in windows at all, that windows grow, and
+//! No clause says how long a call takes; that keys stand in windows at all, that windows grow, how
+//! few hashes are marked (with more than 16,384 keys in the map they aren't marked anew), and
 //! that words and entries which name nothing any more are gone (a `remove` that leaves them would
 //! meet its contract, and be slow); that an empty place is taken before a new one; how much memory
 //! is used, and that an insert with room asks for none, only that it does without. A key stays in
 //! the ordered map or in the list until it is removed, though there may be room elsewhere again.
 #![tactic(auto)]
 
+mod crowd;
 mod index;
 mod key;
+mod marks;
 mod reach;
 mod segments;
 mod slots;

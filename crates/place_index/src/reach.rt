@@ -1,9 +1,8 @@
 //! How a key's place is found.
 ghost use Rattle.std.specs.Prelude.{◌≡◌, ◌≢◌, ◌<◌, ◌≤◌, ◌+◌, ℕ, Some, slice_get, IfSome, IfNone};
 ghost use Rattle.std.specs.Prelude.{IsTrue, IsOk, OnOk};
-ghost use Rattle.std.specs.BTreeMap.{is_at};
-ghost use Rattle.std.specs.Map.{lookup};
 ghost use Rattle.std.specs.Vec.{vec_len, vec_capacity};
+ghost use Rattle.place_index.specs.Crowd.{IsCrowded};
 ghost use Rattle.place_index.specs.Loose.{IsLoose};
 ghost use Rattle.place_index.specs.Places.{key_at};
 ghost use Rattle.place_index.specs.Slots.{held};
@@ -11,18 +10,18 @@ ghost use Rattle.place_index.specs.Windows.{word_of, IsIn};
 ghost use Rattle.place_index.specs.Reach.{Leads, spare};
 
 use crate::IndexKey;
+use crate::crowd::Crowd;
 use crate::slots::Slots;
 use crate::windows::{Windows, Word, short, word_at};
 use agg_types::NoMemory;
 use std::alloc::Global;
-use std::collections::BTreeMap;
 
 /// How a key's place is found: by a word of its hash's window, by an ordered map of the keys that
 /// found no room there, or by a look at each of the few places for which the map had no memory.
 #[derive(Drop)]
 pub(crate) struct Reach<K: Ord> {
     windows: Windows,
-    crowded: BTreeMap<K, usize>,
+    crowd: Crowd<K>,
     // Memory for them is taken beforehand. None of them once memory is to be had again.
     loose: Vec<usize>,
 }
@@ -32,7 +31,7 @@ impl<K: IndexKey> Reach<K> {
     pub(crate) fn new(alloc: Global) -> Reach<K> {
         Reach {
             windows: Windows::new(alloc),
-            crowded: BTreeMap::new(alloc),
+            crowd: Crowd::new(alloc),
             loose: Vec::new(alloc),
         }
     }
@@ -45,11 +44,12 @@ impl<K: IndexKey> Reach<K> {
             → key_at (held slots.now.slots.items) at ≡ Some key.now
             → Leads K.cmp K.hashed self.now key.now at → ⊥) }
     {
-        let hash = short(key.hash_of());
-        if let Some(at) = named_in(self.windows.window(hash), slots, hash, key) {
+        let hash = key.hash_of();
+        let short = short(hash);
+        if let Some(at) = named_in(self.windows.window(short), slots, short, key) {
             return Some(at);
         }
-        if let Some(at) = crowded_at(&self.crowded, slots, key) {
+        if let Some(at) = crowded_at(&self.crowd, slots, hash, key) {
             return Some(at);
         }
         loose_in(&self.loose, slots, key)
@@ -75,11 +75,12 @@ impl<K: IndexKey> Reach<K> {
             → Leads K.cmp K.hashed self.new k q }
         ensures spare { spare self.old ≤ spare self.new + 1 }
     {
-        if self.windows.put(key.hash_of(), at) {
+        let hash = key.hash_of();
+        if self.windows.put(hash, at) {
             return;
         }
         let alloc = *self.loose.allocator();
-        if remember(&mut self.crowded, alloc, key, at) {
+        if self.crowd.put(alloc, hash, key, at) {
             return;
         }
         self.loose.push_reserved(at);
@@ -92,7 +93,7 @@ impl<K: IndexKey> Reach<K> {
         ensures spare { spare self.old ≤ spare self.new }
     {
         let cleared = self.windows.clear(key.hash_of(), at);
-        forget(&mut self.crowded, key, cleared);
+        forget(&mut self.crowd, key, cleared);
         drop_loose(&mut self.loose, at);
     }
 
@@ -166,18 +167,20 @@ fn named_by<K: IndexKey, V: Drop>(
     }
 }
 
-// The place of a key, if the map has it.
+// The place of a key, if it is among those that found no free word.
+#[inline]
 fn crowded_at<K: IndexKey, V: Drop>(
-    crowded: &BTreeMap<K, usize>,
+    crowd: &Crowd<K>,
     slots: &Slots<K, V>,
+    hash: u32,
     key: &K,
 ) -> Option<usize>
     ensures some { IfSome result (λ at. key_at (held slots.now.slots.items) at ≡ Some key.now) }
     ensures none { IfNone result ((at : ℕ) → key_at (held slots.now.slots.items) at ≡ Some key.now
-        → lookup (is_at (K.cmp key.now)) crowded.now.entries ≢ Some at) }
+        → IsCrowded K.cmp crowd.now key.now hash at → ⊥) }
 {
-    match crowded.get(key) {
-        Some(at) => checked(slots, *at, key),
+    match crowd.get(hash, key) {
+        Some(at) => checked(slots, at, key),
         None => None,
     }
 }
@@ -206,32 +209,15 @@ fn checked<K: IndexKey, V: Drop>(slots: &Slots<K, V>, at: usize, key: &K) -> Opt
     if slots.is_of(at, key) { Some(at) } else { None }
 }
 
-// Puts a key into the map, if there is memory for it.
-fn remember<K: IndexKey>(
-    crowded: &mut BTreeMap<K, usize>,
-    alloc: Global,
-    key: &K,
-    at: usize,
-) -> bool
-    ensures has { IsTrue result → lookup (is_at (K.cmp key.now)) crowded.new.entries ≡ Some at }
-    ensures others { (k : K) → k ≢ key.now → lookup (is_at (K.cmp k)) crowded.new.entries
-        ≡ lookup (is_at (K.cmp k)) crowded.old.entries }
-{
-    match key.again(alloc) {
-        Ok(own) => crowded.insert(own, at).is_ok(),
-        Err(_) => false,
-    }
-}
-
-// Takes a key out of the map, unless its word was cleared.
-fn forget<K: IndexKey>(crowded: &mut BTreeMap<K, usize>, key: &K, cleared: bool)
-    ensures { (k : K) → k ≢ key.now → lookup (is_at (K.cmp k)) crowded.new.entries
-        ≡ lookup (is_at (K.cmp k)) crowded.old.entries }
+// Takes a key out of the crowd, unless its word was cleared.
+fn forget<K: IndexKey>(crowd: &mut Crowd<K>, key: &K, cleared: bool)
+    ensures { (k : K) (q : ℕ) → k ≢ key.now → IsCrowded K.cmp crowd.old k (K.hashed k) q
+        → IsCrowded K.cmp crowd.new k (K.hashed k) q }
 {
     if cleared {
         return;
     }
-    crowded.remove(key);
+    crowd.remove(key);
 }
 
 // Takes a place out of some.

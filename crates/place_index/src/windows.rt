@@ -242,10 +242,10 @@ impl Windows {
     }
 }
 
-// The remainder of a division, which by 0 leaves all. That by a power of two, which it mostly is,
-// is made without a division.
+/// The remainder of a division, which by 0 leaves all. That by a power of two, which it mostly is,
+/// is made without a division.
 #[inline]
-fn modulo(hash: u32, by: u32) -> u32
+pub(crate) fn modulo(hash: u32, by: u32) -> u32
     ensures { result ≡ hash % by }
 {
     let power = by.trailing_zeros();

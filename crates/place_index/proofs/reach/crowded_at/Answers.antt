@@ -8,11 +8,11 @@ use Rattle.place_index.proofs.reach.crowded_at.Goals as goal
 pub returns-in-Some-clause-none : goal.returns-in-Some-clause-none
 returns-in-Some-clause-none g c =
     if_none c.checked.result c.checked.ensures.none
-    (λ wrong at is_held is.
+    (λ wrong at is_held crowded.
     wrong (subst
     (λ n. key_at (held c.args.slots.now.slots.items) n ≡ Some c.args.key.now)
-    (same_Some at c.in-Some.at.now (sym is ∙ sym c.in-Some.ensures.value)) is_held))
+    (same_Some at c.in-Some.at (sym (c.get.ensures at crowded) ∙ c.in-Some.is)) is_held))
 
 pub returns-in-None-clause-none : goal.returns-in-None-clause-none
 returns-in-None-clause-none g c =
-    λ at is_held is. none-some at (c.in-None.ensures.value ∙ is)
+    λ at is_held crowded. none-some at (sym c.in-None.is ∙ c.get.ensures at crowded)
