@@ -159,9 +159,25 @@ impl Form {
             Form::Few(few) => {
                 if few.has_room() {
                     few.push(cell);
+                    Ok(())
                 } else {
-                    *self = Form::Many(grown(few.alloc(), few.as_slice(), cell)?);
+                    self.push_spread(cell)
                 }
+            }
+            Form::Many(_) => self.push_spread(cell),
+        }
+    }
+
+    // The same in a block. Apart, so that a push with room in the value itself makes none for what
+    // happens here.
+    #[inline(never)]
+    fn push_spread(&mut self, cell: Cell) -> Result<(), NoMemory>
+        ensures ok { OnOk result (form_cells self.new ≡ form_cells self.old ++ cell ∷ []) }
+        ensures err { OnErr result (self.new ≡ self.old) }
+    {
+        match self {
+            Form::Few(few) => {
+                *self = Form::Many(grown(few.alloc(), few.as_slice(), cell)?);
                 Ok(())
             }
             Form::Many(cells) => cells.push(cell),
