@@ -346,21 +346,48 @@ impl Track {
                     changes,
                 )
             }
-            Message::Define(definition) => {
-                self.keep(plan.take());
-                let heard = self.define(definition.id, followed_of(tables, definition), changes)?;
-                *plan = self.plan_now(tables);
-                Ok(heard)
-            }
+            Message::Define(definition) => self.take_up(tables, plan, definition, changes),
             Message::Switch(id) => {
-                self.keep(plan.take());
-                self.switch(*id);
-                *plan = self.plan_now(tables);
+                self.turn_to(tables, plan, *id);
                 Ok(Heard::Nothing)
             }
             Message::Confirm | Message::Heartbeat | Message::Acked { .. } | Message::Other { .. } =>
                 Ok(Heard::Nothing),
         }
+    }
+
+    /// A definition is in force, with its plan if that is kept. Apart, as is what follows, so that
+    /// an update makes no room for what happens here.
+    #[inline(never)]
+    fn take_up(
+        &mut self,
+        tables: &Declared<Shape>,
+        plan: &mut Option<CachedPlan>,
+        definition: &Definition,
+        changes: &mut Vec<Change>,
+    ) -> Result<Heard, NoMemory>
+        ensures undo { LeadBack changes.old.items self.old.entries
+            changes.new.items self.new.entries }
+        ensures step { IfOk result (λ heard. (facts : List What) → IsStep self.new heard facts facts
+            (defined self.old definition.now.id (followed_of tables.now definition.now)
+            (entry_of definition.now.id self.old.entries))) }
+        ensures planned { OnOk result (IfSome plan.new (IsPlanNow tables.now self.new)) }
+    {
+        self.keep(plan.take());
+        let heard = self.define(definition.id, followed_of(tables, definition), changes)?;
+        *plan = self.plan_now(tables);
+        Ok(heard)
+    }
+
+    /// An id is in force, with its last definition, and its plan if that is kept.
+    #[inline(never)]
+    fn turn_to(&mut self, tables: &Declared<Shape>, plan: &mut Option<CachedPlan>, id: u64)
+        ensures track { self.new ≡ (switched self.old id).track }
+        ensures planned { IfSome plan.new (IsPlanNow tables.now self.new) }
+    {
+        self.keep(plan.take());
+        self.switch(id);
+        *plan = self.plan_now(tables);
     }
 
     /// An id gets a definition, and is in force.
