@@ -1,10 +1,8 @@
 -- What connections are told of the pushed tables. Lists of steps begin with the newest.
 use Rattle.std.specs.Prelude.{ℕ, Bool, ◌==◌, ◌&&◌, is_some, if◌then◌else◌, List, [], ◌∷◌, length}
 use Rattle.std.specs.Prelude.{drop, map}
-use Rattle.std.specs.Option.{option_map_or}
-use Rattle.agg_types.specs.Naming.{place_of}
 use Rattle.agg_types.specs.declared.config.Config.{Config}
-use Rattle.fleet_model.specs.Answers.{filter_of, set_at}
+use Rattle.fleet_model.specs.Named.{keys_named}
 use Rattle.fleet_model.specs.State.{State, state_of}
 use Rattle.session_core.specs.Asking.{asks_all}
 use Rattle.session_core.specs.Piece.{setup_of}
@@ -19,16 +17,9 @@ use Rattle.fleet_core.specs.declared.step.Step.TheVariants.{DropFilter, Moment, 
 use Rattle.fleet_core.specs.Events.{events_of, is_seated, talk_of, talk_with}
 use Rattle.fleet_core.specs.Steps.{stream}
 
--- the keys that the filter with a name holds at the book's moment; none where there is no such
--- filter
-abbrev pub set_named : State → List ℕ → List (List ℕ)
-set_named state name =
-    option_map_or (λ place. set_at state (filter_of state place) state.moment)
-    (place_of (λ filter. filter.name) state.config.filters name) []
-
 -- the sets of the pushed tables
 abbrev pub sets_of : State → List Pushed → List (List (List ℕ))
-sets_of state pushed = map (λ table. set_named state table.name) pushed
+sets_of state pushed = map (λ table. keys_named state table.name) pushed
 
 -- the bytes of a turn over a book's sets at its moment
 abbrev pub turn_over : State → WasTold → List ℕ

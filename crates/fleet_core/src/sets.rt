@@ -1,10 +1,11 @@
 //! The sets of the pushed tables.
 
 ghost use Rattle.std.specs.Prelude.{◌≡◌, map, IfOk};
-ghost use Rattle.fleet_core.specs.Telling.{set_named, sets_of};
+ghost use Rattle.fleet_core.specs.Telling.{sets_of};
 
 use crate::Book;
 use agg_types::{Key, NoMemory};
+use book::keys_named;
 use std::alloc::Global;
 use telling::Pushed;
 
@@ -20,16 +21,7 @@ pub fn sets_of<'a>(
 {
     let mut sets = Vec::new(alloc);
     for table in pushed {
-        sets.push(set_named(alloc, book, table.name.as_slice())?)?;
+        sets.push(keys_named(alloc, book, table.name.as_slice())?)?;
     }
     Ok(sets)
-}
-
-fn set_named<'a>(alloc: Global, book: &'a Book, name: &[u8]) -> Result<Vec<&'a Key>, NoMemory>
-    ensures { IfOk result (λ keys. map (λ key. key.now) keys.items ≡ set_named book.now name.now) }
-{
-    match book.config().filters.position(name) {
-        None => Ok(Vec::new(alloc)),
-        Some(filter) => book.filter_keys(alloc, filter),
-    }
 }
