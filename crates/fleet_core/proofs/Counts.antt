@@ -176,11 +176,6 @@ count-to_come config opening (Moment moment ∷ past) conn later =
           (apart_from_lt 0 conn (omega (arith, later))),
     ) refl
 
-pub length_of_numbered : (seat seq : ℕ) (whats : List What) → length (numbered seat seq whats)
-    ≡ length whats
-length_of_numbered seat seq [] = refl
-length_of_numbered seat seq (what ∷ whats) = ap suc (length_of_numbered seat (seq + 1) whats)
-
 pub some_is : {X : Type 0} {x y : X} → Some x ≡ Some y → x ≡ y
 some_is e = cc
 

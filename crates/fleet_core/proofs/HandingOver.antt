@@ -21,7 +21,7 @@ use Rattle.fleet_core.specs.Represents.{Collected, Represents, WasTold}
 use Rattle.fleet_core.specs.declared.connection.Connection.{Connection}
 use Rattle.fleet_core.specs.Steps.{connects, names}
 use Rattle.fleet_core.specs.Waiting.{AreHandedOver, IsOneHandedOver, leave_if}
-use Rattle.fleet_core.proofs.Counts.{length_of_numbered}
+use Rattle.book.proofs.Updates.{length-numbered}
 
 -- more events after some
 more : (config : Config) (opening : ℕ) (events later : List Event)
@@ -158,5 +158,5 @@ pub how_many : (seat seq taken : ℕ) (facts : List What) (leaves : Bool) (waiti
 how_many seat seq taken facts leaves waiting is =
     ap (λ n. n + length (leave_if leaves)) (sym (length-drop taken facts))
     ∙ sym (length-append (drop taken facts) (leave_if leaves))
-    ∙ sym (length_of_numbered seat seq (drop taken facts ++ leave_if leaves))
+    ∙ sym (length-numbered seat seq (drop taken facts ++ leave_if leaves))
     ∙ ap length is

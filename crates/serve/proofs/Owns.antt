@@ -8,6 +8,7 @@ use mathlib.Core.List.{IsPrefix}
 use Rattle.agg_types.specs.declared.event.Event.{Event}
 use Rattle.agg_types.specs.declared.event.What.{What}
 use Rattle.agg_types.specs.declared.event.What.TheVariants.{Sit, Leave}
+use Rattle.book.proofs.Updates.{length-numbered}
 use Rattle.fleet_model.specs.Seats.{numbered}
 use Rattle.hub.specs.History.{Beginning, longer_by, own}
 use Rattle.hub.specs.declared.faults.PostFault.{PostFault}
@@ -36,10 +37,6 @@ own-made seat n (what ∷ whats) =
     own_cons seat e (numbered seat (n + 1) whats) (seat == seat) refl (same_seat seat)
     ∙ ap (λ es. e ∷ es) (own-made seat (n + 1) whats)
 
-pub length-made : (seat n : ℕ) (whats : List What) → length (numbered seat n whats) ≡ length whats
-length-made seat n [] = refl
-length-made seat n (what ∷ whats) = omega (arith, length-made seat (n + 1) whats)
-
 pub made-append : (seat n : ℕ) (some more : List What) → numbered seat n (some ++ more)
     ≡ numbered seat n some ++ numbered seat (n + length some) more
 made-append seat n [] more = ap (λ k. numbered seat k more) (omega arith)
@@ -65,7 +62,7 @@ before_batch seat whats seen before waiting tells prefix count =
       omega (
         arith,
         length-append (numbered seat 0 (Sit ∷ whats)) more,
-        length-made seat 0 (Sit ∷ whats),
+        length-numbered seat 0 (Sit ∷ whats),
       ),
       split,
     )

@@ -3,10 +3,8 @@ use Rattle.std.specs.Option.{option_map}
 use Rattle.std.specs.Prelude.{◌≡◌, ◌⊎◌, ℕ, ◌-◌, Bool, List, [], ◌∷◌, ◌++◌, length, drop, map}
 use Rattle.std.specs.Prelude.{if◌then◌else◌, Option, None, Some, MatchOption, Result, Ok, Err}
 use Rattle.std.specs.Io.KnownBytes.{Appends}
-use Rattle.agg_types.specs.Naming.{place_of}
-use Rattle.agg_types.specs.declared.config.Filter.{Filter}
 use Rattle.agg_types.specs.declared.event.What.{What}
-use Rattle.fleet_model.specs.Answers.{filter_of, set_at}
+use Rattle.fleet_model.specs.Named.{keys_named}
 use Rattle.fleet_model.specs.State.{State}
 use Rattle.session_core.specs.declared.cause.SessionCause.{SessionCause}
 use Rattle.session_core.specs.declared.cause.SessionCause.TheVariants as causes
@@ -54,15 +52,9 @@ said_beyond setup old new =
     drop (length old.replies) new.replies
     ++ acks_among setup.tables (new.count - old.count) new.past
 
--- the keys of the standing filter at a place, if there is one
-abbrev pub set_of : State → Option ℕ → List (List ℕ)
-set_of book None = []
-set_of book (Some place) = set_at book (filter_of book place) book.moment
-
 -- the keys that a pushed table stands for in a book: those of the filter of its name
 abbrev pub set_named : State → Pushed → List (List ℕ)
-set_named book table =
-    set_of book (place_of (λ (filter : Filter). filter.name) book.config.filters table.name)
+set_named book table = keys_named book table.name
 
 -- the sets of the pushed tables in a book
 abbrev pub sets_in : List Pushed → State → List (List (List ℕ))

@@ -6,11 +6,11 @@ ghost use Rattle.hub.specs.History.{Beginning};
 ghost use Rattle.hub.specs.Posts.{Follows};
 ghost use Rattle.serve.specs.Tellings.{Equips, HoldsLast, LooksBack, MayShow, SaysTo, TellsOn};
 ghost use Rattle.serve.specs.Tellings.{TurnsTo, asked_pushing};
-ghost use Rattle.serve.specs.Turns.{set_named, sets_in};
+ghost use Rattle.serve.specs.Turns.{sets_in};
 
 use crate::poster::Poster;
 use agg_types::{Config, Items, Key, NoMemory};
-use book::Book;
+use book::{Book, keys_named};
 use hub::{Hub, Lens, Naming};
 use std::alloc::Global;
 use std::sync::Wait;
@@ -31,16 +31,6 @@ pub struct Pushing {
     made: Option<u64>,
 }
 
-// The keys of the filter of a table in a book.
-fn set_of<'a>(alloc: Global, book: &'a Book, table: &Pushed) -> Result<Vec<&'a Key>, NoMemory>
-    ensures { IfOk result (λ set. map (λ key. key.now) set.items ≡ set_named book.now table.now) }
-{
-    match book.config().filters.position(table.name.as_slice()) {
-        None => Ok(Vec::new(alloc)),
-        Some(filter) => book.filter_keys(alloc, filter),
-    }
-}
-
 // The sets of the pushed tables in a book.
 fn sets_in<'a>(
     alloc: Global,
@@ -52,7 +42,7 @@ fn sets_in<'a>(
 {
     let mut sets = Vec::new(alloc);
     for table in pushed {
-        sets.push(set_of(alloc, book, table)?)?;
+        sets.push(keys_named(alloc, book, table.name.as_slice())?)?;
     }
     Ok(sets)
 }
