@@ -11,3 +11,4 @@ pub mod PeopleLines
 pub mod TextsBehind
 pub mod CommandWords
 pub mod CommandBack
+pub mod Readers

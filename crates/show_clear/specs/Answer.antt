@@ -137,19 +137,9 @@ abbrev pub IsAnswer : State → Command → List ℕ → Type 0
 IsAnswer state (Ask question) text = IsAnswerTo state question text
 IsAnswer state (Changes change) text = text ≡ codes "ok\n"
 
--- the text of a filter's next change was put behind what was there
-abbrev pub AppendsNext : State → Filter → List ℕ → List ℕ → Type 0
-AppendsNext state filter old new = (text : List ℕ) × (new ≡ old ++ text)
-    × IsNextText state filter text
-
 -- a command's answer was put behind what was there
 abbrev pub Answers : State → Command → List ℕ → List ℕ → Type 0
 Answers state command old new = (text : List ℕ) × (new ≡ old ++ text) × IsAnswer state command text
-
--- a question was answered behind what was there
-abbrev pub AnswersQuestion : State → Question → List ℕ → List ℕ → Type 0
-AnswersQuestion state question old new =
-    (text : List ℕ) × (new ≡ old ++ text) × IsAnswerTo state question text
 
 -- a question names what is in a configuration
 abbrev pub AskedExists : State → Question → Type 0

@@ -4,6 +4,7 @@ pub mod Change
 pub mod Explained
 pub mod Parse
 pub mod People
+pub mod Readers
 pub mod Refusal
 pub mod Selected
 pub mod Tables

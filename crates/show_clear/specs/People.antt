@@ -48,13 +48,3 @@ IsPeoplesAnswer state (Changes change) text = IsAnswer state (Changes change) te
 abbrev pub AnswersPeople : State → Command → List ℕ → List ℕ → Type 0
 AnswersPeople state command old new =
     (text : List ℕ) × (new ≡ old ++ text) × IsPeoplesAnswer state command text
-
--- a question's answer was put behind what was there
-abbrev pub AppendsTold : State → Question → List ℕ → List ℕ → Type 0
-AppendsTold state question old new =
-    (text : List ℕ) × (new ≡ old ++ text) × TellsPeople state question text
-
--- the text of a filter's next change was put behind what was there
-abbrev pub AppendsAhead : State → Filter → List ℕ → List ℕ → Type 0
-AppendsAhead state filter old new =
-    (text : List ℕ) × (new ≡ old ++ text) × IsNextAhead state filter text

@@ -4,11 +4,12 @@ ghost use Rattle.std.specs.Prelude.{◌≡◌, ◌++◌, ◌<◌, length, take, 
 ghost use Rattle.agg_types.specs.declared.event.Select.TheVariants.{One, Conds};
 ghost use Rattle.fleet_model.specs.Answers.{filter_of};
 ghost use Rattle.fleet_model.specs.Ranking.{rank_of};
-ghost use Rattle.show_clear.specs.Answer.{Answers, AnswersQuestion, AppendsNext, AskedExists};
+ghost use Rattle.show_clear.specs.Answer.{Answers, AskedExists};
 ghost use Rattle.show_clear.specs.Answer.{NamesExist, filter_text};
 ghost use Rattle.show_clear.specs.Answer.{headings, rank_text, row_lines, rows_text, shape_of};
 ghost use Rattle.show_clear.specs.Answer.{table_text};
-ghost use Rattle.show_clear.specs.People.{AnswersPeople, AppendsAhead, AppendsTold};
+ghost use Rattle.show_clear.specs.People.{AnswersPeople};
+ghost use Rattle.show_clear.specs.Readers.{AnswersFor, AppendsNext, AppendsTold};
 
 use crate::fleet::{Book, BookRows};
 use crate::lists::{append_change, append_change_ahead, append_held, append_ranking};
@@ -22,6 +23,7 @@ use std::alloc::Global;
 /// `ok` for what changes it. After `NoMemory` the bytes of `out` are as they were.
 ///
 /// The command names what stands in the book, as one that `parse` read over it does.
+#[tactic(auto, using(crate::proofs::Readers::answers_scripts))]
 pub fn answer(
     alloc: Global,
     book: &Book,
@@ -32,18 +34,14 @@ pub fn answer(
     ensures ok { OnOk result (Answers book.now command.now out.old.items out.new.items) }
     ensures err { OnErr result (out.new.items ≡ out.old.items) }
 {
-    let len = out.len();
-    if append_answer(alloc, book, command, out).is_err() {
-        out.truncate(len);
-        return Err(NoMemory);
-    }
-    Ok(())
+    append_whole(alloc, book, Readers::Scripts, command, out)
 }
 
 /// Appends what people are answered: what `answer` does, and behind the moment of a filter's next
 /// change how far off it is, in ms. After `NoMemory` the bytes of `out` are as they were.
 ///
 /// The command names what stands in the book, as one that `parse` read over it does.
+#[tactic(auto, using(crate::proofs::Readers::answers_people))]
 pub fn answer_people(
     alloc: Global,
     book: &Book,
@@ -54,61 +52,51 @@ pub fn answer_people(
     ensures ok { OnOk result (AnswersPeople book.now command.now out.old.items out.new.items) }
     ensures err { OnErr result (out.new.items ≡ out.old.items) }
 {
+    append_whole(alloc, book, Readers::People, command, out)
+}
+
+/// Whom an answer is for.
+#[derive(Clone, Copy)]
+enum Readers {
+    Scripts,
+    People,
+}
+
+// Appends the text of a command's answer whole, or leaves what was there.
+fn append_whole(
+    alloc: Global,
+    book: &Book,
+    readers: Readers,
+    command: &Command,
+    out: &mut Vec<u8>,
+) -> Result<(), NoMemory>
+    requires { NamesExist book.now command.now }
+    ensures ok { OnOk result
+        (AnswersFor readers book.now command.now out.old.items out.new.items) }
+    ensures err { OnErr result (out.new.items ≡ out.old.items) }
+{
     let len = out.len();
-    if append_told(alloc, book, command, out).is_err() {
+    if append_answer(alloc, book, readers, command, out).is_err() {
         out.truncate(len);
         return Err(NoMemory);
     }
     Ok(())
 }
 
-fn append_told(
-    alloc: Global,
-    book: &Book,
-    command: &Command,
-    out: &mut Vec<u8>,
-) -> Result<(), NoMemory>
-    requires { NamesExist book.now command.now }
-    ensures ok { OnOk result (AnswersPeople book.now command.now out.old.items out.new.items) }
-    ensures begins { take (length out.old.items) out.new.items ≡ out.old.items }
-{
-    match command {
-        Command::Ask(question) => append_asked_ahead(alloc, book, question, out),
-        Command::Change(_) => append_text(b"ok\n", out),
-    }
-}
-
-fn append_asked_ahead(
-    alloc: Global,
-    book: &Book,
-    question: &Question,
-    out: &mut Vec<u8>,
-) -> Result<(), NoMemory>
-    requires { AskedExists book.now question.now }
-    ensures ok { OnOk result (AppendsTold book.now question.now out.old.items out.new.items) }
-    ensures begins { take (length out.old.items) out.new.items ≡ out.old.items }
-{
-    match question {
-        Question::NextChange(filter) => append_ahead(alloc, book, *filter, out),
-        Question::Tables
-        | Question::Table { .. }
-        | Question::FilterKeys(_)
-        | Question::Ranking(_) => append_asked(alloc, book, question, out),
-    }
-}
-
 fn append_answer(
     alloc: Global,
     book: &Book,
+    readers: Readers,
     command: &Command,
     out: &mut Vec<u8>,
 ) -> Result<(), NoMemory>
     requires { NamesExist book.now command.now }
-    ensures ok { OnOk result (Answers book.now command.now out.old.items out.new.items) }
+    ensures ok { OnOk result
+        (AnswersFor readers book.now command.now out.old.items out.new.items) }
     ensures begins { take (length out.old.items) out.new.items ≡ out.old.items }
 {
     match command {
-        Command::Ask(question) => append_asked(alloc, book, question, out),
+        Command::Ask(question) => append_asked(alloc, book, readers, question, out),
         Command::Change(_) => append_text(b"ok\n", out),
     }
 }
@@ -116,12 +104,13 @@ fn append_answer(
 fn append_asked(
     alloc: Global,
     book: &Book,
+    readers: Readers,
     question: &Question,
     out: &mut Vec<u8>,
 ) -> Result<(), NoMemory>
     requires { AskedExists book.now question.now }
     ensures ok { OnOk result
-        (AnswersQuestion book.now question.now out.old.items out.new.items) }
+        (AppendsTold readers book.now question.now out.old.items out.new.items) }
     ensures begins { take (length out.old.items) out.new.items ≡ out.old.items }
 {
     match question {
@@ -129,7 +118,7 @@ fn append_asked(
         Question::Table { table, sel } => append_table(alloc, book, *table, sel, out),
         Question::FilterKeys(filter) => append_filter(alloc, book, *filter, out),
         Question::Ranking(rank) => append_rank(alloc, book, *rank, out),
-        Question::NextChange(filter) => append_next(alloc, book, *filter, out),
+        Question::NextChange(filter) => append_next(alloc, book, readers, *filter, out),
     }
 }
 
@@ -274,30 +263,23 @@ fn append_rank(alloc: Global, book: &Book, rank: usize, out: &mut Vec<u8>) -> Re
     append_ranking(listed, shape_of(book, listed.table), entries, out)
 }
 
-fn append_next(alloc: Global, book: &Book, filter: usize, out: &mut Vec<u8>) -> Result<(), NoMemory>
-    requires { filter < length book.now.config.filters }
-    ensures ok { OnOk result
-        (AppendsNext book.now (filter_of book.now filter) out.old.items out.new.items) }
-    ensures begins { take (length out.old.items) out.new.items ≡ out.old.items }
-{
-    let standing = filter_at(book, filter);
-    let t = book.next_change(alloc, filter)?;
-    append_change(standing, shape_of(book, standing.table), t, out)
-}
-
-fn append_ahead(
+fn append_next(
     alloc: Global,
     book: &Book,
+    readers: Readers,
     filter: usize,
     out: &mut Vec<u8>,
 ) -> Result<(), NoMemory>
     requires { filter < length book.now.config.filters }
     ensures ok { OnOk result
-        (AppendsAhead book.now (filter_of book.now filter) out.old.items out.new.items) }
+        (AppendsNext readers book.now (filter_of book.now filter) out.old.items out.new.items) }
     ensures begins { take (length out.old.items) out.new.items ≡ out.old.items }
 {
     let standing = filter_at(book, filter);
     let t = book.next_change(alloc, filter)?;
     let shape = shape_of(book, standing.table);
-    append_change_ahead(standing, shape, book.moment(), t, out)
+    match readers {
+        Readers::Scripts => append_change(standing, shape, t, out),
+        Readers::People => append_change_ahead(standing, shape, book.moment(), t, out),
+    }
 }
