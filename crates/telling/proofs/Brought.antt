@@ -18,6 +18,7 @@ use Rattle.telling.specs.declared.pushed.Pushed.{Pushed}
 use Rattle.telling.specs.declared.told.Mark.{Mark}
 use Rattle.telling.specs.declared.told.ToldTable.{ToldTable}
 use Rattle.telling.specs.Among.{AllMarks, IsAmong, IsMarked}
+use Rattle.telling.specs.Moves.{marked}
 use Rattle.telling.specs.Rules.{is_due, is_told, is_written, put_after}
 use Rattle.telling.specs.Stands.{Stand, in_set, by_order, only_told, placed, stands}
 use Rattle.telling.specs.Telling.{TableTurn, keys_told, marks_after, table_at, table_turn}
@@ -77,7 +78,7 @@ in_told table turn key (Some put) standing lives =
     undue false b is = is
 
 -- the mark of a key that isn't in the set, behind a turn
-left_mark : Bool → Bool → Mark → List Mark
+unfoldable pub left_mark : Bool → Bool → Mark → List Mark
 left_mark holds told mark =
     option_to_list (option_map (λ put. record { key = mark.key; put = put })
     (if holds && told then Some mark.put else None))
@@ -389,3 +390,60 @@ told_at pushed sets now told place table is =
     ap (λ (o : Option Pushed). option_map_or (λ t. keys_told t now
     (table_at (told_after pushed sets now told) place).marks) o []) is
     ∙ ap (keys_told table now) (marks_at pushed sets now told place table is)
+
+-- ---- without a hold, which keys have marks
+
+pub in_marked : (table : Pushed) (turn : Turn) (key : List ℕ) (put : Option ℕ)
+    (standing : List Stand) → marked (marks_after table turn (in_set key put ∷ standing))
+    ≡ key ∷ marked (marks_after table turn standing)
+unfolding put_after
+in_marked table turn key None standing = refl
+in_marked table turn key (Some put) standing =
+    elim (cases_Bool (is_written table turn (Some put))) [
+      | inl is ↦ rw is refl
+      | inr is ↦ rw is refl
+    ]
+
+out_marked : (table : Pushed) (turn : Turn) (mark : Mark) (standing : List Stand)
+    → table.holds ≡ false → marked (marks_after table turn (only_told mark ∷ standing))
+    ≡ marked (marks_after table turn standing)
+unfolding put_after left_mark
+out_marked table turn mark standing loose =
+    ap (λ (b : Bool). marked (left_mark b (is_told table turn.now mark.put) mark
+    ++ marks_after table turn standing)) loose
+
+rest_marked : (table : Pushed) (turn : Turn) (marks : List Mark) → table.holds ≡ false
+    → marked (marks_after table turn (map only_told marks)) ≡ []
+rest_marked table turn [] loose = refl
+rest_marked table turn (mark ∷ marks) loose =
+    out_marked table turn mark (map only_told marks) loose ∙ rest_marked table turn marks loose
+
+placed_marked : (table : Pushed) (turn : Turn) (key : List ℕ) (keys : List (List ℕ))
+    (behind : List Mark → List Stand) (marks : List Mark) → table.holds ≡ false
+    → ((ms : List Mark) → marked (marks_after table turn (behind ms)) ≡ keys)
+    → marked (marks_after table turn (placed key behind marks)) ≡ key ∷ keys
+placed_marked table turn key keys behind [] loose are =
+    in_marked table turn key None (behind []) ∙ ap (λ ks. key ∷ ks) (are [])
+placed_marked table turn key keys behind (mark ∷ marks) loose are =
+    by (slice_cmp nat_cmp key mark.key)
+    (placed_marked table turn key keys behind marks loose are)
+  where
+    by : (o : Ordering) → marked (marks_after table turn (placed key behind marks)) ≡ key ∷ keys
+        → marked (marks_after table turn (by_order o (in_set key None ∷ behind (mark ∷ marks))
+        (in_set key (Some mark.put) ∷ behind marks) (only_told mark ∷ placed key behind marks)))
+        ≡ key ∷ keys
+    by Less later =
+        in_marked table turn key None (behind (mark ∷ marks))
+        ∙ ap (λ ks. key ∷ ks) (are (mark ∷ marks))
+    by Equal later =
+        in_marked table turn key (Some mark.put) (behind marks) ∙ ap (λ ks. key ∷ ks) (are marks)
+    by Greater later = out_marked table turn mark (placed key behind marks) loose ∙ later
+
+-- those of the set
+pub set_marked : (table : Pushed) (turn : Turn) (set : List (List ℕ)) (marks : List Mark)
+    → table.holds ≡ false → marked (marks_after table turn (stands set marks)) ≡ set
+unfolding stands
+set_marked table turn [] marks loose = rest_marked table turn marks loose
+set_marked table turn (key ∷ keys) marks loose =
+    placed_marked table turn key keys (stands keys) marks loose
+    (λ ms. set_marked table turn keys ms loose)

@@ -1,9 +1,11 @@
 -- How far the loop has come that tells a table: what is done, and what is left to do.
-use Rattle.std.proofs.Common.{◌≡◌, ℕ, List, [], ◌∷◌, ◌++◌, append_assoc, append-nil, ap, refl, sym}
+use Rattle.std.proofs.Common.{◌≡◌, ℕ, List, [], ◌∷◌, ◌++◌, append_assoc, append-nil, ap, refl}
+use Rattle.std.proofs.Common.{subst, sym}
 use Rattle.std.proofs.Common.{◌∙◌}
 use Rattle.std.proofs.lemmas.List.Concat.{flat_map-append}
 use Rattle.peers_msg.specs.Spelling.{message_spelling}
 use Rattle.peers_msg.specs.declared.message.Message.{Message}
+pub use Rattle.telling.specs.Passed.{Done, IsDone}
 use Rattle.telling.specs.Stands.{Stand}
 use Rattle.telling.specs.Telling.{changes, defined_after, define_unless, key_change, key_mark}
 use Rattle.telling.specs.Telling.{last_after, marks_after, next_id, text_of, update_of, updates}
@@ -11,7 +13,6 @@ use Rattle.telling.specs.Telling.{with_definition}
 use Rattle.telling.specs.declared.change.Change.{Change}
 use Rattle.telling.specs.declared.change.Turn.{Turn}
 use Rattle.telling.specs.declared.pushed.Pushed.{Pushed}
-use Rattle.telling.specs.declared.told.Mark.{Mark}
 
 pub text_append : (ms ns : List Message) → text_of (ms ++ ns) ≡ text_of ms ++ text_of ns
 text_append ms ns = flat_map-append message_spelling ms ns
@@ -45,23 +46,6 @@ pub updates_append : (p : Pushed) (last : ℕ) (cs ds : List (List ℕ × Change
 updates_append p last [] ds = refl
 updates_append p last (c ∷ cs) ds =
     ap (λ us. update_of p (next_id last) c.0 c.1 ∷ us) (updates_append p (next_id last) cs ds)
-
--- what is written, which table was defined last, the last id, and the marks that are kept
-pub record Done : Type 0 where
-  pub bytes : List ℕ
-  pub defined : ℕ
-  pub last : ℕ
-  pub kept : List Mark
-
--- what is done once these keys are told too
-pub record IsDone (id : ℕ) (p : Pushed) (turn : Turn) (old : Done) (keys : List Stand)
-    (new : Done) : Type 0 where
-  pub bytes : new.bytes ≡ old.bytes
-      ++ text_of (with_definition old.defined id p (updates p old.last (changes p turn keys)))
-  pub defined : new.defined
-      ≡ defined_after old.defined id (updates p old.last (changes p turn keys))
-  pub last : new.last ≡ last_after old.last (changes p turn keys)
-  pub kept : new.kept ≡ old.kept ++ marks_after p turn keys
 
 pub none_done : (id : ℕ) (p : Pushed) (turn : Turn) (old : Done) → IsDone id p turn old [] old
 none_done id p turn old = record {
@@ -106,3 +90,35 @@ done_more id p turn old mid new s keys b d l k h = record {
   last = h.last ∙ rw l (sym (last_append old.last (key_change p turn s) (changes p turn keys)));
   kept = h.kept ∙ rw k (append_assoc old.kept (key_mark p turn s) (marks_after p turn keys));
 }
+
+-- all is done where no key is left
+pub done_by : (id : ℕ) (p : Pushed) (turn : Turn) (old at : Done) (keys left : List Stand)
+    → left ≡ []
+    → ((new : Done) → IsDone id p turn at left new → IsDone id p turn old keys new)
+    → IsDone id p turn old keys at
+done_by id p turn old at keys left none more =
+    more at (subst (λ (ks : List Stand). IsDone id p turn at ks at) (sym none)
+    (none_done id p turn at))
+
+-- some keys, and then others
+pub done_then : (id : ℕ) (p : Pushed) (turn : Turn) (old mid new : Done) (xs ys : List Stand)
+    → IsDone id p turn old xs mid → IsDone id p turn mid ys new
+    → IsDone id p turn old (xs ++ ys) new
+done_then id p turn old mid new xs ys f h =
+    let cs : List (List ℕ × Change) = changes p turn xs in
+    let ds : List (List ℕ × Change) = changes p turn ys in
+    let both : changes p turn (xs ++ ys) ≡ cs ++ ds = flat_map-append (key_change p turn) xs ys in
+    let marks : marks_after p turn (xs ++ ys) ≡ marks_after p turn xs ++ marks_after p turn ys =
+    flat_map-append (key_mark p turn) xs ys in
+    record {
+      bytes = h.bytes ∙ rw (f.bytes, f.defined, f.last, both) (append_assoc old.bytes
+          (text_of (with_definition old.defined id p (updates p old.last cs))) _
+          ∙ ap (λ (text : List ℕ). old.bytes ++ text)
+          (sym (text_more id p old.defined old.last cs ds)));
+      defined = h.defined ∙ rw (f.defined, f.last, both) (sym (ap (defined_after old.defined id)
+          (updates_append p old.last cs ds) ∙ defined_append old.defined id
+          (updates p old.last cs) (updates p (last_after old.last cs) ds)));
+      last = h.last ∙ rw (f.last, both) (sym (last_append old.last cs ds));
+      kept = h.kept ∙ rw (f.kept, marks)
+          (append_assoc old.kept (marks_after p turn xs) (marks_after p turn ys));
+    }

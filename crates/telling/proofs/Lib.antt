@@ -8,3 +8,10 @@ pub mod Quiet
 pub mod Whole
 pub mod Brought
 pub mod Among
+pub mod Order
+pub mod Through
+pub mod Comes
+pub mod Beside
+pub mod Words
+pub mod Turned
+pub mod Marked

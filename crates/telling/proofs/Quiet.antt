@@ -61,14 +61,14 @@ stands_marks [] marks = told_marks marks
 stands_marks (key ∷ keys) marks =
     placed_marks key (stands keys) (λ ms. stands_marks keys ms) marks
 
-still_marks : (p : Pushed) (turn : Turn) (keys : List Stand) → AreQuiet p turn keys
+pub still_marks : (p : Pushed) (turn : Turn) (keys : List Stand) → AreQuiet p turn keys
     → marks_after p turn keys ≡ flat_map own_mark keys
 still_marks p turn [] q = refl
 still_marks p turn (s ∷ keys) q =
     λ i. option_to_list (option_map (λ put. record { key = s.key; put = put }) (q.0.1 i))
     ++ still_marks p turn keys q.1 i
 
-no_changes : (p : Pushed) (turn : Turn) (keys : List Stand) → AreQuiet p turn keys
+pub no_changes : (p : Pushed) (turn : Turn) (keys : List Stand) → AreQuiet p turn keys
     → changes p turn keys ≡ []
 no_changes p turn [] q = refl
 no_changes p turn (s ∷ keys) q =

@@ -17,7 +17,7 @@ use Rattle.telling.specs.declared.change.Turn.{Turn}
 use Rattle.telling.specs.declared.pushed.Pushed.{Pushed}
 use Rattle.telling.specs.declared.told.Mark.{Mark}
 
-not_before : (from put : ℕ) → from ≤ put → nat_lt put from ≡ false
+pub not_before : (from put : ℕ) → from ≤ put → nat_lt put from ≡ false
 not_before from put late = grind (arith, nat_tests)
 
 -- such a key is quiet, so all are if those behind it are

@@ -1,5 +1,6 @@
 -- The tables of a turn, one after the other.
-use Rattle.std.proofs.Common.{◌≡◌, ℕ, ◌+◌, ◌<◌, List, [], ◌∷◌, ◌++◌, length}
+use Rattle.std.proofs.Common.{◌≡◌, ℕ, ◌+◌, ◌<◌, ◌≤◌, List, [], ◌∷◌, ◌++◌, length, subst}
+use Rattle.std.proofs.lemmas.List.{drop_all}
 use Rattle.std.proofs.Common.{drop, get_or, ap, refl, sym, ◌∙◌, map, append_assoc, append-nil}
 use Rattle.peers_msg.specs.Spelling.{message_spelling}
 use Rattle.peers_msg.specs.declared.message.Message.TheVariants as messages
@@ -63,3 +64,13 @@ table_done old mid new t ts b d k h = record {
   defined = h.defined ∙ rw d refl;
   tables = h.tables ∙ rw k (append_assoc old.tables (t.after ∷ []) (map (λ turn. turn.after) ts));
 }
+
+-- all is done where no table is left
+pub done_by_all : (turn : Turn) (sets : List (List (List ℕ))) (told : List ToldTable) (b : ℕ)
+    (xs : List Pushed) (all : List TableTurn) (old at : AllDone) → length xs ≤ b
+    → ((new : AllDone) → AreDone at (table_turns turn sets told b (drop b xs)) new
+    → AreDone old all new) → AreDone old all at
+unfolding table_turns
+done_by_all turn sets told b xs all old at out more =
+    more at (subst (λ ps. AreDone at (table_turns turn sets told b ps) at)
+    (sym (drop_all b xs out)) (no_table_done at))

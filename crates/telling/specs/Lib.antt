@@ -5,3 +5,5 @@ pub mod Told
 pub mod Telling
 pub mod Pushes
 pub mod Among
+pub mod Moves
+pub mod Passed

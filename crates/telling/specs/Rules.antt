@@ -45,3 +45,7 @@ change_of pushed turn false put =
 unfoldable pub put_after : Pushed → Turn → Bool → Option ℕ → Option ℕ
 put_after pushed turn true put = if is_written pushed turn put then Some turn.now else put
 put_after pushed turn false put = if pushed.holds && is_left pushed turn put then put else None
+
+-- when a key of the set that was put then was last put, behind the turn
+abbrev pub put_again : Pushed → Turn → ℕ → ℕ
+put_again pushed turn s = if is_written pushed turn (Some s) then turn.now else s

@@ -1,7 +1,8 @@
 //! What a turn does about one key.
 
 ghost use Rattle.std.specs.Prelude.{◌≡◌, MatchOption, Option};
-ghost use Rattle.telling.specs.Rules.{change_of, is_due, is_left, is_told, is_written, put_after};
+ghost use Rattle.telling.specs.Rules.{change_of, is_due, is_left, is_told, is_written};
+ghost use Rattle.telling.specs.Rules.{put_after, put_again};
 ghost use Rattle.telling.specs.Rules.{IsStillFrom, NoneIsStill};
 
 use crate::Pushed;
@@ -46,6 +47,18 @@ fn is_written(pushed: &Pushed, turn: Turn, put: Option<u64>) -> bool
     match put {
         None => true,
         Some(put) => turn.anew || is_due(pushed, turn.now, put),
+    }
+}
+
+/// When a key of the set that was put at this moment was last put, as it stands behind a turn; both
+/// in ms.
+pub fn put_again(pushed: &Pushed, turn: Turn, put: u64) -> u64
+    ensures { result ≡ put_again pushed.now turn put }
+{
+    if is_written(pushed, turn, Some(put)) {
+        turn.now
+    } else {
+        put
     }
 }
 

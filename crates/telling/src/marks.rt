@@ -1,23 +1,22 @@
-//! The marks of a table, packed.
+//! The marks of a table, in parts.
 
-ghost use Rattle.std.specs.Prelude.{◌≡◌, ◌++◌, ◌∷◌, [], IfOk, MatchOption, OnErr, OnOk};
-ghost use Rattle.telling.specs.Packed.{lent, marks_of};
+ghost use Rattle.std.specs.Prelude.{◌≡◌, ◌<◌, ◌++◌, ◌∷◌, [], length};
+ghost use Rattle.std.specs.Prelude.{IfOk, IfSome, MatchOption, OnOk};
+ghost use Rattle.std.specs.Arc.{arc_value};
+ghost use Rattle.telling.specs.Packed.{in_parts, lent, marks_of};
 
+use crate::parts::{Lent, Lists, PART, Part};
 use agg_types::NoMemory;
 use std::alloc::Global;
 use std::marker::Model;
+use std::sync::Arc;
 
-/// The marks of a table, packed: of each the bytes of its key and ten more.
+/// The marks of a table, in parts that other lists of marks may have too.
 ///
 /// Contracts see the list of the marks.
 #[derive(Debug, Drop)]
 pub struct Marks {
-    // The bytes of the keys, one behind the other.
-    bytes: Vec<u8>,
-    // How many bytes each key has.
-    lens: Vec<u16>,
-    // The moment, in ms, at which each was last put.
-    puts: Vec<u64>,
+    parts: Vec<Arc<Part>>,
 }
 
 impl Model for Marks {
@@ -26,67 +25,29 @@ impl Model for Marks {
 
     ghost Value = { List Mark };
 
-    ghost use Rattle.telling.specs.Packed.{unpacked, ArePacked};
+    ghost use Rattle.telling.specs.Packed.{in_parts};
 
-    ghost view = { λ marks. unpacked marks.bytes.items marks.lens.items marks.puts.items };
-
-    ghost invariant = { λ marks. ArePacked marks.bytes.items marks.lens.items marks.puts.items };
+    ghost view = { λ marks. in_parts marks.parts.items };
 }
 
 impl Marks {
-    /// No marks, with room for so many, and for so many bytes of their keys.
-    pub fn with_room(alloc: Global, marks: usize, bytes: usize) -> Result<Marks, NoMemory>
-        ensures { IfOk result (λ made. made ≡ []) }
-    {
-        Ok(Marks {
-            bytes: Vec::with_capacity(alloc, bytes)?,
-            lens: Vec::with_capacity(alloc, marks)?,
-            puts: Vec::with_capacity(alloc, marks)?,
-        })
-    }
-
-    /// Adds a mark behind the others. After `NoMemory` they are as they were. A key of 65,536 bytes
-    /// meets it too, but no key of the peers protocol is that long.
-    pub fn push(&mut self, key: &[u8], put: u64) -> Result<(), NoMemory>
-        ensures ok { OnOk result (self.new ≡ self.old ++ record { key = key.now; put = put } ∷ []) }
-        ensures err { OnErr result (self.new ≡ self.old) }
-    {
-        let Ok(len) = u16::try_from(key.len()) else {
-            return Err(NoMemory);
-        };
-        self.lens.reserve(1)?;
-        self.puts.reserve(1)?;
-        self.bytes.extend_from_slice(key)?;
-        self.lens.push(len).unwrap();
-        self.puts.push(put).unwrap();
-        Ok(())
-    }
-
     /// Lends the marks.
     pub fn lend(&self) -> Packed<'_>
         ensures { marks_of result ≡ self.now }
     {
         Packed {
-            bytes: self.bytes.as_slice(),
-            lens: self.lens.as_slice(),
-            puts: self.puts.as_slice(),
+            front: Lists::none(),
+            parts: self.parts.as_slice(),
         }
     }
 }
 
-/// A mark that is lent: a key's bytes, and the moment, in ms, at which it was last put.
-#[derive(Clone, Copy)]
-pub struct Lent<'a> {
-    pub key: &'a [u8],
-    pub put: u64,
-}
-
-/// Packed marks that are lent, without some at their front.
+/// Packed marks that are lent, without some at their front: what is left of a part, and the parts
+/// behind it.
 #[derive(Clone, Copy)]
 pub struct Packed<'a> {
-    bytes: &'a [u8],
-    lens: &'a [u16],
-    puts: &'a [u64],
+    front: Lists<'a>,
+    parts: &'a [Arc<Part>],
 }
 
 impl<'a> Packed<'a> {
@@ -95,9 +56,8 @@ impl<'a> Packed<'a> {
         ensures { marks_of result ≡ [] }
     {
         Packed {
-            bytes: &[],
-            lens: &[],
-            puts: &[],
+            front: Lists::none(),
+            parts: &[],
         }
     }
 
@@ -107,13 +67,150 @@ impl<'a> Packed<'a> {
         ensures { MatchOption result (marks_of self.entry ≡ [])
             (λ found. marks_of self.entry ≡ lent found.0 ∷ marks_of found.1) }
     {
-        let [len, lens @ ..] = self.lens else {
-            return None;
-        };
-        let [put, puts @ ..] = self.puts else {
-            return None;
-        };
-        let (key, bytes) = self.bytes.split_at(self.bytes.len().min(*len as usize));
-        Some((Lent { key, put: *put }, Packed { bytes, lens, puts }))
+        match self.front.split_first() {
+            Some((mark, front)) => Some((
+                mark,
+                Packed {
+                    front,
+                    parts: self.parts,
+                },
+            )),
+            None => first_of(self.parts),
+        }
     }
+}
+
+impl<'a> Packed<'a> {
+    /// The first part, where no mark is left of the one before it, and what stands behind it.
+    #[inline]
+    pub fn split_part(self) -> Option<(&'a Arc<Part>, Packed<'a>)>
+        ensures marks { IfSome result (λ found. marks_of self.entry
+            ≡ arc_value found.0.now ++ marks_of found.1) }
+        ensures fewer { IfSome result (λ found. length found.1.parts.now
+            < length self.entry.parts.now) }
+    {
+        if !self.front.is_empty() {
+            return None;
+        }
+        let [part, parts @ ..] = self.parts else {
+            return None;
+        };
+        Some((
+            part,
+            Packed {
+                front: Lists::none(),
+                parts,
+            },
+        ))
+    }
+}
+
+// The first mark of parts, and those behind it.
+fn first_of<'a>(parts: &'a [Arc<Part>]) -> Option<(Lent<'a>, Packed<'a>)>
+    ensures { MatchOption result (in_parts parts.now ≡ [])
+        (λ found. in_parts parts.now ≡ lent found.0 ∷ marks_of found.1) }
+{
+    let mut left = parts;
+    while let [part, parts @ ..] = left {
+        if let Some((mark, front)) = part.lend().split_first() {
+            return Some((mark, Packed { front, parts }));
+        }
+        left = parts;
+    }
+    None
+}
+
+/// Marks that are being put together.
+///
+/// Contracts see the list of the marks.
+#[derive(Drop)]
+pub struct Packing {
+    parts: Vec<Arc<Part>>,
+    fresh: Part,
+}
+
+impl Model for Packing {
+    ghost use Rattle.std.specs.Prelude.{◌++◌, List};
+    ghost use Rattle.telling.specs.declared.told.Mark.{Mark};
+
+    ghost Value = { List Mark };
+
+    ghost use Rattle.telling.specs.Packed.{in_parts};
+
+    ghost view = { λ packing. in_parts packing.parts.items ++ packing.fresh };
+}
+
+impl Packing {
+    /// No marks. Takes no memory.
+    pub fn new(alloc: Global) -> Packing
+        ensures { result ≡ [] }
+    {
+        Packing {
+            parts: Vec::new(alloc),
+            fresh: Part::new(alloc),
+        }
+    }
+
+    /// Adds a mark behind the others. A key of 65,536 bytes meets `NoMemory` too, but no key of the
+    /// peers protocol is that long.
+    #[inline]
+    pub fn push(&mut self, key: &[u8], put: u64) -> Result<(), NoMemory>
+        ensures { OnOk result (self.new ≡ self.old ++ record { key = key.now; put = put } ∷ []) }
+    {
+        if self.fresh.len() >= PART {
+            close(&mut self.parts, &mut self.fresh)?;
+        }
+        self.fresh.push(key, put)
+    }
+
+    /// Whether a part may be taken over whole, rather than joined to the marks before it.
+    #[inline]
+    pub fn is_apart(&self, part: &Part) -> bool {
+        self.fresh.is_empty() || self.fresh.len().saturating_add(part.len()) > PART
+    }
+
+    /// Adds a part of its own.
+    pub fn add(&mut self, part: Part) -> Result<(), NoMemory>
+        ensures { OnOk result (self.new ≡ self.old ++ part) }
+    {
+        close(&mut self.parts, &mut self.fresh)?;
+        let part = Arc::new(*self.parts.allocator(), part)?;
+        self.parts.push(part)?;
+        Ok(())
+    }
+
+    /// Takes over a part that another list of marks has too.
+    pub fn take_over(&mut self, part: &Arc<Part>) -> Result<(), NoMemory>
+        ensures { OnOk result (self.new ≡ self.old ++ arc_value part.now) }
+    {
+        close(&mut self.parts, &mut self.fresh)?;
+        self.parts.push(Arc::try_clone(part)?)?;
+        Ok(())
+    }
+
+    /// The marks.
+    pub fn finish(self) -> Result<Marks, NoMemory>
+        ensures { IfOk result (λ marks. marks ≡ self) }
+    {
+        let Packing {
+            mut parts,
+            mut fresh,
+        } = self;
+        close(&mut parts, &mut fresh)?;
+        Ok(Marks { parts })
+    }
+}
+
+// Ends the part that is being put together, if it has marks.
+fn close(parts: &mut Vec<Arc<Part>>, fresh: &mut Part) -> Result<(), NoMemory>
+    ensures parts { OnOk result (in_parts parts.new.items ≡ in_parts parts.old.items ++ fresh.old) }
+    ensures fresh { OnOk result (fresh.new ≡ []) }
+{
+    if fresh.is_empty() {
+        return Ok(());
+    }
+    let part = Arc::new(*parts.allocator(), fresh.copied()?)?;
+    parts.push(part)?;
+    fresh.clear();
+    Ok(())
 }

@@ -10,7 +10,8 @@ ghost use Rattle.telling.specs.Telling.{AreQuiet};
 ghost use Rattle.telling.specs.declared.change.Turn.{Turn};
 ghost use Rattle.telling.specs.declared.pushed.Pushed.{Pushed};
 
-use crate::marks::{Lent, Packed};
+use crate::marks::Packed;
+use crate::parts::Lent;
 use agg_types::Key;
 use std::cmp::Ordering;
 use std::marker::Model;

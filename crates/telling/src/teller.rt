@@ -1,6 +1,7 @@
 //! What one connection was told, and its turns.
 
-ghost use Rattle.std.specs.Prelude.{◌≡◌, [], map, slice_get, IfOk, IsTrue, OnOk, OnErr};
+ghost use Rattle.std.specs.Prelude.{◌≡◌, [], List, ℕ, map, slice_get, IfOk, IsTrue, OnOk, OnErr};
+ghost use Rattle.telling.specs.Moves.{AreMovedTo};
 ghost use Rattle.std.specs.Option.{option_copied};
 ghost use Rattle.telling.specs.Packed.{marks_of};
 ghost use Rattle.telling.specs.Telling.{asked, defined_before, first_definitions, text_of};
@@ -9,9 +10,10 @@ ghost use Rattle.telling.specs.Telling.{untold};
 
 use crate::change::{Turn, is_told};
 use crate::marks::Packed;
+use crate::saying::tell_all_moved;
 use crate::turning::{are_quiet, define_all, tell_all, told_at};
 use crate::written::Written;
-use crate::{Pushed, ToldTable};
+use crate::{Moved, Pushed, ToldTable};
 use agg_types::{Items, Key, NoMemory};
 use std::alloc::Global;
 use std::marker::Model;
@@ -87,6 +89,42 @@ impl Teller {
         let turn = self.turn_at(now);
         let mut written = self.begin(pushed)?;
         let tables = tell_all(&mut written, turn, pushed, sets, self.tables.as_slice())?;
+        self.tables = tables;
+        self.defined = written.defined;
+        self.begun = true;
+        self.anew = false;
+        Ok(written.bytes)
+    }
+
+    /// Makes the turn that `turn` makes over the sets that these moves come to, at their moment, in
+    /// ms, and gives the bytes to write. After `NoMemory` nothing of it is told, and the teller is
+    /// as it was.
+    ///
+    /// Of each table the moves are the keys that came into its set or left it since the last turn,
+    /// in any order. Of a key that is named more than once the last word counts. In a table with a
+    /// hold the keys that left earlier are named too, until their life has gone by.
+    ///
+    /// A turn goes through what moved, and through the parts of what was told in which a key moved
+    /// or is due. The other parts it passes.
+    pub fn turn_by(
+        &mut self,
+        pushed: &[Pushed],
+        moves: &[Vec<Moved<'_>>],
+        now: u64,
+    ) -> Result<Vec<u8>, NoMemory>
+        ensures text { IfOk result (λ text. (sets : List (List (List ℕ)))
+            → AreMovedTo pushed.now (map (λ ms. ms.items) moves.now)
+            self.old.tables sets
+            → text.items ≡ turn_text pushed.now sets now self.old) }
+        ensures told { OnOk result ((sets : List (List (List ℕ)))
+            → AreMovedTo pushed.now (map (λ ms. ms.items) moves.now)
+            self.old.tables sets
+            → self.new ≡ told_after pushed.now sets now self.old) }
+        ensures err { OnErr result (self.new ≡ self.old) }
+    {
+        let turn = self.turn_at(now);
+        let mut written = self.begin(pushed)?;
+        let tables = tell_all_moved(&mut written, turn, pushed, moves, self.tables.as_slice())?;
         self.tables = tables;
         self.defined = written.defined;
         self.begun = true;

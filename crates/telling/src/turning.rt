@@ -11,11 +11,11 @@ ghost use Rattle.telling.specs.Telling.{definitions, last_after, key_change, key
 ghost use Rattle.telling.specs.Stands.{shown, stands};
 
 use crate::change::{Turn, change_of, put_after, still_from};
-use crate::marks::{Marks, Packed};
+use crate::marks::{Packed, Packing};
 use crate::stands::{Standing, Stands};
 use crate::written::Written;
 use crate::{Pushed, ToldTable};
-use agg_types::{Items, Key, KeyKind, NoMemory};
+use agg_types::{Items, Key, NoMemory};
 use std::alloc::Global;
 
 /// Writes the definitions of these tables.
@@ -100,8 +100,8 @@ pub fn told_at(told: &[ToldTable], place: usize) -> (u32, Packed<'_>)
     (table.last, table.marks.lend())
 }
 
-// Tells a table, by its id, what has changed of its set, and gives what was told behind it.
-fn tell(
+/// Tells a table, by its id, what has changed of its set, and gives what was told behind it.
+pub fn tell(
     written: &mut Written,
     turn: Turn,
     id: u64,
@@ -123,34 +123,17 @@ fn tell(
 {
     let mut last = last;
     let alloc = *written.bytes.allocator();
-    let mut kept = Marks::with_room(alloc, set.len(), bytes_of(pushed.kind, set))?;
+    let mut kept = Packing::new(alloc);
     for standing in Stands::new(set, marks) {
         last = say(written, turn, id, pushed, last, standing)?;
         keep(&mut kept, turn, pushed, standing)?;
     }
-    Ok(ToldTable { last, marks: kept })
+    let marks = kept.finish()?;
+    Ok(ToldTable { last, marks })
 }
 
-// How many bytes the keys of a set have together, to make room for.
-fn bytes_of(kind: KeyKind, set: &[&Key]) -> usize {
-    match kind {
-        KeyKind::Integer | KeyKind::Ip => set.len().saturating_mul(4),
-        KeyKind::Ipv6 => set.len().saturating_mul(16),
-        KeyKind::Str(_) | KeyKind::Binary(_) => bytes_counted(set),
-    }
-}
-
-// The same where keys differ in length.
-fn bytes_counted(set: &[&Key]) -> usize {
-    let mut bytes = 0usize;
-    for key in set {
-        bytes = bytes.saturating_add(key.as_slice().len());
-    }
-    bytes
-}
-
-// Writes what has changed of a key, and gives the id of the last update.
-fn say(
+/// Writes what has changed of a key, and gives the id of the last update.
+pub fn say(
     written: &mut Written,
     turn: Turn,
     id: u64,
@@ -174,9 +157,9 @@ fn say(
     Ok(next)
 }
 
-// Keeps the mark of a key that is told behind the turn.
-fn keep(
-    marks: &mut Marks,
+/// Keeps the mark of a key that is told behind the turn.
+pub fn keep(
+    marks: &mut Packing,
     turn: Turn,
     pushed: &Pushed,
     standing: Standing<'_>,

@@ -1,8 +1,7 @@
-use Rattle.std.proofs.Common.{[], ◌∷◌, map, sym, subst, List}
-use Rattle.telling.specs.Packed.{marks_of}
-use Rattle.telling.specs.Stands.{Stand, shown, stands}
+use Rattle.std.proofs.Common.{◌∷◌, ◌∙◌, sym, subst, List}
+use Rattle.telling.specs.Stands.{Stand, shown}
 use Rattle.telling.specs.Telling.{table_turn}
-use Rattle.telling.proofs.Left.{Done, IsDone, done_more, none_done}
+use Rattle.telling.proofs.Left.{Done, IsDone, done_by, done_more}
 use Rattle.telling.proofs.turning.tell.Goals as goal
 
 pub loop-standing-preserved : goal.loop-standing-preserved
@@ -28,41 +27,34 @@ loop-standing-preserved c = λ new h.
     (subst (λ (keys : List Stand). IsDone c.args.id c.args.pushed.now c.args.turn at keys new)
     (sym c.in-Some.ensures.steps) more)
 
--- all is done where no key is left
-all_done : (c : goal.In-None) → IsDone c.args.id c.args.pushed.now c.args.turn
-    (record {
-      bytes = c.args.written.now.bytes.items;
-      defined = c.args.written.now.defined;
-      last = c.args.last;
-      kept = [];
-    }) (stands (map (λ key. key.now) c.args.set.now) (marks_of c.args.marks))
-    (record {
-      bytes = c.loop-standing.written.bytes.items;
-      defined = c.loop-standing.written.defined;
-      last = c.loop-standing.last;
-      kept = c.loop-standing.kept;
-    })
-all_done c =
-    let at : Done = record {
-      bytes = c.loop-standing.written.bytes.items;
-      defined = c.loop-standing.written.defined;
-      last = c.loop-standing.last;
-      kept = c.loop-standing.kept;
-    } in
-    c.loop-standing.invariant at
-    (subst (λ (keys : List Stand). IsDone c.args.id c.args.pushed.now c.args.turn at keys at)
-    (sym c.in-None.ensures.steps.0) (none_done c.args.id c.args.pushed.now c.args.turn at))
-
 pub returns-clause-bytes : goal.returns-clause-bytes
 unfolding table_turn
-returns-clause-bytes c = (all_done c).bytes
+returns-clause-bytes c =
+    (done_by c.args.id c.args.pushed.now c.args.turn _ (record {
+      bytes = c.loop-standing.written.bytes.items;
+      defined = c.loop-standing.written.defined;
+      last = c.loop-standing.last;
+      kept = c.loop-standing.kept;
+    }) _ _ c.in-None.ensures.steps.0 c.loop-standing.invariant).bytes
 
 pub returns-clause-defined : goal.returns-clause-defined
 unfolding table_turn
-returns-clause-defined c = (all_done c).defined
+returns-clause-defined c =
+    (done_by c.args.id c.args.pushed.now c.args.turn _ (record {
+      bytes = c.loop-standing.written.bytes.items;
+      defined = c.loop-standing.written.defined;
+      last = c.loop-standing.last;
+      kept = c.loop-standing.kept;
+    }) _ _ c.in-None.ensures.steps.0 c.loop-standing.invariant).defined
 
 pub returns-clause-after : goal.returns-clause-after
 unfolding table_turn
 returns-clause-after c =
-    let done = all_done c in
-    λ i. record { last = done.last i; marks = done.kept i }
+    let done = done_by c.args.id c.args.pushed.now c.args.turn _ (record {
+      bytes = c.loop-standing.written.bytes.items;
+      defined = c.loop-standing.written.defined;
+      last = c.loop-standing.last;
+      kept = c.loop-standing.kept;
+    }) _ _ c.in-None.ensures.steps.0 c.loop-standing.invariant in
+    let marks = c.in_ok-marks.ensures ∙ done.kept in
+    λ i. record { last = done.last i; marks = marks i }

@@ -1,0 +1,62 @@
+-- What a turn by moves says of a table, and of all.
+use Rattle.std.proofs.Common.{◌≡◌, ℕ, Bool, true, false, List}
+use Rattle.std.proofs.Common.{Option, None, refl, ap}
+use Rattle.std.specs.Bool.{then_some}
+use Rattle.std.specs.Prelude.{◌&&◌, if◌then◌else◌, not, option_to_list}
+use Rattle.std.specs.Option.{option_map}
+use Rattle.telling.specs.Moves.{AreInOrder, IsMovedTo, marked, moved_keys, moved_stands, said_of}
+use Rattle.telling.specs.Rules.{change_of, put_after}
+use Rattle.telling.specs.Stands.{stands}
+use Rattle.telling.specs.Telling.{changes, key_change, key_mark, marks_after}
+use Rattle.telling.specs.declared.change.Change.{Change}
+use Rattle.telling.specs.declared.change.Change.TheVariants.{TakeAway}
+use Rattle.telling.specs.declared.change.Turn.{Turn}
+use Rattle.telling.specs.declared.moved.Moved.{Moved}
+use Rattle.telling.specs.declared.pushed.Pushed.{Pushed}
+use Rattle.telling.specs.declared.told.Mark.{Mark}
+use Rattle.telling.proofs.Beside.{SkipsNone, by_moves}
+
+no_change : (p : Pushed) (turn : Turn) → change_of p turn false None ≡ None
+unfolding change_of
+no_change p turn = by p.holds
+  where
+    by : (b : Bool) → then_some (not b && false) TakeAway ≡ None
+    by true = refl
+    by false = refl
+
+no_mark : (p : Pushed) (turn : Turn) → put_after p turn false None ≡ None
+unfolding put_after
+no_mark p turn = by p.holds
+  where
+    nothing : Option ℕ
+    nothing = None
+
+    by : (b : Bool) → (if b && false then nothing else None) ≡ None
+    by true = refl
+    by false = refl
+
+skips_change : (p : Pushed) (turn : Turn) → SkipsNone (key_change p turn)
+skips_change p turn = λ key.
+    ap (λ (o : Option Change). option_to_list (option_map (λ change. (key, change)) o))
+    (no_change p turn)
+
+skips_mark : (p : Pushed) (turn : Turn) → SkipsNone (key_mark p turn)
+skips_mark p turn = λ key.
+    ap (λ (o : Option ℕ). option_to_list (option_map (λ put. record { key = key; put = put }) o))
+    (no_mark p turn)
+
+-- the changes by moves are those by the set that they come to
+pub same_changes : (p : Pushed) (turn : Turn) (moves ordered : List Moved) (marks : List Mark)
+    (set : List (List ℕ)) → AreInOrder (moved_keys ordered)
+    → ((key : List ℕ) (was : Bool) → said_of key ordered was ≡ said_of key moves was)
+    → IsMovedTo moves (marked marks) set
+    → changes p turn (moved_stands ordered marks) ≡ changes p turn (stands set marks)
+same_changes p turn = by_moves (key_change p turn) (skips_change p turn)
+
+-- and so are the marks
+pub same_marks : (p : Pushed) (turn : Turn) (moves ordered : List Moved) (marks : List Mark)
+    (set : List (List ℕ)) → AreInOrder (moved_keys ordered)
+    → ((key : List ℕ) (was : Bool) → said_of key ordered was ≡ said_of key moves was)
+    → IsMovedTo moves (marked marks) set
+    → marks_after p turn (moved_stands ordered marks) ≡ marks_after p turn (stands set marks)
+same_marks p turn = by_moves (key_mark p turn) (skips_mark p turn)

@@ -1,0 +1,211 @@
+//! A part of the marks of a table, packed.
+
+ghost use Rattle.std.specs.Prelude.{◌≡◌, ◌≤◌, ◌++◌, ◌∷◌, [], length, IfOk, IsTrue};
+ghost use Rattle.std.specs.List.{AllByRecursion};
+ghost use Rattle.std.specs.Prelude.{MatchOption, OnErr, OnOk};
+ghost use Rattle.telling.specs.Among.{AllMarks};
+ghost use Rattle.telling.specs.Packed.{IsLast, in_lists, lent, with_puts};
+
+use agg_types::NoMemory;
+use std::alloc::Global;
+use std::marker::Model;
+
+/// How many marks a part has at most.
+pub const PART: usize = 256;
+
+/// Marks that are packed: of each the bytes of its key and ten more.
+///
+/// Contracts see the list of the marks.
+#[derive(Debug, Drop)]
+pub struct Part {
+    // The bytes of the keys, one behind the other.
+    bytes: Vec<u8>,
+    // How many bytes each key has.
+    lens: Vec<u16>,
+    // The moment, in ms, at which each was last put.
+    puts: Vec<u64>,
+    // The least of these moments, and the end of time where there is none.
+    least: u64,
+    // Where the bytes of the last key begin.
+    last: usize,
+}
+
+impl Model for Part {
+    ghost use Rattle.std.specs.Prelude.{List};
+    ghost use Rattle.telling.specs.declared.told.Mark.{Mark};
+
+    ghost Value = { List Mark };
+
+    ghost use Rattle.telling.specs.Packed.{unpacked, IsPart};
+
+    ghost view = { λ part. unpacked part.bytes.items part.lens.items part.puts.items };
+
+    ghost invariant = { λ part. IsPart part.bytes.items part.lens.items part.puts.items
+        part.least part.last };
+}
+
+impl Part {
+    /// No marks. Takes no memory.
+    pub fn new(alloc: Global) -> Part
+        ensures { result ≡ [] }
+    {
+        Part {
+            bytes: Vec::new(alloc),
+            lens: Vec::new(alloc),
+            puts: Vec::new(alloc),
+            least: u64::MAX,
+            last: 0,
+        }
+    }
+
+    /// How many marks it has.
+    pub fn len(&self) -> usize {
+        self.lens.len()
+    }
+
+    /// Whether it has none.
+    pub fn is_empty(&self) -> bool
+        ensures { IsTrue result → self.now ≡ [] }
+    {
+        self.lens.is_empty()
+    }
+
+    /// Adds a mark behind the others. After `NoMemory` they are as they were. A key of 65,536 bytes
+    /// meets it too, but no key of the peers protocol is that long.
+    pub fn push(&mut self, key: &[u8], put: u64) -> Result<(), NoMemory>
+        ensures ok { OnOk result (self.new ≡ self.old ++ record { key = key.now; put = put } ∷ []) }
+        ensures err { OnErr result (self.new ≡ self.old) }
+    {
+        let Ok(len) = u16::try_from(key.len()) else {
+            return Err(NoMemory);
+        };
+        let from = self.bytes.len();
+        self.lens.reserve(1)?;
+        self.puts.reserve(1)?;
+        self.bytes.extend_from_slice(key)?;
+        self.lens.push(len).unwrap();
+        self.puts.push(put).unwrap();
+        self.least = self.least.min(put);
+        self.last = from;
+        Ok(())
+    }
+
+    /// The same marks, in no more room than they need.
+    pub fn copied(&self) -> Result<Part, NoMemory>
+        ensures { IfOk result (λ part. part ≡ self.now) }
+    {
+        Ok(Part {
+            bytes: self.bytes.clone()?,
+            lens: self.lens.clone()?,
+            puts: self.puts.clone()?,
+            least: self.least,
+            last: self.last,
+        })
+    }
+
+    /// The same keys, with other moments, of which none is before this one.
+    pub fn renewed(&self, puts: Vec<u64>, least: u64) -> Result<Part, NoMemory>
+        requires many { length puts.items ≡ length self.now }
+        requires late { AllByRecursion (λ put. least ≤ put) puts.items }
+        ensures { IfOk result (λ part. part ≡ with_puts self.now puts.items) }
+    {
+        let mut part = self.copied()?;
+        part.puts = puts;
+        part.least = least;
+        Ok(part)
+    }
+
+    /// Drops the marks, and keeps the room.
+    pub fn clear(&mut self)
+        ensures { self.new ≡ [] }
+    {
+        self.bytes.clear();
+        self.lens.clear();
+        self.puts.clear();
+        self.least = u64::MAX;
+        self.last = 0;
+    }
+
+    /// A moment, in ms, before which none of its keys was put.
+    #[inline]
+    pub fn least(&self) -> u64
+        ensures { AllMarks (λ key put. result ≤ put) self.now }
+    {
+        self.least
+    }
+
+    /// The key of its last mark, if it has one.
+    #[inline]
+    pub fn last_key(&self) -> &[u8]
+        ensures { IsLast result.now self.now }
+    {
+        self.bytes
+            .as_slice()
+            .split_at(self.last.min(self.bytes.len()))
+            .1
+    }
+
+    /// Lends the bytes of the keys, their lengths and their moments.
+    #[inline]
+    pub fn lend(&self) -> Lists<'_>
+        ensures { in_lists result ≡ self.now }
+    {
+        Lists {
+            bytes: self.bytes.as_slice(),
+            lens: self.lens.as_slice(),
+            puts: self.puts.as_slice(),
+        }
+    }
+}
+
+/// The lists of a part that is lent, without some marks at their front.
+#[derive(Clone, Copy)]
+pub struct Lists<'a> {
+    pub bytes: &'a [u8],
+    pub lens: &'a [u16],
+    pub puts: &'a [u64],
+}
+
+/// A mark that is lent: a key's bytes, and the moment, in ms, at which it was last put.
+#[derive(Clone, Copy)]
+pub struct Lent<'a> {
+    pub key: &'a [u8],
+    pub put: u64,
+}
+
+impl<'a> Lists<'a> {
+    /// No marks.
+    pub fn none() -> Lists<'a>
+        ensures { in_lists result ≡ [] }
+    {
+        Lists {
+            bytes: &[],
+            lens: &[],
+            puts: &[],
+        }
+    }
+
+    /// Whether no mark is left.
+    #[inline]
+    pub fn is_empty(&self) -> bool
+        ensures { IsTrue result → in_lists self.now ≡ [] }
+    {
+        self.lens.is_empty()
+    }
+
+    /// The first mark, and those behind it.
+    #[inline]
+    pub fn split_first(self) -> Option<(Lent<'a>, Lists<'a>)>
+        ensures { MatchOption result (in_lists self.entry ≡ [])
+            (λ found. in_lists self.entry ≡ lent found.0 ∷ in_lists found.1) }
+    {
+        let [len, lens @ ..] = self.lens else {
+            return None;
+        };
+        let [put, puts @ ..] = self.puts else {
+            return None;
+        };
+        let (key, bytes) = self.bytes.split_at(self.bytes.len().min(*len as usize));
+        Some((Lent { key, put: *put }, Lists { bytes, lens, puts }))
+    }
+}
