@@ -1,3 +1,5 @@
+pub mod ToldAll
+pub mod ToldRuns
 pub mod Lists
 pub mod Inside
 pub mod Reading

@@ -230,12 +230,13 @@ left_next whats place what there is =
     ∙ ap (λ n. what ∷ drop n whats) next
 
 -- nothing has been applied yet
-pub part_none : (seat first place : ℕ) (whats : List What) (old new : State) → new ≡ old
+unfoldable pub part_none : (seat first place : ℕ) (whats : List What) (old new : State) → new ≡ old
     → IsPartApplied seat first whats place place old new
 part_none seat first place whats old new same = record { part = []; whole = refl; applied = same }
 
 -- one event more
-pub part_more : (seat first from to : ℕ) (whats : List What) (what : What) (old state new : State)
+unfoldable pub part_more : (seat first from to : ℕ) (whats : List What) (what : What)
+    (old state new : State)
     → IsPartApplied seat first whats from to old state
     → drop to whats ≡ what ∷ drop (to + 1) whats
     → new ≡ after state (event_of seat (first + to) what)
@@ -254,7 +255,7 @@ part_more seat first from to whats what old state new before is turned =
     }
 
 -- one part and the next
-pub part_on : (seat first from at to : ℕ) (whats : List What) (old state new : State)
+unfoldable pub part_on : (seat first from at to : ℕ) (whats : List What) (old state new : State)
     → IsPartApplied seat first whats from at old state
     → IsPartApplied seat first whats at to state new
     → IsPartApplied seat first whats from to old new

@@ -4,7 +4,8 @@ use Rattle.std.proofs.Common.{[], ◌∷◌, ◌++◌, length, get_or, take, map
 use Rattle.std.proofs.Common.{refl, sym, ap, ◌∙◌, subst, arith, Ok, Err}
 use Rattle.std.specs.Prelude.{Result, OnOk}
 use Rattle.std.specs.Result.{is_err}
-use Rattle.std.proofs.lemmas.List.{get_or-map, length-map, map-append, take_all}
+use Rattle.std.proofs.lemmas.List.{get_or-map, get_or_past, length-map, map-append, take_all}
+use Rattle.std.proofs.lemmas.Bool.Decides.{nat_tests}
 use Rattle.std.proofs.lemmas.List.{take_more}
 use Rattle.std.proofs.lemmas.List.Elements.{All-from_recursion}
 use Rattle.std.proofs.lemmas.Bool.{false≢true}
@@ -29,6 +30,7 @@ use Rattle.fleet_model.proofs.KeyChanges.{first-change, no-change}
 use Rattle.fleet_model.proofs.KeyRows.{held-keys, only-keys}
 use Rattle.fleet_model.proofs.Members.{any-map}
 use Rattle.fleet_model.proofs.Small.{flat_if_sound}
+use Rattle.standing_filters.specs.Flips.{holding}
 use Rattle.standing_filters.specs.Laws.{AreVerdicts, FirstChangeIsTheSets}
 use Rattle.standing_filters.specs.Laws.{IsChanged, MomentKeepsVerdicts, TouchKeepsVerdicts}
 use Rattle.standing_filters.specs.Turns.{AreTurned}
@@ -37,6 +39,7 @@ use Rattle.standing_filters.specs.Watched.{AllWatched, AreTouched, IsFirstChange
 use Rattle.standing_filters.specs.Watched.{verdicts_of, unheld, verdict_at}
 use Rattle.standing_filters.specs.Watched.{no_filter as nothing}
 use Rattle.crossing.specs.First.{IsFirstFrom}
+use Rattle.book.specs.Flips.{held_in}
 use Rattle.book.specs.Foreseen.{living_within, worth_within}
 use Rattle.book.specs.Held.{AreAll, AreFirst, AreHeld, AreJudged, ChangesKey, ChangesTable}
 use Rattle.book.specs.Held.{GoesOn, HasMore, IsJudged, IsOneMore, Stays, living_in, sums_in}
@@ -305,6 +308,30 @@ kept_set state watched position keys sound held inside are =
           (filter_at state watched position held inside);
     })
     (held-keys state filtering state.moment sound.ordered)
+
+-- what verdicts hold, the state's filters hold
+pub kept_holds : (state : State) (ws : List Watched) → IsSound state → AreAll state ws
+    → (filter : ℕ) (key : List ℕ) → held_in state filter key ≡ holding ws filter key
+unfolding watch_at
+kept_holds state ws sound held filter key = by (nat_lt filter (length state.config.filters)) refl
+  where
+    watched : AllWatched
+    watched = record { filters = ws }
+
+    by : (b : Bool) → nat_lt filter (length state.config.filters) ≡ b
+        → b && holds state (filter_of state filter) key state.moment ≡ holding ws filter key
+    by true is =
+        let inside : filter < length state.config.filters = grind (arith, nat_tests) in
+        sym ((judged_at state watched filter held inside key).holds
+        ∙ holds_in state (watch_at watched filter).filter key state.moment sound
+        ∙ ap (λ (f : Filter). holds state f key state.moment)
+        (filter_at state watched filter held inside))
+    by false is =
+        let count : length ws ≡ length state.config.filters =
+        sym (length-map ws (λ (w : Watched). w.filter)) ∙ ap length held.filters in
+        let past : length state.config.filters ≤ filter = grind (arith, nat_tests) in
+        sym (ap (λ (w : Watched). (verdict_at w.kept key).holds)
+        (get_or_past ws filter (unheld nothing) (omega arith)))
 
 -- the first change of the verdicts is the filter's
 quiet : (state : State) (filtering : Filter) (u : ℕ) → IsSound state

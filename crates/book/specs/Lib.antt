@@ -14,3 +14,4 @@ pub mod Listing
 pub mod Ahead
 pub mod Dropped
 pub mod Runs
+pub mod Flips

@@ -15,6 +15,7 @@ ghost use Rattle.fleet_model.specs.Rows.{held_rows};
 ghost use Rattle.fleet_model.specs.Sound.{IsSound};
 ghost use Rattle.fleet_model.specs.State.{IsStateOf};
 ghost use Rattle.book.specs.Dropped.{is_dropped};
+ghost use Rattle.book.specs.Flips.{TellsAllIfKnown};
 ghost use Rattle.book.specs.Foreseen.{IsFirstOf};
 ghost use Rattle.book.specs.Reads.{IsFewFor, IsQuietTo, MayRenew, pairs_from};
 ghost use Rattle.book_frame.specs.Lent.{listed_where, shown_row};
@@ -35,6 +36,7 @@ use book_frame::standing::{added_at, cols_of, filter_at};
 use crossing::Meter;
 use fleet_model::Summed;
 use peer_rows::Spot;
+use standing_filters::Flips;
 use std::alloc::Global;
 use std::marker::Model;
 
@@ -128,6 +130,27 @@ impl Book {
         Ok(())
     }
 
+    /// What `step` does, and tells which keys come into the filters' sets and which leave them, or
+    /// that this isn't known: as where filters come or go, or several keys are cleared. After
+    /// NoMemory nothing more is told.
+    pub fn step_telling(&mut self, event: &Event, flips: &mut Flips) -> Result<(), NoMemory>
+        ensures ok { OnOk result (self.new ≡ after self.old event.now) }
+        ensures stands { OnOk result ((config : Config) (opening : ℕ) (events : List Event)
+            → IsStateOf self.old config opening events
+            → IsStateOf self.new config opening (events ++ event.now ∷ [])) }
+        ensures err { OnErr result (self.new ≡ self.old) }
+        ensures leaving { event.now.what ≡ Leave → IsOk result }
+        ensures uncounted { counts_now self.old event.now ≡ false → IsOk result }
+        ensures sound { IsSound self.new }
+        ensures flips { OnOk result
+            (TellsAllIfKnown self.old (event.now ∷ []) flips.old flips.new) }
+        ensures flips_err { OnErr result (flips.new ≡ flips.old) }
+    {
+        fleet_model::laws::state_after_one_more();
+        self.apply_telling(event.seat, event.seq, &event.what, None, flips)?;
+        Ok(())
+    }
+
     /// What `step` does, whatever the hint at where the rows of a Put's key lie, and how much was
     /// read for it: nothing by a moment up to which no row ends and no filter's set changes, and
     /// else at most 505 values for each pair of a filter and a key that it concerns.
@@ -186,22 +209,8 @@ impl Book {
             → MayRenew what.now × (taken.read ≤ 505 * pairs_from self.new 0)) }
         ensures sound { IsSound self.new }
     {
-        fleet_model::laws::states_are_sound();
-        let before = self.held.keys_used(&self.machine);
-        let leaving = self.machine.leaving(what);
-        let applied = self.machine.apply(seat, seq, what, hint)?;
-        let spot = applied.spot;
-        let mut meter = Meter::new();
-        let anew = self
-            .held
-            .follow(&self.machine, what, spot, leaving, before, &mut meter);
-        self.drops.note(what, applied.dropped);
-        Ok(Taken {
-            spot,
-            dropped: applied.dropped,
-            read: meter.evals,
-            anew,
-        })
+        let mut flips = Flips::unknown(self.machine.alloc);
+        self.apply_telling(seat, seq, what, hint, &mut flips)
     }
 
     /// Whether fewer seats sit than may. Takes no memory.
@@ -426,5 +435,58 @@ impl Book {
         fleet_model::laws::sets_are_flat_in_time();
         let standing = self.machine.filter_at(filter);
         first_change(&self.machine, standing, keys)
+    }
+}
+
+impl Book {
+    /// Applies one event by its parts, as `step_at` does, and tells of the sets as `step_telling`
+    /// does.
+    pub(crate) fn apply_telling(
+        &mut self,
+        seat: u64,
+        seq: u64,
+        what: &What,
+        hint: Option<Spot>,
+        flips: &mut Flips,
+    ) -> Result<Taken, NoMemory>
+        ensures ok { OnOk result (self.new ≡ after self.old (event_of seat seq what.now)) }
+        ensures dropped { IfOk result (λ taken. taken.dropped
+            ≡ is_dropped self.old (event_of seat seq what.now)) }
+        ensures err { OnErr result (self.new ≡ self.old) }
+        ensures leaving { what.now ≡ Leave → IsOk result }
+        ensures uncounted { counts_now self.old (event_of seat seq what.now) ≡ false → IsOk result }
+        ensures quiet { IfOk result (λ taken. IsQuietTo self.old what.now
+            → (taken.read ≡ 0) × (taken.anew ≡ false)) }
+        ensures few { IfOk result (λ taken. taken.anew ≡ false
+            → IsFewFor self.old self.new what.now taken.read) }
+        ensures anew { IfOk result (λ taken. taken.anew ≡ true
+            → MayRenew what.now × (taken.read ≤ 505 * pairs_from self.new 0)) }
+        ensures sound { IsSound self.new }
+        ensures flips { OnOk result (TellsAllIfKnown self.old
+            (event_of seat seq what.now ∷ []) flips.old flips.new) }
+        ensures flips_err { OnErr result (flips.new ≡ flips.old) }
+    {
+        fleet_model::laws::states_are_sound();
+        let before = self.held.keys_used(&self.machine);
+        let leaving = self.machine.leaving(what);
+        let applied = self.machine.apply(seat, seq, what, hint)?;
+        let spot = applied.spot;
+        let mut meter = Meter::new();
+        let anew = self.held.follow(
+            &self.machine,
+            what,
+            spot,
+            leaving,
+            before,
+            &mut meter,
+            flips,
+        );
+        self.drops.note(what, applied.dropped);
+        Ok(Taken {
+            spot,
+            dropped: applied.dropped,
+            read: meter.evals,
+            anew,
+        })
     }
 }

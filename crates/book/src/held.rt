@@ -16,6 +16,7 @@ ghost use Rattle.fleet_model.specs.Keys.{AreKeysOf};
 ghost use Rattle.fleet_model.specs.Sound.{IsSound};
 ghost use Rattle.fleet_model.specs.State.{State};
 ghost use Rattle.standing_filters.specs.Watched.{verdicts_of, verdict_at};
+ghost use Rattle.book.specs.Flips.{TellsStepIfKnown};
 ghost use Rattle.book.specs.Held.{AreAll, AreFirst, AreHeld, ChangesKey, ChangesTable, Follows};
 ghost use Rattle.book.specs.Held.{AreStill, GoesOn, HasFewer, HasMore, IsAddedPlace, IsCalm};
 ghost use Rattle.book.specs.Held.{IsLeaving, IsOneMore, keys_in};
@@ -27,7 +28,7 @@ use crate::one_key::OneKey;
 use agg_types::{Config, Declared, Filter, Key, Name, NoMemory, Select, What};
 use crossing::Meter;
 use peer_rows::Spot;
-use standing_filters::{Keys, Standing};
+use standing_filters::{Flips, Keys, Standing};
 use std::alloc::Global;
 
 /// The verdicts of all standing filters, or none where memory for them was refused.
@@ -62,7 +63,9 @@ impl Held {
     /// Something has happened to the machine: judges what it touched, and answers whether all keys
     /// were judged anew. The spot is a hint at where the rows of a Put's key lie. A filter that the
     /// event may have dropped stood at the place that leaves. So many keys had rows before, where
-    /// verdicts were given up.
+    /// verdicts were given up. The flips tell which keys come into sets and which leave them; they
+    /// are lost where filters come or go, where all keys are judged anew, and where verdicts are
+    /// given up.
     pub(crate) fn follow(
         &mut self,
         machine: &Machine,
@@ -71,6 +74,7 @@ impl Held {
         leaving: Option<usize>,
         before: u64,
         meter: &mut Meter,
+        flips: &mut Flips,
     ) -> bool
         requires sound { IsSound machine.now }
         requires fresh { meter.old.evals ≡ 0 }
@@ -87,25 +91,32 @@ impl Held {
             → (self.old.standing ≡ None
             → before ≡ keys_in machine.now.rows (length machine.now.config.tables))
             → (meter.new.evals ≡ 0) × (result ≡ false) }
+        ensures flips { (state : State) → IsSound state → Follows what.now state machine.now
+            → AreHeld state self.old.standing
+            → TellsStepIfKnown state machine.now flips.old flips.new }
     {
         match what {
             What::Put { table, key, .. } => {
-                self.touch(machine, *table, key, spot, meter);
+                self.touch(machine, *table, key, spot, meter, flips);
                 false
             }
             What::Clear { table, sel } => match sel {
                 Select::One(key) => {
-                    self.touch(machine, *table, key, None, meter);
+                    self.touch(machine, *table, key, None, meter, flips);
                     false
                 }
-                Select::All | Select::Conds(_) => self.clear(machine, *table, meter),
+                Select::All | Select::Conds(_) => self.clear(machine, *table, meter, flips),
             },
-            What::AddFilter(_) => self.add(machine, meter),
+            What::AddFilter(_) => {
+                flips.lose();
+                self.add(machine, meter)
+            }
             What::DropFilter(_) => {
+                flips.lose();
                 self.drop_one(machine, leaving);
                 false
             }
-            What::Moment(_) => self.go_on(machine, before, meter),
+            What::Moment(_) => self.go_on(machine, before, meter, flips),
             What::Sit => false,
             What::Open(_) => false,
             What::Leave => false,
@@ -120,39 +131,54 @@ impl Held {
         key: &Key,
         spot: Option<Spot>,
         meter: &mut Meter,
+        flips: &mut Flips,
     )
         requires sound { IsSound machine.now }
         ensures held { (state : State) → ChangesKey table key.now state machine.now
             → AreHeld state self.old.standing → AreHeld machine.now self.new.standing }
         ensures few { (state : State) → AreHeld state self.old.standing
             → meter.new.evals ≤ meter.old.evals + 505 * filters_at state table }
+        ensures flips { (state : State) → IsSound state → ChangesKey table key.now state machine.now
+            → AreHeld state self.old.standing
+            → TellsStepIfKnown state machine.now flips.old flips.new }
     {
         standing_filters::laws::touch_keeps_verdicts();
         if !has_filter(machine.config.filters.as_slice(), table) {
             return;
         }
         let Some(standing) = &mut self.standing else {
+            flips.lose();
             return;
         };
         let values = OneKey::new(machine, spot, table, key);
         if standing
-            .touch(table, key, &values, machine.moment, meter)
+            .touch(table, key, &values, machine.moment, meter, flips)
             .is_err()
         {
             self.standing = None;
+            flips.lose();
         }
     }
 
     // The rows of several keys of a table may be gone. Answers whether all keys were judged.
-    fn clear(&mut self, machine: &Machine, table: usize, meter: &mut Meter) -> bool
+    fn clear(
+        &mut self,
+        machine: &Machine,
+        table: usize,
+        meter: &mut Meter,
+        flips: &mut Flips,
+    ) -> bool
         requires sound { IsSound machine.now }
         ensures held { (state : State) → ChangesTable table state machine.now
             → AreHeld state self.old.standing → AreHeld machine.now self.new.standing }
         ensures few { result ≡ false → meter.new.evals ≡ meter.old.evals }
         ensures anew { result ≡ true
             → meter.new.evals ≤ meter.old.evals + 505 * pairs_from machine.now 0 }
+        ensures flips { (state : State) → ChangesTable table state machine.now
+            → TellsStepIfKnown state machine.now flips.old flips.new }
     {
         if has_filter(machine.config.filters.as_slice(), table) {
+            flips.lose();
             self.renew(machine, meter);
             true
         } else {
@@ -162,7 +188,13 @@ impl Held {
 
     // The clock may have gone on. Given-up verdicts are made anew once a key's rows have ended;
     // answers whether they were.
-    fn go_on(&mut self, machine: &Machine, before: u64, meter: &mut Meter) -> bool
+    fn go_on(
+        &mut self,
+        machine: &Machine,
+        before: u64,
+        meter: &mut Meter,
+        flips: &mut Flips,
+    ) -> bool
         requires sound { IsSound machine.now }
         requires fresh { meter.old.evals ≡ 0 }
         ensures held { (state : State) → IsSound state → GoesOn state machine.now
@@ -176,13 +208,17 @@ impl Held {
             → (self.old.standing ≡ None
             → before ≡ keys_in machine.now.rows (length machine.now.config.tables))
             → (meter.new.evals ≡ 0) × (result ≡ false) }
+        ensures flips { (state : State) → IsSound state → GoesOn state machine.now
+            → AreHeld state self.old.standing
+            → TellsStepIfKnown state machine.now flips.old flips.new }
     {
         match &self.standing {
             Some(_) => {
-                self.turn(machine, meter);
+                self.turn(machine, meter, flips);
                 false
             }
             None => {
+                flips.lose();
                 if machine.keys_used() == before {
                     return false;
                 }
@@ -193,7 +229,7 @@ impl Held {
     }
 
     // Judges what has come due since, where verdicts are kept.
-    fn turn(&mut self, machine: &Machine, meter: &mut Meter)
+    fn turn(&mut self, machine: &Machine, meter: &mut Meter, flips: &mut Flips)
         requires sound { IsSound machine.now }
         requires fresh { meter.old.evals ≡ 0 }
         ensures held { (state : State) → IsSound state → GoesOn state machine.now
@@ -204,13 +240,21 @@ impl Held {
         ensures calm { (state : State) → IsSound state → GoesOn state machine.now
             → AreHeld state self.old.standing → AreStill state machine.now
             → meter.new.evals ≡ 0 }
+        ensures flips { (state : State) → IsSound state → GoesOn state machine.now
+            → AreHeld state self.old.standing
+            → TellsStepIfKnown state machine.now flips.old flips.new }
     {
         standing_filters::laws::moment_keeps_verdicts();
         let Some(standing) = &mut self.standing else {
+            flips.lose();
             return;
         };
-        if standing.moment(machine, machine.moment, meter).is_err() {
+        if standing
+            .moment(machine, machine.moment, meter, flips)
+            .is_err()
+        {
             self.standing = None;
+            flips.lose();
         }
     }
 

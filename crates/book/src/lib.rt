@@ -26,6 +26,11 @@
 //! have in common is looked up once, and the seat is counted up once behind them (`runs`). It
 //! promises the state that the events make one by one.
 //!
+//! `Book::step_telling` and `step_run` tell by `Flips` which keys come into the filters' sets and
+//! which leave them, so that who keeps copies of the sets needn't list them anew. That isn't known
+//! where filters come or go, where several keys of a filter's table are cleared, while verdicts are
+//! given up, and where an allocation for it failed.
+//!
 //! `Taken` says whether an event is an update that a full table doesn't take. A book counts these
 //! by table and peer, beside what contracts see of it. So what `Book::dropped` answers, tests show.
 //!
@@ -65,3 +70,4 @@ pub use listing::BookRows;
 pub use named::keys_named;
 pub use peer_rows::Spot;
 pub use ranking::Ranked;
+pub use standing_filters::{Flip, Flips};

@@ -8,6 +8,7 @@ ghost use Rattle.fleet_model.specs.Machine.{after, number_of, session_of};
 ghost use Rattle.fleet_model.specs.Sound.{IsSound};
 ghost use Rattle.book.specs.Due.{FitsPlace};
 ghost use Rattle.book.specs.Dropped.{lacks_room};
+ghost use Rattle.book.specs.Flips.{TellsAllIfKnown, TellsStepIfKnown, part_of};
 ghost use Rattle.book.specs.Held.{IsBook};
 ghost use Rattle.book.specs.Runs.{IsPartApplied, IsPutOf, IsTurn, IsUpdateOf, counted_to};
 ghost use Rattle.book.specs.Runs.{left_at, with_update};
@@ -22,6 +23,7 @@ use book_frame::seats;
 use book_frame::seats::{count_to, is_number};
 use crossing::Meter;
 use peer_rows::Spot;
+use standing_filters::Flips;
 
 /// Whose updates come one after the other, and the session in force of the peer.
 #[derive(Clone, Copy)]
@@ -46,7 +48,8 @@ impl Book {
     /// there is memory.
     ///
     /// What updates of one peer have in common is looked up once for all that come one after the
-    /// other. How much was read for a run, no clause says.
+    /// other. How much was read for a run, no clause says. The flips tell which keys came into the
+    /// filters' sets on the way and which left them, or that this isn't known.
     pub fn step_run(
         &mut self,
         seat: u64,
@@ -54,6 +57,7 @@ impl Book {
         whats: &[What],
         from: usize,
         hints: &mut Vec<Option<Spot>>,
+        flips: &mut Flips,
     ) -> usize
         requires from_in { from ≤ length whats.now }
         requires small { first + length whats.now < NUMBERS_END }
@@ -63,16 +67,19 @@ impl Book {
         ensures brings { fold after self.new (left_at seat first whats.now result)
             ≡ fold after self.old (left_at seat first whats.now from) }
         ensures sound { IsSound self.new }
+        ensures flips { TellsAllIfKnown self.old (part_of seat first whats.now from result)
+            flips.old flips.new }
     {
         let mut done = from;
         'places: while done < whats.len() {
-            let came = self.take_updates(seat, first, whats, done, hints);
+            let came = self.take_updates(seat, first, whats, done, hints, flips);
             done = came.place;
             if came.refused || done == whats.len() {
                 break;
             }
             let hint = hint_at(hints, done);
-            let Ok(taken) = self.apply_at(seat, first + done as u64, &whats[done], hint) else {
+            let number = first + done as u64;
+            let Ok(taken) = self.apply_telling(seat, number, &whats[done], hint, flips) else {
                 break;
             };
             note(hints, done, taken.spot);
@@ -90,12 +97,15 @@ impl Book {
         whats: &[What],
         from: usize,
         hints: &mut Vec<Option<Spot>>,
+        flips: &mut Flips,
     ) -> Came
         requires from_in { from < length whats.now }
         requires small { first + length whats.now < NUMBERS_END }
         ensures onwards { from ≤ result.place }
         ensures within { result.place ≤ length whats.now }
         ensures applied { IsPartApplied seat first whats.now from result.place self.old self.new }
+        ensures flips { TellsAllIfKnown self.old (part_of seat first whats.now from result.place)
+            flips.old flips.new }
     {
         take_updates(
             &mut self.machine,
@@ -106,6 +116,7 @@ impl Book {
             whats,
             from,
             hints,
+            flips,
         )
     }
 }
@@ -210,6 +221,7 @@ fn take_one(
     turn: Turn,
     what: &What,
     hint: Option<Spot>,
+    flips: &mut Flips,
 ) -> Result<Option<Spot>, NoMemory>
     requires session { turn.session ≡ session_of machine.old turn.peer }
     requires update { IsUpdateOf machine.old.config turn.peer what.now }
@@ -217,10 +229,13 @@ fn take_one(
     ensures ok { OnOk result (machine.new ≡ with_update machine.old turn.seat what.now) }
     ensures err { OnErr result (machine.new ≡ machine.old) }
     ensures book { IsBook machine.new held.new.standing }
+    ensures flips { OnOk result
+        (TellsStepIfKnown machine.old machine.new flips.old flips.new) }
+    ensures flips_err { OnErr result (flips.new ≡ flips.old) }
 {
     let applied = machine.put_row(turn, what, hint)?;
     let mut meter = Meter::new();
-    held.follow(machine, what, applied.spot, None, 0, &mut meter);
+    held.follow(machine, what, applied.spot, None, 0, &mut meter, flips);
     drops.note(what, applied.dropped);
     Ok(applied.spot)
 }
@@ -235,6 +250,7 @@ fn take_each(
     whats: &[What],
     from: usize,
     hints: &mut Vec<Option<Spot>>,
+    flips: &mut Flips,
 ) -> Came
     requires from_in { from ≤ length whats.now }
     requires small { first + length whats.now < NUMBERS_END }
@@ -246,6 +262,8 @@ fn take_each(
     ensures book { IsBook machine.new held.new.standing }
     ensures applied { IsPartApplied turn.seat first whats.now from result.place machine.old
         (counted_to machine.new turn.seat (first + result.place)) }
+    ensures flips { TellsAllIfKnown machine.old
+        (part_of turn.seat first whats.now from result.place) flips.old flips.new }
 {
     let mut place = from;
     'updates: while place < whats.len() {
@@ -254,7 +272,7 @@ fn take_each(
             break;
         }
         let hint = hint_at(hints, place);
-        let Ok(spot) = take_one(machine, held, drops, turn, what, hint) else {
+        let Ok(spot) = take_one(machine, held, drops, turn, what, hint, flips) else {
             return Came {
                 place,
                 refused: true,
@@ -281,6 +299,7 @@ pub(crate) fn take_updates(
     whats: &[What],
     from: usize,
     hints: &mut Vec<Option<Spot>>,
+    flips: &mut Flips,
 ) -> Came
     requires from_in { from < length whats.now }
     requires small { first + length whats.now < NUMBERS_END }
@@ -289,6 +308,8 @@ pub(crate) fn take_updates(
     ensures within { result.place ≤ length whats.now }
     ensures book { IsBook machine.new held.new.standing }
     ensures applied { IsPartApplied seat first whats.now from result.place machine.old machine.new }
+    ensures flips { TellsAllIfKnown machine.old (part_of seat first whats.now from result.place)
+        flips.old flips.new }
 {
     let Some(turn) = machine.turn_at(seat, first + from as u64, &whats[from]) else {
         return Came {
@@ -296,7 +317,7 @@ pub(crate) fn take_updates(
             refused: false,
         };
     };
-    let came = take_each(machine, held, drops, turn, first, whats, from, hints);
+    let came = take_each(machine, held, drops, turn, first, whats, from, hints, flips);
     machine.count_to(seat, first + came.place as u64);
     came
 }

@@ -14,26 +14,24 @@ use Rattle.agg_types.specs.declared.event.What.{What}
 use Rattle.agg_types.specs.declared.limits.TheConstants.{NUMBERS_END}
 use Rattle.book.proofs.Updates.{in_order, last_stays, same_stays}
 use Rattle.fleet_model.proofs.Entries.{lookup-insert}
-use Rattle.fleet_model.proofs.Runs.{step_by_step}
-use Rattle.fleet_model.specs.Machine.{after, counts_now, opened}
+use Rattle.fleet_model.specs.Machine.{after, counts_now}
 use Rattle.fleet_model.specs.Seats.{numbered}
 use Rattle.fleet_model.specs.State.{State}
 use Rattle.hub.specs.Batches.{Batched, events_in}
 use Rattle.hub.specs.History.{AllCount, Beginning, all_count, longer_by}
 use Rattle.hub.specs.Copied.{Brought, Stores, all_taken, taken, whole}
+use Rattle.hub.specs.Trailed.{trail_to}
 use Rattle.hub.specs.Roll.{Counted, IsCountOf, MayPost, last_after, lasts_after}
 use Rattle.hub.specs.Sitting.{Recalled, Recalls, all_opened_after, opened_after}
 use Rattle.hub.proofs.Recalling.{recalls_more}
+use Rattle.hub.proofs.Trailing.{state_and_more}
 use Rattle.hub.proofs.Counting.{counts_own, found}
 use Rattle.hub.proofs.Rolling.{event_at, longer, post_counts, post_more, state_at}
 
 -- recomputing from events and more of them
 pub state_more_all : (b : Beginning) (events : List Event)
     → state_at (longer_by b events) ≡ fold after (state_at b) events
-state_more_all b events =
-    step_by_step b.config b.opening (b.events ++ events)
-    ∙ (fold-append after (opened b.config b.opening) b.events events
-    ∙ ap (λ s. fold after s events) (sym (step_by_step b.config b.opening b.events)))
+state_more_all b events = state_and_more b.config b.opening b.events events
 
 -- events that came as one bring a copy to the longer beginning
 pub stores_all : (queue : List Brought) (b : Beginning) (events : List Event)
@@ -41,9 +39,11 @@ pub stores_all : (queue : List Brought) (b : Beginning) (events : List Event)
     (longer_by b events)
 stores_all queue b events x brings =
     let op : Brought = record { events = events; at = longer_by b events } in
-    fold-append taken x queue (op ∷ [])
-    ∙ (ap (λ y. taken y op) brings ∙ ap (λ s. record { at = longer_by b events; state = s })
-    (sym (state_more_all b events)))
+    fold-append taken x queue (op ∷ []) ∙ (ap (λ y. taken y op) brings ∙ ap (λ s. record {
+      at = longer_by b events;
+      state = s;
+      took = trail_to (longer_by b events);
+    }) (sym (state_more_all b events)))
 
 pub stored_all : (queue later : List Brought) (b b' : Beginning) (events : List Event)
     → b' ≡ longer_by b events → later ≡ queue ++ (record { events = events; at = b' }) ∷ []
@@ -60,7 +60,9 @@ pub stored_end : (queue later ended : List Brought) (b b' : Beginning)
 stored_end queue later ended b b' stored ended_is x brings =
     let op : Brought = record { events = []; at = b' } in
     ap (all_taken x) ended_is
-    ∙ (fold-append taken x later (op ∷ []) ∙ ap (λ y. taken y op) (stored x brings))
+    ∙ (fold-append taken x later (op ∷ []) ∙ (ap (λ y. taken y op) (stored x brings)
+    ∙ ap (λ es. record (whole b') { took = record (trail_to b') { events = es } })
+    (append-nil b'.events)))
 
 pub found_same : (seat n : ℕ) (seats : List (ℕ × ℕ))
     → found seat (insert_entry nat_cmp seats seat n) ≡ Some n

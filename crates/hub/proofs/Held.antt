@@ -17,6 +17,7 @@ use Rattle.fleet_model.specs.Sessions.{last_opener}
 use Rattle.fleet_model.specs.State.{state_of}
 use Rattle.hub.specs.History.{AllCount, Beginning, longer_by, own}
 use Rattle.hub.specs.Copied.{Brought, Copied, Stores, all_taken, taken, whole}
+use Rattle.hub.specs.Trailed.{trail_to}
 use Rattle.hub.specs.Keeping.{SitsDownIn}
 use Rattle.hub.specs.Kept.{IsDesked, IsPressed, IsRested, IsTold, Kept, Pressed}
 use Rattle.hub.specs.Posts.{Seated}
@@ -190,11 +191,18 @@ nobody_counted b roll n none peers is =
 
 -- a copy that was just opened
 pub opened_whole : (x : Copied) (b : Beginning) → x.at ≡ b → x.state ≡ opened b.config b.opening
+    → x.took ≡ record { config = x.state.config; opening = x.state.moment; events = [] }
     → b.events ≡ [] → x ≡ whole b
-opened_whole x b at state none =
+unfolding opened
+opened_whole x b at state took none =
     let p : x.state ≡ state_of b.config b.opening b.events = state
     ∙ (sym (no_events b.config b.opening) ∙ ap (state_of b.config b.opening) (sym none)) in
-    λ i. record { at = at i; state = p i }
+    let q : x.took ≡ trail_to b = took ∙ λ i. record {
+      config = (state i).config;
+      opening = (state i).moment;
+      events = (sym none) i;
+    } in
+    λ i. record { at = at i; state = p i; took = q i }
 
 true_of : (b : Bool) → not b ≡ false → b ≡ true
 true_of true is = refl

@@ -1,4 +1,6 @@
 pub mod Fronts
+pub mod Trailing
+pub mod Told
 pub mod Histories
 pub mod Adding
 pub mod Publishes

@@ -86,7 +86,7 @@ merges seat v other w x views h at apart there =
 -- a copy that has taken exactly a beginning is whole
 pub whole_is : (x : Copied) (b : Beginning) → x ≡ whole b → IsWhole x
 unfolding IsStateOf
-whole_is x b is = subst IsWhole (sym is) refl
+whole_is x b is = subst IsWhole (sym is) (record { took = refl; stands = refl })
 
 -- what publishing owes, where the operations bring the copy to a beginning of its log
 pub shows : (seat : ℕ) (v : View) (x y : Copy) (b : Beginning) → y.copied ≡ whole b

@@ -5,6 +5,7 @@ use Rattle.agg_types.specs.declared.event.Event.{Event}
 use Rattle.fleet_model.specs.Machine.{after}
 use Rattle.fleet_model.specs.State.{State}
 use Rattle.hub.specs.Batches.{events_in, left_of}
+use Rattle.hub.specs.Trailed.{Trailed, further}
 use Rattle.hub.specs.declared.copies.Rest.{Rest}
 use Rattle.hub.specs.declared.copies.Posted.{Posted}
 use Rattle.hub.specs.declared.copies.Posted.TheVariants as posted
@@ -13,6 +14,11 @@ use Rattle.hub.specs.declared.copies.Posted.TheVariants as posted
 abbrev pub brought_on : State → Option Rest → State
 brought_on book None = book
 brought_on book (Some rest) = fold after book (left_of (arc_value rest.batch) rest.done)
+
+-- what was taken once the rest of a batch is
+abbrev pub took_on : Trailed → Option Rest → Trailed
+took_on trail None = trail
+took_on trail (Some rest) = further trail (left_of (arc_value rest.batch) rest.done)
 
 -- a single event, or those of a batch; its end is none
 abbrev pub events_of : Posted → List Event

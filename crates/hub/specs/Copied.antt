@@ -6,11 +6,13 @@ use Rattle.agg_types.specs.declared.event.Event.{Event}
 use Rattle.fleet_model.specs.Machine.{after}
 use Rattle.fleet_model.specs.State.{IsStateOf, State, state_of}
 use Rattle.hub.specs.History.{Beginning}
+use Rattle.hub.specs.Trailed.{Trailed, further, trail_to}
 
--- a state, and the beginning whose events came with it
+-- a state, the beginning whose events came with it, and what was taken since the opening
 pub record Copied : Type 0 where
   pub at : Beginning
   pub state : State
+  pub took : Trailed
 
 -- a copy, and whether it has a part of a batch beyond that
 pub record Copy : Type 0 where
@@ -24,18 +26,23 @@ pub record Brought : Type 0 where
 
 -- a copy after these events more
 abbrev pub taken : Copied → Brought → Copied
-taken x brought = record { at = brought.at; state = fold after x.state brought.events }
+taken x brought = record {
+  at = brought.at;
+  state = fold after x.state brought.events;
+  took = further x.took brought.events;
+}
 
 abbrev pub all_taken : Copied → List Brought → Copied
 all_taken x brought = fold taken x brought
 
 -- the copy that has taken exactly a beginning
 abbrev pub whole : Beginning → Copied
-whole b = record { at = b; state = state_of b.config b.opening b.events }
+whole b = record { at = b; state = state_of b.config b.opening b.events; took = trail_to b }
 
--- a copy is what recomputing from all its events gives
-abbrev pub IsWhole : Copied → Type 0
-IsWhole x = IsStateOf x.state x.at.config x.at.opening x.at.events
+-- a copy took exactly the events of its beginning, and is what recomputing from them gives
+pub record IsWhole (x : Copied) : Type 0 where
+  pub took : x.took ≡ trail_to x.at
+  pub stands : IsStateOf x.state x.at.config x.at.opening x.at.events
 
 -- who was told of a log reads that log
 abbrev pub Fits : Copied → Option Beginning → Type 0

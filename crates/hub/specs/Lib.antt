@@ -1,6 +1,8 @@
 pub mod History
 pub mod Law
 pub mod Batches
+pub mod Trailed
+pub mod Changing
 pub mod Copied
 pub mod Begun
 pub mod Roll

@@ -4,11 +4,12 @@ ghost use Rattle.std.specs.Prelude.{◌≡◌, ◌<◌, ◌≤◌, ◌+◌, ◌�
 ghost use Rattle.std.specs.Prelude.{IfSome, MatchResult};
 ghost use Rattle.std.specs.Arc.{arc_value};
 ghost use Rattle.agg_types.specs.declared.limits.TheConstants.{NUMBERS_END};
+ghost use Rattle.book.specs.Flips.{TellsAllIfKnown};
 ghost use Rattle.fleet_model.specs.Machine.{after};
-ghost use Rattle.hub.specs.Batches.{events_in, left_of};
+ghost use Rattle.hub.specs.Batches.{IsApplied, events_in, left_of, part_of};
 
 use agg_types::What;
-use book::{Book, Spot};
+use book::{Book, Flips, Spot};
 use std::cell::Cell;
 use std::marker::Model;
 use std::sync::Arc;
@@ -81,25 +82,39 @@ impl Batch {
 
     /// Applies to a book what happened from a place on, up to the first for which an allocation
     /// fails, and answers the place that it came to. The hints are where another book found the
-    /// rows of keys, by place, or, where there are none, take up where this one finds them.
-    pub fn apply(&self, book: &mut Book, from: usize, hints: &mut Vec<Option<Spot>>) -> usize
+    /// rows of keys, by place, or, where there are none, take up where this one finds them. The
+    /// flips tell what came into the filters' sets on the way and what left them.
+    pub fn apply(
+        &self,
+        book: &mut Book,
+        from: usize,
+        hints: &mut Vec<Option<Spot>>,
+        flips: &mut Flips,
+    ) -> usize
         requires { from ≤ length self.now.whats }
         ensures within { result ≤ length self.now.whats }
+        ensures applied { IsApplied self.now from result book.old book.new }
         ensures brings { fold after book.new (left_of self.now result)
             ≡ fold after book.old (left_of self.now from) }
+        ensures flips { TellsAllIfKnown book.old (part_of self.now from result)
+            flips.old flips.new }
     {
-        book.step_run(self.seat, self.first, self.whats.as_slice(), from, hints)
+        let whats = self.whats.as_slice();
+        book.step_run(self.seat, self.first, whats, from, hints, flips)
     }
 
     /// Applies what is left of it from a place on, as `apply` does, without hints.
-    pub fn go_on(&self, book: &mut Book, from: usize) -> usize
+    pub fn go_on(&self, book: &mut Book, from: usize, flips: &mut Flips) -> usize
         requires { from ≤ length self.now.whats }
         ensures within { result ≤ length self.now.whats }
+        ensures applied { IsApplied self.now from result book.old book.new }
         ensures brings { fold after book.new (left_of self.now result)
             ≡ fold after book.old (left_of self.now from) }
+        ensures flips { TellsAllIfKnown book.old (part_of self.now from result)
+            flips.old flips.new }
     {
         let mut hints = Vec::new(*self.whats.allocator());
-        self.apply(book, from, &mut hints)
+        self.apply(book, from, &mut hints, flips)
     }
 }
 
@@ -162,14 +177,17 @@ impl Run {
     }
 
     /// Applies it to a book, as `Batch::apply` does, with the hints that are kept.
-    pub fn apply(&self, book: &mut Book) -> usize
+    pub fn apply(&self, book: &mut Book, flips: &mut Flips) -> usize
         ensures within { result ≤ length self.now.whats }
+        ensures applied { IsApplied self.now 0 result book.old book.new }
         ensures brings { fold after book.new (left_of self.now result)
             ≡ fold after book.old (events_in self.now) }
+        ensures flips { TellsAllIfKnown book.old (part_of self.now 0 result)
+            flips.old flips.new }
     {
         let alloc = *self.batch.whats.allocator();
         let mut hints = self.hints.replace(Vec::new(alloc));
-        let done = self.batch.apply(book, 0, &mut hints);
+        let done = self.batch.apply(book, 0, &mut hints, flips);
         self.hints.set(hints);
         done
     }

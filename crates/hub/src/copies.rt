@@ -1,17 +1,24 @@
 //! The two copies of the book that readers enter, and the rule over the copy that is shown.
 
-ghost use Rattle.std.specs.Prelude.{◌≡◌, ◌∷◌, [], true, false, OnOk, OnErr};
+ghost use Rattle.std.specs.Prelude.{◌≡◌, ◌∷◌, ◌++◌, [], List, true, false, length, map};
+ghost use Rattle.std.specs.Prelude.{IfOk, IfSome, OnOk, OnErr};
+ghost use Rattle.agg_types.specs.declared.event.Event.{Event};
+ghost use Rattle.set_changes.specs.Numbered.{AreChangesOf, FlipsSay, Sets};
 ghost use Rattle.hub.specs.Batches.{events_in};
-ghost use Rattle.hub.specs.Copied.{taken};
+ghost use Rattle.hub.specs.Changing.{SayBehind};
+ghost use Rattle.fleet_model.specs.Machine.{opened};
+ghost use Rattle.hub.specs.Copied.{taken, whole};
 
 use crate::batch::{Batch, Run};
 use crate::log::Front;
+use crate::trail::Trail;
 use agg_types::{Event, NoMemory};
 use atomic_table::{Join, Split};
-use book::Book;
+use book::{Book, Flips};
 use crossbeam_utils::rule::{Outcome, Protocol};
 use left_right::Absorb;
-use std::alloc::AllocError;
+use set_changes::{Change, Changes};
+use std::alloc::{AllocError, Global};
 use std::marker::Model;
 use std::sync::Arc;
 
@@ -19,11 +26,16 @@ use std::sync::Arc;
 pub struct Whole {
     book: Book,
     at: Front,
+    trail: Trail,
 }
 
 impl Drop for Whole {
     fn drop(self) {
-        let Whole { book: _, at: _ } = self;
+        let Whole {
+            book: _,
+            at: _,
+            trail: _,
+        } = self;
     }
 }
 
@@ -32,19 +44,26 @@ impl Model for Whole {
 
     ghost Value = { Copied };
 
-    ghost view = { λ w. record { at = w.at; state = w.book } };
+    ghost view = { λ w. record { at = w.at; state = w.book; took = w.trail } };
 }
 
-/// A copy of the book, with the beginning of the history that it has taken.
+/// A copy of the book, with the beginning of the history that it has taken, and with the trail of
+/// its events, from which the book can be recomputed. It keeps what these changed in the filters'
+/// sets; nothing of that can fail it.
 ///
 /// Where an allocation failed in the middle of a batch, the rest of the batch is kept, and taken
-/// before anything else. Contracts see the book as the rest brings it on, and whether there is a
-/// rest: while there is, nobody reads the book.
+/// before anything else. Contracts see the book and the trail as the rest brings them on, and
+/// whether there is a rest: while there is, nobody reads the book.
 #[derive(Drop)]
 pub struct Shown {
     book: Book,
     pub at: Front,
     rest: Option<Rest>,
+    trail: Trail,
+    // What the book tells of its filters' sets while it takes something.
+    flips: Flips,
+    // What it told of the trail. None behind more events than are counted.
+    changes: Option<Changes>,
 }
 
 /// A batch of which a book has so much.
@@ -62,28 +81,41 @@ impl Drop for Rest {
 impl Model for Shown {
     ghost use Rattle.std.specs.Prelude.{◌≤◌, length, is_some, IfSome};
     ghost use Rattle.std.specs.Arc.{arc_value};
-    ghost use Rattle.hub.specs.Begun.{brought_on};
+    ghost use Rattle.hub.specs.Begun.{brought_on, took_on};
+    ghost use Rattle.hub.specs.Changing.{AreKeptOf};
     ghost use Rattle.hub.specs.Copied.{Copy};
+    ghost use Rattle.hub.specs.Trailed.{StandsAt};
 
     ghost Value = { Copy };
 
     ghost view = { λ s. record {
-      copied = record { at = s.at; state = brought_on s.book s.rest };
+      copied = record {
+        at = s.at;
+        state = brought_on s.book s.rest;
+        took = took_on s.trail s.rest;
+      };
       part = is_some s.rest;
     } };
 
-    ghost invariant = { λ s. IfSome s.rest (λ r. r.done ≤ length (arc_value r.batch).whats) };
+    ghost invariant = { λ s. IfSome s.rest (λ r. r.done ≤ length (arc_value r.batch).whats)
+        × StandsAt s.book s.trail × AreKeptOf s.changes s.trail };
 }
 
 impl Shown {
     /// A copy of the book as it was opened.
-    pub fn new(book: Book, at: Front) -> Shown
-        ensures { result ≡ record { copied = record { at = at; state = book }; part = false } }
+    pub fn new(alloc: Global, book: Book, at: Front) -> Shown
+        requires opened { book ≡ opened at.config at.opening }
+        requires empty { at.events ≡ [] }
+        ensures { result ≡ record { copied = whole at; part = false } }
     {
+        let trail = Trail::open(&book);
         Shown {
             book,
             at,
             rest: None,
+            trail,
+            flips: Flips::new(alloc),
+            changes: Some(Changes::new(alloc)),
         }
     }
 
@@ -102,6 +134,19 @@ impl Shown {
         &self.book
     }
 
+    /// What came into the set of the filter at a place and what left it, behind the list of so many
+    /// first events, in order; none where that isn't known any more.
+    pub fn changes(&self, filter: usize, since: u64) -> Result<Option<Vec<&Change>>, NoMemory>
+        requires { self.now.part ≡ false }
+        ensures { IfOk result (λ found. IfSome found (λ changes. SayBehind self.now.copied.took
+            filter since (map (λ change. change.now) changes.items))) }
+    {
+        match &self.changes {
+            None => Ok(None),
+            Some(changes) => changes.since(filter, since),
+        }
+    }
+
     // Takes the rest of the batch that was begun, and says whether it has all of it.
     fn finish(&mut self) -> bool
         ensures whole { result ≡ true → self.new.part ≡ false }
@@ -110,10 +155,14 @@ impl Shown {
         let Some(mut rest) = self.rest.take() else {
             return true;
         };
-        rest.done = rest.batch.go_on(&mut self.book, rest.done);
-        if rest.done == rest.batch.len() {
+        self.flips.begin();
+        let done = rest.batch.go_on(&mut self.book, rest.done, &mut self.flips);
+        note_changes(&mut self.changes, &self.flips, (done - rest.done) as u64);
+        self.trail.add_part(&rest.batch, rest.done, done);
+        if done == rest.batch.len() {
             return true;
         }
+        rest.done = done;
         self.rest = Some(rest);
         false
     }
@@ -125,7 +174,10 @@ impl Shown {
             ≡ taken self.old.copied (record { events = event.now ∷ []; at = at.now })) }
         ensures err { OnErr result (self.new.copied ≡ self.old.copied) }
     {
-        self.book.step(event)?;
+        self.flips.begin();
+        self.book.step_telling(event, &mut self.flips)?;
+        note_changes(&mut self.changes, &self.flips, 1);
+        self.trail.add(event);
         self.at = at.again();
         Ok(())
     }
@@ -140,13 +192,33 @@ impl Shown {
         let Some(batch) = run.share() else {
             return Err(NoMemory);
         };
-        let done = run.apply(&mut self.book);
+        self.flips.begin();
+        let done = run.apply(&mut self.book, &mut self.flips);
+        note_changes(&mut self.changes, &self.flips, done as u64);
+        self.trail.add_part(run.batch(), 0, done);
         self.at = at.again();
         if done < run.batch().len() {
             self.rest = Some(Rest { batch, done });
         }
         Ok(())
     }
+}
+
+// Notes what a book told of so many events more, unless there are more than are counted.
+fn note_changes(changes: &mut Option<Changes>, flips: &Flips, events: u64)
+    ensures { (sets : Sets) (early late : List Event)
+        → IfSome changes.old (λ n. AreChangesOf n sets early) → length late ≡ events
+        → (flips.now.lost ≡ false → FlipsSay sets flips.now.flips early late)
+        → IfSome changes.new (λ n. AreChangesOf n sets (early ++ late)) }
+{
+    let Some(kept) = changes else {
+        return;
+    };
+    if kept.count().checked_add(events).is_none() {
+        *changes = None;
+        return;
+    }
+    kept.note_all(flips, events);
 }
 
 /// What a seat posted as one, on its way into both copies, with the beginning that it ends.

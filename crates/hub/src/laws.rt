@@ -4,16 +4,22 @@
 //! nothing. That of two receipts is the contract of one that compares them: that two lists are of
 //! one history is known from the tokens that receipts hold.
 
-ghost use Rattle.std.specs.Prelude.{◌≡◌, ◌≢◌, ◌↔◌, true, List, MatchBool};
+ghost use Rattle.std.specs.Prelude.{◌≡◌, ◌≢◌, ◌↔◌, ◌++◌, ℕ, true, List, MatchBool, length};
+ghost use Rattle.std.specs.Prelude.{unwrap_or};
 ghost use Rattle.agg_types.specs.Fits.{fits};
 ghost use Rattle.agg_types.specs.declared.config.Config.{Config};
+ghost use Rattle.agg_types.specs.declared.event.Event.{Event};
 ghost use Rattle.agg_types.specs.declared.event.What.{What};
 ghost use Rattle.agg_types.specs.declared.event.What.TheVariants.{Leave, Sit};
 ghost use Rattle.fleet_model.specs.State.{State};
+ghost use Rattle.set_changes.specs.Numbered.{said_of};
+ghost use Rattle.set_changes.specs.declared.change.Change.{Change};
+ghost use Rattle.hub.specs.Changing.{SayBehind, held_behind};
 ghost use Rattle.hub.specs.History.{Beginning};
 ghost use Rattle.hub.specs.Posts.{Follows, PostsAfter, Seated};
 ghost use Rattle.hub.specs.Roll.{MayPost};
 ghost use Rattle.hub.specs.Shows.{ShowsPosted};
+ghost use Rattle.hub.specs.Trailed.{trail_to};
 ghost use Rattle.hub.specs.Views.{IsBookOf, Learns};
 
 use crate::receipt::Receipt;
@@ -34,6 +40,18 @@ pub fn a_look_shows_what_was_posted()
         → PostsAfter pass after whats receipt → Learns seen receipt learned
         → Follows learned looked → IsBookOf book looked
         → ShowsPosted seen receipt pass whats book }
+{}
+
+/// Who knows a filter's set at an earlier list of events, and adds and takes away what a look tells
+/// behind that list, knows the set now. Of each key the last change says whether the filter holds
+/// it; where none is of the key, that is as it was.
+pub fn changes_give_the_set_now()
+    ensures { (seen : Beginning) (early late : List Event) (place : ℕ) (changes : List Change)
+        (key : List ℕ) → seen.events ≡ early ++ late
+        → SayBehind (trail_to seen) place (length early) changes
+        → held_behind seen.config seen.opening seen.events place key
+        ≡ unwrap_or (said_of changes key)
+        (held_behind seen.config seen.opening early place key) }
 {}
 
 /// Of two receipts of one hub the list of one begins the other's. Whether the first one's does.

@@ -1,19 +1,24 @@
 //! Readers: what they enter, what they have seen, and what they are told.
 
-ghost use Rattle.std.specs.Prelude.{◌≡◌, true, false, if◌then◌else◌, length, IfSome, MatchBool};
+ghost use Rattle.std.specs.Prelude.{◌≡◌, true, false, if◌then◌else◌, length, map, MatchBool};
+ghost use Rattle.std.specs.Prelude.{IfOk, IfSome};
 ghost use Rattle.std.specs.Borrow.{sem};
 ghost use Rattle.left_right.specs.Sides.{view};
+ghost use Rattle.hub.specs.Changing.{SayBehind};
 ghost use Rattle.hub.specs.History.{AllCount};
 ghost use Rattle.hub.specs.Kept.{IsTold};
 ghost use Rattle.hub.specs.Posts.{Follows};
+ghost use Rattle.hub.specs.Trailed.{trail_to};
 ghost use Rattle.hub.specs.Views.{IsBookOf, Learns};
 
 use crate::copies::{Published, Shown, Sight};
 use crate::hand::HubReader;
 use crate::log::Front;
 use crate::receipt::Receipt;
+use agg_types::NoMemory;
 use book::Book;
 use left_right::reader::Reading;
+use set_changes::Change;
 use std::marker::Model;
 
 /// A copy that was entered.
@@ -94,6 +99,18 @@ impl Look<'_> {
         self.lens.book()
     }
 
+    /// What came into the set of the filter at a place of the book's configuration and what left
+    /// it, behind the first so many events of the list that the lens has seen, in order. None where
+    /// that isn't known any more. Takes memory for the answer alone.
+    pub fn changes(&self, filter: usize, since: u64) -> Result<Option<Vec<&Change>>, NoMemory>
+        requires { self.now.lens.now.inside ≡ true }
+        ensures { IfOk result (λ found. IfSome found (λ changes.
+            SayBehind (trail_to self.now.lens.now.seen) filter since
+            (map (λ change. change.now) changes.items))) }
+    {
+        self.lens.changes(filter, since)
+    }
+
     /// A receipt for the list of the book, by which other lenses learn what this one was shown.
     pub fn receipt(&self) -> Receipt
         ensures { result ≡ self.now.lens.now.seen }
@@ -139,6 +156,17 @@ impl Lens {
         match &self.visit {
             None => unreachable!(),
             Some(visit) => { visit.reading.get().book() }
+        }
+    }
+
+    fn changes(&self, filter: usize, since: u64) -> Result<Option<Vec<&Change>>, NoMemory>
+        requires { self.now.inside ≡ true }
+        ensures { IfOk result (λ found. IfSome found (λ changes. SayBehind
+            (trail_to self.now.seen) filter since (map (λ change. change.now) changes.items))) }
+    {
+        match &self.visit {
+            None => unreachable!(),
+            Some(visit) => visit.reading.get().changes(filter, since),
         }
     }
 

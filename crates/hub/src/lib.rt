@@ -7,7 +7,9 @@
 //!
 //! Promised: a look answers for a list of events that begins with all that its lens saw or learned;
 //! a receipt's list ends with exactly the batch that was posted, behind what its pass had seen.
-//! Lists stand in proofs alone and take no bytes.
+//! Lists stand in proofs alone and take no bytes. What came into a filter's set and what left it
+//! behind an earlier list, `Look::changes` tells while it is known: applied to the set at that list
+//! it gives the set now.
 //!
 //! A thread that posts inside a look of its own waits for itself for ever.
 //!
@@ -34,6 +36,7 @@ mod receipt;
 mod roll;
 mod sitting;
 mod store;
+mod trail;
 
 pub use awaiting::Await;
 pub use faults::{AppendFault, LensFault, PostFault, SeatFault};
@@ -42,3 +45,4 @@ pub use lens::{Lens, Look};
 pub use naming::Naming;
 pub use pass::Pass;
 pub use receipt::{Receipt, Ticket};
+pub use set_changes::Change;

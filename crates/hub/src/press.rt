@@ -184,8 +184,8 @@ impl<J: Naming, R: Wait + Drop> Press<J, R> {
         ensures { IfOk result (λ p. (p.taken ≡ front) × (p.shown ≡ whole front)) }
     {
         let queue = VecDeque::with_capacity(alloc, MOST_SEATS)?;
-        let first = Shown::new(first, front.again());
-        let second = Shown::new(second, front.again());
+        let first = Shown::new(alloc, first, front.again());
+        let second = Shown::new(alloc, second, front.again());
         let writer: HubWriter = Writer::new(alloc, first, second, places)?;
         let (writer, shown) = show(&own, writer, &front);
         match shown {

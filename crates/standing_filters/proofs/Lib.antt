@@ -1,3 +1,4 @@
+pub mod Said
 pub mod HeldKeys
 pub mod Lawful
 pub mod Members

@@ -73,7 +73,8 @@ impl Adding {
         if verdict.is_out() {
             return Ok(());
         }
-        self.watch.change(key, verdict)
+        self.watch.change(key, verdict)?;
+        Ok(())
     }
 
     // The verdicts.

@@ -13,16 +13,22 @@
 //! verdicts at its moment and leaves all others, `moment` gives each key whose change has come its
 //! verdict then, however many changes were passed, and `add` adds a last filter, which has judged
 //! the keys one by one before (`begin`, `Adding`). Each changes nothing where it runs out of
-//! memory; `remove`, which takes a filter away, needs none. `keys`
-//! lends the keys whose verdict is that they are held, `planned` the moments at which verdicts
-//! change, each with its key, and `next_change` is the least of them. That a key which can't come
-//! into a set again is known by one value of each condition, or by none where the values tell the
-//! most that a key is ever worth, is meant for speed, and no clause says so; nor that a verdict is
-//! searched for once where a filter is the last of its table.
+//! memory; `remove`, which takes a filter away, needs none. `keys` lends the keys whose verdict is
+//! that they are held, `planned` the moments at which verdicts change, each with its key, and
+//! `next_change` is the least of them.
+//!
+//! `Flips` take down which keys come into sets and which leave them, as `touch` and `moment` judge:
+//! of a filter and a key the last flip says whether it is held, and where there is none that hasn't
+//! changed. Where memory for flips is refused they are lost, and no call fails for that.
+//!
+//! That a key which can't come into a set again is known by one value of each condition, or by none
+//! where the values tell the most that a key is ever worth, is meant for speed, and no clause says
+//! so; nor that a verdict is searched for once where a filter is the last of its table.
 #![tactic(auto)]
 
 mod adding;
 mod coming;
+mod flips;
 mod judging;
 mod keys;
 pub mod laws;
@@ -33,6 +39,7 @@ mod turning;
 mod watch;
 
 pub use adding::Adding;
+pub use flips::{Flip, Flips};
 pub use judging::{Verdict, judge};
 pub use keys::Keys;
 pub use standing::Standing;

@@ -10,6 +10,7 @@ ghost use Rattle.std.specs.Ordering.{nat_cmp};
 ghost use Rattle.agg_types.specs.declared.limits.TheConstants.{MOST_CONDS};
 ghost use Rattle.crossing.specs.First.{IsFlatSoon};
 ghost use Rattle.expiry_wheel.specs.Entries.{IsInOrder};
+ghost use Rattle.standing_filters.specs.Flips.{TellsIfKnown, holding};
 ghost use Rattle.standing_filters.specs.Plans.{IsPlanOf};
 ghost use Rattle.standing_filters.specs.Turns.{AreReadFor, AreTurned, IsQuiet};
 ghost use Rattle.standing_filters.specs.Watched.{AreTouched, IsFirstChange};
@@ -17,6 +18,7 @@ ghost use Rattle.standing_filters.specs.Watched.{filters_of, keys_held, unheld, 
 ghost use Rattle.standing_filters.specs.Watched.{verdicts_of};
 
 use crate::adding::Adding;
+use crate::flips::Flips;
 use crate::keys::Keys;
 use crate::touching::touch_each;
 use crate::turning::turn_each;
@@ -76,9 +78,10 @@ impl Standing {
     }
 
     /// Judges a key by each filter of its table, by its values at a moment, in ms. After `NoMemory`
-    /// nothing has changed. A key that has no live row takes no memory. Reads at most 505 values
-    /// for each filter of its table where they stay from 2^33 ms on, and counts them, after
-    /// `NoMemory` too.
+    /// nothing has changed. A key that has no live row takes no memory but for flips. Reads at most
+    /// 505 values for each filter of its table where they stay from 2^33 ms on, and counts them,
+    /// after `NoMemory` too. The flips tell where it came into a set or left it; after `NoMemory`
+    /// they say nothing.
     pub fn touch<V: Values>(
         &mut self,
         table: usize,
@@ -86,6 +89,7 @@ impl Standing {
         values: &V,
         now: u64,
         meter: &mut Meter,
+        flips: &mut Flips,
     ) -> Result<(), NoMemory>
         ensures ok { OnOk result (AreTouched (V.summed values.now) (V.living values.now) table
             key.now now self.old.filters self.new.filters) }
@@ -93,20 +97,25 @@ impl Standing {
         ensures dead { V.living values.now table key.now now ≡ 0 → IsOk result }
         ensures counted { IsFlatSoon now (V.flat values.now table key.now)
             → meter.new.evals ≤ meter.old.evals + 505 * filters_of table self.old.filters }
+        ensures flips { OnOk result (TellsIfKnown (holding self.old.filters)
+            (holding self.new.filters) flips.old flips.new) }
     {
-        touch_each(self.watches.as_mut_slice(), table, key, values, now, meter)
+        let watches = self.watches.as_mut_slice();
+        touch_each(watches, 0, table, key, values, now, meter, flips)
     }
 
     /// The clock goes on to a moment, in ms: judges each key whose verdict changes up to then, by
     /// its values at that moment, and no other. After `NoMemory` nothing has changed. Where no
     /// verdict changes up to then, no value is read and no memory taken. Reads at most 505 values
     /// for each filter and key of which a change has come, where they stay from 2^33 ms on, and
-    /// counts them, after `NoMemory` too.
+    /// counts them, after `NoMemory` too. The flips tell which came into a set and which left it;
+    /// after `NoMemory` they say nothing.
     pub fn moment<V: Values>(
         &mut self,
         values: &V,
         t: u64,
         meter: &mut Meter,
+        flips: &mut Flips,
     ) -> Result<(), NoMemory>
         ensures ok { OnOk result (AreTurned (V.summed values.now) (V.living values.now) t
             self.old.filters self.new.filters) }
@@ -116,8 +125,10 @@ impl Standing {
         ensures counted { ((table : ℕ) (key : List ℕ)
             → IsFlatSoon t (V.flat values.now table key))
             → AreReadFor t self.old.filters meter.old.evals meter.new.evals }
+        ensures flips { OnOk result (TellsIfKnown (holding self.old.filters)
+            (holding self.new.filters) flips.old flips.new) }
     {
-        turn_each(self.watches.as_mut_slice(), values, t, meter)
+        turn_each(self.watches.as_mut_slice(), 0, values, t, meter, flips)
     }
 
     /// A filter that is to be added: it holds no key, and judges those that have rows before it is

@@ -2,7 +2,7 @@
 
 ghost use Rattle.std.specs.Prelude.{ℕ, List, ◌≡◌, ◌≤◌, ◌+◌, ◌*◌, ◌==◌, ◌&&◌, nat_lt, [], length};
 ghost use Rattle.std.specs.Prelude.{is_some, if◌then◌else◌, IsSome, IfSome, IsOk, IsOkAnd, IfOk};
-ghost use Rattle.std.specs.Prelude.{OnOk, OnErr, MatchBool, None, Some};
+ghost use Rattle.std.specs.Prelude.{OnOk, OnErr, MatchBool, None, Some, false, unwrap_or};
 ghost use Rattle.std.specs.List.{IsDistinct, list_any};
 ghost use Rattle.std.specs.List.Sorted.{IsStrictlySortedBy};
 ghost use Rattle.std.specs.BTreeMap.{insert_entry, is_at};
@@ -11,6 +11,7 @@ ghost use Rattle.std.specs.Ordering.{nat_cmp};
 ghost use Rattle.agg_types.specs.declared.limits.TheConstants.{MOST_CONDS};
 ghost use Rattle.crossing.specs.First.{IsFlatSoon};
 ghost use Rattle.expiry_wheel.specs.Entries.{IsInOrder};
+ghost use Rattle.standing_filters.specs.Flips.{TellsAt};
 ghost use Rattle.standing_filters.specs.Verdicts.{IsVerdict, out};
 ghost use Rattle.standing_filters.specs.Watched.{IsFirstChange, keys_held, verdict_at};
 ghost use Rattle.standing_filters.specs.Plans.{Becomes, IsPlanOf, IsPlanned, IsUnplanned, IsWatch};
@@ -22,6 +23,7 @@ ghost use Rattle.standing_filters.specs.Turns.{AreJudged, ArePlans, IsAhead, IsQ
 ghost use Rattle.standing_filters.specs.Turns.{keys_judged, same_key, verdict_after};
 
 use crate::coming::{Coming, Judged};
+use crate::flips::Flips;
 use crate::judging::{OUT, Verdict, judge};
 use crate::keys::Keys;
 use crate::plans::{move_plan, plan, unplan};
@@ -179,36 +181,41 @@ impl Watch {
         }
     }
 
-    /// Keeps a verdict on a key, and plans its change. After `NoMemory` nothing has changed; `OUT`
-    /// is never refused. One search of the keys, where one is kept already.
-    pub(crate) fn change(&mut self, key: &Key, verdict: Verdict) -> Result<(), NoMemory>
+    /// Keeps a verdict on a key, and plans its change. Answers whether the key was held before.
+    /// After `NoMemory` nothing has changed; `OUT` is never refused. One search of the keys, where
+    /// one is kept already.
+    pub(crate) fn change(&mut self, key: &Key, verdict: Verdict) -> Result<bool, NoMemory>
         requires { IsWatch self.old }
         ensures filter { self.new.filter ≡ self.old.filter }
         ensures stay { IsWatch self.new }
         ensures kept { OnOk result (Becomes key.now verdict self.old.kept self.new.kept) }
+        ensures was { IfOk result (λ was. was ≡ (verdict_at self.old.kept key.now).holds) }
         ensures err { OnErr result (self.new ≡ self.old) }
         ensures out { verdict ≡ out → IsOk result }
     {
         if verdict.is_out() {
-            self.forget(key);
-            return Ok(());
+            return Ok(self.forget(key));
         }
-        if self.replace(key, verdict)? {
-            return Ok(());
+        if let Some(old) = self.replace(key, verdict)? {
+            return Ok(old.holds);
         }
-        self.enter(key, verdict)
+        self.enter(key, verdict)?;
+        Ok(false)
     }
 
-    /// Keeps no verdict on a key, so that it is `OUT`.
-    pub(crate) fn forget(&mut self, key: &Key)
+    /// Keeps no verdict on a key, so that it is `OUT`. Answers whether it was held before.
+    pub(crate) fn forget(&mut self, key: &Key) -> bool
         ensures filter { self.new.filter ≡ self.old.filter }
+        ensures was { result ≡ (verdict_at self.old.kept key.now).holds }
         ensures kept { Becomes key.now out self.old.kept self.new.kept }
         ensures due { IsUnplanned key.now (change_of (kept_at self.old.kept key.now)) None
             self.old.due self.new.due }
     {
-        if let Some(old) = self.kept.remove(key) {
-            self.unplan(key, old.next, None);
-        }
+        let Some(old) = self.kept.remove(key) else {
+            return false;
+        };
+        self.unplan(key, old.next, None);
+        old.holds
     }
 }
 
@@ -278,8 +285,9 @@ impl Watch {
         }
     }
 
-    /// Keeps the verdicts of judged keys, whose changes up to a moment have come.
-    pub(crate) fn commit_all(&mut self, judged: &[Judged], t: u64)
+    /// Keeps the verdicts of judged keys, whose changes up to a moment have come, and notes which
+    /// come into the set and which leave it.
+    pub(crate) fn commit_all(&mut self, judged: &[Judged], t: u64, place: usize, flips: &mut Flips)
         requires plans { ArePlans self.old.kept judged.now }
         requires apart { IsDistinct same_key (keys_judged judged.now) }
         ensures filter { self.new.filter ≡ self.old.filter }
@@ -287,10 +295,14 @@ impl Watch {
             ≡ verdict_after judged.now self.old.kept key }
         ensures due { (e : ℕ × List ℕ) → has_plan self.new.due e
             ≡ (has_plan self.old.due e && nat_lt t e.0) }
+        ensures flips { flips.new.lost ≡ false → TellsAt place
+            (λ key. (verdict_at self.old.kept key).holds)
+            (λ key. (verdict_at self.new.kept key).holds) flips.old flips.new }
     {
         self.drop_due(t);
         for key in judged {
-            self.keep(&key.key, key.verdict);
+            let held = self.keep(&key.key, key.verdict);
+            flips.note(place, &key.key, held, key.verdict.holds);
         }
     }
 }
@@ -306,18 +318,23 @@ impl Watch {
         while self.due.take_due(t).is_some() {}
     }
 
-    // Keeps a verdict on a key in place of the one that is kept.
-    fn keep(&mut self, key: &Key, verdict: Verdict)
+    // Keeps a verdict on a key in place of the one that is kept. Answers whether it was held.
+    fn keep(&mut self, key: &Key, verdict: Verdict) -> bool
         ensures filter { self.new.filter ≡ self.old.filter }
         ensures due { self.new.due ≡ self.old.due }
+        ensures was { result ≡ (verdict_at self.old.kept key.now).holds }
         ensures kept { IsSome (kept_at self.old.kept key.now)
             → Becomes key.now verdict self.old.kept self.new.kept }
     {
         if verdict.is_out() {
-            self.kept.remove(key);
-        } else if let Some(kept) = self.kept.get_mut(key) {
-            *kept = verdict;
+            return held_by(self.kept.remove(key));
         }
+        let Some(kept) = self.kept.get_mut(key) else {
+            return false;
+        };
+        let was = kept.holds;
+        *kept = verdict;
+        was
     }
 
     // Makes room for a verdict on a key, and answers the one that is kept.
@@ -338,25 +355,25 @@ impl Watch {
     }
 
     // Keeps a verdict on a key in place of the one that is kept, and moves its planned change.
-    // Answers false, and changes nothing, where none is kept.
-    fn replace(&mut self, key: &Key, verdict: Verdict) -> Result<bool, NoMemory>
+    // Answers the one that was kept; where there is none it changes nothing.
+    fn replace(&mut self, key: &Key, verdict: Verdict) -> Result<Option<Verdict>, NoMemory>
         requires { IsPlanOf self.old.kept self.old.due }
         ensures filter { self.new.filter ≡ self.old.filter }
-        ensures kept { IfOk result (λ there. MatchBool there
-            (Becomes key.now verdict self.old.kept self.new.kept)
-            ((kept_at self.old.kept key.now ≡ None) × (self.new ≡ self.old))) }
+        ensures found { IfOk result (λ old. old ≡ kept_at self.old.kept key.now) }
+        ensures kept { IfOk result (λ old. MatchBool (is_some old)
+            (Becomes key.now verdict self.old.kept self.new.kept) (self.new ≡ self.old)) }
         ensures planned { OnOk result (IsPlanOf self.new.kept self.new.due) }
         ensures err { OnErr result (self.new ≡ self.old) }
     {
         let Some(kept) = self.kept.get_mut(key) else {
-            return Ok(false);
+            return Ok(None);
         };
         let old = *kept;
         if old != verdict {
             move_plan(self.alloc, &mut self.due, key, old.next, verdict.next)?;
             *kept = verdict;
         }
-        Ok(true)
+        Ok(Some(old))
     }
 
     // Keeps a verdict on a key on which none is kept, and plans its change.
@@ -420,4 +437,11 @@ fn change_of(verdict: Option<Verdict>) -> Option<u64>
     ensures { result ≡ change_of verdict }
 {
     verdict.and_then(|verdict| verdict.next)
+}
+
+/// Whether a verdict that may be kept says that its key is held.
+pub(crate) fn held_by(verdict: Option<Verdict>) -> bool
+    ensures { result ≡ (unwrap_or verdict out).holds }
+{
+    verdict.is_some_and(|verdict| verdict.holds)
 }

@@ -28,7 +28,7 @@ rank rates strings http_req_rate 3
 ";
 
 /// The same, but for the first table, which holds six rows.
-const FEW: &[u8] = b"name agg
+pub const FEW: &[u8] = b"name agg
 peer lb1
 peer lb2
 peer lb3

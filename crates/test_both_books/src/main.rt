@@ -2,7 +2,8 @@
 //! by side, and compares all that both answer after each event: rows, sums, sets, ranked lists,
 //! next changes, sessions and seats. Prints how many events there were, how many answers differ,
 //! how many values the book read for its filters, how often it made its verdicts anew, and how many
-//! updates full tables didn't take.
+//! updates full tables didn't take. For one more list it prints of how many events the book could
+//! tell the flips, how many flips these were, and how many sets they don't lead to.
 //!
 //! An event for which an allocation failed has to leave each answer as it was, and then happens
 //! once more. `test_both_books again` compares at the end of a run and where an allocation failed:
@@ -20,11 +21,13 @@ mod fleet;
 mod plain;
 mod plain_fleet;
 mod runs;
+mod told;
 mod worked;
 
 use crate::deeds::Deed;
 use crate::drawn::Draw;
-use crate::fleet::{OF_SECONDS, Pair};
+use crate::fleet::{FEW, OF_SECONDS, Pair};
+use crate::told::Told;
 use anyhow::Result;
 use std::alloc::Global;
 use std::env::Env;
@@ -124,6 +127,23 @@ fn draw(rt: &impl Print, alloc: Global, name: &str, way: Way) -> Result<()> {
     end(rt, alloc, name, way, &mut pair)
 }
 
+/// Drawn events, whose flips lead from each filter's set to the next where they are known.
+fn tell_sets(rt: &impl Print, alloc: Global) -> Result<()> {
+    let mut pair = Pair::new(alloc, true)?;
+    let mut told = Told::of(alloc, FEW)?;
+    let mut draw = Draw::new(true);
+    for _event in 0..DRAWN {
+        let deed = draw.deed(&pair);
+        pair.happen(alloc, deed)?;
+        told.happen(alloc, deed)?;
+    }
+    println!(rt;
+        "told: {} of {} events, by {} flips; {} sets differ",
+        told.events, pair.events, told.count, told.differ
+    )?;
+    Ok(())
+}
+
 /// Many rows that end in one ms, as the clock comes close and then goes over it.
 fn crowd(rt: &impl Print, alloc: Global) -> Result<()> {
     let mut pair = Pair::new(alloc, false)?;
@@ -170,6 +190,7 @@ fn all_runs(rt: &impl Print, alloc: Global) -> Result<()> {
     play(rt, alloc, "drops", NEAR, worked::DROPS)?;
     draw(rt, alloc, "drawn, near", NEAR)?;
     draw(rt, alloc, "drawn, far", FAR)?;
+    tell_sets(rt, alloc)?;
     falling(rt, alloc)?;
     crowd(rt, alloc)
 }

@@ -9,7 +9,7 @@ use agg_types::{Cond, Config, Declared, Filter, Items, Key, Name, NoMemory};
 use anyhow::{Result, ensure};
 use crossing::Meter;
 use period_rate::Rate;
-use standing_filters::Standing;
+use standing_filters::{Flips, Standing};
 use std::alloc::Global;
 use std::io::Print;
 
@@ -77,13 +77,14 @@ fn play<R: Print>(rt: &R, alloc: Global, case: &Case) -> Result<()> {
     let mut standing = standing(alloc, case.conds)?;
     let key = Key::copy(alloc, b"k")?;
     let values = falling(case.second, case.ends);
+    let mut flips = Flips::unknown(alloc);
     if case.touched {
-        return touch_each(rt, &mut standing, &key, &values, case.moments);
+        return touch_each(rt, &mut standing, &key, &values, case.moments, &mut flips);
     }
     let mut meter = Meter::new();
-    standing.touch(0, &key, &values, 0, &mut meter)?;
+    standing.touch(0, &key, &values, 0, &mut meter, &mut flips)?;
     show(rt, &standing, 0, &values, meter)?;
-    go_on(rt, &mut standing, &values, case.moments, meter)
+    go_on(rt, &mut standing, &values, case.moments, meter, &mut flips)
 }
 
 // Touches a key at each moment.
@@ -93,10 +94,11 @@ fn touch_each<R: Print>(
     key: &Key,
     values: &Counted,
     moments: &[u64],
+    flips: &mut Flips,
 ) -> Result<()> {
     let mut meter = Meter::new();
     for t in moments {
-        standing.touch(0, key, values, *t, &mut meter)?;
+        standing.touch(0, key, values, *t, &mut meter, flips)?;
         show(rt, standing, *t, values, meter)?;
     }
     Ok(())
@@ -109,10 +111,11 @@ fn go_on<R: Print>(
     values: &Counted,
     moments: &[u64],
     before: Meter,
+    flips: &mut Flips,
 ) -> Result<()> {
     let mut meter = before;
     for t in moments {
-        standing.moment(values, *t, &mut meter)?;
+        standing.moment(values, *t, &mut meter, flips)?;
         show(rt, standing, *t, values, meter)?;
     }
     Ok(())
@@ -153,10 +156,11 @@ fn added<R: Print>(rt: &R, alloc: Global) -> Result<()> {
     let values = falling(500, LATE);
     let mut standing = standing(alloc, IS_TWO)?;
     let mut meter = Meter::new();
+    let mut flips = Flips::unknown(alloc);
     add(alloc, &mut standing, &values, &mut meter)?;
     count(rt, &standing, &values, meter)?;
     for t in [166, 167] {
-        standing.moment(&values, t, &mut meter)?;
+        standing.moment(&values, t, &mut meter, &mut flips)?;
         count(rt, &standing, &values, meter)?;
     }
     Ok(())
@@ -188,7 +192,15 @@ fn touch(
     t: u64,
 ) -> Result<()> {
     let mut meter = Meter::new();
-    standing.touch(0, &Key::copy(alloc, key)?, values, t, &mut meter)?;
+    let mut flips = Flips::unknown(alloc);
+    standing.touch(
+        0,
+        &Key::copy(alloc, key)?,
+        values,
+        t,
+        &mut meter,
+        &mut flips,
+    )?;
     Ok(())
 }
 
@@ -202,8 +214,9 @@ fn planned<R: Print>(rt: &R, alloc: Global) -> Result<()> {
     }
     show_plans(rt, &standing)?;
     let mut meter = Meter::new();
+    let mut flips = Flips::unknown(alloc);
     for t in [1, 400] {
-        standing.moment(&values, t, &mut meter)?;
+        standing.moment(&values, t, &mut meter, &mut flips)?;
         show_plans(rt, &standing)?;
     }
     Ok(())

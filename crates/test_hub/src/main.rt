@@ -1,4 +1,5 @@
-//! Seats, posts, receipts and looks of a hub, in one thread.
+//! Seats, posts, receipts and looks of a hub, in one thread, and what came into a filter's set and
+//! left it between two looks.
 //!
 //! Then posts, seats, lenses and leaves, each made once more where an allocation failed. So what is
 //! printed of these is the same whichever allocation fails: `test_hub again` runs them alone, and
@@ -6,6 +7,7 @@
 #![tactic(auto)]
 
 mod again;
+mod changes;
 mod fleet;
 mod no_memory;
 mod posting;
@@ -14,6 +16,7 @@ mod seats;
 mod shown;
 
 use anyhow::Result;
+use changes::follow;
 use no_memory::{fleet_opened, opened};
 use posting::{late, run_alone};
 use std::env::Env;
@@ -26,6 +29,7 @@ fn main(rt: HostRuntime) -> Result<()> {
     if !is_again {
         run_alone::<Brand, HostRuntime>(&rt, alloc, opening(alloc)?)?;
         late::<Brand, HostRuntime>(&rt, alloc, opening(alloc)?)?;
+        follow::<Brand, HostRuntime>(&rt, alloc, fleet_opened(alloc)?)?;
     }
     for _ in 0..2 {
         if opened::<Brand, HostRuntime>(&rt, alloc, fleet_opened(alloc)?)? {

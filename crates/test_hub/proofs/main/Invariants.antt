@@ -7,5 +7,8 @@ ghosts-run_alone g a = record { book = a.opening.of }
 abbrev pub ghosts-late : goal.ghosts-late
 ghosts-late g a = record { book = a.opening.of }
 
+abbrev pub ghosts-follow : goal.ghosts-follow
+ghosts-follow g a = record { book = a.opening.of }
+
 abbrev pub ghosts-opened : goal.ghosts-opened
 ghosts-opened g a = record { book = a.opening.of }

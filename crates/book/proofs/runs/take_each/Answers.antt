@@ -3,7 +3,9 @@ use Rattle.std.proofs.Common.{List}
 use Rattle.agg_types.specs.declared.event.What.{What}
 use Rattle.fleet_model.specs.Machine.{session_of}
 use Rattle.fleet_model.specs.State.{State}
+use Rattle.book.specs.Flips.{TellsStepIfKnown}
 use Rattle.book.specs.Runs.{IsPartApplied, IsUpdateOf, counted_to, with_update}
+use Rattle.book.proofs.ToldRuns.{told_none, told_update}
 use Rattle.book.proofs.Updates.{left_next, part_none, turn_counted, update_more}
 use Rattle.book.proofs.runs.take_each.Goals as goal
 
@@ -20,6 +22,8 @@ updates-init c =
           (counted_to c.args.machine.now turn.seat (c.args.first + c.args.from))
           (turn_counted c.args.machine.now turn.seat (c.args.first + c.args.from) turn.peer
           turn.session c.requires.book.sound c.requires.turn);
+      flips = told_none turn.seat c.args.first c.args.from c.args.whats.now c.args.machine.now
+          c.args.flips.now c.requires.from_in;
     }
 
 pub updates-preserved : goal.updates-preserved
@@ -49,4 +53,11 @@ updates-preserved c =
           state c.updates.invariant.book.sound update
           (let small = c.requires.small in omega arith) c.updates.invariant.applied
           (left_next whats place what there c.index-whats-place.is));
+      flips = told_update turn.seat first c.args.from place turn.peer whats what c.args.machine.now
+          state c.args.flips.now c.updates.flips c.take_one.new.flips
+          c.updates.invariant.book.sound update (let small = c.requires.small in omega arith)
+          c.updates.invariant.onwards there c.updates.invariant.applied
+          (left_next whats place what there c.index-whats-place.is) c.updates.invariant.flips
+          (subst (λ (s : State). TellsStepIfKnown state s c.updates.flips c.take_one.new.flips)
+          turned c.in-Ok.ensures.flips);
     }

@@ -1,5 +1,6 @@
 use Rattle.std.proofs.Common.{◌≡◌, ◌≤◌, ◌+◌, ◌-◌, length}
 use Rattle.fleet_model.specs.Machine.{session_of}
+use Rattle.book.specs.Flips.{TellsAllIfKnown, part_of}
 use Rattle.book.specs.Held.{IsBook}
 use Rattle.book.specs.Runs.{IsPartApplied, counted_to}
 use Rattle.book.proofs.runs.take_each.Given as goal
@@ -14,6 +15,8 @@ invariant-updates l = record {
   book : IsBook l.machine l.held.standing;
   applied : IsPartApplied l.turn.seat l.first l.whats l.fn.from l.place l.fn.machine
       (counted_to l.machine l.turn.seat (l.first + l.place));
+  flips : TellsAllIfKnown l.fn.machine (part_of l.turn.seat l.first l.whats l.fn.from l.place)
+      l.fn.flips l.flips;
 }
 
 abbrev pub decreases-updates : goal.decreases-updates

@@ -11,6 +11,14 @@ follow-requires-clause-sound c =
     (sound_update c.args.machine.now c.args.turn.seat c.args.turn.peer c.args.what.now
     c.requires.book.sound c.requires.update)
 
+pub returns-clause-flips : goal.returns-clause-flips
+returns-clause-flips c =
+    let state : State = c.args.machine.now in
+    c.follow.ensures.flips state c.requires.book.sound
+    (subst (Follows c.args.what.now state) (sym c.in_ok-applied.ensures.ok)
+    (follows_update state c.args.turn.seat c.args.turn.peer c.args.what.now
+    c.requires.book.sound c.requires.update)) c.requires.book.held
+
 pub returns-clause-book : goal.returns-clause-book
 returns-clause-book c =
     let state : State = c.args.machine.now in

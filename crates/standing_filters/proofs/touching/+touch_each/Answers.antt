@@ -1,10 +1,13 @@
-use Rattle.std.proofs.Common.{◌≡◌, List, ◌∷◌, map, sym, ap, subst, ◌∙◌}
+use Rattle.std.proofs.Common.{◌≡◌, ◌+◌, List, ◌∷◌, Option, map, sym, ap, subst, ◌∙◌}
+use Rattle.std.specs.Prelude.{unwrap_or}
 use Rattle.std.proofs.lemmas.Bool.{eqb-true}
 use Rattle.std.proofs.lemmas.Result.{on_ok_weaker}
-use Rattle.standing_filters.specs.Plans.{AreWatches, IsWatch, Watching, view_of_watch}
+use Rattle.standing_filters.specs.Flips.{TellsFrom, holding}
+use Rattle.standing_filters.specs.Plans.{AreWatches, Becomes, IsWatch, Watching, view_of_watch}
 use Rattle.standing_filters.specs.Verdicts.{IsVerdict, out}
-use Rattle.standing_filters.specs.Watched.{AreTouched, Watched}
+use Rattle.standing_filters.specs.Watched.{AreTouched, Watched, verdict_at}
 use Rattle.standing_filters.specs.declared.judging.Verdict.{Verdict}
+use Rattle.standing_filters.proofs.Said.{at_none, from_first, from_none, noted_becomes}
 use Rattle.standing_filters.proofs.Touched.{becomes_after, kept_restored, others_untouched}
 use Rattle.standing_filters.proofs.Touched.{view_stays, touched}
 use Rattle.standing_filters.proofs.Touched.{watch_backed_out, watch_committed, watch_forgotten}
@@ -27,22 +30,25 @@ returns-then-not-is_any_of-clause-ok g t c =
     let first = c.in-Some.first.now in
     let of = eqb-true first.filter.table c.args.table (sym c.is_of.ensures
     ∙ c.if-not-is_of.false) in
-    on_ok_weaker c.change.result (λ becomes. subst (λ (l : List Watching). AreTouched summed living
+    let becomes = c.in_ok-held.ensures.kept in
+    subst (λ (l : List Watching). AreTouched summed living
     c.args.table c.args.key.now c.args.now (map view_of_watch l)
     (view_of_watch c.change.new.self ∷ map view_of_watch c.in-Some.rest.now))
     (sym c.in-Some.ensures.cases.0) (
       touched summed living c.args.table c.args.key.now c.args.now first c.change.new.self
-          c.judge-verdict.result of c.change.ensures.filter c.judge-verdict.ensures.verdict becomes,
+          c.judge-verdict.result of c.in_ok-held.ensures.filter c.judge-verdict.ensures.verdict
+          becomes,
       others_untouched summed living c.args.table c.args.key.now c.args.now c.in-Some.rest.now
           (sym c.is_any_of.ensures ∙ c.if-not-is_any_of.true),
-    )) c.change.ensures.kept
+    )
 
 pub returns-then-is_out-clause-stay : goal.returns-then-is_out-clause-stay
 returns-then-is_out-clause-stay g t c =
     let first = c.in-Some.first.now in (
-      watch_forgotten c.args.key.now first c.forget.new.self
+      watch_forgotten c.args.key.now first c.forget-held.new.self
           (first_watch c.args.watches.now first c.in-Some.rest.now c.in-Some.ensures.cases.0
-          c.requires) c.forget.ensures.filter c.forget.ensures.kept c.forget.ensures.due,
+          c.requires.watches) c.forget-held.ensures.filter c.forget-held.ensures.kept
+          c.forget-held.ensures.due,
       c.in_ok-touch_each.ensures.stay,
     )
 
@@ -57,10 +63,10 @@ returns-then-is_out-clause-ok g t c =
     let judged = subst (λ (v : Verdict). IsVerdict summed living first.filter c.args.now
     c.args.key.now v) verdict_is c.judge-verdict.ensures.verdict in
     subst (λ (l : List Watching). AreTouched summed living c.args.table c.args.key.now c.args.now
-    (map view_of_watch l) (view_of_watch c.forget.new.self ∷ map view_of_watch
+    (map view_of_watch l) (view_of_watch c.forget-held.new.self ∷ map view_of_watch
     c.touch_each-then-is_out.new.watches)) (sym c.in-Some.ensures.cases.0) (
-      touched summed living c.args.table c.args.key.now c.args.now first c.forget.new.self out of
-          c.forget.ensures.filter judged c.forget.ensures.kept,
+      touched summed living c.args.table c.args.key.now c.args.now first c.forget-held.new.self out
+          of c.forget-held.ensures.filter judged c.forget-held.ensures.kept,
       c.in_ok-touch_each.ensures.ok,
     )
 
@@ -72,7 +78,7 @@ returns-in-Err-clause-stay g t c =
     c.in_ok-old.ensures.found c.in_ok-old.ensures.room c.back_out.ensures.kept in (
       watch_backed_out c.args.key.now c.judge-verdict.result c.in_ok-old.old first prepared
           c.back_out.new.self (first_watch c.args.watches.now first c.in-Some.rest.now
-          c.in-Some.ensures.cases.0 c.requires) (c.back_out.ensures.filter
+          c.in-Some.ensures.cases.0 c.requires.watches) (c.back_out.ensures.filter
           ∙ c.in_ok-old.ensures.filter) kept c.in_ok-old.ensures.found c.in_ok-old.ensures.planned
           c.back_out.ensures.due,
       c.in-Err.ensures.stay,
@@ -98,7 +104,7 @@ returns-clause-stay g t c =
     (c.commit.ensures.kept c.in_ok-old.ensures.there) in (
       watch_committed c.args.key.now c.judge-verdict.result c.in_ok-old.old first prepared
           c.commit.new.self (first_watch c.args.watches.now first c.in-Some.rest.now
-          c.in-Some.ensures.cases.0 c.requires) (c.commit.ensures.filter
+          c.in-Some.ensures.cases.0 c.requires.watches) (c.commit.ensures.filter
           ∙ c.in_ok-old.ensures.filter) c.in_ok-old.ensures.found c.in_ok-old.ensures.planned
           c.commit.ensures.due becomes,
       c.in_default-touch_each.ensures.stay,
@@ -123,3 +129,79 @@ returns-clause-ok g t c =
           c.judge-verdict.ensures.verdict becomes,
       c.in_default-touch_each.ensures.ok,
     )
+
+-- ---- what the flips tell
+pub returns-in_default-clause-flips : goal.returns-in_default-clause-flips
+returns-in_default-clause-flips g t c = λ known.
+    from_none c.args.at (map view_of_watch c.args.watches.now) c.args.flips.now known
+
+pub returns-then-not-is_of-clause-flips : goal.returns-then-not-is_of-clause-flips
+returns-then-not-is_of-clause-flips g t c =
+    let first = c.in-Some.first.now in
+    let last = c.touch_each.new.flips in
+    on_ok_weaker c.touch_each.result (λ told. λ known.
+    subst (λ (l : List Watching). TellsFrom c.args.at (holding (map view_of_watch l))
+    (holding (view_of_watch first ∷ map view_of_watch c.touch_each.new.watches)) c.args.flips.now
+    last) (sym c.in-Some.ensures.cases.0)
+    (from_first c.args.at (view_of_watch first) (view_of_watch first)
+    (map view_of_watch c.in-Some.rest.now) (map view_of_watch c.touch_each.new.watches)
+    c.args.flips.now last last (told known)
+    (at_none c.args.at (λ key. (verdict_at first.kept key).holds) last known)))
+    c.touch_each.ensures.flips
+
+pub returns-then-not-is_any_of-clause-flips : goal.returns-then-not-is_any_of-clause-flips
+returns-then-not-is_any_of-clause-flips g t c = λ known.
+    let first = c.in-Some.first.now in
+    let made = c.change.new.self in
+    let before = c.args.flips.now in
+    let noted = c.note.ensures known in
+    let last = c.note.new.self in
+    subst (λ (l : List Watching). TellsFrom c.args.at (holding (map view_of_watch l))
+    (holding (view_of_watch made ∷ map view_of_watch c.in-Some.rest.now)) before last)
+    (sym c.in-Some.ensures.cases.0)
+    (from_first c.args.at (view_of_watch first) (view_of_watch made)
+    (map view_of_watch c.in-Some.rest.now) (map view_of_watch c.in-Some.rest.now) before before
+    last (from_none (c.args.at + 1) (map view_of_watch c.in-Some.rest.now) before noted.known)
+    (noted_becomes c.args.at c.args.key.now c.judge-verdict.result c.in_ok-held.held first.kept
+    made.kept before last noted c.in_ok-held.ensures.was c.in_ok-held.ensures.kept))
+
+pub returns-then-is_out-clause-flips : goal.returns-then-is_out-clause-flips
+returns-then-is_out-clause-flips g t c = λ known.
+    let first = c.in-Some.first.now in
+    let made = c.forget-held.new.self in
+    let touched = c.touch_each-then-is_out.new in
+    let noted = c.note-then-is_out.ensures known in
+    let last = c.note-then-is_out.new.self in
+    let verdict_is : c.judge-verdict.result ≡ out = c.is_out.ensures.0 c.if-is_out.true in
+    subst (λ (l : List Watching). TellsFrom c.args.at (holding (map view_of_watch l))
+    (holding (view_of_watch made ∷ map view_of_watch touched.watches)) c.args.flips.now last)
+    (sym c.in-Some.ensures.cases.0)
+    (from_first c.args.at (view_of_watch first) (view_of_watch made)
+    (map view_of_watch c.in-Some.rest.now) (map view_of_watch touched.watches) c.args.flips.now
+    touched.flips last (c.in_ok-touch_each.ensures.flips noted.known)
+    (noted_becomes c.args.at c.args.key.now c.judge-verdict.result c.forget-held.result first.kept
+    made.kept touched.flips last noted c.forget-held.ensures.was
+    (subst (λ (v : Verdict). Becomes c.args.key.now v first.kept made.kept) (sym verdict_is)
+    c.forget-held.ensures.kept)))
+
+pub returns-clause-flips : goal.returns-clause-flips
+returns-clause-flips g t c = λ known.
+    let first = c.in-Some.first.now in
+    let prepared = c.prepare.new.self in
+    let made = c.commit.new.self in
+    let touched = c.touch_each-2.new in
+    let noted = c.note-2.ensures known in
+    let last = c.note-2.new.self in
+    let becomes = becomes_after c.args.key.now c.judge-verdict.result first.kept prepared.kept
+    made.kept c.in_ok-old.ensures.same (c.commit.ensures.kept c.in_ok-old.ensures.there) in
+    let was : c.held_by.result ≡ (verdict_at first.kept c.args.key.now).holds =
+    c.held_by.ensures
+    ∙ ap (λ (o : Option Verdict). (unwrap_or o out).holds) c.in_ok-old.ensures.found in
+    subst (λ (l : List Watching). TellsFrom c.args.at (holding (map view_of_watch l))
+    (holding (view_of_watch made ∷ map view_of_watch touched.watches)) c.args.flips.now last)
+    (sym c.in-Some.ensures.cases.0)
+    (from_first c.args.at (view_of_watch first) (view_of_watch made)
+    (map view_of_watch c.in-Some.rest.now) (map view_of_watch touched.watches) c.args.flips.now
+    touched.flips last (c.in_default-touch_each.ensures.flips noted.known)
+    (noted_becomes c.args.at c.args.key.now c.judge-verdict.result c.held_by.result first.kept
+    made.kept touched.flips last noted was becomes))

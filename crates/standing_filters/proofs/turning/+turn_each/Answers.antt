@@ -1,8 +1,12 @@
 use Rattle.std.proofs.Common.{◌≡◌, ◌≤◌, ℕ, List, ◌∷◌, length, map, refl, sym, ap, subst, ◌∙◌}
 use Rattle.agg_types.specs.declared.limits.TheConstants.{MOST_CONDS}
+use Rattle.standing_filters.specs.Flips.{TellsAt, TellsFrom, holding}
 use Rattle.standing_filters.specs.Plans.{AreWatches, IsPlanOf, IsWatch, Watching, view_of_watch}
 use Rattle.standing_filters.specs.Turns.{AreTurned, IsAhead, verdict_after}
 use Rattle.standing_filters.proofs.Ahead.{turned, watch_settled}
+use Rattle.standing_filters.specs.Watched.{verdict_at}
+use Rattle.standing_filters.specs.declared.judging.Verdict.{Verdict}
+use Rattle.standing_filters.proofs.Said.{from_first, from_none}
 use Rattle.standing_filters.proofs.Walking.{more_read, none_read}
 use Rattle.standing_filters.proofs.turning.+turn_each.Goals as goal
 
@@ -21,7 +25,7 @@ pub returns-in_err-prepare_all-clause-stay : goal.returns-in_err-prepare_all-cla
 returns-in_err-prepare_all-clause-stay g t c =
     let first = c.in-Some.first.now in
     let all = each_watch c.args.watches.now first c.in-Some.rest.now
-    c.in-Some.ensures.cases.0 c.requires in (
+    c.in-Some.ensures.cases.0 c.requires.watches in (
       watch_same first c.prepare_all.new.self all.0 c.in_err-prepare_all.ensures.filter
           c.in_err-prepare_all.ensures.kept c.in_err-prepare_all.ensures.err,
       all.1,
@@ -31,7 +35,7 @@ pub returns-in-Err-clause-stay : goal.returns-in-Err-clause-stay
 returns-in-Err-clause-stay g t c =
     let first = c.in-Some.first.now in
     let all = each_watch c.args.watches.now first c.in-Some.rest.now
-    c.in-Some.ensures.cases.0 c.requires in (
+    c.in-Some.ensures.cases.0 c.requires.watches in (
       watch_same first c.back_out_all.new.self all.0 (c.back_out_all.ensures.filter
           ∙ c.in_ok-prepare_all.ensures.filter) (c.back_out_all.ensures.kept
           ∙ c.in_ok-prepare_all.ensures.kept)
@@ -44,7 +48,7 @@ pub returns-clause-stay : goal.returns-clause-stay
 returns-clause-stay g t c =
     let first = c.in-Some.first.now in
     let all = each_watch c.args.watches.now first c.in-Some.rest.now
-    c.in-Some.ensures.cases.0 c.requires in
+    c.in-Some.ensures.cases.0 c.requires.watches in
     let judged = c.in_ok-judged.judged.items in
     let prepared = c.prepare_all.new.self in
     let ahead : IsAhead first.kept judged prepared.due =
@@ -102,3 +106,25 @@ returns-in_err-judged-clause-counted g t c = λ flat.
     more_read c.args.t c.args.watches.now c.in-Some.first.now c.in-Some.rest.now _ _ _
     c.in-Some.ensures.cases.0 (c.in_err-judged.ensures.counted flat)
     (none_read c.args.t (map view_of_watch c.in-Some.rest.now) _)
+
+-- ---- what the flips tell
+pub returns-in_default-clause-flips : goal.returns-in_default-clause-flips
+returns-in_default-clause-flips g t c = λ known.
+    from_none c.args.at (map view_of_watch c.args.watches.now) c.args.flips.now known
+
+pub returns-clause-flips : goal.returns-clause-flips
+returns-clause-flips g t c = λ known.
+    let first = c.in-Some.first.now in
+    let made = c.commit_all.new.self in
+    let turned = c.turn_each.new in
+    let last = c.commit_all.new.flips in
+    let told = c.commit_all.ensures.flips known in
+    subst (λ (l : List Watching). TellsFrom c.args.at (holding (map view_of_watch l))
+    (holding (view_of_watch made ∷ map view_of_watch turned.watches)) c.args.flips.now last)
+    (sym c.in-Some.ensures.cases.0)
+    (from_first c.args.at (view_of_watch first) (view_of_watch made)
+    (map view_of_watch c.in-Some.rest.now) (map view_of_watch turned.watches) c.args.flips.now
+    turned.flips last (c.in_default-turn_each.ensures.flips told.known)
+    (subst (λ (k : List (List ℕ × Verdict)). TellsAt c.args.at (λ key. (verdict_at k key).holds)
+    (λ key. (verdict_at made.kept key).holds) turned.flips last)
+    c.in_ok-prepare_all.ensures.kept told))

@@ -2,6 +2,7 @@ use Rattle.std.proofs.Common.{◌≤◌, ◌+◌, ◌*◌, sym, subst, arith}
 use Rattle.agg_types.specs.declared.event.What.{What}
 use Rattle.book.specs.Held.{Follows}
 use Rattle.book.specs.Reads.{IsFewFor, filters_at}
+use Rattle.book.proofs.ToldAll.{stays_told}
 use Rattle.book.proofs.Verdicts.{stays_kept}
 use Rattle.book.proofs.held.Held.follow.Goals as goal
 
@@ -26,3 +27,18 @@ returns-in-Put-clause-few c = λ state sound follows held kept.
     + 505 * filters_at state c.in-Put.table = c.touch.ensures.few state held in
     subst (λ (w : What). IsFewFor state c.args.machine.now w c.touch.new.meter.evals)
     (sym c.in-Put.is) (omega (arith, few, c.requires.fresh))
+
+pub returns-in-Sit-clause-flips : goal.returns-in-Sit-clause-flips
+returns-in-Sit-clause-flips c = λ state sound follows held.
+    stays_told state c.args.machine.now c.args.flips.now
+    (subst (λ (w : What). Follows w state c.args.machine.now) c.in-Sit.is follows)
+
+pub returns-in-Open-clause-flips : goal.returns-in-Open-clause-flips
+returns-in-Open-clause-flips c = λ state sound follows held.
+    stays_told state c.args.machine.now c.args.flips.now
+    (subst (λ (w : What). Follows w state c.args.machine.now) c.in-Open.is follows)
+
+pub returns-in-Leave-clause-flips : goal.returns-in-Leave-clause-flips
+returns-in-Leave-clause-flips c = λ state sound follows held.
+    stays_told state c.args.machine.now c.args.flips.now
+    (subst (λ (w : What). Follows w state c.args.machine.now) c.in-Leave.is follows)

@@ -3,9 +3,10 @@ use Rattle.std.specs.List.{list_any}
 use Rattle.agg_types.specs.declared.config.Filter.{Filter}
 use Rattle.fleet_model.specs.State.{State}
 use Rattle.standing_filters.specs.Watched.{AreTouched}
-use Rattle.book.specs.Held.{AreHeld, living_in, sums_in}
+use Rattle.book.specs.Held.{AreAll, AreHeld, living_in, sums_in}
 use Rattle.book.proofs.FewReads.{touched_few}
-use Rattle.book.proofs.Verdicts.{elsewhere_kept, from_ok, touched_held}
+use Rattle.book.proofs.ToldAll.{elsewhere_told, kept_told}
+use Rattle.book.proofs.Verdicts.{elsewhere_kept, from_ok, kept_holds, touched_held}
 use Rattle.book.proofs.held.Held.touch.Goals as goal
 
 pub returns-then-not-has_filter-clause-held : goal.returns-then-not-has_filter-clause-held
@@ -50,3 +51,39 @@ returns-else-is_err-clause-few c = λ state held.
     c.args.key.now c.args.self.now.standing c.in-Some.standing c.args.meter.now.evals
     c.touch.new.meter.evals c.requires.sound held c.in-Some.is
     (ap (λ (s : State). s.moment) c.machine.view_is) c.new-values.ensures c.touch.ensures.counted
+
+-- ---- what the flips tell
+pub returns-then-not-has_filter-clause-flips : goal.returns-then-not-has_filter-clause-flips
+returns-then-not-has_filter-clause-flips c = λ state sound changes held.
+    let none : list_any (λ (f : Filter). f.table == c.args.table)
+    c.args.machine.now.config.filters ≡ false =
+    ap (λ (s : State). list_any (λ (f : Filter). f.table == c.args.table) s.config.filters)
+    (sym c.machine.view_is)
+    ∙ ap (list_any (λ (f : Filter). f.table == c.args.table)) (sym c.as_slice.ensures)
+    ∙ sym c.has_filter.ensures ∙ c.if-not-has_filter.true in
+    elsewhere_told state c.args.machine.now c.args.table c.args.flips.now (record {
+      config = changes.config;
+      moment = changes.moment;
+      others = λ t other apart. changes.others t other (inl apart);
+    }) none
+
+pub returns-else-is_err-clause-flips : goal.returns-else-is_err-clause-flips
+returns-else-is_err-clause-flips c = λ state sound changes held.
+    let later : State = c.args.machine.now in
+    let old = c.in-Some.standing.filters in
+    let new = c.touch.new.self.filters in
+    let moment : c.machine.inside.moment ≡ later.moment =
+    ap (λ (s : State). s.moment) c.machine.view_is in
+    let done = sym c.is_err.ensures.value ∙ c.if-is_err.false in
+    let before : AreAll state old = subst (AreHeld state) c.in-Some.is held in
+    let after : AreAll later new =
+    touched_held c.touch_keeps_verdicts.ensures state later c.args.table c.args.key.now old new
+    changes
+    (subst (λ (t : ℕ). AreTouched (sums_in later) (living_in later) c.args.table c.args.key.now t
+    old new) moment
+    (subst (λ (s : State). AreTouched (sums_in s) (living_in s) c.args.table c.args.key.now
+    c.machine.inside.moment old new) c.new-values.ensures
+    (from_ok c.touch.result done c.touch.ensures.ok))) before in
+    kept_told state later old new c.args.flips.now c.touch.new.flips
+    (kept_holds state old sound before) (kept_holds later new c.requires.sound after)
+    changes.config (from_ok c.touch.result done c.touch.ensures.flips)

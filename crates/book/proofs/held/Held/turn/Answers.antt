@@ -1,9 +1,10 @@
 use Rattle.std.proofs.Common.{◌≡◌, ◌∙◌, ℕ, sym, ap, subst}
 use Rattle.fleet_model.specs.State.{State}
 use Rattle.standing_filters.specs.Turns.{AreTurned}
-use Rattle.book.specs.Held.{AreHeld, living_in, sums_in}
+use Rattle.book.specs.Held.{AreAll, AreHeld, living_in, sums_in}
 use Rattle.book.proofs.FewReads.{none_due, turned_calm, turned_few}
-use Rattle.book.proofs.Verdicts.{from_ok, turned_held}
+use Rattle.book.proofs.ToldAll.{kept_told}
+use Rattle.book.proofs.Verdicts.{from_ok, kept_holds, turned_held}
 use Rattle.book.proofs.held.Held.turn.Goals as goal
 
 pub returns-else-is_err-clause-held : goal.returns-else-is_err-clause-held
@@ -48,3 +49,21 @@ returns-else-is_err-clause-calm c = λ state sound goes held still.
 pub returns-in_default-clause-few : goal.returns-in_default-clause-few
 returns-in_default-clause-few c = λ state sound goes held.
     none_due state c.args.machine.now.moment c.args.meter.now.evals c.requires.fresh
+
+-- ---- what the flips tell
+pub returns-else-is_err-clause-flips : goal.returns-else-is_err-clause-flips
+returns-else-is_err-clause-flips c = λ state sound goes held.
+    let later : State = c.args.machine.now in
+    let old = c.in-Some.standing.filters in
+    let new = c.moment.new.self.filters in
+    let moment : c.machine.inside.moment ≡ later.moment =
+    ap (λ (s : State). s.moment) c.machine.view_is in
+    let done = sym c.is_err.ensures.value ∙ c.if-is_err.false in
+    let before : AreAll state old = subst (AreHeld state) c.in-Some.is held in
+    let after : AreAll later new =
+    turned_held c.moment_keeps_verdicts.ensures state later old new sound c.requires.sound goes
+    (subst (λ (t : ℕ). AreTurned (sums_in later) (living_in later) t old new) moment
+    (from_ok c.moment.result done c.moment.ensures.ok)) before in
+    kept_told state later old new c.args.flips.now c.moment.new.flips
+    (kept_holds state old sound before) (kept_holds later new c.requires.sound after) goes.config
+    (from_ok c.moment.result done c.moment.ensures.flips)

@@ -1,7 +1,7 @@
 use Rattle.std.proofs.Common.{◌≡◌, drop, ap, ◌∙◌, arith}
 use Rattle.left_right.specs.Sides.{view}
 use Rattle.hub.specs.Copied.{Copy, all_taken, whole}
-use Rattle.hub.proofs.Held.{opened_whole, pressed_whole}
+use Rattle.hub.proofs.Held.{pressed_whole}
 use Rattle.hub.proofs.Publishes.{begins, whole_is}
 use Rattle.hub.proofs.press.Press.new.Goals as goal
 
@@ -9,18 +9,16 @@ pub new-requires-clause-rule : goal.new-requires-clause-rule
 new-requires-clause-rule g c =
     let x = c.new-first.result in
     let made = c.new-first.ensures in
-    let is : x.copied ≡ whole c.args.front = opened_whole x.copied c.args.front
-    (ap (λ (y : Copy). y.copied.at) made ∙ c.again.ensures)
-    (ap (λ (y : Copy). y.copied.state) made ∙ c.requires.opened.0) c.requires.empty in
+    let is : x.copied ≡ whole c.args.front = ap (λ (y : Copy). y.copied) made
+    ∙ ap whole c.again.ensures in
     begins x (whole_is x.copied c.args.front is)
 
 pub show-writer-requires-clause-brings : goal.show-writer-requires-clause-brings
 show-writer-requires-clause-brings g c =
     let x = c.new-first.result in
     let made = c.new-first.ensures in
-    let is : x.copied ≡ whole c.args.front = opened_whole x.copied c.args.front
-    (ap (λ (y : Copy). y.copied.at) made ∙ c.again.ensures)
-    (ap (λ (y : Copy). y.copied.state) made ∙ c.requires.opened.0) c.requires.empty in
+    let is : x.copied ≡ whole c.args.front = ap (λ (y : Copy). y.copied) made
+    ∙ ap whole c.again.ensures in
     ap (all_taken c.in_ok-writer.writer.desk.shown.value.copied) c.in_ok-writer.ensures.1
     ∙ (ap (λ (y : Copy). y.copied) c.in_ok-writer.ensures.0 ∙ is)
 

@@ -1,7 +1,8 @@
-use Rattle.std.proofs.Common.{◌≡◌, None, sym, subst}
+use Rattle.std.proofs.Common.{◌≡◌, ◌∙◌, None, Option, is_some, sym, ap, subst, rules}
 use Rattle.std.specs.Prelude.{MatchBool}
+use Rattle.standing_filters.specs.declared.judging.Verdict.{Verdict}
 use Rattle.standing_filters.specs.Plans.{Becomes, IsWatch, Watching, kept_at}
-use Rattle.standing_filters.proofs.Touched.{watch_entered, watch_forgotten, watch_or_back}
+use Rattle.standing_filters.proofs.Touched.{watch_entered, watch_forgotten}
 use Rattle.standing_filters.proofs.watch.Watch.change.Goals as goal
 
 pub returns-then-is_out-clause-stay : goal.returns-then-is_out-clause-stay
@@ -14,14 +15,11 @@ returns-clause-stay c =
     let key = c.args.key.now in
     let old = c.args.self.now in
     let same = c.replace.new.self in
-    let none : (kept_at old.kept key ≡ None) × (same ≡ old) =
-    subst (λ b. MatchBool b (Becomes key c.args.verdict old.kept same.kept)
-    ((kept_at old.kept key ≡ None) × (same ≡ old))) c.if-branch.false
-    c.in_ok-replace.ensures.kept in
-    let watch : IsWatch same = subst IsWatch (sym none.1) c.requires in
+    let none : c.in_ok-old.field-0 ≡ None = search rules in
+    let back : same ≡ old = subst (λ (o : Option Verdict). MatchBool (is_some o)
+    (Becomes key c.args.verdict old.kept same.kept) (same ≡ old)) none c.in_ok-old.ensures.kept in
+    let watch : IsWatch same = subst IsWatch (sym back) c.requires in
     let room : kept_at same.kept key ≡ None =
-    subst (λ (w : Watching). kept_at w.kept key ≡ None) (sym none.1) none.0 in
-    watch_or_back c.enter.result same c.enter.new.self watch
-    (λ plan becomes. watch_entered key c.args.verdict same c.enter.new.self watch
-    c.enter.ensures.filter room plan becomes) c.enter.ensures.planned c.enter.ensures.kept
-    c.enter.ensures.err
+    ap (λ (w : Watching). kept_at w.kept key) back ∙ sym c.in_ok-old.ensures.found ∙ none in
+    watch_entered key c.args.verdict same c.enter.new.self watch c.in_ok-enter.ensures.filter room
+    c.in_ok-enter.ensures.planned c.in_ok-enter.ensures.kept

@@ -1,13 +1,15 @@
-use Rattle.std.proofs.Common.{◌≡◌, ◌∙◌, sym, ap, subst, length}
+use Rattle.std.proofs.Common.{◌≡◌, ◌∙◌, [], ◌∷◌, sym, ap, subst, length}
 use Rattle.agg_types.specs.declared.event.Event.{Event}
 use Rattle.fleet_model.specs.Machine.{after, event_of}
 use Rattle.fleet_model.specs.Sound.{IsSound}
 use Rattle.fleet_model.specs.State.{State}
 use Rattle.book.specs.Held.{Follows, IsCalm, keys_in}
 use Rattle.book.specs.Reads.{IsFewFor, IsQuietTo}
+use Rattle.book.specs.Flips.{TellsAllIfKnown}
+use Rattle.book.proofs.ToldAll.{tells_one}
 use Rattle.book.proofs.Following.{follows}
 use Rattle.book.proofs.FewReads.{calm_after, keys_stay}
-use Rattle.book.proofs.book.Book.apply_at.Goals as goal
+use Rattle.book.proofs.book.Book.apply_telling.Goals as goal
 
 pub invariant_of-self-2 : goal.invariant_of-self-2
 invariant_of-self-2 c =
@@ -48,3 +50,15 @@ returns-clause-few c = λ kept.
     (c.follow-anew.ensures.few state c.self.invariant.sound
     (subst (Follows c.args.what.now state) (sym turned) (follows state e c.self.invariant.sound))
     c.self.invariant.held kept)
+
+pub returns-clause-flips : goal.returns-clause-flips
+returns-clause-flips c =
+    let state : State = c.self.inside.machine in
+    let e : Event = event_of c.args.seat c.args.seq c.args.what.now in
+    let turned : c.apply.new.self ≡ after state e = c.in_ok-applied.ensures.ok in
+    subst (λ (s : State). TellsAllIfKnown s (e ∷ []) c.args.flips.now c.follow-anew.new.flips)
+    c.self.view_is
+    (tells_one state c.apply.new.self e c.args.flips.now c.follow-anew.new.flips turned
+    (c.follow-anew.ensures.flips state c.self.invariant.sound
+    (subst (Follows c.args.what.now state) (sym turned) (follows state e c.self.invariant.sound))
+    c.self.invariant.held))
