@@ -1,26 +1,20 @@
 -- An admin at work: how it goes on, and how it stops.
-use Rattle.std.proofs.Common.{◌≡◌, Bool, true, false, ℕ, ◌==◌, inl, inr, List, [], ◌∷◌, ◌++◌}
+use Rattle.std.proofs.Common.{◌≡◌, Bool, true, false, ℕ, inl, inr, List, [], ◌∷◌, ◌++◌}
 use Rattle.std.proofs.Common.{Option, None, Some, Err, IfSome, codes, refl, sym, ap, ◌∙◌}
 use Rattle.std.proofs.Common.{subst, append-nil, append_assoc}
 use Rattle.std.specs.Io.KnownBytes.{Appends}
 use Rattle.std.specs.Bool.{if◌then◌else◌}
 use Rattle.std.specs.Option.{option_to_list}
-use Rattle.std.proofs.lemmas.List.Elements.{filter-append}
-use mathlib.Core.List.{IsPrefix}
 use Rattle.agg_types.specs.Fits.{fits}
 use Rattle.agg_types.specs.declared.config.Config.{Config}
-use Rattle.agg_types.specs.declared.event.Event.{Event}
 use Rattle.agg_types.specs.declared.event.What.{What}
-use Rattle.agg_types.specs.declared.event.What.TheVariants.{Sit}
-use Rattle.fleet_model.specs.Seats.{numbered}
 use Rattle.fleet_model.specs.State.{IsStateOf, State}
 use Rattle.show_clear.specs.Change.{ChangeFits, asked_event}
 use Rattle.show_clear.specs.declared.command.Command.{Command}
 use Rattle.show_clear.specs.declared.command.Change.TheVariants.{Clear, AddFilter, DropFilter}
 use Rattle.show_clear.specs.declared.command.Command.TheVariants.{Ask, Change as Changes}
-use Rattle.hub.proofs.Fronts.{prefix_trans}
 use Rattle.hub.proofs.Rolling.{fits_at}
-use Rattle.hub.specs.History.{Beginning, own}
+use Rattle.hub.specs.History.{Beginning}
 use Rattle.hub.specs.Posts.{Follows}
 use Rattle.hub.specs.Roll.{MayPost}
 use Rattle.hub.specs.Views.{IsBookOf, Seeing}
@@ -38,7 +32,7 @@ use Rattle.serve.specs.Commanding.{Stops, Works, WorksIf}
 use Rattle.serve.specs.Commanding.{kept_of, reply_of}
 use Rattle.serve.specs.Faults.{cause_of_line}
 use Rattle.serve.specs.Status.{IsStatus, asked_in, quits}
-use Rattle.serve.specs.Told.{HasTold, IsServed, TellsLast, stored_of}
+use Rattle.serve.specs.Told.{HasTold, IsServed, stored_of}
 use Rattle.serve.specs.Traffic.{Traffic, so_far}
 use Rattle.serve.specs.Turns.{WroteFront}
 use Rattle.serve.specs.declared.admin.Answered.{Answered}

@@ -11,3 +11,4 @@ pub mod Sent
 pub mod Pieces
 pub mod Commanded
 pub mod Kept
+pub mod Moving

@@ -3,7 +3,6 @@ use Rattle.std.proofs.Common.{◌≡◌, ℕ, Bool, List, [], ◌∷◌, ◌++�
 use Rattle.std.proofs.Common.{sym, ap, subst, ◌∙◌}
 use Rattle.std.specs.Prelude.{is_some, true}
 use Rattle.std.specs.Io.KnownBytes.{Appends}
-use Rattle.agg_types.specs.declared.event.What.{What}
 use Rattle.session_core.specs.Piece.{Setup, setup_of}
 use Rattle.session_core.specs.Talk.{stage_of, talk}
 use Rattle.session_core.specs.TalkAnswers.{OpensWith}
@@ -11,7 +10,7 @@ use Rattle.hub.specs.History.{Beginning}
 use Rattle.serve.proofs.Tellings.{equipped, is_telling, some_fact, telling_of, turn_says, turned}
 use Rattle.serve.proofs.Tellings.{unturned}
 use Rattle.serve.proofs.Works.{wrote_more}
-use Rattle.serve.specs.declared.pushing.Pushing.{Pushing}
+use Rattle.serve.specs.Knowing.{Pushing}
 use Rattle.serve.specs.declared.served.Cause.TheVariants.{Write}
 use Rattle.serve.specs.declared.worker.Worker.{Worker}
 use Rattle.serve.specs.Tellings.{Equips, TellsOn, TurnsTo}

@@ -1,6 +1,6 @@
 -- What a session tells, turn by turn.
 use Rattle.std.proofs.Common.{◌≡◌, ℕ, Bool, List, [], ◌∷◌, ◌++◌, length, drop, Option, None, Some}
-use Rattle.std.proofs.Common.{◌⊎◌, ◌+◌, ◌<◌, true, false, IfSome, inl}
+use Rattle.std.proofs.Common.{◌+◌, ◌<◌, true, false, IfSome, inl}
 use Rattle.std.proofs.Common.{inr, refl, sym, ap, subst, ◌∙◌}
 use Rattle.std.proofs.Common.{arith, get_or, map, take}
 use Rattle.std.proofs.lemmas.Bool.Decides.{nat_tests}
@@ -23,12 +23,11 @@ use Rattle.telling.proofs.Brought.{marks_at, set_from, set_held, set_marks, set_
 use Rattle.telling.proofs.Brought.{told_of}
 use Rattle.serve.proofs.Later.{follows_on, follows_self, shows_last}
 use Rattle.serve.specs.declared.poster.Poster.{Poster}
-use Rattle.serve.specs.declared.pushing.Pushing.{Pushing}
-use Rattle.serve.specs.Tellings.{AreTellings, Equips, HoldsLast, HoldsSet, IsBroughtTo}
+use Rattle.serve.specs.Knowing.{Pushing}
+use Rattle.serve.specs.Tellings.{AreTellings, Equips, HoldsLast, IsBroughtTo}
 use Rattle.serve.specs.Tellings.{IsExact, IsPushing, IsTelling, KeepsTold, LooksBack, SeesMore}
 use Rattle.serve.specs.Tellings.{SeesShown, ShowsPosted, SomeTelling, StoodIn, TellsOn, TurnsOver}
 use Rattle.serve.specs.Tellings.{asked_pushing, shown_by}
-use Rattle.serve.specs.Told.{HasTold}
 use Rattle.serve.specs.Turns.{Beat, PosterTells, Piece, Tell, Telling, Turn, answer_at, asked_if}
 use Rattle.serve.specs.Turns.{facts_in, pushed_in, seat_at, set_named, sets_in, taken_in, told_in}
 use Rattle.session_core.specs.Asking.{asks_all}

@@ -4,6 +4,8 @@ pub mod Status
 pub mod Told
 pub mod Traffic
 pub mod Turns
+pub mod Knowing
+pub mod Gathering
 pub mod Tellings
 pub mod Working
 pub mod Waiting

@@ -9,7 +9,7 @@ use Rattle.hub.specs.Posts.{Follows}
 use Rattle.hub.specs.Views.{IsBookOf, Seeing}
 use Rattle.fleet_model.specs.State.{State}
 use Rattle.serve.specs.declared.poster.Poster.{Poster}
-use Rattle.serve.specs.declared.pushing.Pushing.{Pushing}
+use Rattle.serve.specs.Knowing.{Pushing}
 use Rattle.serve.specs.Commands.{ShowsTold}
 use Rattle.serve.specs.Turns.{Telling, Turn, Piece, Beat, Tell, asked_if, facts_in, pushed_in}
 use Rattle.serve.specs.Turns.{set_named, sets_in, told_in}
@@ -122,13 +122,6 @@ pub record Brings (pushed : List Pushed) (old new : Told) (seen : Beginning) (te
   pub stands : IsBookOf book seen
   pub says : text ≡ turn_text pushed (sets_in pushed book) book.moment old
   pub told : new ≡ told_after pushed (sets_in pushed book) book.moment old
-
--- a turn over a list says this, or nothing, and all is as before
-abbrev pub SaysTo : Pushing → Pushing → Beginning → Option (List ℕ) → Type 0
-SaysTo old new seen None = new ≡ old
-SaysTo old new seen (Some text) =
-    (new ≡ record old { teller = new.teller })
-    × Brings old.pushed old.teller new.teller seen text
 
 -- what a poster posted last, if there is one and it did, is of the history that a lens sees
 abbrev pub MayShow : Option Poster → Beginning → Type 0

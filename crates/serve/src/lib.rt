@@ -25,6 +25,7 @@ mod faults;
 mod gate;
 mod hello;
 mod lines;
+mod moves;
 mod poster;
 mod pushing;
 mod scout;
