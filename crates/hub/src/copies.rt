@@ -62,7 +62,8 @@ pub struct Shown {
     trail: Trail,
     // What the book tells of its filters' sets while it takes something.
     flips: Flips,
-    // What it told of the trail. None behind more events than are counted.
+    // What it told of the trail. None where nothing is pushed, and behind more events than are
+    // counted.
     changes: Option<Changes>,
 }
 
@@ -109,13 +110,14 @@ impl Shown {
         ensures { result ≡ record { copied = whole at; part = false } }
     {
         let trail = Trail::open(&book);
+        let changes = opened_changes(alloc, &book);
         Shown {
             book,
             at,
             rest: None,
             trail,
             flips: Flips::new(alloc),
-            changes: Some(Changes::new(alloc)),
+            changes,
         }
     }
 
@@ -202,6 +204,17 @@ impl Shown {
         }
         Ok(())
     }
+}
+
+// The changes of a book that was just opened. None are kept where the configuration pushes nothing,
+// since nobody asks for them then.
+fn opened_changes(alloc: Global, book: &Book) -> Option<Changes>
+    ensures { (sets : Sets) → IfSome result (λ n. AreChangesOf n sets []) }
+{
+    if book.config().pushes.is_empty() {
+        return None;
+    }
+    Some(Changes::new(alloc))
 }
 
 // Notes what a book told of so many events more, unless there are more than are counted.

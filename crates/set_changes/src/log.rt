@@ -68,6 +68,8 @@ impl Log {
         } else {
             self.stayed.saturating_sub(1)
         };
+        // Two may go for one that comes, so a log shrinks once its set does.
+        self.trim(number);
         self.trim(number);
     }
 

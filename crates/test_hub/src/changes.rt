@@ -10,11 +10,27 @@ use hub::{Change, Hub, Lens, Naming, Opening, Pass};
 use std::alloc::Global;
 use std::sync::Wait;
 use test_hub_support::{lens, post, sit};
+use test_support::config;
 
 /// The keys of two rows, of which one comes 500 ms before the other.
 const EARLY: [&[u8]; 1] = [b"early"];
 
 const LATE: [&[u8]; 1] = [b"late"];
+
+/// The fleet of two proxies, of which a filter's set is pushed.
+const PUSHING: &[u8] = b"name agg
+peer lb1
+peer lb2
+table t type string len 64 size 1000 store gpc0
+filter p t data.gpc0 gt 9
+push p
+";
+
+/// That fleet, just opened.
+pub fn pushing(alloc: Global) -> Result<Opening> {
+    let config = config(alloc, PUSHING)?;
+    Ok(Opening::new(alloc, config, 0)?)
+}
 
 /// Prints changes, a line each.
 fn print_each<W: Print>(rt: &W, changes: &[&Change]) -> Result<()> {
@@ -26,7 +42,7 @@ fn print_each<W: Print>(rt: &W, changes: &[&Change]) -> Result<()> {
     Ok(())
 }
 
-/// Prints what a look tells of the first filter behind so many first events.
+/// Prints what a look tells of the second filter behind so many first events.
 fn tell<W: Print>(rt: &W, alloc: Global, lens: &mut Lens, since: u64) -> Result<()>
     ensures { lens.new.seen.of ≡ lens.old.seen.of }
 {
@@ -36,7 +52,7 @@ fn tell<W: Print>(rt: &W, alloc: Global, lens: &mut Lens, since: u64) -> Result<
     let count = look.receipt().len();
     let keys = keys_named(alloc, look.book(), b"f")?.len();
     println!(rt; "behind {since} of {count} events, with {keys} keys in the set:")?;
-    match look.changes(0, since)? {
+    match look.changes(1, since)? {
         None => println!(rt; "  not known")?,
         Some(changes) => print_each(rt, changes.as_slice())?,
     }

@@ -16,7 +16,7 @@ mod seats;
 mod shown;
 
 use anyhow::Result;
-use changes::follow;
+use changes::{follow, pushing};
 use no_memory::{fleet_opened, opened};
 use posting::{late, run_alone};
 use std::env::Env;
@@ -29,7 +29,7 @@ fn main(rt: HostRuntime) -> Result<()> {
     if !is_again {
         run_alone::<Brand, HostRuntime>(&rt, alloc, opening(alloc)?)?;
         late::<Brand, HostRuntime>(&rt, alloc, opening(alloc)?)?;
-        follow::<Brand, HostRuntime>(&rt, alloc, fleet_opened(alloc)?)?;
+        follow::<Brand, HostRuntime>(&rt, alloc, pushing(alloc)?)?;
     }
     for _ in 0..2 {
         if opened::<Brand, HostRuntime>(&rt, alloc, fleet_opened(alloc)?)? {

@@ -1,8 +1,7 @@
 use Rattle.std.proofs.Common.{false, sym, subst, refl, ap}
-use Rattle.hub.specs.Changing.{sets_of}
+use Rattle.hub.specs.Changing.{AreKeptOf, sets_of}
 use Rattle.hub.specs.Copied.{Copied}
 use Rattle.hub.specs.Trailed.{StandsAt, Trailed}
-use Rattle.set_changes.specs.Numbered.{AreChangesOf}
 use Rattle.hub.proofs.Held.{opened_whole}
 use Rattle.hub.proofs.Trailing.{stands_opened}
 use Rattle.hub.proofs.copies.Shown.new.Goals as goal
@@ -12,9 +11,8 @@ invariant_of-result c = (
   tt,
   subst (λ (t : Trailed). StandsAt c.args.book t) (sym c.open-trail.ensures)
       (stands_opened c.args.book c.args.at.config c.args.at.opening c.requires.opened),
-  subst (λ (t : Trailed). AreChangesOf c.new-2.result (sets_of t.config t.opening) t.events)
-      (sym c.open-trail.ensures)
-      (c.new-2.ensures (sets_of c.args.book.config c.args.book.moment)),
+  subst (λ (t : Trailed). AreKeptOf c.opened_changes-changes.result t) (sym c.open-trail.ensures)
+      (c.opened_changes-changes.ensures (sets_of c.args.book.config c.args.book.moment)),
 )
 
 pub returns : goal.returns
