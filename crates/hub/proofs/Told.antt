@@ -57,7 +57,8 @@ Notes kept later told events = (sets : Sets) (early late : List Event)
 pub moved_on : (book new : State) (trail later : Trailed) (kept kept' : Option Numbered)
     (more : List Event) (old told : Flipped) (events : ℕ) → StandsAt book trail
     → AreKeptOf kept trail → new ≡ fold after book more → later ≡ further trail more
-    → old ≡ none_yet → TellsAllIfKnown book more old told → length more ≡ events
+    → (old.lost ≡ false → old ≡ none_yet) → TellsAllIfKnown book more old told
+    → length more ≡ events
     → Notes kept kept' told events → StandsAt new later × AreKeptOf kept' later
 unfolding IsStateOf
 moved_on book new trail later kept kept' more old told events is are took notes none tells count
@@ -65,8 +66,8 @@ moved_on book new trail later kept kept' more old told events is are took notes 
     let stands = stands_on book new trail more is took in
     let keeps : AreKeptOf kept' (further trail more) =
     noted (sets_of trail.config trail.opening) trail.events more are count
-    (λ known. flips_told trail.config trail.opening trail.events more book old told is none
-    (tells known)) in
+    (λ known. flips_told trail.config trail.opening trail.events more book old told is
+    (none (tells known).known) (tells known)) in
     (subst (StandsAt new) (sym notes) stands, subst (AreKeptOf kept') (sym notes) keeps)
 
 -- ---- what is told of it

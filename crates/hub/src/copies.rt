@@ -4,6 +4,7 @@ ghost use Rattle.std.specs.Prelude.{◌≡◌, ◌∷◌, ◌++◌, [], List, tr
 ghost use Rattle.std.specs.Prelude.{IfOk, IfSome, OnOk, OnErr};
 ghost use Rattle.agg_types.specs.declared.event.Event.{Event};
 ghost use Rattle.set_changes.specs.Numbered.{AreChangesOf, FlipsSay, Sets};
+ghost use Rattle.standing_filters.specs.Flips.{none_yet};
 ghost use Rattle.hub.specs.Batches.{events_in};
 ghost use Rattle.hub.specs.Changing.{SayBehind};
 ghost use Rattle.fleet_model.specs.Machine.{opened};
@@ -157,7 +158,7 @@ impl Shown {
         let Some(mut rest) = self.rest.take() else {
             return true;
         };
-        self.flips.begin();
+        begin_flips(&self.changes, &mut self.flips);
         let done = rest.batch.go_on(&mut self.book, rest.done, &mut self.flips);
         note_changes(&mut self.changes, &self.flips, (done - rest.done) as u64);
         self.trail.add_part(&rest.batch, rest.done, done);
@@ -176,7 +177,7 @@ impl Shown {
             ≡ taken self.old.copied (record { events = event.now ∷ []; at = at.now })) }
         ensures err { OnErr result (self.new.copied ≡ self.old.copied) }
     {
-        self.flips.begin();
+        begin_flips(&self.changes, &mut self.flips);
         self.book.step_telling(event, &mut self.flips)?;
         note_changes(&mut self.changes, &self.flips, 1);
         self.trail.add(event);
@@ -194,7 +195,7 @@ impl Shown {
         let Some(batch) = run.share() else {
             return Err(NoMemory);
         };
-        self.flips.begin();
+        begin_flips(&self.changes, &mut self.flips);
         let done = run.apply(&mut self.book, &mut self.flips);
         note_changes(&mut self.changes, &self.flips, done as u64);
         self.trail.add_part(run.batch(), 0, done);
@@ -215,6 +216,17 @@ fn opened_changes(alloc: Global, book: &Book) -> Option<Changes>
         return None;
     }
     Some(Changes::new(alloc))
+}
+
+// Has a book tell anew what changes in the sets, or nothing where no changes are kept.
+fn begin_flips(changes: &Option<Changes>, flips: &mut Flips)
+    ensures { flips.new.lost ≡ false → flips.new ≡ none_yet }
+{
+    if changes.is_none() {
+        flips.lose();
+    } else {
+        flips.begin();
+    }
 }
 
 // Notes what a book told of so many events more, unless there are more than are counted.

@@ -14,10 +14,10 @@ invariant_of-self-then-done-len c =
     let on = c.go_on-done.ensures in
     let moved = moved_on c.self.inside.book c.go_on-done.new.book c.self.inside.trail
     c.add_part.new.self c.self.inside.changes c.note_changes.new.changes (part_of b from to)
-    c.begin.new.self c.go_on-done.new.flips (to - from) c.self.invariant.1 c.self.invariant.2
+    c.begin_flips.new.flips c.go_on-done.new.flips (to - from) c.self.invariant.1 c.self.invariant.2
     on.applied.applied
     (noted_as c.self.inside.trail c.add_part.new.self c.deref-2.result.now b from to
-    (c.deref-2.ensures ∙ sym c.deref.ensures) c.add_part.ensures) c.begin.ensures on.flips
+    (c.deref-2.ensures ∙ sym c.deref.ensures) c.add_part.ensures) c.begin_flips.ensures on.flips
     (length-part b from to c.self.inside.book c.go_on-done.new.book on.applied on.within)
     c.note_changes.ensures in (
       subst (λ o. IfSome o (λ (r : Rest). r.done ≤ length (arc_value r.batch).whats))
@@ -34,10 +34,10 @@ invariant_of-self-2 c =
     let on = c.go_on-done.ensures in
     let moved = moved_on c.self.inside.book c.go_on-done.new.book c.self.inside.trail
     c.add_part.new.self c.self.inside.changes c.note_changes.new.changes (part_of b from to)
-    c.begin.new.self c.go_on-done.new.flips (to - from) c.self.invariant.1 c.self.invariant.2
+    c.begin_flips.new.flips c.go_on-done.new.flips (to - from) c.self.invariant.1 c.self.invariant.2
     on.applied.applied
     (noted_as c.self.inside.trail c.add_part.new.self c.deref-2.result.now b from to
-    (c.deref-2.ensures ∙ sym c.deref.ensures) c.add_part.ensures) c.begin.ensures on.flips
+    (c.deref-2.ensures ∙ sym c.deref.ensures) c.add_part.ensures) c.begin_flips.ensures on.flips
     (length-part b from to c.self.inside.book c.go_on-done.new.book on.applied on.within)
     c.note_changes.ensures in (
       subst (λ (b : Batched). to ≤ length b.whats) c.deref.ensures on.within,

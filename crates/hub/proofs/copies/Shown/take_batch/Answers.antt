@@ -12,10 +12,10 @@ invariant_of-self-then-done-len-2 c =
     let all : to - 0 ≡ to = omega arith in
     let moved = moved_on c.self.inside.book c.apply-done.new.book c.self.inside.trail
     c.add_part.new.self c.self.inside.changes c.note_changes.new.changes (part_of b 0 to)
-    c.begin.new.self c.apply-done.new.flips to c.self.invariant.1 c.self.invariant.2
+    c.begin_flips.new.flips c.apply-done.new.flips to c.self.invariant.1 c.self.invariant.2
     on.applied.applied
     (noted_as c.self.inside.trail c.add_part.new.self c.batch.result.now b 0 to c.batch.ensures
-    c.add_part.ensures) c.begin.ensures on.flips
+    c.add_part.ensures) c.begin_flips.ensures on.flips
     (length-part b 0 to c.self.inside.book c.apply-done.new.book on.applied on.within ∙ all)
     c.note_changes.ensures in (
       subst (λ (b : Batched). to ≤ length b.whats) (sym c.in-Some.ensures) on.within,
@@ -31,10 +31,10 @@ invariant_of-self-else-done-len c =
     let all : to - 0 ≡ to = omega arith in
     let moved = moved_on c.self.inside.book c.apply-done.new.book c.self.inside.trail
     c.add_part.new.self c.self.inside.changes c.note_changes.new.changes (part_of b 0 to)
-    c.begin.new.self c.apply-done.new.flips to c.self.invariant.1 c.self.invariant.2
+    c.begin_flips.new.flips c.apply-done.new.flips to c.self.invariant.1 c.self.invariant.2
     on.applied.applied
     (noted_as c.self.inside.trail c.add_part.new.self c.batch.result.now b 0 to c.batch.ensures
-    c.add_part.ensures) c.begin.ensures on.flips
+    c.add_part.ensures) c.begin_flips.ensures on.flips
     (length-part b 0 to c.self.inside.book c.apply-done.new.book on.applied on.within ∙ all)
     c.note_changes.ensures in
     (c.self.invariant.0, moved.0, moved.1)
