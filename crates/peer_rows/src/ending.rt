@@ -2,6 +2,9 @@
 //!
 //! A place is looked at when it is due. The rows that have ended are taken out one by one, and what
 //! is left is looked at later. Where a plan was missed, all places are looked at.
+//!
+//! A place that is emptied frees the word that names it. Where words stand that are wanted next is
+//! looked for together (`Ahead`), and each is a hint: no clause speaks of it.
 ghost use Rattle.std.specs.Prelude.{◌≡◌, ◌≢◌, ◌<◌, ◌≤◌, ◌↔◌, ℕ, [], ◌∷◌, Some, true, false, filter};
 ghost use Rattle.std.specs.Prelude.{length, IfSome, IfNone, IsSome, IsTrue};
 ghost use Rattle.std.specs.BTreeMap.{is_at};
@@ -14,9 +17,11 @@ ghost use Rattle.peer_rows.specs.Ends.{rows_at};
 ghost use Rattle.peer_rows.specs.Places.{in_order};
 ghost use Rattle.peer_rows.specs.Table.{IsKept, rows_in};
 
+use crate::ahead::Ahead;
 use crate::ends::Ends;
 use crate::index::KeyPlaces;
 use agg_types::Key;
+use place_index::Near;
 
 /// Keys whose last row has ended, each with the position of its table.
 pub(crate) type Gone = Vec<(usize, Key)>;
@@ -54,8 +59,51 @@ fn is_only(keys: &KeyPlaces, at: usize, peer: usize) -> bool
     }
 }
 
+// The peer of the only row in a place, if that has ended at a moment.
+fn only_ended(keys: &KeyPlaces, at: usize, t: u64) -> Option<usize>
+    ensures ended { IfSome result (HasEnded t (rows_at keys.now.places at)) }
+    ensures only { IfSome result
+        (λ peer. keys_of (rows_at keys.now.places at) ≡ peer ∷ []) }
+{
+    match keys.value(at) {
+        Some(rows) => rows.only_ended(t),
+        None => None,
+    }
+}
+
+// Empties a place, whose only row is a peer's, and answers the key.
+fn end_only(
+    keys: &mut KeyPlaces,
+    counts: &mut Vec<usize>,
+    at: usize,
+    near: Near,
+    peer: usize,
+) -> Option<Key>
+    requires kept { IsKept (in_order keys.old.places) counts.old.items }
+    requires held { IsSome (lookup (is_at (nat_cmp peer)) (rows_at keys.old.places at)) }
+    requires only { keys_of (rows_at keys.old.places at) ≡ peer ∷ [] }
+    ensures kept { IsKept (in_order keys.new.places) counts.new.items }
+    ensures peers { length counts.new.items ≡ length counts.old.items }
+    ensures rows { (t : ℕ) → HasEnded t (rows_at keys.old.places at) peer
+        → StayLive t keys.old.places keys.new.places }
+    ensures others { OthersStay at keys.old.places keys.new.places }
+    ensures none { rows_at keys.new.places at ≡ [] }
+    ensures fewer { length (rows_at keys.new.places at) < length (rows_at keys.old.places at) }
+{
+    let _distinct = keys.count();
+    counts[peer] -= 1;
+    let (key, _) = keys.remove_near(at, near)?;
+    Some(key)
+}
+
 // Takes a peer's row out of a place, and answers the key if it was its last.
-fn end_row(keys: &mut KeyPlaces, counts: &mut Vec<usize>, at: usize, peer: usize) -> Option<Key>
+fn end_row(
+    keys: &mut KeyPlaces,
+    counts: &mut Vec<usize>,
+    at: usize,
+    near: Near,
+    peer: usize,
+) -> Option<Key>
     requires kept { IsKept (in_order keys.old.places) counts.old.items }
     requires held { IsSome (lookup (is_at (nat_cmp peer)) (rows_at keys.old.places at)) }
     ensures kept { IsKept (in_order keys.new.places) counts.new.items }
@@ -65,19 +113,24 @@ fn end_row(keys: &mut KeyPlaces, counts: &mut Vec<usize>, at: usize, peer: usize
     ensures others { OthersStay at keys.old.places keys.new.places }
     ensures fewer { length (rows_at keys.new.places at) < length (rows_at keys.old.places at) }
 {
+    if is_only(keys, at, peer) {
+        return end_only(keys, counts, at, near, peer);
+    }
     let _distinct = keys.count();
     counts[peer] -= 1;
-    if is_only(keys, at, peer) {
-        let (key, _) = keys.remove(at)?;
-        return Some(key);
-    }
     let rows = keys.value_mut(at);
     let _ended = rows.take(peer);
     None
 }
 
 // Takes the rows out of a place that have ended at a moment, and answers the key if none is left.
-fn end_place(keys: &mut KeyPlaces, counts: &mut Vec<usize>, at: usize, t: u64) -> Option<Key>
+fn end_place(
+    keys: &mut KeyPlaces,
+    counts: &mut Vec<usize>,
+    at: usize,
+    near: Near,
+    t: u64,
+) -> Option<Key>
     requires { IsKept (in_order keys.old.places) counts.old.items }
     ensures kept { IsKept (in_order keys.new.places) counts.new.items }
     ensures peers { length counts.new.items ≡ length counts.old.items }
@@ -85,9 +138,12 @@ fn end_place(keys: &mut KeyPlaces, counts: &mut Vec<usize>, at: usize, t: u64) -
     ensures others { OthersStay at keys.old.places keys.new.places }
     ensures live { AreLive t (rows_at keys.new.places at) }
 {
+    if let Some(peer) = only_ended(keys, at, t) {
+        return end_only(keys, counts, at, near, peer);
+    }
     let mut gone = None;
     while let Some(peer) = first_ended(keys, at, t) {
-        gone = end_row(keys, counts, at, peer);
+        gone = end_row(keys, counts, at, near, peer);
     }
     gone
 }
@@ -98,6 +154,7 @@ fn look(
     ends: &mut Ends,
     counts: &mut Vec<usize>,
     at: usize,
+    near: Near,
     t: u64,
     table: usize,
     told: bool,
@@ -114,7 +171,7 @@ fn look(
     ensures missed { ends.new.missed ≡ false → ends.old.missed ≡ false }
     ensures due { count_due t ends.new.plans ≤ count_due t ends.old.plans }
 {
-    if let Some(key) = end_place(keys, counts, at, t)
+    if let Some(key) = end_place(keys, counts, at, near, t)
         && told
     {
         // Without memory a key isn't told.
@@ -143,8 +200,12 @@ pub(crate) fn end_due(
         ≡ filter (λ e. lives_at t e.1) (rows_in (in_order keys.old.places)) }
     ensures planned { ArePlanned keys.new.places ends.new }
 {
+    let mut ahead = Ahead::look(keys, &ends.plans, t);
     while let Some(at) = ends.plans.take_due(t) {
-        look(keys, ends, counts, at, t, table, told, gone);
+        look(keys, ends, counts, at, ahead.take(), t, table, told, gone);
+        if ahead.is_empty() {
+            ahead = Ahead::look(keys, &ends.plans, t);
+        }
     }
 }
 
@@ -168,6 +229,16 @@ pub(crate) fn end_all(
 {
     ends.missed = false;
     for at in 0..keys.places() {
-        look(keys, ends, counts, at, t, table, told, gone);
+        look(
+            keys,
+            ends,
+            counts,
+            at,
+            Near::nowhere(),
+            t,
+            table,
+            told,
+            gone,
+        );
     }
 }

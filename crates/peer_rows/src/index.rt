@@ -16,7 +16,7 @@ use crate::ending::{Gone, end_all, end_due};
 use crate::ends::{Ends, is_by};
 use crate::key_rows::KeyRows;
 use agg_types::{Key, NoMemory};
-use place_index::PlaceIndex;
+use place_index::{PlaceIndex, Trace};
 use std::alloc::Global;
 use std::marker::Model;
 
@@ -81,6 +81,24 @@ impl Index {
         ensures distinct { AreDistinct self.now.places }
     {
         self.keys.find(key)
+    }
+
+    /// Where a key is looked for. Reads no memory but the key's.
+    #[inline]
+    pub(crate) fn trace(&self, key: &Key) -> Trace {
+        self.keys.trace(key)
+    }
+
+    /// The trace with a first look at what it leads to.
+    #[inline]
+    pub(crate) fn touch(&self, trace: Trace) -> Trace {
+        self.keys.touch(trace)
+    }
+
+    /// Where the key of a trace may lie, without a look there.
+    #[inline]
+    pub(crate) fn guess(&self, trace: Trace) -> Option<usize> {
+        self.keys.guess(trace)
     }
 
     /// The key in a place.

@@ -184,6 +184,23 @@ impl KeyRows {
         }
     }
 
+    /// The peer of the only row, if that has ended at a moment.
+    pub(crate) fn only_ended(&self, t: u64) -> Option<usize>
+        ensures ended { IfSome result (HasEnded t self.now) }
+        ensures only { IfSome result (λ peer. keys_of self.now ≡ peer ∷ []) }
+    {
+        match &self.peers {
+            Peers::One(own, row) => {
+                if row.is_live(t) {
+                    None
+                } else {
+                    Some(*own as usize)
+                }
+            }
+            Peers::Many(_, _) => None,
+        }
+    }
+
     /// How many rows there are.
     pub(crate) fn len(&self) -> usize
         ensures { result ≡ length self.now }

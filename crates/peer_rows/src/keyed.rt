@@ -21,6 +21,7 @@ use crate::key_rows::KeyRows;
 use crate::listing::sorted;
 use crate::{ByKey, EachKey, Row, Spot};
 use agg_types::{Key, NoMemory};
+use place_index::Trace;
 use std::alloc::Global;
 use std::marker::Model;
 use std::mem;
@@ -68,6 +69,30 @@ impl Keyed {
     /// Where the rows of a key lie.
     pub(crate) fn spot_near(&self, hint: Option<Spot>, key: &Key) -> Option<Spot> {
         Some(Spot::new(find(&self.index, hint, key)?))
+    }
+
+    /// Where a key is looked for. Reads no memory but the key's.
+    #[inline]
+    pub(crate) fn trace(&self, key: &Key) -> Trace {
+        self.index.trace(key)
+    }
+
+    /// The trace with a first look at what it leads to.
+    #[inline]
+    pub(crate) fn touch(&self, trace: Trace) -> Trace {
+        self.index.touch(trace)
+    }
+
+    /// Where the rows of a trace's key may lie, without a look there.
+    #[inline]
+    pub(crate) fn guess(&self, trace: Trace) -> Option<Spot> {
+        Some(Spot::new(self.index.guess(trace)?))
+    }
+
+    /// The spot, if the rows of the key lie there.
+    #[inline]
+    pub(crate) fn confirm(&self, spot: Spot, key: &Key) -> Option<Spot> {
+        Some(Spot::new(hinted(&self.index, Some(spot), key)?))
     }
 
     /// The rows of a key.

@@ -17,12 +17,14 @@
 //! refused, the row is put all the same, and the next `end_rows` looks at all places. A place of
 //! whose rows none ends has no plan, so none is left behind.
 //!
-//! No clause says how long a call takes: a look-up is at most one search of a table's keys, `count`
-//! and `used` take constant time, and a row that replaces another takes no memory but for its plan.
-//! Nor does one say anything of a `Spot` but that no answer depends on it, or which keys `end_rows`
-//! answers: those of which no row is left, as far as there was memory to tell them.
+//! No clause says how long a call takes: a look-up is at most one search of a table's keys,
+//! `count` and `used` take constant time, and a row that replaces another takes no memory but for
+//! its plan. Nor does one say anything of a `Spot` or a `Trace` but that no answer depends on it,
+//! or which keys `end_rows` answers: those of which no row is left, as far as there was memory to
+//! tell them.
 #![tactic(auto)]
 
+mod ahead;
 mod by_key;
 mod each_key;
 mod ending;
@@ -45,6 +47,7 @@ mod table;
 pub use by_key::ByKey;
 pub use each_key::EachKey;
 pub use of_key::OfKey;
+pub use place_index::Trace;
 pub use row::{Held, Row, RowCells};
 pub use row_end::RowEnd;
 pub use rows::Rows;

@@ -9,6 +9,7 @@ use crate::ending::Gone;
 use crate::table::Table;
 use crate::{ByKey, EachKey, OfKey, Row, Spot};
 use agg_types::{Key, NoMemory};
+use place_index::Trace;
 use std::alloc::Global;
 use std::fmt;
 use std::marker::Model;
@@ -211,6 +212,52 @@ impl Rows {
         requires { table < self.now.tables }
     {
         self.tables[table].spot_near(hint, key)
+    }
+
+    /// Where a key of a table is looked for, by its hash alone: reads no memory but the key's.
+    ///
+    /// Who puts several rows asks for the traces of all first, then touches what each leads to,
+    /// then asks for the guesses, confirms each, and then puts: so their waits for memory overlap.
+    /// Nothing is promised of them.
+    #[inline]
+    pub fn trace(&self, table: usize, key: &Key) -> Trace
+        requires { table < self.now.tables }
+    {
+        self.tables[table].trace(key)
+    }
+
+    /// The trace with a first look at what it leads to.
+    #[inline]
+    pub fn touch(&self, table: usize, trace: Trace) -> Trace
+        requires { table < self.now.tables }
+    {
+        self.tables[table].touch(trace)
+    }
+
+    /// Where the rows of a table and a trace's key may lie, without a look there. Nothing is
+    /// promised of it.
+    #[inline]
+    pub fn guess_by(&self, table: usize, trace: Trace) -> Option<Spot>
+        requires { table < self.now.tables }
+    {
+        self.tables[table].guess(trace)
+    }
+
+    /// Where the rows of a table and key may lie, by the key's hash alone, without a look there.
+    /// Nothing is promised of it.
+    #[inline]
+    pub fn guess(&self, table: usize, key: &Key) -> Option<Spot>
+        requires { table < self.now.tables }
+    {
+        self.guess_by(table, self.trace(table, key))
+    }
+
+    /// The spot, if the rows of the table and key lie there. Nothing is promised of it.
+    #[inline]
+    pub fn confirm(&self, spot: Spot, table: usize, key: &Key) -> Option<Spot>
+        requires { table < self.now.tables }
+    {
+        self.tables[table].confirm(spot, key)
     }
 
     /// What `get` answers, whatever the hint: one that doesn't fit costs a search.

@@ -15,6 +15,7 @@ use crate::key_rows::KeyRows;
 use crate::keyed::Keyed;
 use crate::{ByKey, EachKey, OfKey, Row, Spot};
 use agg_types::{Key, NoMemory};
+use place_index::Trace;
 use std::alloc::Global;
 use std::marker::Model;
 
@@ -105,6 +106,30 @@ impl Table {
     /// Where the rows of a key lie.
     pub(crate) fn spot_near(&self, hint: Option<Spot>, key: &Key) -> Option<Spot> {
         self.keys.spot_near(hint, key)
+    }
+
+    /// Where a key is looked for. Reads no memory but the key's.
+    #[inline]
+    pub(crate) fn trace(&self, key: &Key) -> Trace {
+        self.keys.trace(key)
+    }
+
+    /// The trace with a first look at what it leads to.
+    #[inline]
+    pub(crate) fn touch(&self, trace: Trace) -> Trace {
+        self.keys.touch(trace)
+    }
+
+    /// Where the rows of a trace's key may lie, without a look there.
+    #[inline]
+    pub(crate) fn guess(&self, trace: Trace) -> Option<Spot> {
+        self.keys.guess(trace)
+    }
+
+    /// The spot, if the rows of the key lie there.
+    #[inline]
+    pub(crate) fn confirm(&self, spot: Spot, key: &Key) -> Option<Spot> {
+        self.keys.confirm(spot, key)
     }
 
     /// Exchanges the row of a peer and key for this one, if there is one.

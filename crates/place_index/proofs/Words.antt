@@ -14,7 +14,7 @@ use Rattle.std.specs.Prelude.{◌≢◌, slice_set, slice_index_or}
 use Rattle.place_index.proofs.Lists.{slice_get-set_same, slice_get-set_other}
 use Rattle.place_index.proofs.Joined.{past_from_none}
 use Rattle.place_index.specs.Windows.{word_of, home, hash_in, place_in, short_of, IsFreeAt, IsIn}
-use Rattle.place_index.specs.Windows.{Has}
+use Rattle.place_index.specs.Windows.{Has, Names}
 use Rattle.place_index.specs.declared.windows.Windows.{Windows}
 use Rattle.place_index.specs.declared.windows.Word.{Word}
 
@@ -155,22 +155,21 @@ there_by_put wide half at index windows after window x hash is chosen free some 
     }))
 
 -- a word of another place is written over
-pub kept_by_clear : (wide half at index : ℕ) (windows after : List (List Word))
-    (window : List Word) (x : Word) (own cleared hash q : ℕ)
+pub kept_by_free : (wide half at index : ℕ) (windows after : List (List Word))
+    (window : List Word) (x : Word) (freed hash q : ℕ)
     → after ≡ slice_set windows at (slice_set window index x)
     → ((w : Word) → IsIn (slice_index_or windows at []) w → IsIn window w)
-    → slice_get window index ≡ Some (word_of own cleared) → q ≢ cleared
+    → Names window index (freed + 1) → q ≢ freed
     → IsIn (slice_index_or windows (home wide half (length windows) hash) []) (word_of hash q)
     → IsIn (slice_index_or after (home wide half (length after) hash) []) (word_of hash q)
-kept_by_clear wide half at index windows after window x own cleared hash q is covers here other =
+kept_by_free wide half at index windows after window x freed hash q is covers names other =
     rewritten wide half at windows after window (slice_set window index x) hash (word_of hash q)
     is covers
     (stays_in window index x (word_of hash q)
     (λ e.
-    let f : word_of own cleared ≡ word_of hash q =
-    same_Some (word_of own cleared) (word_of hash q) (sym here ∙ e) in
-    let g : place_in (word_of own cleared) ≡ place_in (word_of hash q) = ap place_in f in
-    let h : q ≡ cleared = omega (arith, g) in other h))
+    let f : place_in (word_of hash q) ≡ freed + 1 =
+    same_Some (place_in (word_of hash q)) (freed + 1) (ap (option_map place_in) (sym e) ∙ names) in
+    let h : q ≡ freed = omega (arith, f) in other h))
 
 -- a further window, and the one that its words come from
 pub kept_by_grow : (wide half from : ℕ) (windows after : List (List Word))

@@ -33,9 +33,13 @@ abbrev pub home : ℕ → ℕ → ℕ → ℕ → ℕ
 home wide half count hash =
     if nat_lt (hash % wide) count then hash % wide else hash % wide - half
 
+-- the word of an index has this number
+abbrev pub Names : List Word → ℕ → ℕ → Type 0
+Names window index place = option_map place_in (slice_get window index) ≡ Some place
+
 -- the word of an index is free
 abbrev pub IsFreeAt : List Word → ℕ → Type 0
-IsFreeAt window index = option_map place_in (slice_get window index) ≡ Some 0
+IsFreeAt window index = Names window index 0
 
 -- a word stands in a window
 pub record IsIn (window : List Word) (word : Word) : Type 0 where

@@ -9,6 +9,7 @@ ghost use Rattle.place_index.specs.Places.{AreDistinct, IsAbsent, AreEmpty};
 use crate::IndexKey;
 use crate::reach::Reach;
 use crate::slots::Slots;
+use crate::windows::{Near, Trace};
 use agg_types::NoMemory;
 use std::alloc::Global;
 use std::marker::Model;
@@ -98,6 +99,47 @@ impl<K: IndexKey, V: Drop> PlaceIndex<K, V> {
         look(&self.slots, &self.reach, key)
     }
 
+    /// Where a key is looked for, by its hash alone: reads no memory but the key's.
+    ///
+    /// Who looks for several keys asks for the traces of all first, then touches what each leads
+    /// to, and then asks for the guesses: so their waits for memory overlap. Nothing is promised
+    /// of them.
+    #[inline]
+    pub fn trace(&self, key: &K) -> Trace {
+        self.reach.trace(key)
+    }
+
+    /// The trace with a first look at what it leads to.
+    #[inline]
+    pub fn touch(&self, trace: Trace) -> Trace {
+        self.reach.touch(trace)
+    }
+
+    /// Where the key of a trace may lie, without a look there. Nothing is promised of it.
+    #[inline]
+    pub fn guess(&self, trace: Trace) -> Option<usize> {
+        self.reach.guess(trace)
+    }
+
+    /// A hint for `remove_near`: where the word may stand that names a place. Reads no memory but
+    /// the key's.
+    ///
+    /// Who empties several places asks for the hints of all first, then touches what each leads to,
+    /// and then removes: so their waits for memory overlap.
+    #[inline]
+    pub fn near(&self, at: usize) -> Near {
+        match self.slots.key(at) {
+            Some(key) => self.reach.near(key),
+            None => Near::nowhere(),
+        }
+    }
+
+    /// The hint after a first look at what it leads to.
+    #[inline]
+    pub fn touch_near(&self, at: usize, near: Near) -> Near {
+        self.reach.touch_near(at, near)
+    }
+
     /// The key in a place.
     #[inline]
     pub fn key(&self, at: usize) -> Option<&K>
@@ -180,7 +222,16 @@ impl<K: IndexKey, V: Drop> PlaceIndex<K, V> {
         ensures after { self.new.places ≡ slice_set self.old.places at None }
         ensures room { self.new.room ≡ self.old.room }
     {
-        let item = take(&mut self.slots, &mut self.reach, at)?;
+        self.remove_near(at, Near::nowhere())
+    }
+
+    /// What `remove` does and answers, whatever the hint: one that doesn't fit costs a search.
+    pub fn remove_near(&mut self, at: usize, near: Near) -> Option<(K, V)>
+        ensures value { result ≡ item_at self.old.places at }
+        ensures after { self.new.places ≡ slice_set self.old.places at None }
+        ensures room { self.new.room ≡ self.old.room }
+    {
+        let item = take(&mut self.slots, &mut self.reach, at, near)?;
         self.count -= 1;
         Some(item)
     }
@@ -255,11 +306,12 @@ fn exchange<K: IndexKey, V: Drop>(
     slots.replace(at, value)
 }
 
-// Empties a place, and answers what lay there.
+// Empties a place, and answers what lay there. A hint says where its word may stand.
 fn take<K: IndexKey, V: Drop>(
     slots: &mut Slots<K, V>,
     reach: &mut Reach<K>,
     at: usize,
+    near: Near,
 ) -> Option<(K, V)>
     requires { IsIndex K.cmp K.hashed reach.old (held slots.old.slots.items) }
     ensures index { IsIndex K.cmp K.hashed reach.new (held slots.new.slots.items) }
@@ -268,11 +320,7 @@ fn take<K: IndexKey, V: Drop>(
     ensures free { slots.new.slots.room ≡ slots.old.slots.room }
     ensures spare { spare reach.old ≤ spare reach.new }
 {
-    match slots.empty(at) {
-        Some(item) => {
-            reach.clear(&item.0, at);
-            Some(item)
-        }
-        None => None,
-    }
+    let key = slots.key(at)?;
+    reach.clear(key, at, near);
+    slots.empty(at)
 }

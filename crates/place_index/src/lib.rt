@@ -30,6 +30,11 @@
 //! segments' addresses where that grows: at most 48 KB, up to four million places. `Segments` is
 //! that list of items by itself.
 //!
+//! Who wants several keys, or empties several places, asks for what each needs first, then touches
+//! it, and only then looks or removes: so the waits for memory overlap. `trace`, `touch` and
+//! `guess` say where a key may lie, `near` and `touch_near` where the word may stand that
+//! `remove_near` frees. All are hints: nothing is promised of them, and no answer depends on one.
+//!
 //! No clause says how long a call takes; that keys stand in windows at all, that windows grow, how
 //! few hashes are marked (with more than 16,384 keys in the map they aren't marked anew), and
 //! that words and entries which name nothing any more are gone (a `remove` that leaves them would
@@ -42,6 +47,7 @@ mod crowd;
 mod index;
 mod key;
 mod marks;
+mod parting;
 mod reach;
 mod segments;
 mod slots;
@@ -50,3 +56,4 @@ mod windows;
 pub use index::PlaceIndex;
 pub use key::IndexKey;
 pub use segments::Segments;
+pub use windows::{Near, Trace};

@@ -12,7 +12,7 @@ ghost use Rattle.place_index.specs.Reach.{Leads, spare};
 use crate::IndexKey;
 use crate::crowd::Crowd;
 use crate::slots::Slots;
-use crate::windows::{Windows, Word, short, word_at};
+use crate::windows::{Near, Trace, Windows, Word, short, word_at};
 use agg_types::NoMemory;
 use std::alloc::Global;
 
@@ -55,6 +55,36 @@ impl<K: IndexKey> Reach<K> {
         loose_in(&self.loose, slots, key)
     }
 
+    /// Where a key is looked for. Reads no window.
+    #[inline]
+    pub(crate) fn trace(&self, key: &K) -> Trace {
+        self.windows.trace(key.hash_of())
+    }
+
+    /// The trace with a first look at its window.
+    #[inline]
+    pub(crate) fn touch(&self, trace: Trace) -> Trace {
+        self.windows.touch(trace)
+    }
+
+    /// The place that a word of a trace's window names. Nothing is promised of it.
+    #[inline]
+    pub(crate) fn guess(&self, trace: Trace) -> Option<usize> {
+        self.windows.guess(trace)
+    }
+
+    /// Where the word of a key may stand. Reads no window.
+    #[inline]
+    pub(crate) fn near(&self, key: &K) -> Near {
+        self.windows.near(key.hash_of())
+    }
+
+    /// The same for a place, after a first look at the window.
+    #[inline]
+    pub(crate) fn touch_near(&self, at: usize, near: Near) -> Near {
+        self.windows.touch_near(at, near)
+    }
+
     /// Takes memory for so many keys, or for none.
     pub(crate) fn reserve(&mut self, keys: usize) -> Result<(), NoMemory>
         ensures others { (k : K) (q : ℕ) → Leads K.cmp K.hashed self.old k q
@@ -86,12 +116,15 @@ impl<K: IndexKey> Reach<K> {
         self.loose.push_reserved(at);
     }
 
-    /// Has the place of a key be found no more.
-    pub(crate) fn clear(&mut self, key: &K, at: usize)
+    /// Has the place of a key be found no more. A hint says where its word may stand.
+    pub(crate) fn clear(&mut self, key: &K, at: usize, near: Near)
         ensures others { (k : K) (q : ℕ) → k ≢ key.now → q ≢ at → Leads K.cmp K.hashed self.old k q
             → Leads K.cmp K.hashed self.new k q }
         ensures spare { spare self.old ≤ spare self.new }
     {
+        if self.windows.free(at, near) {
+            return;
+        }
         let cleared = self.windows.clear(key.hash_of(), at);
         forget(&mut self.crowd, key, cleared);
         drop_loose(&mut self.loose, at);

@@ -77,6 +77,7 @@ impl<T: Drop> Segment<T> {
         self.items.push_reserved(item);
     }
 
+    #[inline]
     fn replace(&mut self, at: usize, item: T) -> Option<T>
         ensures value { result ≡ slice_get self.old at }
         ensures after { self.new ≡ slice_set self.old at item }
@@ -172,6 +173,7 @@ impl<T: Drop> Segments<T> {
     }
 
     /// Exchanges the item of a number for this one.
+    #[inline]
     pub fn replace(&mut self, at: usize, item: T) -> Option<T>
         ensures value { result ≡ slice_get self.old.items at }
         ensures after { self.new.items ≡ slice_set self.old.items at item }
@@ -244,6 +246,7 @@ fn get_in<T: Drop>(segments: &Vec<Segment<T>>, at: usize) -> Option<&T>
 }
 
 // Exchanges the item of a number.
+#[inline]
 fn replace_in<T: Drop>(segments: &mut Vec<Segment<T>>, at: usize, item: T) -> Option<T>
     requires { AreFull segments.old.items }
     ensures value { result ≡ slice_get (joined segments.old.items) at }

@@ -68,6 +68,7 @@ impl<K: Drop, V: Drop> Slot<K, V> {
         }
     }
 
+    #[inline]
     fn into_item(self) -> Option<(K, V)>
         ensures { result ≡ held_in self }
     {
@@ -205,6 +206,7 @@ impl<K: Drop, V: Drop> Slots<K, V> {
     }
 
     /// Takes what lies in a place, which is empty then.
+    #[inline]
     pub(crate) fn empty(&mut self, at: usize) -> Option<(K, V)>
         ensures value { result ≡ item_at (held self.old.slots.items) at }
         ensures after { held self.new.slots.items ≡ slice_set (held self.old.slots.items) at None }

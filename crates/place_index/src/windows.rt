@@ -1,15 +1,23 @@
 //! Words that name the places of keys, in windows that their hashes choose.
-ghost use Rattle.std.specs.Prelude.{◌≡◌, ◌≢◌, ℕ, ◌<◌, ◌%◌, [], Some, length, slice_get, IfSome};
+ghost use Rattle.std.specs.Prelude.{◌≡◌, ◌≢◌, ℕ, ◌+◌, ◌<◌, ◌%◌, [], Some, length, slice_get, IfSome};
 ghost use Rattle.std.specs.Prelude.{IsTrue, slice_index_or};
 ghost use Rattle.std.specs.Option.{option_copied};
 ghost use Rattle.place_index.specs.Windows.{word_of, home, hash_in, place_in};
-ghost use Rattle.place_index.specs.Windows.{short_of, IsFreeAt, IsIn, Has};
+ghost use Rattle.place_index.specs.Windows.{short_of, IsFreeAt, IsIn, Has, Names};
 
+use crate::parting::parted;
 use crate::segments::Segments;
 use std::alloc::Global;
 
 /// How many words a window has: with 6 bytes each they take less than two lines of the cache.
-const WIDTH: usize = 16;
+pub(crate) const WIDTH: usize = 16;
+
+// Words of which each line of the cache has one in which a part of a window lies.
+const FIRST: usize = 0;
+
+const MIDDLE: usize = 8;
+
+const LAST: usize = 15;
 
 /// There is a window for so many places. With fewer windows more keys find no free word, and an
 /// ordered map holds them. With so many it is one in 150.
@@ -43,7 +51,7 @@ pub(crate) struct Word {
 const _: () = prove!(size_of::<Window>() == 96);
 
 /// A word that names nothing.
-const FREE: Word = Word {
+pub(crate) const FREE: Word = Word {
     hash_low: 0,
     hash_high: 0,
     place_high: 0,
@@ -68,9 +76,9 @@ impl Word {
         })
     }
 
-    // The short hash.
+    /// The short hash.
     #[inline]
-    fn hash(self) -> u32
+    pub(crate) fn hash(self) -> u32
         ensures { result ≡ hash_in self }
     {
         u32::from(self.hash_high) * LOW + u32::from(self.hash_low)
@@ -84,15 +92,50 @@ impl Word {
         u32::from(self.place_high) * LOW + u32::from(self.place_low)
     }
 
+    // Whether it has this number.
+    #[inline]
+    fn names(self, place: u32) -> bool
+        ensures { IsTrue result → place_in self ≡ place }
+    {
+        u32::from(self.place_low) == place % LOW && u32::from(self.place_high) == place / LOW
+    }
+
     /// The place that the word names for keys of a short hash.
     #[inline]
     pub(crate) fn named(self, hash: u32) -> Option<usize>
         ensures { (at : ℕ) → self ≡ word_of hash at → result ≡ Some at }
     {
-        if self.hash() != hash {
+        if u32::from(self.hash_low) != hash % LOW || u32::from(self.hash_high) != hash / LOW {
             return None;
         }
         (self.place() as usize).checked_sub(1)
+    }
+}
+
+/// Where a key is looked for: its short hash, the number of its window, and where a word stands
+/// there that may name its place. Nothing is promised of it.
+#[derive(Clone, Copy)]
+pub struct Trace {
+    hash: u32,
+    window: usize,
+    word: usize,
+}
+
+/// Where the word may stand that names a place: the number of a window, and the index there.
+/// Nothing is promised of it.
+#[derive(Clone, Copy)]
+pub struct Near {
+    window: usize,
+    word: usize,
+}
+
+impl Near {
+    /// A word that stands nowhere.
+    pub fn nowhere() -> Near {
+        Near {
+            window: usize::MAX,
+            word: WIDTH,
+        }
     }
 }
 
@@ -152,6 +195,55 @@ impl Windows {
         }
     }
 
+    /// Where the word of a key of this hash may stand. Reads no window.
+    #[inline]
+    pub(crate) fn near(&self, hash: u32) -> Near {
+        Near {
+            window: self.home(short(hash)),
+            word: WIDTH,
+        }
+    }
+
+    /// The same for a place, after a first look at the window.
+    #[inline]
+    pub(crate) fn touch_near(&self, at: usize, near: Near) -> Near {
+        let word = match self.windows.get(near.window) {
+            Some(window) => near_place(window, at),
+            None => WIDTH,
+        };
+        Near { word, ..near }
+    }
+
+    /// Where keys of a hash are looked for. Reads no window.
+    #[inline]
+    pub(crate) fn trace(&self, hash: u32) -> Trace {
+        let short = short(hash);
+        Trace {
+            hash: short,
+            window: self.home(short),
+            word: WIDTH,
+        }
+    }
+
+    /// The trace with a first look at its window.
+    #[inline]
+    pub(crate) fn touch(&self, trace: Trace) -> Trace {
+        let word = match self.windows.get(trace.window) {
+            Some(window) => near_hash(window, trace.hash),
+            None => WIDTH,
+        };
+        Trace { word, ..trace }
+    }
+
+    /// The place that a word of a trace's window names. Nothing is promised of it.
+    #[inline]
+    pub(crate) fn guess(&self, trace: Trace) -> Option<usize> {
+        let window = self.windows.get(trace.window)?;
+        window
+            .get(last_of(window, trace.hash, trace.word))?
+            .named(trace.hash)
+    }
+
     // The window of a number, or a free one where there is none.
     fn window_at(&self, number: usize) -> Window
         ensures { (word : Word) → IsIn (slice_index_or self.now.windows.items number []) word
@@ -173,29 +265,59 @@ impl Windows {
             return false;
         };
         let home = self.home(short);
-        let mut window = self.window_at(home);
-        let Some(free) = free_in(&window) else {
+        let Some(free) = self.free_index(home) else {
             return false;
         };
+        let window = self.windows.item_mut(home);
         window[free] = word;
-        self.windows.replace(home, window).is_some()
+        true
     }
 
-    /// Frees the word that names the place.
+    // The index of a free word in the window of a number.
+    fn free_index(&self, home: usize) -> Option<usize>
+        ensures within { IfSome result (λ index. index < 16) }
+        ensures some { IfSome result (λ _. home < length self.now.windows.items) }
+        ensures free { IfSome result
+            (λ index. IsFreeAt (slice_index_or self.now.windows.items home []) index) }
+    {
+        match self.windows.get(home) {
+            Some(window) => free_in(window),
+            None => None,
+        }
+    }
+
+    /// Frees the word that names the place of a key of this hash.
     pub(crate) fn clear(&mut self, hash: u32, at: usize) -> bool
         ensures { (h q : ℕ) → q ≢ at → Has self.old h q → Has self.new h q }
     {
-        let short = short(hash);
-        let Some(word) = Word::naming(short, at) else {
+        self.free(at, self.near(hash))
+    }
+
+    /// Frees a word that names the place, if it stands in the window that a hint says. No other one
+    /// names it, since no two keys lie in a place.
+    pub(crate) fn free(&mut self, at: usize, near: Near) -> bool
+        ensures { (h q : ℕ) → q ≢ at → Has self.old h q → Has self.new h q }
+    {
+        let Some(index) = self.index_of(at, near) else {
             return false;
         };
-        let home = self.home(short);
-        let mut window = self.window_at(home);
-        let Some(index) = index_in(&window, word) else {
-            return false;
-        };
+        let window = self.windows.item_mut(near.window);
         window[index] = FREE;
-        self.windows.replace(home, window).is_some()
+        true
+    }
+
+    // The index of a word that names the place in the window that a hint says.
+    fn index_of(&self, at: usize, near: Near) -> Option<usize>
+        ensures within { IfSome result (λ index. index < 16) }
+        ensures some { IfSome result (λ _. near.window < length self.now.windows.items) }
+        ensures is { IfSome result (λ index. Names
+            (slice_index_or self.now.windows.items near.window []) index (at + 1)) }
+    {
+        let place = u32::try_from(at.checked_add(1)?).ok()?;
+        match self.windows.get(near.window) {
+            Some(window) => index_near(window, place, near.word),
+            None => None,
+        }
     }
 
     /// Whether there are fewer windows than so many places want.
@@ -265,62 +387,89 @@ fn free_in(window: &Window) -> Option<usize>
         .position(|word| word.place_high == 0 && word.place_low == 0)
 }
 
-// The index of a word.
-fn index_in(window: &Window, word: Word) -> Option<usize>
+// The index of a word with the number of a place, which is looked for at a likely one first.
+#[inline]
+fn index_near(window: &Window, place: u32, hint: usize) -> Option<usize>
     ensures within { IfSome result (λ index. index < 16) }
-    ensures is { IfSome result (λ index. slice_get window.now index ≡ Some word) }
+    ensures is { IfSome result (λ index. Names window.now index place) }
 {
-    window.iter().position(|own| is_same(own, &word))
-}
-
-// Whether two words are the same.
-fn is_same(own: &Word, word: &Word) -> bool
-    ensures { IsTrue result → own.now ≡ word.now }
-{
-    own.hash_low == word.hash_low
-        && own.hash_high == word.hash_high
-        && own.place_low == word.place_low
-        && own.place_high == word.place_high
-}
-
-// The words of a window that stay, and those that go to a new one: whose hash chooses that number.
-fn parted(window: &Window, wide: u32, number: usize) -> (Window, Window)
-    ensures stay { (word : Word) → IsIn window.now word → hash_in word % wide ≢ number
-        → IsIn result.0 word }
-    ensures go { (word : Word) → IsIn window.now word → hash_in word % wide ≡ number
-        → IsIn result.1 word }
-{
-    let mut stay = [FREE; WIDTH];
-    let mut go = [FREE; WIDTH];
-    for index in 0..WIDTH {
-        let sides = sides(window, index, wide, number);
-        stay[index] = sides.0;
-        go[index] = sides.1;
+    if names_at(window, hint, place) {
+        return Some(hint);
     }
-    (stay, go)
+    for index in 0..WIDTH {
+        if names_at(window, index, place) {
+            return Some(index);
+        }
+    }
+    None
 }
 
-// The word of an index on the side of those that stay, or of those that go.
-fn sides(window: &Window, index: usize, wide: u32, number: usize) -> (Word, Word)
-    ensures stay { (word : Word) → slice_get window.now index ≡ Some word
-        → hash_in word % wide ≢ number → result.0 ≡ word }
-    ensures go { (word : Word) → slice_get window.now index ≡ Some word
-        → hash_in word % wide ≡ number → result.1 ≡ word }
+// Whether the word of an index has the number of a place.
+#[inline]
+fn names_at(window: &Window, index: usize, place: u32) -> bool
+    ensures within { IsTrue result → index < 16 }
+    ensures is { IsTrue result → Names window.now index place }
 {
     match word_at(window, index) {
-        Some(word) => side_of(*word, wide, number),
-        None => (FREE, FREE),
+        Some(word) => word.names(place),
+        None => false,
     }
 }
 
-fn side_of(word: Word, wide: u32, number: usize) -> (Word, Word)
-    ensures stay { hash_in word % wide ≢ number → result.0 ≡ word }
-    ensures go { hash_in word % wide ≡ number → result.1 ≡ word }
-{
-    if modulo(word.hash(), wide) as usize == number {
-        (FREE, word)
+// An index whose word has the lower half of a short hash, if there is one: else the one that was
+// said. All words are looked at, since a branch at each would be foretold wrongly once.
+#[inline]
+fn last_of(window: &Window, hash: u32, said: usize) -> usize {
+    let low = hash % LOW;
+    let mut last = said;
+    for index in 0..WIDTH {
+        if u32::from(window[index].hash_low) == low {
+            last = index;
+        }
+    }
+    last
+}
+
+// Where a word may stand that names a place: three of them are looked at, one in each line of the
+// cache in which a part of the window lies. So few that several windows are waited for at once.
+#[inline]
+fn near_place(window: &Window, at: usize) -> usize {
+    let low = at.wrapping_add(1) % LOW as usize;
+    let first = if usize::from(window[FIRST].place_low) == low {
+        FIRST
     } else {
-        (word, FREE)
+        WIDTH
+    };
+    let middle = if usize::from(window[MIDDLE].place_low) == low {
+        MIDDLE
+    } else {
+        first
+    };
+    if usize::from(window[LAST].place_low) == low {
+        LAST
+    } else {
+        middle
+    }
+}
+
+// The same for a short hash.
+#[inline]
+fn near_hash(window: &Window, hash: u32) -> usize {
+    let low = hash % LOW;
+    let first = if u32::from(window[FIRST].hash_low) == low {
+        FIRST
+    } else {
+        WIDTH
+    };
+    let middle = if u32::from(window[MIDDLE].hash_low) == low {
+        MIDDLE
+    } else {
+        first
+    };
+    if u32::from(window[LAST].hash_low) == low {
+        LAST
+    } else {
+        middle
     }
 }
 

@@ -65,6 +65,11 @@ impl Bucket {
         self.places.last().copied()
     }
 
+    /// All places.
+    pub(crate) fn as_slice(&self) -> &[u32] {
+        self.places.as_slice()
+    }
+
     /// Whether there is no place.
     pub(crate) fn is_empty(&self) -> bool
         ensures { result ≡ (length self.now == 0) }

@@ -89,6 +89,14 @@ impl Buckets {
         let (at, bucket) = self.moments.first_key_value()?;
         Some((*at, bucket.last()?))
     }
+
+    /// The places of the least moment, if that is at most `t`. Nothing is promised of them.
+    pub(crate) fn due(&self, t: u64) -> &[u32] {
+        match self.moments.first_key_value() {
+            Some((at, bucket)) if *at <= t => bucket.as_slice(),
+            _ => &[],
+        }
+    }
 }
 
 // Gives the bucket of a moment back, where it is empty.

@@ -105,6 +105,13 @@ impl PlacePlans {
         self.count -= 1;
     }
 
+    /// Places that `take_due` answers next, from the last of these on. Nothing is promised of them.
+    ///
+    /// Who looks at several places asks for these first, so that the waits for memory overlap.
+    pub fn due(&self, t: u64) -> &[u32] {
+        self.buckets.due(t)
+    }
+
     /// Takes the plan of a place away whose moment is at most `t`, one of the least, and answers
     /// the place. None says that there is no such place. Takes no memory.
     pub fn take_due(&mut self, t: u64) -> Option<usize>

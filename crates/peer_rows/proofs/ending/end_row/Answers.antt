@@ -1,10 +1,9 @@
 use Rattle.std.proofs.Common.{arith}
-use Rattle.std.specs.Prelude.{None, slice_set}
 use Rattle.place_index.specs.Places.{revalued}
 use Rattle.peer_rows.proofs.InTime.{rows_changed, rows_value}
 use Rattle.peer_rows.proofs.Kept.{get_or_in}
-use Rattle.peer_rows.proofs.Living.{can_count, fewer_one, gone_one, in_counts, kept_one, row_gone}
-use Rattle.peer_rows.proofs.Living.{row_kept, stay_live}
+use Rattle.peer_rows.proofs.Living.{can_count, fewer_one, gone_one, in_counts, kept_one}
+use Rattle.peer_rows.proofs.Living.{stay_live}
 use Rattle.peer_rows.proofs.ending.end_row.Goals as goal
 
 pub index_mut-requires : goal.index_mut-requires
@@ -21,29 +20,6 @@ overflow_sub-index_mut c =
     c.index_mut.ensures.value)
     (can_count c.args.keys.now.places c.args.counts.now.items c.args.at c.args.peer
     c.requires.kept c.count-distinct.ensures.distinct c.requires.held)
-
-pub returns-then-is_only-clause-kept : goal.returns-then-is_only-clause-kept
-returns-then-is_only-clause-kept c =
-    let within = in_counts c.args.keys.now.places c.args.counts.now.items c.args.at c.args.peer
-    c.requires.kept c.count-distinct.ensures.distinct c.requires.held in
-    rw (
-      c.remove.ensures.after,
-      get_or_in c.args.counts.now.items c.args.peer
-          c.index_mut.result.now within c.index_mut.ensures.value,
-    )
-    (row_kept c.args.keys.now.places c.args.counts.now.items c.args.at c.args.peer
-    c.requires.kept c.count-distinct.ensures.distinct c.requires.held
-    (c.is_only.ensures.0 c.if-is_only.true))
-
-pub returns-then-is_only-clause-rows : goal.returns-then-is_only-clause-rows
-returns-then-is_only-clause-rows c = λ t ended.
-    rw c.remove.ensures.after
-    (stay_live c.args.keys.now.places c.args.counts.now.items c.args.at c.args.peer
-    c.requires.kept c.count-distinct.ensures.distinct c.requires.held
-    (slice_set c.args.keys.now.places c.args.at None) t
-    (row_gone c.args.keys.now.places c.args.counts.now.items c.args.at c.args.peer
-    c.requires.kept c.count-distinct.ensures.distinct c.requires.held
-    (c.is_only.ensures.0 c.if-is_only.true)) ended)
 
 pub returns-clause-kept : goal.returns-clause-kept
 returns-clause-kept c =

@@ -1,13 +1,20 @@
-use Rattle.std.proofs.Common.{rules}
+use Rattle.std.proofs.Common.{◌≡◌, [], refl, slice_index_or, subst}
+use Rattle.std.proofs.lemmas.Option.{get_or_from_slice_get}
 use Rattle.place_index.proofs.Words.{kept_by_put}
-use Rattle.place_index.specs.Windows.{short_of}
+use Rattle.place_index.specs.Windows.{IsFreeAt, IsIn, short_of}
 use Rattle.place_index.proofs.windows.Windows.put.Goals as goal
 
 pub returns-clause-others : goal.returns-clause-others
 returns-clause-others c =
-    λ h q has. record {
-      word = kept_by_put c.args.self.now.wide c.args.self.now.half c.home-home.result _
-          c.args.self.now.windows.items c.replace.new.self.items c.window_at-window.result _
-          (short_of h) q
-          c.replace.ensures.after c.window_at-window.ensures (search rules) has.word;
+    λ h q has.
+    let ws = c.args.self.now.windows.items in
+    let window = c.item_mut-window.result.now in
+    let own : slice_index_or ws c.home-home.result [] ≡ window =
+    get_or_from_slice_get ws c.home-home.result window [] c.item_mut-window.ensures.value in
+    record {
+      word = kept_by_put c.args.self.now.wide c.args.self.now.half c.home-home.result
+          c.in-Some-free_index.free ws _ window _ (short_of h) q
+          refl (λ w there. subst (λ l. IsIn l w) own there)
+          (subst (λ w. IsFreeAt w c.in-Some-free_index.free) own
+          c.in-Some-free_index.ensures.free) has.word;
     }

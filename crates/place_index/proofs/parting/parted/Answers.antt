@@ -4,7 +4,7 @@ use Rattle.std.proofs.lemmas.Option.{slice_get_within}
 use Rattle.place_index.proofs.Words.{parted_more}
 use Rattle.place_index.specs.Windows.{hash_in}
 use Rattle.place_index.specs.declared.windows.Word.{Word}
-use Rattle.place_index.proofs.windows.parted.Goals as goal
+use Rattle.place_index.proofs.parting.parted.Goals as goal
 
 pub loop-index-preserved : goal.loop-index-preserved
 loop-index-preserved c =

@@ -2,7 +2,7 @@ use Rattle.std.proofs.Common.{ap, sym, arith}
 use Rattle.place_index.proofs.Filled.{filled-emptied}
 use Rattle.place_index.specs.Places.{filled}
 use Rattle.place_index.specs.Slots.{held}
-use Rattle.place_index.proofs.index.PlaceIndex.remove.Goals as goal
+use Rattle.place_index.proofs.index.PlaceIndex.remove_near.Goals as goal
 
 pub overflow_sub-self : goal.overflow_sub-self
 overflow_sub-self g c =

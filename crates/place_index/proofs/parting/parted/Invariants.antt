@@ -1,7 +1,7 @@
 use Rattle.std.proofs.Common.{◌≡◌, ◌<◌, ◌%◌, ℕ, Some, length, slice_get}
 use Rattle.place_index.specs.Windows.{hash_in}
 use Rattle.place_index.specs.declared.windows.Word.{Word}
-use Rattle.place_index.proofs.windows.parted.Given as goal
+use Rattle.place_index.proofs.parting.parted.Given as goal
 
 abbrev pub invariant-loop-index : goal.invariant-loop-index
 invariant-loop-index l =
