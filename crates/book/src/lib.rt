@@ -23,8 +23,9 @@
 //! verdicts are kept while there is memory for them, no clause says.
 //!
 //! `Book::step_run` takes a seat's events as one: what updates of one peer that follow each other
-//! have in common is looked up once, and the seat is counted up once behind them (`runs`). It
-//! promises the state that the events make one by one.
+//! have in common is looked up once, and the seat is counted up once behind them (`runs`). The keys
+//! of sixteen updates are looked for together, so that their waits for memory overlap
+//! (`lookahead`). It promises the state that the events make one by one.
 //!
 //! `Book::step_telling` and `step_run` tell by `Flips` which keys come into the filters' sets and
 //! which leave them, so that who keeps copies of the sets needn't list them anew. That isn't known
@@ -50,6 +51,7 @@ mod leaders;
 mod likely;
 mod listed;
 mod listing;
+mod lookahead;
 mod machine;
 mod named;
 mod next;

@@ -17,6 +17,7 @@ use crate::at::At;
 use crate::book::Book;
 use crate::drops::Drops;
 use crate::held::Held;
+use crate::lookahead::Lookahead;
 use crate::machine::{Applied, Machine, put};
 use agg_types::{NoMemory, What};
 use book_frame::seats;
@@ -266,12 +267,16 @@ fn take_each(
         (part_of turn.seat first whats.now from result.place) flips.old flips.new }
 {
     let mut place = from;
+    let mut ahead = Lookahead::look(machine, whats, from, hints);
     'updates: while place < whats.len() {
         let what = &whats[place];
         if !machine.takes(turn.peer, what) {
             break;
         }
-        let hint = hint_at(hints, place);
+        if !ahead.has(place) {
+            ahead = Lookahead::look(machine, whats, place, hints);
+        }
+        let hint = ahead.spot(place).or(hint_at(hints, place));
         let Ok(spot) = take_one(machine, held, drops, turn, what, hint, flips) else {
             return Came {
                 place,

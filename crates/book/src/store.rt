@@ -20,7 +20,7 @@ use crate::at::At;
 use crate::puts::{drop_key, drop_row, drop_table, new_row, set_row};
 use crate::values::{arriving_worth, found_bound};
 use agg_types::{Cell, Col, Key, NoMemory, Shape};
-use peer_rows::{ByKey, EachKey, OfKey, Rows, Spot};
+use peer_rows::{ByKey, EachKey, OfKey, Rows, Spot, Trace};
 use std::alloc::Global;
 use std::marker::Model;
 
@@ -93,6 +93,42 @@ impl Store {
             return self.rows.spot_near(None, table, key);
         }
         hint
+    }
+
+    /// Where a key is looked for, by its hash alone. Reads no memory but the key's.
+    pub(crate) fn trace(&self, table: usize, key: &Key) -> Option<Trace> {
+        if table < self.size.tables {
+            Some(self.rows.trace(table, key))
+        } else {
+            None
+        }
+    }
+
+    /// The trace with a first look at what it leads to.
+    pub(crate) fn touch(&self, table: usize, trace: Trace) -> Trace {
+        if table < self.size.tables {
+            self.rows.touch(table, trace)
+        } else {
+            trace
+        }
+    }
+
+    /// Where the rows of a trace's key may lie, without a look there.
+    pub(crate) fn guess(&self, table: usize, trace: Trace) -> Option<Spot> {
+        if table < self.size.tables {
+            self.rows.guess_by(table, trace)
+        } else {
+            None
+        }
+    }
+
+    /// The spot, if the rows of the key lie there.
+    pub(crate) fn confirm(&self, spot: Spot, table: usize, key: &Key) -> Option<Spot> {
+        if table < self.size.tables {
+            self.rows.confirm(spot, table, key)
+        } else {
+            None
+        }
     }
 
     /// Puts a row that arrives at a moment, in ms, in the place of the one that stood there, and
