@@ -7,6 +7,7 @@ use Rattle.std.proofs.lemmas.Bool.Decides.{nat_tests}
 use Rattle.std.proofs.lemmas.Map.Text.{is_eq-slice_cmp}
 use Rattle.std.proofs.lemmas.Option.{get_or_from_slice_get, slice_get-map}
 use Rattle.std.specs.Option.{option_map, option_map_or}
+use Rattle.std.specs.List.Sorted.{IsStrictlySortedBy}
 use Rattle.std.specs.Prelude.{slice_get, slice_index_or}
 use Rattle.std.specs.Str.{bytes_eq}
 use Rattle.agg_types.proofs.Naming.{position-within}
@@ -35,8 +36,11 @@ use Rattle.set_changes.specs.Numbered.{said_of as changed_of}
 use Rattle.set_changes.specs.declared.change.Change.{Change}
 use Rattle.standing_filters.specs.Flips.{later_of}
 use Rattle.standing_filters.specs.Turns.{same_key}
-use Rattle.telling.proofs.Brought.{marks_at, set_marked}
-use Rattle.telling.specs.Moves.{AreInOrder, AreMovedTo, IsMovedTo, is_in, marked, said_of}
+use Rattle.telling.proofs.Brought.{marks_at}
+use Rattle.telling.proofs.InOrder.{turned_ordered}
+use Rattle.telling.proofs.Kept.{set_kept}
+use Rattle.telling.specs.Moves.{AreInOrder, AreMovedTo, AreOrdered, IsMovedTo, is_in, said_of}
+use Rattle.telling.specs.Moves.{set_of}
 use Rattle.telling.specs.Telling.{table_at, told_after, turn_at, turn_text}
 use Rattle.telling.specs.Told.{Told}
 use Rattle.telling.specs.declared.moved.Moved.{Moved}
@@ -117,6 +121,23 @@ named_ordered state table place sorted named =
     subst (λ (found : Option ℕ). AreInOrder (option_map_or
     (λ place. set_at state (filter_of state place) state.moment) found [])) (sym named)
     (held-keys state (filter_of state place) state.moment sorted).in_order
+
+-- the sets of a state are in order
+sets_ordered : (pushed : List Pushed) (state : State) → IsOrdered state → (place : ℕ)
+    → AreInOrder (slice_index_or (sets_in pushed state) place [])
+unfolding IsStrictlySortedBy
+sets_ordered [] state sorted place = tt
+sets_ordered (table ∷ pushed) state sorted (suc place) = sets_ordered pushed state sorted place
+sets_ordered (table ∷ pushed) state sorted zero =
+    by (place_of (λ filter. filter.name) state.config.filters table.name) refl
+  where
+    by : (found : Option ℕ)
+        → place_of (λ filter. filter.name) state.config.filters table.name ≡ found
+        → AreInOrder (set_named state table)
+    by None is =
+        subst (λ (found : Option ℕ). AreInOrder (option_map_or
+        (λ place. set_at state (filter_of state place) state.moment) found [])) (sym is) tt
+    by (Some place) is = named_ordered state table place sorted is
 
 -- moves since a list make the set that stood there the set behind all events
 module _ (table : Pushed) (number : ℕ) (seen : Beginning) (changes : List Change)
@@ -221,23 +242,27 @@ all_moved pushed told number seen moves since knows place within =
     let found = since place table at.1 in
     let moved : IsMovedSince number seen table found.0 = found.2 in
     let start = state_of seen.config seen.opening knows.early in
-    let marks = marked (table_at told place).marks in
+    let marks = (table_at told place).marks in
     let sets = sets_in pushed (state_behind seen) in
     let one : IsMovedTo found.0 (set_named start table) (set_named (state_behind seen) table) =
     moved_set table number seen moved.changes found.0 knows.early knows.late moved.since
     moved.are knows.split knows.count in
-    subst (λ (ms : List Moved). IsMovedTo ms marks (slice_index_or sets place []))
-    (sym (get_or_from_slice_get moves place found.0 [] found.1))
-    (subst (λ (told : List (List ℕ)). IsMovedTo found.0 told (slice_index_or sets place []))
-    (sym (knows.sets place table at.1 moved.since.loose))
-    (subst (λ (set : List (List ℕ)). IsMovedTo found.0 (set_named start table) set)
-    (sym (set_of_place pushed (state_behind seen) place table at.1)) one))
+    record {
+      ordered = knows.ordered place table at.1;
+      moved = subst (λ (ms : List Moved).
+          IsMovedTo ms (set_of marks) (slice_index_or sets place []))
+          (sym (get_or_from_slice_get moves place found.0 [] found.1))
+          (subst (λ (told : List (List ℕ)). IsMovedTo found.0 told (slice_index_or sets place []))
+          (sym (knows.sets place table at.1))
+          (subst (λ (set : List (List ℕ)). IsMovedTo found.0 (set_named start table) set)
+          (sym (set_of_place pushed (state_behind seen) place table at.1)) one));
+    }
 
 -- ---- what is known
 
 pub knows_on : (pushed : List Pushed) (told : Told) (number : Option ℕ) (seen later : Beginning)
     → Follows seen later → Knows pushed told number seen → Knows pushed told number later
-knows_on pushed told None seen later follows knows = tt
+knows_on pushed told None seen later follows knows = knows
 knows_on pushed told (Some n) seen later follows knows = record {
   early = knows.early;
   late = knows.late ++ follows.events.0;
@@ -245,27 +270,38 @@ knows_on pushed told (Some n) seen later follows knows = record {
       ∙ (ap (λ es. es ++ follows.events.0) knows.split
       ∙ append_assoc knows.early knows.late follows.events.0);
   count = knows.count;
-  sets = λ place table h loose. knows.sets place table h loose
+  ordered = knows.ordered;
+  sets = λ place table h. knows.sets place table h
       ∙ ap (λ (b : Beginning). set_named (state_of b.config b.opening knows.early) table)
       (sym follows.same);
 }
 
+-- that the marks are in order is known in any case
+pub knows_ordered : (pushed : List Pushed) (told : Told) (number : Option ℕ) (seen : Beginning)
+    → Knows pushed told number seen → AreOrdered pushed told
+knows_ordered pushed told None seen knows = knows
+knows_ordered pushed told (Some n) seen knows = knows.ordered
+
 -- after a turn over the whole of a list
 pub knows_turned : (pushed : List Pushed) (old new : Told) (now : ℕ) (seen : Beginning)
+    → AreOrdered pushed old
     → new ≡ told_after pushed (sets_in pushed (state_behind seen)) now old
     → KnowsAt pushed new (length seen.events) seen
-knows_turned pushed old new now seen is = record {
+knows_turned pushed old new now seen before is = record {
   early = seen.events;
   late = [];
   split = sym (append-nil seen.events);
   count = refl;
-  sets = λ place table h loose.
-      ap (λ (t : Told). marked (table_at t place).marks) is
-      ∙ (ap (λ (ms : List Mark). marked ms)
+  ordered = subst (λ (t : Told). AreOrdered pushed t) (sym is)
+      (turned_ordered pushed (sets_in pushed (state_behind seen)) now old
+      (sets_ordered pushed (state_behind seen)
+      (ordered seen.config seen.opening seen.events)) before);
+  sets = λ place table h.
+      ap (λ (t : Told). set_of (table_at t place).marks) is
+      ∙ (ap (λ (ms : List Mark). set_of ms)
       (marks_at pushed (sets_in pushed (state_behind seen)) now old place table h)
-      ∙ (set_marked table (turn_at now old)
+      ∙ (set_kept table (turn_at now old)
       (slice_index_or (sets_in pushed (state_behind seen)) place []) (table_at old place).marks
-      loose
       ∙ set_of_place pushed (state_behind seen) place table h));
 }
 
@@ -294,10 +330,11 @@ moved_brings pushed old new seen number moves book now text is since knows now_i
 
 -- and then the sets are known
 pub knows_brought : (pushed : List Pushed) (old new : Told) (seen : Beginning) (text : List ℕ)
-    → Brings pushed old new seen text → KnowsAt pushed new (length seen.events) seen
+    → AreOrdered pushed old → Brings pushed old new seen text
+    → KnowsAt pushed new (length seen.events) seen
 unfolding IsStateOf
-knows_brought pushed old new seen text brings =
-    knows_turned pushed old new brings.book.moment seen
+knows_brought pushed old new seen text before brings =
+    knows_turned pushed old new brings.book.moment seen before
     (brings.told ∙ ap (λ (s : State). told_after pushed (sets_in pushed s) brings.book.moment old)
     brings.stands)
 

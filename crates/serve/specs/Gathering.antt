@@ -1,5 +1,5 @@
 -- What a session gathers of the pushed tables for a turn.
-use Rattle.std.specs.Prelude.{◌≡◌, ℕ, Bool, false, List, Some, map, slice_get}
+use Rattle.std.specs.Prelude.{◌≡◌, ℕ, Bool, List, Some, map, slice_get}
 use Rattle.agg_types.specs.Naming.{place_of}
 use Rattle.fleet_model.specs.State.{State, state_of}
 use Rattle.hub.specs.Changing.{SayBehind}
@@ -13,10 +13,9 @@ use Rattle.telling.specs.declared.pushed.Pushed.{Pushed}
 abbrev pub state_behind : Beginning → State
 state_behind seen = state_of seen.config seen.opening seen.events
 
--- these are the changes of a table without a hold since so many first events of a list
+-- these are the changes of a table since so many first events of a list
 pub record AreSince (table : Pushed) (number : ℕ) (seen : Beginning) (changes : List Change)
     : Type 0 where
-  pub loose : table.holds ≡ false
   pub place : ℕ
   pub named : place_of (λ filter. filter.name) (state_behind seen).config.filters table.name
       ≡ Some place
@@ -33,7 +32,7 @@ said_by_change change = (change.key, change.is_in)
 abbrev pub AreMoves : List Moved → List Change → Type 0
 AreMoves moves changes = map said_by_move moves ≡ map said_by_change changes
 
--- what moved in a table without a hold since so many first events of a list
+-- what moved in a table since so many first events of a list
 pub record IsMovedSince (number : ℕ) (seen : Beginning) (table : Pushed) (moves : List Moved)
     : Type 0 where
   pub changes : List Change

@@ -11,7 +11,7 @@ use std::alloc::Global;
 use telling::{Moved, Pushed};
 
 /// What moved in each pushed table behind the list of so many first events; none where that isn't
-/// known of one of them any more, or one has a hold.
+/// known of one of them any more.
 pub(crate) fn moves_since<'a>(
     alloc: Global,
     look: &'a Look<'_>,
@@ -51,7 +51,7 @@ fn moves_in<'a>(
 }
 
 // What came into the set of a table and what left it behind the list of so many first events; none
-// where that isn't known any more, or it has a hold.
+// where that isn't known any more.
 fn changes_of<'a>(
     look: &'a Look<'_>,
     table: &Pushed,
@@ -62,9 +62,6 @@ fn changes_of<'a>(
         AreSince table.now number look.now.lens.now.seen
         (map (λ change. change.now) changes.items))) }
 {
-    if table.holds {
-        return Ok(None);
-    }
     let Some(place) = place_in(look.book(), table) else {
         return Ok(None);
     };

@@ -8,14 +8,14 @@ use Rattle.std.specs.Ordering.{nat_cmp}
 use Rattle.std.specs.declared.cmp.Ordering.{Ordering}
 use Rattle.std.specs.declared.cmp.Ordering.TheVariants.{Less, Equal, Greater}
 use Rattle.std.proofs.lemmas.Map.Lookups.{exact_bytes}
-use Rattle.telling.specs.Moves.{AreInOrder, IsMovedTo, marked, moved_among, moved_keys}
-use Rattle.telling.specs.Moves.{moved_stands, moved_to, said_of, unmoved}
+use Rattle.telling.specs.Moves.{AreInOrder, BringsTo, marked, moved_among, moved_keys}
+use Rattle.telling.specs.Moves.{moved_stands, moved_to, said_of, set_of, unmoved}
 use Rattle.telling.specs.Stands.{Stand, by_order, in_set, only_told, placed, stands}
 use Rattle.telling.specs.declared.moved.Moved.{Moved}
 use Rattle.telling.specs.declared.told.Mark.{Mark}
 use Rattle.telling.proofs.Comes.{each_set, in_set_by, kept, order_set, set_among, set_by}
-use Rattle.telling.proofs.Comes.{behind_same}
-use Rattle.telling.proofs.Order.{Each, IsBelow, above_below, same_keys, with_itself}
+use Rattle.telling.proofs.Comes.{behind_same, each_behind, set_first}
+use Rattle.telling.proofs.Order.{Each, IsBelow, above_below, below_above, same_keys, with_itself}
 
 -- a key that came or left
 abbrev pub moving : List ℕ → Bool → Option ℕ → Stand
@@ -27,7 +27,7 @@ SkipsNone {X} f = (key : List ℕ) → f (moving key false None) ≡ []
 
 -- a mark that is first in the set too
 stands_same : (mark : Mark) (set : List (List ℕ)) (marks : List Mark)
-    → stands (mark.key ∷ set) (mark ∷ marks) ≡ unmoved mark ∷ stands set marks
+    → stands (mark.key ∷ set) (mark ∷ marks) ≡ in_set mark.key (Some mark.put) ∷ stands set marks
 unfolding stands
 stands_same mark set marks =
     ap (λ order. by_order order (in_set mark.key None ∷ stands set (mark ∷ marks))
@@ -69,12 +69,25 @@ stands_equal key set mark marks is =
     (in_set key (Some mark.put) ∷ stands set marks)
     (only_told mark ∷ placed key (stands set) marks)) is
 
-none_moved : (marks : List Mark) → map unmoved marks ≡ stands (marked marks) marks
-unfolding stands
-none_moved [] = refl
-none_moved (mark ∷ marks) =
-    ap (λ (ss : List Stand). unmoved mark ∷ ss) (none_moved marks)
-    ∙ sym (stands_same mark (marked marks) marks)
+-- a mark that didn't move, where it is first: it is in the set as it was
+unmoved_first : (mark : Mark) (set : List (List ℕ)) (marks : List Mark)
+    → Each (IsBelow mark.key) set
+    → stands (kept mark.is_in mark.key set) (mark ∷ marks) ≡ unmoved mark ∷ stands set marks
+unmoved_first mark set marks below = by mark.is_in
+  where
+    by : (b : Bool) → stands (kept b mark.key set) (mark ∷ marks)
+        ≡ moving mark.key b (Some mark.put) ∷ stands set marks
+    by true = stands_same mark set marks
+    by false = stands_above mark set marks below
+
+none_moved : (marks : List Mark) → AreInOrder (marked marks)
+    → map unmoved marks ≡ stands (set_of marks) marks
+unfolding stands IsStrictlySortedBy
+none_moved [] h = refl
+none_moved (mark ∷ marks) h =
+    ap (λ (ss : List Stand). unmoved mark ∷ ss) (none_moved marks h.1)
+    ∙ sym (ap (λ (keys : List (List ℕ)). stands keys (mark ∷ marks)) (set_first mark marks)
+    ∙ unmoved_first mark (set_of marks) marks (each_set (IsBelow mark.key) [] tt marks h.0))
 
 -- the first key, where it isn't told
 first_new : {X : Type 0} (f : Stand → List X) → SkipsNone f → (b : Bool) (key : List ℕ)
@@ -105,7 +118,7 @@ by_set : {X : Type 0} (f : Stand → List X) → SkipsNone f → (moves : List M
     → AreInOrder (moved_keys moves) → (marks : List Mark) → AreInOrder (marked marks)
     → flat_map f (moved_stands moves marks) ≡ flat_map f (stands (set_by moves marks) marks)
 unfolding moved_stands IsStrictlySortedBy
-by_set f skips [] m marks h = ap (flat_map f) (none_moved marks)
+by_set f skips [] m marks h = ap (flat_map f) (none_moved marks h)
 by_set f skips (move ∷ moves) m [] h =
     first_new f skips move.is_in move.key.now (set_by moves []) []
     (flat_map f (moved_stands moves [])) (stands_none move.key.now (set_by moves []))
@@ -125,7 +138,7 @@ by_set f skips (move ∷ moves) m (mark ∷ marks) h =
         ≡ flat_map f (stands (by_order o
         (kept move.is_in move.key.now (set_by moves (mark ∷ marks)))
         (kept move.is_in move.key.now (set_by moves marks))
-        (mark.key ∷ set_among move (set_by moves) marks)) (mark ∷ marks))
+        (kept mark.is_in mark.key (set_among move (set_by moves) marks))) (mark ∷ marks))
     by Less is g rest =
         first_new f skips move.is_in move.key.now (set_by moves (mark ∷ marks)) (mark ∷ marks)
         (flat_map f (moved_stands moves (mark ∷ marks)))
@@ -138,16 +151,17 @@ by_set f skips (move ∷ moves) m (mark ∷ marks) h =
         (g marks h.1)
     by Greater is g rest =
         ap (λ xs. f (unmoved mark) ++ xs) rest
-        ∙ sym (ap (flat_map f) (stands_same mark (set_among move (set_by moves) marks) marks))
+        ∙ sym (ap (flat_map f) (unmoved_first mark (set_among move (set_by moves) marks) marks
+        (each_behind move moves m.0 mark marks h.0 (below_above move.key.now mark.key is))))
 
 -- so it is of any set that the moves, put in order, come to
 pub by_moves : {X : Type 0} (f : Stand → List X) → SkipsNone f → (moves ordered : List Moved)
     (marks : List Mark) (set : List (List ℕ)) → AreInOrder (moved_keys ordered)
     → ((key : List ℕ) (was : Bool) → said_of key ordered was ≡ said_of key moves was)
-    → IsMovedTo moves (marked marks) set
+    → BringsTo moves marks set
     → flat_map f (moved_stands ordered marks) ≡ flat_map f (stands set marks)
 by_moves f skips moves ordered marks set m same to =
-    by_set f skips ordered m marks to.was
+    by_set f skips ordered m marks to.ordered
     ∙ ap (λ (s : List (List ℕ)). flat_map f (stands s marks))
-    (sym (same_keys set (set_by ordered marks) to.is (order_set ordered m marks to.was)
-    (λ key. to.moved key ∙ sym (in_set_by key ordered m marks to.was ∙ same key _))))
+    (sym (same_keys set (set_by ordered marks) to.moved.is (order_set ordered m marks to.ordered)
+    (λ key. to.moved.moved key ∙ sym (in_set_by key ordered m marks to.ordered ∙ same key _))))

@@ -18,7 +18,6 @@ use Rattle.telling.specs.declared.pushed.Pushed.{Pushed}
 use Rattle.telling.specs.declared.told.Mark.{Mark}
 use Rattle.telling.specs.declared.told.ToldTable.{ToldTable}
 use Rattle.telling.specs.Among.{AllMarks, IsAmong, IsMarked}
-use Rattle.telling.specs.Moves.{marked}
 use Rattle.telling.specs.Rules.{is_due, is_told, is_written, put_after}
 use Rattle.telling.specs.Stands.{Stand, in_set, by_order, only_told, placed, stands}
 use Rattle.telling.specs.Telling.{TableTurn, keys_told, marks_after, table_at, table_turn}
@@ -32,23 +31,13 @@ told_of table turn standing = keys_told table turn.now (marks_after table turn s
 -- ---- one key
 
 -- a mark of a key that is told is its key's
-mark_told : (table : Pushed) (turn : Turn) (key : List ℕ) (put : ℕ) (rest : List Mark)
-    → is_told table turn.now put ≡ true
-    → keys_told table turn.now (record { key = key; put = put } ∷ rest)
-    ≡ key ∷ keys_told table turn.now rest
-mark_told table turn key put rest told =
-    ap (λ (b : Bool). map (λ (m : Mark). m.key) (cond b (record { key = key; put = put }
-    ∷ filter (λ (m : Mark). is_told table turn.now m.put) rest)
+mark_told : (table : Pushed) (turn : Turn) (mark : Mark) (rest : List Mark)
+    → is_told table turn.now mark.put ≡ true
+    → keys_told table turn.now (mark ∷ rest) ≡ mark.key ∷ keys_told table turn.now rest
+mark_told table turn mark rest told =
+    ap (λ (b : Bool). map (λ (m : Mark). m.key) (cond b
+    (mark ∷ filter (λ (m : Mark). is_told table turn.now m.put) rest)
     (filter (λ (m : Mark). is_told table turn.now m.put) rest))) told
-
-mark_gone : (table : Pushed) (turn : Turn) (key : List ℕ) (put : ℕ) (rest : List Mark)
-    → is_told table turn.now put ≡ false
-    → keys_told table turn.now (record { key = key; put = put } ∷ rest)
-    ≡ keys_told table turn.now rest
-mark_gone table turn key put rest gone =
-    ap (λ (b : Bool). map (λ (m : Mark). m.key) (cond b (record { key = key; put = put }
-    ∷ filter (λ (m : Mark). is_told table turn.now m.put) rest)
-    (filter (λ (m : Mark). is_told table turn.now m.put) rest))) gone
 
 told_now : (table : Pushed) (now : ℕ) → 0 < table.life → is_told table now now ≡ true
 told_now table now lives = grind (arith, nat_tests)
@@ -63,13 +52,15 @@ in_told : (table : Pushed) (turn : Turn) (key : List ℕ) (put : Option ℕ) (st
     → told_of table turn (in_set key put ∷ standing) ≡ key ∷ told_of table turn standing
 unfolding put_after
 in_told table turn key None standing lives =
-    mark_told table turn key turn.now (marks_after table turn standing)
-    (told_now table turn.now lives)
+    mark_told table turn (record { key = key; put = turn.now; is_in = true })
+    (marks_after table turn standing) (told_now table turn.now lives)
 in_told table turn key (Some put) standing lives =
     elim (cases_Bool (is_written table turn (Some put))) [
-      | inl is ↦ rw is (mark_told table turn key turn.now (marks_after table turn standing)
-          (told_now table turn.now lives))
-      | inr isnt ↦ rw isnt (mark_told table turn key put (marks_after table turn standing)
+      | inl is ↦ rw is (mark_told table turn
+          (record { key = key; put = turn.now; is_in = true })
+          (marks_after table turn standing) (told_now table turn.now lives))
+      | inr isnt ↦ rw isnt (mark_told table turn
+          (record { key = key; put = put; is_in = true }) (marks_after table turn standing)
           (told_undue table turn.now put (undue turn.anew (is_due table turn.now put) isnt)))
     ]
   where
@@ -80,7 +71,7 @@ in_told table turn key (Some put) standing lives =
 -- the mark of a key that isn't in the set, behind a turn
 unfoldable pub left_mark : Bool → Bool → Mark → List Mark
 left_mark holds told mark =
-    option_to_list (option_map (λ put. record { key = mark.key; put = put })
+    option_to_list (option_map (λ put. record { key = mark.key; put = put; is_in = false })
     (if holds && told then Some mark.put else None))
 
 -- without a hold a key that isn't in the set isn't told
@@ -151,7 +142,8 @@ out_cases table turn mark standing key there =
     by true false is there = inr there
     by true true is there =
         elim (subst (IsAmong key)
-        (mark_told table turn mark.key mark.put (marks_after table turn standing) is) there) [
+        (mark_told table turn (record { key = mark.key; put = mark.put; is_in = false })
+        (marks_after table turn standing) is) there) [
           | inl same ↦ inl (same, is)
           | inr more ↦ inr more
         ]
@@ -170,7 +162,8 @@ out_has table turn mark standing key there =
     by false told is = there
     by true false is = there
     by true true is =
-        subst (IsAmong key) (sym (mark_told table turn mark.key mark.put
+        subst (IsAmong key) (sym (mark_told table turn
+        (record { key = mark.key; put = mark.put; is_in = false })
         (marks_after table turn standing) is)) (inr there)
 
 first_has : (table : Pushed) (turn : Turn) (key other : List ℕ) (put : Option ℕ)
@@ -390,60 +383,3 @@ told_at pushed sets now told place table is =
     ap (λ (o : Option Pushed). option_map_or (λ t. keys_told t now
     (table_at (told_after pushed sets now told) place).marks) o []) is
     ∙ ap (keys_told table now) (marks_at pushed sets now told place table is)
-
--- ---- without a hold, which keys have marks
-
-pub in_marked : (table : Pushed) (turn : Turn) (key : List ℕ) (put : Option ℕ)
-    (standing : List Stand) → marked (marks_after table turn (in_set key put ∷ standing))
-    ≡ key ∷ marked (marks_after table turn standing)
-unfolding put_after
-in_marked table turn key None standing = refl
-in_marked table turn key (Some put) standing =
-    elim (cases_Bool (is_written table turn (Some put))) [
-      | inl is ↦ rw is refl
-      | inr is ↦ rw is refl
-    ]
-
-out_marked : (table : Pushed) (turn : Turn) (mark : Mark) (standing : List Stand)
-    → table.holds ≡ false → marked (marks_after table turn (only_told mark ∷ standing))
-    ≡ marked (marks_after table turn standing)
-unfolding put_after left_mark
-out_marked table turn mark standing loose =
-    ap (λ (b : Bool). marked (left_mark b (is_told table turn.now mark.put) mark
-    ++ marks_after table turn standing)) loose
-
-rest_marked : (table : Pushed) (turn : Turn) (marks : List Mark) → table.holds ≡ false
-    → marked (marks_after table turn (map only_told marks)) ≡ []
-rest_marked table turn [] loose = refl
-rest_marked table turn (mark ∷ marks) loose =
-    out_marked table turn mark (map only_told marks) loose ∙ rest_marked table turn marks loose
-
-placed_marked : (table : Pushed) (turn : Turn) (key : List ℕ) (keys : List (List ℕ))
-    (behind : List Mark → List Stand) (marks : List Mark) → table.holds ≡ false
-    → ((ms : List Mark) → marked (marks_after table turn (behind ms)) ≡ keys)
-    → marked (marks_after table turn (placed key behind marks)) ≡ key ∷ keys
-placed_marked table turn key keys behind [] loose are =
-    in_marked table turn key None (behind []) ∙ ap (λ ks. key ∷ ks) (are [])
-placed_marked table turn key keys behind (mark ∷ marks) loose are =
-    by (slice_cmp nat_cmp key mark.key)
-    (placed_marked table turn key keys behind marks loose are)
-  where
-    by : (o : Ordering) → marked (marks_after table turn (placed key behind marks)) ≡ key ∷ keys
-        → marked (marks_after table turn (by_order o (in_set key None ∷ behind (mark ∷ marks))
-        (in_set key (Some mark.put) ∷ behind marks) (only_told mark ∷ placed key behind marks)))
-        ≡ key ∷ keys
-    by Less later =
-        in_marked table turn key None (behind (mark ∷ marks))
-        ∙ ap (λ ks. key ∷ ks) (are (mark ∷ marks))
-    by Equal later =
-        in_marked table turn key (Some mark.put) (behind marks) ∙ ap (λ ks. key ∷ ks) (are marks)
-    by Greater later = out_marked table turn mark (placed key behind marks) loose ∙ later
-
--- those of the set
-pub set_marked : (table : Pushed) (turn : Turn) (set : List (List ℕ)) (marks : List Mark)
-    → table.holds ≡ false → marked (marks_after table turn (stands set marks)) ≡ set
-unfolding stands
-set_marked table turn [] marks loose = rest_marked table turn marks loose
-set_marked table turn (key ∷ keys) marks loose =
-    placed_marked table turn key keys (stands keys) marks loose
-    (λ ms. set_marked table turn keys ms loose)

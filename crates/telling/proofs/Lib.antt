@@ -7,6 +7,8 @@ pub mod Turns
 pub mod Quiet
 pub mod Whole
 pub mod Brought
+pub mod Kept
+pub mod InOrder
 pub mod Among
 pub mod Order
 pub mod Through

@@ -13,7 +13,8 @@ use Rattle.telling.specs.Telling.{marks_after}
 use Rattle.telling.specs.declared.change.Turn.{Turn}
 use Rattle.telling.specs.declared.pushed.Pushed.{Pushed}
 use Rattle.telling.specs.declared.told.Mark.{Mark}
-use Rattle.telling.proofs.Brought.{in_marked, left_mark}
+use Rattle.telling.proofs.Brought.{left_mark}
+use Rattle.telling.proofs.Kept.{in_marked}
 
 -- the keys that have marks behind a turn over these
 abbrev pub marked_of : Pushed → Turn → List Stand → List (List ℕ)

@@ -1,33 +1,29 @@
 -- Parts that a turn by moves tells whole.
-use Rattle.std.proofs.Common.{◌≡◌, ◌≤◌, ℕ, true, false, List, [], ◌∷◌, ◌++◌}
+use Rattle.std.proofs.Common.{◌≡◌, ◌||◌, ℕ, Bool, true, false, List, [], ◌∷◌, ◌++◌}
 use Rattle.std.proofs.Common.{append_assoc, append-nil}
-use Rattle.std.proofs.Common.{map, min, length, None, Some, inl, inr, refl, sym, ap, subst, ◌∙◌}
+use Rattle.std.proofs.Common.{map, length, None, Some, inl, inr, refl, sym, ap, subst, ◌∙◌}
 use Rattle.std.proofs.lemmas.Bool.{cases_Bool}
 use Rattle.std.proofs.lemmas.List.Concat.{flat_map-append}
-use Rattle.std.proofs.lemmas.List.{length-map}
-use Rattle.std.specs.Bool.{then_some}
+use Rattle.std.proofs.lemmas.List.{length-map, map-append}
 use Rattle.std.specs.List.{AllByRecursion, flat_map}
 use Rattle.std.specs.List.Sorted.{IsStrictlySortedBy}
 use Rattle.std.specs.Prelude.{if◌then◌else◌, option_to_list}
 use Rattle.std.specs.Option.{option_map}
-use Rattle.telling.specs.Among.{AllMarks}
 use Rattle.telling.specs.Moves.{AreInOrder, marked, moved_among, moved_stands, moved_to, unmoved}
-use Rattle.telling.specs.Packed.{IsLast, with_puts}
-use Rattle.telling.specs.Passed.{AreBelow, ArePassed, Done, IsDone}
-use Rattle.telling.specs.Rules.{IsStillFrom, change_of, is_written, put_after, put_again}
+use Rattle.telling.specs.Packed.{IsFrom, IsLast, least_with, with_puts}
+use Rattle.telling.specs.Passed.{AreBelow, ArePassed, Done, IsDone, IsKept}
+use Rattle.telling.specs.Rules.{is_held, is_written, put_after, put_again}
 use Rattle.telling.specs.Stands.{Stand, by_order}
-use Rattle.telling.specs.Telling.{AreQuiet, changes, defined_after, key_change, key_mark}
+use Rattle.telling.specs.Telling.{AreQuiet, defined_after, key_change, key_mark}
 use Rattle.telling.specs.Telling.{last_after, marks_after, text_of, updates, with_definition}
-use Rattle.telling.specs.declared.change.Change.TheVariants.{Put}
 use Rattle.telling.specs.declared.change.Turn.{Turn}
+use Rattle.telling.specs.declared.least.Least.{Least}
 use Rattle.telling.specs.declared.moved.Moved.{Moved}
 use Rattle.telling.specs.declared.pushed.Pushed.{Pushed}
 use Rattle.telling.specs.declared.told.Mark.{Mark}
 use Rattle.telling.proofs.Left.{done_by, done_more, done_then, none_done}
 use Rattle.telling.proofs.Order.{IsBelow, above_below, below_all, order_behind, order_front}
-use Rattle.telling.proofs.Packing.{still_late}
-use Rattle.telling.proofs.Quiet.{no_changes, own_mark, still_marks}
-use Rattle.telling.proofs.Still.{not_before}
+use Rattle.telling.proofs.Packing.{late_more}
 
 -- each of these marks is below a key
 abbrev pub AreUnder : List ℕ → List Mark → Type 0
@@ -71,38 +67,17 @@ part_first (move ∷ moves) part rest o h =
     under_first move (moved_stands moves) part rest
     (each_under move.key.now h.0 part o h.1 h.2)
 
-pub quiet_part : (from : ℕ) (p : Pushed) (turn : Turn) (part : List Mark) → IsStillFrom p turn from
-    → AllMarks (λ key put. from ≤ put) part → AreQuiet p turn (map unmoved part)
-unfolding change_of put_after
-quiet_part from p turn [] limit h = tt
-quiet_part from p turn (mark ∷ part) limit h =
-    let isnt : is_written p turn (Some mark.put) ≡ false =
-    limit mark.put ∙ not_before from mark.put h.0 in
-    let unchanged : change_of p turn true (Some mark.put) ≡ None =
-    ap (λ b. then_some b Put) isnt in
-    let kept : put_after p turn true (Some mark.put) ≡ Some mark.put =
-    ap (λ b. if b then Some turn.now else Some mark.put) isnt in
-    ((unchanged, kept), quiet_part from p turn part limit h.1)
-
-own_marks : (part : List Mark) → flat_map own_mark (map unmoved part) ≡ part
-own_marks [] = refl
-own_marks (mark ∷ part) = ap (λ (ms : List Mark). mark ∷ ms) (own_marks part)
-
 -- a quiet part is told by keeping it
 pub done_quiet : (id : ℕ) (p : Pushed) (turn : Turn) (bytes : List ℕ) (defined last : ℕ)
-    (old kept part : List Mark) → AreQuiet p turn (map unmoved part) → kept ≡ old ++ part
+    (old kept part : List Mark) → AreQuiet p turn (map unmoved part) part → kept ≡ old ++ part
     → IsDone id p turn (record { bytes = bytes; defined = defined; last = last; kept = old })
     (map unmoved part) (record { bytes = bytes; defined = defined; last = last; kept = kept })
 done_quiet id p turn bytes defined last old kept part quiet k =
-    let none : changes p turn (map unmoved part) ≡ [] =
-    no_changes p turn (map unmoved part) quiet in
-    let marks : marks_after p turn (map unmoved part) ≡ part =
-    still_marks p turn (map unmoved part) quiet ∙ own_marks part in
     record {
-      bytes = rw none (sym (append-nil bytes));
-      defined = rw none refl;
-      last = rw none refl;
-      kept = rw marks k;
+      bytes = rw quiet.silent (sym (append-nil bytes));
+      defined = rw quiet.silent refl;
+      last = rw quiet.silent refl;
+      kept = rw quiet.same k;
     }
 
 abbrev concat : List (List Mark) → List Mark
@@ -110,13 +85,21 @@ concat parts = flat_map (λ part. part) parts
 
 -- ---- a part, key by key
 
+-- a mark that is kept, behind the turn
+abbrev pub again : Pushed → Turn → Mark → Mark
+again p turn mark = record {
+  key = mark.key;
+  put = put_again p turn mark.is_in mark.put;
+  is_in = mark.is_in;
+}
+
 -- some marks of a part are told, and these are left
 pub record AreRenewed (id : ℕ) (p : Pushed) (turn : Turn) (all left : List Mark) (puts : List ℕ)
-    (least : ℕ) (old : Done) (bytes : List ℕ) (defined last : ℕ) : Type 0 where
+    (least : Least) (old : Done) (bytes : List ℕ) (defined last : ℕ) : Type 0 where
   pub passed : List Mark
   pub are : all ≡ passed ++ left
-  pub puts_are : puts ≡ map (λ mark. put_again p turn mark.put) passed
-  pub late : AllByRecursion (λ put. least ≤ put) puts
+  pub puts_are : puts ≡ map (λ mark. put_again p turn mark.is_in mark.put) passed
+  pub late : AllByRecursion (λ mark. IsFrom least mark) (map (again p turn) passed)
   pub done : IsDone id p turn old (map unmoved passed) (record {
     bytes = bytes;
     defined = defined;
@@ -124,8 +107,8 @@ pub record AreRenewed (id : ℕ) (p : Pushed) (turn : Turn) (all left : List Mar
     kept = old.kept ++ marks_after p turn (map unmoved passed);
   })
 
-pub none_renewed : (id : ℕ) (p : Pushed) (turn : Turn) (all : List Mark) (least : ℕ) (old : Done)
-    → AreRenewed id p turn all all [] least old old.bytes old.defined old.last
+pub none_renewed : (id : ℕ) (p : Pushed) (turn : Turn) (all : List Mark) (least : Least)
+    (old : Done) → AreRenewed id p turn all all [] least old old.bytes old.defined old.last
 none_renewed id p turn all least old = record {
   passed = [];
   are = refl;
@@ -139,19 +122,12 @@ none_renewed id p turn all least old = record {
   };
 }
 
-puts_more : (p : Pushed) (turn : Turn) (passed : List Mark) (mark : Mark)
-    → map (λ m. put_again p turn m.put) (passed ++ mark ∷ [])
-    ≡ map (λ m. put_again p turn m.put) passed ++ put_again p turn mark.put ∷ []
-puts_more p turn [] mark = refl
-puts_more p turn (first ∷ passed) mark =
-    ap (λ (ps : List ℕ). put_again p turn first.put ∷ ps) (puts_more p turn passed mark)
-
 pub one_renewed : (id : ℕ) (p : Pushed) (turn : Turn) (all left rest : List Mark) (mark : Mark)
-    (puts new_puts : List ℕ) (least new_least : ℕ) (old : Done) (bytes new_bytes : List ℕ)
+    (puts new_puts : List ℕ) (least new_least : Least) (old : Done) (bytes new_bytes : List ℕ)
     (defined new_defined last new_last : ℕ)
     → AreRenewed id p turn all left puts least old bytes defined last → left ≡ mark ∷ rest
-    → new_puts ≡ puts ++ put_again p turn mark.put ∷ []
-    → new_least ≡ min least (put_again p turn mark.put)
+    → new_puts ≡ puts ++ put_again p turn mark.is_in mark.put ∷ []
+    → new_least ≡ least_with least mark.is_in (put_again p turn mark.is_in mark.put)
     → new_bytes ≡ bytes
     ++ text_of (with_definition defined id p (updates p last (key_change p turn (unmoved mark))))
     → new_defined ≡ defined_after defined id (updates p last (key_change p turn (unmoved mark)))
@@ -179,9 +155,12 @@ one_renewed id p turn all left rest mark puts new_puts least new_least old bytes
       passed = before.passed ++ mark ∷ [];
       are = before.are ∙ ap (λ (ms : List Mark). before.passed ++ ms) l
           ∙ sym (append_assoc before.passed (mark ∷ []) rest);
-      puts_are = ps ∙ ap (λ (qs : List ℕ). qs ++ put_again p turn mark.put ∷ []) before.puts_are
-          ∙ sym (puts_more p turn before.passed mark);
-      late = rw (ps, ls) (still_late least (put_again p turn mark.put) puts before.late);
+      puts_are = ps
+          ∙ ap (λ (qs : List ℕ). qs ++ put_again p turn mark.is_in mark.put ∷ []) before.puts_are
+          ∙ sym (map-append (λ (m : Mark). put_again p turn m.is_in m.put) before.passed
+          (mark ∷ []));
+      late = rw (ls, map-append (again p turn) before.passed (mark ∷ []))
+          (late_more least (again p turn mark) (map (again p turn) before.passed) before.late);
       done = record {
         bytes = at_end.bytes;
         defined = at_end.defined;
@@ -190,46 +169,83 @@ one_renewed id p turn all left rest mark puts new_puts least new_least old bytes
       };
     }
 
-put_some : (p : Pushed) (turn : Turn) (put : ℕ)
-    → put_after p turn true (Some put) ≡ Some (put_again p turn put)
+put_some : (p : Pushed) (turn : Turn) (side : Bool) (put : ℕ)
+    → (side || is_held p turn put) ≡ true
+    → put_after p turn side (Some put) ≡ Some (put_again p turn side put)
 unfolding put_after
-put_some p turn put =
+put_some p turn true put kept =
     elim (cases_Bool (is_written p turn (Some put))) [
       | inl is ↦ rw is refl
       | inr isnt ↦ rw isnt refl
     ]
+put_some p turn false put kept = ap (λ b. if b then Some put else None) kept
 
+-- marks with other moments are those of their puts
+with_again : (p : Pushed) (turn : Turn) (marks : List Mark)
+    → with_puts marks (map (λ mark. put_again p turn mark.is_in mark.put) marks)
+    ≡ map (again p turn) marks
+with_again p turn [] = refl
+with_again p turn (mark ∷ marks) =
+    ap (λ (ms : List Mark). again p turn mark ∷ ms) (with_again p turn marks)
+
+-- and those behind the turn where none is dropped
 renewed_marks : (p : Pushed) (turn : Turn) (marks : List Mark)
-    → with_puts marks (map (λ mark. put_again p turn mark.put) marks)
-    ≡ marks_after p turn (map unmoved marks)
-renewed_marks p turn [] = refl
-renewed_marks p turn (mark ∷ marks) =
-    (λ i. record { key = mark.key; put = put_again p turn mark.put } ∷ renewed_marks p turn marks i)
-    ∙ sym (ap (λ o. option_to_list (option_map (λ put. record { key = mark.key; put = put }) o)
-    ++ marks_after p turn (map unmoved marks)) (put_some p turn mark.put))
+    → AllByRecursion (λ mark. IsKept p turn mark) marks
+    → map (again p turn) marks ≡ marks_after p turn (map unmoved marks)
+renewed_marks p turn [] kept = refl
+renewed_marks p turn (mark ∷ marks) kept =
+    ap (λ (ms : List Mark). again p turn mark ∷ ms) (renewed_marks p turn marks kept.1)
+    ∙ sym (ap (λ o. option_to_list (option_map (λ put. record {
+      key = mark.key;
+      put = put;
+      is_in = mark.is_in;
+    }) o) ++ marks_after p turn (map unmoved marks))
+    (put_some p turn mark.is_in mark.put kept.0))
+
+passed_all : (id : ℕ) (p : Pushed) (turn : Turn) (all left : List Mark) (puts : List ℕ)
+    (least : Least) (old : Done) (bytes : List ℕ) (defined last : ℕ)
+    → (h : AreRenewed id p turn all left puts least old bytes defined last) → left ≡ []
+    → all ≡ h.passed
+passed_all id p turn all left puts least old bytes defined last h none =
+    h.are ∙ ap (λ (ms : List Mark). h.passed ++ ms) none ∙ append-nil h.passed
 
 -- as many moments as marks
 pub many_renewed : (id : ℕ) (p : Pushed) (turn : Turn) (all left : List Mark) (puts : List ℕ)
-    (least : ℕ) (old : Done) (bytes : List ℕ) (defined last : ℕ)
+    (least : Least) (old : Done) (bytes : List ℕ) (defined last : ℕ)
     → AreRenewed id p turn all left puts least old bytes defined last → left ≡ []
     → length puts ≡ length all
 many_renewed id p turn all left puts least old bytes defined last h none =
-    let passed : all ≡ h.passed = h.are ∙ ap (λ (ms : List Mark). h.passed ++ ms) none
-    ∙ append-nil h.passed in
-    rw (h.puts_are, passed) (length-map h.passed (λ (mark : Mark). put_again p turn mark.put))
+    rw (h.puts_are, passed_all id p turn all left puts least old bytes defined last h none)
+    (length-map h.passed (λ (mark : Mark). put_again p turn mark.is_in mark.put))
+
+-- and none is before the least
+pub late_renewed : (id : ℕ) (p : Pushed) (turn : Turn) (all left : List Mark) (puts : List ℕ)
+    (least : Least) (old : Done) (bytes : List ℕ) (defined last : ℕ)
+    → AreRenewed id p turn all left puts least old bytes defined last → left ≡ []
+    → AllByRecursion (λ mark. IsFrom least mark) (with_puts all puts)
+late_renewed id p turn all left puts least old bytes defined last h none =
+    rw (
+      h.puts_are,
+      passed_all id p turn all left puts least old bytes defined last h none,
+      with_again p turn h.passed,
+    ) h.late
 
 -- the part is told where no mark is left
 pub all_renewed : (id : ℕ) (p : Pushed) (turn : Turn) (all left : List Mark) (puts : List ℕ)
-    (least : ℕ) (old : Done) (bytes : List ℕ) (defined last : ℕ) (kept part : List Mark)
+    (least : Least) (old : Done) (bytes : List ℕ) (defined last : ℕ) (kept part : List Mark)
+    → AllByRecursion (λ mark. IsKept p turn mark) all
     → AreRenewed id p turn all left puts least old bytes defined last → left ≡ []
     → part ≡ with_puts all puts → kept ≡ old.kept ++ part
     → IsDone id p turn old (map unmoved all)
     (record { bytes = bytes; defined = defined; last = last; kept = kept })
-all_renewed id p turn all left puts least old bytes defined last kept part h none is k =
-    let passed : all ≡ h.passed = h.are ∙ ap (λ (ms : List Mark). h.passed ++ ms) none
-    ∙ append-nil h.passed in
+all_renewed id p turn all left puts least old bytes defined last kept part stays h none is k =
+    let passed : all ≡ h.passed =
+    passed_all id p turn all left puts least old bytes defined last h none in
+    let each : AllByRecursion (λ mark. IsKept p turn mark) h.passed =
+    subst (λ (ms : List Mark). AllByRecursion (λ mark. IsKept p turn mark) ms) passed stays in
     let marks : part ≡ marks_after p turn (map unmoved h.passed) =
-    is ∙ rw (h.puts_are, passed) (renewed_marks p turn h.passed) in
+    is ∙ rw (h.puts_are, passed) (with_again p turn h.passed
+    ∙ renewed_marks p turn h.passed each) in
     rw passed (record {
       bytes = h.done.bytes;
       defined = h.done.defined;

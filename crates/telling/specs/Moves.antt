@@ -1,13 +1,14 @@
 -- What came into sets and what left them since the last turn.
 use Rattle.std.specs.Prelude.{◌≡◌, ℕ, Bool, false, List, [], ◌∷◌, map, if◌then◌else◌}
-use Rattle.std.specs.Prelude.{◌<◌, length, Option, None, Some, slice_index_or}
+use Rattle.std.specs.Prelude.{◌<◌, filter, length, Option, None, Some, slice_get, slice_index_or}
 use Rattle.std.specs.Cmp.Lexicographic.{slice_cmp}
 use Rattle.std.specs.List.{list_any}
 use Rattle.std.specs.List.Sorted.{IsStrictlySortedBy}
 use Rattle.std.specs.Ordering.{nat_cmp}
 use Rattle.std.specs.Str.{bytes_eq}
-use Rattle.telling.specs.Stands.{Stand, by_order, in_set}
-use Rattle.telling.specs.Told.{no_table}
+use Rattle.telling.specs.Stands.{Stand, by_order}
+use Rattle.telling.specs.Telling.{table_at}
+use Rattle.telling.specs.Told.{Told, no_table}
 use Rattle.telling.specs.declared.moved.Moved.{Moved}
 use Rattle.telling.specs.declared.pushed.Pushed.{Pushed}
 use Rattle.telling.specs.declared.told.Mark.{Mark}
@@ -20,6 +21,15 @@ AreInOrder keys = IsStrictlySortedBy (slice_cmp nat_cmp) keys
 -- the keys of marks
 abbrev pub marked : List Mark → List (List ℕ)
 marked marks = map (λ mark. mark.key) marks
+
+-- those of the marks whose keys are in the set
+abbrev pub set_of : List Mark → List (List ℕ)
+set_of marks = marked (filter (λ mark. mark.is_in) marks)
+
+-- the marks of each pushed table, by its place, are in order
+abbrev pub AreOrdered : List Pushed → Told → Type 0
+AreOrdered pushed told = (place : ℕ) (table : Pushed) → slice_get pushed place ≡ Some table
+    → AreInOrder (marked (table_at told place).marks)
 
 -- whether a key is in a set
 abbrev pub is_in : List ℕ → List (List ℕ) → Bool
@@ -37,11 +47,16 @@ pub record IsMovedTo (moves : List Moved) (before after : List (List ℕ)) : Typ
   pub is : AreInOrder after
   pub moved : (key : List ℕ) → is_in key after ≡ said_of key moves (is_in key before)
 
--- these moves of each pushed table, by its place, make the keys that are told of it its set
+-- these moves make the set that a table's marks say another; the marks are in order
+pub record BringsTo (moves : List Moved) (marks : List Mark) (set : List (List ℕ)) : Type 0 where
+  pub ordered : AreInOrder (marked marks)
+  pub moved : IsMovedTo moves (set_of marks) set
+
+-- these moves of each pushed table, by its place, make the set that was told of it its set
 abbrev pub AreMovedTo : List Pushed → List (List Moved) → List ToldTable → List (List (List ℕ))
     → Type 0
 AreMovedTo pushed moves told sets = (place : ℕ) → place < length pushed
-    → IsMovedTo (slice_index_or moves place []) (marked (slice_index_or told place no_table).marks)
+    → BringsTo (slice_index_or moves place []) (slice_index_or told place no_table).marks
     (slice_index_or sets place [])
 
 -- ---- moves beside marks
@@ -50,9 +65,9 @@ AreMovedTo pushed moves told sets = (place : ℕ) → place < length pushed
 abbrev pub moved_to : Moved → Option ℕ → Stand
 moved_to move put = record { key = move.key.now; is_in = move.is_in; put = put }
 
--- a key of the set that didn't move
+-- a key that didn't move: it is in the set where it was
 abbrev pub unmoved : Mark → Stand
-unmoved mark = in_set mark.key (Some mark.put)
+unmoved mark = record { key = mark.key; is_in = mark.is_in; put = Some mark.put }
 
 -- the marks below a key that moved, the key, and then what stands behind it
 abbrev pub moved_among : Moved → (List Mark → List Stand) → List Mark → List Stand

@@ -1,11 +1,12 @@
--- Parts of marks that a turn by moves tells whole.
-use Rattle.std.specs.Prelude.{◌≡◌, ℕ, List, [], ◌∷◌, ◌++◌, map}
+-- Marks that a turn leaves as they are, and parts of marks that a turn by moves tells whole.
+use Rattle.std.specs.Prelude.{◌≡◌, ◌&&◌, ◌||◌, ℕ, true, false, List, [], ◌∷◌, ◌++◌, map, Some}
 use Rattle.std.specs.Cmp.Lexicographic.{slice_cmp}
 use Rattle.std.specs.List.{AllByRecursion, flat_map}
 use Rattle.std.specs.Ordering.{nat_cmp}
-use Rattle.std.specs.declared.cmp.Ordering.TheVariants.{Less}
+use Rattle.std.specs.declared.cmp.Ordering.TheVariants.{Less, Greater}
 use Rattle.telling.specs.Moves.{unmoved}
 use Rattle.telling.specs.Packed.{IsLast}
+use Rattle.telling.specs.Rules.{is_held, is_written}
 use Rattle.telling.specs.Stands.{Stand}
 use Rattle.telling.specs.Telling.{changes, defined_after, last_after, marks_after, text_of}
 use Rattle.telling.specs.Telling.{updates, with_definition}
@@ -13,6 +14,28 @@ use Rattle.telling.specs.declared.change.Turn.{Turn}
 use Rattle.telling.specs.declared.moved.Moved.{Moved}
 use Rattle.telling.specs.declared.pushed.Pushed.{Pushed}
 use Rattle.telling.specs.declared.told.Mark.{Mark}
+
+-- a mark is kept behind a turn in which its key didn't move
+abbrev pub IsKept : Pushed → Turn → Mark → Type 0
+IsKept p turn mark = (mark.is_in || is_held p turn mark.put) ≡ true
+
+-- a key that didn't move isn't due
+abbrev pub IsUndue : Pushed → Turn → Mark → Type 0
+IsUndue p turn mark = (mark.is_in && is_written p turn (Some mark.put)) ≡ false
+
+-- the first of these keys didn't move, isn't due, and keeps its mark, and the rest are left
+pub record IsBehindQuiet (p : Pushed) (turn : Turn) (all left : List Stand) (marks rest : List Mark)
+    : Type 0 where
+  pub mark : Mark
+  pub stands : all ≡ unmoved mark ∷ left
+  pub marks_are : marks ≡ mark ∷ rest
+  pub kept : IsKept p turn mark
+  pub undue : IsUndue p turn mark
+
+-- the first of these keys, if there is one, is above this one
+abbrev pub AreAbove : List ℕ → List (List ℕ) → Type 0
+AreAbove key [] = Unit {0}
+AreAbove key (first ∷ keys) = slice_cmp nat_cmp first key ≡ Greater
 
 -- what is written, which table was defined last, the last id, and the marks that are kept
 pub record Done : Type 0 where

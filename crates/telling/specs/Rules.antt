@@ -34,6 +34,10 @@ abbrev pub is_left : Pushed → Turn → Option ℕ → Bool
 is_left pushed turn None = false
 is_left pushed turn (Some s) = is_told pushed turn.now s
 
+-- whether a key that isn't in the set and was put then keeps its mark
+abbrev pub is_held : Pushed → Turn → ℕ → Bool
+is_held pushed turn s = pushed.holds && is_told pushed turn.now s
+
 -- What is written of a key that is in the set or not, and was last put then, if ever. One that left
 -- the set is taken away while it is told, unless the table holds it.
 unfoldable pub change_of : Pushed → Turn → Bool → Option ℕ → Option Change
@@ -46,6 +50,7 @@ unfoldable pub put_after : Pushed → Turn → Bool → Option ℕ → Option �
 put_after pushed turn true put = if is_written pushed turn put then Some turn.now else put
 put_after pushed turn false put = if pushed.holds && is_left pushed turn put then put else None
 
--- when a key of the set that was put then was last put, behind the turn
-abbrev pub put_again : Pushed → Turn → ℕ → ℕ
-put_again pushed turn s = if is_written pushed turn (Some s) then turn.now else s
+-- when a key that was put then, and whose mark is kept, was last put, behind the turn
+abbrev pub put_again : Pushed → Turn → Bool → ℕ → ℕ
+put_again pushed turn true s = if is_written pushed turn (Some s) then turn.now else s
+put_again pushed turn false s = s

@@ -1,5 +1,5 @@
 -- The keys of a set and of what was told, side by side.
-use Rattle.std.specs.Prelude.{◌≡◌, ◌≤◌, ℕ, Bool, true, false, List, [], ◌∷◌, map}
+use Rattle.std.specs.Prelude.{ℕ, Bool, true, false, List, [], ◌∷◌, map}
 use Rattle.std.specs.Prelude.{Option, None, Some}
 use Rattle.std.specs.Cmp.Lexicographic.{slice_cmp}
 use Rattle.std.specs.Ordering.{nat_cmp}
@@ -23,13 +23,6 @@ in_set key put = record { key = key; is_in = true; put = put }
 -- a key that was told and isn't in the set
 abbrev pub only_told : Mark → Stand
 only_told mark = record { key = mark.key; is_in = false; put = Some mark.put }
-
--- the first of all is a key of the set that was put at this moment or later, and the rest are left
-pub record AreBehindStill (from : ℕ) (all left : List Stand) : Type 0 where
-  pub key : List ℕ
-  pub put : ℕ
-  pub late : from ≤ put
-  pub first : all ≡ in_set key (Some put) ∷ left
 
 -- one of three, as a key is below another, the same or above
 abbrev pub by_order : {A : Type 0} → Ordering → A → A → A → A

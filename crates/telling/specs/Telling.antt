@@ -1,8 +1,8 @@
 -- What a turn writes, as messages, and what was told behind it. The tables are numbered from 1.
 use Rattle.std.specs.Prelude.{◌≡◌, ℕ, ◌+◌, ◌%◌, ◌^◌, true, false, ◌==◌, if◌then◌else◌}
 use Rattle.std.specs.Prelude.{List, [], ◌∷◌, ◌++◌, length, map, filter, slice_index_or, min}
-use Rattle.std.specs.Prelude.{None, Some, option_to_list, slice_get}
-use Rattle.std.specs.List.{flat_map, AllByRecursion}
+use Rattle.std.specs.Prelude.{Some, option_to_list, slice_get}
+use Rattle.std.specs.List.{flat_map}
 use Rattle.std.specs.Option.{option_map, option_map_or}
 use Rattle.agg_types.specs.declared.config.KeyKind.{KeyKind}
 use Rattle.agg_types.specs.declared.config.KeyKind.TheVariants.{Integer, Ip, Ipv6, Str, Binary}
@@ -76,21 +76,24 @@ key_change pushed turn stand =
 abbrev pub changes : Pushed → Turn → List Stand → List (List ℕ × Change)
 changes pushed turn = flat_map (key_change pushed turn)
 
--- a turn writes nothing of these keys and leaves their marks as they are
-abbrev pub AreQuiet : Pushed → Turn → List Stand → Type 0
-AreQuiet pushed turn =
-    AllByRecursion (λ stand. (change_of pushed turn stand.is_in stand.put ≡ None)
-    × (put_after pushed turn stand.is_in stand.put ≡ stand.put))
-
 -- the mark of a key behind a turn, if it has one
 abbrev pub key_mark : Pushed → Turn → Stand → List Mark
 key_mark pushed turn stand =
-    option_to_list (option_map (λ put. record { key = stand.key; put = put })
-    (put_after pushed turn stand.is_in stand.put))
+    option_to_list (option_map (λ put. record {
+      key = stand.key;
+      put = put;
+      is_in = stand.is_in;
+    }) (put_after pushed turn stand.is_in stand.put))
 
 -- the marks of these keys behind a turn, in order
 abbrev pub marks_after : Pushed → Turn → List Stand → List Mark
 marks_after pushed turn = flat_map (key_mark pushed turn)
+
+-- a turn writes nothing of these keys and leaves their marks as they were
+pub record AreQuiet (pushed : Pushed) (turn : Turn) (keys : List Stand) (marks : List Mark)
+    : Type 0 where
+  pub silent : changes pushed turn keys ≡ []
+  pub same : marks_after pushed turn keys ≡ marks
 
 -- update ids count on by one
 abbrev pub next_id : ℕ → ℕ

@@ -1,7 +1,7 @@
 //! What a turn does about one key.
 
 ghost use Rattle.std.specs.Prelude.{◌≡◌, MatchOption, Option};
-ghost use Rattle.telling.specs.Rules.{change_of, is_due, is_left, is_told, is_written};
+ghost use Rattle.telling.specs.Rules.{change_of, is_due, is_held, is_left, is_told, is_written};
 ghost use Rattle.telling.specs.Rules.{put_after, put_again};
 ghost use Rattle.telling.specs.Rules.{IsStillFrom, NoneIsStill};
 
@@ -41,7 +41,7 @@ fn is_due(pushed: &Pushed, now: u64, put: u64) -> bool
 }
 
 /// Whether a turn puts a key of the set that was last put at this moment, in ms, if ever.
-fn is_written(pushed: &Pushed, turn: Turn, put: Option<u64>) -> bool
+pub fn is_written(pushed: &Pushed, turn: Turn, put: Option<u64>) -> bool
     ensures { result ≡ is_written pushed.now turn put }
 {
     match put {
@@ -50,16 +50,23 @@ fn is_written(pushed: &Pushed, turn: Turn, put: Option<u64>) -> bool
     }
 }
 
-/// When a key of the set that was put at this moment was last put, as it stands behind a turn; both
-/// in ms.
-pub fn put_again(pushed: &Pushed, turn: Turn, put: u64) -> u64
-    ensures { result ≡ put_again pushed.now turn put }
+/// When a key that was put at this moment, and whose mark is kept, was last put, as it stands
+/// behind a turn; both in ms.
+pub fn put_again(pushed: &Pushed, turn: Turn, is_in: bool, put: u64) -> u64
+    ensures { result ≡ put_again pushed.now turn is_in put }
 {
-    if is_written(pushed, turn, Some(put)) {
+    if is_in && is_written(pushed, turn, Some(put)) {
         turn.now
     } else {
         put
     }
+}
+
+/// Whether a key that isn't in the set and was put at this moment, in ms, keeps its mark.
+pub fn is_held(pushed: &Pushed, turn: Turn, put: u64) -> bool
+    ensures { result ≡ is_held pushed.now turn put }
+{
+    pushed.holds && is_told(pushed, turn.now, put)
 }
 
 /// The moment, in ms, from which on a key of the set that was put isn't put anew; none where every

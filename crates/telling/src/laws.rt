@@ -4,7 +4,7 @@
 ghost use Rattle.std.specs.Prelude.{◌≡◌, ◌⊎◌, ◌<◌, ℕ, List};
 ghost use Rattle.std.specs.Prelude.{[], Some, false, slice_get, slice_index_or};
 ghost use Rattle.telling.specs.Among.{AllMarks, IsAmong, IsMarked, IsMarkOf};
-ghost use Rattle.telling.specs.Moves.{marked};
+ghost use Rattle.telling.specs.Moves.{marked, set_of};
 ghost use Rattle.telling.specs.Telling.{Told, table_at, told_after, told_keys};
 ghost use Rattle.telling.specs.declared.pushed.Pushed.{Pushed};
 
@@ -17,17 +17,21 @@ pub fn the_set_is_told()
         ≡ slice_index_or sets place [] }
 {}
 
-/// Behind a turn exactly the keys of the set have marks in a table without a hold, so that moves
-/// that make this set another may be given to the next turn.
+/// Behind a turn the marks say the set, so that moves that make this set another may be given to
+/// the next turn. In a table without a hold no other key has a mark.
 pub fn the_set_is_marked()
-    ensures { (pushed : List Pushed) (sets : List (List (List ℕ))) (now : ℕ) (told : Told)
+    ensures set { (pushed : List Pushed) (sets : List (List (List ℕ))) (now : ℕ) (told : Told)
+        (place : ℕ) (table : Pushed) → slice_get pushed place ≡ Some table
+        → set_of (table_at (told_after pushed sets now told) place).marks
+        ≡ slice_index_or sets place [] }
+    ensures all { (pushed : List Pushed) (sets : List (List (List ℕ))) (now : ℕ) (told : Told)
         (place : ℕ) (table : Pushed) → slice_get pushed place ≡ Some table → table.holds ≡ false
         → marked (table_at (told_after pushed sets now told) place).marks
         ≡ slice_index_or sets place [] }
 {}
 
 /// Behind a turn each key of the set has a mark, with a hold too; and each further key with one had
-/// one before, and was put less than its life ago. Moves name these as keys that left.
+/// one before, and was put less than its life ago.
 pub fn the_marks_are_held()
     ensures set { (pushed : List Pushed) (sets : List (List (List ℕ))) (now : ℕ) (told : Told)
         (place : ℕ) (table : Pushed) (key : List ℕ) → slice_get pushed place ≡ Some table

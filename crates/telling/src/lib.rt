@@ -12,12 +12,15 @@
 //! After `NoMemory` a teller is as it was. No clause says that memory is there, nor how fast it
 //! goes. `turn` walks the sets and what was told once, and again where it writes. What was told
 //! lies in parts of at most 256 keys. `turn_by` walks what moved, and the parts in which a key
-//! moved or is due; it takes over the others as they are. Where a life is short and the keys of a
-//! set came at scattered moments, most parts have a key that is due, and each moment is looked at.
+//! moved, is due, or left and has come to the end of its hold; it takes over the others as they
+//! are. Where a life is short and the keys of a set came at scattered moments, most parts have a
+//! key that is due, and each moment is looked at.
 #![tactic(auto)]
 
 mod change;
+mod idle;
 pub mod laws;
+mod least;
 mod marks;
 mod moved;
 mod moving;

@@ -151,16 +151,17 @@ impl Packing {
         }
     }
 
-    /// Adds a mark behind the others. A key of 65,536 bytes meets `NoMemory` too, but no key of the
+    /// Adds a mark behind the others. A key of 32,768 bytes meets `NoMemory` too, but no key of the
     /// peers protocol is that long.
     #[inline]
-    pub fn push(&mut self, key: &[u8], put: u64) -> Result<(), NoMemory>
-        ensures { OnOk result (self.new ≡ self.old ++ record { key = key.now; put = put } ∷ []) }
+    pub fn push(&mut self, key: &[u8], put: u64, is_in: bool) -> Result<(), NoMemory>
+        ensures { OnOk result (self.new
+            ≡ self.old ++ record { key = key.now; put = put; is_in = is_in } ∷ []) }
     {
         if self.fresh.len() >= PART {
             close(&mut self.parts, &mut self.fresh)?;
         }
-        self.fresh.push(key, put)
+        self.fresh.push(key, put, is_in)
     }
 
     /// Whether a part may be taken over whole, rather than joined to the marks before it.

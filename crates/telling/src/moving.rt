@@ -125,13 +125,13 @@ fn moved<'a>(moved: &Moved<'a>, put: Option<u64>) -> Standing<'a>
     }
 }
 
-/// A key of the set that didn't move.
+/// A key that didn't move.
 pub fn standing_on(mark: Lent<'_>) -> Standing<'_>
     ensures { shown result ≡ unmoved (lent mark.entry) }
 {
     Standing {
         key: mark.key,
-        is_in: true,
+        is_in: mark.is_in,
         put: Some(mark.put),
     }
 }

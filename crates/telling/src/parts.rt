@@ -1,17 +1,20 @@
 //! A part of the marks of a table, packed.
 
-ghost use Rattle.std.specs.Prelude.{◌≡◌, ◌≤◌, ◌++◌, ◌∷◌, [], length, IfOk, IsTrue};
+ghost use Rattle.std.specs.Prelude.{◌≡◌, ◌++◌, ◌∷◌, [], length, IfOk, IfSome, IsTrue};
 ghost use Rattle.std.specs.List.{AllByRecursion};
 ghost use Rattle.std.specs.Prelude.{MatchOption, OnErr, OnOk};
-ghost use Rattle.telling.specs.Among.{AllMarks};
-ghost use Rattle.telling.specs.Packed.{IsLast, in_lists, lent, with_puts};
+ghost use Rattle.telling.specs.Packed.{IsFrom, IsLast, IsWord, in_lists, lent, with_puts};
 
+use crate::least::Least;
 use agg_types::NoMemory;
 use std::alloc::Global;
 use std::marker::Model;
 
 /// How many marks a part has at most.
 pub const PART: usize = 256;
+
+/// What is added to the length of a key that isn't in the set. No key is as long.
+pub const LEFT: u16 = 32_768;
 
 /// Marks that are packed: of each the bytes of its key and ten more.
 ///
@@ -20,12 +23,12 @@ pub const PART: usize = 256;
 pub struct Part {
     // The bytes of the keys, one behind the other.
     bytes: Vec<u8>,
-    // How many bytes each key has.
+    // How many bytes each key has, and in the top bit whether it isn't in the set.
     lens: Vec<u16>,
     // The moment, in ms, at which each was last put.
     puts: Vec<u64>,
-    // The least of these moments, and the end of time where there is none.
-    least: u64,
+    // Up to which moments none was put.
+    least: Least,
     // Where the bytes of the last key begin.
     last: usize,
 }
@@ -53,7 +56,7 @@ impl Part {
             bytes: Vec::new(alloc),
             lens: Vec::new(alloc),
             puts: Vec::new(alloc),
-            least: u64::MAX,
+            least: Least::NONE,
             last: 0,
         }
     }
@@ -70,13 +73,14 @@ impl Part {
         self.lens.is_empty()
     }
 
-    /// Adds a mark behind the others. After `NoMemory` they are as they were. A key of 65,536 bytes
+    /// Adds a mark behind the others. After `NoMemory` they are as they were. A key of 32,768 bytes
     /// meets it too, but no key of the peers protocol is that long.
-    pub fn push(&mut self, key: &[u8], put: u64) -> Result<(), NoMemory>
-        ensures ok { OnOk result (self.new ≡ self.old ++ record { key = key.now; put = put } ∷ []) }
+    pub fn push(&mut self, key: &[u8], put: u64, is_in: bool) -> Result<(), NoMemory>
+        ensures ok { OnOk result (self.new
+            ≡ self.old ++ record { key = key.now; put = put; is_in = is_in } ∷ []) }
         ensures err { OnErr result (self.new ≡ self.old) }
     {
-        let Ok(len) = u16::try_from(key.len()) else {
+        let Some(len) = word_of(key.len(), is_in) else {
             return Err(NoMemory);
         };
         let from = self.bytes.len();
@@ -85,7 +89,7 @@ impl Part {
         self.bytes.extend_from_slice(key)?;
         self.lens.push(len).unwrap();
         self.puts.push(put).unwrap();
-        self.least = self.least.min(put);
+        self.least = self.least.with(is_in, put);
         self.last = from;
         Ok(())
     }
@@ -103,10 +107,11 @@ impl Part {
         })
     }
 
-    /// The same keys, with other moments, of which none is before this one.
-    pub fn renewed(&self, puts: Vec<u64>, least: u64) -> Result<Part, NoMemory>
+    /// The same keys, with other moments, of which none is before these.
+    pub fn renewed(&self, puts: Vec<u64>, least: Least) -> Result<Part, NoMemory>
         requires many { length puts.items ≡ length self.now }
-        requires late { AllByRecursion (λ put. least ≤ put) puts.items }
+        requires late { AllByRecursion (λ mark. IsFrom least mark)
+            (with_puts self.now puts.items) }
         ensures { IfOk result (λ part. part ≡ with_puts self.now puts.items) }
     {
         let mut part = self.copied()?;
@@ -122,14 +127,14 @@ impl Part {
         self.bytes.clear();
         self.lens.clear();
         self.puts.clear();
-        self.least = u64::MAX;
+        self.least = Least::NONE;
         self.last = 0;
     }
 
-    /// A moment, in ms, before which none of its keys was put.
+    /// Moments, in ms, before which none of its keys was put.
     #[inline]
-    pub fn least(&self) -> u64
-        ensures { AllMarks (λ key put. result ≤ put) self.now }
+    pub fn least(&self) -> Least
+        ensures { AllByRecursion (λ mark. IsFrom result mark) self.now }
     {
         self.least
     }
@@ -158,6 +163,22 @@ impl Part {
     }
 }
 
+// A key's length, and whether it is in the set, in one word; none where the key is too long.
+fn word_of(len: usize, is_in: bool) -> Option<u16>
+    ensures { IfSome result (λ word. IsWord word len is_in) }
+{
+    let Ok(word) = u16::try_from(len) else {
+        return None;
+    };
+    if word >= LEFT {
+        return None;
+    }
+    if is_in {
+        return Some(word);
+    }
+    Some(word + LEFT)
+}
+
 /// The lists of a part that is lent, without some marks at their front.
 #[derive(Clone, Copy)]
 pub struct Lists<'a> {
@@ -166,11 +187,13 @@ pub struct Lists<'a> {
     pub puts: &'a [u64],
 }
 
-/// A mark that is lent: a key's bytes, and the moment, in ms, at which it was last put.
+/// A mark that is lent: a key's bytes, the moment, in ms, at which it was last put, and whether it
+/// is in the set.
 #[derive(Clone, Copy)]
 pub struct Lent<'a> {
     pub key: &'a [u8],
     pub put: u64,
+    pub is_in: bool,
 }
 
 impl<'a> Lists<'a> {
@@ -205,7 +228,14 @@ impl<'a> Lists<'a> {
         let [put, puts @ ..] = self.puts else {
             return None;
         };
-        let (key, bytes) = self.bytes.split_at(self.bytes.len().min(*len as usize));
-        Some((Lent { key, put: *put }, Lists { bytes, lens, puts }))
+        let (key, bytes) = self
+            .bytes
+            .split_at(self.bytes.len().min((*len % LEFT) as usize));
+        let mark = Lent {
+            key,
+            put: *put,
+            is_in: *len < LEFT,
+        };
+        Some((mark, Lists { bytes, lens, puts }))
     }
 }

@@ -2,16 +2,18 @@
 
 ghost use Rattle.std.specs.Prelude.{◌≡◌, ◌++◌, ◌<◌, length, map, IfOk, IfSome, IsTrue};
 ghost use Rattle.std.specs.Arc.{arc_value};
+ghost use Rattle.std.specs.List.{AllByRecursion};
 ghost use Rattle.telling.specs.Moves.{unmoved};
 ghost use Rattle.telling.specs.Packed.{marks_of};
-ghost use Rattle.telling.specs.Passed.{AreBelow, ArePassed, IsDone};
-ghost use Rattle.telling.specs.Telling.{AreQuiet};
+ghost use Rattle.telling.specs.Passed.{AreBelow, ArePassed, IsDone, IsKept};
 
-use crate::change::{Turn, put_again, still_from};
+use crate::change::{Turn, put_again};
+use crate::idle::{is_undue, keeps_all};
+use crate::least::Least;
 use crate::marks::{Packed, Packing};
 use crate::moving::standing_on;
 use crate::parts::Part;
-use crate::turning::say;
+use crate::turning::{keep, say};
 use crate::written::Written;
 use crate::{Moved, Pushed};
 use agg_types::NoMemory;
@@ -84,7 +86,7 @@ fn is_below(part: &Part, moves: &[Moved<'_>]) -> bool
 }
 
 // Tells a part in which no key moved, and gives the id of the last update. Where none of its keys
-// is due it is taken over.
+// is due, and none of its marks is dropped, it is taken over.
 fn pass_part(
     written: &mut Written,
     turn: Turn,
@@ -106,26 +108,18 @@ fn pass_part(
       kept = kept.new;
     })) }
 {
-    if is_still(part, pushed, turn) {
-        kept.take_over(part)?;
-        Ok(last)
-    } else {
-        tell_part(written, turn, id, pushed, last, part, kept)
+    if !keeps_all(part, pushed, turn) {
+        return tell_marks(written, turn, id, pushed, last, part, kept);
     }
-}
-
-// Whether none of a part's keys is due.
-fn is_still(part: &Part, pushed: &Pushed, turn: Turn) -> bool
-    ensures { IsTrue result → AreQuiet pushed.now turn (map unmoved part.now) }
-{
-    let Some(from) = still_from(pushed, turn) else {
-        return false;
-    };
-    from <= part.least()
+    if !is_undue(part, pushed, turn) {
+        return tell_part(written, turn, id, pushed, last, part, kept);
+    }
+    kept.take_over(part)?;
+    Ok(last)
 }
 
 // Tells a part in which no key moved, key by key, and gives the id of the last update.
-fn tell_part(
+fn tell_marks(
     written: &mut Written,
     turn: Turn,
     id: u64,
@@ -147,14 +141,48 @@ fn tell_part(
     })) }
 {
     let mut last = last;
-    let mut least = u64::MAX;
+    let mut left = part.lend();
+    while let Some((mark, rest)) = left.split_first() {
+        let standing = standing_on(mark);
+        last = say(written, turn, id, pushed, last, standing)?;
+        keep(kept, turn, pushed, standing)?;
+        left = rest;
+    }
+    Ok(last)
+}
+
+// Tells a part in which no key moved and no mark is dropped, and gives the id of the last update.
+fn tell_part(
+    written: &mut Written,
+    turn: Turn,
+    id: u64,
+    pushed: &Pushed,
+    last: u32,
+    part: &Part,
+    kept: &mut Packing,
+) -> Result<u32, NoMemory>
+    requires { AllByRecursion (λ mark. IsKept pushed.now turn mark) part.now }
+    ensures { IfOk result (λ after. IsDone id pushed.now turn (record {
+      bytes = written.old.bytes.items;
+      defined = written.old.defined;
+      last = last;
+      kept = kept.old;
+    }) (map unmoved part.now) (record {
+      bytes = written.new.bytes.items;
+      defined = written.new.defined;
+      last = after;
+      kept = kept.new;
+    })) }
+{
+    let mut last = last;
+    let mut least = Least::NONE;
     let mut puts = Vec::with_capacity(*written.bytes.allocator(), part.len())?;
     let mut left = part.lend();
     while let Some((mark, rest)) = left.split_first() {
         last = say(written, turn, id, pushed, last, standing_on(mark))?;
-        let put = put_again(pushed, turn, mark.put);
+        let put = put_again(pushed, turn, mark.is_in, mark.put);
         puts.push(put)?;
-        least = least.min(put);
+        least = least.with(mark.is_in, put);
         left = rest;
     }
     kept.add(part.renewed(puts, least)?)?;

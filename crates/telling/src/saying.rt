@@ -2,7 +2,7 @@
 
 ghost use Rattle.std.specs.Prelude.{◌≡◌, ◌+◌, ◌++◌, ◌<◌, ◌^◌, [], List, ℕ, map};
 ghost use Rattle.std.specs.Prelude.{slice_index_or, IfOk, OnOk};
-ghost use Rattle.telling.specs.Moves.{AreMovedTo, IsMovedTo, marked};
+ghost use Rattle.telling.specs.Moves.{AreMovedTo, BringsTo};
 ghost use Rattle.telling.specs.Packed.{marks_of};
 ghost use Rattle.telling.specs.Told.{no_table};
 ghost use Rattle.telling.specs.Telling.{defined_after, last_defined, table_turn, table_turns};
@@ -54,21 +54,21 @@ fn tell_moved_at(
     told: &[ToldTable],
 ) -> Result<ToldTable, NoMemory>
     requires { place < 2 ^ 63 }
-    ensures bytes { OnOk result ((set : List (List ℕ)) → IsMovedTo
+    ensures bytes { OnOk result ((set : List (List ℕ)) → BringsTo
         (slice_index_or (map (λ ms. ms.items) moves.now) place [])
-        (marked (slice_index_or told.now place no_table).marks) set
+        (slice_index_or told.now place no_table).marks set
         → written.new.bytes.items ≡ written.old.bytes.items
         ++ text_of (with_definition written.old.defined (place + 1) pushed.now (table_turn turn
         (place + 1) pushed.now set (slice_index_or told.now place no_table)).updates)) }
-    ensures defined { OnOk result ((set : List (List ℕ)) → IsMovedTo
+    ensures defined { OnOk result ((set : List (List ℕ)) → BringsTo
         (slice_index_or (map (λ ms. ms.items) moves.now) place [])
-        (marked (slice_index_or told.now place no_table).marks) set
+        (slice_index_or told.now place no_table).marks set
         → written.new.defined ≡ defined_after written.old.defined (place + 1) (table_turn turn
         (place + 1) pushed.now set (slice_index_or told.now place no_table)).updates) }
     ensures after { IfOk result (λ after. (set : List (List ℕ))
-        → IsMovedTo
+        → BringsTo
         (slice_index_or (map (λ ms. ms.items) moves.now) place [])
-        (marked (slice_index_or told.now place no_table).marks) set
+        (slice_index_or told.now place no_table).marks set
         → after ≡ (table_turn turn (place + 1) pushed.now set
         (slice_index_or told.now place no_table)).after) }
 {
@@ -92,16 +92,16 @@ fn tell_moved(
     marks: Packed<'_>,
 ) -> Result<ToldTable, NoMemory>
     ensures bytes { OnOk result ((set : List (List ℕ))
-        → IsMovedTo moves.now (marked (marks_of marks.entry)) set
+        → BringsTo moves.now (marks_of marks.entry) set
         → written.new.bytes.items ≡ written.old.bytes.items
         ++ text_of (with_definition written.old.defined id pushed.now (table_turn turn id pushed.now
         set (record { last = last; marks = marks_of marks.entry })).updates)) }
     ensures defined { OnOk result ((set : List (List ℕ))
-        → IsMovedTo moves.now (marked (marks_of marks.entry)) set
+        → BringsTo moves.now (marks_of marks.entry) set
         → written.new.defined ≡ defined_after written.old.defined id (table_turn turn id pushed.now
         set (record { last = last; marks = marks_of marks.entry })).updates) }
     ensures after { IfOk result (λ after. (set : List (List ℕ))
-        → IsMovedTo moves.now (marked (marks_of marks.entry)) set
+        → BringsTo moves.now (marks_of marks.entry) set
         → after ≡ (table_turn turn id pushed.now set
         (record { last = last; marks = marks_of marks.entry })).after) }
 {

@@ -1,14 +1,10 @@
 //! The keys of a set and of what was told, side by side.
 
-ghost use Rattle.std.specs.Prelude.{◌≡◌, [], ◌∷◌, ◌≤◌, length, map, IfSome, MatchOption};
+ghost use Rattle.std.specs.Prelude.{◌≡◌, [], ◌∷◌, length, map, MatchOption};
 ghost use Rattle.std.specs.Iterator.{at_most};
 ghost use Rattle.std.specs.Map.Iter.{TakesFirst};
 ghost use Rattle.telling.specs.Packed.{lent, marks_of};
-ghost use Rattle.telling.specs.Rules.{IsStillFrom};
-ghost use Rattle.telling.specs.Stands.{AreBehindStill, in_set, only_told, shown, stands};
-ghost use Rattle.telling.specs.Telling.{AreQuiet};
-ghost use Rattle.telling.specs.declared.change.Turn.{Turn};
-ghost use Rattle.telling.specs.declared.pushed.Pushed.{Pushed};
+ghost use Rattle.telling.specs.Stands.{in_set, only_told, shown, stands};
 
 use crate::marks::Packed;
 use crate::parts::Lent;
@@ -51,16 +47,6 @@ impl<'a> Stands<'a> {
     {
         Stands { set, marks }
     }
-
-    /// Passes over the keys of the set at the front that were put at this moment, in ms, or later.
-    #[inline]
-    pub fn pass_still(&mut self, from: u64)
-        ensures quiet { (pushed : Pushed) (turn : Turn) → IsStillFrom pushed turn from
-            → AreQuiet pushed turn self.new → AreQuiet pushed turn self.old }
-        ensures fewer { length self.new ≤ length self.old }
-    {
-        *self = behind_still(self.set, self.marks, from);
-    }
 }
 
 impl<'a> Iterator for Stands<'a> {
@@ -74,46 +60,6 @@ impl<'a> Iterator for Stands<'a> {
         let (standing, left) = first_standing(self.set, self.marks)?;
         *self = left;
         Some(standing)
-    }
-}
-
-// What is left of a set and of what was told behind the keys at the front that are in both and were
-// put at this moment, in ms, or later.
-#[inline]
-fn behind_still<'a>(set: &'a [&'a Key], marks: Packed<'a>, from: u64) -> Stands<'a>
-    ensures quiet { (pushed : Pushed) (turn : Turn) → IsStillFrom pushed turn from
-        → AreQuiet pushed turn result
-        → AreQuiet pushed turn (stands (map (λ key. key.now) set.now) (marks_of marks.entry)) }
-    ensures fewer { length result
-        ≤ length (stands (map (λ key. key.now) set.now) (marks_of marks.entry)) }
-{
-    let mut left = (set, marks);
-    while let Some(behind) = behind_one(left.0, left.1, from) {
-        left = behind;
-    }
-    Stands::new(left.0, left.1)
-}
-
-// The same behind one key, if there is one.
-#[inline]
-fn behind_one<'a>(
-    set: &'a [&'a Key],
-    marks: Packed<'a>,
-    from: u64,
-) -> Option<(&'a [&'a Key], Packed<'a>)>
-    ensures { IfSome result (λ left. AreBehindStill from
-        (stands (map (λ key. key.now) set.now) (marks_of marks.entry))
-        (stands (map (λ key. key.now) left.0.now) (marks_of left.1))) }
-{
-    let [key, others @ ..] = set else {
-        return None;
-    };
-    let key: &Key = key;
-    let (mark, rest) = marks.split_first()?;
-    if from <= mark.put && key.as_slice() == mark.key {
-        Some((others, rest))
-    } else {
-        None
     }
 }
 

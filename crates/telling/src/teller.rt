@@ -9,6 +9,7 @@ ghost use Rattle.telling.specs.Telling.{keys_told, told_after, told_keys, turn_a
 ghost use Rattle.telling.specs.Telling.{untold};
 
 use crate::change::{Turn, is_told};
+use crate::idle::are_idle;
 use crate::marks::Packed;
 use crate::saying::tell_all_moved;
 use crate::turning::{are_quiet, define_all, tell_all, told_at};
@@ -21,8 +22,8 @@ use std::marker::Model;
 /// What one connection was told of the pushed tables.
 ///
 /// Contracts see of each table the last update id and the keys that were put, each with the moment
-/// at which it was last put; which table was defined last; whether the first turn was made; and
-/// whether all is asked for anew.
+/// at which it was last put, and whether its set had it at the last turn; which table was defined
+/// last; whether the first turn was made; and whether all is asked for anew.
 #[derive(Drop)]
 pub struct Teller {
     alloc: Global,
@@ -101,11 +102,12 @@ impl Teller {
     /// as it was.
     ///
     /// Of each table the moves are the keys that came into its set or left it since the last turn,
-    /// in any order. Of a key that is named more than once the last word counts. In a table with a
-    /// hold the keys that left earlier are named too, until their life has gone by.
+    /// in any order. Of a key that is named more than once the last word counts. That set is what
+    /// the marks say (`laws::the_set_is_marked`), with a hold too.
     ///
     /// A turn goes through what moved, and through the parts of what was told in which a key moved
-    /// or is due. The other parts it passes.
+    /// or is due, or the life of one that left has gone by. The other parts it passes. A turn in
+    /// which nothing moved and no part is gone through takes no memory.
     pub fn turn_by(
         &mut self,
         pushed: &[Pushed],
@@ -122,6 +124,9 @@ impl Teller {
             → self.new ≡ told_after pushed.now sets now self.old) }
         ensures err { OnErr result (self.new ≡ self.old) }
     {
+        if self.is_idle(pushed, moves, now) {
+            return Ok(Vec::new(self.alloc));
+        }
         let turn = self.turn_at(now);
         let mut written = self.begin(pushed)?;
         let tables = tell_all_moved(&mut written, turn, pushed, moves, self.tables.as_slice())?;
@@ -174,6 +179,21 @@ impl Teller {
             return false;
         }
         are_quiet(self.turn_at(now), pushed, sets, self.tables.as_slice())
+    }
+
+    // Whether a turn by moves writes nothing and leaves all as it is.
+    fn is_idle(&self, pushed: &[Pushed], moves: &[Vec<Moved<'_>>], now: u64) -> bool
+        ensures text { IsTrue result → (sets : List (List (List ℕ)))
+            → AreMovedTo pushed.now (map (λ ms. ms.items) moves.now) self.now.tables sets
+            → turn_text pushed.now sets now self.now ≡ [] }
+        ensures told { IsTrue result → (sets : List (List (List ℕ)))
+            → AreMovedTo pushed.now (map (λ ms. ms.items) moves.now) self.now.tables sets
+            → told_after pushed.now sets now self.now ≡ self.now }
+    {
+        if !self.begun || self.anew {
+            return false;
+        }
+        are_idle(self.turn_at(now), pushed, moves, self.tables.as_slice())
     }
 
     // What stands before the updates of a turn: before the first all definitions.

@@ -3,11 +3,13 @@
 use crate::Marks;
 use agg_types::Key;
 
-/// A key, and the moment, in ms, at which it was last put, as contracts see them in `Marks`.
+/// A key, the moment, in ms, at which it was last put, and whether its set had it at the last turn,
+/// as contracts see them in `Marks`.
 #[derive(Debug, Drop)]
 pub struct Mark {
     pub key: Key,
     pub put: u64,
+    pub is_in: bool,
 }
 
 /// What was told of a table: the id of its last update, 0 before the first, and the keys that were

@@ -2,21 +2,24 @@
 
 ghost use Rattle.std.specs.Prelude.{◌≡◌, ◌+◌, ◌++◌, ◌<◌, ◌^◌, []};
 ghost use Rattle.std.specs.Prelude.{ℕ, length, map, slice_index_or, IfOk};
-ghost use Rattle.std.specs.Prelude.{IsTrue, OnOk};
+ghost use Rattle.std.specs.Prelude.{IfSome, IsTrue, OnOk};
 ghost use Rattle.telling.specs.Packed.{marks_of};
+ghost use Rattle.telling.specs.Passed.{AreAbove, IsBehindQuiet};
+ghost use Rattle.telling.specs.Rules.{IsStillFrom};
 ghost use Rattle.telling.specs.Told.{no_table};
 ghost use Rattle.telling.specs.Telling.{defined_after, last_defined, table_turn, table_turns};
 ghost use Rattle.telling.specs.Telling.{text_of, update_messages, with_definition, AreQuiet};
 ghost use Rattle.telling.specs.Telling.{definitions, last_after, key_change, key_mark, updates};
 ghost use Rattle.telling.specs.Stands.{shown, stands};
 
-use crate::change::{Turn, change_of, put_after, still_from};
+use crate::change::{Turn, change_of, is_held, put_after, still_from};
 use crate::marks::{Packed, Packing};
 use crate::stands::{Standing, Stands};
 use crate::written::Written;
 use crate::{Pushed, ToldTable};
 use agg_types::{Items, Key, NoMemory};
 use std::alloc::Global;
+use std::cmp::Ordering;
 
 /// Writes the definitions of these tables.
 pub fn define_all(pushed: &[Pushed], written: &mut Written) -> Result<(), NoMemory>
@@ -170,7 +173,7 @@ pub fn keep(
     let Some(put) = put_after(pushed, turn, standing.is_in, standing.put) else {
         return Ok(());
     };
-    marks.push(standing.key, put)
+    marks.push(standing.key, put, standing.is_in)
 }
 
 /// Whether a turn writes nothing about these tables and leaves each as it is.
@@ -205,7 +208,8 @@ fn is_quiet_at(
 ) -> bool
     ensures { IsTrue result → AreQuiet pushed.now turn (stands
         (slice_index_or (map (λ set. map (λ key. key.now) set.items) sets.now) place [])
-        (slice_index_or told.now place no_table).marks) }
+        (slice_index_or told.now place no_table).marks)
+        (slice_index_or told.now place no_table).marks }
 {
     let (_, marks) = told_at(told, place);
     match sets.get(place) {
@@ -217,20 +221,61 @@ fn is_quiet_at(
 // Whether a turn writes nothing about a table and leaves its marks as they are.
 fn is_quiet(turn: Turn, pushed: &Pushed, set: &[&Key], marks: Packed<'_>) -> bool
     ensures { IsTrue result → AreQuiet pushed.now turn
-        (stands (map (λ key. key.now) set.now) (marks_of marks.entry)) }
+        (stands (map (λ key. key.now) set.now) (marks_of marks.entry)) (marks_of marks.entry) }
 {
     let Some(from) = still_from(pushed, turn) else {
         return false;
     };
-    let mut left = Stands::new(set, marks);
-    left.pass_still(from);
-    while let Some(standing) = left.next() {
-        let change = change_of(pushed, turn, standing.is_in, standing.put);
-        let put = put_after(pushed, turn, standing.is_in, standing.put);
-        if change.is_some() || put != standing.put {
-            return false;
-        }
-        left.pass_still(from);
+    let mut left = (set, marks);
+    while let Some(behind) = behind_quiet(pushed, turn, from, left.0, left.1) {
+        left = behind;
     }
-    true
+    left.0.is_empty() && left.1.split_first().is_none()
+}
+
+// What is left of a set and of marks behind the first mark, if a turn writes nothing of its key and
+// leaves it as it is. Keys of the set that were put at a moment, in ms, or later aren't due.
+#[inline]
+fn behind_quiet<'a>(
+    pushed: &Pushed,
+    turn: Turn,
+    from: u64,
+    set: &'a [&'a Key],
+    marks: Packed<'a>,
+) -> Option<(&'a [&'a Key], Packed<'a>)>
+    requires { IsStillFrom pushed.now turn from }
+    ensures { IfSome result (λ left. IsBehindQuiet pushed.now turn
+        (stands (map (λ key. key.now) set.now) (marks_of marks.entry))
+        (stands (map (λ key. key.now) left.0.now) (marks_of left.1))
+        (marks_of marks.entry) (marks_of left.1)) }
+{
+    let (mark, rest) = marks.split_first()?;
+    if !mark.is_in {
+        return if is_held(pushed, turn, mark.put) && are_above(mark.key, set) {
+            Some((set, rest))
+        } else {
+            None
+        };
+    }
+    let [key, others @ ..] = set else {
+        return None;
+    };
+    let key: &Key = key;
+    if from <= mark.put && key.as_slice() == mark.key {
+        Some((others, rest))
+    } else {
+        None
+    }
+}
+
+// Whether the first key of a set, if it has one, is above a key.
+#[inline]
+fn are_above(key: &[u8], set: &[&Key]) -> bool
+    ensures { IsTrue result → AreAbove key.now (map (λ key. key.now) set.now) }
+{
+    let [first, ..] = set else {
+        return true;
+    };
+    let first: &Key = first;
+    first.as_slice().cmp(&key) == Ordering::Greater
 }

@@ -4,17 +4,13 @@ use Rattle.std.proofs.Common.{map, Option, None, Some, refl, sym, ap, subst, ◌
 use Rattle.std.specs.Prelude.{option_to_list, not}
 use Rattle.std.specs.Bool.{then_some}
 use Rattle.std.specs.Cmp.Lexicographic.{slice_cmp}
-use Rattle.std.specs.List.{AllByRecursion}
 use Rattle.std.specs.List.Sorted.{IsStrictlySortedBy}
 use Rattle.std.specs.Option.{option_map}
-use Rattle.std.specs.Ordering.{is_eq, nat_cmp}
+use Rattle.std.specs.Ordering.{nat_cmp}
 use Rattle.std.specs.Str.{bytes_eq}
 use Rattle.std.specs.declared.cmp.Ordering.{Ordering}
 use Rattle.std.specs.declared.cmp.Ordering.TheVariants.{Less, Equal, Greater}
-use Rattle.std.proofs.lemmas.Cmp.{nat_list_cmp_total}
 use Rattle.std.proofs.lemmas.Map.Lookups.{exact_bytes}
-use Rattle.std.proofs.lemmas.Map.Text.{is_eq-slice_cmp}
-use Rattle.std.proofs.lemmas.Slice.Eq.{bytes_eq-Decides}
 use Rattle.telling.specs.Rules.{change_of, put_after}
 use Rattle.telling.specs.Stands.{Stand, by_order, in_set, only_told, placed, stands}
 use Rattle.telling.specs.Telling.{changes, marks_after}
@@ -23,40 +19,13 @@ use Rattle.telling.specs.declared.change.Change.TheVariants.{TakeAway}
 use Rattle.telling.specs.declared.change.Turn.{Turn}
 use Rattle.telling.specs.declared.pushed.Pushed.{Pushed}
 use Rattle.telling.specs.declared.told.Mark.{Mark}
+pub use Rattle.telling.proofs.InOrder.{each_marked, each_stand, order_marked, order_stands}
+use Rattle.telling.proofs.InOrder.{stand_keys}
+pub use Rattle.telling.proofs.Order.{Each, IsBelow, alike, unlike}
+use Rattle.telling.proofs.Order.{below_above, each_above, not_in}
 use Rattle.turn_laws.specs.Keys.{AreInOrder, change_for, is_in, keys_of, put_of}
 
 -- ---- keys in order
-
-abbrev pub IsBelow : List ℕ → List ℕ → Type 0
-IsBelow a b = slice_cmp nat_cmp a b ≡ Less
-
-abbrev pub Each : (List ℕ → Type 0) → List (List ℕ) → Type 0
-Each P keys = AllByRecursion P keys
-
-below_above : (a b : List ℕ) → slice_cmp nat_cmp a b ≡ Greater → IsBelow b a
-below_above a b e = nat_list_cmp_total.antisymm b a ∙ ap turned e
-  where
-    turned : Ordering → Ordering
-    turned Less = Greater
-    turned Equal = Equal
-    turned Greater = Less
-
-each_below : (a b : List ℕ) (keys : List (List ℕ)) → IsBelow a b → Each (IsBelow b) keys
-    → Each (IsBelow a) keys
-each_below a b [] ab h = tt
-each_below a b (key ∷ keys) ab h =
-    (nat_list_cmp_total.trans a b key ab h.0, each_below a b keys ab h.1)
-
-pub unlike : (a b : List ℕ) → IsBelow a b → bytes_eq a b ≡ false
-unlike a b e = sym (is_eq-slice_cmp a b) ∙ ap is_eq e
-
-pub alike : (a b : List ℕ) → bytes_eq a b ≡ true → a ≡ b
-alike a b e = (bytes_eq-Decides a b).0 e
-
--- a key below others isn't one of them
-pub not_in : (key : List ℕ) (set : List (List ℕ)) → Each (IsBelow key) set → is_in key set ≡ false
-not_in key [] h = refl
-not_in key (other ∷ set) h = rw (unlike key other h.0) (not_in key set h.1)
 
 pub not_put : (key : List ℕ) (marks : List Mark) → Each (IsBelow key) (keys_of marks)
     → put_of key marks ≡ None
@@ -67,79 +36,6 @@ pub not_changed : (key : List ℕ) (cs : List (List ℕ × Change))
     → Each (IsBelow key) (map (λ c. c.0) cs) → change_for key cs ≡ None
 not_changed key [] h = refl
 not_changed key (c ∷ cs) h = rw (unlike key c.0 h.0) (not_changed key cs h.1)
-
--- ---- the keys that stand side by side
-
-abbrev pub stand_keys : List Stand → List (List ℕ)
-stand_keys standing = map (λ stand. stand.key) standing
-
-told_keys_are : (marks : List Mark) → stand_keys (map only_told marks) ≡ keys_of marks
-told_keys_are [] = refl
-told_keys_are (mark ∷ marks) = ap (λ keys. mark.key ∷ keys) (told_keys_are marks)
-
-each_placed : (P : List ℕ → Type 0) (key : List ℕ) (behind : List Mark → List Stand)
-    (marks : List Mark) → P key
-    → ((ms : List Mark) → Each P (keys_of ms) → Each P (stand_keys (behind ms)))
-    → Each P (keys_of marks) → Each P (stand_keys (placed key behind marks))
-each_placed P key behind [] k f h = (k, f [] tt)
-each_placed P key behind (mark ∷ marks) k f h =
-    by (slice_cmp nat_cmp key mark.key) (each_placed P key behind marks k f h.1)
-  where
-    by : (o : Ordering) → Each P (stand_keys (placed key behind marks))
-        → Each P (stand_keys (by_order o (in_set key None ∷ behind (mark ∷ marks))
-        (in_set key (Some mark.put) ∷ behind marks) (only_told mark ∷ placed key behind marks)))
-    by Less later = (k, f (mark ∷ marks) h)
-    by Equal later = (k, f marks h.1)
-    by Greater later = (h.0, later)
-
--- what holds of each key of a set and of marks holds of each that stands side by side
-pub each_stand : (P : List ℕ → Type 0) (set : List (List ℕ)) (marks : List Mark) → Each P set
-    → Each P (keys_of marks) → Each P (stand_keys (stands set marks))
-unfolding stands
-each_stand P [] marks s h = subst (Each P) (sym (told_keys_are marks)) h
-each_stand P (key ∷ set) marks s h =
-    each_placed P key (stands set) marks s.0 (λ ms m. each_stand P set ms s.1 m) h
-
-order_placed : (key : List ℕ) (set : List (List ℕ)) (marks : List Mark)
-    → Each (IsBelow key) set
-    → ((ms : List Mark) → AreInOrder (keys_of ms) → AreInOrder (stand_keys (stands set ms)))
-    → AreInOrder (keys_of marks) → AreInOrder (stand_keys (placed key (stands set) marks))
-unfolding IsStrictlySortedBy
-order_placed key set [] below f h = (each_stand (IsBelow key) set [] below tt, f [] tt)
-order_placed key set (mark ∷ marks) below f h =
-    by (slice_cmp nat_cmp key mark.key) refl (order_placed key set marks below f h.1)
-  where
-    by : (o : Ordering) → slice_cmp nat_cmp key mark.key ≡ o
-        → AreInOrder (stand_keys (placed key (stands set) marks))
-        → AreInOrder (stand_keys (by_order o (in_set key None ∷ stands set (mark ∷ marks))
-        (in_set key (Some mark.put) ∷ stands set marks)
-        (only_told mark ∷ placed key (stands set) marks)))
-    by Less is later = (
-      each_stand (IsBelow key) set (mark ∷ marks) below
-          (is, each_below key mark.key (keys_of marks) is h.0),
-      f (mark ∷ marks) h,
-    )
-    by Equal is later = (
-      each_stand (IsBelow key) set marks below
-          (subst (λ (k : List ℕ). Each (IsBelow k) (keys_of marks))
-          (sym (exact_bytes key mark.key is)) h.0),
-      f marks h.1,
-    )
-    by Greater is later =
-        let under : IsBelow mark.key key = below_above key mark.key is in (
-          each_placed (IsBelow mark.key) key (stands set) marks under
-              (λ ms m. each_stand (IsBelow mark.key) set ms
-              (each_below mark.key key set under below) m) h.0,
-          later,
-        )
-
--- keys stand side by side in order
-pub order_stands : (set : List (List ℕ)) (marks : List Mark) → AreInOrder set
-    → AreInOrder (keys_of marks) → AreInOrder (stand_keys (stands set marks))
-unfolding stands IsStrictlySortedBy
-order_stands [] marks s h = subst AreInOrder (sym (told_keys_are marks)) h
-order_stands (key ∷ set) marks s h =
-    order_placed key set marks s.0 (λ ms m. order_stands set ms s.1 m) h
 
 -- ---- what stands of one key
 
@@ -196,7 +92,7 @@ placed_side key first set (mark ∷ marks) below f h =
         (put_of key (mark ∷ marks)) (at_key key (stands set (mark ∷ marks))) (f (mark ∷ marks) h)
         (λ same. sym (not_put key (mark ∷ marks)
         (subst (λ (k : List ℕ). Each (IsBelow k) (mark.key ∷ keys_of marks))
-        (sym (alike key first same)) (is, each_below first mark.key (keys_of marks) is h.0))))
+        (sym (alike key first same)) (is, each_above first mark.key (keys_of marks) is h.0))))
         (λ _. refl)
     by Equal is later =
         let same : bytes_eq key first ≡ bytes_eq key mark.key =
@@ -211,7 +107,7 @@ placed_side key first set (mark ∷ marks) below f h =
         (put_of key marks) (at_key key (placed first (stands set) marks)) later
         (λ same. not_in key (first ∷ set)
         (subst (λ (k : List ℕ). Each (IsBelow k) (first ∷ set)) (sym (alike key mark.key same))
-        (under, each_below mark.key first set under below)))
+        (under, each_above mark.key first set under below)))
 
 -- of a key stand whether the set has it, and when it was put
 pub sides : (key : List ℕ) (set : List (List ℕ)) (marks : List Mark) → AreInOrder set
@@ -302,47 +198,14 @@ changed_at key table turn (s ∷ standing) h =
 
 -- ---- marks
 
-each_mark : (P : List ℕ → Type 0) (key : List ℕ) (o : Option ℕ) (ms : List Mark) → P key
-    → Each P (keys_of ms)
-    → Each P (keys_of
-    (option_to_list (option_map (λ put. record { key = key; put = put }) o) ++ ms))
-each_mark P key None ms k h = h
-each_mark P key (Some put) ms k h = (k, h)
-
--- what holds of each key that stands holds of each that has a mark behind the turn
-pub each_marked : (P : List ℕ → Type 0) (table : Pushed) (turn : Turn) (standing : List Stand)
-    → Each P (stand_keys standing) → Each P (keys_of (marks_after table turn standing))
-each_marked P table turn [] h = tt
-each_marked P table turn (s ∷ standing) h =
-    each_mark P s.key (put_after table turn s.is_in s.put) (marks_after table turn standing) h.0
-    (each_marked P table turn standing h.1)
-
-order_mark : (key : List ℕ) (o : Option ℕ) (ms : List Mark) → Each (IsBelow key) (keys_of ms)
-    → AreInOrder (keys_of ms)
-    → AreInOrder (keys_of
-    (option_to_list (option_map (λ put. record { key = key; put = put }) o) ++ ms))
-unfolding IsStrictlySortedBy
-order_mark key None ms k h = h
-order_mark key (Some put) ms k h = (k, h)
-
--- marks behind a turn are in order
-pub order_marked : (table : Pushed) (turn : Turn) (standing : List Stand)
-    → AreInOrder (stand_keys standing)
-    → AreInOrder (keys_of (marks_after table turn standing))
-unfolding IsStrictlySortedBy
-order_marked table turn [] h = tt
-order_marked table turn (s ∷ standing) h =
-    order_mark s.key (put_after table turn s.is_in s.put) (marks_after table turn standing)
-    (each_marked (IsBelow s.key) table turn standing h.0)
-    (order_marked table turn standing h.1)
-
-put_here : (key own : List ℕ) (o : Option ℕ) (ms : List Mark) (b : Bool)
+put_here : (key own : List ℕ) (side : Bool) (o : Option ℕ) (ms : List Mark) (b : Bool)
     → bytes_eq key own ≡ b → (b ≡ true → put_of key ms ≡ None)
-    → put_of key (option_to_list (option_map (λ put. record { key = own; put = put }) o) ++ ms)
+    → put_of key (option_to_list
+    (option_map (λ put. record { key = own; put = put; is_in = side }) o) ++ ms)
     ≡ cond b o (put_of key ms)
-put_here key own None ms true e h = h refl
-put_here key own None ms false e h = refl
-put_here key own (Some put) ms b e h =
+put_here key own side None ms true e h = h refl
+put_here key own side None ms false e h = refl
+put_here key own side (Some put) ms b e h =
     ap (λ (x : Bool). cond x (Some put) (put_of key ms)) e
 
 no_put : (table : Pushed) (turn : Turn) → put_after table turn false None ≡ None
@@ -361,8 +224,8 @@ pub marked_at : (key : List ℕ) (table : Pushed) (turn : Turn) (standing : List
 unfolding IsStrictlySortedBy
 marked_at key table turn [] h = sym (no_put table turn)
 marked_at key table turn (s ∷ standing) h =
-    put_here key s.key (put_after table turn s.is_in s.put) (marks_after table turn standing)
-    (bytes_eq key s.key) refl none
+    put_here key s.key s.is_in (put_after table turn s.is_in s.put)
+    (marks_after table turn standing) (bytes_eq key s.key) refl none
     ∙ by (bytes_eq key s.key) (marked_at key table turn standing h.1)
   where
     none : bytes_eq key s.key ≡ true → put_of key (marks_after table turn standing) ≡ None

@@ -8,7 +8,6 @@ pub returns : goal.returns
 returns c =
     let seen = c.args.look.now.lens.now.seen in
     record {
-      loose = c.if-table.false;
       place = c.in-Some.place;
       named = named_in c.book.result.now seen c.place_in.result c.in-Some.place
           c.args.table.now.name c.book.ensures c.place_in.ensures c.in-Some.is;

@@ -1,6 +1,6 @@
 use Rattle.std.proofs.Common.{[], ◌∷◌, ◌+◌, ◌∙◌, ap, sym, subst, drop, map, List, ℕ, ◌++◌}
 use Rattle.std.specs.Prelude.{slice_index_or}
-use Rattle.telling.specs.Moves.{IsMovedTo, marked}
+use Rattle.telling.specs.Moves.{BringsTo}
 use Rattle.telling.specs.Told.{no_table}
 use Rattle.telling.specs.Telling.{TableTurn, table_turn, table_turns}
 use Rattle.telling.proofs.Turns.{AllDone, AreDone, done_by_all, table_done, turns_more}
@@ -25,9 +25,9 @@ loop-before-preserved c = λ sets to new h.
     (slice_index_or c.args.told.now c.loop-before.before no_table) in
     let rest : List TableTurn = table_turns c.args.turn sets c.args.told.now
     (c.loop-before.before + 1) (drop (c.loop-before.before + 1) c.args.pushed.now) in
-    let moved : IsMovedTo (slice_index_or (map (λ ms. ms.items) c.args.moves.now)
-    c.loop-before.before []) (marked (slice_index_or c.args.told.now c.loop-before.before
-    no_table).marks) set = to c.loop-before.before c.loop-before-test.true in
+    let moved : BringsTo (slice_index_or (map (λ ms. ms.items) c.args.moves.now)
+    c.loop-before.before []) (slice_index_or c.args.told.now c.loop-before.before no_table).marks
+    set = to c.loop-before.before c.loop-before-test.true in
     c.loop-before.invariant sets to new (subst (λ (ts : List TableTurn). AreDone at ts new)
     (sym (turns_more c.args.turn sets c.args.told.now c.loop-before.before c.args.pushed.now
     c.index-pushed-before.result c.loop-before-test.true c.index-pushed-before.is))

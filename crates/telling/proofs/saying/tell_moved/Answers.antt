@@ -1,6 +1,6 @@
 use Rattle.std.proofs.Common.{◌≡◌, ◌∙◌, ◌++◌, ap, subst, sym, Bool, List, ℕ}
 use Rattle.std.proofs.lemmas.Result.{IfOk-weaker, on_ok_weaker}
-use Rattle.telling.specs.Moves.{AreInOrder, IsMovedTo, marked, moved_keys, moved_stands, said_of}
+use Rattle.telling.specs.Moves.{AreInOrder, BringsTo, moved_keys, moved_stands, said_of}
 use Rattle.telling.specs.Packed.{marks_of}
 use Rattle.telling.specs.Stands.{stands}
 use Rattle.telling.specs.Telling.{changes, defined_after, last_after, table_turn}
@@ -22,7 +22,7 @@ said c key was =
     ∙ c.in_ok-ordered.ensures.said key was
 
 changes_are : (c : goal.After-drop-ordered) (set : List (List ℕ))
-    → IsMovedTo c.args.moves.now (marked (marks_of c.args.marks)) set
+    → BringsTo c.args.moves.now (marks_of c.args.marks) set
     → changes c.args.pushed.now c.args.turn
     (moved_stands c.as_slice.result.now (marks_of c.args.marks))
     ≡ changes c.args.pushed.now c.args.turn (stands set (marks_of c.args.marks))
@@ -33,7 +33,7 @@ changes_are c set to =
 pub returns-clause-bytes : goal.returns-clause-bytes
 unfolding table_turn
 returns-clause-bytes c = on_ok_weaker c.tell_moves.result (λ h set to.
-    h to.was ∙ ap (λ (cs : List (List ℕ × Change)). c.args.written.now.bytes.items
+    h to.ordered ∙ ap (λ (cs : List (List ℕ × Change)). c.args.written.now.bytes.items
     ++ text_of (with_definition c.args.written.now.defined c.args.id c.args.pushed.now
     (updates c.args.pushed.now c.args.last cs))) (changes_are c set to))
     c.tell_moves.ensures.bytes
@@ -41,7 +41,7 @@ returns-clause-bytes c = on_ok_weaker c.tell_moves.result (λ h set to.
 pub returns-clause-defined : goal.returns-clause-defined
 unfolding table_turn
 returns-clause-defined c = on_ok_weaker c.tell_moves.result (λ h set to.
-    h to.was ∙ ap (λ (cs : List (List ℕ × Change)). defined_after c.args.written.now.defined
+    h to.ordered ∙ ap (λ (cs : List (List ℕ × Change)). defined_after c.args.written.now.defined
     c.args.id (updates c.args.pushed.now c.args.last cs)) (changes_are c set to))
     c.tell_moves.ensures.defined
 
@@ -51,4 +51,4 @@ returns-clause-after c = IfOk-weaker c.tell_moves.result _ _ (λ after h set to.
     let last = ap (last_after c.args.last) (changes_are c set to) in
     let marks = same_marks c.args.pushed.now c.args.turn c.args.moves.now c.as_slice.result.now
     (marks_of c.args.marks) set (order c) (said c) to in
-    h to.was ∙ (λ i. record { last = last i; marks = marks i })) c.tell_moves.ensures.after
+    h to.ordered ∙ (λ i. record { last = last i; marks = marks i })) c.tell_moves.ensures.after

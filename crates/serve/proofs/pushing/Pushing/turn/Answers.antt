@@ -1,9 +1,10 @@
-use Rattle.std.proofs.Common.{◌≡◌, ◌∙◌, IfSome, List, MatchOption, Option}
+use Rattle.std.proofs.Common.{◌≡◌, ◌∙◌, List, MatchOption, Option}
 use Rattle.std.proofs.Common.{Some, refl, subst, sym}
 use Rattle.std.specs.Option.{option_map}
 use Rattle.hub.specs.Views.{Seeing}
 use Rattle.serve.specs.Knowing.{Knows, Pushing}
 use Rattle.serve.specs.Tellings.{Brings, TurnsTo}
+use Rattle.telling.specs.Moves.{AreOrdered}
 use Rattle.telling.specs.declared.pushed.Pushed.{Pushed}
 use Rattle.serve.proofs.Moving.{knows_on, turns_by}
 use Rattle.serve.proofs.pushing.Pushing.turn.Goals as goal
@@ -13,7 +14,8 @@ say-text-requires c =
     let inside = c.self.inside in
     let lens = c.in_ok-lens.lens in
     let had : inside.lens ≡ Some lens = sym c.take.ensures.value ∙ c.in_ok-lens.was in
-    let known = subst (λ (l : Option Seeing). IfSome l
+    let known = subst (λ (l : Option Seeing). MatchOption l
+    (AreOrdered inside.pushed inside.teller)
     (λ lens. Knows inside.pushed inside.teller inside.told lens.seen)) had c.self.invariant in
     subst (λ (p : List Pushed). Knows p inside.teller inside.told c.show_last.new.lens.seen)
     (sym c.as_slice-pushed.ensures)

@@ -1,9 +1,10 @@
-use Rattle.std.proofs.Common.{subst, ◌≤◌}
-use Rattle.telling.specs.Among.{AllMarks}
-use Rattle.telling.proofs.Packing.{marks_late}
+use Rattle.std.proofs.Common.{List, subst}
+use Rattle.std.specs.List.{AllByRecursion}
+use Rattle.telling.specs.Packed.{IsFrom}
+use Rattle.telling.specs.declared.told.Mark.{Mark}
 use Rattle.telling.proofs.parts.Part.least.Goals as goal
 
 pub returns : goal.returns
 returns c =
-    subst (AllMarks (λ key put. c.self.inside.least ≤ put)) c.self.view_is
-    (marks_late _ _ _ c.self.inside.least c.self.invariant.late)
+    subst (λ (marks : List Mark). AllByRecursion (λ mark. IsFrom c.self.inside.least mark) marks)
+    c.self.view_is c.self.invariant.late
