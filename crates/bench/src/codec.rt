@@ -5,14 +5,14 @@
 
 ghost use Rattle.std.specs.Prelude.{◌<◌};
 
-use crate::measure::a_second;
+use crate::measure::{a_second, now, since};
 use agg_types::{Col, Config};
 use anyhow::Result;
 use peers_msg::{Feed, put_int};
 use session_core::Session;
 use std::alloc::Global;
 use std::rt::Clock;
-use std::time::Instant;
+use std::time::Duration;
 use test_support::{HELLO, scattered};
 
 /// How many updates are read.
@@ -141,31 +141,53 @@ fn report<R: Print + Eprint + Clock>(
     what: &str,
     size: usize,
     count: u64,
-    start: Instant,
+    start: Duration,
 ) -> Result<()> {
-    let per_second = a_second(count, start.elapsed(rt)?);
+    let per_second = a_second(count, since(rt, start));
     println!(rt; "{what}, pieces of {size}: {count}")?;
-    eprintln!(rt; "{what}, pieces of {size}: {per_second} a second")?;
+    let _ = eprintln!(rt; "{what}, pieces of {size}: {per_second} a second");
     Ok(())
+}
+
+/// Measures a feed, and then a session, that reads bytes in pieces of this size.
+fn measure_size<R: Print + Eprint + Clock>(
+    rt: &R,
+    alloc: Global,
+    config: &Config,
+    defined: &[u8],
+    bytes: &[u8],
+    size: usize,
+) -> Result<()>
+    requires { 0 < size }
+{
+    let start = now(rt);
+    let count = read(alloc, bytes, size)?;
+    report(rt, "updates of a feed", size, count, start)?;
+    let start = now(rt);
+    let count = facts(alloc, config, defined, bytes, size)?;
+    report(rt, "facts of a session", size, count, start)
+}
+
+/// Measures updates of these columns, in pieces of two sizes.
+fn measure_columns<R: Print + Eprint + Clock>(
+    rt: &R,
+    alloc: Global,
+    cols: &[(Col, u32)],
+    bytes: &[u8],
+) -> Result<()> {
+    println!(rt; "{} columns, {} bytes", cols.len(), bytes.len())?;
+    let config = config(alloc, cols)?;
+    let defined = definition(alloc, cols)?;
+    measure_size(rt, alloc, &config, defined.as_slice(), bytes, 16_384)?;
+    measure_size(rt, alloc, &config, defined.as_slice(), bytes, 100)
 }
 
 /// Measures updates of some or of all columns.
 fn measure<R: Print + Eprint + Clock>(rt: &R, alloc: Global, all: bool) -> Result<()> {
     let cols = columns(alloc, all)?;
-    let config = config(alloc, cols.as_slice())?;
-    let defined = definition(alloc, cols.as_slice())?;
     let values = values(alloc, cols.as_slice())?;
     let bytes = stream(alloc, values.as_slice())?;
-    println!(rt; "{} columns, {} bytes", cols.len(), bytes.len())?;
-    for size in [16_384, 100] {
-        let start = Instant::now(rt)?;
-        let count = read(alloc, bytes.as_slice(), size)?;
-        report(rt, "updates of a feed", size, count, start)?;
-        let start = Instant::now(rt)?;
-        let count = facts(alloc, &config, defined.as_slice(), bytes.as_slice(), size)?;
-        report(rt, "facts of a session", size, count, start)?;
-    }
-    Ok(())
+    measure_columns(rt, alloc, cols.as_slice(), bytes.as_slice())
 }
 
 /// Measures updates of three columns, and then of all.

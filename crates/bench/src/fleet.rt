@@ -15,7 +15,7 @@ mod asking;
 mod load;
 mod proxies;
 
-use crate::fleet::asking::Standing;
+use crate::fleet::asking::NOTHING;
 use crate::fleet::load::Load;
 use crate::fleet::proxies::Proxies;
 use crate::words::number_at;
@@ -28,12 +28,7 @@ pub const SMALL: Load = Load {
     peers: 1,
     texts: false,
     lives: true,
-    standing: Standing {
-        rare: false,
-        every: false,
-        busy: false,
-        rank: false,
-    },
+    standing: NOTHING,
 };
 
 /// The load that the words ask for.
@@ -47,7 +42,7 @@ pub fn asked(words: &[String]) -> Result<Load> {
         peers: 1,
         texts: false,
         lives: false,
-        standing: Standing::default(),
+        standing: NOTHING,
     };
     for word in words.iter().skip(2) {
         match word.as_str() {

@@ -1,10 +1,10 @@
 //! What a benchmark tells on standard error: how long steps took, how many came in a second, and
-//! how much memory they left in use.
+//! how much memory they left in use. Where the system doesn't tell a time, it is 0; what standard
+//! error doesn't take is lost.
 
-use anyhow::Result;
 use std::fmt::Display;
 use std::fs;
-use std::rt::Files;
+use std::rt::{Clock, Files};
 use std::time::{CpuClock, Duration};
 
 /// How many bytes a page of resident memory has.
@@ -16,16 +16,25 @@ pub fn a_second(count: u64, time: Duration) -> u128 {
 }
 
 /// The processor time that was used so far, which other processes don't lengthen.
-pub fn time_used(rt: &HostRuntime) -> Result<Duration> {
-    Ok(rt.thread_cpu_time()?)
+pub fn time_used(rt: &HostRuntime) -> Duration {
+    rt.thread_cpu_time().unwrap_or(Duration::ZERO)
+}
+
+/// The time on a clock that never goes back.
+pub fn now<R: Clock>(rt: &R) -> Duration {
+    rt.monotonic().unwrap_or(Duration::ZERO)
+}
+
+/// How long it is since an earlier time on that clock.
+pub fn since<R: Clock>(rt: &R, start: Duration) -> Duration {
+    now(rt).saturating_sub(start)
 }
 
 /// Prints how much processor time each of so many steps took since an earlier time, in nanoseconds.
-pub fn print_time(rt: &HostRuntime, what: &str, start: Duration, steps: u32) -> Result<()> {
-    let used = time_used(rt)?.saturating_sub(start);
+pub fn print_time(rt: &HostRuntime, what: &str, start: Duration, steps: u32) {
+    let used = time_used(rt).saturating_sub(start);
     let nanos = used.as_nanos() / u128::from(steps.max(1));
-    eprintln!(rt; "{what}: {nanos} ns each")?;
-    Ok(())
+    let _ = eprintln!(rt; "{what}: {nanos} ns each");
 }
 
 /// The program's resident memory, in bytes, or none where the system doesn't tell it.
@@ -47,10 +56,9 @@ pub fn print_memory<R: Eprint, D: Display + Copy>(
     what: D,
     grown: Option<u64>,
     number: u32,
-) -> Result<()> {
+) {
     if let Some(grown) = grown {
         let bytes = grown / u64::from(number.max(1));
-        eprintln!(rt; "{what}: {bytes} bytes of resident memory each")?;
+        let _ = eprintln!(rt; "{what}: {bytes} bytes of resident memory each");
     }
-    Ok(())
 }

@@ -25,28 +25,29 @@ struct Put {
     number: u8,
 }
 
-fn update(peer: usize, table: usize, number: u8) -> Put {
-    Put {
-        peer,
-        table,
-        number,
-    }
+/// A key that a peer puts: the peer, the table and the key's number.
+macro_rules! put {
+    ($peer:expr, $table:expr, $number:expr) => {
+        Put {
+            peer: $peer,
+            table: $table,
+            number: $number,
+        }
+    };
 }
 
 /// What is put, and when the book is looked at then, in ms: nothing is dropped; both peers have no
 /// room; a peer has none within the same minute, twice; a held key comes again; the minute is over;
 /// the other table is full.
-fn scenes() -> [(u64, [Put; 3]); 7] {
-    [
-        (0, [update(0, 0, 1), update(1, 0, 1), update(0, 1, 1)]),
-        (1000, [update(0, 0, 2), update(1, 0, 2), update(0, 0, 1)]),
-        (2000, [update(1, 0, 3), update(1, 0, 1), update(0, 0, 1)]),
-        (60_999, [update(1, 0, 4), update(1, 0, 1), update(0, 0, 1)]),
-        (61_000, [update(0, 0, 1), update(1, 0, 1), update(0, 1, 1)]),
-        (61_001, [update(1, 0, 5), update(1, 0, 1), update(0, 0, 1)]),
-        (61_500, [update(0, 1, 2), update(0, 1, 3), update(0, 1, 4)]),
-    ]
-}
+const SCENES: [(u64, [Put; 3]); 7] = [
+    (0, [put!(0, 0, 1), put!(1, 0, 1), put!(0, 1, 1)]),
+    (1000, [put!(0, 0, 2), put!(1, 0, 2), put!(0, 0, 1)]),
+    (2000, [put!(1, 0, 3), put!(1, 0, 1), put!(0, 0, 1)]),
+    (60_999, [put!(1, 0, 4), put!(1, 0, 1), put!(0, 0, 1)]),
+    (61_000, [put!(0, 0, 1), put!(1, 0, 1), put!(0, 1, 1)]),
+    (61_001, [put!(1, 0, 5), put!(1, 0, 1), put!(0, 0, 1)]),
+    (61_500, [put!(0, 1, 2), put!(0, 1, 3), put!(0, 1, 4)]),
+];
 
 // A book whose only seat is the session of both peers.
 fn opened(alloc: Global, config: Config) -> Result<Book, NoMemory>
@@ -78,7 +79,7 @@ fn play<R: Print + Wait + AllocGlobal>(
     book: &mut Book,
 ) -> Result<(), NoMemory> {
     let mut fullness = Fullness::new(notes.alloc, 2, 2)?;
-    for (moment, puts) in scenes() {
+    for (moment, puts) in SCENES {
         for put in puts {
             take(notes.alloc, book, put)?;
         }

@@ -74,27 +74,71 @@ fn show_doors(journal: &Journal, clock: &(impl Clock + Wait)) {
     }
 }
 
-/// Prints the lines of all that is told.
-pub fn show<R: Print + Wait + Copy + AllocGlobal>(rt: &R) -> io::Result<()> {
-    println!(rt; "== the log")?;
-    let Ok(config) = agg_config::read(rt.alloc(), CONFIGURATION) else {
-        return println!(rt; "no configuration");
-    };
-    let morning = Still {
-        rt: *rt,
-        seconds: Some(MORNING),
-    };
-    let journal = Journal::new(rt.alloc());
-    show_doors(&journal, &morning);
+/// A peer that calls again.
+fn show_replaced<R: Print + Wait>(notes: &Notes<'_, Still<R>>) {
     let replaced = Event::PeerReplaced {
         peer: b"lb1",
         address: sender(),
         updates: 812,
     };
-    journal.note(&morning, replaced);
-    let connections = Connections::new(rt.alloc());
+    notes.journal.note(&notes.rt, replaced);
+}
+
+/// Connections that are turned away, before and after a turn of the timer.
+fn show_turned_away<R: Print + Wait>(rt: &R, notes: &Notes<'_, Still<R>>) {
+    notes.tell(SESSION, News::TurnedAway(sender()));
+    notes.tell(Place::Admin, News::TurnedAway(sender()));
+    notes.tell(SESSION, News::TurnedAway(None));
+    notes
+        .connections
+        .turn_away(rt, SocketAddr::V4(address(41235)));
+    notes
+        .connections
+        .turn_away(rt, SocketAddr::V4(address(41236)));
+    notes.turn(SESSION);
+    notes.turn(Place::Timer);
+    notes
+        .connections
+        .turn_away(rt, SocketAddr::V4(address(41237)));
+    notes.turn(Place::Timer);
+}
+
+/// Prints the lines of all that is told.
+fn show_lines<R: Print + Wait + Copy + AllocGlobal>(
+    rt: &R,
+    notes: &Notes<'_, Still<R>>,
+) -> io::Result<()> {
+    show_doors(notes.journal, &notes.rt);
+    show_replaced(notes);
+    notes.tell(SESSION, News::Came(0));
+    notes.tell(SESSION, News::Came(1));
+    status::define(rt, notes)?;
+    show_ends(rt, notes);
+    show_turned_away(rt, notes);
+    for name in NAMES {
+        show_stranger(notes, Some(name), Some(&Cause::Read));
+    }
+    show_unknown(notes.connections, notes);
+    notes.journal.write_out(&notes.rt);
+    show_moments(rt);
+    show_crowd(rt);
+    full::show(rt, notes)
+}
+
+/// Prints the lines of all that is told, and what operators are told.
+pub fn show<R: Print + Wait + Copy + AllocGlobal>(rt: &R) -> io::Result<()> {
+    println!(rt; "== the log")?;
+    let Ok(config) = agg_config::read(rt.alloc(), CONFIGURATION) else {
+        return println!(rt; "no configuration");
+    };
     let Ok(board) = Board::new(rt.alloc(), 2) else {
         return println!(rt; "no board");
+    };
+    let journal = Journal::new(rt.alloc());
+    let connections = Connections::new(rt.alloc());
+    let morning = Still {
+        rt: *rt,
+        seconds: Some(MORNING),
     };
     let clock = Ticks {
         rt: Still {
@@ -112,30 +156,18 @@ pub fn show<R: Print + Wait + Copy + AllocGlobal>(rt: &R) -> io::Result<()> {
         clock: &clock,
         board: &board,
     };
-    notes.tell(SESSION, News::Came(0));
-    notes.tell(SESSION, News::Came(1));
-    status::define(rt, &notes)?;
-    show_ends(rt, &notes);
-    notes.tell(SESSION, News::TurnedAway(sender()));
-    notes.tell(Place::Admin, News::TurnedAway(sender()));
-    notes.tell(SESSION, News::TurnedAway(None));
-    connections.turn_away(rt, SocketAddr::V4(address(41235)));
-    connections.turn_away(rt, SocketAddr::V4(address(41236)));
-    notes.turn(SESSION);
-    notes.turn(Place::Timer);
-    connections.turn_away(rt, SocketAddr::V4(address(41237)));
-    notes.turn(Place::Timer);
-    for name in NAMES {
-        show_stranger(&notes, Some(name), Some(&Cause::Read));
-    }
-    show_unknown(&connections, &notes);
-    journal.write_out(&notes.rt);
-    show_moments(rt);
-    show_crowd(rt);
-    full::show(rt, &notes)?;
+    show_lines(rt, &notes)?;
+    show_asked(rt, &notes)
+}
+
+/// Prints what operators are told.
+fn show_asked<R: Print + Wait + AllocGlobal>(
+    rt: &R,
+    notes: &Notes<'_, Still<R>>,
+) -> io::Result<()> {
     println!(rt; "== what operators ask")?;
     match agg_config::read(rt.alloc(), CONFIGURATION) {
-        Ok(config) => status::show(rt, &notes, config),
+        Ok(config) => status::show(rt, notes, config),
         Err(_) => println!(rt; "no configuration"),
     }
 }

@@ -215,35 +215,80 @@ fn show_prepared(rt: &(impl Print + AllocGlobal)) -> io::Result<()> {
     Ok(())
 }
 
-/// Prints how it ends where a stream fails.
-fn show_torn(rt: &(impl Print + AllocGlobal)) -> io::Result<()> {
-    let listen = [
-        "aggregator",
-        "listen",
-        "--peers=192.0.2.1:1024",
-        "--admin=192.0.2.2:1025",
-    ];
+/// Prints what a command line does whose streams fail, behind a title.
+fn show_titled<R, I, O>(
+    rt: &R,
+    title: &str,
+    words: &[&str],
+    input: &mut I,
+    output: &mut O,
+) -> io::Result<()>
+where
+    R: Print + AllocGlobal,
+    I: BufRead,
+    O: Write,
+{
+    println!(rt; "== {title}")?;
+    show_prepare(rt, words, input, output)
+}
+
+/// The words of `listen` where a stream fails.
+const LISTEN_TORN: [&str; 4] = [
+    "aggregator",
+    "listen",
+    "--peers=192.0.2.1:1024",
+    "--admin=192.0.2.2:1025",
+];
+
+/// Prints how it ends where nothing can be read.
+fn show_no_input(rt: &(impl Print + AllocGlobal)) -> io::Result<()> {
     let mut input = BufReader::new(rt.alloc(), Torn)?;
     let mut output = io::writer(rt);
+    let replay = ["aggregator", "replay"];
+    show_titled(rt, "replay: no input", &replay, &mut input, &mut output)?;
+    show_titled(
+        rt,
+        "listen: no input",
+        &LISTEN_TORN,
+        &mut input,
+        &mut output,
+    )
+}
+
+/// Prints how it ends where standard output takes nothing.
+fn show_no_output(rt: &(impl Print + AllocGlobal)) -> io::Result<()> {
     let mut faulty = FAULTY;
-    println!(rt; "== replay: no input")?;
-    show_prepare(rt, &["aggregator", "replay"], &mut input, &mut output)?;
-    println!(rt; "== listen: no input")?;
-    show_prepare(rt, &listen, &mut input, &mut output)?;
-    println!(rt; "== listen: no output")?;
-    show_prepare(rt, &listen, &mut faulty, &mut Torn)?;
-    println!(rt; "== --help: no output")?;
-    show_prepare(rt, &["aggregator", "--help"], &mut faulty, &mut Torn)?;
+    show_titled(
+        rt,
+        "listen: no output",
+        &LISTEN_TORN,
+        &mut faulty,
+        &mut Torn,
+    )?;
+    let help = ["aggregator", "--help"];
+    show_titled(rt, "--help: no output", &help, &mut faulty, &mut Torn)
+}
+
+/// Prints how it ends where standard error takes nothing.
+fn show_no_errors(rt: &(impl Print + AllocGlobal)) -> io::Result<()> {
     println!(rt; "== nothing: no standard error")?;
+    let mut faulty = FAULTY;
     let left = prepare(
         rt.alloc(),
         &["aggregator"],
         &Shelf,
         &mut faulty,
-        &mut output,
+        &mut io::writer(rt),
         &mut Torn,
     );
     show_left(rt, b"", left)
+}
+
+/// Prints how it ends where a stream fails.
+fn show_torn(rt: &(impl Print + AllocGlobal)) -> io::Result<()> {
+    show_no_input(rt)?;
+    show_no_output(rt)?;
+    show_no_errors(rt)
 }
 
 /// Listens at these addresses.
@@ -285,7 +330,7 @@ where
     R: Print + Eprint + AllocGlobal + Clock + RandomSource + Memory,
     R: Net<Listener = TcpListener, Stream = TcpStream>,
 {
-    println!(rt; "== listen: the socket of the operators is in use")?;
+    say_in_use(rt, "the socket of the operators is in use")?;
     let mut errors = Vec::new(rt.alloc());
     let peers = format!(in rt.alloc(); "--peers={peers}")?;
     let words = [
@@ -300,6 +345,44 @@ where
     show_end(rt, errors.as_slice(), status)
 }
 
+/// Prints that an address is in use, in words.
+fn say_in_use(rt: &impl Print, what: &str) -> io::Result<()> {
+    println!(rt; "== listen: {what}")
+}
+
+/// Listens where proxies can't connect, and then the same without a standard error.
+fn show_peers_in_use<R>(rt: &R, any: SocketAddrV4, other: SocketAddrV4) -> io::Result<()>
+where
+    R: Threads + Wait + Copy + Send + Sync + 'static,
+    R: Print + Eprint + AllocGlobal + Clock + RandomSource + Memory,
+    R: Net<Listener = TcpListener, Stream = TcpStream>,
+{
+    say_in_use(rt, "the address of the proxies is in use")?;
+    let taken = TcpListener::bind(rt, SocketAddr::V4(any))?;
+    if let SocketAddr::V4(peers) = taken.local_addr()? {
+        show_in_use(rt, peers, other, peers.port())?;
+        say_in_use(rt, "that, and no standard error")?;
+        let status = listen(rt, peers, other, &mut Torn)?;
+        show_end(rt, b"", status)?;
+    }
+    Ok(())
+}
+
+/// Listens where operators can't connect.
+fn show_admin_in_use<R>(rt: &R, any: SocketAddrV4, other: SocketAddrV4) -> io::Result<()>
+where
+    R: Threads + Wait + Copy + Send + Sync + 'static,
+    R: Print + Eprint + AllocGlobal + Clock + RandomSource + Memory,
+    R: Net<Listener = TcpListener, Stream = TcpStream>,
+{
+    say_in_use(rt, "the address of the operators is in use")?;
+    let taken = TcpListener::bind(rt, SocketAddr::V4(other))?;
+    if let SocketAddr::V4(admin) = taken.local_addr()? {
+        show_in_use(rt, any, admin, admin.port())?;
+    }
+    Ok(())
+}
+
 /// Listens where proxies can't connect, and then where operators can't, since the address is in
 /// use.
 fn show_addresses_in_use<R>(rt: &R) -> io::Result<()>
@@ -310,18 +393,7 @@ where
 {
     let any = SocketAddrV4::new(Ipv4Addr::LOCALHOST, 0);
     let other = SocketAddrV4::new(Ipv4Addr::new(127, 0, 0, 2), 0);
-    println!(rt; "== listen: the address of the proxies is in use")?;
-    let taken = TcpListener::bind(rt, SocketAddr::V4(any))?;
-    if let SocketAddr::V4(peers) = taken.local_addr()? {
-        show_in_use(rt, peers, other, peers.port())?;
-        println!(rt; "== listen: that, and no standard error")?;
-        let status = listen(rt, peers, other, &mut Torn)?;
-        show_end(rt, b"", status)?;
-    }
-    println!(rt; "== listen: the address of the operators is in use")?;
-    let taken = TcpListener::bind(rt, SocketAddr::V4(other))?;
-    if let SocketAddr::V4(admin) = taken.local_addr()? {
-        show_in_use(rt, any, admin, admin.port())?;
-    }
+    show_peers_in_use(rt, any, other)?;
+    show_admin_in_use(rt, any, other)?;
     show_socket_in_use(rt, any)
 }

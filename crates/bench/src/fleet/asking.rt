@@ -1,24 +1,32 @@
 //! The filters and the ranked list that stand while updates come, and how long answers take.
 
 use crate::fleet::load::{Load, Order};
+use crate::measure::{now, since};
 use anyhow::Result;
 use book::Book;
 use show_clear::{answer, parse};
 use std::alloc::Global;
-use std::time::Instant;
 
 /// How many keys are asked for one by one.
 const KEYS_ASKED: u32 = 1000;
 
 /// What stands: a filter on the rate that holds one key in a thousand, one on a count and one on
 /// the rate that hold every key, and a list of the ten keys with the greatest rates.
-#[derive(Clone, Copy, Default)]
+#[derive(Clone, Copy)]
 pub struct Standing {
     pub rare: bool,
     pub every: bool,
     pub busy: bool,
     pub rank: bool,
 }
+
+/// Nothing stands.
+pub const NOTHING: Standing = Standing {
+    rare: false,
+    every: false,
+    busy: false,
+    rank: false,
+};
 
 impl Standing {
     /// Its lines of a configuration but for the filter of few keys, and an empty one for each that
@@ -57,25 +65,25 @@ pub fn ask(rt: &HostRuntime, book: &Book, load: Load) -> Result<()> {
 
 /// Asks for all rows.
 fn ask_rows(rt: &HostRuntime, book: &Book) -> Result<()> {
-    let start = Instant::now(rt)?;
+    let start = now(rt);
     let mut peers = 0usize;
     for (_, sums) in book.rows(rt.alloc(), 0)? {
         peers = peers.saturating_add(sums.peers);
     }
-    let micros = start.elapsed(rt)?.as_micros();
-    eprintln!(rt; "{} keys: {peers} rows in {micros} us", book.used(0))?;
+    let micros = since(rt, start).as_micros();
+    let _ = eprintln!(rt; "{} keys: {peers} rows in {micros} us", book.used(0));
     Ok(())
 }
 
 /// Asks for the answer to a command, with its text.
 fn ask_text(rt: &HostRuntime, book: &Book, line: &[u8]) -> Result<()> {
-    let start = Instant::now(rt)?;
+    let start = now(rt);
     let mut out = Vec::new(rt.alloc());
     if let Ok(command) = parse(rt.alloc(), book, line) {
         answer(rt.alloc(), book, &command, &mut out)?;
     }
-    let micros = start.elapsed(rt)?.as_micros();
-    eprintln!(rt; "a text of {} bytes in {micros} us", out.len())?;
+    let micros = since(rt, start).as_micros();
+    let _ = eprintln!(rt; "a text of {} bytes in {micros} us", out.len());
     Ok(())
 }
 
@@ -85,15 +93,15 @@ fn ask_keys(rt: &HostRuntime, book: &Book, load: Load) -> Result<()> {
     for id in 0..KEYS_ASKED {
         keys.push(load.key(rt.alloc(), Order::Drawn.key_of(id, load.keys))?)?;
     }
-    let start = Instant::now(rt)?;
+    let start = now(rt);
     let mut found = 0usize;
     for key in keys.as_slice() {
         if book.summed(0, key).is_some() {
             found = found.saturating_add(1);
         }
     }
-    let micros = start.elapsed(rt)?.as_micros();
-    eprintln!(rt; "{found} of {KEYS_ASKED} keys one by one in {micros} us")?;
+    let micros = since(rt, start).as_micros();
+    let _ = eprintln!(rt; "{found} of {KEYS_ASKED} keys one by one in {micros} us");
     Ok(())
 }
 
@@ -102,13 +110,15 @@ fn ask_filter(rt: &HostRuntime, book: &Book, filter: usize) -> Result<()> {
     if filter >= book.config().filters.len() {
         return Ok(());
     }
-    let start = Instant::now(rt)?;
+    let start = now(rt);
     let held = book.filter_keys(rt.alloc(), filter)?.len();
-    let keys = start.elapsed(rt)?.as_micros();
+    let keys = since(rt, start).as_micros();
     let next = book.next_change(rt.alloc(), filter)?;
-    let both = start.elapsed(rt)?.as_micros();
+    let both = since(rt, start).as_micros();
     let change = both.saturating_sub(keys);
-    eprintln!(rt; "filter {filter}: {held} keys in {keys} us, next {next:?} in {change} us")?;
+    let _ = eprintln!(rt;
+        "filter {filter}: {held} keys in {keys} us, next {next:?} in {change} us"
+    );
     Ok(())
 }
 
@@ -117,14 +127,14 @@ fn ask_rank(rt: &HostRuntime, book: &Book, rank: usize) -> Result<()> {
     if rank >= book.config().ranks.len() {
         return Ok(());
     }
-    let start = Instant::now(rt)?;
+    let start = now(rt);
     let mut list = book.top(rt.alloc(), rank)?;
     let mut listed = 0usize;
     while list.next().is_some() {
         listed = listed.saturating_add(1);
     }
-    let micros = start.elapsed(rt)?.as_micros();
+    let micros = since(rt, start).as_micros();
     let walked = list.walked();
-    eprintln!(rt; "list {rank}: {listed} keys, {walked} looked at, in {micros} us")?;
+    let _ = eprintln!(rt; "list {rank}: {listed} keys, {walked} looked at, in {micros} us");
     Ok(())
 }

@@ -2,13 +2,13 @@
 
 use crate::fleet::asking::ask;
 use crate::fleet::load::{Load, Order};
-use crate::measure::{a_second, grown_since, print_memory, resident};
+use crate::measure::{a_second, grown_since, now, print_memory, resident, since};
 use agg_types::{Items, LAST_MOMENT};
 use anyhow::Result;
 use fleet_core::{Fleet, Step};
 use std::alloc::Global;
 use std::marker::Model;
-use std::time::{Duration, Instant};
+use std::time::Duration;
 
 /// How many bytes come at once.
 const PIECE_BYTES: usize = 16_384;
@@ -94,12 +94,12 @@ impl Proxies {
 
     /// Sends bytes, lets the clock go on if rows have lives, and gives how long that took.
     fn round(&mut self, rt: &HostRuntime, bytes: &[u8], lives: bool) -> Result<Duration> {
-        let start = Instant::now(rt)?;
+        let start = now(rt);
         self.send(rt.alloc(), bytes)?;
         if lives {
             self.tick()?;
         }
-        Ok(start.elapsed(rt)?)
+        Ok(since(rt, start))
     }
 
     /// Sends so many updates from each proxy, and tells how fast they were taken.
@@ -118,14 +118,15 @@ impl Proxies {
             let bytes = load.updates(rt.alloc(), order, from, to)?;
             time = time.saturating_add(self.round(rt, bytes.as_slice(), load.lives)?);
         }
-        tell_speed(rt, load, what, count, time)
+        tell_speed(rt, load, what, count, time);
+        Ok(())
     }
 
     /// Runs a load and tells of it.
     pub fn measure(&mut self, rt: &HostRuntime, load: Load) -> Result<()> {
         let before = resident(rt);
         self.run(rt, load, Order::Scattered, "new", load.keys)?;
-        print_memory(rt, load, grown_since(rt, before), load.keys)?;
+        print_memory(rt, load, grown_since(rt, before), load.keys);
         self.run(rt, load, Order::Scattered, "held", load.updates)?;
         self.run(rt, load, Order::Drawn, "drawn", load.updates)?;
         ask(rt, self.fleet.book(), load)?;
@@ -141,9 +142,8 @@ impl Proxies {
 }
 
 /// Tells how fast so many updates were taken.
-fn tell_speed(rt: &HostRuntime, load: Load, what: &str, count: u32, time: Duration) -> Result<()> {
+fn tell_speed(rt: &HostRuntime, load: Load, what: &str, count: u32, time: Duration) {
     let taken = u64::from(count) * u64::from(load.peers);
     let per_second = a_second(taken, time);
-    eprintln!(rt; "{load}: {per_second} {what} updates/s")?;
-    Ok(())
+    let _ = eprintln!(rt; "{load}: {per_second} {what} updates/s");
 }

@@ -1,13 +1,13 @@
 //! The same updates over one book, in one thread.
 
+use crate::measure::{now, since};
 use crate::posting::load::{Load, Share};
 use crate::posting::tell::{Measured, Shown, Speed};
 use agg_types::{NoMemory, What};
-use anyhow::Result;
 use book::Book;
 use std::alloc::Global;
 use std::rt::Clock;
-use std::time::{Duration, Instant};
+use std::time::Duration;
 
 /// A book and the number of its seat's next event.
 #[derive(Drop)]
@@ -36,25 +36,30 @@ impl Alone {
     }
 
     // Applies the batches of a share, and says how long the slowest took.
-    fn apply_share<R: Clock>(&mut self, rt: &R, alloc: Global, share: Share) -> Result<Duration> {
+    fn apply_share<R: Clock>(
+        &mut self,
+        rt: &R,
+        alloc: Global,
+        share: Share,
+    ) -> Result<Duration, NoMemory> {
         let mut longest = Duration::from_micros(0);
         for number in 0..share.batches() {
-            let start = Instant::now(rt)?;
+            let start = now(rt);
             let whats = share.batch(alloc, number)?;
             self.apply_all(whats.as_slice())?;
-            longest = longest.max(start.elapsed(rt)?);
+            longest = longest.max(since(rt, start));
         }
         Ok(longest)
     }
 
     // Applies what one pass would post, and says how long that took.
-    fn timed<R: Clock>(&mut self, rt: &R, alloc: Global, load: Load) -> Result<Speed> {
-        let start = Instant::now(rt)?;
+    fn timed<R: Clock>(&mut self, rt: &R, alloc: Global, load: Load) -> Result<Speed, NoMemory> {
+        let start = now(rt);
         let longest = self.apply_share(rt, alloc, load.share(0))?;
         Ok(Speed {
             updates: load.updates,
             looks: 0,
-            time: start.elapsed(rt)?,
+            time: since(rt, start),
             longest,
         })
     }
@@ -66,7 +71,12 @@ impl Alone {
     }
 
     /// Takes an update of each new key and then of held ones, and says how fast that was.
-    pub fn run<R: Clock>(&mut self, rt: &R, alloc: Global, load: Load) -> Result<Measured> {
+    pub fn run<R: Clock>(
+        &mut self,
+        rt: &R,
+        alloc: Global,
+        load: Load,
+    ) -> Result<Measured, NoMemory> {
         self.open()?;
         let new = self.timed(rt, alloc, load.of_new_keys())?;
         let held = self.timed(rt, alloc, load)?;

@@ -1,5 +1,6 @@
 //! Threads that work at once, whatever they work on.
 
+use crate::measure::{now, since};
 use crate::posting::load::Load;
 use crate::posting::tell::{Shown, Speed};
 use anyhow::{Result, ensure};
@@ -8,7 +9,7 @@ use std::sync::Wait;
 use std::sync::atomic::{AtomicU32, AtomicU64, Ordering};
 use std::thread;
 use std::thread::Threads;
-use std::time::{Duration, Instant};
+use std::time::Duration;
 
 /// What the threads of a run do.
 pub trait Crew {
@@ -109,9 +110,9 @@ pub fn timed<R: Threads + Wait + Clock + Copy + Send + Sync, C: Crew + Sync>(
     crew: &C,
     load: Load,
 ) -> Result<Speed> {
-    let start = Instant::now(rt)?;
+    let start = now(rt);
     let tally = at_once(rt, crew, load);
-    let time = start.elapsed(rt)?;
+    let time = since(rt, start);
     let shown = tally.shown.load(Ordering::SeqCst);
     ensure!(shown == load.passes, "a post was refused");
     Ok(Speed {

@@ -2,6 +2,7 @@
 
 ghost use Rattle.std.specs.Prelude.{◌≡◌, IfSome};
 
+use crate::measure::{now, since};
 use crate::posting::crew::{Crew, Tally};
 use crate::posting::load::{Load, Share};
 use crate::posting::tell::Shown;
@@ -10,7 +11,6 @@ use hub::{Hub, Lens, Naming, Pass, Receipt};
 use std::alloc::Global;
 use std::rt::Clock;
 use std::sync::Wait;
-use std::time::Instant;
 use test_support::{address, scattered};
 
 /// The threads of a run over a hub.
@@ -109,9 +109,9 @@ fn post_share<J: Naming, H: Wait + Drop, W: Wait + Clock>(
 ) -> Option<()> {
     let mut pass = open(rt, alloc, hub, share.peer())?;
     for number in 0..share.batches() {
-        let start = Instant::now(rt).ok()?;
+        let start = now(rt);
         post_batch(rt, alloc, hub, &mut pass, share, number)?;
-        tally.took(start.elapsed(rt).ok()?);
+        tally.took(since(rt, start));
     }
     Some(())
 }

@@ -23,14 +23,13 @@ pub struct Shown {
 }
 
 // Tells how fast updates of new keys, or of held ones, were taken.
-fn tell_speed<R: Eprint>(rt: &R, load: Load, kind: &str, speed: Speed) -> Result<()> {
+fn tell_speed<R: Eprint>(rt: &R, load: Load, kind: &str, speed: Speed) {
     let updates = a_second(u64::from(speed.updates), speed.time);
     let looks = a_second(speed.looks, speed.time);
     let longest = speed.longest.as_micros();
-    eprintln!(rt;
+    let _ = eprintln!(rt;
         "{load}: {updates} {kind} updates/s, longest batch {longest} us, {looks} looks/s"
-    )?;
-    Ok(())
+    );
 }
 
 /// What was measured in a run: new keys and held ones, by how many bytes the resident memory grew
@@ -45,9 +44,9 @@ pub struct Measured {
 
 /// Tells of a run.
 pub fn tell<R: Print + Eprint>(rt: &R, load: Load, measured: Measured) -> Result<()> {
-    tell_speed(rt, load, "new", measured.new)?;
-    tell_speed(rt, load, "held", measured.held)?;
-    print_memory(rt, load, measured.grown, load.keys)?;
+    tell_speed(rt, load, "new", measured.new);
+    tell_speed(rt, load, "held", measured.held);
+    print_memory(rt, load, measured.grown, load.keys);
     let Shown { events, keys } = measured.shown;
     println!(rt; "{load}: {events} events, {keys} keys held")?;
     Ok(())

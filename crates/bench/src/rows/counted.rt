@@ -3,7 +3,7 @@
 ghost use Rattle.std.specs.Prelude.{◌≡◌};
 
 use crate::measure::{grown_since, print_memory, print_time, resident, time_used};
-use crate::rows::made::{make_all, row, scattered};
+use crate::rows::made::{row, scattered, time_making};
 use agg_types::{Key, NoMemory};
 use anyhow::Result;
 use peer_rows::Rows;
@@ -71,24 +71,44 @@ impl Counted {
     }
 }
 
-/// Measures rows of one peer, put, replaced and taken, whose sums are read off them.
-pub fn run(rt: &HostRuntime, number: u32) -> Result<()> {
+/// Puts so many rows, and prints what that takes.
+fn time_putting(rt: &HostRuntime, counted: &mut Counted, number: u32) -> Result<u128, NoMemory> {
     let before = resident(rt);
-    let mut counted = Counted::new(rt.alloc())?;
-    let start = time_used(rt)?;
+    let start = time_used(rt);
     let put = counted.put_all(number)?;
-    print_time(rt, "rows put, their sums read", start, number)?;
-    print_memory(rt, "rows of one peer", grown_since(rt, before), number)?;
-    let start = time_used(rt)?;
+    print_time(rt, "rows put, their sums read", start, number);
+    print_memory(rt, "rows of one peer", grown_since(rt, before), number);
+    Ok(put)
+}
+
+/// Replaces so many rows, and prints what that takes.
+fn time_replacing(rt: &HostRuntime, counted: &mut Counted, number: u32) -> Result<u128, NoMemory> {
+    let start = time_used(rt);
     let replaced = counted.replace_all(number)?;
-    print_time(rt, "rows replaced, their sums read", start, number)?;
-    let start = time_used(rt)?;
-    let made = make_all(rt.alloc(), number, number)?;
-    print_time(rt, "of which making key and row", start, number)?;
-    println!(rt; "{made} cells and bytes made")?;
-    let start = time_used(rt)?;
+    print_time(rt, "rows replaced, their sums read", start, number);
+    Ok(replaced)
+}
+
+/// Takes so many rows out, and prints what that takes.
+fn time_taking(rt: &HostRuntime, counted: &mut Counted, number: u32) -> Result<u32, NoMemory> {
+    let start = time_used(rt);
     let taken = counted.take_all(number)?;
-    print_time(rt, "rows taken", start, number)?;
+    print_time(rt, "rows taken", start, number);
+    Ok(taken)
+}
+
+fn measure(rt: &HostRuntime, counted: &mut Counted, number: u32) -> Result<()> {
+    let put = time_putting(rt, counted, number)?;
+    let replaced = time_replacing(rt, counted, number)?;
+    let made = time_making(rt, number, number)?;
+    println!(rt; "{made} cells and bytes made")?;
+    let taken = time_taking(rt, counted, number)?;
     println!(rt; "counts of {put} put, of {replaced} replaced, {taken} rows taken")?;
     Ok(())
+}
+
+/// Measures rows of one peer, put, replaced and taken, whose sums are read off them.
+pub fn run(rt: &HostRuntime, number: u32) -> Result<()> {
+    let mut counted = Counted::new(rt.alloc())?;
+    measure(rt, &mut counted, number)
 }

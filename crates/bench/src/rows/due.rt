@@ -57,7 +57,40 @@ fn spread_name(spread: bool) -> &'static str {
     }
 }
 
-/// Plans, cancels, plans again and takes so many entries.
+/// Plans so many entries, and prints what that takes.
+fn time_planning<I: DueIndex<u32>>(
+    rt: &HostRuntime,
+    index: &mut I,
+    number: u32,
+    spread: bool,
+) -> Result<(), NoMemory> {
+    let before = resident(rt);
+    let start = time_used(rt);
+    plan_all(index, number, spread)?;
+    print_time(rt, "  planned", start, number);
+    print_memory(rt, "  entries", grown_since(rt, before), number);
+    Ok(())
+}
+
+/// Plans, cancels, plans again and takes so many entries, and answers how many were cancelled and
+/// taken.
+fn time_all<I: DueIndex<u32>>(
+    rt: &HostRuntime,
+    index: &mut I,
+    number: u32,
+    spread: bool,
+) -> Result<(u32, u32), NoMemory> {
+    time_planning(rt, index, number, spread)?;
+    let start = time_used(rt);
+    let found = cancel_all(index, number, spread);
+    print_time(rt, "  cancelled", start, number);
+    plan_all(index, number, spread)?;
+    let start = time_used(rt);
+    let taken = take_all(index, number);
+    print_time(rt, "  taken", start, number);
+    Ok((found, taken))
+}
+
 fn measure<I: DueIndex<u32>>(
     rt: &HostRuntime,
     what: &str,
@@ -66,19 +99,8 @@ fn measure<I: DueIndex<u32>>(
     spread: bool,
 ) -> Result<()> {
     let how = spread_name(spread);
-    eprintln!(rt; "{what}, {how}:")?;
-    let before = resident(rt);
-    let start = time_used(rt)?;
-    plan_all(index, number, spread)?;
-    print_time(rt, "  planned", start, number)?;
-    print_memory(rt, "  entries", grown_since(rt, before), number)?;
-    let start = time_used(rt)?;
-    let found = cancel_all(index, number, spread);
-    print_time(rt, "  cancelled", start, number)?;
-    plan_all(index, number, spread)?;
-    let start = time_used(rt)?;
-    let taken = take_all(index, number);
-    print_time(rt, "  taken", start, number)?;
+    let _ = eprintln!(rt; "{what}, {how}:");
+    let (found, taken) = time_all(rt, index, number, spread)?;
     println!(rt; "{what}, {how}: {found} cancelled, {taken} taken")?;
     Ok(())
 }

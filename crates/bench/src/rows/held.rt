@@ -3,7 +3,7 @@
 ghost use Rattle.std.specs.Prelude.{◌≡◌};
 
 use crate::measure::{grown_since, print_memory, print_time, resident, time_used};
-use crate::rows::made::{make_all, row, scattered};
+use crate::rows::made::{row, scattered, time_making};
 use agg_types::{Key, NoMemory};
 use anyhow::Result;
 use peer_rows::{Rows, Spot};
@@ -83,45 +83,63 @@ impl PeerTable {
 }
 
 /// Puts so many rows, and answers how long the longest put took.
-fn longest(rt: &HostRuntime, number: u32) -> Result<Duration> {
-    let mut held = PeerTable::new(rt.alloc())?;
+fn longest(rt: &HostRuntime, held: &mut PeerTable, number: u32) -> Result<Duration, NoMemory> {
     let mut longest = Duration::ZERO;
-    let mut last = time_used(rt)?;
+    let mut last = time_used(rt);
     for place in 0..number {
         let key = scattered(rt.alloc(), place, number)?;
         held.put(None, key, 1)?;
-        let now = time_used(rt)?;
+        let now = time_used(rt);
         longest = longest.max(now.saturating_sub(last));
         last = now;
     }
     Ok(longest)
 }
 
+/// Prints how long the longest of so many puts of new keys takes.
+fn print_longest(rt: &HostRuntime, number: u32) -> Result<(), NoMemory> {
+    let mut held = PeerTable::new(rt.alloc())?;
+    let most = longest(rt, &mut held, number)?.as_micros();
+    let _ = eprintln!(rt; "the longest put of a new key: {most} us");
+    Ok(())
+}
+
+/// Prints what puts of new keys take.
+fn time_new(rt: &HostRuntime, held: &mut PeerTable, number: u32) -> Result<(), NoMemory> {
+    let before = resident(rt);
+    let start = time_used(rt);
+    held.put_all(number)?;
+    print_time(rt, "new keys put", start, number);
+    print_memory(rt, "keys of one peer", grown_since(rt, before), number);
+    Ok(())
+}
+
+/// Prints what puts of held keys take, without hints and with them.
+fn time_held(
+    rt: &HostRuntime,
+    held: &mut PeerTable,
+    number: u32,
+    updates: u32,
+) -> Result<(), NoMemory> {
+    let start = time_used(rt);
+    held.update_all(number, updates)?;
+    print_time(rt, "held keys put", start, updates);
+    let spots = held.spots(number)?;
+    let start = time_used(rt);
+    held.update_hinted(&spots, number, updates)?;
+    print_time(rt, "held keys put with hints", start, updates);
+    Ok(())
+}
+
 /// Measures puts of new keys and of held ones, with and without hints.
 pub fn run(rt: &HostRuntime, number: u32) -> Result<()> {
     let updates = number.saturating_mul(UPDATES);
-    let before = resident(rt);
     let mut held = PeerTable::new(rt.alloc())?;
-    let start = time_used(rt)?;
-    held.put_all(number)?;
-    print_time(rt, "new keys put", start, number)?;
-    print_memory(rt, "keys of one peer", grown_since(rt, before), number)?;
-    let start = time_used(rt)?;
-    held.update_all(number, updates)?;
-    print_time(rt, "held keys put", start, updates)?;
-    let spots = held.spots(number)?;
-    let start = time_used(rt)?;
-    held.update_hinted(&spots, number, updates)?;
-    print_time(rt, "held keys put with hints", start, updates)?;
-    let start = time_used(rt)?;
-    let made = make_all(rt.alloc(), number, updates)?;
-    print_time(rt, "of which making key and row", start, updates)?;
-    let most = longest(rt, number)?.as_micros();
-    eprintln!(rt; "the longest put of a new key: {most} us")?;
-    println!(rt;
-        "{} rows held, {} cells and bytes made",
-        held.rows.count(0, 0),
-        made
-    )?;
+    time_new(rt, &mut held, number)?;
+    time_held(rt, &mut held, number, updates)?;
+    let made = time_making(rt, number, updates)?;
+    print_longest(rt, number)?;
+    let rows = held.rows.count(0, 0);
+    println!(rt; "{rows} rows held, {made} cells and bytes made")?;
     Ok(())
 }

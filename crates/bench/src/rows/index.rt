@@ -72,41 +72,53 @@ fn remove_all(
 }
 
 /// Prints what making a key takes, and answers how many were made.
-fn time_making(rt: &HostRuntime, number: u32) -> Result<u32> {
-    let start = time_used(rt)?;
+fn time_making(rt: &HostRuntime, number: u32) -> Result<u32, NoMemory> {
+    let start = time_used(rt);
     let made = make_all(rt.alloc(), number)?;
-    print_time(rt, "a key made", start, number)?;
+    print_time(rt, "a key made", start, number);
     Ok(made)
 }
 
 /// Prints what inserting a key takes, and in how much memory, and answers how many were new.
-fn time_inserting(rt: &HostRuntime, index: &mut PlaceIndex<Key, u64>, number: u32) -> Result<u32> {
+fn time_inserting(
+    rt: &HostRuntime,
+    index: &mut PlaceIndex<Key, u64>,
+    number: u32,
+) -> Result<u32, NoMemory> {
     let before = resident(rt);
-    let start = time_used(rt)?;
+    let start = time_used(rt);
     let new = insert_all(rt.alloc(), index, number)?;
-    print_time(rt, "a new key found absent and inserted", start, number)?;
+    print_time(rt, "a new key found absent and inserted", start, number);
     print_memory(
         rt,
         "a key with a value of 8 bytes",
         grown_since(rt, before),
         number,
-    )?;
+    );
     Ok(new)
 }
 
 /// Prints what finding a key takes, and answers how many were there.
-fn time_finding(rt: &HostRuntime, index: &PlaceIndex<Key, u64>, number: u32) -> Result<u32> {
-    let start = time_used(rt)?;
+fn time_finding(
+    rt: &HostRuntime,
+    index: &PlaceIndex<Key, u64>,
+    number: u32,
+) -> Result<u32, NoMemory> {
+    let start = time_used(rt);
     let found = find_all(rt.alloc(), index, number)?;
-    print_time(rt, "a key found", start, number)?;
+    print_time(rt, "a key found", start, number);
     Ok(found)
 }
 
 /// Prints what removing a key takes, and answers how many were there.
-fn time_removing(rt: &HostRuntime, index: &mut PlaceIndex<Key, u64>, number: u32) -> Result<u32> {
-    let start = time_used(rt)?;
+fn time_removing(
+    rt: &HostRuntime,
+    index: &mut PlaceIndex<Key, u64>,
+    number: u32,
+) -> Result<u32, NoMemory> {
+    let start = time_used(rt);
     let removed = remove_all(rt.alloc(), index, number)?;
-    print_time(rt, "a key found and removed", start, number)?;
+    print_time(rt, "a key found and removed", start, number);
     Ok(removed)
 }
 
@@ -115,35 +127,46 @@ fn longer(longest: Duration, from: Duration, to: Duration) -> Duration {
     longest.max(to.saturating_sub(from))
 }
 
-/// Prints the longest of so many inserts, and the longest of as many rounds that only make a key.
-fn print_longest(rt: &HostRuntime, number: u32) -> Result<()> {
+/// The longest of so many inserts, and the longest of as many rounds that only make a key.
+fn longest(rt: &HostRuntime, number: u32) -> Result<(Duration, Duration), NoMemory> {
     let alloc = rt.alloc();
     let mut index = PlaceIndex::<Key, u64>::new(alloc);
     let mut longest_insert = Duration::ZERO;
     let mut longest_empty = Duration::ZERO;
     for place in 0..number {
-        let start = time_used(rt)?;
+        let start = time_used(rt);
         let _empty = scattered(alloc, place, number)?;
-        let between = time_used(rt)?;
+        let between = time_used(rt);
         insert(&mut index, scattered(alloc, place, number)?, 0)?;
-        let end = time_used(rt)?;
+        let end = time_used(rt);
         longest_empty = longer(longest_empty, start, between);
         longest_insert = longer(longest_insert, between, end);
     }
-    let (insert, empty) = (longest_insert.as_nanos(), longest_empty.as_nanos());
-    eprintln!(rt; "the longest insert: {insert} ns, the longest empty round: {empty} ns")?;
+    Ok((longest_insert, longest_empty))
+}
+
+/// Prints both.
+fn print_longest(rt: &HostRuntime, number: u32) -> Result<()> {
+    let (insert, empty) = longest(rt, number)?;
+    let (insert, empty) = (insert.as_nanos(), empty.as_nanos());
+    let _ = eprintln!(rt; "the longest insert: {insert} ns, the longest empty round: {empty} ns");
+    println!(rt; "{number} inserts timed one by one")?;
+    Ok(())
+}
+
+/// Measures what finding, inserting and removing keys costs.
+fn measure(rt: &HostRuntime, index: &mut PlaceIndex<Key, u64>, number: u32) -> Result<()> {
+    let made = time_making(rt, number)?;
+    let new = time_inserting(rt, index, number)?;
+    let found = time_finding(rt, index, number)?;
+    let removed = time_removing(rt, index, number)?;
+    println!(rt; "{made} keys made, {new} inserted, {found} found, {removed} removed")?;
     Ok(())
 }
 
 /// Measures what finding and inserting keys costs.
 pub fn run(rt: &HostRuntime, number: u32) -> Result<()> {
-    let made = time_making(rt, number)?;
     let mut index = PlaceIndex::<Key, u64>::new(rt.alloc());
-    let new = time_inserting(rt, &mut index, number)?;
-    let found = time_finding(rt, &index, number)?;
-    let removed = time_removing(rt, &mut index, number)?;
-    println!(rt; "{made} keys made, {new} inserted, {found} found, {removed} removed")?;
-    print_longest(rt, number)?;
-    println!(rt; "{number} inserts timed one by one")?;
-    Ok(())
+    measure(rt, &mut index, number)?;
+    print_longest(rt, number)
 }

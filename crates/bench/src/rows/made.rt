@@ -1,5 +1,6 @@
 //! The keys and the rows that are put.
 
+use crate::measure::{print_time, time_used};
 use agg_types::{Key, NoMemory};
 use peer_rows::{Held, Row, RowCells, RowEnd};
 use period_rate::Rate;
@@ -24,7 +25,7 @@ pub fn row(alloc: Global, id: u32, now: u64) -> Result<Row, NoMemory> {
 
 /// Makes the keys and rows of so many updates of so many keys and drops them, and answers how many
 /// cells and bytes they had.
-pub fn make_all(alloc: Global, number: u32, updates: u32) -> Result<u64, NoMemory> {
+fn make_all(alloc: Global, number: u32, updates: u32) -> Result<u64, NoMemory> {
     let mut made = 0u64;
     for now in 0..updates {
         let key = scattered(alloc, now, number)?;
@@ -32,5 +33,14 @@ pub fn make_all(alloc: Global, number: u32, updates: u32) -> Result<u64, NoMemor
         made = made.saturating_add(row.cells.len() as u64);
         made = made.saturating_add(key.as_slice().len() as u64);
     }
+    Ok(made)
+}
+
+/// Prints what making the key and the row of an update takes, and answers how many cells and bytes
+/// so many had.
+pub fn time_making(rt: &HostRuntime, number: u32, updates: u32) -> Result<u64, NoMemory> {
+    let start = time_used(rt);
+    let made = make_all(rt.alloc(), number, updates)?;
+    print_time(rt, "of which making key and row", start, updates);
     Ok(made)
 }

@@ -47,11 +47,11 @@ impl Peers {
 pub fn run(rt: &HostRuntime, number: u32) -> Result<()> {
     let before = resident(rt);
     let mut peers = Peers::new(rt.alloc())?;
-    let start = time_used(rt)?;
+    let start = time_used(rt);
     peers.put_all(number)?;
     let rows = number.saturating_mul(4);
-    print_time(rt, "rows of four peers put", start, rows)?;
-    print_memory(rt, "rows of four peers", grown_since(rt, before), rows)?;
+    print_time(rt, "rows of four peers put", start, rows);
+    print_memory(rt, "rows of four peers", grown_since(rt, before), rows);
     println!(rt; "{} rows of each of four peers", peers.count())?;
     Ok(())
 }
