@@ -1,8 +1,9 @@
-//! Replays each script that is named on standard input, a name a line, and prints how it ended and
-//! what it printed. The scripts lie in `data/`.
+//! Runs rows of the peers protocol on the codec and on a session, from below a replay.
 //!
-//! Then replays scripts whose reading or writing fails, one whose output is watched as it is read,
-//! and scripts with lines of 10 MB, and prints how each ends.
+//! Then replays each script that is named on standard input, a name a line, and prints how it ended
+//! and what it printed. The scripts lie in `data/`. Then come scripts whose reading or writing
+//! fails, one whose output is watched as it is read, and scripts with lines of 10 MB, with how each
+//! ends.
 //!
 //! Last come the steps of a fleet itself. `test_replay again` runs them alone, and
 //! `tools/refuse_growths.py` lets each allocation of that run fail in turn.
@@ -11,6 +12,7 @@
 mod failing;
 mod lines;
 mod order;
+mod protocol;
 mod scripts;
 mod steps;
 
@@ -34,6 +36,7 @@ fn is_again(rt: &HostRuntime) -> Result<bool> {
 
 fn main(rt: HostRuntime) -> Result<()> {
     if !is_again(&rt)? {
+        protocol::run(&rt)?;
         replay_all(&rt)?;
     }
     steps::show(&rt)

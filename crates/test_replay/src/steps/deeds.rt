@@ -5,7 +5,7 @@ use fleet_core::Step;
 use std::alloc::Global;
 
 /// One thing that happens. Connections come first; moments are in ms.
-#[derive(Clone, Copy, Debug)]
+#[derive(Clone, Copy)]
 pub enum Deed {
     Connect,
     Send(u64, &'static [u8]),

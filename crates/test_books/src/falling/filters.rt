@@ -1,0 +1,297 @@
+//! Keys under standing filters as the clock goes on.
+
+ghost use Rattle.std.specs.Prelude.{◌≤◌, length, IfOk};
+ghost use Rattle.std.specs.List.{All};
+
+use crate::falling::cases::{CASES, Case, FROM_THREE, IS_TWO, LATE, OVER};
+use crate::falling::pair::{Counted, Pair};
+use agg_types::{Cond, Config, Declared, Filter, Items, Key, Name, NoMemory};
+use anyhow::{Result, ensure};
+use crossing::Meter;
+use period_rate::Rate;
+use standing_filters::{Flips, Standing};
+use std::alloc::Global;
+use std::io::Print;
+
+/// Prints what filters say of one key in each case, and of several keys.
+pub fn run<R: Print>(rt: &R, alloc: Global) -> Result<()> {
+    for case in CASES {
+        play(rt, alloc, &case)?;
+    }
+    added(rt, alloc)?;
+    planned(rt, alloc)
+}
+
+// Two rates of 3 events in the period before, which fall to 0 within the next one. The second
+// period began so many ms before the moment 0.
+fn falling(second: u64, ends: u64) -> Counted {
+    Counted::new(Pair {
+        first: Rate::arrive(1000, 0, 0, 3, 0),
+        second: Rate::arrive(1000, second, 0, 3, 0),
+        ends,
+    })
+}
+
+// A filter on the first table.
+fn filter(alloc: Global, conds: &[Cond]) -> Result<Filter, NoMemory>
+    requires { length conds.now ≤ 4 }
+    ensures { IfOk result (λ filter. length filter.conds ≤ 4) }
+{
+    Ok(Filter {
+        name: Name::copy(alloc, b"f")?,
+        table: 0,
+        conds: Items::copy(alloc, conds)?,
+    })
+}
+
+// A configuration of this filter.
+fn config(alloc: Global, filters: Declared<Filter>) -> Result<Config, NoMemory>
+    requires { All (λ filter. length filter.conds ≤ 4) filters }
+    ensures { IfOk result (λ config. All (λ filter. length filter.conds ≤ 4) config.filters) }
+{
+    let me = Name::copy(alloc, b"agg")?;
+    Ok(Config {
+        me,
+        peers: Declared::new(alloc),
+        tables: Declared::new(alloc),
+        filters,
+        ranks: Declared::new(alloc),
+        pushes: Declared::new(alloc),
+    })
+}
+
+// One standing filter on the first table.
+fn standing(alloc: Global, conds: &[Cond]) -> Result<Standing>
+    requires { length conds.now ≤ 4 }
+{
+    let mut filters = Declared::new(alloc);
+    filters.push(filter(alloc, conds)?)?;
+    let config = config(alloc, filters)?;
+    Ok(Standing::new(alloc, &config)?)
+}
+
+// Prints what the filter says of the case's key at each moment.
+fn play<R: Print>(rt: &R, alloc: Global, case: &Case) -> Result<()> {
+    println!(rt; "{}", case.name)?;
+    ensure!(case.conds.len() <= 4, "too many conditions");
+    let mut standing = standing(alloc, case.conds)?;
+    judge(rt, alloc, &mut standing, case)
+}
+
+fn judge<R: Print>(rt: &R, alloc: Global, standing: &mut Standing, case: &Case) -> Result<()> {
+    let key = Key::copy(alloc, b"k")?;
+    let values = falling(case.second, case.ends);
+    let mut flips = Flips::unknown(alloc);
+    if case.touched {
+        return touch_each(rt, standing, &key, &values, case.moments, &mut flips);
+    }
+    touch_once(rt, standing, &key, &values, case.moments, &mut flips)
+}
+
+// Touches a key at 0, and then lets the clock go on.
+fn touch_once<R: Print>(
+    rt: &R,
+    standing: &mut Standing,
+    key: &Key,
+    values: &Counted,
+    moments: &[u64],
+    flips: &mut Flips,
+) -> Result<()> {
+    let mut meter = Meter::new();
+    standing.touch(0, key, values, 0, &mut meter, flips)?;
+    show(rt, standing, 0, values, meter)?;
+    go_on(rt, standing, values, moments, meter, flips)
+}
+
+// Touches a key at each moment.
+fn touch_each<R: Print>(
+    rt: &R,
+    standing: &mut Standing,
+    key: &Key,
+    values: &Counted,
+    moments: &[u64],
+    flips: &mut Flips,
+) -> Result<()> {
+    let mut meter = Meter::new();
+    for t in moments {
+        standing.touch(0, key, values, *t, &mut meter, flips)?;
+        show(rt, standing, *t, values, meter)?;
+    }
+    Ok(())
+}
+
+// Lets the clock go on to each moment.
+fn go_on<R: Print>(
+    rt: &R,
+    standing: &mut Standing,
+    values: &Counted,
+    moments: &[u64],
+    before: Meter,
+    flips: &mut Flips,
+) -> Result<()> {
+    let mut meter = before;
+    for t in moments {
+        standing.moment(values, *t, &mut meter, flips)?;
+        show(rt, standing, *t, values, meter)?;
+    }
+    Ok(())
+}
+
+fn print_shown<R: Print>(
+    rt: &R,
+    t: u64,
+    held: bool,
+    next: Option<u64>,
+    evals: u64,
+    reads: u64,
+) -> Result<()> {
+    println!(rt; "at {t}: held:{held} next:{next:?} evals:{evals} reads:{reads}")?;
+    Ok(())
+}
+
+fn show<R: Print>(
+    rt: &R,
+    standing: &Standing,
+    t: u64,
+    values: &Counted,
+    meter: Meter,
+) -> Result<()> {
+    if standing.len() == 0 {
+        return Ok(());
+    }
+    let held = standing.keys(0).next().is_some();
+    let next = standing.next_change(0);
+    print_shown(rt, t, held, next, meter.evals, values.reads())
+}
+
+// Adds a filter with the keys that have rows.
+fn add(alloc: Global, standing: &mut Standing, values: &Counted, meter: &mut Meter) -> Result<()> {
+    let (one, other) = (Key::copy(alloc, b"a")?, Key::copy(alloc, b"b")?);
+    let more = filter(alloc, FROM_THREE)?;
+    let mut adding = standing.begin(&more)?;
+    adding.judge(&one, values, 0, meter)?;
+    adding.judge(&other, values, 0, meter)?;
+    standing.add(adding)?;
+    Ok(())
+}
+
+// A filter that is added with the keys that have rows.
+fn added<R: Print>(rt: &R, alloc: Global) -> Result<()> {
+    println!(rt; "added")?;
+    let values = falling(500, LATE);
+    let mut standing = standing(alloc, IS_TWO)?;
+    let mut meter = Meter::new();
+    add(alloc, &mut standing, &values, &mut meter)?;
+    count_on(rt, alloc, &mut standing, &values, meter)
+}
+
+// Prints what there is at once, and as the clock goes on.
+fn count_on<R: Print>(
+    rt: &R,
+    alloc: Global,
+    standing: &mut Standing,
+    values: &Counted,
+    before: Meter,
+) -> Result<()> {
+    count(rt, standing, values, before)?;
+    let mut meter = before;
+    let mut flips = Flips::unknown(alloc);
+    for t in [166, 167] {
+        standing.moment(values, t, &mut meter, &mut flips)?;
+        count(rt, standing, values, meter)?;
+    }
+    Ok(())
+}
+
+fn print_count<R: Print>(
+    rt: &R,
+    filters: usize,
+    held: u64,
+    next: Option<u64>,
+    evals: u64,
+    reads: u64,
+) -> Result<()> {
+    println!(rt; "filters:{filters} held:{held} next:{next:?} evals:{evals} reads:{reads}")?;
+    Ok(())
+}
+
+// Prints how many filters there are, and of the last one how many keys it holds and its next
+// change.
+fn count<R: Print>(rt: &R, standing: &Standing, values: &Counted, meter: Meter) -> Result<()> {
+    let filters = standing.len();
+    if filters == 0 {
+        return Ok(());
+    }
+    let last = filters - 1;
+    let mut held = 0u64;
+    for _ in standing.keys(last) {
+        held = held.saturating_add(1);
+    }
+    let next = standing.next_change(last);
+    print_count(rt, filters, held, next, meter.evals, values.reads())
+}
+
+// Touches a key.
+fn touch(
+    alloc: Global,
+    standing: &mut Standing,
+    key: &[u8],
+    values: &Counted,
+    t: u64,
+) -> Result<()> {
+    let mut meter = Meter::new();
+    let mut flips = Flips::unknown(alloc);
+    standing.touch(
+        0,
+        &Key::copy(alloc, key)?,
+        values,
+        t,
+        &mut meter,
+        &mut flips,
+    )?;
+    Ok(())
+}
+
+// What is planned for three keys, two of which change in the same ms, and once that has come.
+fn planned<R: Print>(rt: &R, alloc: Global) -> Result<()> {
+    println!(rt; "planned")?;
+    let values = falling(OVER, LATE);
+    let mut standing = standing(alloc, IS_TWO)?;
+    touch_three(alloc, &mut standing, &values)?;
+    plan_on(rt, alloc, &mut standing, &values)
+}
+
+fn touch_three(alloc: Global, standing: &mut Standing, values: &Counted) -> Result<()> {
+    for (key, t) in [(b"c", 0), (b"b", 1), (b"a", 0)] {
+        touch(alloc, standing, key, values, t)?;
+    }
+    Ok(())
+}
+
+fn plan_on<R: Print>(
+    rt: &R,
+    alloc: Global,
+    standing: &mut Standing,
+    values: &Counted,
+) -> Result<()> {
+    show_plans(rt, standing)?;
+    let mut meter = Meter::new();
+    let mut flips = Flips::unknown(alloc);
+    for t in [1, 400] {
+        standing.moment(values, t, &mut meter, &mut flips)?;
+        show_plans(rt, standing)?;
+    }
+    Ok(())
+}
+
+// Prints the planned changes of the first filter.
+fn show_plans<R: Print>(rt: &R, standing: &Standing) -> Result<()> {
+    if standing.len() == 0 {
+        return Ok(());
+    }
+    println!(rt; "next:{:?}", standing.next_change(0))?;
+    for (at, key) in standing.planned(0) {
+        println!(rt; "at {at}: {key:?}")?;
+    }
+    Ok(())
+}

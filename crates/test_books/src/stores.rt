@@ -1,0 +1,33 @@
+//! Runs what holds rows, from below, and prints what it answers.
+//!
+//! Places: finds, inserts and removes keys, also keys whose hashes choose one window and far more
+//! than one window holds; exchanges values, and lays keys into room that was made for them. Rows:
+//! puts, replaces, takes and clears the rows of two peers, and works rows into sums. Rates, at the
+//! moments at which they change, and both kinds of due index on the same entries.
+//!
+//! It shows what no contract says: that these calls succeed while there is memory. Where places or
+//! rows are refused memory once, nothing may have changed, and the same call is made again.
+
+mod crowded;
+mod due;
+mod growth;
+mod laying;
+mod places;
+mod rates;
+mod rooms;
+mod rows;
+mod sums;
+
+use anyhow::Result;
+
+/// Runs each.
+pub fn run(rt: &HostRuntime) -> Result<()> {
+    places::run(rt)?;
+    crowded::run(rt)?;
+    growth::run(rt)?;
+    rooms::run(rt)?;
+    rows::run(rt)?;
+    sums::run(rt)?;
+    rates::run(rt)?;
+    due::run(rt, rt.alloc())
+}

@@ -1,0 +1,11 @@
+use Rattle.test_collector.proofs.posts.run.Given as goal
+
+-- the logs that were just opened
+abbrev pub ghosts-run_alone : goal.ghosts-run_alone
+ghosts-run_alone g a = record { book = a.opening.of }
+
+abbrev pub ghosts-late : goal.ghosts-late
+ghosts-late g a = record { book = a.opening.of }
+
+abbrev pub ghosts-follow : goal.ghosts-follow
+ghosts-follow g a = record { book = a.opening.of }

@@ -1,0 +1,5 @@
+use Rattle.test_collector.proofs.posts.run_again.Given as goal
+
+-- the log that was just opened
+abbrev pub ghosts-opened : goal.ghosts-opened
+ghosts-opened g a = record { book = a.opening.of }

@@ -1,0 +1,42 @@
+//! Seats, posts, receipts and looks of a hub, in one thread, and what came into a filter's set and
+//! left it between two looks.
+//!
+//! Then posts, seats, lenses and leaves, each made once more where an allocation failed. So what is
+//! printed of these is the same whichever allocation fails: `test_collector again` runs them alone,
+//! and `tools/refuse_growths.py` lets each of its allocations fail in turn.
+
+mod again;
+mod changes;
+mod fleet;
+mod no_memory;
+mod posting;
+mod replaced;
+mod seats;
+mod shown;
+
+use crate::posts::changes::{follow, pushing};
+use crate::posts::no_memory::{fleet_opened, opened};
+use crate::posts::posting::{late, run_alone};
+use crate::shared::opening;
+use anyhow::Result;
+use std::alloc::Global;
+use std::marker::Brand;
+use std::sync::Wait;
+
+/// Posts, seats, lenses and leaves, each made once more where an allocation failed.
+pub fn run_again<R: Print + Wait>(rt: &R, alloc: Global) -> Result<()> {
+    for _ in 0..2 {
+        if opened::<Brand, R>(rt, alloc, fleet_opened(alloc)?)? {
+            break;
+        }
+    }
+    Ok(())
+}
+
+/// Runs each.
+pub fn run<R: Print + Wait>(rt: &R, alloc: Global) -> Result<()> {
+    run_alone::<Brand, R>(rt, alloc, opening(alloc)?)?;
+    late::<Brand, R>(rt, alloc, opening(alloc)?)?;
+    follow::<Brand, R>(rt, alloc, pushing(alloc)?)?;
+    run_again(rt, alloc)
+}

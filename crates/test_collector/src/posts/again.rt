@@ -1,0 +1,71 @@
+//! Calls of a hub that are made once more where an allocation failed.
+//!
+//! What they leave is looked at first: after NoMemory nothing was stored, and what is pending isn't
+//! shown yet.
+
+ghost use Rattle.std.specs.Prelude.{◌≡◌, IfOk, IfSome};
+
+use crate::posts::shown::seen;
+use crate::shared::{leave_once, post_once};
+use agg_types::What;
+use anyhow::{Result, anyhow, ensure};
+use hub::{Hub, Lens, Naming, Pass, PostFault, Receipt};
+use std::alloc::Global;
+use std::sync::Wait;
+
+/// Posts a batch, and shows what is pending of it by an empty batch.
+pub fn post<J: Naming, H: Wait + Drop, W: Wait>(
+    rt: &W,
+    alloc: Global,
+    hub: &Hub<J, H>,
+    pass: &mut Pass,
+    lens: &mut Lens,
+    whats: Vec<What>,
+) -> Result<Receipt>
+    requires { pass.old.seen.of ≡ hub.now.of }
+    ensures pass { IfOk result (λ r. (r.of ≡ hub.now.of) × (pass.new.seen.of ≡ hub.now.of)) }
+    ensures lens { IfOk result (λ r. lens.new.seen.of ≡ lens.old.seen.of) }
+{
+    ensure!(hub.allows(whats.as_slice()), "it does not fit");
+    let before = seen(lens, pass.seat())?;
+    let count = whats.len();
+    match hub.post(rt, pass, whats) {
+        Ok(receipt) => Ok(receipt),
+        Err(PostFault::NoMemory(back)) => {
+            ensure!(back.len() == count, "a part of the batch was lost");
+            before.stands(lens)?;
+            post_once(rt, hub, pass, back)
+        }
+        Err(PostFault::Pending) => {
+            before.stands(lens)?;
+            post_once(rt, hub, pass, Vec::new(alloc))
+        }
+        Err(_) => Err(anyhow!("refused")),
+    }
+}
+
+/// A seat leaves. None where that is pending.
+pub fn leave<J: Naming, H: Wait + Drop, W: Wait>(
+    rt: &W,
+    hub: &Hub<J, H>,
+    pass: Pass,
+    lens: &mut Lens,
+) -> Result<Option<Receipt>>
+    requires { pass.seen.of ≡ hub.now.of }
+    ensures pass { IfOk result (λ left. IfSome left (λ r. r.of ≡ hub.now.of)) }
+    ensures lens { IfOk result (λ left. lens.new.seen.of ≡ lens.old.seen.of) }
+{
+    let before = seen(lens, pass.seat())?;
+    match hub.leave(rt, pass) {
+        Ok(Some(receipt)) => Ok(Some(receipt)),
+        Ok(None) => {
+            before.stands(lens)?;
+            Ok(None)
+        }
+        Err((pass, PostFault::NoMemory(_))) => {
+            before.stands(lens)?;
+            leave_once(rt, hub, pass)
+        }
+        Err(_) => Err(anyhow!("it stays")),
+    }
+}

@@ -1,0 +1,64 @@
+//! What targets ask for, a line each.
+
+use anyhow::Result;
+use std::alloc::Global;
+use std::io::BufRead;
+use web_target::{Part, Question, read};
+
+/// Shows what the target of each line asks for.
+pub fn show<I: BufRead>(rt: &impl Print, alloc: Global, input: &mut I) -> Result<()> {
+    for line in input.lines(alloc) {
+        show_one(rt, alloc, line?.as_str())?;
+    }
+    Ok(())
+}
+
+fn show_one(rt: &impl Print, alloc: Global, line: &str) -> Result<()> {
+    let (path, query) = match line.split_once("?") {
+        None => (line, None),
+        Some((path, query)) => (path, Some(query.as_bytes())),
+    };
+    match read(alloc, path.as_bytes(), query) {
+        Err(fault) => println!(rt; "{line}: {fault}")?,
+        Ok(question) => {
+            print!(rt; "{line}: ")?;
+            show_question(rt, &question)?;
+        }
+    }
+    Ok(())
+}
+
+fn say(rt: &impl Print, what: &str) -> Result<()> {
+    println!(rt; "{what}")?;
+    Ok(())
+}
+
+fn show_question(rt: &impl Print, question: &Question) -> Result<()> {
+    match question {
+        Question::Page => say(rt, "page"),
+        Question::Health => say(rt, "health"),
+        Question::Metrics => say(rt, "metrics"),
+        Question::Overview => say(rt, "overview"),
+        Question::Peers(part) => show_named(rt, "peers", b"", part),
+        Question::Table { name, conds, part } => {
+            show_conds(rt, conds.as_slice())?;
+            show_named(rt, "table", name.as_slice(), part)
+        }
+        Question::Filter { name, part } => show_named(rt, "filter", name.as_slice(), part),
+        Question::Rank { name, part } => show_named(rt, "rank", name.as_slice(), part),
+    }
+}
+
+fn show_conds(rt: &impl Print, conds: &[u8]) -> Result<()> {
+    print!(rt; "where \"{}\" ", conds.escape_ascii())?;
+    Ok(())
+}
+
+fn show_named(rt: &impl Print, what: &str, name: &[u8], part: &Part) -> Result<()> {
+    print!(rt; "{what} \"{}\" limit {}", name.escape_ascii(), part.limit)?;
+    if let Some(after) = &part.after {
+        print!(rt; " after \"{}\"", after.as_slice().escape_ascii())?;
+    }
+    println!(rt;)?;
+    Ok(())
+}

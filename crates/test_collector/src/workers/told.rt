@@ -1,0 +1,99 @@
+//! How a worker ended, in words.
+
+use hub::{PostFault, Receipt};
+use serve::{Cause, Faulted, Served};
+use session_core::SessionCause;
+use std::fmt;
+use std::fmt::{Display, Formatter, Write};
+
+/// Why a worker ended.
+#[derive(Clone, Copy)]
+enum How {
+    Whole,
+    Read,
+    Write,
+    Session(SessionCause),
+    Post,
+    Look,
+}
+
+impl How {
+    fn of(cause: &Cause) -> How {
+        match cause {
+            Cause::Read => How::Read,
+            Cause::Write => How::Write,
+            Cause::Session(cause) => How::Session(*cause),
+            Cause::Post(_) => How::Post,
+            Cause::Look => How::Look,
+        }
+    }
+
+    // What is said of it, but of the cause of a session.
+    fn words(self) -> &'static str {
+        match self {
+            How::Whole => "ended by itself",
+            How::Read => "a read failed",
+            How::Write => "a write failed",
+            How::Session(_) => "the session ended",
+            How::Post => "a post was refused",
+            How::Look => "no look",
+        }
+    }
+}
+
+impl Display for How {
+    fn fmt<W: Write>(&self, f: &mut Formatter<W>) -> fmt::Result {
+        match self {
+            How::Session(cause) => write!(f, "{cause}"),
+            how => write!(f, "{}", how.words()),
+        }
+    }
+}
+
+/// How a worker ended, and how many events its receipts show.
+#[derive(Clone, Copy)]
+pub struct Ending {
+    how: How,
+    last: Option<u64>,
+    left: Option<u64>,
+}
+
+fn count(receipt: &Option<Receipt>) -> Option<u64> {
+    match receipt {
+        None => None,
+        Some(receipt) => Some(receipt.len()),
+    }
+}
+
+impl Ending {
+    fn told(how: How, served: &Served) -> Ending {
+        Ending {
+            how,
+            last: count(&served.last),
+            left: count(&served.left),
+        }
+    }
+
+    /// What is told of an ending.
+    pub fn of(ended: &Result<Served, Faulted>) -> Ending {
+        match ended {
+            Ok(served) => Ending::told(How::Whole, served),
+            Err(faulted) => Ending::told(How::of(&faulted.cause), &faulted.served),
+        }
+    }
+
+    /// Whether its seat is free again.
+    pub fn has_left(self) -> bool {
+        self.left.is_some()
+    }
+}
+
+impl Display for Ending {
+    fn fmt<W: Write>(&self, f: &mut Formatter<W>) -> fmt::Result {
+        write!(
+            f,
+            "{}; last {:?}, left {:?}",
+            self.how, self.last, self.left
+        )
+    }
+}

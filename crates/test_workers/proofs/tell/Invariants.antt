@@ -1,5 +1,0 @@
-use Rattle.test_workers.proofs.tell.Given as goal
-
--- the log that was just opened
-abbrev pub ghosts-stage : goal.ghosts-stage
-ghosts-stage g a = record { book = a.opening.of }
