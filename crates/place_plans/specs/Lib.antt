@@ -1,3 +1,4 @@
 pub mod Plans
 pub mod Links
 pub mod Rounding
+pub mod Forms

@@ -5,10 +5,10 @@ use Rattle.std.specs.Map.{lookup}
 use Rattle.std.specs.Option.{option_map}
 use Rattle.std.specs.Ordering.{nat_cmp}
 
--- the moment and the number that three words stand for; the greatest number is none
-abbrev pub link_of : ℕ → ℕ → ℕ → Option (ℕ × ℕ)
-link_of low high index =
-    if index == 4294967295 then None else Some (high * 2 ^ 32 + low, index)
+-- the moment of two parts and the number that a link stands for; one number is none
+abbrev pub link_of : ℕ → ℕ → ℕ → ℕ → Option (ℕ × ℕ)
+link_of none low high index =
+    if index == none then None else Some (high * 2 ^ 32 + low, index)
 
 -- the moment and the number of a place
 abbrev pub link_in : List (Option (ℕ × ℕ)) → ℕ → Option (ℕ × ℕ)

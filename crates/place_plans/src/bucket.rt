@@ -7,6 +7,12 @@ use agg_types::NoMemory;
 use std::alloc::Global;
 use std::marker::Model;
 
+/// A full bucket of so many places gets room for one more, so that little of it stays unused.
+const SLACK: usize = 8;
+
+/// It grows by so many places at least.
+const LEAST: usize = 4;
+
 /// The places of one moment, in no order. Contracts see their list.
 #[derive(Drop)]
 pub(crate) struct Bucket {
@@ -31,16 +37,20 @@ impl Bucket {
         Ok(Bucket { places })
     }
 
-    /// Adds a place behind the others, and answers its number there.
-    pub(crate) fn push(&mut self, place: u32) -> Result<u32, NoMemory>
+    /// Adds a place behind the others, of which there are fewer than so many, and answers its
+    /// number there.
+    pub(crate) fn push(&mut self, place: u32, most: u32) -> Result<u32, NoMemory>
         ensures index { IfOk result (λ index. index ≡ length self.old) }
-        ensures small { IfOk result (λ index. index < 4294967295) }
+        ensures small { IfOk result (λ index. index < most) }
         ensures ok { OnOk result (self.new ≡ self.old ++ place ∷ []) }
         ensures err { OnErr result (self.new ≡ self.old) }
     {
         let len = self.places.len();
-        if len >= u32::MAX as usize {
+        if len >= most as usize {
             return Err(NoMemory);
+        }
+        if len == self.places.capacity() {
+            self.places.reserve_exact((len / SLACK).max(LEAST))?;
         }
         self.places.push(place)?;
         Ok(len as u32)

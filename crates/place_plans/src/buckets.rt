@@ -43,17 +43,34 @@ impl Buckets {
         }
     }
 
-    /// Adds a place to the bucket of a moment, and answers its number there.
-    pub(crate) fn push(&mut self, at: u64, place: u32) -> Result<u32, NoMemory>
+    /// What the buckets are made with.
+    pub(crate) fn allocator(&self) -> Global {
+        self.alloc
+    }
+
+    /// How many places a moment has. Nothing is promised of it.
+    pub(crate) fn count(&self, at: u64) -> usize {
+        match self.moments.get(&at) {
+            Some(bucket) => bucket.as_slice().len(),
+            None => 0,
+        }
+    }
+
+    /// Adds a place to the bucket of a moment, which has fewer than so many, and answers its number
+    /// there.
+    pub(crate) fn push(&mut self, at: u64, place: u32, most: u32) -> Result<u32, NoMemory>
         ensures index { IfOk result (λ index. index ≡ length (places_at self.old at)) }
-        ensures small { IfOk result (λ index. index < 4294967295) }
+        ensures small { IfOk result (λ index. index < most) }
         ensures own { OnOk result
             (places_at self.new at ≡ places_at self.old at ++ place ∷ []) }
         ensures others { (m : ℕ) → m ≢ at → places_at self.new m ≡ places_at self.old m }
         ensures err { OnErr result (self.new ≡ self.old) }
     {
         if let Some(bucket) = self.moments.get_mut(&at) {
-            return bucket.push(place);
+            return bucket.push(place, most);
+        }
+        if most == 0 {
+            return Err(NoMemory);
         }
         let bucket = Bucket::one(self.alloc, place)?;
         self.moments.insert(at, bucket)?;

@@ -16,15 +16,20 @@
 //! on a raster that is the finer the nearer the end is. Whoever looks then, and finds that the end
 //! hasn't come, plans anew. An end that is t ms away is reached by about log64(t) looks.
 //!
+//! Where a place stands lies in 8 bytes: 40 bits of moment and 24 of number. The first moment or
+//! number that doesn't fit there takes the memory for 12 bytes a place, in which all then lie.
+//!
 //! No clause says how long a call takes, that an empty bucket is given back, or how much memory is
-//! used: 12 bytes a place, and 4 to 8 a plan.
+//! used: those 8 or 12 bytes a place, and 4 to 4.5 a plan in a bucket of many.
 #![tactic(auto)]
 
+mod all_links;
 mod bucket;
 mod buckets;
 mod link;
 mod plans;
 mod rounding;
+mod wide_link;
 
 pub use plans::PlacePlans;
 pub use rounding::look_at;

@@ -1,13 +1,14 @@
-ghost use Rattle.std.specs.Prelude.{◌≡◌, ◌≢◌, ◌<◌, ◌≤◌, ◌+◌, ℕ, [], Some, true, false, length};
+ghost use Rattle.std.specs.Prelude.{◌≡◌, ◌≢◌, ◌<◌, ◌≤◌, ◌+◌, ◌++◌, ℕ, [], ◌∷◌, Some, None};
+ghost use Rattle.std.specs.Prelude.{true, false, length, IfOk};
 ghost use Rattle.std.specs.Prelude.{slice_get, IfSome, IfNone, OnOk, OnErr, count_by, is_some};
 ghost use Rattle.std.specs.List.{swap_remove};
+ghost use Rattle.place_plans.specs.Forms.{Fits, links_of, room_of};
 ghost use Rattle.place_plans.specs.Links.{IsLinked, link_in, mended, moments_of, places_at};
 ghost use Rattle.place_plans.specs.Plans.{cancelled, is_due, padded, plan_at, planned};
 
+use crate::all_links::Links;
 use crate::buckets::Buckets;
-use crate::link::Link;
 use agg_types::NoMemory;
-use place_index::Segments;
 use std::alloc::Global;
 use std::marker::Model;
 
@@ -15,7 +16,7 @@ use std::marker::Model;
 ///
 /// Contracts see the list of the places' moments. A place beyond the last has none.
 pub struct PlacePlans {
-    links: Segments<Link>,
+    links: Links,
     buckets: Buckets,
     // How many places have a plan.
     count: usize,
@@ -34,14 +35,15 @@ impl Drop for PlacePlans {
 
 impl Model for PlacePlans {
     ghost use Rattle.std.specs.Prelude.{List, Option, ℕ, ◌≡◌, count_by, is_some};
+    ghost use Rattle.place_plans.specs.Forms.{Fits, links_of, room_of};
     ghost use Rattle.place_plans.specs.Links.{IsLinked, moments_of};
 
     ghost Value = { List (Option ℕ) };
 
-    ghost view = { λ p. moments_of p.links.items };
+    ghost view = { λ p. moments_of (links_of p.links) };
 
-    ghost invariant = { λ p. IsLinked p.links.items p.buckets
-        × (p.count ≡ count_by is_some (moments_of p.links.items)) };
+    ghost invariant = { λ p. IsLinked (links_of p.links) p.buckets
+        × (p.count ≡ count_by is_some (moments_of (links_of p.links))) };
 }
 
 impl PlacePlans {
@@ -50,7 +52,7 @@ impl PlacePlans {
         ensures { result ≡ [] }
     {
         PlacePlans {
-            links: Segments::new(alloc),
+            links: Links::new(alloc),
             buckets: Buckets::new(alloc),
             count: 0,
         }
@@ -61,7 +63,7 @@ impl PlacePlans {
     pub fn at(&self, place: usize) -> Option<u64>
         ensures { result ≡ plan_at self.now place }
     {
-        let (moment, _) = link_at(&self.links, place)?;
+        let (moment, _) = self.links.get(place)?;
         Some(moment)
     }
 
@@ -82,7 +84,7 @@ impl PlacePlans {
             return Err(NoMemory);
         }
         let _places = self.links.len();
-        let before = link_at(&self.links, place);
+        let before = self.links.get(place);
         match before {
             Some(link) if link.0 == at => Ok(()),
             Some(link) => move_plan(&mut self.links, &mut self.buckets, place, link, at),
@@ -98,7 +100,7 @@ impl PlacePlans {
     pub fn cancel(&mut self, place: usize)
         ensures { self.new ≡ cancelled self.old place }
     {
-        let Some(link) = link_at(&self.links, place) else {
+        let Some(link) = self.links.get(place) else {
             return;
         };
         drop_plan(&mut self.links, &mut self.buckets, place, link);
@@ -126,25 +128,13 @@ impl PlacePlans {
     }
 }
 
-// The moment of a place, and its number in that moment's bucket.
-#[inline]
-fn link_at(links: &Segments<Link>, place: usize) -> Option<(u64, u32)>
-    ensures value { result ≡ link_in links.now.items place }
-    ensures small { IfSome result (λ link. link.1 < 4294967295) }
-{
-    match links.get(place) {
-        Some(link) => link.get(),
-        None => None,
-    }
-}
-
 // A place whose moment is at most `t`, of the least moment.
-fn first_due(links: &Segments<Link>, buckets: &Buckets, t: u64) -> Option<usize>
-    requires { IsLinked links.now.items buckets.now }
+fn first_due(links: &Links, buckets: &Buckets, t: u64) -> Option<usize>
+    requires { IsLinked (links_of links.now) buckets.now }
     ensures due { IfSome result
-        (λ place. is_due t (plan_at (moments_of links.now.items) place) ≡ true) }
+        (λ place. is_due t (plan_at (moments_of (links_of links.now)) place) ≡ true) }
     ensures none { IfNone result ((place : ℕ)
-        → is_due t (plan_at (moments_of links.now.items) place) ≡ false) }
+        → is_due t (plan_at (moments_of (links_of links.now)) place) ≡ false) }
 {
     match buckets.first() {
         Some((at, place)) if at <= t => Some(place as usize),
@@ -153,97 +143,122 @@ fn first_due(links: &Segments<Link>, buckets: &Buckets, t: u64) -> Option<usize>
 }
 
 // Takes the stand of a place out of its bucket. The place that gets it is told.
-fn leave(links: &mut Segments<Link>, buckets: &mut Buckets, link: (u64, u32))
+fn leave(links: &mut Links, buckets: &mut Buckets, link: (u64, u32))
     requires within { link.1 < length (places_at buckets.old link.0) }
-    requires small { link.1 < 4294967295 }
+    requires fits { Fits links.old link }
     ensures own { places_at buckets.new link.0
         ≡ swap_remove (places_at buckets.old link.0) link.1 0 }
     ensures others { (m : ℕ) → m ≢ link.0
         → places_at buckets.new m ≡ places_at buckets.old m }
-    ensures links { links.new.items
-        ≡ mended links.old.items (slice_get (places_at buckets.new link.0) link.1) link }
+    ensures links { (links_of links.new)
+        ≡ mended (links_of links.old) (slice_get (places_at buckets.new link.0) link.1) link }
+    ensures fits { (l : ℕ × ℕ) → Fits links.old l → Fits links.new l }
 {
     if let Some(moved) = buckets.remove(link.0, link.1) {
-        links.replace(moved as usize, Link::to(link.0, link.1));
+        links.tell(moved as usize, link);
     }
 }
 
 // Takes the plan of a place away.
-fn drop_plan(links: &mut Segments<Link>, buckets: &mut Buckets, place: usize, link: (u64, u32))
-    requires linked { IsLinked links.old.items buckets.old }
-    requires link { link_in links.old.items place ≡ Some link }
-    requires small { link.1 < 4294967295 }
-    ensures linked { IsLinked links.new.items buckets.new }
-    ensures after { moments_of links.new.items
-        ≡ cancelled (moments_of links.old.items) place }
+fn drop_plan(links: &mut Links, buckets: &mut Buckets, place: usize, link: (u64, u32))
+    requires linked { IsLinked (links_of links.old) buckets.old }
+    requires link { link_in (links_of links.old) place ≡ Some link }
+    requires fits { Fits links.old link }
+    ensures linked { IsLinked (links_of links.new) buckets.new }
+    ensures after { moments_of (links_of links.new)
+        ≡ cancelled (moments_of (links_of links.old)) place }
 {
     leave(links, buckets, link);
-    links.replace(place, Link::none());
+    links.clear(place);
 }
 
 // Takes the memory of the links up to a place.
-fn make_room(links: &mut Segments<Link>, place: usize) -> Result<(), NoMemory>
+fn make_room(links: &mut Links, place: usize) -> Result<(), NoMemory>
     requires { place < 4294967295 }
-    ensures same { links.new.items ≡ links.old.items }
-    ensures room { OnOk result (place + 1 ≤ length links.new.items + links.new.room) }
+    ensures same { links_of links.new ≡ links_of links.old }
+    ensures fits { (l : ℕ × ℕ) → Fits links.old l → Fits links.new l }
+    ensures room { OnOk result (place + 1 ≤ length (links_of links.new) + room_of links.new) }
 {
     let wanted = (place + 1).saturating_sub(links.len());
     links.reserve(wanted)
 }
 
+// Takes a number in the bucket of a moment for a place, for which a link fits then.
+fn stand(links: &mut Links, buckets: &mut Buckets, place: usize, at: u64) -> Result<u32, NoMemory>
+    requires { place < 4294967295 }
+    ensures same { links_of links.new ≡ links_of links.old }
+    ensures room { place + 1 ≤ length (links_of links.old) + room_of links.old
+        → OnOk result (place + 1 ≤ length (links_of links.new) + room_of links.new) }
+    ensures fits { IfOk result (λ index. Fits links.new (at, index)) }
+    ensures kept { (l : ℕ × ℕ) → Fits links.old l → Fits links.new l }
+    ensures index { IfOk result (λ index. index ≡ length (places_at buckets.old at)) }
+    ensures own { OnOk result
+        (places_at buckets.new at ≡ places_at buckets.old at ++ place ∷ []) }
+    ensures others { (m : ℕ) → m ≢ at → places_at buckets.new m ≡ places_at buckets.old m }
+    ensures err { OnErr result (buckets.new ≡ buckets.old) }
+{
+    let most = links.most(at);
+    if let Ok(index) = buckets.push(at, place as u32, most) {
+        return Ok(index);
+    }
+    if buckets.count(at) < most as usize {
+        return Err(NoMemory);
+    }
+    links.widen(buckets.allocator())?;
+    make_room(links, place)?;
+    let wide = links.most(at);
+    buckets.push(at, place as u32, wide)
+}
+
 // Adds links without plans up to a place.
-fn grow(links: &mut Segments<Link>, place: usize)
+fn grow(links: &mut Links, place: usize)
     requires small { place < 4294967295 }
-    requires room { place + 1 ≤ length links.old.items + links.old.room }
-    ensures { links.new.items ≡ padded links.old.items (place + 1) }
+    requires room { place + 1 ≤ length (links_of links.old) + room_of links.old }
+    ensures items { links_of links.new ≡ padded (links_of links.old) (place + 1) }
+    ensures fits { (l : ℕ × ℕ) → Fits links.old l → Fits links.new l }
 {
     for _more in links.len()..place + 1 {
-        links.push_reserved(Link::none());
+        links.push_none();
     }
 }
 
 // Plans a moment for a place that has none.
-fn add_plan(
-    links: &mut Segments<Link>,
-    buckets: &mut Buckets,
-    place: usize,
-    at: u64,
-) -> Result<(), NoMemory>
-    requires linked { IsLinked links.old.items buckets.old }
-    requires none { link_in links.old.items place ≡ None }
+fn add_plan(links: &mut Links, buckets: &mut Buckets, place: usize, at: u64) -> Result<(), NoMemory>
+    requires linked { IsLinked (links_of links.old) buckets.old }
+    requires none { link_in (links_of links.old) place ≡ None }
     requires small { place < 4294967295 }
-    ensures linked { IsLinked links.new.items buckets.new }
+    ensures linked { IsLinked (links_of links.new) buckets.new }
     ensures ok { OnOk result
-        (moments_of links.new.items ≡ planned (moments_of links.old.items) place at) }
-    ensures err { OnErr result (moments_of links.new.items ≡ moments_of links.old.items) }
+        (moments_of (links_of links.new) ≡ planned (moments_of (links_of links.old)) place at) }
+    ensures err { OnErr result (moments_of (links_of links.new) ≡ moments_of (links_of links.old)) }
 {
     make_room(links, place)?;
-    let index = buckets.push(at, place as u32)?;
+    let index = stand(links, buckets, place, at)?;
     grow(links, place);
-    links.replace(place, Link::to(at, index));
+    links.tell(place, (at, index));
     Ok(())
 }
 
 // Plans another moment for a place that has one.
 fn move_plan(
-    links: &mut Segments<Link>,
+    links: &mut Links,
     buckets: &mut Buckets,
     place: usize,
     link: (u64, u32),
     at: u64,
 ) -> Result<(), NoMemory>
-    requires linked { IsLinked links.old.items buckets.old }
-    requires link { link_in links.old.items place ≡ Some link }
+    requires linked { IsLinked (links_of links.old) buckets.old }
+    requires link { link_in (links_of links.old) place ≡ Some link }
     requires apart { link.0 ≢ at }
-    requires small { link.1 < 4294967295 }
+    requires fits { Fits links.old link }
     requires place { place < 4294967295 }
-    ensures linked { IsLinked links.new.items buckets.new }
+    ensures linked { IsLinked (links_of links.new) buckets.new }
     ensures ok { OnOk result
-        (moments_of links.new.items ≡ planned (moments_of links.old.items) place at) }
-    ensures err { OnErr result (moments_of links.new.items ≡ moments_of links.old.items) }
+        (moments_of (links_of links.new) ≡ planned (moments_of (links_of links.old)) place at) }
+    ensures err { OnErr result (moments_of (links_of links.new) ≡ moments_of (links_of links.old)) }
 {
-    let index = buckets.push(at, place as u32)?;
+    let index = stand(links, buckets, place, at)?;
     leave(links, buckets, link);
-    links.replace(place, Link::to(at, index));
+    links.tell(place, (at, index));
     Ok(())
 }

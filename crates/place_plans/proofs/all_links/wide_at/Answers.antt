@@ -2,7 +2,7 @@ use Rattle.std.proofs.Common.{None, sym, ap, ◌∙◌}
 use Rattle.std.proofs.lemmas.Option.{unwrap_or-slice_get}
 use Rattle.std.specs.Option.{option_copied}
 use Rattle.std.specs.Prelude.{unwrap_or}
-use Rattle.place_plans.proofs.plans.link_at.Goals as goal
+use Rattle.place_plans.proofs.all_links.wide_at.Goals as goal
 
 pub returns-in-None-clause-value : goal.returns-in-None-clause-value
 returns-in-None-clause-value c =
