@@ -19,9 +19,13 @@ const MIDDLE: usize = 8;
 
 const LAST: usize = 15;
 
-/// There is a window for so many places. With fewer windows more keys find no free word, and an
-/// ordered map holds them. With so many it is one in 150.
-const PLACES: usize = 6;
+/// No further window is made until each has so many places.
+const FEWEST: usize = 8;
+
+/// From then on one is made for so many further places, so all are parted once the last ones have
+/// 11. With fewer windows more keys find no free word, and an ordered map holds them. With so many
+/// it is one in 150.
+const PLACES: usize = 3;
 
 /// So many places have a number that fits a word, and so many short hashes there are.
 const NUMBERS: u32 = 1 << 24;
@@ -322,7 +326,15 @@ impl Windows {
 
     /// Whether there are fewer windows than so many places want.
     pub(crate) fn is_small(&self, places: usize) -> bool {
-        self.windows.len().saturating_mul(PLACES) < places
+        let count = self.windows.len();
+        let parted = if count == self.wide as usize {
+            0
+        } else {
+            count.saturating_sub(self.half as usize)
+        };
+        let whole = count.saturating_sub(parted);
+        let more = places.saturating_sub(whole.saturating_mul(FEWEST));
+        count == 0 || parted.saturating_mul(PLACES) < more
     }
 
     /// Makes a further window, if there is memory for it.
