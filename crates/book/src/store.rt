@@ -116,7 +116,7 @@ impl Store {
     /// Where the rows of a trace's key may lie, without a look there.
     pub(crate) fn guess(&self, table: usize, trace: Trace) -> Option<Spot> {
         if table < self.size.tables {
-            self.rows.guess_by(table, trace)
+            self.rows.guess(table, trace)
         } else {
             None
         }

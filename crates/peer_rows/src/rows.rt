@@ -152,8 +152,8 @@ impl Rows {
         self.clear_key_at(None, table, key)
     }
 
-    /// Takes all rows of a table out, in the time that its places take, and gives their memory back.
-    /// Takes no memory.
+    /// Takes all rows of a table out, in the time that its places take, and gives their memory
+    /// back. Takes no memory.
     pub fn clear_table(&mut self, table: usize)
         requires { table < self.old.tables }
         ensures after { self.new ≡ without_table self.old table }
@@ -237,19 +237,10 @@ impl Rows {
     /// Where the rows of a table and a trace's key may lie, without a look there. Nothing is
     /// promised of it.
     #[inline]
-    pub fn guess_by(&self, table: usize, trace: Trace) -> Option<Spot>
+    pub fn guess(&self, table: usize, trace: Trace) -> Option<Spot>
         requires { table < self.now.tables }
     {
         self.tables[table].guess(trace)
-    }
-
-    /// Where the rows of a table and key may lie, by the key's hash alone, without a look there.
-    /// Nothing is promised of it.
-    #[inline]
-    pub fn guess(&self, table: usize, key: &Key) -> Option<Spot>
-        requires { table < self.now.tables }
-    {
-        self.guess_by(table, self.trace(table, key))
     }
 
     /// The spot, if the rows of the table and key lie there. Nothing is promised of it.
