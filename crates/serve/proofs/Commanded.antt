@@ -35,7 +35,7 @@ use Rattle.serve.specs.Status.{IsStatus, asked_in, quits}
 use Rattle.serve.specs.Told.{HasTold, IsServed, stored_of}
 use Rattle.serve.specs.Traffic.{Traffic, so_far}
 use Rattle.serve.specs.Turns.{WroteFront}
-use Rattle.serve.specs.declared.admin.Answered.{Answered}
+use Rattle.serve.specs.declared.answering.Answered.{Answered}
 use Rattle.serve.specs.declared.admin.Worker.{Worker}
 use Rattle.serve.specs.declared.poster.Poster.{Poster}
 use Rattle.serve.specs.declared.faults.LineFault.{LineFault}

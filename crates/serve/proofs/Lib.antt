@@ -5,6 +5,7 @@ pub mod Facts
 pub mod Tellings
 pub mod Works
 pub mod Saying
+pub mod Spoken
 pub mod Pulses
 pub mod Timed
 pub mod Sent

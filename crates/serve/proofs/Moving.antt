@@ -1,7 +1,7 @@
 -- What came into sets and what left them makes of the sets that were told those that stand.
 use Rattle.std.proofs.Common.{◌≡◌, ◌<◌, ◌++◌, ◌&&◌, ◌||◌, ℕ, zero, suc, Bool, true, false, List}
 use Rattle.std.proofs.Common.{[], ◌∷◌, length, Option, None, Some, IfSome}
-use Rattle.std.proofs.Common.{MatchOption, refl, sym, ap, subst, ◌∙◌}
+use Rattle.std.proofs.Common.{refl, sym, ap, subst, ◌∙◌}
 use Rattle.std.proofs.Common.{append-nil, append_assoc, arith, if◌then◌else◌, nat_lt, unwrap_or}
 use Rattle.std.proofs.lemmas.Bool.Decides.{nat_tests}
 use Rattle.std.proofs.lemmas.Map.Text.{is_eq-slice_cmp}
@@ -28,7 +28,7 @@ use Rattle.hub.specs.Views.{IsBookOf, Seeing}
 use Rattle.serve.specs.Gathering.{AreMoves, AreSince, Each, IsMovedSince, state_behind}
 use Rattle.serve.proofs.Later.{follows_on}
 use Rattle.serve.specs.Knowing.{Knows, KnowsAt, Pushing}
-use Rattle.serve.specs.Tellings.{Brings, HoldsLast, SeesMore, TurnsTo}
+use Rattle.serve.specs.Tellings.{Brings, HoldsLast, SeesMore, TurnsOver}
 use Rattle.serve.specs.Turns.{set_named, sets_in}
 use Rattle.serve.specs.declared.poster.Poster.{Poster}
 use Rattle.set_changes.specs.Numbered.{Says}
@@ -41,8 +41,9 @@ use Rattle.telling.proofs.InOrder.{turned_ordered}
 use Rattle.telling.proofs.Kept.{set_kept}
 use Rattle.telling.specs.Moves.{AreInOrder, AreMovedTo, AreOrdered, IsMovedTo, is_in, said_of}
 use Rattle.telling.specs.Moves.{set_of}
-use Rattle.telling.specs.Telling.{table_at, told_after, turn_at, turn_text}
+use Rattle.telling.specs.Telling.{table_at, told_after, turn_at, turn_messages}
 use Rattle.telling.specs.Told.{Told}
+use Rattle.telling.specs.Unsaid.{Unsaid, unsaid_messages}
 use Rattle.telling.specs.declared.moved.Moved.{Moved}
 use Rattle.telling.specs.declared.told.Mark.{Mark}
 use Rattle.telling.specs.declared.pushed.Pushed.{Pushed}
@@ -307,15 +308,15 @@ knows_turned pushed old new now seen before is = record {
 
 -- a turn over what moved brings what was told to the sets
 pub moved_brings : (pushed : List Pushed) (old new : Told) (seen : Beginning) (number : ℕ)
-    (moves : List (List Moved)) (book : State) (now : ℕ) (text : List ℕ) → IsBookOf book seen
+    (moves : List (List Moved)) (book : State) (now : ℕ) (unsaid : Unsaid) → IsBookOf book seen
     → Each (λ table moves. IsMovedSince number seen table moves) pushed moves
     → KnowsAt pushed old number seen → now ≡ book.moment
     → ((sets : List (List (List ℕ))) → AreMovedTo pushed moves old.tables sets
-    → text ≡ turn_text pushed sets now old)
+    → unsaid_messages pushed unsaid ≡ turn_messages pushed sets now old)
     → ((sets : List (List (List ℕ))) → AreMovedTo pushed moves old.tables sets
-    → new ≡ told_after pushed sets now old) → Brings pushed old new seen text
+    → new ≡ told_after pushed sets now old) → Brings pushed old new seen unsaid
 unfolding IsStateOf
-moved_brings pushed old new seen number moves book now text is since knows now_is says told =
+moved_brings pushed old new seen number moves book now unsaid is since knows now_is says told =
     let are : AreMovedTo pushed moves old.tables (sets_in pushed book) =
     subst (λ (s : State). AreMovedTo pushed moves old.tables (sets_in pushed s)) (sym is)
     (all_moved pushed old number seen moves since knows) in
@@ -323,17 +324,17 @@ moved_brings pushed old new seen number moves book now text is since knows now_i
       book = book;
       stands = is;
       says = says (sets_in pushed book) are
-          ∙ ap (λ t. turn_text pushed (sets_in pushed book) t old) now_is;
+          ∙ ap (λ t. turn_messages pushed (sets_in pushed book) t old) now_is;
       told = told (sets_in pushed book) are
           ∙ ap (λ t. told_after pushed (sets_in pushed book) t old) now_is;
     }
 
 -- and then the sets are known
-pub knows_brought : (pushed : List Pushed) (old new : Told) (seen : Beginning) (text : List ℕ)
-    → AreOrdered pushed old → Brings pushed old new seen text
+pub knows_brought : (pushed : List Pushed) (old new : Told) (seen : Beginning) (unsaid : Unsaid)
+    → AreOrdered pushed old → Brings pushed old new seen unsaid
     → KnowsAt pushed new (length seen.events) seen
 unfolding IsStateOf
-knows_brought pushed old new seen text before brings =
+knows_brought pushed old new seen unsaid before brings =
     knows_turned pushed old new brings.book.moment seen before
     (brings.told ∙ ap (λ (s : State). told_after pushed (sets_in pushed s) brings.book.moment old)
     brings.stands)
@@ -350,26 +351,26 @@ holds_on (Some poster) shown later follows holds = last poster.last holds
     last None h = tt
     last (Some list) h = follows_on list shown later h follows
 
--- what a turn says, by the lens before it, as what was posted was learned, and behind the look
-pub turns_by : {V : Type 0} (items : V → List ℕ) (old new : Pushing) (poster : Option Poster)
-    (lens shown later : Seeing) (said : Option V) → old.lens ≡ Some lens
-    → new.lens ≡ Some later → Follows lens.seen shown.seen → HoldsLast poster shown.seen
-    → Follows shown.seen later.seen
-    → MatchOption said (new.teller ≡ old.teller)
-    (λ text. Brings old.pushed old.teller new.teller later.seen (items text))
-    → TurnsTo old new poster (option_map items said)
-turns_by items old new poster lens shown later None had has learned holds looked says = record {
-  teller = says;
-  sees = subst (λ (l : Option Seeing). SeesMore l new.lens) (sym had)
-      (later, has, follows_on lens.seen shown.seen later.seen learned looked);
+-- a lens has seen more behind a look, as what was posted was learned before it
+pub sees_later : (old new : Option Seeing) (lens shown later : Seeing) → old ≡ Some lens
+    → new ≡ Some later → Follows lens.seen shown.seen → Follows shown.seen later.seen
+    → SeesMore old new
+sees_later old new lens shown later had has learned looked =
+    subst (λ (l : Option Seeing). SeesMore l new) (sym had)
+    (later, has, follows_on lens.seen shown.seen later.seen learned looked)
+
+-- a turn was made, by the lens before it, as what was posted was learned, and behind the look
+pub turns_over : (old new : Pushing) (poster : Option Poster) (lens shown later : Seeing)
+    → unsaid_messages old.pushed old.unsaid ≡ [] → old.lens ≡ Some lens → new.lens ≡ Some later
+    → Follows lens.seen shown.seen → HoldsLast poster shown.seen → Follows shown.seen later.seen
+    → Brings old.pushed old.teller new.teller later.seen new.unsaid → TurnsOver old new poster
+turns_over old new poster lens shown later said had has learned holds looked brings = record {
+  lens = lens;
+  later = later;
+  said = said;
+  had = had;
+  has = has;
+  follows = follows_on lens.seen shown.seen later.seen learned looked;
+  holds = holds_on poster shown.seen later.seen looked holds;
+  brings = brings;
 }
-turns_by items old new poster lens shown later (Some text) had has learned holds looked says =
-    record {
-      lens = lens;
-      later = later;
-      had = had;
-      has = has;
-      follows = follows_on lens.seen shown.seen later.seen learned looked;
-      holds = holds_on poster shown.seen later.seen looked holds;
-      brings = says;
-    }

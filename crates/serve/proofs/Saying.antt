@@ -1,23 +1,27 @@
 -- How a session at work tells the pushed tables.
-use Rattle.std.proofs.Common.{◌≡◌, ℕ, Bool, List, [], ◌∷◌, ◌++◌, Option, None, Some, inl, refl}
-use Rattle.std.proofs.Common.{sym, ap, subst, ◌∙◌}
+use Rattle.std.proofs.Common.{◌≡◌, ℕ, Bool, List, [], ◌∷◌, ◌++◌, Option, None, Some, Ok, Err, inl}
+use Rattle.std.proofs.Common.{inr, refl, sym, ap, subst, ◌∙◌, append-nil, take}
 use Rattle.std.specs.Prelude.{is_some, true}
 use Rattle.std.specs.Io.KnownBytes.{Appends}
+use Rattle.peers_msg.specs.declared.message.Message.{Message}
 use Rattle.session_core.specs.Piece.{Setup, setup_of}
 use Rattle.session_core.specs.Talk.{stage_of, talk}
 use Rattle.session_core.specs.TalkAnswers.{OpensWith}
 use Rattle.hub.specs.History.{Beginning}
-use Rattle.serve.proofs.Tellings.{equipped, is_telling, some_fact, telling_of, turn_says, turned}
+use Rattle.serve.proofs.Tellings.{equipped, is_telling, said_on, some_fact, telling_of, turned}
 use Rattle.serve.proofs.Tellings.{unturned}
 use Rattle.serve.proofs.Works.{wrote_more}
 use Rattle.serve.specs.Knowing.{Pushing}
+use Rattle.serve.specs.declared.faults.WriteFailed.{WriteFailed}
 use Rattle.serve.specs.declared.served.Cause.TheVariants.{Write}
 use Rattle.serve.specs.declared.worker.Worker.{Worker}
-use Rattle.serve.specs.Tellings.{Equips, TellsOn, TurnsTo}
+use Rattle.serve.specs.Tellings.{Equips, IsPushing, SaysOn, TellsOn, TurnsTo}
 use Rattle.serve.specs.Traffic.{Traffic, so_far}
-use Rattle.serve.specs.Turns.{Tell, Telling, Turn, WroteFront, answer_at, answers_in, facts_in}
+use Rattle.serve.specs.Turns.{Say, Tell, Telling, Turn, WroteFront, answer_at, answers_in, facts_in}
 use Rattle.serve.specs.Turns.{taken_in}
-use Rattle.serve.specs.Working.{IsAtWork, SaysAt, Stops, Works}
+use Rattle.serve.specs.Working.{IsAtWork, Stops, Works}
+use Rattle.telling.specs.Telling.{text_of}
+use Rattle.telling.specs.Unsaid.{unsaid_messages}
 
 -- the same worker, with what it keeps of the pushed tables
 work_with : (hub : Beginning) (seated : Bool) (turns : List Turn) (old : Worker)
@@ -32,46 +36,46 @@ work_with hub seated turns old pushing tells work = record {
   tells = tells;
 }
 
--- a turn that isn't due changes nothing
-pub says_undue : (hub : Beginning) (seated : Bool) (turns : List Turn) (old : Worker)
-    (pushing : Pushing) → old.pushing ≡ Some pushing → IsAtWork hub seated old turns
-    → IsAtWork hub seated (record old { pushing = Some pushing }) turns
-says_undue hub seated turns old pushing is work =
-    work_with hub seated turns old (Some pushing)
-    (subst (TellsOn hub seated turns) is work.tells) work
-
--- what a turn leaves of a worker whose peer's hello was accepted
-pub says_with : (hub : Beginning) (seated : Bool) (turns : List Turn) (old : Worker)
-    (before equips after : Pushing) (said : Option (List ℕ)) → old.pushing ≡ Some before
+-- a worker whose peer's hello was accepted, once a turn was made or none was
+pub turn_with : (hub : Beginning) (seated : Bool) (start now : Traffic) (old : Worker)
+    (before equips after : Pushing) → old.pushing ≡ Some before
     → Equips hub before equips → after.pushed ≡ equips.pushed
-    → TurnsTo equips after old.poster said
-    → (facts_in (setup_of hub.config) seated turns ≡ [] → ⊥)
-    → IsAtWork hub seated old turns
-    → SaysAt hub seated (record old { pushing = Some after }) turns said
-says_with hub seated turns old before equips after None is has tables keeps greeted work =
-    work_with hub seated turns old (Some after)
-    (unturned hub seated turns equips after tables keeps
-    (equipped hub seated turns before equips has (subst (TellsOn hub seated turns) is work.tells)))
-    work
-says_with hub seated turns old before equips after (Some text) is has tables turn greeted work =
-    let kept = equipped hub seated turns before equips has
-    (subst (TellsOn hub seated turns) is work.tells) in
-    let telling : Telling = telling_of equips after old.poster text turn in (
-      telling,
-      turn_says hub seated turns old.poster equips after text turn work.shown kept,
-      record {
-        has_seat = work.has_seat;
-        stands = work.stands;
-        goes_on = work.goes_on;
-        told = work.told;
+    → TurnsTo equips after old.poster
+    → (w : Works hub seated old start now)
+    → (facts_in (setup_of hub.config) seated w.turns ≡ [] → ⊥)
+    → Works hub seated (record old { pushing = Some after }) start now
+turn_with hub seated start now old before equips after is has tables (inl keeps) w greeted =
+    record {
+      turns = w.turns;
+      work = work_with hub seated w.turns old (Some after)
+          (unturned hub seated w.turns equips after tables keeps
+          (equipped hub seated w.turns before equips has
+          (subst (TellsOn hub seated w.turns) is w.work.tells))) w.work;
+      carried = w.carried;
+    }
+turn_with hub seated start now old before equips after is has tables (inr turn) w greeted =
+    let kept = equipped hub seated w.turns before equips has
+    (subst (TellsOn hub seated w.turns) is w.work.tells) in
+    let telling : Telling = telling_of equips after old.poster turn in record {
+      turns = Tell telling ∷ w.turns;
+      work = record {
+        has_seat = w.work.has_seat;
+        stands = w.work.stands;
+        goes_on = w.work.goes_on;
+        told = w.work.told;
         shown = (
-          is_telling hub seated turns old.poster equips after text turn work.shown work.told greeted
-              kept,
-          work.shown,
+          is_telling hub seated w.turns old.poster equips after turn w.work.shown w.work.told
+              greeted kept,
+          w.work.shown,
         );
-        tells = turned hub seated turns old.poster equips after text tables turn kept;
-      },
-    )
+        tells = turned hub seated w.turns old.poster equips after tables turn w.work.shown kept;
+      };
+      carried = record {
+        gave = w.carried.gave;
+        took = subst (Appends start.taken now.taken)
+            (sym (append-nil (answers_in (setup_of hub.config) seated w.turns))) w.carried.took;
+      };
+    }
 
 -- a worker whose session has a peer has a first fact
 pub greeted_by : (hub : Beginning) (seated : Bool) (turns : List Turn) (worker : Worker)
@@ -89,61 +93,73 @@ greeted_by hub seated turns worker (Some peer) opens some work =
     work.has_seat (opens setup (taken_in turns)
     (work.stands ∙ ap (λ (b : Bool). stage_of setup b (taken_in turns)) (sym work.has_seat))))
 
--- nothing was said
-pub untold : (hub : Beginning) (seated : Bool) (old new : Worker) (start now : Traffic)
-    → (w : Works hub seated old start now) → IsAtWork hub seated new w.turns
-    → Works hub seated new start now
-untold hub seated old new start now w work = record {
-  turns = w.turns;
-  work = work;
-  carried = w.carried;
-}
+-- what is written of what is unsaid
+text_at : (hub : Beginning) (seated : Bool) (turns : List Turn) (pushing : Pushing) (count : ℕ)
+    → IsPushing hub seated turns pushing
+    → text_of (take count (unsaid_messages pushing.pushed pushing.unsaid))
+    ≡ answer_at (setup_of hub.config) seated turns (Say count)
+text_at hub seated turns pushing count tells =
+    ap (λ (ms : List Message). text_of (take count ms)) tells.unsaid
 
--- what was said was written
-pub told_whole : (hub : Beginning) (seated : Bool) (old new : Worker) (start : Traffic)
-    (given before after : Option (List ℕ)) (text : List ℕ) (telling : Telling)
-    → (w : Works hub seated old start (so_far given before))
-    → text ≡ answer_at (setup_of hub.config) seated w.turns (Tell telling)
-    → IsAtWork hub seated new (Tell telling ∷ w.turns) → Appends before after text
-    → Works hub seated new start (so_far given after)
-told_whole hub seated old new start given before after text telling w says work wrote =
-    let setup : Setup = setup_of hub.config in record {
-      turns = Tell telling ∷ w.turns;
-      work = work;
+-- what was to be written was
+pub said_whole : {A : Type 0} (hub : Beginning) (seated : Bool) (old : Worker) (start : Traffic)
+    (given before after : Option (List ℕ)) (pushing later : Pushing) (done : A)
+    → old.pushing ≡ Some pushing → SaysOn pushing later before after (Ok done)
+    → Works hub seated old start (so_far given before)
+    → Works hub seated (record old { pushing = Some later }) start (so_far given after)
+said_whole hub seated old start given before after pushing later done is says w =
+    let setup : Setup = setup_of hub.config in
+    let count : ℕ = says.wrote.count in
+    let tells : IsPushing hub seated w.turns pushing =
+    subst (TellsOn hub seated w.turns) is w.work.tells in record {
+      turns = Say count ∷ w.turns;
+      work = record {
+        has_seat = w.work.has_seat;
+        stands = w.work.stands;
+        goes_on = w.work.goes_on;
+        told = w.work.told;
+        shown = w.work.shown;
+        tells = said_on hub seated w.turns pushing later count says.kept says.wrote.left tells;
+      };
       carried = record {
         gave = w.carried.gave;
         took = wrote_more start.taken before after (answers_in setup seated w.turns)
-            (answer_at setup seated w.turns (Tell telling)) w.carried.took
-            (subst (Appends before after) says wrote);
+            (answer_at setup seated w.turns (Say count)) w.carried.took
+            (subst (Appends before after) (text_at hub seated w.turns pushing count tells)
+            says.wrote.sent);
       };
     }
 
 -- a beginning of it was
-pub told_short : (hub : Beginning) (seated : Bool) (old new : Worker) (start : Traffic)
-    (given before after : Option (List ℕ)) (text : List ℕ) (telling : Telling)
-    → (w : Works hub seated old start (so_far given before))
-    → text ≡ answer_at (setup_of hub.config) seated w.turns (Tell telling)
-    → IsAtWork hub seated new (Tell telling ∷ w.turns) → WroteFront before after text
-    → Stops hub seated new start (so_far given after) Write
-told_short hub seated old new start given before after text telling w says work wrote =
-    let setup : Setup = setup_of hub.config in record {
+pub said_short : {A : Type 0} (hub : Beginning) (seated : Bool) (old : Worker) (start : Traffic)
+    (given before after : Option (List ℕ)) (pushing later : Pushing) (failed : WriteFailed)
+    → old.pushing ≡ Some pushing → SaysOn {A = A} pushing later before after (Err failed)
+    → Works hub seated old start (so_far given before)
+    → Stops hub seated (record old { pushing = Some later }) start (so_far given after) Write
+said_short hub seated old start given before after pushing later failed is says w =
+    let setup : Setup = setup_of hub.config in
+    let count : ℕ = says.wrote.count in
+    let sent : WroteFront before after
+    (text_of (take count (unsaid_messages pushing.pushed pushing.unsaid))) = says.wrote.sent in
+    record {
       bytes = taken_in w.turns;
-      written = answers_in setup seated w.turns ++ wrote.front;
+      written = answers_in setup seated w.turns ++ sent.front;
       carried = record {
         gave = w.carried.gave;
-        took = wrote_more start.taken before after (answers_in setup seated w.turns) wrote.front
-            w.carried.took wrote.wrote;
+        took = wrote_more start.taken before after (answers_in setup seated w.turns) sent.front
+            w.carried.took sent.wrote;
       };
       ends = inl (record {
         turns = w.turns;
-        last = Tell telling;
-        shown = work.shown;
-        front = wrote.front;
-        rest = wrote.rest;
+        last = Say count;
+        shown = w.work.shown;
+        front = sent.front;
+        rest = sent.rest;
         goes_on = w.work.goes_on;
         read = refl;
-        told = work.told;
-        answer = sym says ∙ wrote.split;
+        told = w.work.told;
+        answer = sym (text_at hub seated w.turns pushing count
+            (subst (TellsOn hub seated w.turns) is w.work.tells)) ∙ sent.split;
         answered = refl;
       });
     }

@@ -28,15 +28,17 @@ use Rattle.serve.specs.Tellings.{AreTellings, Equips, HoldsLast, IsBroughtTo}
 use Rattle.serve.specs.Tellings.{IsExact, IsPushing, IsTelling, KeepsTold, LooksBack, SeesMore}
 use Rattle.serve.specs.Tellings.{SeesShown, ShowsPosted, SomeTelling, StoodIn, TellsOn, TurnsOver}
 use Rattle.serve.specs.Tellings.{asked_pushing, shown_by}
-use Rattle.serve.specs.Turns.{Beat, PosterTells, Piece, Tell, Telling, Turn, answer_at, asked_if}
+use Rattle.serve.specs.Turns.{Beat, PosterTells, Piece, Say, Tell, Telling, Turn, asked_if}
 use Rattle.serve.specs.Turns.{facts_in, pushed_in, seat_at, set_named, sets_in, taken_in, told_in}
+use Rattle.serve.specs.Turns.{unsaid_in}
 use Rattle.session_core.specs.Asking.{asks_all}
 use Rattle.telling.specs.Among.{AllMarks, IsAmong, IsMarked}
 use Rattle.telling.specs.Pushes.{pushed_of}
 use Rattle.telling.specs.Rules.{is_told}
 use Rattle.telling.specs.Stands.{stands}
-use Rattle.telling.specs.Telling.{table_at, told_after, turn_at, turn_text}
+use Rattle.telling.specs.Telling.{table_at, told_after, turn_at, turn_messages}
 use Rattle.telling.specs.Told.{Told}
+use Rattle.telling.specs.Unsaid.{unsaid_messages}
 use Rattle.telling.specs.declared.change.Turn.{Turn as Moment}
 use Rattle.telling.specs.declared.pushed.Pushed.{Pushed}
 use Rattle.telling.specs.declared.told.Mark.{Mark}
@@ -56,6 +58,8 @@ shown_follows hub seated seat (Piece piece ∷ earlier) shown =
     shown_follows hub seated seat earlier shown
 shown_follows hub seated seat (Beat ∷ earlier) shown =
     shown_follows hub seated seat earlier shown
+shown_follows hub seated seat (Say count ∷ earlier) shown =
+    shown_follows hub seated seat earlier shown
 shown_follows hub seated seat (Tell telling ∷ earlier) shown =
     follows_on hub (shown_by hub earlier) telling.seen
     (shown_follows hub seated seat earlier shown.1) shown.0.follows
@@ -68,6 +72,7 @@ beat_kept hub seated turns None tells = tt
 beat_kept hub seated turns (Some pushing) tells = record {
   tables = tells.tables;
   teller = tells.teller;
+  unsaid = tells.unsaid;
   sees = tells.sees;
 }
 
@@ -89,6 +94,7 @@ piece_kept hub seated turns piece asks (Some pushing) is tells = record {
   teller = ap (asked_if asks) tells.teller
       ∙ ap (λ (b : Bool). asked_if b
       (told_in (setup_of hub.config) seated (pushed_of hub.config) turns)) is;
+  unsaid = tells.unsaid;
   sees = tells.sees;
 }
 
@@ -152,12 +158,21 @@ looks_back hub seated turns poster pushing shown told tells = by pushing.lens te
         poster_last hub lens.seen poster (facts_in (setup_of hub.config) seated turns) told
         (lens_of hub seated (seat_at poster) turns lens shown sees)
 
+-- what is unsaid stays
+unsaid_same : (hub : Beginning) (seated : Bool) (turns : List Turn) (old new : Pushing)
+    → new.pushed ≡ old.pushed → new.unsaid ≡ old.unsaid → IsPushing hub seated turns old
+    → unsaid_messages new.pushed new.unsaid ≡ unsaid_in (setup_of hub.config) seated turns
+unsaid_same hub seated turns old new tables same tells =
+    ap (λ (pushed : List Pushed). unsaid_messages pushed new.unsaid) tables
+    ∙ (ap (unsaid_messages old.pushed) same ∙ tells.unsaid)
+
 -- what is kept, once it has a lens if one is to be had
 pub equipped : (hub : Beginning) (seated : Bool) (turns : List Turn) (old new : Pushing)
     → Equips hub old new → IsPushing hub seated turns old → IsPushing hub seated turns new
 equipped hub seated turns old new equips tells = record {
   tables = equips.tables ∙ tells.tables;
   teller = equips.teller ∙ tells.teller;
+  unsaid = unsaid_same hub seated turns old new equips.tables equips.unsaid tells;
   sees = equips.sees turns tells.sees;
 }
 
@@ -185,6 +200,7 @@ pub unturned : (hub : Beginning) (seated : Bool) (turns : List Turn) (old new : 
 unturned hub seated turns old new tables keeps tells = record {
   tables = tables ∙ tells.tables;
   teller = keeps.teller ∙ tells.teller;
+  unsaid = unsaid_same hub seated turns old new tables keeps.unsaid tells;
   sees = sees_more hub turns old.lens new.lens keeps.sees tells.sees;
 }
 
@@ -234,6 +250,7 @@ later_put : (table : Pushed) (turn : Turn) (turns : List Turn)
     → ((key : List ℕ) (put : ℕ) → WasPut table turns key put → WasPut table (turn ∷ turns) key put)
 later_put table (Piece piece) turns key put was = was
 later_put table Beat turns key put was = was
+later_put table (Say count) turns key put was = was
 later_put table (Tell telling) turns key put was = inr was
 
 all_later : (Old New : List ℕ → ℕ → Type 0) (marks : List Mark)
@@ -249,6 +266,8 @@ marked_in : (setup : Setup) (seated : Bool) (pushed : List Pushed) (turns : List
     → AllMarks (WasPut table turns) (table_at (told_in setup seated pushed turns) place).marks
 marked_in setup seated pushed [] place table is = tt
 marked_in setup seated pushed (Beat ∷ turns) place table is =
+    marked_in setup seated pushed turns place table is
+marked_in setup seated pushed (Say count ∷ turns) place table is =
     marked_in setup seated pushed turns place table is
 marked_in setup seated pushed (Piece piece ∷ turns) place table is =
     by (asks_all (drop (length (talk setup seated (taken_in turns)).replies)
@@ -290,6 +309,8 @@ stood_in table key now put [] lives told was = was
 stood_in table key now put (Piece piece ∷ turns) lives told was =
     stood_in table key now put turns lives told was
 stood_in table key now put (Beat ∷ turns) lives told was =
+    stood_in table key now put turns lives told was
+stood_in table key now put (Say count ∷ turns) lives told was =
     stood_in table key now put turns lives told was
 stood_in table key now put (Tell telling ∷ turns) lives told (inl is) = inl (record {
   had = is.1;
@@ -342,52 +363,36 @@ exact_at hub seated turns telling =
     lives (marked_in setup seated pushed turns place table is)))
 
 -- the telling of a turn that was made
-abbrev pub telling_of : (old new : Pushing) (poster : Option Poster) (text : List ℕ)
-    → TurnsOver old new poster text → Telling
-telling_of old new poster text turn = record { seen = turn.later.seen; book = turn.brings.book }
+abbrev pub telling_of : (old new : Pushing) (poster : Option Poster) → TurnsOver old new poster
+    → Telling
+telling_of old new poster turn = record { seen = turn.later.seen; book = turn.brings.book }
 
 pub is_telling : (hub : Beginning) (seated : Bool) (turns : List Turn) (poster : Option Poster)
-    (old new : Pushing) (text : List ℕ) → (turn : TurnsOver old new poster text)
+    (old new : Pushing) → (turn : TurnsOver old new poster)
     → AreTellings hub seated (seat_at poster) turns
     → PosterTells hub poster (facts_in (setup_of hub.config) seated turns) 0
     → (facts_in (setup_of hub.config) seated turns ≡ [] → ⊥)
     → IsPushing hub seated turns old
-    → IsTelling hub seated (seat_at poster) turns (telling_of old new poster text turn)
-is_telling hub seated turns poster old new text turn shown told greeted tells = record {
+    → IsTelling hub seated (seat_at poster) turns (telling_of old new poster turn)
+is_telling hub seated turns poster old new turn shown told greeted tells = record {
+  said = sym tells.unsaid ∙ turn.said;
   follows = follows_on (shown_by hub turns) turn.lens.seen turn.later.seen
       (sees_from hub turns old.lens turn.lens turn.had tells.sees) turn.follows;
   shows = posted_shown hub turn.later.seen poster (facts_in (setup_of hub.config) seated turns) told
       turn.holds;
   stands = turn.brings.stands;
   greeted = greeted;
-  exact = exact_at hub seated turns (telling_of old new poster text turn);
-}
-
--- what is kept where one was made
-pub turned : (hub : Beginning) (seated : Bool) (turns : List Turn) (poster : Option Poster)
-    (old new : Pushing) (text : List ℕ) → new.pushed ≡ old.pushed
-    → (turn : TurnsOver old new poster text) → IsPushing hub seated turns old
-    → IsPushing hub seated (Tell (telling_of old new poster text turn) ∷ turns) new
-turned hub seated turns poster old new text tables turn tells = record {
-  tables = tables ∙ tells.tables;
-  teller = turn.brings.told
-      ∙ ap (λ (pushed : List Pushed). told_after pushed (sets_in pushed turn.brings.book)
-      turn.brings.book.moment old.teller) tells.tables
-      ∙ ap (told_after (pushed_of hub.config) (sets_in (pushed_of hub.config) turn.brings.book)
-      turn.brings.book.moment) tells.teller;
-  sees = subst (λ (lens : Option Seeing). SeesShown hub
-      (Tell (telling_of old new poster text turn) ∷ turns) lens) (sym turn.has)
-      (follows_self turn.later.seen);
+  exact = exact_at hub seated turns (telling_of old new poster turn);
 }
 
 -- what it says
-pub turn_says : (hub : Beginning) (seated : Bool) (turns : List Turn) (poster : Option Poster)
-    (old new : Pushing) (text : List ℕ) → (turn : TurnsOver old new poster text)
+turn_says : (hub : Beginning) (seated : Bool) (turns : List Turn) (poster : Option Poster)
+    (old new : Pushing) → (turn : TurnsOver old new poster)
     → AreTellings hub seated (seat_at poster) turns
     → IsPushing hub seated turns old
-    → text ≡ answer_at (setup_of hub.config) seated turns
-    (Tell (telling_of old new poster text turn))
-turn_says hub seated turns poster old new text turn shown tells =
+    → unsaid_messages old.pushed new.unsaid
+    ≡ unsaid_in (setup_of hub.config) seated (Tell (telling_of old new poster turn) ∷ turns)
+turn_says hub seated turns poster old new turn shown tells =
     let setup : Setup = setup_of hub.config in
     let book : State = turn.brings.book in
     let sees : Follows hub turn.later.seen =
@@ -397,12 +402,46 @@ turn_says hub seated turns poster old new text turn shown tells =
     let config : turn.later.seen.config ≡ hub.config =
     ap (λ (b : Beginning). b.config) sees.same in
     turn.brings.says
-    ∙ (ap (λ (pushed : List Pushed). turn_text pushed (sets_in pushed book) book.moment old.teller)
-    tells.tables
-    ∙ (ap (turn_text (pushed_of hub.config) (sets_in (pushed_of hub.config) book) book.moment)
+    ∙ (ap (λ (pushed : List Pushed).
+    turn_messages pushed (sets_in pushed book) book.moment old.teller) tells.tables
+    ∙ (ap (turn_messages (pushed_of hub.config) (sets_in (pushed_of hub.config) book) book.moment)
     tells.teller
-    ∙ ap (λ (c : Config). turn_text (pushed_of c) (sets_in (pushed_of c) book) book.moment
+    ∙ ap (λ (c : Config). turn_messages (pushed_of c) (sets_in (pushed_of c) book) book.moment
     (told_in setup seated (pushed_of c) turns)) (sym config)))
+
+-- what is kept where one was made
+pub turned : (hub : Beginning) (seated : Bool) (turns : List Turn) (poster : Option Poster)
+    (old new : Pushing) → new.pushed ≡ old.pushed
+    → (turn : TurnsOver old new poster) → AreTellings hub seated (seat_at poster) turns
+    → IsPushing hub seated turns old
+    → IsPushing hub seated (Tell (telling_of old new poster turn) ∷ turns) new
+turned hub seated turns poster old new tables turn shown tells = record {
+  tables = tables ∙ tells.tables;
+  teller = turn.brings.told
+      ∙ ap (λ (pushed : List Pushed). told_after pushed (sets_in pushed turn.brings.book)
+      turn.brings.book.moment old.teller) tells.tables
+      ∙ ap (told_after (pushed_of hub.config) (sets_in (pushed_of hub.config) turn.brings.book)
+      turn.brings.book.moment) tells.teller;
+  unsaid = ap (λ (pushed : List Pushed). unsaid_messages pushed new.unsaid) tables
+      ∙ turn_says hub seated turns poster old new turn shown tells;
+  sees = subst (λ (lens : Option Seeing). SeesShown hub
+      (Tell (telling_of old new poster turn) ∷ turns) lens) (sym turn.has)
+      (follows_self turn.later.seen);
+}
+
+-- what is kept once more of a telling was written
+pub said_on : (hub : Beginning) (seated : Bool) (turns : List Turn) (old new : Pushing)
+    (count : ℕ) → new ≡ record old { unsaid = new.unsaid }
+    → unsaid_messages old.pushed new.unsaid ≡ drop count (unsaid_messages old.pushed old.unsaid)
+    → IsPushing hub seated turns old → IsPushing hub seated (Say count ∷ turns) new
+said_on hub seated turns old new count kept left tells = record {
+  tables = ap (λ (p : Pushing). p.pushed) kept ∙ tells.tables;
+  teller = ap (λ (p : Pushing). p.teller) kept ∙ tells.teller;
+  unsaid = ap (λ (p : Pushing). unsaid_messages p.pushed new.unsaid) kept
+      ∙ (left ∙ ap (drop count) tells.unsaid);
+  sees = subst (λ (lens : Option Seeing). SeesShown hub turns lens)
+      (sym (ap (λ (p : Pushing). p.lens) kept)) tells.sees;
+}
 
 -- an accepted hello's first fact is there
 pub some_fact : (peer : ℕ) (facts : List What) → OpensWith (Some peer) facts → facts ≡ [] → ⊥

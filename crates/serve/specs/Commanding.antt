@@ -10,7 +10,7 @@ use Rattle.agg_types.specs.declared.no_memory.NoMemory.{NoMemory}
 use Rattle.hub.specs.declared.faults.PostFault.{PostFault}
 use Rattle.hub.specs.History.{Beginning}
 use Rattle.hub.specs.Posts.{Follows}
-use Rattle.serve.specs.declared.admin.Answered.{Answered}
+use Rattle.serve.specs.declared.answering.Answered.{Answered}
 use Rattle.serve.specs.declared.admin.Worker.{Worker}
 use Rattle.serve.specs.declared.door.Door.{Door}
 use Rattle.serve.specs.declared.faults.LineFault.{LineFault}

@@ -9,13 +9,16 @@ use Rattle.serve.specs.Turns.{set_named}
 use Rattle.telling.specs.Moves.{AreOrdered, set_of}
 use Rattle.telling.specs.Telling.{table_at}
 use Rattle.telling.specs.Told.{Told}
+use Rattle.telling.specs.Unsaid.{Unsaid}
 use Rattle.telling.specs.declared.pushed.Pushed.{Pushed}
 
--- the pushed tables, what was told of them, and the lens by which the session looks
+-- the pushed tables, what was told of them, the lens by which the session looks, and what is still
+-- to be written of what was told last
 pub record Pushing : Type 0 where
   pub pushed : List Pushed
   pub teller : Told
   pub lens : Option Seeing
+  pub unsaid : Unsaid
 
 -- The marks of each table are in order, and say the set that it had behind so many first events of
 -- a list.

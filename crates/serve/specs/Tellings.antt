@@ -1,22 +1,24 @@
 -- What a session's tellings are.
 use Rattle.std.specs.Prelude.{◌≡◌, ◌≢◌, ◌⊎◌, ℕ, ◌+◌, ◌<◌, Bool}
-use Rattle.std.specs.Prelude.{true, false, ⊤, List, [], ◌∷◌, slice_get}
-use Rattle.std.specs.Prelude.{Option, None, Some, MatchOption, IfSome}
+use Rattle.std.specs.Prelude.{true, false, ⊤, List, [], ◌∷◌, drop, slice_get, take}
+use Rattle.std.specs.Prelude.{Option, None, Some, MatchOption, IfSome, Result}
 use Rattle.agg_types.specs.declared.event.What.{What}
 use Rattle.session_core.specs.Piece.{setup_of}
 use Rattle.hub.specs.History.{Beginning}
 use Rattle.hub.specs.Posts.{Follows}
 use Rattle.hub.specs.Views.{IsBookOf, Seeing}
 use Rattle.fleet_model.specs.State.{State}
+use Rattle.serve.specs.declared.faults.WriteFailed.{WriteFailed}
 use Rattle.serve.specs.declared.poster.Poster.{Poster}
 use Rattle.serve.specs.Knowing.{Pushing}
 use Rattle.serve.specs.Commands.{ShowsTold}
-use Rattle.serve.specs.Turns.{Telling, Turn, Piece, Beat, Tell, asked_if, facts_in, pushed_in}
-use Rattle.serve.specs.Turns.{set_named, sets_in, told_in}
+use Rattle.serve.specs.Turns.{Telling, Turn, Piece, Beat, Tell, Say, Sends, asked_if, facts_in}
+use Rattle.serve.specs.Turns.{pushed_in, set_named, sets_in, told_in, unsaid_in}
 use Rattle.telling.specs.Among.{IsAmong}
 use Rattle.telling.specs.Pushes.{pushed_of}
-use Rattle.telling.specs.Telling.{told_after, told_keys, turn_text}
+use Rattle.telling.specs.Telling.{text_of, told_after, told_keys, turn_messages}
 use Rattle.telling.specs.Told.{Told}
+use Rattle.telling.specs.Unsaid.{Unsaid, unsaid_messages}
 use Rattle.telling.specs.declared.pushed.Pushed.{Pushed}
 
 -- the list that the newest of these turns' tellings is of, and the hub's before the first
@@ -24,6 +26,7 @@ abbrev pub shown_by : Beginning → List Turn → Beginning
 shown_by hub [] = hub
 shown_by hub (Piece piece ∷ earlier) = shown_by hub earlier
 shown_by hub (Beat ∷ earlier) = shown_by hub earlier
+shown_by hub (Say count ∷ earlier) = shown_by hub earlier
 shown_by hub (Tell telling ∷ earlier) = telling.seen
 
 -- what a seat posted, if there is one, stands in a list
@@ -36,6 +39,7 @@ abbrev pub SomeTelling : (Telling → Type 0) → List Turn → Type 0
 SomeTelling Is [] = ⊥
 SomeTelling Is (Piece piece ∷ earlier) = SomeTelling Is earlier
 SomeTelling Is (Beat ∷ earlier) = SomeTelling Is earlier
+SomeTelling Is (Say count ∷ earlier) = SomeTelling Is earlier
 SomeTelling Is (Tell telling ∷ earlier) = Is telling ⊎ SomeTelling Is earlier
 
 -- a key stood in a pushed table's set at the list of a telling less than its life before a moment
@@ -66,10 +70,12 @@ IsExact hub seated earlier telling = (place : ℕ) (table : Pushed)
     (told_in (setup_of hub.config) seated (pushed_in telling) (Tell telling ∷ earlier)) place
     telling.book.moment) telling.book.moment earlier
 
--- A telling behind these turns is of a list that begins with that of the one before, and holds all
--- that the session posted before. Its hello was accepted. After it, what was told is the sets.
+-- A telling behind these turns is made once all was written that the one before says. It is of a
+-- list that begins with that of the one before, and holds all that the session posted before. Its
+-- hello was accepted. After it, what was told is the sets.
 pub record IsTelling (hub : Beginning) (seated : Bool) (seat : Option ℕ) (earlier : List Turn)
     (telling : Telling) : Type 0 where
+  pub said : unsaid_in (setup_of hub.config) seated earlier ≡ []
   pub follows : Follows (shown_by hub earlier) telling.seen
   pub shows : ShowsPosted seat (facts_in (setup_of hub.config) seated earlier) telling.seen
   pub stands : IsBookOf telling.book telling.seen
@@ -81,6 +87,7 @@ abbrev pub AreTellings : Beginning → Bool → Option ℕ → List Turn → Typ
 AreTellings hub seated seat [] = ⊤
 AreTellings hub seated seat (Piece piece ∷ earlier) = AreTellings hub seated seat earlier
 AreTellings hub seated seat (Beat ∷ earlier) = AreTellings hub seated seat earlier
+AreTellings hub seated seat (Say count ∷ earlier) = AreTellings hub seated seat earlier
 AreTellings hub seated seat (Tell telling ∷ earlier) =
     IsTelling hub seated seat earlier telling × AreTellings hub seated seat earlier
 
@@ -95,6 +102,8 @@ pub record IsPushing (hub : Beginning) (seated : Bool) (turns : List Turn) (push
   pub tables : pushing.pushed ≡ pushed_of hub.config
   pub teller : pushing.teller
       ≡ told_in (setup_of hub.config) seated (pushed_of hub.config) turns
+  pub unsaid : unsaid_messages pushing.pushed pushing.unsaid
+      ≡ unsaid_in (setup_of hub.config) seated turns
   pub sees : SeesShown hub turns pushing.lens
 
 -- the same, where tables are pushed
@@ -112,15 +121,17 @@ asked_pushing asks pushing = record pushing { teller = asked_if asks pushing.tel
 pub record Equips (hub : Beginning) (old new : Pushing) : Type 0 where
   pub tables : new.pushed ≡ old.pushed
   pub teller : new.teller ≡ old.teller
+  pub unsaid : new.unsaid ≡ old.unsaid
   pub sees : (turns : List Turn) → SeesShown hub turns old.lens → SeesShown hub turns new.lens
 
--- what brings that which was told of pushed tables to their sets in a book of a list, and what is
--- told then
-pub record Brings (pushed : List Pushed) (old new : Told) (seen : Beginning) (text : List ℕ)
+-- what is to be said to bring that which was told of pushed tables to their sets in a book of a
+-- list, and what is told then
+pub record Brings (pushed : List Pushed) (old new : Told) (seen : Beginning) (unsaid : Unsaid)
     : Type 0 where
   pub book : State
   pub stands : IsBookOf book seen
-  pub says : text ≡ turn_text pushed (sets_in pushed book) book.moment old
+  pub says : unsaid_messages pushed unsaid
+      ≡ turn_messages pushed (sets_in pushed book) book.moment old
   pub told : new ≡ told_after pushed (sets_in pushed book) book.moment old
 
 -- what a poster posted last, if there is one and it did, is of the history that a lens sees
@@ -140,22 +151,37 @@ abbrev pub SeesMore : Option Seeing → Option Seeing → Type 0
 SeesMore None new = new ≡ None
 SeesMore (Some lens) new = (later : Seeing) × (new ≡ Some later) × Follows lens.seen later.seen
 
--- a turn was made over a later list, which holds what was posted last
-pub record TurnsOver (old new : Pushing) (poster : Option Poster) (text : List ℕ) : Type 0 where
+-- a turn was made over a later list, which holds what was posted last, and nothing was unsaid
+pub record TurnsOver (old new : Pushing) (poster : Option Poster) : Type 0 where
   pub lens : Seeing
   pub later : Seeing
+  pub said : unsaid_messages old.pushed old.unsaid ≡ []
   pub had : old.lens ≡ Some lens
   pub has : new.lens ≡ Some later
   pub follows : Follows lens.seen later.seen
   pub holds : HoldsLast poster later.seen
-  pub brings : Brings old.pushed old.teller new.teller later.seen text
+  pub brings : Brings old.pushed old.teller new.teller later.seen new.unsaid
 
 -- no turn was made
 pub record KeepsTold (old new : Pushing) : Type 0 where
   pub teller : new.teller ≡ old.teller
+  pub unsaid : new.unsaid ≡ old.unsaid
   pub sees : SeesMore old.lens new.lens
 
--- a turn was made and says this, or none was made
-abbrev pub TurnsTo : Pushing → Pushing → Option Poster → Option (List ℕ) → Type 0
-TurnsTo old new poster None = KeepsTold old new
-TurnsTo old new poster (Some text) = TurnsOver old new poster text
+-- a turn was made, or none was
+abbrev pub TurnsTo : Pushing → Pushing → Option Poster → Type 0
+TurnsTo old new poster = KeepsTold old new ⊎ TurnsOver old new poster
+
+-- of what was unsaid the next messages were written, the last one maybe in part where a write
+-- failed, and the others are left
+pub record WritesOn {A : Type 0} (pushed : List Pushed) (old new : Unsaid)
+    (before after : Option (List ℕ)) (result : Result A WriteFailed) : Type 0 where
+  pub count : ℕ
+  pub left : unsaid_messages pushed new ≡ drop count (unsaid_messages pushed old)
+  pub sent : Sends before after (text_of (take count (unsaid_messages pushed old))) result
+
+-- the same, and all else stays
+pub record SaysOn {A : Type 0} (old new : Pushing) (before after : Option (List ℕ))
+    (result : Result A WriteFailed) : Type 0 where
+  pub kept : new ≡ record old { unsaid = new.unsaid }
+  pub wrote : WritesOn old.pushed old.unsaid new.unsaid before after result

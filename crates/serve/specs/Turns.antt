@@ -1,11 +1,13 @@
 -- What a session reads, tells and writes, turn by turn.
 use Rattle.std.specs.Option.{option_map}
 use Rattle.std.specs.Prelude.{◌≡◌, ◌⊎◌, ℕ, ◌-◌, Bool, List, [], ◌∷◌, ◌++◌, length, drop, map}
-use Rattle.std.specs.Prelude.{if◌then◌else◌, Option, None, Some, MatchOption, Result, Ok, Err}
+use Rattle.std.specs.Prelude.{take, if◌then◌else◌, Option, None, Some, MatchOption}
+use Rattle.std.specs.Prelude.{Result, Ok, Err}
 use Rattle.std.specs.Io.KnownBytes.{Appends}
 use Rattle.agg_types.specs.declared.event.What.{What}
 use Rattle.fleet_model.specs.Named.{keys_named}
 use Rattle.fleet_model.specs.State.{State}
+use Rattle.peers_msg.specs.declared.message.Message.{Message}
 use Rattle.session_core.specs.declared.cause.SessionCause.{SessionCause}
 use Rattle.session_core.specs.declared.cause.SessionCause.TheVariants as causes
 use Rattle.session_core.specs.Cause.{cause_of}
@@ -20,7 +22,7 @@ use Rattle.serve.specs.declared.served.Served.{Served}
 use Rattle.serve.specs.Told.{HasTold, IsServed, stored_of}
 use Rattle.session_core.specs.Asking.{asks_all}
 use Rattle.telling.specs.Pushes.{pushed_of}
-use Rattle.telling.specs.Telling.{told_after, turn_text}
+use Rattle.telling.specs.Telling.{text_of, told_after, turn_messages, turn_text}
 use Rattle.telling.specs.Told.{Told as Memory, asked, untold}
 use Rattle.telling.specs.declared.pushed.Pushed.{Pushed}
 
@@ -29,11 +31,13 @@ pub record Telling : Type 0 where
   pub seen : Beginning
   pub book : State
 
--- a piece was taken, a heartbeat was sent, or the pushed tables were told
+-- a piece was taken, a heartbeat was sent, a telling of the pushed tables was made, or so many
+-- messages more of what it says were written
 pub data Turn : Type 0 where
   Piece : List ℕ → Turn
   Beat : Turn
   Tell : Telling → Turn
+  Say : ℕ → Turn
 
 abbrev pub heartbeat : List ℕ
 heartbeat = 0 ∷ 4 ∷ []
@@ -43,6 +47,7 @@ abbrev pub taken_in : List Turn → List ℕ
 taken_in [] = []
 taken_in (Beat ∷ earlier) = taken_in earlier
 taken_in (Tell telling ∷ earlier) = taken_in earlier
+taken_in (Say count ∷ earlier) = taken_in earlier
 taken_in (Piece piece ∷ earlier) = taken_in earlier ++ piece
 
 -- what a talk says beyond an earlier one: its further replies, then the acknowledgements of all
@@ -73,6 +78,7 @@ asked_if asks told = if asks then asked told else told
 abbrev pub told_in : Setup → Bool → List Pushed → List Turn → Memory
 told_in setup seated pushed [] = untold
 told_in setup seated pushed (Beat ∷ earlier) = told_in setup seated pushed earlier
+told_in setup seated pushed (Say count ∷ earlier) = told_in setup seated pushed earlier
 told_in setup seated pushed (Tell telling ∷ earlier) =
     told_after pushed (sets_in pushed telling.book) telling.book.moment
     (told_in setup seated pushed earlier)
@@ -81,13 +87,23 @@ told_in setup seated pushed (Piece piece ∷ earlier) =
     (talk setup seated (taken_in earlier ++ piece)).replies))
     (told_in setup seated pushed earlier)
 
--- what answers a turn behind those before it: a telling writes what brings that which was told to
--- the sets of its list
+-- what the newest telling among these turns has still to say: all that brings what was told to the
+-- sets of its list, but for the messages that were written since
+abbrev pub unsaid_in : Setup → Bool → List Turn → List Message
+unsaid_in setup seated [] = []
+unsaid_in setup seated (Piece piece ∷ earlier) = unsaid_in setup seated earlier
+unsaid_in setup seated (Beat ∷ earlier) = unsaid_in setup seated earlier
+unsaid_in setup seated (Tell telling ∷ earlier) =
+    turn_messages (pushed_in telling) (sets_in (pushed_in telling) telling.book)
+    telling.book.moment (told_in setup seated (pushed_in telling) earlier)
+unsaid_in setup seated (Say count ∷ earlier) = drop count (unsaid_in setup seated earlier)
+
+-- what answers a turn behind those before it: of what a telling says, whole messages are written
+-- at a time
 abbrev pub answer_at : Setup → Bool → List Turn → Turn → List ℕ
 answer_at setup seated earlier Beat = heartbeat
-answer_at setup seated earlier (Tell telling) =
-    turn_text (pushed_in telling) (sets_in (pushed_in telling) telling.book) telling.book.moment
-    (told_in setup seated (pushed_in telling) earlier)
+answer_at setup seated earlier (Tell telling) = []
+answer_at setup seated earlier (Say count) = text_of (take count (unsaid_in setup seated earlier))
 answer_at setup seated earlier (Piece piece) =
     said_beyond setup (talk setup seated (taken_in earlier))
     (talk setup seated (taken_in earlier ++ piece))
@@ -97,6 +113,25 @@ abbrev pub answers_in : Setup → Bool → List Turn → List ℕ
 answers_in setup seated [] = []
 answers_in setup seated (turn ∷ earlier) =
     answers_in setup seated earlier ++ answer_at setup seated earlier turn
+
+-- what was written so far of what the newest telling among these turns says
+abbrev pub said_in : Setup → Bool → List Turn → List ℕ
+said_in setup seated [] = []
+said_in setup seated (Piece piece ∷ earlier) = said_in setup seated earlier
+said_in setup seated (Beat ∷ earlier) = said_in setup seated earlier
+said_in setup seated (Tell telling ∷ earlier) = []
+said_in setup seated (Say count ∷ earlier) =
+    said_in setup seated earlier ++ answer_at setup seated earlier (Say count)
+
+-- all that it says: the text of its turn
+abbrev pub text_in : Setup → Bool → List Turn → List ℕ
+text_in setup seated [] = []
+text_in setup seated (Piece piece ∷ earlier) = text_in setup seated earlier
+text_in setup seated (Beat ∷ earlier) = text_in setup seated earlier
+text_in setup seated (Tell telling ∷ earlier) =
+    turn_text (pushed_in telling) (sets_in (pushed_in telling) telling.book) telling.book.moment
+    (told_in setup seated (pushed_in telling) earlier)
+text_in setup seated (Say count ∷ earlier) = text_in setup seated earlier
 
 -- the facts of the bytes taken in these turns
 abbrev pub facts_in : Setup → Bool → List Turn → List What
@@ -216,7 +251,7 @@ pub record WroteFront (before after : Option (List ℕ)) (bytes : List ℕ) : Ty
   pub wrote : Appends before after front
 
 -- all of the bytes were written, or a beginning of them where a write failed
-abbrev pub Sends : Option (List ℕ) → Option (List ℕ) → List ℕ → Result (Unit {0}) WriteFailed
-    → Type 0
+abbrev pub Sends : {A : Type 0} → Option (List ℕ) → Option (List ℕ) → List ℕ
+    → Result A WriteFailed → Type 0
 Sends before after bytes (Ok done) = Appends before after bytes
 Sends before after bytes (Err failed) = WroteFront before after bytes

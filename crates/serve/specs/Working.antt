@@ -1,6 +1,6 @@
 -- A session at work.
-use Rattle.std.specs.Prelude.{◌≡◌, ℕ, Bool, List, [], ◌∷◌}
-use Rattle.std.specs.Prelude.{◌++◌, length, Option, None, Some, is_some}
+use Rattle.std.specs.Prelude.{◌≡◌, ℕ, Bool, List, []}
+use Rattle.std.specs.Prelude.{◌++◌, length, Option, None, is_some}
 use Rattle.std.specs.Prelude.{Result, Ok, Err, IfOk}
 use Rattle.agg_types.specs.declared.event.What.{What}
 use Rattle.session_core.specs.declared.batch.SessionFault.{SessionFault}
@@ -23,8 +23,8 @@ use Rattle.serve.specs.Faults.{cause_of_turn}
 use Rattle.serve.specs.Tellings.{AreTellings, TellsOn}
 use Rattle.serve.specs.Told.{stored_of}
 use Rattle.serve.specs.Traffic.{Advances, Traffic, so_far}
-use Rattle.serve.specs.Turns.{PosterTells, EndsBy, IsAnswered, SeatIsServed, Tell, Telling, Turn}
-use Rattle.serve.specs.Turns.{TalkEnds, WroteFront, answer_at, answers_in, facts_in, heartbeat}
+use Rattle.serve.specs.Turns.{PosterTells, EndsBy, IsAnswered, SeatIsServed, Turn}
+use Rattle.serve.specs.Turns.{TalkEnds, WroteFront, answers_in, facts_in, heartbeat}
 use Rattle.serve.specs.Turns.{seat_at, taken_in}
 
 -- it stands for the bytes taken in these turns, whose talk goes on, and their facts were told
@@ -45,13 +45,11 @@ pub record Works (hub : Beginning) (seated : Bool) (worker : Worker)
   pub carried : Advances start now (taken_in turns)
       (answers_in (setup_of hub.config) seated turns)
 
--- what was said told the pushed tables, and it works behind that; or nothing was told
-abbrev pub SaysAt : Beginning → Bool → Worker → List Turn → Option (List ℕ) → Type 0
-SaysAt hub seated worker turns None = IsAtWork hub seated worker turns
-SaysAt hub seated worker turns (Some text) =
-    (telling : Telling)
-    × (text ≡ answer_at (setup_of hub.config) seated turns (Tell telling))
-    × IsAtWork hub seated worker (Tell telling ∷ turns)
+-- it works on, where it did
+abbrev pub StaysAtWork : Beginning → Worker → Worker → Type 0
+StaysAtWork hub old new =
+    (seated : Bool) (start now : Traffic) → Works hub seated old start now
+    → Works hub seated new start now
 
 -- it has ended for this cause
 pub record Stops (hub : Beginning) (seated : Bool) (worker : Worker)

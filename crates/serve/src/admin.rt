@@ -1,22 +1,19 @@
 //! One admin connection: commands of a line each, and their answers.
 
-ghost use Rattle.std.specs.Prelude.{◌≡◌, ◌<◌, ◌≤◌, ◌+◌, ◌^◌, ◌⊎◌, ◌++◌, ℕ, List, [], ◌∷◌};
-ghost use Rattle.std.specs.Prelude.{codes, false, Option, None, IfOk, IfSome, IfErr, OnOk, Err};
+ghost use Rattle.std.specs.Prelude.{◌≡◌, ◌<◌, ◌≤◌, ◌+◌, ◌^◌, ◌⊎◌, ◌++◌, ◌∷◌, ℕ, List, []};
+ghost use Rattle.std.specs.Prelude.{false, Option, None, IfOk, IfSome, IfErr, OnOk, Err};
 ghost use Rattle.std.specs.Prelude.{MatchResult};
 ghost use Rattle.std.specs.Option.{option_to_list};
-ghost use Rattle.agg_types.specs.declared.config.Config.{Config};
 ghost use Rattle.agg_types.specs.declared.event.What.{What};
 ghost use Rattle.hub.specs.History.{Beginning};
 ghost use Rattle.hub.specs.Posts.{Follows, SitsDown};
 ghost use Rattle.hub.specs.Roll.{MayPost};
-ghost use Rattle.serve.specs.Commands.{AnswersAt, AnswersWith, HasNoEnd, IsCommandedUntil};
-ghost use Rattle.serve.specs.Commands.{IsCommandedWhole, IsTold, Replies, RepliesTo};
-ghost use Rattle.serve.specs.Status.{IsStatus, quits, refusal_at};
+ghost use Rattle.serve.specs.Commands.{HasNoEnd, IsCommandedUntil, IsCommandedWhole};
+ghost use Rattle.serve.specs.Status.{quits};
 ghost use Rattle.serve.specs.Told.{stored_of};
 ghost use Rattle.serve.specs.Traffic.{Traffic, so_far};
-ghost use Rattle.show_clear.specs.Answer.{NamesExist};
-ghost use Rattle.show_clear.specs.Change.{asked_event};
 
+use crate::answering::{Answered, answer_to};
 use crate::clock::Clock;
 use crate::context::{Context, Link};
 use crate::door::Door;
@@ -26,14 +23,12 @@ use crate::lines::{Line, split_line};
 use crate::poster::Poster;
 use crate::served::{Cause, Faulted, Served};
 use crate::source::{Came, Source, buffer};
-use crate::status::{Asked, asked_in, quits};
+use crate::status::quits;
 use crate::worker::MOST_READS;
 use crate::writing::{front, send};
 use agg_types::{NoMemory, What};
 use book::Book;
-use config_text::{append_config, append_filters, append_ranks};
 use hub::{Lens, Naming, Pass, PostFault};
-use show_clear::{Command, CommandFault, answer, answer_people, explain, parse, refusal};
 use std::alloc::Global;
 use std::io::Write;
 use std::sync::Wait;
@@ -41,164 +36,11 @@ use std::sync::Wait;
 /// After so many reads in a row that gave nothing an admin connection is over.
 const MOST_SILENT: u32 = 20;
 
-/// What a line is answered, with an empty line behind it, and the change that it asks for.
-#[derive(Drop)]
-struct Answered {
-    change: Option<What>,
-    text: Vec<u8>,
-}
-
 /// An allocation of one's own that failed.
 fn refused(alloc: Global) -> PostFault
     ensures { stored_of result 1 ≡ 0 }
 {
     PostFault::NoMemory(Vec::new(alloc))
-}
-
-/// Appends the answer to a command.
-fn append_answer(
-    alloc: Global,
-    book: &Book,
-    command: &Command,
-    door: Door,
-    out: &mut Vec<u8>,
-) -> Result<(), NoMemory>
-    requires { NamesExist book.now command.now }
-    ensures { OnOk result (AnswersAt door book.now command.now out.old.items out.new.items) }
-{
-    match door {
-        Door::Programs => answer(alloc, book, command, out),
-        Door::People => answer_people(alloc, book, command, out),
-    }
-}
-
-/// Appends the refusal of a line.
-fn append_refusal(
-    alloc: Global,
-    book: &Book,
-    line: &[u8],
-    fault: CommandFault,
-    door: Door,
-    out: &mut Vec<u8>,
-) -> Result<(), NoMemory>
-    ensures { OnOk result
-        (out.new.items ≡ out.old.items ++ refusal_at door book.now line.now fault) }
-{
-    match door {
-        Door::Programs => refusal(&fault, out),
-        Door::People => explain(alloc, book, line, &fault, out),
-    }
-}
-
-/// The answer to a command.
-fn obeyed(alloc: Global, book: &Book, command: Command, door: Door) -> Result<Answered, NoMemory>
-    requires { NamesExist book.now command }
-    ensures change { IfOk result (λ a. a.change ≡ asked_event command) }
-    ensures text { IfOk result (λ a. AnswersWith door book.now command a.text.items) }
-{
-    let mut text = Vec::new(alloc);
-    append_answer(alloc, book, &command, door, &mut text)?;
-    text.push(b'\n')?;
-    Ok(Answered {
-        change: command.into_event(),
-        text,
-    })
-}
-
-/// The refusal of a line.
-fn refused_line(
-    alloc: Global,
-    book: &Book,
-    line: &[u8],
-    fault: CommandFault,
-    door: Door,
-) -> Result<Answered, NoMemory>
-    ensures change { IfOk result (λ a. a.change ≡ None) }
-    ensures text { IfOk result
-        (λ a. a.text.items ≡ refusal_at door book.now line.now fault ++ codes "\n") }
-{
-    let mut text = Vec::new(alloc);
-    append_refusal(alloc, book, line, fault, door, &mut text)?;
-    text.push(b'\n')?;
-    Ok(Answered { change: None, text })
-}
-
-/// What a command's line is answered over a book.
-fn answer_to_command(
-    alloc: Global,
-    book: &Book,
-    line: &[u8],
-    door: Door,
-) -> Result<Answered, NoMemory>
-    ensures replies { IfOk result
-        (λ a. RepliesTo door None book.now line.now a.change a.text.items) }
-    ensures fits { (config : Config) → config.tables ≡ book.now.config.tables
-        → IfOk result (λ a. IfSome a.change (MayPost config)) }
-{
-    match parse(alloc, book, line) {
-        Ok(command) => obeyed(alloc, book, command, door),
-        Err(fault) => refused_line(alloc, book, line, fault, door),
-    }
-}
-
-/// The answer to what is asked for beside commands.
-fn status_text<G: Gate>(
-    alloc: Global,
-    gate: &G,
-    book: &Book,
-    line: &[u8],
-    asked: Asked,
-    door: Door,
-) -> Result<Vec<u8>, NoMemory>
-    ensures { IfOk result (λ text. IsStatus door book.now line.now asked text.items) }
-{
-    let mut text = Vec::new(alloc);
-    match asked {
-        Asked::Status(status) => gate.status(book, status, &mut text)?,
-        Asked::Config => append_config(book.config(), &mut text)?,
-        Asked::Filters => append_filters(book.config(), &mut text)?,
-        Asked::Ranks => append_ranks(book.config(), &mut text)?,
-        Asked::NoPeer => {
-            append_refusal(alloc, book, line, CommandFault::NoTable, door, &mut text)?
-        }
-    }
-    Ok(text)
-}
-
-/// What is answered to what is asked for beside commands.
-fn told<G: Gate>(
-    alloc: Global,
-    gate: &G,
-    book: &Book,
-    line: &[u8],
-    asked: Asked,
-    door: Door,
-) -> Result<Answered, NoMemory>
-    ensures change { IfOk result (λ a. a.change ≡ None) }
-    ensures told { IfOk result
-        (λ a. IsTold door book.now line.now asked a.change a.text.items) }
-{
-    let mut text = status_text(alloc, gate, book, line, asked, door)?;
-    text.push(b'\n')?;
-    Ok(Answered { change: None, text })
-}
-
-/// What a line is answered over a book.
-fn answer_to<G: Gate>(
-    alloc: Global,
-    gate: &G,
-    book: &Book,
-    line: &[u8],
-    door: Door,
-) -> Result<Answered, NoMemory>
-    ensures replies { IfOk result (λ a. Replies door book.now line.now a.change a.text.items) }
-    ensures fits { (config : Config) → config.tables ≡ book.now.config.tables
-        → IfOk result (λ a. IfSome a.change (MayPost config)) }
-{
-    match asked_in(book.config(), line) {
-        None => answer_to_command(alloc, book, line, door),
-        Some(asked) => told(alloc, gate, book, line, asked, door),
-    }
 }
 
 /// An admin at work.

@@ -5,17 +5,20 @@
 //! wait, so each takes a handle; all that they say, read and tell stands in the crates below.
 //!
 //! Promised of a session: exactly the facts of the bytes that it took are told, and an answer is
-//! written only behind its facts. What it tells its proxy of pushed filters is, after each telling,
-//! exactly their sets at one list of the history, and these lists go on from one another. No clause
-//! says when a telling is made. Promised of an admin: exactly the changes that its lines ask for
-//! are told, in their order, and each line is answered over a book that shows those before it, for
-//! programs or for people (`Door`); a change is answered only once it was told. Promised of a
-//! timer: it tells moments of its clock.
+//! written only behind its facts. What it tells its proxy of pushed filters is, once a telling was
+//! written whole, exactly their sets at one list of the history, and these lists go on from one
+//! another. A telling is written in pieces of whole messages, and all of it before the next one is
+//! made. No clause says when a telling is made, nor when a piece of it is written. Promised of an
+//! admin: exactly the changes that its lines ask for are told, in their order, and each line is
+//! answered over a book that shows those before it, for programs or for people (`Door`); a change
+//! is answered only once it was told. Promised of a timer: it tells moments of its clock.
 //! Each goes back from `serve_all` with what is promised of it; no clause says what `serve_all`
 //! starts, when it ends, or what it counts.
 #![tactic(auto)]
 
 mod admin;
+mod answering;
+mod attending;
 mod clock;
 mod context;
 mod counts;
@@ -24,6 +27,7 @@ mod doors;
 mod faults;
 mod gate;
 mod hello;
+pub mod laws;
 mod lines;
 mod moves;
 mod poster;

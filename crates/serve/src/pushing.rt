@@ -1,33 +1,39 @@
 //! What a session tells of the pushed tables, and what it looks with.
 
 ghost use Rattle.std.specs.Prelude.{◌≡◌, Bool, [], map, true, IfOk, MatchOption};
-ghost use Rattle.std.specs.Option.{option_map};
 ghost use Rattle.hub.specs.History.{Beginning};
 ghost use Rattle.hub.specs.Posts.{Follows};
 ghost use Rattle.serve.specs.Gathering.{Each, IsMovedSince};
 ghost use Rattle.serve.specs.Knowing.{Knows, KnowsAt};
-ghost use Rattle.serve.specs.Tellings.{Brings, Equips, HoldsLast, LooksBack, MayShow, TellsOn};
-ghost use Rattle.serve.specs.Tellings.{TurnsTo, asked_pushing};
+ghost use Rattle.serve.specs.Tellings.{Brings, Equips, HoldsLast, LooksBack, MayShow, SaysOn};
+ghost use Rattle.serve.specs.Tellings.{TellsOn, TurnsTo, WritesOn, asked_pushing};
 ghost use Rattle.serve.specs.Turns.{sets_in};
 
+use crate::faults::WriteFailed;
 use crate::moves::moves_since;
 use crate::poster::Poster;
+use crate::writing::send;
 use agg_types::{Config, Items, Key, NoMemory};
 use book::{Book, keys_named};
 use hub::{Hub, Lens, Look, Naming};
 use std::alloc::Global;
+use std::io::Write;
 use std::marker::Model;
 use std::sync::Wait;
-use telling::{Moved, Pushed, Teller, pushed_of};
+use telling::{Moved, PIECE, Pushed, Teller, Unsaid, pushed_of};
 
 /// The least time between two turns of a session, in ms. With reads that last no longer each turn
 /// comes within twice that.
 const TURN_AFTER: u64 = 50;
 
+/// How many pieces of a turn are written at most between two reads.
+const MOST_PIECES: u64 = 8;
+
 /// What a session tells of the pushed tables, and what it looks with.
 ///
-/// Contracts see the tables, what was told of them and the lens. It knows which list the last turn
-/// was over, so that a turn is given what came into a set and what left it, and not the set.
+/// Contracts see the tables, what was told of them, the lens, and what the last turn has still to
+/// say. It knows which list the last turn was over, so that a turn is given what came into a set
+/// and what left it, and not the set.
 #[derive(Drop)]
 pub struct Pushing {
     pushed: Items<Pushed>,
@@ -38,6 +44,10 @@ pub struct Pushing {
     made: Option<u64>,
     // how many events the list had that the last turn was over
     told: Option<u64>,
+    // what the last turn has still to say
+    unsaid: Unsaid,
+    // the piece of it that is written; it has room while something is unsaid
+    piece: Vec<u8>,
 }
 
 impl Model for Pushing {
@@ -45,7 +55,12 @@ impl Model for Pushing {
 
     ghost Value = { Pushing };
 
-    ghost view = { λ p. record { pushed = p.pushed; teller = p.teller; lens = p.lens } };
+    ghost view = { λ p. record {
+      pushed = p.pushed;
+      teller = p.teller;
+      lens = p.lens;
+      unsaid = p.unsaid;
+    } };
 
     ghost invariant = { λ p. KnowsBy p.pushed p.teller p.told p.lens };
 }
@@ -78,6 +93,8 @@ impl Pushing {
             lens: None,
             made: None,
             told: None,
+            unsaid: Unsaid::none(alloc),
+            piece: Vec::new(alloc),
         }))
     }
 
@@ -108,121 +125,203 @@ impl Pushing {
         }
     }
 
-    /// What a turn at a moment writes, over a look that has what was posted last. None where no
-    /// look is to be had, or an allocation failed: then nothing is told.
-    pub fn turn(&mut self, alloc: Global, poster: &Option<Poster>, now: u64) -> Option<Vec<u8>>
+    /// Makes a turn at a moment, over a look that has what was posted last. None is made while
+    /// something is unsaid, and none where no look is to be had, or an allocation failed: then
+    /// nothing is told. The look is given up before anything is written.
+    pub fn turn(&mut self, alloc: Global, poster: &Option<Poster>, now: u64)
         requires of { LooksBack self.old poster.now }
         ensures tables { self.new.pushed ≡ self.old.pushed }
-        ensures turns { TurnsTo self.old self.new poster.now (option_map (λ t. t.items) result) }
+        ensures turns { TurnsTo self.old self.new poster.now }
     {
-        let mut lens = self.lens.take()?;
+        if !self.unsaid.is_done() {
+            return;
+        }
+        let Some(piece) = room(alloc) else {
+            return;
+        };
+        let Some(mut lens) = self.lens.take() else {
+            return;
+        };
         show_last(poster, &mut lens);
         let pushed = self.pushed.as_slice();
-        let text = say(alloc, pushed, &mut self.teller, &mut self.told, &mut lens);
+        let begun = begin(alloc, pushed, &mut self.teller, &mut self.told, &mut lens);
         self.lens = Some(lens);
         self.made = Some(now);
-        text
+        if let Some(unsaid) = begun {
+            self.unsaid = unsaid;
+            self.piece = piece;
+        }
+    }
+
+    /// Writes the next pieces of what is unsaid, and says how many bytes: none where nothing is
+    /// unsaid, or an allocation failed. Behind the last piece their room is given back.
+    pub fn write<W: Write>(&mut self, writer: &mut W) -> Result<usize, WriteFailed>
+        ensures { SaysOn self.old self.new (W.contents writer.old) (W.contents writer.new) result }
+    {
+        let pushed = self.pushed.as_slice();
+        let count = write_pieces(pushed, &mut self.unsaid, &mut self.piece, writer)?;
+        give_back(&self.unsaid, &mut self.piece);
+        Ok(count)
     }
 }
 
-// What a turn writes, over a look. None where no look is to be had, or an allocation failed: then
-// all is as before.
-fn say(
+// Room for a piece. None where an allocation failed.
+fn room(alloc: Global) -> Option<Vec<u8>> {
+    let mut piece = Vec::new(alloc);
+    match piece.reserve(PIECE) {
+        Ok(()) => Some(piece),
+        Err(_) => None,
+    }
+}
+
+// Gives the room of pieces back where nothing is unsaid.
+fn give_back(unsaid: &Unsaid, piece: &mut Vec<u8>) {
+    if unsaid.is_done() {
+        *piece = Vec::new(*piece.allocator());
+    }
+}
+
+// Writes a piece of what is unsaid, and says of how many bytes.
+fn write_piece<W: Write>(
+    pushed: &[Pushed],
+    unsaid: &mut Unsaid,
+    piece: &mut Vec<u8>,
+    writer: &mut W,
+) -> Result<usize, WriteFailed>
+    ensures { WritesOn pushed.now unsaid.old unsaid.new (W.contents writer.old)
+        (W.contents writer.new) result }
+{
+    if unsaid.is_done() {
+        return Ok(0);
+    }
+    let Ok(()) = unsaid.write(pushed, piece) else {
+        return Ok(0);
+    };
+    match send(writer, piece.as_slice()) {
+        Ok(()) => Ok(piece.len()),
+        Err(failed) => Err(failed),
+    }
+}
+
+// Writes as many pieces as may stand between two reads, and says how many bytes.
+fn write_pieces<W: Write>(
+    pushed: &[Pushed],
+    unsaid: &mut Unsaid,
+    piece: &mut Vec<u8>,
+    writer: &mut W,
+) -> Result<usize, WriteFailed>
+    ensures { WritesOn pushed.now unsaid.old unsaid.new (W.contents writer.old)
+        (W.contents writer.new) result }
+{
+    let mut count = 0;
+    for _ in 0..MOST_PIECES {
+        match write_piece(pushed, unsaid, piece, writer) {
+            Ok(0) => return Ok(count),
+            Ok(more) => count = more.saturating_add(count),
+            Err(failed) => return Err(failed),
+        }
+    }
+    Ok(count)
+}
+
+// What a turn over a look has to say. None where no look is to be had, or an allocation failed:
+// then all is as before.
+fn begin(
     alloc: Global,
     pushed: &[Pushed],
     teller: &mut Teller,
     told: &mut Option<u64>,
     lens: &mut Lens,
-) -> Option<Vec<u8>>
+) -> Option<Unsaid>
     requires { Knows pushed.now teller.old told.old lens.old.seen }
     ensures lens { Follows lens.old.seen lens.new.seen }
     ensures knows { Knows pushed.now teller.new told.new lens.new.seen }
     ensures says { MatchOption result (teller.new ≡ teller.old)
-        (λ text. Brings pushed.now teller.old teller.new lens.new.seen text.items) }
+        (Brings pushed.now teller.old teller.new lens.new.seen) }
 {
-    let text = look_and_say(alloc, pushed, teller, *told, lens)?;
+    let unsaid = begin_looking(alloc, pushed, teller, *told, lens)?;
     *told = Some(lens.len());
-    Some(text)
+    Some(unsaid)
 }
 
 // The same, of which the list isn't noted yet.
-fn look_and_say(
+fn begin_looking(
     alloc: Global,
     pushed: &[Pushed],
     teller: &mut Teller,
     told: Option<u64>,
     lens: &mut Lens,
-) -> Option<Vec<u8>>
+) -> Option<Unsaid>
     requires { Knows pushed.now teller.old told lens.old.seen }
     ensures lens { Follows lens.old.seen lens.new.seen }
     ensures says { MatchOption result (teller.new ≡ teller.old)
-        (λ text. Brings pushed.now teller.old teller.new lens.new.seen text.items) }
+        (Brings pushed.now teller.old teller.new lens.new.seen) }
 {
     let look = lens.look()?;
-    say_over(alloc, pushed, teller, told, &look)
+    begin_over(alloc, pushed, teller, told, &look)
 }
 
-// What a turn over a look writes. None where an allocation failed: then all is as before.
-fn say_over(
+// What a turn over a look has to say. None where an allocation failed: then all is as before.
+fn begin_over(
     alloc: Global,
     pushed: &[Pushed],
     teller: &mut Teller,
     told: Option<u64>,
     look: &Look<'_>,
-) -> Option<Vec<u8>>
+) -> Option<Unsaid>
     requires inside { look.now.lens.now.inside ≡ true }
     requires knows { Knows pushed.now teller.old told look.now.lens.now.seen }
     ensures { MatchOption result (teller.new ≡ teller.old)
-        (λ text. Brings pushed.now teller.old teller.new look.now.lens.now.seen text.items) }
+        (Brings pushed.now teller.old teller.new look.now.lens.now.seen) }
 {
     let Some(number) = told else {
-        return say_whole(alloc, pushed, teller, look);
+        return begin_whole(alloc, pushed, teller, look);
     };
     match moves_since(alloc, look, pushed, number) {
         Err(_) => None,
-        Ok(None) => say_whole(alloc, pushed, teller, look),
-        Ok(Some(moves)) => say_moves(pushed, teller, number, look, moves.as_slice()),
+        Ok(None) => begin_whole(alloc, pushed, teller, look),
+        Ok(Some(moves)) => begin_moves(pushed, teller, number, look, moves.as_slice()),
     }
 }
 
 // The same over what moved since so many first events of the look's list.
-fn say_moves(
+fn begin_moves(
     pushed: &[Pushed],
     teller: &mut Teller,
     number: u64,
     look: &Look<'_>,
     moves: &[Vec<Moved<'_>>],
-) -> Option<Vec<u8>>
+) -> Option<Unsaid>
     requires inside { look.now.lens.now.inside ≡ true }
     requires knows { KnowsAt pushed.now teller.old number look.now.lens.now.seen }
     requires moved { Each (λ table moves. IsMovedSince number look.now.lens.now.seen table moves)
         pushed.now (map (λ moves. moves.items) moves.now) }
     ensures { MatchOption result (teller.new ≡ teller.old)
-        (λ text. Brings pushed.now teller.old teller.new look.now.lens.now.seen text.items) }
+        (Brings pushed.now teller.old teller.new look.now.lens.now.seen) }
 {
     let now = look.book().moment();
-    let Ok(text) = teller.turn_by(pushed, moves, now) else {
+    let Ok(unsaid) = teller.begin_by(pushed, moves, now) else {
         return None;
     };
-    Some(text)
+    Some(unsaid)
 }
 
 // The same over the whole sets.
-fn say_whole(
+fn begin_whole(
     alloc: Global,
     pushed: &[Pushed],
     teller: &mut Teller,
     look: &Look<'_>,
-) -> Option<Vec<u8>>
+) -> Option<Unsaid>
     requires inside { look.now.lens.now.inside ≡ true }
     ensures { MatchOption result (teller.new ≡ teller.old)
-        (λ text. Brings pushed.now teller.old teller.new look.now.lens.now.seen text.items) }
+        (Brings pushed.now teller.old teller.new look.now.lens.now.seen) }
 {
     let book = look.book();
     let Ok(sets) = sets_in(alloc, book, pushed) else {
         return None;
     };
-    teller.turn(pushed, sets.as_slice(), book.moment()).ok()
+    teller.begin(pushed, sets.as_slice(), book.moment()).ok()
 }
 
 // The sets of the pushed tables in a book.

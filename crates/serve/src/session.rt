@@ -55,7 +55,9 @@ impl<'a, J: Naming, H: Wait + Drop, R: Wait + std::rt::Clock, C: Clock, G: Gate>
     ///
     /// Where tables are pushed it has a lens of its own, and after each read looks whether
     /// something is to be told of them, at most every 50 ms. Where no lens or look is to be had, or
-    /// an allocation failed, nothing is told, and the next turn tells it.
+    /// an allocation failed, nothing is told, and the next turn tells it. What a turn says is
+    /// written in pieces of at most 64 KB, up to eight behind each read, and no turn is made before
+    /// all of the one before was written.
     pub fn serve_session<S: Source, W: Write>(
         &self,
         link: &mut Link<S, W>,

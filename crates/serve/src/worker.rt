@@ -35,17 +35,17 @@ pub const MOST_READS: u64 = 1 << 40;
 /// A session at work.
 #[derive(Drop)]
 pub struct Worker {
-    session: Session,
-    poster: Option<Poster>,
+    pub session: Session,
+    pub poster: Option<Poster>,
     hello: Hello,
     scout: Scout,
     peer: Option<usize>,
     told: u64,
     // how much of that the gate was told
     reported: u64,
-    pulse: Pulse,
-    // what it tells of the pushed tables, if there are any
-    pushing: Option<Pushing>,
+    pub pulse: Pulse,
+    /// What it tells of the pushed tables, if there are any.
+    pub pushing: Option<Pushing>,
 }
 
 // How many updates a session posted that posted so many facts: the first opens it.
@@ -181,8 +181,8 @@ impl Worker {
         }
     }
 
-    // Sends a heartbeat where one is due, and ends a session that was silent for too long.
-    fn rest<W: Write>(&mut self, writer: &mut W, now: u64) -> Result<(), TurnFault>
+    /// Sends a heartbeat where one is due, and ends a session that was silent for too long.
+    pub fn rest<W: Write>(&mut self, writer: &mut W, now: u64) -> Result<(), TurnFault>
         ensures seat { seat_at self.new.poster ≡ seat_at self.old.poster }
         ensures takes { (hub : Beginning) → Takes hub self.old self.new [] (W.contents writer.old)
             (W.contents writer.new) result }
@@ -213,8 +213,7 @@ impl<'a, J: Naming, H: Wait + Drop, R: Wait + std::rt::Clock, C: Clock, G: Gate>
     ghost use Rattle.serve.specs.Traffic.{Traffic, so_far};
     ghost use Rattle.serve.specs.Turns.{PosterTells, IsPosterOf, Turn, seat_at};
     ghost use Rattle.serve.specs.Waiting.{BeatsThen, PostsTo};
-    ghost use Rattle.serve.specs.Working.{EndsTo, IsAtWork, SaysAt, SettlesTo, Takes, Works};
-    ghost use Rattle.serve.specs.Working.{WorksOn};
+    ghost use Rattle.serve.specs.Working.{EndsTo, IsAtWork, SettlesTo, Takes, Works, WorksOn};
 
     // Posts facts, if there are any and the session has a seat, and waits until they are shown.
     fn post_facts<W: Write>(
@@ -328,69 +327,6 @@ impl<'a, J: Naming, H: Wait + Drop, R: Wait + std::rt::Clock, C: Clock, G: Gate>
                 Err(TurnFault::Session(cause))
             }
         }
-    }
-
-    // What is to be told of the pushed tables, where that is due: the peer's hello was accepted,
-    // and the last turn is a while ago. None where nothing is due, no lens or look is to be had, or
-    // an allocation failed.
-    fn said(&self, worker: &mut Worker, now: u64) -> Option<Vec<u8>>
-        requires work { (seated : Bool) × (turns : List Turn)
-            × IsAtWork self.now.hub.now seated worker.old turns }
-        ensures seat { seat_at worker.new.poster ≡ seat_at worker.old.poster }
-        ensures session { worker.new.session ≡ worker.old.session }
-        ensures said { (seated : Bool) (turns : List Turn)
-            → IsAtWork self.now.hub.now seated worker.old turns
-            → SaysAt self.now.hub.now seated worker.new turns
-            (option_map (λ t. t.items) result) }
-    {
-        if worker.session.peer().is_none() {
-            return None;
-        }
-        let Some(pushing) = &mut worker.pushing else {
-            return None;
-        };
-        if !pushing.is_due(now) {
-            return None;
-        }
-        pushing.equip(self.rt, self.hub);
-        pushing.turn(self.alloc, &worker.poster, now)
-    }
-
-    // Tells what is to be told.
-    fn tell<W: Write>(&self, worker: &mut Worker, writer: &mut W, now: u64) -> Result<(), TurnFault>
-        requires work { (seated : Bool) × (turns : List Turn)
-            × IsAtWork self.now.hub.now seated worker.old turns }
-        ensures seat { seat_at worker.new.poster ≡ seat_at worker.old.poster }
-        ensures takes { Takes self.now.hub.now worker.old worker.new [] (W.contents writer.old)
-            (W.contents writer.new) result }
-        ensures heard { worker.old.session.late ≡ false
-            → HearsAt now worker.old.session worker.new.session result }
-    {
-        let Some(text) = self.said(worker, now) else {
-            return Ok(());
-        };
-        send(writer, text.as_slice())?;
-        worker.pulse.wrote(text.len(), now);
-        Ok(())
-    }
-
-    // Rests, and tells what is to be told.
-    fn attend<W: Write>(
-        &self,
-        worker: &mut Worker,
-        writer: &mut W,
-        now: u64,
-    ) -> Result<(), TurnFault>
-        requires work { (seated : Bool) × (turns : List Turn)
-            × IsAtWork self.now.hub.now seated worker.old turns }
-        ensures seat { seat_at worker.new.poster ≡ seat_at worker.old.poster }
-        ensures takes { Takes self.now.hub.now worker.old worker.new [] (W.contents writer.old)
-            (W.contents writer.new) result }
-        ensures heard { worker.old.session.late ≡ false
-            → HearsAt now worker.old.session worker.new.session result }
-    {
-        worker.rest(writer, now)?;
-        self.tell(worker, writer, now)
     }
 
     // Takes a piece at its turn, tells of its peer, and rests: at the moment at which the piece

@@ -1,8 +1,10 @@
 pub mod Packing
+pub mod Changed
 pub mod Still
 pub mod Texts
 pub mod Rest
 pub mod Left
+pub mod Steps
 pub mod Turns
 pub mod Quiet
 pub mod Whole

@@ -5,12 +5,13 @@ use Rattle.std.proofs.Common.{ap, arith, length-drop, subst, sym, ◌∙◌}
 use Rattle.std.specs.Prelude.{if◌then◌else◌, nat_lt}
 use Rattle.std.specs.List.{sum_by}
 use Rattle.std.proofs.lemmas.List.Sums.{sum_by-cons, sum_by_push}
-use Rattle.std.proofs.lemmas.List.{length-append, nil_from_length, take_all}
+use Rattle.std.proofs.lemmas.List.{length-append, length-map, map-append, nil_from_length}
+use Rattle.std.proofs.lemmas.List.{take_all}
 use Rattle.std.proofs.lemmas.List.{take-append-le, drop-append-le}
 use Rattle.std.proofs.Math.Seq.{drop-append_seam}
 use Rattle.std.specs.List.{AllByRecursion}
 use Rattle.telling.specs.Packed.{IsFrom, IsLast, IsNotBefore, IsPart, IsWord, least_with, len_in}
-use Rattle.telling.specs.Packed.{lesser, unpacked, with_puts}
+use Rattle.telling.specs.Packed.{lesser, moment, moments, unpacked, with_puts}
 use Rattle.telling.specs.declared.least.Least.{Least}
 use Rattle.telling.specs.declared.parts.TheConstants.{LEFT}
 use Rattle.telling.specs.declared.told.Mark.{Mark}
@@ -120,6 +121,44 @@ part_more bytes lens puts key word put is_in least last is part =
           (late_more least mark (unpacked bytes lens puts) part.late);
       ends = rw (drop-append_seam bytes key, marks) (new_last (unpacked bytes lens puts) mark);
     }
+
+-- ---- the base of the moments
+
+-- where there are no marks the base may be any
+pub marks_rebased : (bytes lens puts : List ℕ) (base other : ℕ) (none : Bool)
+    → (none ≡ true → length lens ≡ 0) → (none ≡ false → other ≡ base)
+    → unpacked bytes lens (moments other puts) ≡ unpacked bytes lens (moments base puts)
+marks_rebased bytes lens puts base other true nil same =
+    ap (λ (ls : List ℕ). unpacked bytes ls (moments other puts)) (nil_from_length lens (nil refl))
+    ∙ ap (λ (ls : List ℕ). unpacked bytes ls (moments base puts))
+    (sym (nil_from_length lens (nil refl)))
+marks_rebased bytes lens puts base other false nil same =
+    ap (λ (n : ℕ). unpacked bytes lens (moments n puts)) (same refl)
+
+pub part_rebased : (bytes lens puts : List ℕ) (base other : ℕ) (least : Least) (last : ℕ)
+    (none : Bool) → (none ≡ true → length lens ≡ 0) → (none ≡ false → other ≡ base)
+    → IsPart bytes lens (moments base puts) least last
+    → IsPart bytes lens (moments other puts) least last
+part_rebased bytes lens puts base other least last none nil same part =
+    let marks : unpacked bytes lens (moments base puts) ≡ unpacked bytes lens (moments other puts) =
+    sym (marks_rebased bytes lens puts base other none nil same) in
+    record {
+      whole = part.whole;
+      timed = omega (
+        arith,
+        part.timed,
+        length-map puts (moment base),
+        length-map puts (moment other),
+      );
+      late = subst (λ (ms : List Mark). AllByRecursion (λ m. IsFrom least m) ms) marks part.late;
+      ends = subst (λ (ms : List Mark). IsLast (drop last bytes) ms) marks part.ends;
+    }
+
+pub moments_more : (base after put : ℕ) (puts : List ℕ) → moment base after ≡ put
+    → moments base (puts ++ after ∷ []) ≡ moments base puts ++ put ∷ []
+moments_more base after put puts is =
+    map-append (moment base) puts (after ∷ [])
+    ∙ ap (λ (n : ℕ). moments base puts ++ n ∷ []) is
 
 -- ---- other moments
 

@@ -1,76 +1,115 @@
 -- The tables of a turn, one after the other.
-use Rattle.std.proofs.Common.{◌≡◌, ℕ, ◌+◌, ◌<◌, ◌≤◌, List, [], ◌∷◌, ◌++◌, length, subst}
+use Rattle.std.proofs.Common.{◌≡◌, ℕ, ◌+◌, ◌<◌, ◌≤◌, Bool, false, List, [], ◌∷◌, ◌++◌, length}
+use Rattle.std.proofs.Common.{drop, get_or, ap, refl, sym, ◌∙◌, map, append_assoc, append-nil, arith}
+use Rattle.std.proofs.lemmas.Bool.Decides.{nat_tests}
 use Rattle.std.proofs.lemmas.List.{drop_all}
-use Rattle.std.proofs.Common.{drop, get_or, ap, refl, sym, ◌∙◌, map, append_assoc, append-nil}
-use Rattle.peers_msg.specs.Spelling.{message_spelling}
-use Rattle.peers_msg.specs.declared.message.Message.TheVariants as messages
+use Rattle.std.specs.Prelude.{◌==◌, if◌then◌else◌}
+use Rattle.peers_msg.specs.declared.message.Message.{Message}
+use Rattle.telling.specs.Down.{defined_behind, unsaid_table, unsaid_tables}
+use Rattle.telling.specs.Stands.{stands}
 use Rattle.telling.specs.Told.{no_table}
-use Rattle.telling.specs.Telling.{definition_of, definitions, defined_after}
-use Rattle.telling.specs.Telling.{last_defined, table_turn}
-use Rattle.telling.specs.Telling.{table_turns, text_of, update_messages, with_definition, TableTurn}
+use Rattle.telling.specs.Telling.{changes, defined_after, last_defined, table_turn}
+use Rattle.telling.specs.Telling.{table_turns, update_messages, updates, with_definition}
+use Rattle.telling.specs.Unsaid.{unsaid_updates}
+use Rattle.telling.specs.declared.change.Change.{Change}
 use Rattle.telling.specs.declared.change.Turn.{Turn}
 use Rattle.telling.specs.declared.pushed.Pushed.{Pushed}
 use Rattle.telling.specs.declared.told.ToldTable.{ToldTable}
-use Rattle.telling.proofs.Left.{text_append}
+use Rattle.telling.specs.declared.unsaid.UnsaidTable.{UnsaidTable}
 use Rattle.telling.proofs.Rest.{drop_here}
 
-pub definitions_more : (b : ℕ) (xs : List Pushed) (x : Pushed) → b < length xs → x ≡ get_or xs b x
-    → text_of (definitions b (drop b xs))
-    ≡ message_spelling (messages.Define (definition_of (b + 1) x))
-    ++ text_of (definitions (b + 1) (drop (b + 1) xs))
-unfolding definitions
-definitions_more b xs x lt is = ap (λ ps. text_of (definitions b ps)) (drop_here xs b x lt is)
+-- what is taken down of the tables so far, and what is still to be taken down
+pub record AreTakenDown (turn : Turn) (sets : List (List (List ℕ))) (told : List ToldTable)
+    (all : List Pushed) (before : ℕ) (left : List Pushed) (unsaid : List UnsaidTable)
+    (tables : List ToldTable) : Type 0 where
+  pub unsaid_are : unsaid ++ unsaid_tables turn sets told before left
+      ≡ unsaid_tables turn sets told 0 all
+  pub tables_are : tables ++ map (λ table. table.after) (table_turns turn sets told before left)
+      ≡ map (λ table. table.after) (table_turns turn sets told 0 all)
 
-pub turns_more : (turn : Turn) (sets : List (List (List ℕ))) (told : List ToldTable) (b : ℕ)
-    (xs : List Pushed) (x : Pushed) → b < length xs → x ≡ get_or xs b x
-    → table_turns turn sets told b (drop b xs)
-    ≡ table_turn turn (b + 1) x (get_or sets b []) (get_or told b no_table)
-    ∷ table_turns turn sets told (b + 1) (drop (b + 1) xs)
+pub none_taken : (turn : Turn) (sets : List (List (List ℕ))) (told : List ToldTable)
+    (all : List Pushed) → AreTakenDown turn sets told all 0 all [] []
+none_taken turn sets told all = record { unsaid_are = refl; tables_are = refl }
+
+-- with one table more
+pub one_taken : (turn : Turn) (sets : List (List (List ℕ))) (told : List ToldTable)
+    (all : List Pushed) (b : ℕ) (p : Pushed) (us new_us : List UnsaidTable)
+    (ts new_ts : List ToldTable) (u : UnsaidTable) (t : ToldTable)
+    → AreTakenDown turn sets told all b (drop b all) us ts → b < length all
+    → p ≡ get_or all b p
+    → u ≡ unsaid_table turn p (get_or sets b []) (get_or told b no_table)
+    → t ≡ (table_turn turn (b + 1) p (get_or sets b []) (get_or told b no_table)).after
+    → new_us ≡ us ++ u ∷ [] → new_ts ≡ ts ++ t ∷ []
+    → AreTakenDown turn sets told all (b + 1) (drop (b + 1) all) new_us new_ts
+unfolding table_turns unsaid_tables
+one_taken turn sets told all b p us new_us ts new_ts u t so_far lt is u_is t_is us_are ts_are =
+    let rest : List Pushed = drop (b + 1) all in
+    let here : drop b all ≡ p ∷ rest = drop_here all b p lt is in
+    let others : List UnsaidTable = unsaid_tables turn sets told (b + 1) rest in
+    let afters : List ToldTable =
+    map (λ table. table.after) (table_turns turn sets told (b + 1) rest) in
+    record {
+      unsaid_are = ap (λ (xs : List UnsaidTable). xs ++ others) us_are
+          ∙ append_assoc us (u ∷ []) others ∙ ap (λ (x : UnsaidTable). us ++ x ∷ others) u_is
+          ∙ ap (λ (ps : List Pushed). us ++ unsaid_tables turn sets told b ps) (sym here)
+          ∙ so_far.unsaid_are;
+      tables_are = ap (λ (xs : List ToldTable). xs ++ afters) ts_are
+          ∙ append_assoc ts (t ∷ []) afters ∙ ap (λ (x : ToldTable). ts ++ x ∷ afters) t_is
+          ∙ ap (λ (ps : List Pushed). ts ++ map (λ table. table.after)
+          (table_turns turn sets told b ps)) (sym here) ∙ so_far.tables_are;
+    }
+
+-- all are taken down where none is left
+pub all_unsaid : (turn : Turn) (sets : List (List (List ℕ))) (told : List ToldTable)
+    (all : List Pushed) (b : ℕ) (us : List UnsaidTable) (ts : List ToldTable)
+    → AreTakenDown turn sets told all b (drop b all) us ts → length all ≤ b
+    → us ≡ unsaid_tables turn sets told 0 all
+unfolding unsaid_tables
+all_unsaid turn sets told all b us ts so_far out =
+    sym (append-nil us) ∙ ap (λ (ps : List Pushed). us ++ unsaid_tables turn sets told b ps)
+    (sym (drop_all b all out)) ∙ so_far.unsaid_are
+
+pub all_after : (turn : Turn) (sets : List (List (List ℕ))) (told : List ToldTable)
+    (all : List Pushed) (b : ℕ) (us : List UnsaidTable) (ts : List ToldTable)
+    → AreTakenDown turn sets told all b (drop b all) us ts → length all ≤ b
+    → ts ≡ map (λ table. table.after) (table_turns turn sets told 0 all)
 unfolding table_turns
-turns_more turn sets told b xs x lt is = ap (table_turns turn sets told b) (drop_here xs b x lt is)
+all_after turn sets told all b us ts so_far out =
+    sym (append-nil ts) ∙ ap (λ (ps : List Pushed). ts
+    ++ map (λ table. table.after) (table_turns turn sets told b ps)) (sym (drop_all b all out))
+    ∙ so_far.tables_are
 
--- what is written, which table was defined last, and what was told of the tables that are done
-pub record AllDone : Type 0 where
-  pub bytes : List ℕ
-  pub defined : ℕ
-  pub tables : List ToldTable
+-- ---- what is taken down is what the turn says
 
--- what is done once these tables are told too
-pub record AreDone (old : AllDone) (turns : List TableTurn) (new : AllDone) : Type 0 where
-  pub bytes : new.bytes ≡ old.bytes ++ text_of (update_messages old.defined turns)
-  pub defined : new.defined ≡ last_defined old.defined turns
-  pub tables : new.tables ≡ old.tables ++ map (λ turn. turn.after) turns
+-- the messages
+pub updates_are : (turn : Turn) (sets : List (List (List ℕ))) (told : List ToldTable) (d b : ℕ)
+    (ps : List Pushed) → unsaid_updates d b ps (unsaid_tables turn sets told b ps)
+    ≡ update_messages d (table_turns turn sets told b ps)
+unfolding unsaid_updates unsaid_tables unsaid_table update_messages table_turns table_turn
+updates_are turn sets told d b [] = refl
+updates_are turn sets told d b (p ∷ ps) =
+    let old : ToldTable = get_or told b no_table in
+    let us : List Message =
+    updates p old.last (changes p turn (stands (get_or sets b []) old.marks)) in
+    ap (λ (ms : List Message). with_definition d (b + 1) p us ++ ms)
+    (updates_are turn sets told (defined_after d (b + 1) us) (b + 1) ps)
 
-pub no_table_done : (old : AllDone) → AreDone old [] old
-unfolding update_messages last_defined
-no_table_done old = record {
-  bytes = sym (append-nil old.bytes);
-  defined = refl;
-  tables = sym (append-nil old.tables);
-}
+defined_by : (d id : ℕ) (p : Pushed) (last : ℕ) (cs : List (List ℕ × Change))
+    → defined_after d id (updates p last cs) ≡ (if length cs == 0 then d else id)
+defined_by d id p last [] = refl
+defined_by d id p last (c ∷ cs) =
+    let some : (length (c ∷ cs) == 0) ≡ false = grind (arith, nat_tests) in
+    sym (ap (λ (b : Bool). if b then d else id) some)
 
--- one table, and then others
-pub table_done : (old mid new : AllDone) (t : TableTurn) (ts : List TableTurn)
-    → mid.bytes ≡ old.bytes ++ text_of (with_definition old.defined t.id t.pushed t.updates)
-    → mid.defined ≡ defined_after old.defined t.id t.updates
-    → mid.tables ≡ old.tables ++ t.after ∷ [] → AreDone mid ts new → AreDone old (t ∷ ts) new
-unfolding update_messages last_defined
-table_done old mid new t ts b d k h = record {
-  bytes = h.bytes ∙ rw (b, d) (append_assoc old.bytes
-      (text_of (with_definition old.defined t.id t.pushed t.updates)) _
-      ∙ ap (λ (text : List ℕ). old.bytes ++ text)
-      (sym (text_append (with_definition old.defined t.id t.pushed t.updates)
-      (update_messages (defined_after old.defined t.id t.updates) ts))));
-  defined = h.defined ∙ rw d refl;
-  tables = h.tables ∙ rw k (append_assoc old.tables (t.after ∷ []) (map (λ turn. turn.after) ts));
-}
-
--- all is done where no table is left
-pub done_by_all : (turn : Turn) (sets : List (List (List ℕ))) (told : List ToldTable) (b : ℕ)
-    (xs : List Pushed) (all : List TableTurn) (old at : AllDone) → length xs ≤ b
-    → ((new : AllDone) → AreDone at (table_turns turn sets told b (drop b xs)) new
-    → AreDone old all new) → AreDone old all at
-unfolding table_turns
-done_by_all turn sets told b xs all old at out more =
-    more at (subst (λ ps. AreDone at (table_turns turn sets told b ps) at)
-    (sym (drop_all b xs out)) (no_table_done at))
+-- and which table is defined last
+pub defined_are : (turn : Turn) (sets : List (List (List ℕ))) (told : List ToldTable) (d b : ℕ)
+    (ps : List Pushed) → defined_behind d b (unsaid_tables turn sets told b ps)
+    ≡ last_defined d (table_turns turn sets told b ps)
+unfolding unsaid_tables unsaid_table last_defined table_turns table_turn
+defined_are turn sets told d b [] = refl
+defined_are turn sets told d b (p ∷ ps) =
+    let old : ToldTable = get_or told b no_table in
+    let cs : List (List ℕ × Change) = changes p turn (stands (get_or sets b []) old.marks) in
+    ap (λ (e : ℕ). defined_behind e (b + 1) (unsaid_tables turn sets told (b + 1) ps))
+    (sym (defined_by d (b + 1) p old.last cs))
+    ∙ defined_are turn sets told (defined_after d (b + 1) (updates p old.last cs)) (b + 1) ps

@@ -1,23 +1,26 @@
 -- A whole turn.
-use Rattle.std.proofs.Common.{◌≡◌, ℕ, true, false, List, [], ◌++◌, map, refl, sym, ◌∙◌}
+use Rattle.std.proofs.Common.{◌≡◌, ℕ, true, false, List, [], ◌++◌, map, refl, sym, ap, ◌∙◌}
 use Rattle.std.specs.Prelude.{slice_get, None, Some}
 use Rattle.telling.specs.declared.told.Mark.{Mark}
-use Rattle.telling.specs.Telling.{keys_told, table_at, told_keys}
+use Rattle.peers_msg.specs.declared.message.Message.{Message}
+use Rattle.telling.specs.Down.{defined_behind, unsaid_tables}
+use Rattle.telling.specs.Unsaid.{unsaid_updates}
+use Rattle.telling.specs.Telling.{keys_told, table_at, told_keys, turn_messages}
 use Rattle.telling.specs.Telling.{Told, defined_before, first_definitions, last_defined, text_of}
 use Rattle.telling.specs.Telling.{told_after, turn_at, turn_text}
 use Rattle.telling.specs.Telling.{turns, update_messages, table_turns}
 use Rattle.telling.specs.declared.pushed.Pushed.{Pushed}
 use Rattle.telling.specs.declared.change.Turn.{Turn}
 use Rattle.telling.specs.declared.told.ToldTable.{ToldTable}
-use Rattle.telling.proofs.Left.{text_append}
+use Rattle.telling.specs.declared.unsaid.UnsaidTable.{UnsaidTable}
+use Rattle.telling.proofs.Turns.{defined_are, updates_are}
 
-pub quiet_text : (pushed : List Pushed) (sets : List (List (List ℕ))) (now : ℕ) (told : Told)
-    (turn : Turn) (tables : List ToldTable) → turn ≡ turn_at now told → tables ≡ told.tables
-    → told.begun ≡ true
+pub quiet_messages : (pushed : List Pushed) (sets : List (List (List ℕ))) (now : ℕ)
+    (told : Told) (turn : Turn) (tables : List ToldTable) → turn ≡ turn_at now told
+    → tables ≡ told.tables → told.begun ≡ true
     → update_messages told.defined (table_turns turn sets tables 0 pushed) ≡ []
-    → turn_text pushed sets now told ≡ []
-unfolding turn_text
-quiet_text pushed sets now told turn tables t ts b e =
+    → turn_messages pushed sets now told ≡ []
+quiet_messages pushed sets now told turn tables t ts b e =
     rw (b, ← t, ← ts, e) refl
 
 pub quiet_told : (pushed : List Pushed) (sets : List (List (List ℕ))) (now : ℕ) (told : Told)
@@ -40,31 +43,43 @@ quiet_told pushed sets now told turn tables t ts b a d m =
       anew = sym a i;
     }
 
-pub whole_text : (pushed : List Pushed) (sets : List (List (List ℕ))) (now : ℕ) (told : Told)
-    (turn : Turn) (tables : List ToldTable) (first bytes : List ℕ) (defined : ℕ)
+-- what is left before anything is written are the messages of the turn
+pub whole_messages : (pushed : List Pushed) (sets : List (List (List ℕ))) (now : ℕ) (told : Told)
+    (turn : Turn) (tables : List ToldTable) (left : List Message) (unsaid : List UnsaidTable)
     → turn ≡ turn_at now told → tables ≡ told.tables
-    → first ≡ text_of (first_definitions pushed told) → defined ≡ defined_before pushed told
-    → bytes ≡ first ++ text_of (update_messages defined (table_turns turn sets tables 0 pushed))
-    → bytes ≡ turn_text pushed sets now told
+    → left ≡ first_definitions pushed told
+    ++ unsaid_updates (defined_before pushed told) 0 pushed unsaid
+    → unsaid ≡ unsaid_tables turn sets tables 0 pushed → left ≡ turn_messages pushed sets now told
+whole_messages pushed sets now told turn tables left unsaid t ts l u =
+    l ∙ ap (λ (ms : List Message). first_definitions pushed told ++ ms)
+    (ap (unsaid_updates (defined_before pushed told) 0 pushed) u
+    ∙ updates_are turn sets tables (defined_before pushed told) 0 pushed
+    ∙ (λ i. update_messages (defined_before pushed told)
+    (table_turns (t i) sets (ts i) 0 pushed)))
+
+pub whole_text : (pushed : List Pushed) (sets : List (List (List ℕ))) (now : ℕ) (told : Told)
+    (left : List Message) → left ≡ turn_messages pushed sets now told
+    → text_of left ≡ turn_text pushed sets now told
 unfolding turn_text
-whole_text pushed sets now told turn tables first bytes defined t ts f d e =
-    e ∙ (λ i. f i ++ text_of (update_messages (d i) (table_turns (t i) sets (ts i) 0 pushed)))
-    ∙ sym (text_append (first_definitions pushed told)
-    (update_messages (defined_before pushed told) (turns pushed sets now told)))
+whole_text pushed sets now told left is = ap text_of is
 
 pub whole_told : (pushed : List Pushed) (sets : List (List (List ℕ))) (now : ℕ) (told : Told)
-    (turn : Turn) (tables after : List ToldTable) (defined last : ℕ)
-    → turn ≡ turn_at now told → tables ≡ told.tables → defined ≡ defined_before pushed told
+    (turn : Turn) (tables after : List ToldTable) (unsaid : List UnsaidTable) (last : ℕ)
+    → turn ≡ turn_at now told → tables ≡ told.tables
+    → unsaid ≡ unsaid_tables turn sets tables 0 pushed
     → after ≡ map (λ table. table.after) (table_turns turn sets tables 0 pushed)
-    → last ≡ last_defined defined (table_turns turn sets tables 0 pushed)
+    → last ≡ defined_behind (defined_before pushed told) 0 unsaid
     → record { tables = after; defined = last; begun = true; anew = false }
     ≡ told_after pushed sets now told
 unfolding told_after
-whole_told pushed sets now told turn tables after defined last t ts d a l =
+whole_told pushed sets now told turn tables after unsaid last t ts u a l =
     let tables_are : after ≡ map (λ table. table.after) (turns pushed sets now told) =
     a ∙ (λ i. map (λ table. table.after) (table_turns (t i) sets (ts i) 0 pushed)) in
     let last_is : last ≡ last_defined (defined_before pushed told) (turns pushed sets now told) =
-    l ∙ (λ i. last_defined (d i) (table_turns (t i) sets (ts i) 0 pushed)) in
+    l ∙ ap (defined_behind (defined_before pushed told) 0) u
+    ∙ defined_are turn sets tables (defined_before pushed told) 0 pushed
+    ∙ (λ i. last_defined (defined_before pushed told)
+    (table_turns (t i) sets (ts i) 0 pushed)) in
     λ i. record { tables = tables_are i; defined = last_is i; begun = true; anew = false }
 
 pub none_told : (pushed : List Pushed) (told : Told) (place now : ℕ)

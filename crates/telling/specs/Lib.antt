@@ -1,4 +1,5 @@
 pub mod Packed
+pub mod Changed
 pub mod Rules
 pub mod Stands
 pub mod Told
@@ -7,3 +8,5 @@ pub mod Pushes
 pub mod Among
 pub mod Moves
 pub mod Passed
+pub mod Unsaid
+pub mod Down

@@ -1,6 +1,7 @@
 -- Marks as they are packed, in parts: the bytes of the keys one behind the other, and of each mark
 -- a word, which has the length of its key and whether the key is in the set, and its moment.
 use Rattle.std.specs.Prelude.{◌≡◌, ◌≤◌, ◌%◌, ℕ, List, [], ◌∷◌, ◌++◌, length, take, drop, min}
+use Rattle.std.specs.Prelude.{◌+◌, ◌-◌, ◌^◌, map}
 use Rattle.std.specs.Prelude.{Bool, true, false, Option, None, Some, nat_lt, if◌then◌else◌}
 use Rattle.std.specs.Arc.{arc_value}
 use Rattle.std.specs.List.{AllByRecursion, flat_map, sum_by}
@@ -20,6 +21,13 @@ len_in word = word % LEFT
 pub record IsWord (word len : ℕ) (is_in : Bool) : Type 0 where
   pub long : len_in word ≡ len
   pub side : nat_lt word LEFT ≡ is_in
+
+-- a moment that is so long after the base of a part; there is none after the last of all
+abbrev pub moment : ℕ → ℕ → ℕ
+moment base after = min (base + after) (2 ^ 64 - 1)
+
+abbrev pub moments : ℕ → List ℕ → List ℕ
+moments base puts = map (moment base) puts
 
 -- the marks that are packed so
 abbrev pub unpacked : List ℕ → List ℕ → List ℕ → List Mark
@@ -72,7 +80,7 @@ pub record IsPart (bytes lens puts : List ℕ) (least : Least) (last : ℕ) : Ty
   pub ends : IsLast (drop last bytes) (unpacked bytes lens puts)
 
 abbrev pub in_lists : Lists → List Mark
-in_lists lists = unpacked lists.bytes.now lists.lens.now lists.puts.now
+in_lists lists = unpacked lists.bytes.now lists.lens.now (moments lists.base lists.puts.now)
 
 -- the marks of parts, one part behind the other
 abbrev pub in_parts : {Z : Type 0} → List (Arc (List Mark) Z) → List Mark

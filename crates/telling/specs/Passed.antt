@@ -8,9 +8,9 @@ use Rattle.telling.specs.Moves.{unmoved}
 use Rattle.telling.specs.Packed.{IsLast}
 use Rattle.telling.specs.Rules.{is_held, is_written}
 use Rattle.telling.specs.Stands.{Stand}
-use Rattle.telling.specs.Telling.{changes, defined_after, last_after, marks_after, text_of}
-use Rattle.telling.specs.Telling.{updates, with_definition}
+use Rattle.telling.specs.Telling.{changes, marks_after}
 use Rattle.telling.specs.declared.change.Turn.{Turn}
+use Rattle.telling.specs.declared.done.Done.{Done}
 use Rattle.telling.specs.declared.moved.Moved.{Moved}
 use Rattle.telling.specs.declared.pushed.Pushed.{Pushed}
 use Rattle.telling.specs.declared.told.Mark.{Mark}
@@ -37,21 +37,10 @@ abbrev pub AreAbove : List ℕ → List (List ℕ) → Type 0
 AreAbove key [] = Unit {0}
 AreAbove key (first ∷ keys) = slice_cmp nat_cmp first key ≡ Greater
 
--- what is written, which table was defined last, the last id, and the marks that are kept
-pub record Done : Type 0 where
-  pub bytes : List ℕ
-  pub defined : ℕ
-  pub last : ℕ
-  pub kept : List Mark
-
--- what is done once these keys are told too
-pub record IsDone (id : ℕ) (p : Pushed) (turn : Turn) (old : Done) (keys : List Stand)
-    (new : Done) : Type 0 where
-  pub bytes : new.bytes ≡ old.bytes
-      ++ text_of (with_definition old.defined id p (updates p old.last (changes p turn keys)))
-  pub defined : new.defined
-      ≡ defined_after old.defined id (updates p old.last (changes p turn keys))
-  pub last : new.last ≡ last_after old.last (changes p turn keys)
+-- what is taken down of a table once these keys are told too
+pub record IsDone (p : Pushed) (turn : Turn) (old : Done) (keys : List Stand) (new : Done)
+    : Type 0 where
+  pub said : new.changes ≡ old.changes ++ changes p turn keys
   pub kept : new.kept ≡ old.kept ++ marks_after p turn keys
 
 -- the last of these marks is below the first of these moves
@@ -61,9 +50,9 @@ AreBelow marks (move ∷ moves) =
     (last : List ℕ) × IsLast last marks × (slice_cmp nat_cmp last move.key.now ≡ Less)
 
 -- parts in which no key moved were told: of all marks these are left
-pub record ArePassed (id : ℕ) (p : Pushed) (turn : Turn) (moves : List Moved)
-    (all left : List Mark) (old new : Done) : Type 0 where
+pub record ArePassed (p : Pushed) (turn : Turn) (moves : List Moved) (all left : List Mark)
+    (old new : Done) : Type 0 where
   pub parts : List (List Mark)
   pub each : AllByRecursion (λ part. AreBelow part moves) parts
   pub are : all ≡ flat_map (λ part. part) parts ++ left
-  pub done : IsDone id p turn old (map unmoved (flat_map (λ part. part) parts)) new
+  pub done : IsDone p turn old (map unmoved (flat_map (λ part. part) parts)) new

@@ -158,7 +158,7 @@ impl Packing {
         ensures { OnOk result (self.new
             ≡ self.old ++ record { key = key.now; put = put; is_in = is_in } ∷ []) }
     {
-        if self.fresh.len() >= PART {
+        if self.fresh.len() >= PART || !self.fresh.has_room(put) {
             close(&mut self.parts, &mut self.fresh)?;
         }
         self.fresh.push(key, put, is_in)

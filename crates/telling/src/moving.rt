@@ -1,24 +1,23 @@
 //! What a turn does about a table of which it is given what moved.
 
-ghost use Rattle.std.specs.Prelude.{◌≡◌, ◌+◌, ◌++◌, ◌∷◌, ◌<◌, [], length};
-ghost use Rattle.std.specs.Prelude.{IfOk, IfSome, IsTrue, MatchOption, OnOk};
-ghost use Rattle.std.specs.Arc.{arc_value};
+ghost use Rattle.std.specs.Prelude.{◌≡◌, ◌+◌, ◌∷◌, ◌<◌, [], length};
+ghost use Rattle.std.specs.Prelude.{IfOk, IfSome, MatchOption};
 ghost use Rattle.telling.specs.Moves.{AreInOrder, marked};
 ghost use Rattle.telling.specs.Moves.{moved_stands, moved_to, unmoved};
 ghost use Rattle.telling.specs.Packed.{lent, marks_of};
 ghost use Rattle.telling.specs.Stands.{shown};
-ghost use Rattle.telling.specs.Telling.{changes, defined_after, last_after, marks_after};
-ghost use Rattle.telling.specs.Telling.{text_of, updates, with_definition};
+ghost use Rattle.telling.specs.Telling.{changes, last_after, marks_after};
 
 use crate::change::Turn;
-use crate::marks::{Packed, Packing};
+use crate::done::Done;
+use crate::marks::Packed;
 use crate::parts::Lent;
 use crate::passing::pass_parts;
 use crate::stands::Standing;
-use crate::turning::{keep, say};
-use crate::written::Written;
+use crate::unsaid::UnsaidTable;
 use crate::{Moved, Pushed, ToldTable};
 use agg_types::NoMemory;
+use std::alloc::Global;
 use std::cmp::Ordering;
 
 /// What is left of moves and of marks.
@@ -28,53 +27,39 @@ pub struct Moving<'a> {
     marks: Packed<'a>,
 }
 
-/// Tells a table, by its id, what has changed by these moves, which are in the order of their keys,
-/// each once; and gives what was told of it behind them.
+/// Takes down of a table, behind the update with this id, what has changed by these moves, which
+/// are in the order of their keys, each once: what is to be written, and what is told of it behind
+/// that.
 pub fn tell_moves(
-    written: &mut Written,
+    alloc: Global,
     turn: Turn,
-    id: u64,
     pushed: &Pushed,
     moves: &[Moved<'_>],
     last: u32,
     marks: Packed<'_>,
-) -> Result<ToldTable, NoMemory>
-    ensures bytes { OnOk result (AreInOrder (marked (marks_of marks.entry))
-        → written.new.bytes.items ≡ written.old.bytes.items
-        ++ text_of (with_definition written.old.defined id pushed.now (updates pushed.now last
-        (changes pushed.now turn (moved_stands moves.now (marks_of marks.entry)))))) }
-    ensures defined { OnOk result (AreInOrder (marked (marks_of marks.entry))
-        → written.new.defined ≡ defined_after written.old.defined id (updates pushed.now last
-        (changes pushed.now turn (moved_stands moves.now (marks_of marks.entry))))) }
-    ensures after { IfOk result (λ after. AreInOrder (marked (marks_of marks.entry))
-        → after ≡ record {
+) -> Result<(UnsaidTable, ToldTable), NoMemory>
+    ensures unsaid { IfOk result (λ tables. AreInOrder (marked (marks_of marks.entry))
+        → tables.0 ≡ record {
+          last = last;
+          changes = changes pushed.now turn (moved_stands moves.now (marks_of marks.entry));
+        }) }
+    ensures after { IfOk result (λ tables. AreInOrder (marked (marks_of marks.entry))
+        → tables.1 ≡ record {
           last = last_after last
               (changes pushed.now turn (moved_stands moves.now (marks_of marks.entry)));
           marks = marks_after pushed.now turn (moved_stands moves.now (marks_of marks.entry));
         }) }
 {
-    let mut kept = Packing::new(*written.bytes.allocator());
-    let (mut last, marks) = pass_parts(written, turn, id, pushed, moves, last, marks, &mut kept)?;
+    let mut done = Done::new(alloc);
+    let marks = pass_parts(alloc, &mut done, turn, pushed, moves, marks)?;
     let mut left = Moving { moves, marks };
     while let Some((standing, behind)) = first_moved(left.moves, left.marks) {
-        let id_said = say(written, turn, id, pushed, last, standing)?;
-        keep(&mut kept, turn, pushed, standing)?;
+        done.tell(turn, pushed, standing)?;
         let moves = behind.moves;
-        let (id_passed, marks) = pass_parts(
-            written,
-            turn,
-            id,
-            pushed,
-            moves,
-            id_said,
-            behind.marks,
-            &mut kept,
-        )?;
-        last = id_passed;
+        let marks = pass_parts(alloc, &mut done, turn, pushed, moves, behind.marks)?;
         left = Moving { moves, marks };
     }
-    let marks = kept.finish()?;
-    Ok(ToldTable { last, marks })
+    done.finish(last)
 }
 
 // The first key of moves and of marks, and what is left of both behind it.

@@ -1,9 +1,10 @@
 //! A part of the marks of a table, packed.
 
-ghost use Rattle.std.specs.Prelude.{◌≡◌, ◌++◌, ◌∷◌, [], length, IfOk, IfSome, IsTrue};
+ghost use Rattle.std.specs.Prelude.{◌≡◌, ◌++◌, ◌∷◌, [], false, length, IfOk, IfSome, IsTrue};
 ghost use Rattle.std.specs.List.{AllByRecursion};
 ghost use Rattle.std.specs.Prelude.{MatchOption, OnErr, OnOk};
-ghost use Rattle.telling.specs.Packed.{IsFrom, IsLast, IsWord, in_lists, lent, with_puts};
+ghost use Rattle.telling.specs.Packed.{IsFrom, IsLast, IsWord, in_lists, lent, moment, moments};
+ghost use Rattle.telling.specs.Packed.{with_puts};
 
 use crate::least::Least;
 use agg_types::NoMemory;
@@ -16,7 +17,10 @@ pub const PART: usize = 256;
 /// What is added to the length of a key that isn't in the set. No key is as long.
 pub const LEFT: u16 = 32_768;
 
-/// Marks that are packed: of each the bytes of its key and ten more.
+// Half of how far a moment may be after the base, in ms.
+const HALF: u64 = 2_147_483_648;
+
+/// Marks that are packed: of each the bytes of its key and six more.
 ///
 /// Contracts see the list of the marks.
 #[derive(Debug, Drop)]
@@ -25,8 +29,10 @@ pub struct Part {
     bytes: Vec<u8>,
     // How many bytes each key has, and in the top bit whether it isn't in the set.
     lens: Vec<u16>,
-    // The moment, in ms, at which each was last put.
-    puts: Vec<u64>,
+    // How long after the base each was last put, in ms.
+    puts: Vec<u32>,
+    // A moment, in ms. The moments of a part lie within 49 days of it.
+    base: u64,
     // Up to which moments none was put.
     least: Least,
     // Where the bytes of the last key begin.
@@ -39,12 +45,13 @@ impl Model for Part {
 
     ghost Value = { List Mark };
 
-    ghost use Rattle.telling.specs.Packed.{unpacked, IsPart};
+    ghost use Rattle.telling.specs.Packed.{moments, unpacked, IsPart};
 
-    ghost view = { λ part. unpacked part.bytes.items part.lens.items part.puts.items };
+    ghost view = { λ part. unpacked part.bytes.items part.lens.items
+        (moments part.base part.puts.items) };
 
-    ghost invariant = { λ part. IsPart part.bytes.items part.lens.items part.puts.items
-        part.least part.last };
+    ghost invariant = { λ part. IsPart part.bytes.items part.lens.items
+        (moments part.base part.puts.items) part.least part.last };
 }
 
 impl Part {
@@ -56,6 +63,7 @@ impl Part {
             bytes: Vec::new(alloc),
             lens: Vec::new(alloc),
             puts: Vec::new(alloc),
+            base: 0,
             least: Least::NONE,
             last: 0,
         }
@@ -73,8 +81,15 @@ impl Part {
         self.lens.is_empty()
     }
 
+    /// Whether there is room for a moment, in ms, beside those of its marks.
+    #[inline]
+    pub fn has_room(&self, put: u64) -> bool {
+        after_base(base_for(self.lens.is_empty(), self.base, put), put).is_some()
+    }
+
     /// Adds a mark behind the others. After `NoMemory` they are as they were. A key of 32,768 bytes
-    /// meets it too, but no key of the peers protocol is that long.
+    /// meets it too, but no key of the peers protocol is that long; and so does a moment for which
+    /// there is no room.
     pub fn push(&mut self, key: &[u8], put: u64, is_in: bool) -> Result<(), NoMemory>
         ensures ok { OnOk result (self.new
             ≡ self.old ++ record { key = key.now; put = put; is_in = is_in } ∷ []) }
@@ -83,12 +98,17 @@ impl Part {
         let Some(len) = word_of(key.len(), is_in) else {
             return Err(NoMemory);
         };
+        let base = base_for(self.lens.is_empty(), self.base, put);
+        let Some(after) = after_base(base, put) else {
+            return Err(NoMemory);
+        };
         let from = self.bytes.len();
         self.lens.reserve(1)?;
         self.puts.reserve(1)?;
         self.bytes.extend_from_slice(key)?;
         self.lens.push(len).unwrap();
-        self.puts.push(put).unwrap();
+        self.puts.push(after).unwrap();
+        self.base = base;
         self.least = self.least.with(is_in, put);
         self.last = from;
         Ok(())
@@ -102,20 +122,21 @@ impl Part {
             bytes: self.bytes.clone()?,
             lens: self.lens.clone()?,
             puts: self.puts.clone()?,
+            base: self.base,
             least: self.least,
             last: self.last,
         })
     }
 
-    /// The same keys, with other moments, of which none is before these.
-    pub fn renewed(&self, puts: Vec<u64>, least: Least) -> Result<Part, NoMemory>
-        requires many { length puts.items ≡ length self.now }
-        requires late { AllByRecursion (λ mark. IsFrom least mark)
-            (with_puts self.now puts.items) }
-        ensures { IfOk result (λ part. part ≡ with_puts self.now puts.items) }
+    /// The same keys, with other moments, of which none is before these. A moment for which there
+    /// is no room meets `NoMemory` too.
+    pub fn renewed(&self, puts: &[u64], least: Least) -> Result<Part, NoMemory>
+        requires many { length puts.now ≡ length self.now }
+        requires late { AllByRecursion (λ mark. IsFrom least mark) (with_puts self.now puts.now) }
+        ensures { IfOk result (λ part. part ≡ with_puts self.now puts.now) }
     {
         let mut part = self.copied()?;
-        part.puts = puts;
+        part.puts = all_after(*part.puts.allocator(), part.base, puts)?;
         part.least = least;
         Ok(part)
     }
@@ -159,12 +180,13 @@ impl Part {
             bytes: self.bytes.as_slice(),
             lens: self.lens.as_slice(),
             puts: self.puts.as_slice(),
+            base: self.base,
         }
     }
 }
 
-// A key's length, and whether it is in the set, in one word; none where the key is too long.
-fn word_of(len: usize, is_in: bool) -> Option<u16>
+/// A key's length, and whether it is in the set, in one word; none where the key is too long.
+pub fn word_of(len: usize, is_in: bool) -> Option<u16>
     ensures { IfSome result (λ word. IsWord word len is_in) }
 {
     let Ok(word) = u16::try_from(len) else {
@@ -179,12 +201,46 @@ fn word_of(len: usize, is_in: bool) -> Option<u16>
     Some(word + LEFT)
 }
 
+// The base of a part with a moment more, in ms: where it has none, the moment stands about halfway.
+fn base_for(is_empty: bool, base: u64, put: u64) -> u64
+    ensures { is_empty ≡ false → result ≡ base }
+{
+    if is_empty {
+        put.saturating_sub(HALF)
+    } else {
+        base
+    }
+}
+
+// How long a moment, in ms, is after the base; none where it is too long, or before it.
+fn after_base(base: u64, put: u64) -> Option<u32>
+    ensures { IfSome result (λ after. moment base after ≡ put) }
+{
+    let after = put.checked_sub(base)?;
+    u32::try_from(after).ok()
+}
+
+// How long these moments, in ms, are after the base.
+fn all_after(alloc: Global, base: u64, puts: &[u64]) -> Result<Vec<u32>, NoMemory>
+    ensures { IfOk result (λ afters. moments base afters.items ≡ puts.now) }
+{
+    let mut afters = Vec::with_capacity(alloc, puts.len())?;
+    for put in puts {
+        let Some(after) = after_base(base, *put) else {
+            return Err(NoMemory);
+        };
+        afters.push(after)?;
+    }
+    Ok(afters)
+}
+
 /// The lists of a part that is lent, without some marks at their front.
 #[derive(Clone, Copy)]
 pub struct Lists<'a> {
     pub bytes: &'a [u8],
     pub lens: &'a [u16],
-    pub puts: &'a [u64],
+    pub puts: &'a [u32],
+    pub base: u64,
 }
 
 /// A mark that is lent: a key's bytes, the moment, in ms, at which it was last put, and whether it
@@ -205,6 +261,7 @@ impl<'a> Lists<'a> {
             bytes: &[],
             lens: &[],
             puts: &[],
+            base: 0,
         }
     }
 
@@ -233,9 +290,18 @@ impl<'a> Lists<'a> {
             .split_at(self.bytes.len().min((*len % LEFT) as usize));
         let mark = Lent {
             key,
-            put: *put,
+            put: self.base.saturating_add(u64::from(*put)),
             is_in: *len < LEFT,
         };
-        Some((mark, Lists { bytes, lens, puts }))
+        let base = self.base;
+        Some((
+            mark,
+            Lists {
+                bytes,
+                lens,
+                puts,
+                base,
+            },
+        ))
     }
 }

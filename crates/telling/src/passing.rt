@@ -1,6 +1,6 @@
 //! What a turn by moves does about parts in which no key moved.
 
-ghost use Rattle.std.specs.Prelude.{◌≡◌, ◌++◌, ◌<◌, length, map, IfOk, IfSome, IsTrue};
+ghost use Rattle.std.specs.Prelude.{◌≡◌, ◌++◌, ◌<◌, length, map, IfOk, IfSome, IsTrue, OnOk};
 ghost use Rattle.std.specs.Arc.{arc_value};
 ghost use Rattle.std.specs.List.{AllByRecursion};
 ghost use Rattle.telling.specs.Moves.{unmoved};
@@ -8,50 +8,37 @@ ghost use Rattle.telling.specs.Packed.{marks_of};
 ghost use Rattle.telling.specs.Passed.{AreBelow, ArePassed, IsDone, IsKept};
 
 use crate::change::{Turn, put_again};
+use crate::done::{Done, say};
 use crate::idle::{is_undue, keeps_all};
 use crate::least::Least;
 use crate::marks::{Packed, Packing};
 use crate::moving::standing_on;
 use crate::parts::Part;
-use crate::turning::{keep, say};
-use crate::written::Written;
 use crate::{Moved, Pushed};
 use agg_types::NoMemory;
+use std::alloc::Global;
 use std::cmp::Ordering;
 use std::sync::Arc;
 
-/// Tells the parts at the front of these marks in which no key moved, and gives the id of the last
-/// update and the marks behind these parts.
+/// Tells the parts at the front of these marks in which no key moved, and gives the marks behind
+/// these parts.
 pub fn pass_parts<'a>(
-    written: &mut Written,
+    alloc: Global,
+    done: &mut Done,
     turn: Turn,
-    id: u64,
     pushed: &Pushed,
     moves: &[Moved<'_>],
-    last: u32,
     marks: Packed<'a>,
-    kept: &mut Packing,
-) -> Result<(u32, Packed<'a>), NoMemory>
-    ensures { IfOk result (λ after. ArePassed id pushed.now turn moves.now (marks_of marks.entry)
-        (marks_of after.1) (record {
-          bytes = written.old.bytes.items;
-          defined = written.old.defined;
-          last = last;
-          kept = kept.old;
-        }) (record {
-          bytes = written.new.bytes.items;
-          defined = written.new.defined;
-          last = after.0;
-          kept = kept.new;
-        })) }
+) -> Result<Packed<'a>, NoMemory>
+    ensures { IfOk result (λ after. ArePassed pushed.now turn moves.now (marks_of marks.entry)
+        (marks_of after) done.old done.new) }
 {
-    let mut last = last;
     let mut left = marks;
-    while let Some((part, behind)) = whole_part(kept, moves, left) {
-        last = pass_part(written, turn, id, pushed, last, part, kept)?;
+    while let Some((part, behind)) = whole_part(&done.kept, moves, left) {
+        pass_part(alloc, done, turn, pushed, part)?;
         left = behind;
     }
-    Ok((last, left))
+    Ok(left)
 }
 
 // The first part of these marks, if no key of it moved, and what stands behind it.
@@ -85,106 +72,62 @@ fn is_below(part: &Part, moves: &[Moved<'_>]) -> bool
     }
 }
 
-// Tells a part in which no key moved, and gives the id of the last update. Where none of its keys
-// is due, and none of its marks is dropped, it is taken over.
+// Tells a part in which no key moved. Where none of its keys is due, and none of its marks is
+// dropped, it is taken over.
 fn pass_part(
-    written: &mut Written,
+    alloc: Global,
+    done: &mut Done,
     turn: Turn,
-    id: u64,
     pushed: &Pushed,
-    last: u32,
     part: &Arc<Part>,
-    kept: &mut Packing,
-) -> Result<u32, NoMemory>
-    ensures { IfOk result (λ after. IsDone id pushed.now turn (record {
-      bytes = written.old.bytes.items;
-      defined = written.old.defined;
-      last = last;
-      kept = kept.old;
-    }) (map unmoved (arc_value part.now)) (record {
-      bytes = written.new.bytes.items;
-      defined = written.new.defined;
-      last = after;
-      kept = kept.new;
-    })) }
+) -> Result<(), NoMemory>
+    ensures { OnOk result (IsDone pushed.now turn done.old (map unmoved (arc_value part.now))
+        done.new) }
 {
     if !keeps_all(part, pushed, turn) {
-        return tell_marks(written, turn, id, pushed, last, part, kept);
+        return tell_marks(done, turn, pushed, part);
     }
     if !is_undue(part, pushed, turn) {
-        return tell_part(written, turn, id, pushed, last, part, kept);
+        if !part.has_room(turn.now) {
+            return tell_marks(done, turn, pushed, part);
+        }
+        return tell_part(alloc, done, turn, pushed, part);
     }
-    kept.take_over(part)?;
-    Ok(last)
+    done.kept.take_over(part)
 }
 
-// Tells a part in which no key moved, key by key, and gives the id of the last update.
-fn tell_marks(
-    written: &mut Written,
-    turn: Turn,
-    id: u64,
-    pushed: &Pushed,
-    last: u32,
-    part: &Part,
-    kept: &mut Packing,
-) -> Result<u32, NoMemory>
-    ensures { IfOk result (λ after. IsDone id pushed.now turn (record {
-      bytes = written.old.bytes.items;
-      defined = written.old.defined;
-      last = last;
-      kept = kept.old;
-    }) (map unmoved part.now) (record {
-      bytes = written.new.bytes.items;
-      defined = written.new.defined;
-      last = after;
-      kept = kept.new;
-    })) }
+// Tells a part in which no key moved, key by key.
+fn tell_marks(done: &mut Done, turn: Turn, pushed: &Pushed, part: &Part) -> Result<(), NoMemory>
+    ensures { OnOk result (IsDone pushed.now turn done.old (map unmoved part.now) done.new) }
 {
-    let mut last = last;
     let mut left = part.lend();
     while let Some((mark, rest)) = left.split_first() {
-        let standing = standing_on(mark);
-        last = say(written, turn, id, pushed, last, standing)?;
-        keep(kept, turn, pushed, standing)?;
+        done.tell(turn, pushed, standing_on(mark))?;
         left = rest;
     }
-    Ok(last)
+    Ok(())
 }
 
-// Tells a part in which no key moved and no mark is dropped, and gives the id of the last update.
+// Tells a part in which no key moved and no mark is dropped.
 fn tell_part(
-    written: &mut Written,
+    alloc: Global,
+    done: &mut Done,
     turn: Turn,
-    id: u64,
     pushed: &Pushed,
-    last: u32,
     part: &Part,
-    kept: &mut Packing,
-) -> Result<u32, NoMemory>
+) -> Result<(), NoMemory>
     requires { AllByRecursion (λ mark. IsKept pushed.now turn mark) part.now }
-    ensures { IfOk result (λ after. IsDone id pushed.now turn (record {
-      bytes = written.old.bytes.items;
-      defined = written.old.defined;
-      last = last;
-      kept = kept.old;
-    }) (map unmoved part.now) (record {
-      bytes = written.new.bytes.items;
-      defined = written.new.defined;
-      last = after;
-      kept = kept.new;
-    })) }
+    ensures { OnOk result (IsDone pushed.now turn done.old (map unmoved part.now) done.new) }
 {
-    let mut last = last;
     let mut least = Least::NONE;
-    let mut puts = Vec::with_capacity(*written.bytes.allocator(), part.len())?;
+    let mut puts = Vec::with_capacity(alloc, part.len())?;
     let mut left = part.lend();
     while let Some((mark, rest)) = left.split_first() {
-        last = say(written, turn, id, pushed, last, standing_on(mark))?;
+        say(&mut done.changes, turn, pushed, standing_on(mark))?;
         let put = put_again(pushed, turn, mark.is_in, mark.put);
         puts.push(put)?;
         least = least.with(mark.is_in, put);
         left = rest;
     }
-    kept.add(part.renewed(puts, least)?)?;
-    Ok(last)
+    done.kept.add(part.renewed(puts.as_slice(), least)?)
 }

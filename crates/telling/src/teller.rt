@@ -1,19 +1,21 @@
 //! What one connection was told, and its turns.
 
-ghost use Rattle.std.specs.Prelude.{◌≡◌, [], List, ℕ, map, slice_get, IfOk, IsTrue, OnOk, OnErr};
+ghost use Rattle.std.specs.Prelude.{◌≡◌, ◌++◌, [], List, ℕ, map, true, false};
+ghost use Rattle.std.specs.Prelude.{IfOk, IsTrue, OnOk, OnErr};
 ghost use Rattle.telling.specs.Moves.{AreMovedTo};
-ghost use Rattle.std.specs.Option.{option_copied};
 ghost use Rattle.telling.specs.Packed.{marks_of};
-ghost use Rattle.telling.specs.Telling.{asked, defined_before, first_definitions, text_of};
+ghost use Rattle.telling.specs.Down.{defined_behind};
+ghost use Rattle.telling.specs.Telling.{asked, defined_before, first_definitions, turn_messages};
 ghost use Rattle.telling.specs.Telling.{keys_told, told_after, told_keys, turn_at, turn_text};
 ghost use Rattle.telling.specs.Telling.{untold};
+ghost use Rattle.telling.specs.Unsaid.{undefined_from, unsaid_messages, unsaid_updates};
 
 use crate::change::{Turn, is_told};
 use crate::idle::are_idle;
 use crate::marks::Packed;
 use crate::saying::tell_all_moved;
-use crate::turning::{are_quiet, define_all, tell_all, told_at};
-use crate::written::Written;
+use crate::turning::{are_quiet, tell_all, told_at};
+use crate::unsaid::{Unsaid, UnsaidTable, defined_behind, table_at};
 use crate::{Moved, Pushed, ToldTable};
 use agg_types::{Items, Key, NoMemory};
 use std::alloc::Global;
@@ -88,18 +90,44 @@ impl Teller {
             return Ok(Vec::new(self.alloc));
         }
         let turn = self.turn_at(now);
-        let mut written = self.begin(pushed)?;
-        let tables = tell_all(&mut written, turn, pushed, sets, self.tables.as_slice())?;
-        self.tables = tables;
-        self.defined = written.defined;
-        self.begun = true;
-        self.anew = false;
-        Ok(written.bytes)
+        let (left, tables) = tell_all(self.alloc, turn, pushed, sets, self.tables.as_slice())?;
+        let (unsaid, defined) = self.unsaid_of(pushed, left);
+        let text = unsaid.text(pushed)?;
+        self.settle(tables, defined);
+        Ok(text)
     }
 
-    /// Makes the turn that `turn` makes over the sets that these moves come to, at their moment, in
-    /// ms, and gives the bytes to write. After `NoMemory` nothing of it is told, and the teller is
-    /// as it was.
+    /// Makes the turn that `turn` makes, and gives what it has to write in place of its bytes, for
+    /// `Unsaid::write` to write piece by piece: of each key that is to be written its bytes and two
+    /// more. After `NoMemory` nothing is told, and the teller is as it was.
+    ///
+    /// A turn that writes nothing takes no memory where the marks stay as they are.
+    pub fn begin(
+        &mut self,
+        pushed: &[Pushed],
+        sets: &[Vec<&Key>],
+        now: u64,
+    ) -> Result<Unsaid, NoMemory>
+        ensures said { IfOk result (λ left. unsaid_messages pushed.now left
+            ≡ turn_messages pushed.now (map (λ set. map (λ key. key.now) set.items) sets.now) now
+            self.old) }
+        ensures told { OnOk result (self.new ≡ told_after pushed.now
+            (map (λ set. map (λ key. key.now) set.items) sets.now) now self.old) }
+        ensures err { OnErr result (self.new ≡ self.old) }
+    {
+        if self.is_quiet(pushed, sets, now) {
+            return Ok(Unsaid::none(self.alloc));
+        }
+        let turn = self.turn_at(now);
+        let (left, tables) = tell_all(self.alloc, turn, pushed, sets, self.tables.as_slice())?;
+        let (unsaid, defined) = self.unsaid_of(pushed, left);
+        self.settle(tables, defined);
+        Ok(unsaid)
+    }
+
+    /// Makes the turn that `begin` makes over the sets that these moves come to, at their moment,
+    /// in ms, and gives what it has to write. After `NoMemory` nothing of it is told, and the
+    /// teller is as it was.
     ///
     /// Of each table the moves are the keys that came into its set or left it since the last turn,
     /// in any order. Of a key that is named more than once the last word counts. That set is what
@@ -108,33 +136,34 @@ impl Teller {
     /// A turn goes through what moved, and through the parts of what was told in which a key moved
     /// or is due, or the life of one that left has gone by. The other parts it passes. A turn in
     /// which nothing moved and no part is gone through takes no memory.
-    pub fn turn_by(
+    pub fn begin_by(
         &mut self,
         pushed: &[Pushed],
         moves: &[Vec<Moved<'_>>],
         now: u64,
-    ) -> Result<Vec<u8>, NoMemory>
-        ensures text { IfOk result (λ text. (sets : List (List (List ℕ)))
-            → AreMovedTo pushed.now (map (λ ms. ms.items) moves.now)
-            self.old.tables sets
-            → text.items ≡ turn_text pushed.now sets now self.old) }
+    ) -> Result<Unsaid, NoMemory>
+        ensures said { IfOk result (λ left. (sets : List (List (List ℕ)))
+            → AreMovedTo pushed.now (map (λ ms. ms.items) moves.now) self.old.tables sets
+            → unsaid_messages pushed.now left ≡ turn_messages pushed.now sets now self.old) }
         ensures told { OnOk result ((sets : List (List (List ℕ)))
-            → AreMovedTo pushed.now (map (λ ms. ms.items) moves.now)
-            self.old.tables sets
+            → AreMovedTo pushed.now (map (λ ms. ms.items) moves.now) self.old.tables sets
             → self.new ≡ told_after pushed.now sets now self.old) }
         ensures err { OnErr result (self.new ≡ self.old) }
     {
         if self.is_idle(pushed, moves, now) {
-            return Ok(Vec::new(self.alloc));
+            return Ok(Unsaid::none(self.alloc));
         }
         let turn = self.turn_at(now);
-        let mut written = self.begin(pushed)?;
-        let tables = tell_all_moved(&mut written, turn, pushed, moves, self.tables.as_slice())?;
-        self.tables = tables;
-        self.defined = written.defined;
-        self.begun = true;
-        self.anew = false;
-        Ok(written.bytes)
+        let (left, tables) = tell_all_moved(
+            self.alloc,
+            turn,
+            pushed,
+            moves,
+            self.tables.as_slice(),
+        )?;
+        let (unsaid, defined) = self.unsaid_of(pushed, left);
+        self.settle(tables, defined);
+        Ok(unsaid)
     }
 
     /// The keys of a pushed table, by its place, that are told at a moment, in ms: put and not
@@ -170,7 +199,7 @@ impl Teller {
 
     // Whether a turn writes nothing and leaves all as it is.
     fn is_quiet(&self, pushed: &[Pushed], sets: &[Vec<&Key>], now: u64) -> bool
-        ensures text { IsTrue result → turn_text pushed.now
+        ensures said { IsTrue result → turn_messages pushed.now
             (map (λ set. map (λ key. key.now) set.items) sets.now) now self.now ≡ [] }
         ensures told { IsTrue result → told_after pushed.now
             (map (λ set. map (λ key. key.now) set.items) sets.now) now self.now ≡ self.now }
@@ -183,9 +212,9 @@ impl Teller {
 
     // Whether a turn by moves writes nothing and leaves all as it is.
     fn is_idle(&self, pushed: &[Pushed], moves: &[Vec<Moved<'_>>], now: u64) -> bool
-        ensures text { IsTrue result → (sets : List (List (List ℕ)))
+        ensures said { IsTrue result → (sets : List (List (List ℕ)))
             → AreMovedTo pushed.now (map (λ ms. ms.items) moves.now) self.now.tables sets
-            → turn_text pushed.now sets now self.now ≡ [] }
+            → turn_messages pushed.now sets now self.now ≡ [] }
         ensures told { IsTrue result → (sets : List (List (List ℕ)))
             → AreMovedTo pushed.now (map (λ ms. ms.items) moves.now) self.now.tables sets
             → told_after pushed.now sets now self.now ≡ self.now }
@@ -196,26 +225,49 @@ impl Teller {
         are_idle(self.turn_at(now), pushed, moves, self.tables.as_slice())
     }
 
-    // What stands before the updates of a turn: before the first all definitions.
-    fn begin(&self, pushed: &[Pushed]) -> Result<Written, NoMemory>
-        ensures bytes { IfOk result (λ written. written.bytes.items
-            ≡ text_of (first_definitions pushed.now self.now)) }
-        ensures defined { IfOk result (λ written. written.defined
-            ≡ defined_before pushed.now self.now) }
+    // What a turn has to write that took down this, and the table that is defined last behind it.
+    fn unsaid_of(&self, pushed: &[Pushed], tables: Vec<UnsaidTable>) -> (Unsaid, u64)
+        ensures left { unsaid_messages pushed.now result.0
+            ≡ first_definitions pushed.now self.now ++ unsaid_updates
+            (defined_before pushed.now self.now) 0 pushed.now tables.items }
+        ensures defined { result.1
+            ≡ defined_behind (defined_before pushed.now self.now) 0 tables.items }
     {
-        let mut written = Written::new(self.alloc, self.defined);
-        if !self.begun {
-            define_all(pushed, &mut written)?;
-        }
-        Ok(written)
+        let (undefined, defined) = self.before(pushed);
+        let last = defined_behind(defined, tables.as_slice());
+        (Unsaid::of(undefined, defined, tables), last)
     }
-}
 
-// The pushed table at a place.
-fn table_at(pushed: &[Pushed], place: usize) -> Option<&Pushed>
-    ensures { option_copied result ≡ slice_get pushed.now place }
-{
-    pushed.get(place)
+    // The place of the first table whose definition the next turn begins with, and the table that
+    // is defined last before its updates: before the first turn all are defined.
+    fn before(&self, pushed: &[Pushed]) -> (Option<usize>, u64)
+        ensures first { undefined_from pushed.now result.0
+            ≡ first_definitions pushed.now self.now }
+        ensures defined { result.1 ≡ defined_before pushed.now self.now }
+    {
+        if self.begun {
+            return (None, self.defined);
+        }
+        if pushed.is_empty() {
+            return (None, 0);
+        }
+        (Some(0), pushed.len() as u64)
+    }
+
+    // A turn is made.
+    fn settle(&mut self, tables: Items<ToldTable>, defined: u64)
+        ensures { self.new ≡ record {
+          tables = tables;
+          defined = defined;
+          begun = true;
+          anew = false;
+        } }
+    {
+        self.tables = tables;
+        self.defined = defined;
+        self.begun = true;
+        self.anew = false;
+    }
 }
 
 // The keys that these marks tell at a moment.

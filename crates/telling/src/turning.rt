@@ -1,94 +1,72 @@
 //! What a turn does about tables.
 
-ghost use Rattle.std.specs.Prelude.{◌≡◌, ◌+◌, ◌++◌, ◌<◌, ◌^◌, []};
-ghost use Rattle.std.specs.Prelude.{ℕ, length, map, slice_index_or, IfOk};
-ghost use Rattle.std.specs.Prelude.{IfSome, IsTrue, OnOk};
+ghost use Rattle.std.specs.Prelude.{◌≡◌, []};
+ghost use Rattle.std.specs.Prelude.{ℕ, map, slice_index_or, IfOk};
+ghost use Rattle.std.specs.Prelude.{IfSome, IsTrue};
 ghost use Rattle.telling.specs.Packed.{marks_of};
 ghost use Rattle.telling.specs.Passed.{AreAbove, IsBehindQuiet};
 ghost use Rattle.telling.specs.Rules.{IsStillFrom};
 ghost use Rattle.telling.specs.Told.{no_table};
-ghost use Rattle.telling.specs.Telling.{defined_after, last_defined, table_turn, table_turns};
-ghost use Rattle.telling.specs.Telling.{text_of, update_messages, with_definition, AreQuiet};
-ghost use Rattle.telling.specs.Telling.{definitions, last_after, key_change, key_mark, updates};
-ghost use Rattle.telling.specs.Stands.{shown, stands};
+ghost use Rattle.telling.specs.Telling.{last_defined, table_turn, table_turns, update_messages};
+ghost use Rattle.telling.specs.Telling.{AreQuiet};
+ghost use Rattle.telling.specs.Stands.{stands};
+ghost use Rattle.telling.specs.Down.{unsaid_table, unsaid_tables};
 
-use crate::change::{Turn, change_of, is_held, put_after, still_from};
-use crate::marks::{Packed, Packing};
-use crate::stands::{Standing, Stands};
-use crate::written::Written;
+use crate::change::{Turn, is_held, still_from};
+use crate::done::Done;
+use crate::marks::Packed;
+use crate::stands::Stands;
+use crate::unsaid::UnsaidTable;
 use crate::{Pushed, ToldTable};
 use agg_types::{Items, Key, NoMemory};
 use std::alloc::Global;
 use std::cmp::Ordering;
 
-/// Writes the definitions of these tables.
-pub fn define_all(pushed: &[Pushed], written: &mut Written) -> Result<(), NoMemory>
-    ensures bytes { OnOk result (written.new.bytes.items
-        ≡ written.old.bytes.items ++ text_of (definitions 0 pushed.now)) }
-    ensures defined { OnOk result (written.new.defined ≡ length pushed.now) }
-{
-    for (before, table) in pushed.iter().enumerate() {
-        written.define(before as u64 + 1, table)?;
-    }
-    written.defined = pushed.len() as u64;
-    Ok(())
-}
-
-/// Tells each table what has changed of its set, and gives what was told of each behind it.
+/// Takes down of each table what has changed of its set: what is to be written, and what is told of
+/// it behind that.
 pub fn tell_all(
-    written: &mut Written,
+    alloc: Global,
     turn: Turn,
     pushed: &[Pushed],
     sets: &[Vec<&Key>],
     told: &[ToldTable],
-) -> Result<Items<ToldTable>, NoMemory>
-    ensures bytes { OnOk result (written.new.bytes.items ≡ written.old.bytes.items
-        ++ text_of (update_messages written.old.defined
-        (table_turns turn (map (λ set. map (λ key. key.now) set.items) sets.now) told.now 0
-        pushed.now))) }
-    ensures defined { OnOk result (written.new.defined
-        ≡ last_defined written.old.defined
-        (table_turns turn (map (λ set. map (λ key. key.now) set.items) sets.now) told.now 0
-        pushed.now)) }
-    ensures tables { IfOk result (λ tables. tables ≡ map (λ table. table.after)
+) -> Result<(Vec<UnsaidTable>, Items<ToldTable>), NoMemory>
+    ensures unsaid { IfOk result (λ tables. tables.0.items ≡ unsaid_tables turn
+        (map (λ set. map (λ key. key.now) set.items) sets.now) told.now 0 pushed.now) }
+    ensures after { IfOk result (λ tables. tables.1 ≡ map (λ table. table.after)
         (table_turns turn (map (λ set. map (λ key. key.now) set.items) sets.now) told.now 0
         pushed.now)) }
 {
-    let mut tables = Vec::new(*written.bytes.allocator());
+    let mut unsaid = Vec::new(alloc);
+    let mut tables = Vec::new(alloc);
     for (before, table) in pushed.iter().enumerate() {
-        tables.push(tell_at(written, turn, before, table, sets, told)?)?;
+        let (left, after) = tell_at(alloc, turn, before, table, sets, told)?;
+        unsaid.push(left)?;
+        tables.push(after)?;
     }
-    Ok(Items::from_vec(tables))
+    Ok((unsaid, Items::from_vec(tables)))
 }
 
-// Tells a table, by its place, what has changed of its set, and gives what was told behind it.
+// Takes down of a table, by its place, what has changed of its set.
 fn tell_at(
-    written: &mut Written,
+    alloc: Global,
     turn: Turn,
     place: usize,
     pushed: &Pushed,
     sets: &[Vec<&Key>],
     told: &[ToldTable],
-) -> Result<ToldTable, NoMemory>
-    requires { place < 2 ^ 63 }
-    ensures bytes { OnOk result (written.new.bytes.items ≡ written.old.bytes.items
-        ++ text_of (with_definition written.old.defined (place + 1) pushed.now
-        (table_turn turn (place + 1) pushed.now
+) -> Result<(UnsaidTable, ToldTable), NoMemory>
+    ensures unsaid { IfOk result (λ tables. tables.0 ≡ unsaid_table turn pushed.now
         (slice_index_or (map (λ set. map (λ key. key.now) set.items) sets.now) place [])
-        (slice_index_or told.now place no_table)).updates)) }
-    ensures defined { OnOk result (written.new.defined
-        ≡ defined_after written.old.defined (place + 1) (table_turn turn (place + 1) pushed.now
-        (slice_index_or (map (λ set. map (λ key. key.now) set.items) sets.now) place [])
-        (slice_index_or told.now place no_table)).updates) }
-    ensures after { IfOk result (λ after. after ≡ (table_turn turn (place + 1) pushed.now
+        (slice_index_or told.now place no_table)) }
+    ensures after { IfOk result (λ tables. (id : ℕ) → tables.1 ≡ (table_turn turn id pushed.now
         (slice_index_or (map (λ set. map (λ key. key.now) set.items) sets.now) place [])
         (slice_index_or told.now place no_table)).after) }
 {
-    let id = place as u64 + 1;
     let (last, marks) = told_at(told, place);
     match sets.get(place) {
-        None => tell(written, turn, id, pushed, &[], last, marks),
-        Some(set) => tell(written, turn, id, pushed, set.as_slice(), last, marks),
+        None => tell(alloc, turn, pushed, &[], last, marks),
+        Some(set) => tell(alloc, turn, pushed, set.as_slice(), last, marks),
     }
 }
 
@@ -103,77 +81,26 @@ pub fn told_at(told: &[ToldTable], place: usize) -> (u32, Packed<'_>)
     (table.last, table.marks.lend())
 }
 
-/// Tells a table, by its id, what has changed of its set, and gives what was told behind it.
-pub fn tell(
-    written: &mut Written,
+// Takes down of a table what has changed of its set.
+fn tell(
+    alloc: Global,
     turn: Turn,
-    id: u64,
     pushed: &Pushed,
     set: &[&Key],
     last: u32,
     marks: Packed<'_>,
-) -> Result<ToldTable, NoMemory>
-    ensures bytes { OnOk result (written.new.bytes.items ≡ written.old.bytes.items
-        ++ text_of (with_definition written.old.defined id pushed.now
-        (table_turn turn id pushed.now (map (λ key. key.now) set.now)
-        (record { last = last; marks = marks_of marks.entry })).updates)) }
-    ensures defined { OnOk result (written.new.defined ≡ defined_after written.old.defined id
-        (table_turn turn id pushed.now (map (λ key. key.now) set.now)
-        (record { last = last; marks = marks_of marks.entry })).updates) }
-    ensures after { IfOk result (λ after. after
-        ≡ (table_turn turn id pushed.now (map (λ key. key.now) set.now)
+) -> Result<(UnsaidTable, ToldTable), NoMemory>
+    ensures unsaid { IfOk result (λ tables. tables.0 ≡ unsaid_table turn pushed.now
+        (map (λ key. key.now) set.now) (record { last = last; marks = marks_of marks.entry })) }
+    ensures after { IfOk result (λ tables. (id : ℕ) → tables.1 ≡ (table_turn turn id pushed.now
+        (map (λ key. key.now) set.now)
         (record { last = last; marks = marks_of marks.entry })).after) }
 {
-    let mut last = last;
-    let alloc = *written.bytes.allocator();
-    let mut kept = Packing::new(alloc);
+    let mut done = Done::new(alloc);
     for standing in Stands::new(set, marks) {
-        last = say(written, turn, id, pushed, last, standing)?;
-        keep(&mut kept, turn, pushed, standing)?;
+        done.tell(turn, pushed, standing)?;
     }
-    let marks = kept.finish()?;
-    Ok(ToldTable { last, marks })
-}
-
-/// Writes what has changed of a key, and gives the id of the last update.
-pub fn say(
-    written: &mut Written,
-    turn: Turn,
-    id: u64,
-    pushed: &Pushed,
-    last: u32,
-    standing: Standing<'_>,
-) -> Result<u32, NoMemory>
-    ensures bytes { OnOk result (written.new.bytes.items ≡ written.old.bytes.items
-        ++ text_of (with_definition written.old.defined id pushed.now
-        (updates pushed.now last (key_change pushed.now turn (shown standing.entry))))) }
-    ensures defined { OnOk result (written.new.defined ≡ defined_after written.old.defined id
-        (updates pushed.now last (key_change pushed.now turn (shown standing.entry)))) }
-    ensures last { IfOk result (λ id. id
-        ≡ last_after last (key_change pushed.now turn (shown standing.entry))) }
-{
-    let Some(change) = change_of(pushed, turn, standing.is_in, standing.put) else {
-        return Ok(last);
-    };
-    let next = last.wrapping_add(1);
-    written.tell(id, pushed, next, standing.key, change)?;
-    Ok(next)
-}
-
-/// Keeps the mark of a key that is told behind the turn.
-pub fn keep(
-    marks: &mut Packing,
-    turn: Turn,
-    pushed: &Pushed,
-    standing: Standing<'_>,
-) -> Result<(), NoMemory>
-    ensures { OnOk result (marks.new
-        ≡ marks.old ++ key_mark pushed.now turn (shown standing.entry)) }
-{
-    let Some(put) = put_after(pushed, turn, standing.is_in, standing.put) else {
-        return Ok(());
-    };
-    marks.push(standing.key, put, standing.is_in)
+    done.finish(last)
 }
 
 /// Whether a turn writes nothing about these tables and leaves each as it is.

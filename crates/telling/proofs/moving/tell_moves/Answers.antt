@@ -1,103 +1,56 @@
-use Rattle.std.proofs.Common.{[], List, subst, ◌∙◌}
+use Rattle.std.proofs.Common.{[], subst, ap, ◌∙◌}
+use Rattle.std.proofs.lemmas.Result.{IfOk-weaker}
+use Rattle.telling.specs.Moves.{AreInOrder, marked, moved_stands}
 use Rattle.telling.specs.Packed.{marks_of}
-use Rattle.telling.specs.Passed.{ArePassed, Done}
+use Rattle.telling.specs.Passed.{ArePassed, IsDone}
 use Rattle.telling.specs.Stands.{shown}
-use Rattle.telling.specs.declared.told.Mark.{Mark}
+use Rattle.telling.specs.Telling.{last_after}
+use Rattle.telling.specs.declared.done.Done.{Done}
 use Rattle.telling.proofs.Through.{all_left, left_done, left_first, left_passed}
 use Rattle.telling.proofs.moving.tell_moves.Goals as goal
 
+abbrev start : Done
+start = record { changes = []; kept = [] }
+
 pub loop-standing-init : goal.loop-standing-init
 loop-standing-init c = λ order.
-    let start : Done = record {
-      bytes = c.args.written.now.bytes.items;
-      defined = c.args.written.now.defined;
-      last = c.args.last;
-      kept = [];
-    } in
-    let new : Done = record {
-      bytes = c.pass_parts.new.written.bytes.items;
-      defined = c.pass_parts.new.written.defined;
-      last = c.in_ok-last.last;
-      kept = c.pass_parts.new.kept;
-    } in
-    let passed : ArePassed c.args.id c.args.pushed.now c.args.turn c.args.moves.now
-    (marks_of c.args.marks) (marks_of c.in_ok-last.marks) start new =
-    subst (λ (old : List Mark). ArePassed c.args.id c.args.pushed.now c.args.turn c.args.moves.now
-    (marks_of c.args.marks) (marks_of c.in_ok-last.marks) (record {
-      bytes = c.args.written.now.bytes.items;
-      defined = c.args.written.now.defined;
-      last = c.args.last;
-      kept = old;
-    }) new) c.new-kept.ensures c.in_ok-last.ensures in
-    left_passed c.args.id c.args.pushed.now c.args.turn c.args.moves.now (marks_of c.args.marks)
-    (marks_of c.in_ok-last.marks) start new c.args.moves.now (marks_of c.args.marks) start passed
-    (all_left c.args.id c.args.pushed.now c.args.turn c.args.moves.now (marks_of c.args.marks)
-    start order)
+    let passed : ArePassed c.args.pushed.now c.args.turn c.args.moves.now
+    (marks_of c.args.marks) (marks_of c.in_ok-marks.marks) start c.pass_parts.new.done =
+    subst (λ (old : Done). ArePassed c.args.pushed.now c.args.turn c.args.moves.now
+    (marks_of c.args.marks) (marks_of c.in_ok-marks.marks) old c.pass_parts.new.done)
+    c.new-done.ensures c.in_ok-marks.ensures in
+    left_passed c.args.pushed.now c.args.turn c.args.moves.now (marks_of c.args.marks)
+    (marks_of c.in_ok-marks.marks) start c.pass_parts.new.done c.args.moves.now
+    (marks_of c.args.marks) start passed
+    (all_left c.args.pushed.now c.args.turn c.args.moves.now (marks_of c.args.marks) start order)
 
 pub loop-standing-preserved : goal.loop-standing-preserved
 loop-standing-preserved c = λ order.
-    let start : Done = record {
-      bytes = c.args.written.now.bytes.items;
-      defined = c.args.written.now.defined;
-      last = c.args.last;
-      kept = [];
-    } in
-    let at : Done = record {
-      bytes = c.loop-standing.written.bytes.items;
-      defined = c.loop-standing.written.defined;
-      last = c.loop-standing.last;
-      kept = c.loop-standing.kept;
-    } in
-    let mid : Done = record {
-      bytes = c.say.new.written.bytes.items;
-      defined = c.say.new.written.defined;
-      last = c.in_ok-id_said.id_said;
-      kept = c.keep.new.marks;
-    } in
-    let new : Done = record {
-      bytes = c.pass_parts-in-Some.new.written.bytes.items;
-      defined = c.pass_parts-in-Some.new.written.defined;
-      last = c.in_ok-id_passed.id_passed;
-      kept = c.pass_parts-in-Some.new.kept;
-    } in
-    left_passed c.args.id c.args.pushed.now c.args.turn c.in-Some.behind.moves.now
-    (marks_of c.in-Some.behind.marks) (marks_of c.in_ok-id_passed.marks) mid new c.args.moves.now
-    (marks_of c.args.marks) start c.in_ok-id_passed.ensures
-    (left_first c.args.id c.args.pushed.now c.args.turn c.loop-standing.left.moves.now
+    left_passed c.args.pushed.now c.args.turn c.in-Some.behind.moves.now
+    (marks_of c.in-Some.behind.marks) (marks_of c.in_ok-marks-2.marks) c.tell.new.self
+    c.pass_parts-in-Some.new.done c.args.moves.now (marks_of c.args.marks) start
+    c.in_ok-marks-2.ensures
+    (left_first c.args.pushed.now c.args.turn c.loop-standing.left.moves.now
     c.in-Some.behind.moves.now (marks_of c.loop-standing.left.marks)
-    (marks_of c.in-Some.behind.marks) at mid (shown c.in-Some.standing) c.args.moves.now
-    (marks_of c.args.marks) start c.in-Some.ensures.stands c.in-Some.ensures.order
-    c.in_ok-id_said.ensures.bytes c.in_ok-id_said.ensures.defined c.in_ok-id_said.ensures.last
-    c.in_ok-keep.ensures (c.loop-standing.invariant order))
+    (marks_of c.in-Some.behind.marks) c.loop-standing.done c.tell.new.self
+    (shown c.in-Some.standing) c.args.moves.now (marks_of c.args.marks) start
+    c.in-Some.ensures.stands c.in-Some.ensures.order c.in_ok-tell.ensures
+    (c.loop-standing.invariant order))
 
-pub returns-clause-bytes : goal.returns-clause-bytes
-returns-clause-bytes c = λ order.
-    (left_done c.args.id c.args.pushed.now c.args.turn c.loop-standing.left.moves.now
-    (marks_of c.loop-standing.left.marks) (record {
-      bytes = c.loop-standing.written.bytes.items;
-      defined = c.loop-standing.written.defined;
-      last = c.loop-standing.last;
-      kept = c.loop-standing.kept;
-    }) _ _ _ c.in_default.ensures.stands (c.loop-standing.invariant order)).bytes
+all_done : (c : goal.After-finish) → AreInOrder (marked (marks_of c.args.marks))
+    → IsDone c.args.pushed.now c.args.turn start
+    (moved_stands c.args.moves.now (marks_of c.args.marks)) c.loop-standing.done
+all_done c order =
+    left_done c.args.pushed.now c.args.turn c.loop-standing.left.moves.now
+    (marks_of c.loop-standing.left.marks) c.loop-standing.done c.args.moves.now
+    (marks_of c.args.marks) start c.in_default.ensures.stands (c.loop-standing.invariant order)
 
-pub returns-clause-defined : goal.returns-clause-defined
-returns-clause-defined c = λ order.
-    (left_done c.args.id c.args.pushed.now c.args.turn c.loop-standing.left.moves.now
-    (marks_of c.loop-standing.left.marks) (record {
-      bytes = c.loop-standing.written.bytes.items;
-      defined = c.loop-standing.written.defined;
-      last = c.loop-standing.last;
-      kept = c.loop-standing.kept;
-    }) _ _ _ c.in_default.ensures.stands (c.loop-standing.invariant order)).defined
+pub returns-clause-unsaid : goal.returns-clause-unsaid
+returns-clause-unsaid c = IfOk-weaker c.finish.result _ _ (λ tables h order.
+    h ∙ (λ i. record { last = c.args.last; changes = (all_done c order).said i }))
+    c.finish.ensures.unsaid
 
 pub returns-clause-after : goal.returns-clause-after
-returns-clause-after c = λ order.
-    let done = left_done c.args.id c.args.pushed.now c.args.turn c.loop-standing.left.moves.now
-    (marks_of c.loop-standing.left.marks) (record {
-      bytes = c.loop-standing.written.bytes.items;
-      defined = c.loop-standing.written.defined;
-      last = c.loop-standing.last;
-      kept = c.loop-standing.kept;
-    }) _ _ _ c.in_default.ensures.stands (c.loop-standing.invariant order) in
-    let marks = c.in_ok-marks.ensures ∙ done.kept in
-    λ i. record { last = done.last i; marks = marks i }
+returns-clause-after c = IfOk-weaker c.finish.result _ _ (λ tables h order.
+    let last = ap (last_after c.args.last) (all_done c order).said in
+    h ∙ (λ i. record { last = last i; marks = (all_done c order).kept i })) c.finish.ensures.told

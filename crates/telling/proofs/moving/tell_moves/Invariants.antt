@@ -4,21 +4,12 @@ use Rattle.telling.specs.Packed.{marks_of}
 use Rattle.telling.proofs.Through.{AreLeft}
 use Rattle.telling.proofs.moving.tell_moves.Given as goal
 
--- what is left makes of what is done what all made of what there was
+-- what is left makes of what is done what all made of nothing
 abbrev pub invariant-loop-standing : goal.invariant-loop-standing
 invariant-loop-standing l =
-    AreInOrder (marked (marks_of l.fn.marks)) → AreLeft l.id l.pushed l.turn l.left.moves.now
-    (marks_of l.left.marks) (record {
-      bytes = l.written.bytes.items;
-      defined = l.written.defined;
-      last = l.last;
-      kept = l.kept;
-    }) l.fn.moves (marks_of l.fn.marks) (record {
-      bytes = l.fn.written.bytes.items;
-      defined = l.fn.written.defined;
-      last = l.fn.last;
-      kept = [];
-    })
+    AreInOrder (marked (marks_of l.fn.marks)) → AreLeft l.pushed l.turn l.left.moves.now
+    (marks_of l.left.marks) l.done l.fn.moves (marks_of l.fn.marks)
+    (record { changes = []; kept = [] })
 
 abbrev pub decreases-loop-standing : goal.decreases-loop-standing
 decreases-loop-standing l = length l.left.moves.now + length (marks_of l.left.marks)

@@ -1,4 +1,5 @@
-use Rattle.std.proofs.Common.{subst, List}
+use Rattle.std.proofs.Common.{subst, List, refl}
+use Rattle.std.proofs.lemmas.Result.{on_ok_weaker}
 use Rattle.std.specs.Arc.{arc_value}
 use Rattle.std.specs.List.{AllByRecursion}
 use Rattle.telling.specs.Passed.{IsKept, IsUndue}
@@ -18,6 +19,6 @@ returns c =
     subst (λ (ms : List Mark). AllByRecursion
     (λ mark. IsUndue c.args.pushed.now c.args.turn mark) ms)
     c.deref-2.ensures (c.is_undue.ensures c.if-not-is_undue.false) in
-    done_quiet c.args.id c.args.pushed.now c.args.turn c.args.written.now.bytes.items
-    c.args.written.now.defined c.args.last c.args.kept.now c.take_over.new.self part
-    (quiet_part c.args.pushed.now c.args.turn part kept undue) c.in_ok-take_over.ensures
+    on_ok_weaker c.take_over.result (λ h. done_quiet c.args.pushed.now c.args.turn
+    c.args.done.now _ part (quiet_part c.args.pushed.now c.args.turn part kept undue) refl h)
+    c.take_over.ensures

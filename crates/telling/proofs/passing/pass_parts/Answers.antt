@@ -5,12 +5,7 @@ use Rattle.telling.proofs.passing.pass_parts.Goals as goal
 
 pub loop-part-preserved : goal.loop-part-preserved
 loop-part-preserved c =
-    one_passed c.args.id c.args.pushed.now c.args.turn c.args.moves.now (marks_of c.args.marks)
-    (marks_of c.loop-part.left) (marks_of c.in-Some.behind) (arc_value c.in-Some.part.now) _
-    (record {
-      bytes = c.loop-part.written.bytes.items;
-      defined = c.loop-part.written.defined;
-      last = c.loop-part.last;
-      kept = c.loop-part.kept;
-    }) _ c.loop-part.invariant c.in-Some.ensures.below c.in-Some.ensures.marks
-    c.in_ok-last.ensures
+    one_passed c.args.pushed.now c.args.turn c.args.moves.now (marks_of c.args.marks)
+    (marks_of c.loop-part.left) (marks_of c.in-Some.behind) (arc_value c.in-Some.part.now)
+    c.args.done.now c.loop-part.done _ c.loop-part.invariant c.in-Some.ensures.below
+    c.in-Some.ensures.marks c.in_ok-pass_part.ensures

@@ -7,17 +7,8 @@ use Rattle.telling.proofs.passing.tell_marks.Given as goal
 -- what the marks that are left make of what is done, all marks made of what there was
 abbrev pub invariant-loop-mark : goal.invariant-loop-mark
 invariant-loop-mark l =
-    (new : Done) → IsDone l.id l.pushed l.turn (record {
-      bytes = l.written.bytes.items;
-      defined = l.written.defined;
-      last = l.last;
-      kept = l.kept;
-    }) (map unmoved (in_lists l.left)) new → IsDone l.id l.pushed l.turn (record {
-      bytes = l.fn.written.bytes.items;
-      defined = l.fn.written.defined;
-      last = l.fn.last;
-      kept = l.fn.kept;
-    }) (map unmoved l.part) new
+    (new : Done) → IsDone l.pushed l.turn l.done (map unmoved (in_lists l.left)) new
+    → IsDone l.pushed l.turn l.fn.done (map unmoved l.part) new
 
 abbrev pub decreases-loop-mark : goal.decreases-loop-mark
 decreases-loop-mark l = length (in_lists l.left)

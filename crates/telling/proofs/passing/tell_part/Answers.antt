@@ -1,53 +1,38 @@
-use Rattle.std.proofs.Common.{◌∙◌, ◌++◌, ◌∷◌, [], ap, refl, ℕ}
-use Rattle.telling.specs.Packed.{in_lists, lent}
-use Rattle.telling.specs.Passed.{Done}
+use Rattle.std.proofs.Common.{◌∙◌, ◌++◌, ◌∷◌, [], ap, refl, subst, sym, ℕ, List}
+use Rattle.std.proofs.lemmas.Result.{on_ok_weaker}
+use Rattle.std.specs.List.{AllByRecursion}
+use Rattle.telling.specs.Packed.{IsFrom, in_lists, lent, with_puts}
 use Rattle.telling.specs.Stands.{Stand}
-use Rattle.telling.specs.Telling.{defined_after, key_change, last_after, text_of, updates}
-use Rattle.telling.specs.Telling.{with_definition}
+use Rattle.telling.specs.Telling.{key_change}
+use Rattle.telling.specs.declared.told.Mark.{Mark}
 use Rattle.telling.proofs.Through.{all_renewed, late_renewed, one_renewed}
 use Rattle.telling.proofs.passing.tell_part.Goals as goal
 
 pub loop-mark-preserved : goal.loop-mark-preserved
-loop-mark-preserved c =
-    let old : Done = record {
-      bytes = c.args.written.now.bytes.items;
-      defined = c.args.written.now.defined;
-      last = c.args.last;
-      kept = c.args.kept.now;
-    } in
-    one_renewed c.args.id c.args.pushed.now c.args.turn c.args.part.now
-    (in_lists c.loop-mark.left) (in_lists c.in-Some.rest) (lent c.in-Some.mark)
-    c.loop-mark.puts.items c.push.new.self.items c.loop-mark.least c.with-least.result old
-    c.loop-mark.written.bytes.items c.say.new.written.bytes.items c.loop-mark.written.defined
-    c.say.new.written.defined c.loop-mark.last c.in_ok-last.last c.loop-mark.invariant
-    c.in-Some.ensures
-    (c.in_ok-push.ensures.items
-    ∙ ap (λ (put : ℕ). c.loop-mark.puts.items ++ put ∷ []) c.put_again-put.ensures)
-    (rw (c.with-least.ensures, c.put_again-put.ensures) refl)
-    (c.in_ok-last.ensures.bytes ∙ ap (λ (stand : Stand). c.loop-mark.written.bytes.items
-    ++ text_of (with_definition c.loop-mark.written.defined c.args.id c.args.pushed.now
-    (updates c.args.pushed.now c.loop-mark.last (key_change c.args.pushed.now c.args.turn stand))))
-    c.standing_on.ensures)
-    (c.in_ok-last.ensures.defined ∙ ap (λ (stand : Stand). defined_after
-    c.loop-mark.written.defined c.args.id (updates c.args.pushed.now c.loop-mark.last
-    (key_change c.args.pushed.now c.args.turn stand))) c.standing_on.ensures)
-    (c.in_ok-last.ensures.last ∙ ap (λ (stand : Stand). last_after c.loop-mark.last
-    (key_change c.args.pushed.now c.args.turn stand)) c.standing_on.ensures)
+loop-mark-preserved c = record {
+  told = one_renewed c.args.pushed.now c.args.turn c.args.part.now (in_lists c.loop-mark.left)
+      (in_lists c.in-Some.rest) (lent c.in-Some.mark) c.loop-mark.puts.items c.push.new.self.items
+      c.loop-mark.least c.with-least.result c.args.done.now.changes c.loop-mark.done.changes
+      c.say.new.changes c.loop-mark.invariant.told c.in-Some.ensures
+      (c.in_ok-push.ensures.items
+      ∙ ap (λ (put : ℕ). c.loop-mark.puts.items ++ put ∷ []) c.put_again-put.ensures)
+      (rw (c.with-least.ensures, c.put_again-put.ensures) refl)
+      (c.in_ok-say.ensures ∙ ap (λ (stand : Stand). c.loop-mark.done.changes
+      ++ key_change c.args.pushed.now c.args.turn stand) c.standing_on.ensures);
+  kept = c.loop-mark.invariant.kept;
+}
 
 pub renewed-requires-clause-late : goal.renewed-requires-clause-late
 renewed-requires-clause-late c =
-    late_renewed _ _ _ _ _ _ _ _ _ _ _ c.loop-mark.invariant c.in_default.ensures
+    subst (λ (puts : List ℕ). AllByRecursion (λ mark. IsFrom c.loop-mark.least mark)
+    (with_puts c.args.part.now puts)) (sym c.as_slice.ensures.value)
+    (late_renewed _ _ _ _ _ _ _ _ c.loop-mark.invariant.told c.in_default.ensures)
 
 pub returns : goal.returns
 returns c =
-    let old : Done = record {
-      bytes = c.args.written.now.bytes.items;
-      defined = c.args.written.now.defined;
-      last = c.args.last;
-      kept = c.args.kept.now;
-    } in
-    all_renewed c.args.id c.args.pushed.now c.args.turn c.args.part.now (in_lists c.loop-mark.left)
-    c.loop-mark.puts.items c.loop-mark.least old c.loop-mark.written.bytes.items
-    c.loop-mark.written.defined c.loop-mark.last c.add.new.self c.in_ok-renewed.field-0
-    c.requires c.loop-mark.invariant c.in_default.ensures c.in_ok-renewed.ensures
-    c.in_ok-add.ensures
+    on_ok_weaker c.add.result (λ h. all_renewed c.args.pushed.now c.args.turn c.args.part.now
+    (in_lists c.loop-mark.left) c.loop-mark.puts.items c.loop-mark.least c.args.done.now _
+    c.in_ok-renewed.field-0 c.requires c.loop-mark.invariant.told c.in_default.ensures
+    (c.in_ok-renewed.ensures ∙ ap (with_puts c.args.part.now) c.as_slice.ensures.value)
+    (h ∙ ap (λ (ms : List Mark). ms ++ c.in_ok-renewed.field-0) c.loop-mark.invariant.kept))
+    c.add.ensures

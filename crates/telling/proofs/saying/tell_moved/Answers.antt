@@ -1,11 +1,10 @@
-use Rattle.std.proofs.Common.{◌≡◌, ◌∙◌, ◌++◌, ap, subst, sym, Bool, List, ℕ}
-use Rattle.std.proofs.lemmas.Result.{IfOk-weaker, on_ok_weaker}
+use Rattle.std.proofs.Common.{◌≡◌, ◌∙◌, ap, subst, sym, Bool, List, ℕ}
+use Rattle.std.proofs.lemmas.Result.{IfOk-weaker}
 use Rattle.telling.specs.Moves.{AreInOrder, BringsTo, moved_keys, moved_stands, said_of}
 use Rattle.telling.specs.Packed.{marks_of}
 use Rattle.telling.specs.Stands.{stands}
-use Rattle.telling.specs.Telling.{changes, defined_after, last_after, table_turn}
-use Rattle.telling.specs.Telling.{text_of, updates, with_definition}
-use Rattle.telling.specs.declared.change.Change.{Change}
+use Rattle.telling.specs.Down.{unsaid_table}
+use Rattle.telling.specs.Telling.{changes, last_after, table_turn}
 use Rattle.telling.specs.declared.moved.Moved.{Moved}
 use Rattle.telling.proofs.Turned.{same_changes, same_marks}
 use Rattle.telling.proofs.saying.tell_moved.Goals as goal
@@ -30,24 +29,15 @@ changes_are c set to =
     same_changes c.args.pushed.now c.args.turn c.args.moves.now c.as_slice.result.now
     (marks_of c.args.marks) set (order c) (said c) to
 
-pub returns-clause-bytes : goal.returns-clause-bytes
-unfolding table_turn
-returns-clause-bytes c = on_ok_weaker c.tell_moves.result (λ h set to.
-    h to.ordered ∙ ap (λ (cs : List (List ℕ × Change)). c.args.written.now.bytes.items
-    ++ text_of (with_definition c.args.written.now.defined c.args.id c.args.pushed.now
-    (updates c.args.pushed.now c.args.last cs))) (changes_are c set to))
-    c.tell_moves.ensures.bytes
-
-pub returns-clause-defined : goal.returns-clause-defined
-unfolding table_turn
-returns-clause-defined c = on_ok_weaker c.tell_moves.result (λ h set to.
-    h to.ordered ∙ ap (λ (cs : List (List ℕ × Change)). defined_after c.args.written.now.defined
-    c.args.id (updates c.args.pushed.now c.args.last cs)) (changes_are c set to))
-    c.tell_moves.ensures.defined
+pub returns-clause-unsaid : goal.returns-clause-unsaid
+unfolding unsaid_table
+returns-clause-unsaid c = IfOk-weaker c.tell_moves.result _ _ (λ tables h set to.
+    h to.ordered ∙ (λ i. record { last = c.args.last; changes = changes_are c set to i }))
+    c.tell_moves.ensures.unsaid
 
 pub returns-clause-after : goal.returns-clause-after
 unfolding table_turn
-returns-clause-after c = IfOk-weaker c.tell_moves.result _ _ (λ after h set to.
+returns-clause-after c = IfOk-weaker c.tell_moves.result _ _ (λ tables h set to id.
     let last = ap (last_after c.args.last) (changes_are c set to) in
     let marks = same_marks c.args.pushed.now c.args.turn c.args.moves.now c.as_slice.result.now
     (marks_of c.args.marks) set (order c) (said c) to in

@@ -1,60 +1,43 @@
-use Rattle.std.proofs.Common.{◌∷◌, ◌∙◌, sym, subst, List}
-use Rattle.telling.specs.Stands.{Stand, shown}
-use Rattle.telling.specs.Telling.{table_turn}
-use Rattle.telling.proofs.Left.{Done, IsDone, done_by, done_more}
+use Rattle.std.proofs.Common.{[], ◌∷◌, ◌∙◌, ap, map, sym, subst, List}
+use Rattle.std.proofs.lemmas.Result.{IfOk-weaker}
+use Rattle.telling.specs.Packed.{marks_of}
+use Rattle.telling.specs.Stands.{Stand, shown, stands}
+use Rattle.telling.specs.Telling.{last_after, table_turn}
+use Rattle.telling.specs.Down.{unsaid_table}
+use Rattle.telling.proofs.Left.{Done, IsDone, done_by, done_then}
 use Rattle.telling.proofs.turning.tell.Goals as goal
+
+abbrev start : Done
+start = record { changes = []; kept = [] }
+
+pub loop-standing-init : goal.loop-standing-init
+loop-standing-init c = λ new h.
+    subst (λ (keys : List Stand). IsDone c.args.pushed.now c.args.turn start keys new)
+    (c.into_iter-standing-iterator.ensures.into_iter_gives ∙ c.new-standing-items.ensures)
+    (subst (λ (done : Done). IsDone c.args.pushed.now c.args.turn done
+    c.into_iter-standing-iterator.result new) c.new-done.ensures h)
 
 pub loop-standing-preserved : goal.loop-standing-preserved
 loop-standing-preserved c = λ new h.
-    let at : Done = record {
-      bytes = c.loop-standing.written.bytes.items;
-      defined = c.loop-standing.written.defined;
-      last = c.loop-standing.last;
-      kept = c.loop-standing.kept;
-    } in
-    let then : Done = record {
-      bytes = c.say.new.written.bytes.items;
-      defined = c.say.new.written.defined;
-      last = c.in_ok-last.last;
-      kept = c.keep.new.marks;
-    } in
-    let more : IsDone c.args.id c.args.pushed.now c.args.turn at
-    (shown c.in-Some.standing ∷ c.next.new.self) new =
-    done_more c.args.id c.args.pushed.now c.args.turn at then new (shown c.in-Some.standing)
-    c.next.new.self c.in_ok-last.ensures.bytes c.in_ok-last.ensures.defined
-    c.in_ok-last.ensures.last c.in_ok-keep.ensures h in
-    c.loop-standing.invariant new
-    (subst (λ (keys : List Stand). IsDone c.args.id c.args.pushed.now c.args.turn at keys new)
-    (sym c.in-Some.ensures.steps) more)
+    c.loop-standing.invariant new (subst (λ (keys : List Stand).
+    IsDone c.args.pushed.now c.args.turn c.loop-standing.done keys new)
+    (sym c.in-Some.ensures.steps) (done_then c.args.pushed.now c.args.turn c.loop-standing.done
+    c.tell.new.self new (shown c.in-Some.standing ∷ []) c.next.new.self c.in_ok-tell.ensures h))
 
-pub returns-clause-bytes : goal.returns-clause-bytes
-unfolding table_turn
-returns-clause-bytes c =
-    (done_by c.args.id c.args.pushed.now c.args.turn _ (record {
-      bytes = c.loop-standing.written.bytes.items;
-      defined = c.loop-standing.written.defined;
-      last = c.loop-standing.last;
-      kept = c.loop-standing.kept;
-    }) _ _ c.in-None.ensures.steps.0 c.loop-standing.invariant).bytes
+all_done : (c : goal.After-finish) → IsDone c.args.pushed.now c.args.turn start
+    (stands (map (λ key. key.now) c.args.set.now) (marks_of c.args.marks)) c.loop-standing.done
+all_done c =
+    done_by c.args.pushed.now c.args.turn start c.loop-standing.done
+    (stands (map (λ key. key.now) c.args.set.now) (marks_of c.args.marks)) _
+    c.in-None.ensures.steps.0 c.loop-standing.invariant
 
-pub returns-clause-defined : goal.returns-clause-defined
-unfolding table_turn
-returns-clause-defined c =
-    (done_by c.args.id c.args.pushed.now c.args.turn _ (record {
-      bytes = c.loop-standing.written.bytes.items;
-      defined = c.loop-standing.written.defined;
-      last = c.loop-standing.last;
-      kept = c.loop-standing.kept;
-    }) _ _ c.in-None.ensures.steps.0 c.loop-standing.invariant).defined
+pub returns-clause-unsaid : goal.returns-clause-unsaid
+unfolding unsaid_table
+returns-clause-unsaid c = IfOk-weaker c.finish.result _ _ (λ tables h.
+    h ∙ (λ i. record { last = c.args.last; changes = (all_done c).said i })) c.finish.ensures.unsaid
 
 pub returns-clause-after : goal.returns-clause-after
 unfolding table_turn
-returns-clause-after c =
-    let done = done_by c.args.id c.args.pushed.now c.args.turn _ (record {
-      bytes = c.loop-standing.written.bytes.items;
-      defined = c.loop-standing.written.defined;
-      last = c.loop-standing.last;
-      kept = c.loop-standing.kept;
-    }) _ _ c.in-None.ensures.steps.0 c.loop-standing.invariant in
-    let marks = c.in_ok-marks.ensures ∙ done.kept in
-    λ i. record { last = done.last i; marks = marks i }
+returns-clause-after c = IfOk-weaker c.finish.result _ _ (λ tables h id.
+    let last = ap (last_after c.args.last) (all_done c).said in
+    h ∙ (λ i. record { last = last i; marks = (all_done c).kept i })) c.finish.ensures.told

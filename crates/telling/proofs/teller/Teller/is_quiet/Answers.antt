@@ -1,11 +1,11 @@
 use Rattle.std.proofs.Common.{◌∙◌, ap, sym}
-use Rattle.telling.proofs.Whole.{quiet_text, quiet_told}
+use Rattle.telling.proofs.Whole.{quiet_messages, quiet_told}
 use Rattle.telling.proofs.teller.Teller.is_quiet.Goals as goal
 
-pub returns-clause-text : goal.returns-clause-text
-returns-clause-text c = λ yes.
+pub returns-clause-said : goal.returns-clause-said
+returns-clause-said c = λ yes.
     let q = c.are_quiet.ensures yes c.args.self.now.defined in
-    quiet_text c.args.pushed.now _ c.args.now c.args.self.now _ _ c.turn_at.ensures
+    quiet_messages c.args.pushed.now _ c.args.now c.args.self.now _ _ c.turn_at.ensures
     (c.as_slice.ensures ∙ ap (λ t. t.tables) c.self.view_is)
     (ap (λ t. t.begun) (sym c.self.view_is) ∙ c.if-not-self.false) q.0
 

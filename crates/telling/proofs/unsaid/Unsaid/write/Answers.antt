@@ -1,0 +1,7 @@
+use Rattle.telling.proofs.Steps.{same_piece}
+use Rattle.telling.proofs.unsaid.Unsaid.write.Goals as goal
+
+pub returns-clause-ok : goal.returns-clause-ok
+returns-clause-ok c =
+    same_piece c.args.pushed.now c.args.self.now c.write_messages.new.self c.settle.new.self
+    c.write_messages.new.piece.items c.in_ok-write_messages.ensures.ok c.settle.ensures.same
