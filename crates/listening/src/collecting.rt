@@ -3,23 +3,14 @@
 ghost use Rattle.std.specs.Prelude.{◌≡◌, ◌<◌, ◌≤◌, []};
 ghost use Rattle.agg_types.specs.Check.{config_faults};
 
-use crate::admins::Admins;
 use crate::beside::serve_beside;
-use crate::board::Board;
-use crate::connections::Connections;
 use crate::disk::Paths;
-use crate::facts::CollectorFacts;
-use crate::fullness::Watch;
-use crate::journal::Journal;
-use crate::log::Event;
-use crate::memory::Memory;
-use crate::notes::Notes;
-use crate::sockets::Sockets;
-use crate::ticks::Ticks;
 use agg_types::Config;
+use collector_log::{Board, CollectorFacts, Event, Journal, Memory, Notes, Watch};
 use command_line::Endpoints;
 use hub::{Hub, Naming, Opening};
 use program::{Asked, Fault};
+use sockets::{Admins, Connections, Sockets, Ticks};
 use std::alloc::Global;
 use std::io::{ErrorKind, Write};
 use std::marker::Brand;

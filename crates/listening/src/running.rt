@@ -2,7 +2,7 @@
 
 use crate::collecting::collect;
 use crate::disk::Paths;
-use crate::memory::Memory;
+use collector_log::Memory;
 use program::{FAULT, Files, Prepared, arguments, prepare, tell};
 use std::convert::AsStr;
 use std::env::Env;

@@ -6,7 +6,7 @@ ghost use Rattle.agg_types.specs.Check.{config_faults};
 use crate::scene::Still;
 use agg_types::{Cell, Cells, Config, Key, NoMemory, What};
 use book::Book;
-use listening::{Fullness, Journal, Notes, append_peers};
+use collector_log::{Fullness, Journal, Notes, append_peers};
 use std::alloc::Global;
 use std::io;
 use std::io::Write;

@@ -2,10 +2,11 @@
 
 use crate::scene::{Few, Still};
 use crate::{full, status};
+use collector_log::{Board, Event, Journal, Notes};
 use hub::PostFault;
-use listening::{Board, Connections, Event, Journal, Notes, Ticks};
 use serve::{Cause, Gate, Gone, News, Place};
 use session_core::{SessionCause, Status};
+use sockets::{Connections, Ticks};
 use std::io;
 use std::net::{Ipv4Addr, Ipv6Addr, SocketAddr, SocketAddrV4, SocketAddrV6};
 use std::sync::Wait;

@@ -12,8 +12,8 @@ mod scene;
 mod status;
 mod tcp;
 
+use collector_log::Memory;
 use command_line::Endpoints;
-use listening::Memory;
 use program::{Asked, Prepared, prepare};
 use scene::{Scene, Shelf, Torn};
 use std::io::{BufRead, BufReader, Write};

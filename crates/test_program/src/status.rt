@@ -6,7 +6,7 @@ ghost use Rattle.agg_types.specs.Check.{config_faults};
 use crate::scene::Still;
 use agg_types::Config;
 use book::Book;
-use listening::Notes;
+use collector_log::Notes;
 use peers_msg::{Feed, Message};
 use serve::{Gate, News, Place, Status};
 use std::io;

@@ -8,7 +8,8 @@
 //! answered is printed. The collector doesn't end by itself: the program ends while it runs.
 
 use anyhow::{Result, anyhow};
-use listening::{Disk, Memory};
+use collector_log::Memory;
+use listening::Disk;
 use std::alloc::Global;
 use std::fs::Files;
 use std::io::{BufReader, Read, Write};

@@ -1,11 +1,10 @@
 //! What stands of a collector, for who answers over HTTP.
 
 use crate::board::Board;
-use crate::connections::Connections;
 use crate::memory::Memory;
-use crate::ticks::Ticks;
 use agg_types::{Config, NoMemory};
 use command_line::VERSION;
+use sockets::{Connections, Ticks};
 use std::alloc::Global;
 use std::sync::Wait;
 use std::time::Clock;

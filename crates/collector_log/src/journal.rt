@@ -1,7 +1,7 @@
 //! The lines of the log, on their way to standard error.
 
 use crate::log::{Event, Line};
-use crate::ticks::is_due;
+use sockets::is_due;
 use std::alloc::{AllocError, Global};
 use std::collections::VecDeque;
 use std::sync::{Mutex, Wait};

@@ -209,7 +209,7 @@ impl Connections {
     }
 
     /// The connection from this address, if it was closed so. It is forgotten with that.
-    pub(crate) fn take_unknown<R: Wait>(&self, rt: &R, address: SocketAddr) -> Option<Call> {
+    pub fn take_unknown<R: Wait>(&self, rt: &R, address: SocketAddr) -> Option<Call> {
         self.unknown.take(rt, address)
     }
 

@@ -22,7 +22,7 @@ struct Told {
 
 /// A connection that was closed since its peer isn't configured.
 #[derive(Drop)]
-pub(crate) struct Call {
+pub struct Call {
     address: SocketAddr,
     /// The name of its peer, if that is to be told.
     pub name: Option<Vec<u8>>,

@@ -3,12 +3,12 @@
 ghost use Rattle.std.specs.Prelude.{◌<◌, length};
 
 use crate::board::Board;
-use crate::connections::Connections;
 use crate::judging::{Because, Verdict};
 use crate::memory::Memory;
 use agg_types::{Config, NoMemory};
 use book::Book;
 use command_line::VERSION;
+use sockets::Connections;
 use std::alloc::Global;
 use std::fmt;
 use std::net::SocketAddr;

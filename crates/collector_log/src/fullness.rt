@@ -1,12 +1,11 @@
 //! What the log says of full tables.
 
-use crate::connections::Connections;
 use crate::journal::Journal;
 use crate::log::Event;
-use crate::ticks::Ticks;
 use agg_types::NoMemory;
 use book::Book;
 use hub::{Hub, Naming};
+use sockets::{Connections, Ticks};
 use std::alloc::Global;
 use std::sync::Wait;
 use std::time::{Clock, Duration};

@@ -1,17 +1,16 @@
 //! What is told to an operator while the collector runs.
 
 use crate::board::Board;
-use crate::connections::{Connections, Unasked};
 use crate::journal::Journal;
 use crate::judging::{Because, Verdict, judge, unknown_types};
 use crate::log::Event;
 use crate::memory::Memory;
 use crate::reporting::{HELP, append_info, append_peers, append_tables};
-use crate::ticks::Ticks;
 use agg_types::{Config, NoMemory};
 use book::Book;
 use peers_msg::Definition;
 use serve::{Gate, Gone, News, Place, Status};
+use sockets::{Connections, Ticks, Unasked};
 use std::alloc::Global;
 use std::net::SocketAddr;
 use std::sync::Wait;

@@ -1,0 +1,28 @@
+//! The connections of a collector: its sockets, and who waits, sits and is turned away at them.
+//!
+//! `listening` gives `Sockets` to the workers of `serve` as their doors. A connection's source is
+//! `Incoming` and its writer `Outgoing`; `Connections` knows all that there are of peers, and
+//! `Admins` hands on those of operators. `Ticks` is the machine's clock, whose moments are ms since
+//! the start. Nothing here is promised but that it is safe: no clause can say what a socket carried.
+#![tactic(auto)]
+
+mod admins;
+mod connections;
+mod faults;
+mod greeting;
+mod incoming;
+mod outgoing;
+mod pace;
+mod sockets;
+mod streams;
+mod ticks;
+mod unknown;
+
+pub use admins::Admins;
+pub use connections::{Connections, Unasked};
+pub use incoming::Incoming;
+pub use outgoing::Outgoing;
+pub use sockets::Sockets;
+pub use streams::Stream;
+pub use ticks::{Ticks, is_due};
+pub use unknown::Call;
