@@ -6,8 +6,9 @@
 It starts `aggregator listen` (examples/fleet.conf) and speaks to its sockets. Peers send hellos of every verdict,
 broken and cut messages, a byte at a time; they reset, never read, say nothing by the thousand, or drip a hello.
 Admins send lines without an end, or nothing, drip them, never read, or stay for long. Peers call from elsewhere, or
-aren't configured, standard error takes nothing, and the peers' listener breaks. Signals and ports that are taken are
-tried too. The last line counts passed and failed; the status is 1 where one failed. It takes about five minutes.
+aren't configured, standard error takes nothing, and the peers' listener breaks. Where a filter is pushed, proxies read
+nothing, ask for all of it all the time, or answer what nobody said. Signals and ports that are taken are tried too. The
+last line counts passed and failed; the status is 1 where one failed. It takes about five minutes.
 """
 
 import argparse
@@ -20,10 +21,13 @@ import socket
 import struct
 import subprocess
 import sys
+import tempfile
+import threading
 import time
 
 from check_with_haproxy import Report
-from peers_protocol import DEFINE as DEFINITION, SWITCH, UPDATES, messages, put_int
+from peers_protocol import ACK as ACKNOWLEDGED, DEFINE as DEFINITION, SWITCH, TIMED, UPDATES
+from peers_protocol import Feeder, message, messages, put_int
 from proxies import COLLECTOR, CONFIG, REPOSITORY, Collector, free_ports
 
 CHANGELOG = REPOSITORY / "CHANGELOG.md"
@@ -583,6 +587,145 @@ def surroundings(report, options):
         peer.close()
 
 
+PUSHING = """name agg
+peer feeder
+peer lb1
+peer lb2
+table t type ip size 200000 store gpc0
+filter hot t data.gpc0 ge 1
+push hot
+"""
+
+
+def addresses(numbers):
+    """The keys of these numbers, in order."""
+    return [struct.pack(">I", number) for number in sorted(numbers)]
+
+
+def hello(name):
+    return b"HAProxyS 2.1\nagg\n" + name + b" 1 1\n"
+
+
+class Proxied(threading.Thread):
+    """A proxy that takes what it is told, and keeps its keys as HAProxy does. It sends a heartbeat a second."""
+
+    def __init__(self, port, name):
+        super().__init__(daemon=True)
+        self.peer, self.keys, self.puts, self.others, self.beaten = call(port, hello(name)), set(), 0, [], 0.0
+        self.peer.settimeout(0.05)
+        self.start()
+
+    def note(self, group, kind, payload):
+        if (group, kind) == (10, TIMED):
+            self.puts += 1
+            number = struct.unpack(">I", payload[8:12])[0]
+            (self.keys.add if payload[12] else self.keys.discard)(number)
+        else:
+            self.others.append((group, kind))
+
+    def run(self):
+        data, is_greeted = b"", False
+        while True:
+            try:
+                if time.monotonic() - self.beaten > 1:
+                    self.beaten = time.monotonic()
+                    self.peer.sendall(b"\x00\x04")
+                more = self.peer.recv(1 << 20)
+            except TimeoutError:
+                continue
+            except OSError:
+                return
+            if not more:
+                return
+            data += more
+            if not is_greeted and len(data) >= 4:
+                data, is_greeted = data[4:], True
+            if is_greeted:
+                found, behind = messages(data, 0)
+                data = data[behind:]
+                for one in found:
+                    self.note(*one)
+
+    def send_on(self, data, seconds):
+        """Sends something over and over for so long."""
+        end = time.monotonic() + seconds
+        while time.monotonic() < end:
+            self.peer.sendall(data)
+            time.sleep(0.001)
+
+
+def beat_on(peers, done):
+    """Has peers that do nothing else send a heartbeat a second."""
+    while not done.wait(1):
+        for peer in list(peers):
+            try:
+                peer.send(b"\x00\x04")
+            except OSError:
+                pass
+
+
+def pushing(report, options, count=100_000):
+    """Proxies that are told a pushed filter, and don't behave."""
+    with tempfile.NamedTemporaryFile("w", suffix=".conf") as text:
+        text.write(PUSHING)
+        text.flush()
+        collector = Collector(options.collector, *free_ports(2), config=text.name)
+    feeder, proxy = Feeder(collector.peers), Proxied(collector.peers, b"lb2")
+    deaf_one = socket.socket()
+    deaf_one.setsockopt(socket.SOL_SOCKET, socket.SO_RCVBUF, 4096)
+    deaf_one.connect(("127.0.0.1", collector.peers))
+    deaf_one.sendall(hello(b"lb1"))
+    deaf_one.setblocking(False)
+    beaten, done = [deaf_one], threading.Event()
+    threading.Thread(target=beat_on, args=(beaten, done), daemon=True).start()
+    every = set(range(1, count + 1))
+    feeder.push(addresses(every), 1)
+    report.check(f"beside a proxy that reads nothing another one is told a set of {count} keys", 4,
+                 lambda: "" if proxy.keys == every else f"{len(proxy.keys)} of {len(every)} keys")
+    report.check("each of them once", 1, lambda: "" if proxy.puts == len(every) else proxy.puts)
+
+    def is_ended():
+        peers = collector.ask("show peers")
+        return "" if re.search(r"lb1 state=(?!connected)", peers) else peers
+    report.check("the one that reads nothing is ended", 20, is_ended)
+    beaten.remove(deaf_one)
+    deaf_one.close()
+    feeder.push(addresses(every), 0)
+    report.check("all of it is taken away again", 4, lambda: "" if not proxy.keys else f"{len(proxy.keys)} keys are left")
+    misbehaving(report, collector, feeder, proxy)
+    done.set()
+    collector.stop()
+
+
+def misbehaving(report, collector, feeder, proxy):
+    """One proxy that says what nobody asked for, beside another one."""
+    liar = Proxied(collector.peers, b"lb1")
+    liar.send_on(message(ACKNOWLEDGED, b"\x01\xff\xff\xff\xff") + message(ACKNOWLEDGED, b"\x09\x00\x00\x00\x07"), 0.3)
+    feeder.push(addresses([7]), 1)
+    report.check("a proxy that acknowledges what was never sent is told on", 2,
+                 lambda: "" if liar.keys == {7} else liar.keys)
+    own = message(DEFINITION, b"\x05\x03hot" + bytes([4, 4, 4]) + put_int(10000))
+    liar.others.clear()
+    liar.send_on(own + message(UPDATES[0], struct.pack(">II", 1, 99) + b"\x01"), 0.3)
+    report.check("rows that it pushes of the pushed table are passed over, without an acknowledgement", 1,
+                 lambda: "" if (10, ACKNOWLEDGED) not in liar.others and collector.keys("hot") == {"0.0.0.7"}
+                 else (liar.others[:5], collector.keys("hot")))
+    some = set(range(1, 101))
+    feeder.push(addresses(some), 1)
+    report.check("a set of a hundred keys is told", 1, lambda: "" if liar.keys == some else len(liar.keys))
+    before = liar.puts
+    liar.send_on(b"\x00\x00" * 100, 2)
+    puts = liar.puts - before
+    report.check("where it asks for all of it all the time, each turn tells the set once", 1,
+                 lambda: "" if liar.keys == some and puts <= 45 * 100 else (len(liar.keys), puts))
+    for turn in range(200):
+        feeder.push(addresses(some), turn % 2)
+    report.check("a set that flips all the time is told as it stands at last", 2,
+                 lambda: "" if liar.keys == proxy.keys == some else (len(liar.keys), len(proxy.keys)))
+    report.check("nothing of it stays in memory", 5,
+                 lambda: "" if collector.resident() < 120_000_000 else collector.resident())
+
+
 def main():
     words = argparse.ArgumentParser(description=__doc__, formatter_class=argparse.RawDescriptionHelpFormatter)
     words.add_argument("--collector", default=COLLECTOR, help="the program that is checked")
@@ -593,7 +736,7 @@ def main():
     for part in (verdicts, streams, crowd, newer, strangers, deaf, silence, admins, slow_admins):
         part(report, collector)
     collector.stop()
-    for part in (scarce, elsewhere, unknown, mute, broken, checking, surroundings):
+    for part in (scarce, elsewhere, unknown, mute, broken, pushing, checking, surroundings):
         part(report, options)
     print(f"{report.passed} passed, {report.failed} failed")
     sys.exit(1 if report.failed else 0)

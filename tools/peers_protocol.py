@@ -1,4 +1,8 @@
-"""The peers protocol's integers and messages, for the tools beside it."""
+"""The peers protocol's integers and messages, and a peer that pushes keys, for the tools beside it."""
+
+import socket
+import threading
+import time
 
 UPDATE, INCREMENTAL, DEFINE, SWITCH, ACK, TIMED, TIMED_INCREMENTAL = range(0x80, 0x87)
 UPDATES = (UPDATE, INCREMENTAL, TIMED, TIMED_INCREMENTAL)
@@ -48,3 +52,65 @@ def messages(data, at):
         found.append((data[at], kind, payload))
         at = end
     return found, at
+
+
+def message(kind, payload):
+    """A message of the table class."""
+    return bytes([10, kind]) + put_int(len(payload)) + payload
+
+
+class Feeder(threading.Thread):
+    """A peer of a table `t` of IPv4 keys with gpc0. It reads all that it is told, and sends a heartbeat a second."""
+
+    def __init__(self, port, name="feeder"):
+        super().__init__(daemon=True)
+        self.peer, self.last, self.acknowledged = socket.create_connection(("127.0.0.1", port), timeout=60), 0, 0
+        self.turn, self.news, self.is_over = threading.Lock(), threading.Condition(), False
+        self.peer.sendall(f"HAProxyS 2.1\nagg\n{name} 1 1\n".encode())
+        if self.peer.recv(4) != b"200\n":
+            raise RuntimeError(f"{name} wasn't accepted")
+        self.peer.settimeout(None)
+        # an id, a name, keys of 4 bytes of type ip, gpc0, an expiry of an hour
+        self.peer.sendall(message(DEFINE, b"\x01\x01t" + bytes([4, 4, 4]) + put_int(3600000)))
+        self.start()
+        threading.Thread(target=self.beat_on, daemon=True).start()
+
+    def beat_on(self):
+        while not self.is_over:
+            time.sleep(1)
+            try:
+                self.send(b"\x00\x04")
+            except OSError:
+                return
+
+    def run(self):
+        unread = b""
+        while more := self.peer.recv(1 << 18):
+            found, behind = messages(unread + more, 0)
+            unread = (unread + more)[behind:]
+            ids = [int.from_bytes(payload[1:5], "big") for group, kind, payload in found if (group, kind) == (10, ACK)]
+            if ids:
+                with self.news:
+                    self.acknowledged = ids[-1]
+                    self.news.notify()
+        with self.news:
+            self.is_over = True
+            self.news.notify()
+
+    def push(self, keys, count):
+        """Pushes a count for these keys, and waits until all are acknowledged."""
+        out = bytearray()
+        for key in keys:
+            self.last += 1
+            out += message(UPDATE, self.last.to_bytes(4, "big") + key + put_int(count))
+        with self.turn:
+            self.peer.sendall(out)
+        with self.news:
+            self.news.wait_for(lambda: self.is_over or self.acknowledged == self.last, 60)
+        if self.acknowledged != self.last:
+            raise ConnectionError("a push wasn't acknowledged")
+
+    def send(self, data):
+        """Sends something between pushes."""
+        with self.turn:
+            self.peer.sendall(data)

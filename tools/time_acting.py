@@ -2,18 +2,22 @@
 """Measures what pushing a filter's keys to the proxies costs the collector, and how soon they are told.
 
     time_acting.py [--collector crates/aggregator/out/aggregator] [--sessions 20] [--keys 10000] [--flips 100]
-                   [--hold 60000] [--seconds 10] [--crossings 100]
+                   [--hold 60000] [--seconds 10] [--crossings 100] [--proxies 2]
 
 It starts `aggregator listen` with one pushed filter. One peer pushes the keys that make its set; the sessions of
 other peers read what they are told, as fast as it comes. Three things are measured: the collector's processor time a
 second while the set stands still, the same while so many keys a second leave the set and come back, and the time
 from the acknowledgement of an update that brings a key into the set until every session has been told it, each so
 many times. With `--hold` the push line has that hold, in ms. All sessions live in this one process, which takes a
-processor of its own: with many keys it is what is measured.
+processor of its own: with many keys it is what is measured. With `--proxies` so many real HAProxies are told too:
+what they take of a processor stands beside the collector's, and a crossing lasts until each of them refuses the
+client with 429.
 """
 
 import argparse
+import http.client
 import os
+import re
 import selectors
 import socket
 import statistics
@@ -23,8 +27,8 @@ import tempfile
 import threading
 import time
 
-from peers_protocol import ACK, DEFINE, UPDATE, messages, put_int
-from proxies import COLLECTOR, Collector, free_ports
+from peers_protocol import Feeder
+from proxies import COLLECTOR, Collector, Proxy, free_ports, wait_for
 
 HEARTBEAT = bytes([0, 4])
 SCATTER = 2147483647
@@ -37,10 +41,29 @@ filter hot t data.gpc0 ge 1
 push hot{hold}
 """
 
+PROXY_CONFIG = """global
+    stats socket "$DIR/${{HAPROXY_LOCALPEER}}.sock" level admin
+defaults
+    mode http
+    timeout client 10s
+    timeout server 10s
+    timeout connect 1s
+peers fleet
+    peer "${{HAPROXY_LOCALPEER}}" "127.0.0.1:${{OWN_PORT}}"
+    peer agg "127.0.0.1:${{COLLECTOR_PORT}}"
+backend hot
+    stick-table type ip size {size} expire {life} store gpc0 peers fleet
+frontend www
+    bind "127.0.0.1:${{HTTP_PORT}}"
+    http-request deny deny_status 429 if {{ hdr_ip(x-forwarded-for),table_gpc0(hot) gt 0 }}
+    http-request return status 200
+"""
+
 
 def config(options):
     """The collector's configuration: a peer that feeds, and those that are told."""
-    peers = "\n".join(["peer feeder", *(f"peer p{number}" for number in range(options.sessions))])
+    names = [f"p{number}" for number in range(options.sessions)] + [f"lb{number}" for number in range(options.proxies)]
+    peers = "\n".join(["peer feeder", *(f"peer {name}" for name in names)])
     return CONFIG.format(peers=peers, hold=f" hold {options.hold}" if options.hold else "")
 
 
@@ -56,45 +79,8 @@ def call(port, name):
     return peer
 
 
-def message(kind, payload):
-    return bytes([10, kind]) + put_int(len(payload)) + payload
-
-
 def address(number):
     return (number * SCATTER % 2**32).to_bytes(4, "big")
-
-
-class Feeder:
-    """The peer that brings keys into the set and takes them out."""
-
-    def __init__(self, port):
-        self.peer, self.last, self.unread = call(port, "feeder"), 0, b""
-        # an id, a name, keys of 4 bytes of type ip, gpc0, an expiry of an hour
-        define = bytes([1]) + put_int(1) + b"t" + put_int(4) + put_int(4) + put_int(4) + put_int(3600000)
-        self.peer.sendall(message(DEFINE, define))
-
-    def push(self, numbers, count):
-        """Pushes a count for these keys, and waits until all are acknowledged."""
-        out = bytearray()
-        for number in numbers:
-            self.last += 1
-            out += message(UPDATE, self.last.to_bytes(4, "big") + address(number) + put_int(count))
-        sender = threading.Thread(target=self.peer.sendall, args=(bytes(out),))
-        sender.start()
-        while not self.is_acknowledged():
-            self.unread += self.peer.recv(65536)
-        sender.join()
-
-    def is_acknowledged(self):
-        found, behind = messages(self.unread, 0)
-        self.unread = self.unread[behind:]
-        for group, kind, payload in found:
-            if (group, kind) == (10, ACK) and int.from_bytes(payload[1:5], "big") == self.last:
-                return True
-        return False
-
-    def beat(self):
-        self.peer.sendall(HEARTBEAT)
 
 
 class Told:
@@ -161,21 +147,53 @@ def processor(pid):
     return (int(words[11]) + int(words[12])) / TICK
 
 
-def over(what, options, collector, told, work):
+class Taught:
+    """A real HAProxy that is told the set."""
+
+    def __init__(self, name, port, options, folder):
+        config = f"{folder}/{name}.cfg"
+        with open(config, "w", encoding="ascii") as text:
+            text.write(PROXY_CONFIG.format(size=options.keys * 5 // 4 + 1000, life=options.hold or 10000))
+        began = time.monotonic()
+        self.proxy = Proxy(name, port, folder, config=config)
+        wait_for("the set in the proxy", 120, lambda: self.used() >= options.keys)
+        print(f"{name} has {self.used()} keys after {time.monotonic() - began:.1f} s, for which it took "
+              f"{self.processor():.2f} s of a processor", flush=True)
+        self.web = http.client.HTTPConnection("127.0.0.1", self.proxy.http, timeout=5)
+
+    def used(self):
+        """How many keys its table has."""
+        return int(re.search(r"table: hot.* used:(\d+)", self.proxy.socket_command("show table")).group(1))
+
+    def processor(self):
+        return processor(self.proxy.process.pid)
+
+    def refuses(self, number):
+        """Whether it refuses a client."""
+        client = ".".join(map(str, address(number)))
+        self.web.request("GET", "/", headers={"x-forwarded-for": client})
+        answer = self.web.getresponse()
+        answer.read()
+        return answer.status == 429
+
+
+def over(what, options, collector, told, work, taught):
     """Prints what the collector took while some work went on for the asked seconds."""
     time_before, bytes_before, began = processor(collector.process.pid), told.bytes, time.monotonic()
+    of_proxies = [one.processor() for one in taught]
     work(began + options.seconds)
     took = time.monotonic() - began
+    for one, before in zip(taught, of_proxies):
+        share = 100 * (one.processor() - before) / took
+        print(f"{what}: {one.proxy.name} takes {share:.1f} % of a processor, and has {one.used()} keys", flush=True)
     share = 100 * (processor(collector.process.pid) - time_before) / took
     rate = (told.bytes - bytes_before) / took / 1000
-    print(f"{what}: {share:.1f} % of a processor, {share / options.sessions:.2f} % a session, {rate:.0f} KB/s told",
-          flush=True)
+    print(f"{what}: {share:.1f} % of a processor, {share / max(options.sessions, 1):.2f} % a session, "
+          f"{rate:.0f} KB/s told", flush=True)
 
 
-def stand_still(feeder, end):
-    while time.monotonic() < end:
-        feeder.beat()
-        time.sleep(1)
+def stand_still(end):
+    time.sleep(max(0, end - time.monotonic()))
 
 
 def flip(feeder, options, end):
@@ -184,22 +202,25 @@ def flip(feeder, options, end):
     while time.monotonic() < end:
         began = time.monotonic()
         numbers = [(at + step) % options.keys for step in range(count)]
-        feeder.push(numbers, 0 if (at // options.keys) % 2 == 0 else 1)
+        feeder.push(map(address, numbers), 0 if (at // options.keys) % 2 == 0 else 1)
         at += count
         time.sleep(max(0, 0.1 - (time.monotonic() - began)))
 
 
-def cross(feeder, options, told):
-    """How long it takes until all are told a key that came into the set."""
+def cross(feeder, options, told, taught):
+    """How long it takes until all are told a key that came into the set, and the proxies refuse its client."""
     took = []
     for turn in range(options.crossings):
         number = 10_000_000 + turn
         told.await_key(number)
-        feeder.push([number], 1)
+        feeder.push([address(number)], 1)
         began = time.monotonic()
-        while told.when is None and time.monotonic() - began < 10:
+        left = list(taught)
+        while (told.when is None or left) and time.monotonic() - began < 10:
+            left = [one for one in left if not one.refuses(number)]
+            last = time.monotonic()
             time.sleep(0.001)
-        took.append(1000 * ((told.when or time.monotonic()) - began))
+        took.append(1000 * (max(told.when or time.monotonic(), last if taught else 0) - began))
         time.sleep(0.02)
     took.sort()
     last = took[min(len(took) - 1, len(took) * 99 // 100)]
@@ -215,29 +236,39 @@ def main():
     words.add_argument("--hold", type=int)
     words.add_argument("--seconds", type=float, default=10)
     words.add_argument("--crossings", type=int, default=100)
+    words.add_argument("--proxies", type=int, default=0)
     options = words.parse_args()
     peers, admin = free_ports(2)
     with tempfile.NamedTemporaryFile("w", suffix=".conf") as text:
         text.write(config(options))
         text.flush()
         collector = Collector(options.collector, peers, admin, config=text.name, log=subprocess.DEVNULL)
-    told = None
+    told, taught = None, []
+    folder = tempfile.TemporaryDirectory()
     try:
         feeder = Feeder(peers)
-        feeder.push(range(options.keys), 1)
+        feeder.push(map(address, range(options.keys)), 1)
         before = collector.resident()
         told = Told(peers, options.sessions)
         time.sleep(3)
-        each = (collector.resident() - before) / options.sessions / max(options.keys, 1)
+        each = (collector.resident() - before) / max(options.sessions, 1) / max(options.keys, 1)
         print(f"{options.sessions} sessions, {options.keys} keys: {collector.resident() / 1e6:.0f} MB resident, "
-              f"{each:.0f} bytes a session and key")
-        over("a set that stands still", options, collector, told, lambda end: stand_still(feeder, end))
+              f"of that {(collector.resident() - before) / 1e6:.0f} MB for them, "
+              f"{each:.0f} bytes a session and key", flush=True)
+        for number in range(options.proxies):
+            taught.append(Taught(f"lb{number}", peers, options, folder.name))
+        over("a set that stands still", options, collector, told, stand_still, taught)
         over(f"{options.flips} keys a second change", options, collector, told,
-             lambda end: flip(feeder, options, end))
-        cross(feeder, options, told)
+             lambda end: flip(feeder, options, end), taught)
+        print(f"{collector.resident() / 1e6:.0f} MB resident")
+        if options.crossings:
+            cross(feeder, options, told, taught)
     finally:
         if told:
             told.end()
+        for one in taught:
+            one.proxy.kill()
+        folder.cleanup()
         collector.process.kill()
         collector.process.wait()
     return 0

@@ -18,7 +18,8 @@ prints what all of them bring. `--peers 64` pushes as 64 peers with the same key
 at a time, so that the sender takes one processor however many they are. The bytes are prepared before the clock starts.
 
 `--filter few` lets the collector keep a filter on a rate that one key in a thousand meets, `--filter all` one that
-every key meets and whose change moves with each update; `--rank` lets it keep a ranked list of ten.
+every key meets and whose change moves with each update; `--rank` lets it keep a ranked list of ten. With `--push` the
+filter's keys are pushed to the peers.
 
 With `--ask`, each of some rounds behind those pushes as many updates, without ids, twice: alone, and beside an
 admin. The admin asks this over and over, with a pause of 0.1 s or `--pause` between an answer and the next
@@ -347,7 +348,8 @@ def names(options):
 
 def declared(options):
     """The filter and the ranked list that the collector is to keep, as lines of its configuration."""
-    return FILTERS.get(options.filter, "") + (RANK if options.rank else "")
+    pushed = f"push {options.filter}\n" if options.push else ""
+    return FILTERS.get(options.filter, "") + (RANK if options.rank else "") + pushed
 
 
 def main():
@@ -364,6 +366,7 @@ def main():
     words.add_argument("--peers", type=int, default=0, help="how many peers one sender feeds in turn")
     words.add_argument("--filter", choices=FILTERS, help="which keys a filter of the collector holds")
     words.add_argument("--rank", action="store_true", help="let the collector keep a ranked list")
+    words.add_argument("--push", action="store_true", help="let the filter's keys be pushed to the peers")
     words.add_argument("--ask", help="what an admin asks while the updates are pushed once more")
     words.add_argument("--rounds", type=int, default=5, help="how often they are pushed alone and beside an admin")
     words.add_argument("--pause", type=float, default=0.1, help="how long the admin rests, in seconds")
@@ -371,6 +374,8 @@ def main():
     words.add_argument("--receiver", default="agg")
     words.add_argument("--pid", type=int, help="the receiver's process, whose memory is to be told")
     options = words.parse_args()
+    if options.push and not options.filter:
+        words.error("--push needs --filter")
     if options.to and options.ask:
         words.error("--ask needs --collector or --haproxy")
     if options.to:

@@ -74,8 +74,10 @@ def begin(address):
 
 def fill(address, keys):
     """One peer's rows, which live ten minutes."""
+    # (first what takes long: a peer that says nothing for 5 s is ended)
+    rows = definition(LIFE) + updates(1, [(place * SCATTER) % keys for place in range(keys)])
     peer = Peer(address, "lb1", "agg")
-    peer.push(definition(LIFE) + updates(1, [(place * SCATTER) % keys for place in range(keys)]), keys)
+    peer.push(rows, keys)
     return peer
 
 
@@ -103,8 +105,8 @@ def row_behind_life(number):
 
 def at_one_moment(address, keys):
     """Rows that all end ten seconds after the first was sent."""
-    peer = Peer(address, "lb1", "agg")
     rows = [row_behind_life((place * SCATTER) % keys) for place in range(keys)]
+    peer = Peer(address, "lb1", "agg")
     head = message(TIMED_INCREMENTAL, bytes(4) + rows[0])[:-4 - len(rows[0])]
     peer.push(definition(LIFE) + updates(1, [0]), 1)
     peer.socket.setblocking(True)
@@ -120,11 +122,12 @@ def at_one_moment(address, keys):
 
 def push_on(address, name, keys, count, done):
     """Pushes the same rows over and over, and counts what was acknowledged."""
-    peer = Peer(address, name, "agg")
     scattered = [(place * SCATTER) % keys for place in range(keys)]
-    peer.push(definition(LIFE) + updates(1, scattered), keys)
+    rows = definition(LIFE) + updates(1, scattered)
     pieces = [updates(keys + 1 + at, scattered[at:at + 5000]) for at in range(0, keys, 5000)]
     ends = [keys + min(at + 5000, keys) for at in range(0, keys, 5000)]
+    peer = Peer(address, name, "agg")
+    peer.push(rows, keys)
     while not done.is_set():
         for piece, end in zip(pieces, ends):
             peer.push(piece, end)
