@@ -3,7 +3,7 @@
 //! `listening` gives `Sockets` to the workers of `serve` as their doors. A connection's source is
 //! `Incoming` and its writer `Outgoing`; `Connections` knows all that there are of peers, and
 //! `Admins` hands on those of operators. `Ticks` is the machine's clock, whose moments are ms since
-//! the start. Nothing here is promised but that it is safe: no clause can say what a socket carried.
+//! the start. Nothing here is promised but safety: no clause can say what a socket carried.
 #![tactic(auto)]
 
 mod admins;
