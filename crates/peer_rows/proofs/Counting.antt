@@ -1,6 +1,6 @@
 -- What rows count in a column.
-use Rattle.std.proofs.Common.{◌≡◌, ℕ, zero, suc, List, [], ◌∷◌, refl, ap}
-use Rattle.std.specs.Prelude.{Some, None, slice_get}
+use Rattle.std.proofs.Common.{◌≡◌, ◌∙◌, ℕ, zero, suc, List, [], ◌∷◌, refl, sym, ap}
+use Rattle.std.specs.Prelude.{Option, Some, None, slice_get}
 use Rattle.peer_rows.specs.declared.row.Held.{Held}
 use Rattle.peer_rows.specs.Counted.{counted, counted_at}
 use Rattle.peer_rows.specs.Most.{most_at, most_of}
@@ -28,3 +28,22 @@ pub most_at_none : (cells : List Held) (col : ℕ) → slice_get cells col ≡ N
 most_at_none [] col none = refl
 most_at_none (c ∷ cells) zero none = cc
 most_at_none (c ∷ cells) (suc col) none = most_at_none cells col none
+
+pub most_at_last : (cells : List Held) (col : ℕ) (held : Held) → Some held ≡ slice_get cells col
+    → most_of held ≡ most_at cells col
+most_at_last cells col held is = sym (most_at_held cells col held (sym is))
+
+-- what a cell is worth at most that there may be
+abbrev worth_of : Option Held → ℕ
+worth_of None = 0
+worth_of (Some held) = most_of held
+
+most_at_got : (cells : List Held) (col : ℕ) → most_at cells col ≡ worth_of (slice_get cells col)
+most_at_got [] col = refl
+most_at_got (c ∷ cells) zero = refl
+most_at_got (c ∷ cells) (suc col) = most_at_got cells col
+
+pub most_at_same : (few more : List Held) (col : ℕ) → slice_get few col ≡ slice_get more col
+    → most_at few col ≡ most_at more col
+most_at_same few more col same =
+    most_at_got few col ∙ ap worth_of same ∙ sym (most_at_got more col)

@@ -2,10 +2,11 @@
 ghost use Rattle.std.specs.Prelude.{◌≡◌, ◌+◌, ◌*◌, ◌<◌, ◌≤◌, ◌%◌, ℕ, [], ◌∷◌, ◌++◌, length};
 ghost use Rattle.std.specs.Prelude.{slice_get, slice_index, IfNone, IfSome, IsSome};
 ghost use Rattle.peer_rows.specs.Few.{cell_at, cells_of, kind_of, total_width, width};
+ghost use Rattle.peer_rows.specs.Most.{most_at, most_of};
 
 use crate::Held;
 use crate::narrow::{narrowed, widened};
-use crate::packed::{Packed, halves};
+use crate::packed::{Packed, halves, whole};
 use period_rate::Rate;
 
 /// How many words there are: as many as two narrow rates and a small count take, or a wide rate and
@@ -86,6 +87,22 @@ pub(crate) fn get(len: u8, kinds: u16, words: &Words, col: usize) -> Option<Held
         return Some(cell(Kind::last(kinds), words, at));
     }
     get(before, kinds / 4, words, col)
+}
+
+/// The most that the cell of a column is worth at any moment, read off its words: nothing where
+/// there is none.
+pub(crate) fn most(len: u8, kinds: u16, words: &Words, col: usize) -> u64
+    ensures { result ≡ most_at (cells_of len kinds words.now) col }
+{
+    if len == 0 {
+        return 0;
+    }
+    let before = len - 1;
+    if col == before as usize {
+        let at = total(before, kinds / 4);
+        return worth(Kind::last(kinds), words, at);
+    }
+    most(before, kinds / 4, words, col)
 }
 
 /// Lays a cell's words behind those of others, if there is room for them. Answers the number whose
@@ -205,6 +222,26 @@ fn cell(kind: Kind, words: &Words, at: usize) -> Held
             word(words, at + 4),
         ])
         .held(),
+    }
+}
+
+// The most that a cell is worth at any moment whose words begin at a place.
+fn worth(kind: Kind, words: &Words, at: usize) -> u64
+    requires { at < 4294967296 }
+    ensures { result ≡ most_of (cell_at kind words.now at) }
+{
+    match kind {
+        Kind::Small => u64::from(word(words, at)),
+        Kind::Large => whole(word(words, at), word(words, at + 1)),
+        Kind::Narrow => {
+            let [_, _, _, cur, prev] = widened([
+                word(words, at),
+                word(words, at + 1),
+                word(words, at + 2),
+            ]);
+            u64::from(cur) + u64::from(prev)
+        }
+        Kind::Rated => u64::from(word(words, at + 3)) + u64::from(word(words, at + 4)),
     }
 }
 

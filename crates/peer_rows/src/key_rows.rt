@@ -119,6 +119,19 @@ impl KeyRows {
         }
     }
 
+    /// Looks at where a peer's row may lie among several, so that it is near when it is put: at the
+    /// peer's own number, or at the last. Whether a row was found there that came at any moment but
+    /// the last that there is, so always.
+    pub(crate) fn touch(&self, peer: usize) -> bool {
+        match &self.peers {
+            Peers::One(_, _) => true,
+            Peers::Many(rows, _) => match rows.get(peer).or(rows.last()) {
+                None => true,
+                Some((own, row)) => *own != usize::MAX && row.arrived != u64::MAX,
+            },
+        }
+    }
+
     /// Whether a peer's row is the only one.
     pub(crate) fn is_only(&self, peer: usize) -> bool
         ensures { IsTrue result ↔ (keys_of self.now ≡ peer ∷ []) }

@@ -95,6 +95,13 @@ impl Keyed {
         Some(Spot::new(hinted(&self.index, Some(spot), key)?))
     }
 
+    /// The spot with a first look at where a peer's row lies there.
+    #[inline]
+    pub(crate) fn touch_row(&self, spot: Spot, peer: usize) -> Option<Spot> {
+        let rows = self.index.value(spot.slot as usize)?;
+        if rows.touch(peer) { Some(spot) } else { None }
+    }
+
     /// The rows of a key.
     pub(crate) fn get(&self, hint: Option<Spot>, key: &Key) -> Option<&KeyRows>
         ensures value { option_copied result ≡ lookup (is_at (slice_cmp nat_cmp key.now)) self.now }

@@ -1,4 +1,4 @@
-ghost use Rattle.std.specs.Prelude.{◌≡◌};
+ghost use Rattle.std.specs.Prelude.{◌≡◌, ◌+◌, ◌*◌, ◌^◌};
 ghost use Rattle.peer_rows.specs.Packed.{held_of};
 
 use crate::Held;
@@ -35,11 +35,19 @@ impl Packed {
         match *self {
             Packed::Count(words) => {
                 let [low, high] = words;
-                Held::Count(u64::from(low) + WORD * u64::from(high))
+                Held::Count(whole(low, high))
             }
             Packed::Rate(words) => Held::Rate(Rate::from_words(words)),
         }
     }
+}
+
+/// The count of a low and a high half.
+#[inline]
+pub(crate) fn whole(low: u32, high: u32) -> u64
+    ensures { result ≡ low + 2 ^ 32 * high }
+{
+    u64::from(low) + WORD * u64::from(high)
 }
 
 /// The low and the high half of a count.

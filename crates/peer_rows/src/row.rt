@@ -199,9 +199,12 @@ impl RowCells {
     pub fn most(&self, col: usize) -> u64
         ensures { result ≡ most_at self.now col }
     {
-        match self.get(col) {
-            Some(held) => held.most(),
-            None => 0,
+        match &self.form {
+            Form::Few { len, kinds, words } => few::most(*len, *kinds, words, col),
+            Form::Many(_) => match self.get(col) {
+                Some(held) => held.most(),
+                None => 0,
+            },
         }
     }
 

@@ -251,6 +251,23 @@ impl Rows {
         self.tables[table].confirm(spot, key)
     }
 
+    /// The spot with a first look at where a peer's row of the table lies there. Nothing is
+    /// promised of it.
+    #[inline]
+    pub fn touch_row(&self, spot: Spot, table: usize, peer: usize) -> Option<Spot>
+        requires { table < self.now.tables }
+    {
+        self.tables[table].touch_row(spot, peer)
+    }
+
+    /// How many rows a table has, over all peers, in a time by their number. Nothing is promised of
+    /// it.
+    pub fn count_all(&self, table: usize) -> usize
+        requires { table < self.now.tables }
+    {
+        self.tables[table].count_all()
+    }
+
     /// What `get` answers, whatever the hint: one that doesn't fit costs a search.
     pub fn get_at(&self, hint: Option<Spot>, peer: usize, table: usize, key: &Key) -> Option<&Row>
         requires peer_in { peer < self.now.peers }

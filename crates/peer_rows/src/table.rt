@@ -132,6 +132,21 @@ impl Table {
         self.keys.confirm(spot, key)
     }
 
+    /// The spot with a first look at where a peer's row lies there.
+    #[inline]
+    pub(crate) fn touch_row(&self, spot: Spot, peer: usize) -> Option<Spot> {
+        self.keys.touch_row(spot, peer)
+    }
+
+    /// How many rows there are, over all peers.
+    pub(crate) fn count_all(&self) -> usize {
+        let mut rows = 0usize;
+        for count in self.counts.as_slice() {
+            rows = rows.saturating_add(*count);
+        }
+        rows
+    }
+
     /// Exchanges the row of a peer and key for this one, if there is one.
     pub(crate) fn exchange(
         &mut self,

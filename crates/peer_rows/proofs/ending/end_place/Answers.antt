@@ -5,7 +5,8 @@ pub loop-peer-preserved : goal.loop-peer-preserved
 loop-peer-preserved c = record {
   kept = c.end_row-gone.ensures.kept;
   peers = c.end_row-gone.ensures.peers ∙ c.loop-peer.invariant.peers;
-  rows = c.end_row-gone.ensures.rows c.args.t c.in-Some-first_ended.ensures.some ∙ c.loop-peer.invariant.rows;
+  rows = c.end_row-gone.ensures.rows c.args.t c.in-Some-first_ended.ensures.some
+      ∙ c.loop-peer.invariant.rows;
   others = λ p other. c.end_row-gone.ensures.others p other
       ∙ c.loop-peer.invariant.others p other;
 }
