@@ -11,50 +11,71 @@ use peer_rows::{Spot, Trace};
 // that what was read is still near when they are put.
 const GROUP: usize = 16;
 
-// Tables of fewer keys lie in the nearer caches, where a look ahead costs more than it saves.
+// Tables of fewer rows lie in the nearer caches, where a look ahead costs more than it saves.
 const FAR: usize = 1 << 17;
 
 /// The spots of some updates of a run, from a place on.
 #[derive(Clone, Copy)]
 pub(crate) struct Lookahead {
     from: usize,
+    // The table of the first of them, and whether its rows lie far.
+    table: Option<usize>,
+    is_far: bool,
     spots: [Option<Spot>; GROUP],
 }
 
 impl Lookahead {
-    /// Looks for the keys of the updates from a place on, each step for all of them before the
-    /// next: where each is looked for, a first look there, where its rows may lie, by that or by
-    /// its hint, and a look whether they do. Looks for none where the table has few keys.
+    /// Before the first update: none is looked for.
+    pub(crate) fn none() -> Lookahead {
+        Lookahead {
+            from: usize::MAX,
+            table: None,
+            is_far: false,
+            spots: [None; GROUP],
+        }
+    }
+
+    /// Looks for the keys of the updates of a peer from a place on, each step for all of them
+    /// before the next: where each is looked for, a first look there, where its rows may lie, by
+    /// that or by its hint, a look whether they do, and one at the peer's row. Looks for none where
+    /// the table has few rows.
     pub(crate) fn look(
+        &mut self,
         machine: &Machine,
+        peer: usize,
         whats: &[What],
         from: usize,
         hints: &Vec<Option<Spot>>,
-    ) -> Lookahead {
-        let mut traces = [None; GROUP];
-        let mut spots = [None; GROUP];
-        let count = GROUP.min(far_from(machine, whats, from));
-        for ahead in 0..count {
-            traces[ahead] = trace(machine, whats, from.saturating_add(ahead), hints);
+    ) {
+        self.find_far(machine, whats, from);
+        self.from = from;
+        self.spots = [None; GROUP];
+        if self.is_far {
+            let count = GROUP.min(whats.len().saturating_sub(from));
+            spots(machine, peer, whats, from, hints, count, &mut self.spots);
         }
-        for ahead in 0..count {
-            traces[ahead] = touch(machine, whats, from.saturating_add(ahead), traces[ahead]);
+    }
+
+    // Says whether the rows lie far of the table that the update at a place puts one into. They are
+    // counted once for all updates of one table that follow each other.
+    fn find_far(&mut self, machine: &Machine, whats: &[What], from: usize) {
+        let table = match put_at(whats, from) {
+            Some((table, _)) => Some(table),
+            None => None,
+        };
+        if self.table == table {
+            return;
         }
-        for ahead in 0..count {
-            spots[ahead] = match traces[ahead] {
-                None => hint_at(hints, from.saturating_add(ahead)),
-                Some(trace) => guess(machine, whats, from.saturating_add(ahead), trace),
-            };
-        }
-        for ahead in 0..count {
-            spots[ahead] = confirm(machine, whats, from.saturating_add(ahead), spots[ahead]);
-        }
-        Lookahead { from, spots }
+        self.table = table;
+        self.is_far = match table {
+            Some(table) => machine.rows.rows_of(table) >= FAR,
+            None => false,
+        };
     }
 
     /// Whether a place is among those that were looked at.
     pub(crate) fn has(&self, place: usize) -> bool {
-        place.saturating_sub(self.from) < GROUP
+        self.from <= place && place.saturating_sub(self.from) < GROUP
     }
 
     /// The spot of the update at a place, if it was looked for and found.
@@ -66,11 +87,41 @@ impl Lookahead {
     }
 }
 
-// How many events there are from a place on, or none where that is an update of a small table.
-fn far_from(machine: &Machine, whats: &[What], from: usize) -> usize {
-    match put_at(whats, from) {
-        Some((table, _)) if machine.used(table) >= FAR => whats.len().saturating_sub(from),
-        _ => 0,
+// Looks for the keys of so many updates of a peer from a place on.
+fn spots(
+    machine: &Machine,
+    peer: usize,
+    whats: &[What],
+    from: usize,
+    hints: &Vec<Option<Spot>>,
+    count: usize,
+    spots: &mut [Option<Spot>; GROUP],
+) {
+    let mut traces = [None; GROUP];
+    let count = count.min(GROUP);
+    for ahead in 0..count {
+        traces[ahead] = trace(machine, whats, from.saturating_add(ahead), hints);
+    }
+    for ahead in 0..count {
+        traces[ahead] = touch(machine, whats, from.saturating_add(ahead), traces[ahead]);
+    }
+    for ahead in 0..count {
+        spots[ahead] = match traces[ahead] {
+            None => hint_at(hints, from.saturating_add(ahead)),
+            Some(trace) => guess(machine, whats, from.saturating_add(ahead), trace),
+        };
+    }
+    for ahead in 0..count {
+        spots[ahead] = confirm(machine, whats, from.saturating_add(ahead), spots[ahead]);
+    }
+    for ahead in 0..count {
+        spots[ahead] = touch_row(
+            machine,
+            peer,
+            whats,
+            from.saturating_add(ahead),
+            spots[ahead],
+        );
     }
 }
 
@@ -112,4 +163,16 @@ fn guess(machine: &Machine, whats: &[What], place: usize, trace: Trace) -> Optio
 fn confirm(machine: &Machine, whats: &[What], place: usize, spot: Option<Spot>) -> Option<Spot> {
     let (table, key) = put_at(whats, place)?;
     machine.rows.confirm(spot?, table, key)
+}
+
+// The spot of an update's key with a first look at where its peer's row lies there.
+fn touch_row(
+    machine: &Machine,
+    peer: usize,
+    whats: &[What],
+    place: usize,
+    spot: Option<Spot>,
+) -> Option<Spot> {
+    let (table, _) = put_at(whats, place)?;
+    machine.rows.touch_row(spot?, table, peer)
 }

@@ -267,14 +267,14 @@ fn take_each(
         (part_of turn.seat first whats.now from result.place) flips.old flips.new }
 {
     let mut place = from;
-    let mut ahead = Lookahead::look(machine, whats, from, hints);
+    let mut ahead = Lookahead::none();
     'updates: while place < whats.len() {
         let what = &whats[place];
         if !machine.takes(turn.peer, what) {
             break;
         }
         if !ahead.has(place) {
-            ahead = Lookahead::look(machine, whats, place, hints);
+            ahead.look(machine, turn.peer, whats, place, hints);
         }
         let hint = ahead.spot(place).or(hint_at(hints, place));
         let Ok(spot) = take_one(machine, held, drops, turn, what, hint, flips) else {

@@ -131,6 +131,24 @@ impl Store {
         }
     }
 
+    /// The spot with a first look at where a peer's row of the table lies there.
+    pub(crate) fn touch_row(&self, spot: Spot, table: usize, peer: usize) -> Option<Spot> {
+        if table < self.size.tables {
+            self.rows.touch_row(spot, table, peer)
+        } else {
+            None
+        }
+    }
+
+    /// How many rows a table has, over all peers, in a time by their number. No clause says it.
+    pub(crate) fn rows_of(&self, table: usize) -> usize {
+        if table < self.size.tables {
+            self.rows.count_all(table)
+        } else {
+            0
+        }
+    }
+
     /// Puts a row that arrives at a moment, in ms, in the place of the one that stood there, and
     /// answers where the rows of its key lay, if that was seen. One whose life is over takes the
     /// row away.
