@@ -46,7 +46,7 @@ pub struct Pushing {
     told: Option<u64>,
     // what the last turn has still to say
     unsaid: Unsaid,
-    // the piece of it that is written; it has room while something is unsaid
+    // the piece of it that is written; it has no room where nothing is unsaid
     piece: Vec<u8>,
 }
 
@@ -136,9 +136,6 @@ impl Pushing {
         if !self.unsaid.is_done() {
             return;
         }
-        let Some(piece) = room(alloc) else {
-            return;
-        };
         let Some(mut lens) = self.lens.take() else {
             return;
         };
@@ -149,7 +146,6 @@ impl Pushing {
         self.made = Some(now);
         if let Some(unsaid) = begun {
             self.unsaid = unsaid;
-            self.piece = piece;
         }
     }
 
@@ -162,15 +158,6 @@ impl Pushing {
         let count = write_pieces(pushed, &mut self.unsaid, &mut self.piece, writer)?;
         give_back(&self.unsaid, &mut self.piece);
         Ok(count)
-    }
-}
-
-// Room for a piece. None where an allocation failed.
-fn room(alloc: Global) -> Option<Vec<u8>> {
-    let mut piece = Vec::new(alloc);
-    match piece.reserve(PIECE) {
-        Ok(()) => Some(piece),
-        Err(_) => None,
     }
 }
 
@@ -194,6 +181,11 @@ fn write_piece<W: Write>(
     if unsaid.is_done() {
         return Ok(0);
     }
+    // Room for a piece at once, so that it isn't moved as it grows.
+    piece.clear();
+    let Ok(()) = piece.reserve(PIECE) else {
+        return Ok(0);
+    };
     let Ok(()) = unsaid.write(pushed, piece) else {
         return Ok(0);
     };

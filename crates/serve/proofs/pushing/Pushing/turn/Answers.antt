@@ -11,8 +11,8 @@ use Rattle.serve.proofs.pushing.Pushing.turn.Goals as goal
 pub begin-begun-requires : goal.begin-begun-requires
 begin-begun-requires c =
     let inside = c.self.inside in
-    let lens = c.in-Some-take.lens in
-    let had : inside.lens ≡ Some lens = sym c.take.ensures.value ∙ c.in-Some-take.is in
+    let lens = c.in-Some.lens in
+    let had : inside.lens ≡ Some lens = sym c.take.ensures.value ∙ c.in-Some.is in
     let known = subst (λ (l : Option Seeing). MatchOption l
     (AreOrdered inside.pushed inside.teller)
     (λ lens. Knows inside.pushed inside.teller inside.told lens.seen)) had c.self.invariant in
@@ -24,9 +24,9 @@ begin-begun-requires c =
 pub returns-in-Some-begun-clause-turns : goal.returns-in-Some-begun-clause-turns
 returns-in-Some-begun-clause-turns c =
     let inside = c.self.inside in
-    let lens = c.in-Some-take.lens in
+    let lens = c.in-Some.lens in
     let later = c.begin-begun.new.lens in
-    let had : inside.lens ≡ Some lens = sym c.take.ensures.value ∙ c.in-Some-take.is in
+    let had : inside.lens ≡ Some lens = sym c.take.ensures.value ∙ c.in-Some.is in
     let old : Pushing = record {
       pushed = inside.pushed;
       teller = inside.teller;
