@@ -173,7 +173,8 @@ ended_row cols col t row ended = rw ended refl
 
 pub rows_split : (cols : List (Col × ℕ)) (col : Col) (t : ℕ) (rows : List (ℕ × Row)) (p : ℕ × Row)
     (rest : List (ℕ × Row)) → rows ≡ p ∷ rest
-    → rows_worth cols col t rows ≡ row_worth cols col t (as_arrival p.1) + rows_worth cols col t rest
+    → rows_worth cols col t rows
+    ≡ row_worth cols col t (as_arrival p.1) + rows_worth cols col t rest
 rows_split cols col t rows p rest is =
     ap (rows_worth cols col t) is
     ∙ sum_by-cons (λ (p : ℕ × Row). row_worth cols col t (as_arrival p.1)) p rest

@@ -108,7 +108,8 @@ fn found<'a>(
     conds: &[Cond],
     t: u64,
 ) -> Result<Vec<Listed<'a>>, NoMemory>
-    ensures { IfOk result (λ keys. AreMeeting store.now.rows table cols.now conds.now t keys.items) }
+    ensures { IfOk result
+        (λ keys. AreMeeting store.now.rows table cols.now conds.now t keys.items) }
 {
     match store.each_key(table) {
         None => Ok(Vec::new(alloc)),

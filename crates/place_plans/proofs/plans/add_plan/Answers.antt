@@ -20,7 +20,8 @@ returns-clause-linked c =
     subst (λ xs. AreLinked (link_in xs) (places_at c.stand.new.buckets)) (sym (now c))
     (added (links_of c.args.links.now) (places_at c.args.buckets.now)
     (places_at c.stand.new.buckets) c.args.place c.args.at c.in_ok-index.index
-    c.requires.linked c.requires.none c.in_ok-index.ensures.own c.stand.ensures.others c.in_ok-index.ensures.index)
+    c.requires.linked c.requires.none c.in_ok-index.ensures.own c.stand.ensures.others
+    c.in_ok-index.ensures.index)
 
 pub returns-clause-ok : goal.returns-clause-ok
 returns-clause-ok c = ap moments_of (now c)
