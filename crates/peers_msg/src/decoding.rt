@@ -15,6 +15,12 @@ use agg_types::{Items, NoMemory};
 use bytes::{Bytes, BytesMut};
 use std::alloc::Global;
 
+/// How many bytes an update of few columns has at least.
+const SHORT_UPDATE: usize = 16;
+
+/// For how many messages room is made at once at most.
+const MOST_EXPECTED: usize = 1024;
+
 /// The message of a type in the control class.
 #[tactic(auto, unfolding(crate::specs::Message::control_of))]
 fn control(kind: u8) -> Message
@@ -106,11 +112,16 @@ fn take_message(alloc: Global, rest: &mut Bytes) -> Result<Option<Message>, Wire
     }
 }
 
+/// How many messages so many bytes may have: room is made for them at once, so that few are moved.
+fn expected(bytes: usize) -> usize {
+    (bytes / SHORT_UPDATE).min(MOST_EXPECTED)
+}
+
 /// Reads all whole messages. Takes no time for a message's payload that isn't whole.
 pub(crate) fn decode(alloc: Global, bytes: &Bytes) -> Result<Given, NoMemory>
     ensures { IfOk result (λ given. given ≡ reading_of bytes.now) }
 {
-    let mut messages = Vec::new(alloc);
+    let mut messages = Vec::with_capacity(alloc, expected(bytes.len()))?;
     let mut rest = bytes.clone()?;
     loop {
         match take_message(alloc, &mut rest) {
