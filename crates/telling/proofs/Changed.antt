@@ -105,7 +105,8 @@ length_changes bytes (word ∷ words) =
     omega (arith, length_changes (drop (len_in word) bytes) words)
 
 pub many_left : (bytes words : List ℕ) (behind begin n : ℕ) → AreChanges bytes words behind begin
-    → n ≡ length words → length (unpacked_changes (drop begin bytes) (drop behind words)) + behind ≡ n
+    → n ≡ length words
+    → length (unpacked_changes (drop begin bytes) (drop behind words)) + behind ≡ n
 many_left bytes words behind begin n were is =
     omega (
       arith,

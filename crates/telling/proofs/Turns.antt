@@ -1,6 +1,7 @@
 -- The tables of a turn, one after the other.
 use Rattle.std.proofs.Common.{◌≡◌, ℕ, ◌+◌, ◌<◌, ◌≤◌, Bool, false, List, [], ◌∷◌, ◌++◌, length}
-use Rattle.std.proofs.Common.{drop, get_or, ap, refl, sym, ◌∙◌, map, append_assoc, append-nil, arith}
+use Rattle.std.proofs.Common.{drop, get_or, ap, refl, sym, ◌∙◌, map, append_assoc, append-nil}
+use Rattle.std.proofs.Common.{arith}
 use Rattle.std.proofs.lemmas.Bool.Decides.{nat_tests}
 use Rattle.std.proofs.lemmas.List.{drop_all}
 use Rattle.std.specs.Prelude.{◌==◌, if◌then◌else◌}

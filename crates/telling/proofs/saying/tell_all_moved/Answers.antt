@@ -17,7 +17,8 @@ loop-before-preserved c = λ sets to.
     (slice_index_or c.args.told.now at no_table).marks set = to at c.loop-before-test.true in
     one_taken c.args.turn sets c.args.told.now c.args.pushed.now at
     c.index-pushed-before.result c.loop-before.unsaid.items c.push.new.self.items
-    c.loop-before.tables.items c.push-in-loop-before.new.self.items _ _ (c.loop-before.invariant sets to)
+    c.loop-before.tables.items c.push-in-loop-before.new.self.items _ _
+    (c.loop-before.invariant sets to)
     c.loop-before-test.true c.index-pushed-before.is (c.in_ok-left.ensures.unsaid set moved)
     (c.in_ok-left.ensures.after set moved (at + 1)) c.in_ok-push.ensures.items
     c.in_ok-push-2.ensures.items

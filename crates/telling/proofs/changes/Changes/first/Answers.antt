@@ -19,5 +19,6 @@ returns c =
     ∙ sym c.word_at.ensures ∙ c.in-Some.is)
     (key_taken c.self.inside.bytes.items c.as_slice-bytes.result.now c.split_at.result.1.now
     c.split_at-2.result.0.now c.self.inside.begin c.min.result c.in-Some.word c.min-2.result
-    c.as_slice-bytes.ensures.value c.min.ensures c.split_at.ensures.back c.min-2.ensures c.split_at-2.ensures.front)
+    c.as_slice-bytes.ensures.value c.min.ensures c.split_at.ensures.back c.min-2.ensures
+    c.split_at-2.ensures.front)
     c.change_in.ensures

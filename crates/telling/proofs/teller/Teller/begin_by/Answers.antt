@@ -10,7 +10,8 @@ returns-clause-said c = λ sets to.
     let moved = subst (λ (ts : List ToldTable). AreMovedTo c.args.pushed.now
     (map (λ ms. ms.items) c.args.moves.now) ts sets) (sym tables) to in
     whole_messages c.args.pushed.now sets c.args.now c.args.self.now _ _ _ _
-    c.turn_at-turn.ensures tables c.unsaid_of-unsaid.ensures.left (c.in_ok-left.ensures.unsaid sets moved)
+    c.turn_at-turn.ensures tables c.unsaid_of-unsaid.ensures.left
+    (c.in_ok-left.ensures.unsaid sets moved)
 
 pub returns-clause-told : goal.returns-clause-told
 returns-clause-told c = λ sets to.

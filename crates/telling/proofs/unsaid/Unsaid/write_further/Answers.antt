@@ -1,4 +1,5 @@
-use Rattle.std.proofs.Common.{◌≡◌, ◌∙◌, ◌++◌, ◌∷◌, ◌+◌, ap, arith, length, rules, subst, sym, List, [], ℕ}
+use Rattle.std.proofs.Common.{◌≡◌, ◌∙◌, ◌++◌, ◌∷◌, ◌+◌, ap, arith, length, rules, subst, sym}
+use Rattle.std.proofs.Common.{List, [], ℕ}
 use Rattle.std.proofs.lemmas.List.{length-append}
 use Rattle.std.specs.Prelude.{MatchOption, Option}
 use Rattle.telling.specs.Down.{IsNext}
@@ -25,5 +26,11 @@ returns-clause-goes c = λ yes.
           next.message ∷ unsaid_messages c.args.pushed.now u) (sym c.take.ensures);
       says = more ∙ ap (λ (bytes : List ℕ). c.args.piece.now.items ++ bytes)
           (c.as_slice-message.ensures.value ∙ next.spelled);
-      small = omega (arith, long, room, c.saturating_add.ensures, c.if-saturating_add-gt-PIECE.false);
+      small = omega (
+        arith,
+        long,
+        room,
+        c.saturating_add.ensures,
+        c.if-saturating_add-gt-PIECE.false,
+      );
     }
