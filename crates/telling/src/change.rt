@@ -11,14 +11,14 @@ use crate::Pushed;
 pub const REFRESH_AHEAD: u64 = 250;
 
 /// What a turn writes of a key: that it is in the set, or that it isn't any more.
-#[derive(Clone, Copy, Debug, PartialEq, Eq)]
+#[derive(Clone, Copy, PartialEq, Eq)]
 pub enum Change {
     Put,
     TakeAway,
 }
 
 /// A turn: its moment, in ms, and whether it puts every key of the sets anew.
-#[derive(Clone, Copy, Debug, PartialEq, Eq)]
+#[derive(Clone, Copy, PartialEq, Eq)]
 pub struct Turn {
     pub now: u64,
     pub anew: bool,

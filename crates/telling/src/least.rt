@@ -5,7 +5,7 @@ ghost use Rattle.telling.specs.Packed.{least_with, lesser};
 
 /// The least moment, in ms, at which a key of the set was put, and the least of the other keys;
 /// none where there is no such key.
-#[derive(Clone, Copy, Debug)]
+#[derive(Clone, Copy)]
 pub struct Least {
     pub of_set: Option<u64>,
     pub of_left: Option<u64>,

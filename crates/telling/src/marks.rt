@@ -14,7 +14,7 @@ use std::sync::Arc;
 /// The marks of a table, in parts that other lists of marks may have too.
 ///
 /// Contracts see the list of the marks.
-#[derive(Debug, Drop)]
+#[derive(Drop)]
 pub struct Marks {
     parts: Vec<Arc<Part>>,
 }

@@ -23,7 +23,7 @@ const HALF: u64 = 2_147_483_648;
 /// Marks that are packed: of each the bytes of its key and six more.
 ///
 /// Contracts see the list of the marks.
-#[derive(Debug, Drop)]
+#[derive(Drop)]
 pub struct Part {
     // The bytes of the keys, one behind the other.
     bytes: Vec<u8>,

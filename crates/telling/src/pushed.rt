@@ -12,7 +12,7 @@ use std::alloc::Global;
 pub const UNHELD_LIFE: u32 = 10_000;
 
 /// A pushed table: a standing filter's name, the kind of its keys, and how it is told.
-#[derive(Debug, Drop)]
+#[derive(Drop)]
 pub struct Pushed {
     /// The filter's name, which is the table's in the proxy too.
     pub name: Name,

@@ -5,7 +5,7 @@ use agg_types::Key;
 
 /// A key, the moment, in ms, at which it was last put, and whether its set had it at the last turn,
 /// as contracts see them in `Marks`.
-#[derive(Debug, Drop)]
+#[derive(Drop)]
 pub struct Mark {
     pub key: Key,
     pub put: u64,
@@ -14,7 +14,7 @@ pub struct Mark {
 
 /// What was told of a table: the id of its last update, 0 before the first, and the keys that were
 /// put and not taken away, in the order of their bytes.
-#[derive(Debug, Drop)]
+#[derive(Drop)]
 pub struct ToldTable {
     pub last: u32,
     pub marks: Marks,
