@@ -75,27 +75,47 @@ fn first_moved<'a>(moves: &'a [Moved<'a>], marks: Packed<'a>) -> Option<(Standin
         length found.1.moves.now + length (marks_of found.1.marks)
         < length moves.now + length (marks_of marks.entry)) }
 {
-    let [first, moves_left @ ..] = moves else {
+    let [first, others @ ..] = moves else {
         let (mark, rest) = marks.split_first()?;
         return Some((standing_on(mark), Moving { moves, marks: rest }));
     };
-    let others = Moving {
-        moves: moves_left,
+    Some(first_beside(first, others, moves, marks))
+}
+
+// The first key of moves, of which there is one, and of marks, and what is left of both behind it.
+#[inline]
+#[tactic(auto, unfolding(crate::specs::Moves::moved_stands))]
+fn first_beside<'a>(
+    first: &'a Moved<'a>,
+    others: &'a [Moved<'a>],
+    moves: &'a [Moved<'a>],
+    marks: Packed<'a>,
+) -> (Standing<'a>, Moving<'a>)
+    requires { moves.now ≡ first.now ∷ others.now }
+    ensures stands { moved_stands (first.now ∷ others.now) (marks_of marks.entry)
+        ≡ shown result.0 ∷ moved_stands result.1.moves.now (marks_of result.1.marks) }
+    ensures order { AreInOrder (marked (marks_of marks.entry))
+        → AreInOrder (marked (marks_of result.1.marks)) }
+    ensures fewer { length result.1.moves.now + length (marks_of result.1.marks)
+        < length (first.now ∷ others.now) + length (marks_of marks.entry) }
+{
+    let behind = Moving {
+        moves: others,
         marks,
     };
     let Some((mark, rest)) = marks.split_first() else {
-        return Some((moved(first, None), others));
+        return (moved(first, None), behind);
     };
     match first.key.cmp(&mark.key) {
-        Ordering::Less => Some((moved(first, None), others)),
-        Ordering::Equal => Some((
+        Ordering::Less => (moved(first, None), behind),
+        Ordering::Equal => (
             moved(first, Some(mark.put)),
             Moving {
-                moves: moves_left,
+                moves: others,
                 marks: rest,
             },
-        )),
-        Ordering::Greater => Some((standing_on(mark), Moving { moves, marks: rest })),
+        ),
+        Ordering::Greater => (standing_on(mark), Moving { moves, marks: rest }),
     }
 }
 

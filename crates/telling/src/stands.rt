@@ -74,15 +74,30 @@ fn first_standing<'a>(set: &'a [&'a Key], marks: Packed<'a>) -> Option<(Standing
         let (mark, rest) = marks.split_first()?;
         return Some((told_alone(mark), Stands::new(set, rest)));
     };
-    let key: &Key = key;
+    Some(first_beside(key, others, set, marks))
+}
+
+// The first key of a set that has one and of what was told, and what is left of both behind it.
+#[inline]
+#[tactic(auto, unfolding(crate::specs::Stands::stands))]
+fn first_beside<'a>(
+    key: &'a Key,
+    others: &'a [&'a Key],
+    set: &'a [&'a Key],
+    marks: Packed<'a>,
+) -> (Standing<'a>, Stands<'a>)
+    requires { map (λ key. key.now) set.now ≡ key.now ∷ map (λ key. key.now) others.now }
+    ensures { stands (key.now ∷ map (λ key. key.now) others.now) (marks_of marks.entry)
+        ≡ shown result.0 ∷ result.1 }
+{
     let key = key.as_slice();
     let Some((mark, rest)) = marks.split_first() else {
-        return Some((held(key, None), Stands::new(others, marks)));
+        return (held(key, None), Stands::new(others, marks));
     };
     match key.cmp(&mark.key) {
-        Ordering::Less => Some((held(key, None), Stands::new(others, marks))),
-        Ordering::Equal => Some((held(key, Some(mark.put)), Stands::new(others, rest))),
-        Ordering::Greater => Some((told_alone(mark), Stands::new(set, rest))),
+        Ordering::Less => (held(key, None), Stands::new(others, marks)),
+        Ordering::Equal => (held(key, Some(mark.put)), Stands::new(others, rest)),
+        Ordering::Greater => (told_alone(mark), Stands::new(set, rest)),
     }
 }
 
