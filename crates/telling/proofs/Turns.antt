@@ -1,12 +1,13 @@
 -- The tables of a turn, one after the other.
 use Rattle.std.proofs.Common.{◌≡◌, ℕ, ◌+◌, ◌<◌, ◌≤◌, Bool, false, List, [], ◌∷◌, ◌++◌, length}
 use Rattle.std.proofs.Common.{drop, get_or, ap, refl, sym, ◌∙◌, map, append_assoc, append-nil}
-use Rattle.std.proofs.Common.{arith}
+use Rattle.std.proofs.Common.{arith, subst}
 use Rattle.std.proofs.lemmas.Bool.Decides.{nat_tests}
 use Rattle.std.proofs.lemmas.List.{drop_all}
-use Rattle.std.specs.Prelude.{◌==◌, if◌then◌else◌}
+use Rattle.std.specs.Prelude.{◌==◌, if◌then◌else◌, IfOk, Result}
 use Rattle.peers_msg.specs.declared.message.Message.{Message}
 use Rattle.telling.specs.Down.{defined_behind, unsaid_table, unsaid_tables}
+use Rattle.telling.specs.Moves.{BringsTo}
 use Rattle.telling.specs.Stands.{stands}
 use Rattle.telling.specs.Told.{no_table}
 use Rattle.telling.specs.Telling.{changes, defined_after, last_defined, table_turn}
@@ -14,6 +15,7 @@ use Rattle.telling.specs.Telling.{table_turns, update_messages, updates, with_de
 use Rattle.telling.specs.Unsaid.{unsaid_updates}
 use Rattle.telling.specs.declared.change.Change.{Change}
 use Rattle.telling.specs.declared.change.Turn.{Turn}
+use Rattle.telling.specs.declared.moved.Moved.{Moved}
 use Rattle.telling.specs.declared.pushed.Pushed.{Pushed}
 use Rattle.telling.specs.declared.told.ToldTable.{ToldTable}
 use Rattle.telling.specs.declared.unsaid.UnsaidTable.{UnsaidTable}
@@ -114,3 +116,53 @@ defined_are turn sets told d b (p ∷ ps) =
     ap (λ (e : ℕ). defined_behind e (b + 1) (unsaid_tables turn sets told (b + 1) ps))
     (sym (defined_by d (b + 1) p old.last cs))
     ∙ defined_are turn sets told (defined_after d (b + 1) (updates p old.last cs)) (b + 1) ps
+
+-- ---- what moves make of a table, by other words for the moves and for the table
+
+pub moved_unsaid : {E : Type 0} (result : Result (UnsaidTable × ToldTable) E) (turn : Turn)
+    (pushed : Pushed) (ms ns : List Moved) (t u : ToldTable) → ms ≡ ns → t ≡ u
+    → IfOk result (λ tables. (set : List (List ℕ)) → BringsTo ms t.marks set
+    → tables.0 ≡ unsaid_table turn pushed set t)
+    → IfOk result (λ tables. (set : List (List ℕ)) → BringsTo ns u.marks set
+    → tables.0 ≡ unsaid_table turn pushed set u)
+moved_unsaid result turn pushed ms ns t u moves table h =
+    subst (λ (xs : List Moved). IfOk result (λ tables. (set : List (List ℕ))
+    → BringsTo xs u.marks set → tables.0 ≡ unsaid_table turn pushed set u)) moves
+    (subst (λ (x : ToldTable). IfOk result (λ tables. (set : List (List ℕ))
+    → BringsTo ms x.marks set → tables.0 ≡ unsaid_table turn pushed set x)) table h)
+
+pub moved_after : {E : Type 0} (result : Result (UnsaidTable × ToldTable) E) (turn : Turn)
+    (pushed : Pushed) (ms ns : List Moved) (t u : ToldTable) → ms ≡ ns → t ≡ u
+    → IfOk result (λ tables. (set : List (List ℕ)) → BringsTo ms t.marks set → (id : ℕ)
+    → tables.1 ≡ (table_turn turn id pushed set t).after)
+    → IfOk result (λ tables. (set : List (List ℕ)) → BringsTo ns u.marks set → (id : ℕ)
+    → tables.1 ≡ (table_turn turn id pushed set u).after)
+moved_after result turn pushed ms ns t u moves table h =
+    subst (λ (xs : List Moved). IfOk result (λ tables. (set : List (List ℕ))
+    → BringsTo xs u.marks set → (id : ℕ)
+    → tables.1 ≡ (table_turn turn id pushed set u).after)) moves
+    (subst (λ (x : ToldTable). IfOk result (λ tables. (set : List (List ℕ))
+    → BringsTo ms x.marks set → (id : ℕ)
+    → tables.1 ≡ (table_turn turn id pushed set x).after)) table h)
+
+-- the same of a set
+
+pub set_unsaid : {E : Type 0} (result : Result (UnsaidTable × ToldTable) E) (turn : Turn)
+    (pushed : Pushed) (ks ls : List (List ℕ)) (t u : ToldTable) → ks ≡ ls → t ≡ u
+    → IfOk result (λ tables. tables.0 ≡ unsaid_table turn pushed ks t)
+    → IfOk result (λ tables. tables.0 ≡ unsaid_table turn pushed ls u)
+set_unsaid result turn pushed ks ls t u set table h =
+    subst (λ (xs : List (List ℕ)). IfOk result (λ tables.
+    tables.0 ≡ unsaid_table turn pushed xs u)) set
+    (subst (λ (x : ToldTable). IfOk result (λ tables.
+    tables.0 ≡ unsaid_table turn pushed ks x)) table h)
+
+pub set_after : {E : Type 0} (result : Result (UnsaidTable × ToldTable) E) (turn : Turn)
+    (pushed : Pushed) (ks ls : List (List ℕ)) (t u : ToldTable) → ks ≡ ls → t ≡ u
+    → IfOk result (λ tables. (id : ℕ) → tables.1 ≡ (table_turn turn id pushed ks t).after)
+    → IfOk result (λ tables. (id : ℕ) → tables.1 ≡ (table_turn turn id pushed ls u).after)
+set_after result turn pushed ks ls t u set table h =
+    subst (λ (xs : List (List ℕ)). IfOk result (λ tables. (id : ℕ)
+    → tables.1 ≡ (table_turn turn id pushed xs u).after)) set
+    (subst (λ (x : ToldTable). IfOk result (λ tables. (id : ℕ)
+    → tables.1 ≡ (table_turn turn id pushed ks x).after)) table h)
