@@ -103,11 +103,14 @@ impl Part {
             return Err(NoMemory);
         };
         let from = self.bytes.len();
-        self.lens.reserve(1)?;
-        self.puts.reserve(1)?;
-        self.bytes.extend_from_slice(key)?;
-        self.lens.push(len).unwrap();
-        self.puts.push(after).unwrap();
+        append(
+            &mut self.bytes,
+            &mut self.lens,
+            &mut self.puts,
+            key,
+            len,
+            after,
+        )?;
         self.base = base;
         self.least = self.least.with(is_in, put);
         self.last = from;
@@ -183,6 +186,31 @@ impl Part {
             base: self.base,
         }
     }
+}
+
+// Appends a key's bytes, its word, and how long after the base it was put. After `NoMemory` the
+// lists are as they were.
+#[inline]
+fn append(
+    bytes: &mut Vec<u8>,
+    lens: &mut Vec<u16>,
+    puts: &mut Vec<u32>,
+    key: &[u8],
+    len: u16,
+    after: u32,
+) -> Result<(), NoMemory>
+    ensures bytes { OnOk result (bytes.new.items ≡ bytes.old.items ++ key.now) }
+    ensures lens { OnOk result (lens.new.items ≡ lens.old.items ++ len ∷ []) }
+    ensures puts { OnOk result (puts.new.items ≡ puts.old.items ++ after ∷ []) }
+    ensures err { OnErr result ((bytes.new.items ≡ bytes.old.items)
+        × (lens.new.items ≡ lens.old.items) × (puts.new.items ≡ puts.old.items)) }
+{
+    lens.reserve(1)?;
+    puts.reserve(1)?;
+    bytes.extend_from_slice(key)?;
+    lens.push(len).unwrap();
+    puts.push(after).unwrap();
+    Ok(())
 }
 
 /// A key's length, and whether it is in the set, in one word; none where the key is too long.
