@@ -12,7 +12,6 @@ use std::alloc::Global;
 pub const UNHELD_LIFE: u32 = 10_000;
 
 /// A pushed table: a standing filter's name, the kind of its keys, and how it is told.
-#[derive(Drop)]
 pub struct Pushed {
     /// The filter's name, which is the table's in the proxy too.
     pub name: Name,
@@ -22,6 +21,18 @@ pub struct Pushed {
     pub life: u32,
     /// Whether a key that left the set is left to its life, in place of being taken away.
     pub holds: bool,
+}
+
+// By hand, so that a crate that drops it proves nothing of its parts.
+impl Drop for Pushed {
+    fn drop(self) {
+        let Pushed {
+            name: _,
+            kind: _,
+            life: _,
+            holds: _,
+        } = self;
+    }
 }
 
 /// The tables that a configuration pushes, in the order of their lines.

@@ -26,13 +26,25 @@ use std::marker::Model;
 /// Contracts see of each table the last update id and the keys that were put, each with the moment
 /// at which it was last put, and whether its set had it at the last turn; which table was defined
 /// last; whether the first turn was made; and whether all is asked for anew.
-#[derive(Drop)]
 pub struct Teller {
     alloc: Global,
     tables: Items<ToldTable>,
     defined: u64,
     begun: bool,
     anew: bool,
+}
+
+// By hand, so that a crate that drops a teller proves nothing of its parts.
+impl Drop for Teller {
+    fn drop(self) {
+        let Teller {
+            alloc: _,
+            tables: _,
+            defined: _,
+            begun: _,
+            anew: _,
+        } = self;
+    }
 }
 
 impl Model for Teller {
