@@ -18,7 +18,8 @@ use Rattle.telling.specs.declared.pushed.Pushed.{Pushed}
 use Rattle.telling.specs.declared.told.Mark.{Mark}
 use Rattle.telling.proofs.Beside.{SkipsNone, by_moves}
 
-no_change : (p : Pushed) (turn : Turn) → change_of p turn false None ≡ None
+-- a key that isn't in the set and was never put isn't written
+pub no_change : (p : Pushed) (turn : Turn) → change_of p turn false None ≡ None
 unfolding change_of
 no_change p turn = by p.holds
   where

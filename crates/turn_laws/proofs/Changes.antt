@@ -14,7 +14,7 @@ use Rattle.std.proofs.lemmas.Slice.Eq.{bytes_eq-Decides}
 use Rattle.peers_msg.specs.declared.message.Message.{Message}
 use Rattle.telling.specs.Among.{IsAmong, IsMarkOf, IsMarked}
 use Rattle.telling.specs.Rules.{change_of, is_due, is_told, is_written, put_after}
-use Rattle.telling.specs.Telling.{last_after, next_id, update_of, updates}
+use Rattle.telling.specs.Telling.{next_id, update_of, updates}
 use Rattle.telling.specs.declared.change.TheConstants.{REFRESH_AHEAD}
 use Rattle.telling.specs.declared.change.Change.{Change}
 use Rattle.telling.specs.declared.change.Change.TheVariants.{Put, TakeAway}
@@ -43,14 +43,6 @@ numbered_from table last x k (c ∷ cs) e =
 pub are_numbered : (table : Pushed) (last : ℕ) (cs : List (List ℕ × Change))
     → updates table last cs ≡ numbered table last cs
 are_numbered table last cs = numbered_from table last last 1 cs refl
-
-pub last_counts : (last : ℕ) (cs : List (List ℕ × Change)) → last < 2 ^ 32
-    → last_after last cs ≡ (last + length cs) % 2 ^ 32
-last_counts last [] small = omega arith
-last_counts last (c ∷ cs) small =
-    last_counts (next_id last) cs (omega arith) ∙ mod-add-mod (last + 1) (2 ^ 32) (length cs)
-    ∙ ap (λ (n : ℕ). n % 2 ^ 32)
-    (let s : (last + 1) + length cs ≡ last + length (c ∷ cs) = omega arith in s)
 
 pub length_updates : (table : Pushed) (last : ℕ) (cs : List (List ℕ × Change))
     → length (updates table last cs) ≡ length cs

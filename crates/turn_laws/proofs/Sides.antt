@@ -1,8 +1,7 @@
 -- What stands side by side, key by key.
 use Rattle.std.proofs.Common.{◌≡◌, ℕ, Bool, true, false, cond, ◌&&◌, ◌||◌, List, [], ◌∷◌, ◌++◌}
 use Rattle.std.proofs.Common.{map, Option, None, Some, refl, sym, ap, subst, ◌∙◌}
-use Rattle.std.specs.Prelude.{option_to_list, not}
-use Rattle.std.specs.Bool.{then_some}
+use Rattle.std.specs.Prelude.{option_to_list}
 use Rattle.std.specs.Cmp.Lexicographic.{slice_cmp}
 use Rattle.std.specs.List.Sorted.{IsStrictlySortedBy}
 use Rattle.std.specs.Option.{option_map}
@@ -15,7 +14,6 @@ use Rattle.telling.specs.Rules.{change_of, put_after}
 use Rattle.telling.specs.Stands.{Stand, by_order, in_set, only_told, placed, stands}
 use Rattle.telling.specs.Telling.{changes, marks_after}
 use Rattle.telling.specs.declared.change.Change.{Change}
-use Rattle.telling.specs.declared.change.Change.TheVariants.{TakeAway}
 use Rattle.telling.specs.declared.change.Turn.{Turn}
 use Rattle.telling.specs.declared.pushed.Pushed.{Pushed}
 use Rattle.telling.specs.declared.told.Mark.{Mark}
@@ -23,6 +21,7 @@ pub use Rattle.telling.proofs.InOrder.{each_marked, each_stand, order_marked, or
 use Rattle.telling.proofs.InOrder.{stand_keys}
 pub use Rattle.telling.proofs.Order.{Each, IsBelow, alike, unlike}
 use Rattle.telling.proofs.Order.{below_above, each_above, not_in}
+use Rattle.telling.proofs.Turned.{no_change}
 use Rattle.turn_laws.specs.Keys.{AreInOrder, change_for, is_in, keys_of, put_of}
 
 -- ---- keys in order
@@ -161,14 +160,6 @@ change_here key own None cs true e h = h refl
 change_here key own None cs false e h = refl
 change_here key own (Some change) cs b e h =
     ap (λ (x : Bool). cond x (Some change) (change_for key cs)) e
-
-no_change : (table : Pushed) (turn : Turn) → change_of table turn false None ≡ None
-unfolding change_of
-no_change table turn = by table.holds
-  where
-    by : (holds : Bool) → then_some (not holds && false) TakeAway ≡ None
-    by true = refl
-    by false = refl
 
 -- a key is changed as it stands
 pub changed_at : (key : List ℕ) (table : Pushed) (turn : Turn) (standing : List Stand)

@@ -13,13 +13,14 @@ use Rattle.telling.specs.declared.change.Change.{Change}
 use Rattle.telling.specs.declared.pushed.Pushed.{Pushed}
 use Rattle.telling.specs.declared.told.Mark.{Mark}
 use Rattle.telling.specs.declared.told.ToldTable.{ToldTable}
+use Rattle.telling.proofs.Steps.{last_counts}
 use Rattle.turn_laws.specs.Keys.{AreInOrder, AreSets, AreShort, IsKept, change_for, is_in, keys_of}
 use Rattle.turn_laws.specs.Keys.{put_of}
 use Rattle.turn_laws.specs.Written.{Has, Tells, updates_at}
 use Rattle.turn_laws.proofs.Sides.{changed_at, each_marked, each_stand, marked_at, order_changed}
 use Rattle.turn_laws.proofs.Sides.{order_marked, order_stands, sides}
 use Rattle.turn_laws.proofs.Places.{last_there, marks_there, none_there, updates_there}
-use Rattle.turn_laws.proofs.Changes.{are_numbered, has_change, last_counts, length_updates}
+use Rattle.turn_laws.proofs.Changes.{are_numbered, has_change, length_updates}
 
 none_in_order : AreInOrder []
 unfolding IsStrictlySortedBy
