@@ -1,12 +1,12 @@
 -- Marks that are packed.
 use Rattle.std.proofs.Common.{◌≡◌, ℕ, ◌+◌, ◌≤◌, Bool, true, false, List, [], ◌∷◌, ◌++◌, length}
 use Rattle.std.proofs.Common.{take, drop, refl, Option, None, Some}
-use Rattle.std.proofs.Common.{ap, arith, length-drop, subst, sym, ◌∙◌}
+use Rattle.std.proofs.Common.{ap, append_assoc, arith, get_or, length-drop, subst, sym, ◌∙◌, ◌<◌}
 use Rattle.std.specs.Prelude.{if◌then◌else◌, nat_lt}
 use Rattle.std.specs.List.{sum_by}
 use Rattle.std.proofs.lemmas.List.Sums.{sum_by-cons, sum_by_push}
 use Rattle.std.proofs.lemmas.List.{length-append, length-map, map-append, nil_from_length}
-use Rattle.std.proofs.lemmas.List.{take_all}
+use Rattle.std.proofs.lemmas.List.{get_or_default, take_all}
 use Rattle.std.proofs.lemmas.List.{take-append-le, drop-append-le}
 use Rattle.std.proofs.Math.Seq.{drop-append_seam}
 use Rattle.std.specs.List.{AllByRecursion}
@@ -15,6 +15,7 @@ use Rattle.telling.specs.Packed.{lesser, moment, moments, unpacked, with_puts}
 use Rattle.telling.specs.declared.least.Least.{Least}
 use Rattle.telling.specs.declared.parts.TheConstants.{LEFT}
 use Rattle.telling.specs.declared.told.Mark.{Mark}
+use Rattle.telling.proofs.Rest.{drop_here}
 
 -- the first mark of all, where there are no others
 first_mark : (key : List ℕ) (word put : ℕ) (is_in : Bool) → IsWord word (length key) is_in
@@ -159,6 +160,19 @@ pub moments_more : (base after put : ℕ) (puts : List ℕ) → moment base afte
 moments_more base after put puts is =
     map-append (moment base) puts (after ∷ [])
     ∙ ap (λ (n : ℕ). moments base puts ++ n ∷ []) is
+
+-- the moments so far and those that are left, with one moment more
+pub moments_on : (base after : ℕ) (afters puts : List ℕ) (i : ℕ) → i < length puts
+    → moment base after ≡ get_or puts i 0
+    → moments base (afters ++ after ∷ []) ++ drop (i + 1) puts
+    ≡ moments base afters ++ drop i puts
+moments_on base after afters puts i lt is =
+    let here : drop i puts ≡ get_or puts i 0 ∷ drop (i + 1) puts =
+    drop_here puts i (get_or puts i 0) lt (get_or_default puts i 0 (get_or puts i 0) lt) in
+    ap (λ (xs : List ℕ). xs ++ drop (i + 1) puts)
+    (moments_more base after (get_or puts i 0) afters is)
+    ∙ append_assoc (moments base afters) (get_or puts i 0 ∷ []) (drop (i + 1) puts)
+    ∙ ap (λ (xs : List ℕ). moments base afters ++ xs) (sym here)
 
 -- ---- other moments
 
