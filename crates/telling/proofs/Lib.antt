@@ -5,6 +5,7 @@ pub mod Texts
 pub mod Rest
 pub mod Left
 pub mod Steps
+pub mod Firsts
 pub mod Turns
 pub mod Quiet
 pub mod Whole
