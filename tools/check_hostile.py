@@ -20,7 +20,6 @@ import signal
 import socket
 import struct
 import subprocess
-import sys
 import tempfile
 import threading
 import time
@@ -738,8 +737,7 @@ def main():
     collector.stop()
     for part in (scarce, elsewhere, unknown, mute, broken, pushing, checking, surroundings):
         part(report, options)
-    print(f"{report.passed} passed, {report.failed} failed")
-    sys.exit(1 if report.failed else 0)
+    report.end()
 
 
 if __name__ == "__main__":

@@ -20,7 +20,6 @@ import signal
 import socket
 import struct
 import subprocess
-import sys
 import tempfile
 import threading
 import time
@@ -474,8 +473,7 @@ def main():
     report.check("it is still there", 3, lambda: differs(get(port, "/healthz")[0], 200))
     peer.close()
     collector.stop()
-    print(f"{report.passed} passed, {report.failed} failed")
-    sys.exit(1 if report.failed else 0)
+    report.end()
 
 
 if __name__ == "__main__":

@@ -41,6 +41,11 @@ class Report:
         self.passed, self.failed = self.passed + (not wrong), self.failed + bool(wrong)
         print(f"passed  {name}" if not wrong else f"FAILED  {name}: {wrong}", flush=True)
 
+    def end(self):
+        """Says how many passed and failed, and ends the program by that."""
+        print(f"{self.passed} passed, {self.failed} failed")
+        sys.exit(1 if self.failed else 0)
+
 
 def sums(proxies, column):
     """Each key's sum of a column over the proxies' own tables."""
@@ -195,8 +200,7 @@ def main():
                 proxy.stop()
             collector.stop()
         rows_end(report, folder, options, log)
-    print(f"{report.passed} passed, {report.failed} failed")
-    sys.exit(1 if report.failed else 0)
+    report.end()
 
 
 if __name__ == "__main__":

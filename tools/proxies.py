@@ -163,3 +163,11 @@ class Proxy:
             self.process.wait(timeout=5)
         except subprocess.TimeoutExpired:
             self.kill()
+
+
+def kill_all(proxies, collector):
+    """Ends the proxies and the collector."""
+    for proxy in proxies:
+        proxy.stop()
+    collector.process.kill()
+    collector.process.wait()

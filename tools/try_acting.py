@@ -12,14 +12,13 @@ status is 1 where one failed.
 
 import argparse
 import pathlib
-import sys
 import tempfile
 import time
 import urllib.error
 import urllib.request
 
 from check_with_haproxy import SETTLED, Report
-from proxies import COLLECTOR, REPOSITORY, Collector, Proxy, free_ports, wait_for
+from proxies import COLLECTOR, REPOSITORY, Collector, Proxy, free_ports, kill_all, wait_for
 
 CONFIG = REPOSITORY / "examples/acting.conf"
 PROXY = REPOSITORY / "examples/acting.cfg"
@@ -138,12 +137,8 @@ def main():
             collector = collector_returns(report, collector, proxies, options.collector, log)
             master_reloads(report, collector, proxies, folder)
         finally:
-            for proxy in proxies:
-                proxy.stop()
-            collector.process.kill()
-            collector.process.wait()
-    print(f"{report.passed} passed, {report.failed} failed")
-    sys.exit(1 if report.failed else 0)
+            kill_all(proxies, collector)
+    report.end()
 
 
 if __name__ == "__main__":

@@ -14,7 +14,6 @@ import argparse
 import json
 import pathlib
 import subprocess
-import sys
 import tempfile
 import threading
 import time
@@ -22,7 +21,7 @@ import urllib.parse
 import urllib.request
 
 from check_with_haproxy import Report
-from proxies import COLLECTOR, REPOSITORY, Collector, Proxy, free_ports, wait_for
+from proxies import COLLECTOR, REPOSITORY, Collector, Proxy, free_ports, kill_all, wait_for
 from try_acting import CONFIG, PROXY, status
 
 SETTINGS = """global:
@@ -145,12 +144,8 @@ def main():
             watch(report, prometheus, collector, proxies, options.minutes)
         finally:
             prometheus.stop()
-            for proxy in proxies:
-                proxy.stop()
-            collector.process.kill()
-            collector.process.wait()
-    print(f"{report.passed} passed, {report.failed} failed")
-    sys.exit(1 if report.failed else 0)
+            kill_all(proxies, collector)
+    report.end()
 
 
 if __name__ == "__main__":
