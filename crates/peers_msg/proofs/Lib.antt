@@ -1,6 +1,7 @@
 pub mod Integers
 pub mod Payloads
 pub mod Frames
+pub mod Parts
 pub mod Readings
 pub mod Bounds
 pub mod Appended

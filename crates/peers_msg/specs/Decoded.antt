@@ -1,12 +1,13 @@
 -- What the steps of the decoder return, against what is read.
 use Rattle.std.specs.Prelude.{◌≡◌, ℕ, ◌+◌, ◌≤◌, ◌<◌, List, length, take, drop, Option, Some, None}
 use Rattle.std.specs.Prelude.{Result, Ok, Err}
-use Rattle.peers_msg.specs.declared.message.Message.{Message}
+use Rattle.peers_msg.specs.declared.entry.Entry.{Entry}
 use Rattle.peers_msg.specs.declared.framing.Head.{Head}
 use Rattle.peers_msg.specs.declared.framing.Head.TheVariants as heads
 use Rattle.peers_msg.specs.declared.fault.WireCause.{WireCause}
 use Rattle.peers_msg.specs.declared.fault.WireCause.TheVariants.{TooLong, BadInteger, BadField}
 use Rattle.peers_msg.specs.declared.fault.WireCause.TheVariants.{NoMemory}
+use Rattle.peers_msg.specs.Lent.{entry_message}
 use Rattle.peers_msg.specs.Message.{Frame, Short, Wrong, Framed, First, Unfinished, Faulty, Whole}
 
 -- what a head says of the frame at the front of bytes
@@ -35,8 +36,11 @@ IsWireFault BadInteger = Unit {0}
 IsWireFault BadField = Unit {0}
 IsWireFault NoMemory = ⊥
 
--- the first message and what is left behind it, or the fault at the front, unless memory ran out
-abbrev pub IsFirst : Result (Option Message) WireCause → List ℕ → List ℕ → First → Type 0
-IsFirst (Ok None) bytes left first = (first ≡ Unfinished) × (left ≡ bytes)
-IsFirst (Ok (Some message)) bytes left first = first ≡ Whole message left
-IsFirst (Err cause) bytes left first = FaultIsFirst cause first
+-- the first message from a place on, and the place behind it, or the fault there, unless memory ran
+-- out
+abbrev pub IsFirst : Result (Option (Entry × ℕ)) WireCause → List ℕ → ℕ → First → Type 0
+IsFirst (Ok None) bytes at first = first ≡ Unfinished
+IsFirst (Ok (Some found)) bytes at first =
+    (first ≡ Whole (entry_message bytes found.0) (drop found.1 bytes)) × (at < found.1)
+    × (found.1 ≤ length bytes)
+IsFirst (Err cause) bytes at first = FaultIsFirst cause first

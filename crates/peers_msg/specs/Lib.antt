@@ -3,6 +3,7 @@ pub mod Numeral
 pub mod Payload
 pub mod Message
 pub mod Gives
+pub mod Lent
 pub mod Decoded
 pub mod Spelling
 pub mod Reads

@@ -1,16 +1,19 @@
 //! Messages, one after the other.
 
-ghost use Rattle.std.specs.Prelude.{◌≡◌, ◌<◌, length, IfOk, IfSome};
-ghost use Rattle.peers_msg.specs.Gives.{Gives};
+ghost use Rattle.std.specs.Prelude.{◌≡◌, ◌+◌, ◌^◌, ◌<◌, ◌≤◌, ℕ, List, length, take, drop, IfOk};
+ghost use Rattle.std.specs.Prelude.{box_value};
+ghost use Rattle.peers_msg.specs.Lent.{entry_message, define_of, GivesEntry};
 ghost use Rattle.peers_msg.specs.Message.{control_of, error_of, table_of, message_of, first_of};
 ghost use Rattle.peers_msg.specs.Message.{reading_of};
+ghost use Rattle.peers_msg.specs.Payload.{update_of, switch_of, acked_of};
 ghost use Rattle.peers_msg.specs.Decoded.{IsFirst};
 
+use crate::entry::{Entry, cut};
 use crate::framing::{Head, head_of};
 use crate::given::Given;
 use crate::kinds::*;
-use crate::payload::{read_acked, read_definition, read_switch, read_update};
-use crate::{Message, WireCause};
+use crate::payload::{acked_of, read_definition, switch_of, update_of};
+use crate::{Definition, WireCause};
 use agg_types::{Items, NoMemory};
 use bytes::{Bytes, BytesMut};
 use std::alloc::Global;
@@ -21,18 +24,21 @@ const SHORT_UPDATE: usize = 16;
 /// For how many messages room is made at once at most.
 const MOST_EXPECTED: usize = 1024;
 
+/// The most bytes that are read at once, so that a place among them is a `u32`.
+const MOST_BYTES: usize = u32::MAX as usize;
+
 /// The message of a type in the control class.
 #[tactic(auto, unfolding(crate::specs::Message::control_of))]
-fn control(kind: u8) -> Message
-    ensures { result ≡ control_of kind }
+fn control(kind: u8) -> Entry
+    ensures { (bytes : List ℕ) → entry_message bytes result ≡ control_of kind }
 {
     match kind {
-        RESYNC_REQUEST => Message::Request,
-        RESYNC_FINISHED => Message::Finished,
-        RESYNC_PARTIAL => Message::Partial,
-        RESYNC_CONFIRM => Message::Confirm,
-        HEARTBEAT => Message::Heartbeat,
-        _ => Message::Other {
+        RESYNC_REQUEST => Entry::Request,
+        RESYNC_FINISHED => Entry::Finished,
+        RESYNC_PARTIAL => Entry::Partial,
+        RESYNC_CONFIRM => Entry::Confirm,
+        HEARTBEAT => Entry::Heartbeat,
+        _ => Entry::Other {
             class: CONTROL_CLASS,
             kind,
         },
@@ -41,62 +47,142 @@ fn control(kind: u8) -> Message
 
 /// The message of a type in the error class.
 #[tactic(auto, unfolding(crate::specs::Message::error_of))]
-fn error(kind: u8) -> Message
-    ensures { result ≡ error_of kind }
+fn error(kind: u8) -> Entry
+    ensures { (bytes : List ℕ) → entry_message bytes result ≡ error_of kind }
 {
     match kind {
-        PROTOCOL_ERROR => Message::ProtocolError,
-        SIZE_ERROR => Message::SizeError,
-        _ => Message::Other {
+        PROTOCOL_ERROR => Entry::ProtocolError,
+        SIZE_ERROR => Entry::SizeError,
+        _ => Entry::Other {
             class: ERROR_CLASS,
             kind,
         },
     }
 }
 
-/// The message of a type in the table class.
+/// An update with or without an id and a remaining life.
+#[inline]
+fn update(
+    has_id: bool,
+    has_life: bool,
+    bytes: &[u8],
+    start: usize,
+    len: usize,
+) -> Result<Entry, WireCause>
+    requires within { start + len ≤ length bytes.now }
+    requires small { length bytes.now < 2 ^ 32 }
+    ensures { GivesEntry bytes.now result
+        (update_of has_id has_life (take len (drop start bytes.now))) }
+{
+    match update_of(has_id, has_life, &bytes[start..][..len]) {
+        None => Err(WireCause::BadField),
+        Some((id, life, taken)) => Ok(Entry::Update {
+            id,
+            life,
+            start: (start + taken) as u32,
+            len: (len - taken) as u32,
+        }),
+    }
+}
+
+/// A switch.
+fn switch(payload: &[u8]) -> Result<Entry, WireCause>
+    ensures { (bytes : List ℕ) → GivesEntry bytes result (switch_of payload.now) }
+{
+    match switch_of(payload) {
+        None => Err(WireCause::BadField),
+        Some(id) => Ok(Entry::Switch(id)),
+    }
+}
+
+/// An acknowledgement.
+fn acked(payload: &[u8]) -> Result<Entry, WireCause>
+    ensures { (bytes : List ℕ) → GivesEntry bytes result (acked_of payload.now) }
+{
+    match acked_of(payload) {
+        None => Err(WireCause::BadField),
+        Some((id, last)) => Ok(Entry::Acked { id, last }),
+    }
+}
+
+/// A definition, in a block of its own.
+#[inline(never)]
+fn define(alloc: Global, payload: Bytes) -> Result<Entry, WireCause>
+    ensures { (bytes : List ℕ) → GivesEntry bytes result (define_of payload) }
+{
+    let definition = read_definition(alloc, payload)?;
+    Ok(Entry::Define(boxed(alloc, definition)?))
+}
+
+fn boxed(alloc: Global, definition: Definition) -> Result<Box<Definition>, NoMemory>
+    ensures { IfOk result (λ it. box_value it ≡ definition) }
+{
+    Ok(Box::new(alloc, definition)?)
+}
+
+/// The message of a type in the table class, whose payload lies there.
 #[inline]
 #[tactic(auto, unfolding(crate::specs::Message::table_of))]
-fn table(alloc: Global, kind: u8, payload: Bytes) -> Result<Message, WireCause>
-    ensures { Gives result (table_of kind payload) }
+fn table(
+    alloc: Global,
+    kind: u8,
+    bytes: &Bytes,
+    start: usize,
+    len: usize,
+) -> Result<Entry, WireCause>
+    requires within { start + len ≤ length bytes.now }
+    requires small { length bytes.now < 2 ^ 32 }
+    ensures { GivesEntry bytes.now result (table_of kind (take len (drop start bytes.now))) }
 {
+    let all = bytes.as_slice();
     match kind {
-        UPDATE => read_update(true, false, payload),
-        INCREMENTAL_UPDATE => read_update(false, false, payload),
-        TABLE_DEFINITION => Ok(Message::Define(read_definition(alloc, payload)?)),
-        TABLE_SWITCH => read_switch(payload),
-        ACKNOWLEDGEMENT => read_acked(payload),
-        TIMED_UPDATE => read_update(true, true, payload),
-        TIMED_INCREMENTAL_UPDATE => read_update(false, true, payload),
-        _ => Ok(Message::Other {
+        UPDATE => update(true, false, all, start, len),
+        INCREMENTAL_UPDATE => update(false, false, all, start, len),
+        TABLE_DEFINITION => define(alloc, cut(bytes, start, len)?),
+        TABLE_SWITCH => switch(&all[start..][..len]),
+        ACKNOWLEDGEMENT => acked(&all[start..][..len]),
+        TIMED_UPDATE => update(true, true, all, start, len),
+        TIMED_INCREMENTAL_UPDATE => update(false, true, all, start, len),
+        _ => Ok(Entry::Other {
             class: TABLE_CLASS,
             kind,
         }),
     }
 }
 
-/// The message of a class, a type and a payload.
+/// The message of a class, a type and a payload that lies there.
 #[inline]
 #[tactic(auto, unfolding(crate::specs::Message::message_of))]
-fn message(alloc: Global, class: u8, kind: u8, payload: Bytes) -> Result<Message, WireCause>
-    ensures { Gives result (message_of class kind payload) }
+fn entry(
+    alloc: Global,
+    class: u8,
+    kind: u8,
+    bytes: &Bytes,
+    start: usize,
+    len: usize,
+) -> Result<Entry, WireCause>
+    requires within { start + len ≤ length bytes.now }
+    requires small { length bytes.now < 2 ^ 32 }
+    ensures { GivesEntry bytes.now result
+        (message_of class kind (take len (drop start bytes.now))) }
 {
     match class {
         CONTROL_CLASS => Ok(control(kind)),
         ERROR_CLASS => Ok(error(kind)),
-        TABLE_CLASS => table(alloc, kind, payload),
-        _ => Ok(Message::Other { class, kind }),
+        TABLE_CLASS => table(alloc, kind, bytes, start, len),
+        _ => Ok(Entry::Other { class, kind }),
     }
 }
 
-/// Takes the first message, where one is whole.
+/// The first message from a place on, where one is whole, and the place behind it.
 #[inline]
 #[tactic(auto, unfolding(crate::specs::Message::first_of))]
-fn take_message(alloc: Global, rest: &mut Bytes) -> Result<Option<Message>, WireCause>
-    ensures first { IsFirst result rest.old rest.new (first_of rest.old) }
-    ensures shorter { IfOk result (λ taken. IfSome taken (λ _. length rest.new < length rest.old)) }
+fn entry_at(alloc: Global, bytes: &Bytes, at: usize) -> Result<Option<(Entry, usize)>, WireCause>
+    requires within { at ≤ length bytes.now }
+    requires small { length bytes.now < 2 ^ 32 }
+    ensures { IsFirst result bytes.now at (first_of (drop at bytes.now)) }
 {
-    match head_of(rest.as_slice()) {
+    match head_of(&bytes.as_slice()[at..]) {
         Head::Short => Ok(None),
         Head::Wrong(cause) => Err(cause),
         Head::Whole {
@@ -105,9 +191,9 @@ fn take_message(alloc: Global, rest: &mut Bytes) -> Result<Option<Message>, Wire
             start,
             len,
         } => {
-            rest.advance(start);
-            let payload = rest.split_to(len)?;
-            Ok(Some(message(alloc, class, kind, payload)?))
+            let start = at + start;
+            let found = entry(alloc, class, kind, bytes, start, len)?;
+            Ok(Some((found, start + len)))
         }
     }
 }
@@ -117,22 +203,32 @@ fn expected(bytes: usize) -> usize {
     (bytes / SHORT_UPDATE).min(MOST_EXPECTED)
 }
 
-/// Reads all whole messages. Takes no time for a message's payload that isn't whole.
+/// Reads all whole messages. Takes no time for a message's payload that isn't whole. Of more than
+/// `MOST_BYTES` none are read: that counts as out of memory.
 pub(crate) fn decode(alloc: Global, bytes: &Bytes) -> Result<Given, NoMemory>
     ensures { IfOk result (λ given. given ≡ reading_of bytes.now) }
 {
-    let mut messages = Vec::with_capacity(alloc, expected(bytes.len()))?;
-    let mut rest = bytes.clone()?;
+    if bytes.len() > MOST_BYTES {
+        return Err(NoMemory);
+    }
+    let mut entries = Vec::with_capacity(alloc, expected(bytes.len()))?;
+    let mut at = 0;
     loop {
-        match take_message(alloc, &mut rest) {
-            Ok(Some(message)) => messages.push(message)?,
+        match entry_at(alloc, bytes, at) {
+            Ok(Some((entry, next))) => {
+                entries.push(entry)?;
+                at = next;
+            }
             Ok(None) => {
-                let rest = BytesMut::copy_from_slice(alloc, rest.as_slice())?;
-                return Ok(Given::whole(Items::from_vec(messages), rest));
+                let rest = BytesMut::copy_from_slice(alloc, &bytes.as_slice()[at..])?;
+                return Ok(Given::whole(bytes.clone()?, Items::from_vec(entries), rest));
             }
             Err(cause) => match cause {
                 WireCause::NoMemory => return Err(NoMemory),
-                _ => return Ok(Given::faulty(alloc, Items::from_vec(messages), cause)),
+                _ => {
+                    let entries = Items::from_vec(entries);
+                    return Ok(Given::faulty(alloc, bytes.clone()?, entries, cause));
+                }
             },
         }
     }

@@ -63,7 +63,8 @@ impl Feed {
     /// Takes the next piece of the stream, and gives the messages that are whole now, in order.
     ///
     /// A fault comes with the messages before it, and is answered for good from then on, with none
-    /// before it. `NoMemory` leaves the feed as it was: the same piece may be fed again.
+    /// before it. `NoMemory` leaves the feed as it was: the same piece may be fed again. It is also
+    /// answered where the piece and what is kept have 2^32 bytes or more.
     pub fn feed(&mut self, piece: &[u8]) -> Result<Items<Message>, WireFault>
         // What the piece gives, from what is kept.
         ensures answer { Answers result (fed self.old piece.now) }
@@ -99,14 +100,15 @@ impl Feed {
     ///
     /// `Some` is what the piece gives, with the feed as it was: `commit` takes the piece, and the
     /// piece may be read again where nothing was committed. `None` where there is no message and no
-    /// fault: then the piece is taken. `NoMemory` leaves the feed as it was.
+    /// fault: then the piece is taken. `NoMemory` leaves the feed as it was. It is also answered
+    /// where the piece and what is kept have 2^32 bytes or more.
     pub fn read(&mut self, piece: &[u8]) -> Result<Option<Given>, NoMemory>
         ensures reading { HasRead result self.old self.new (fed self.old piece.now) }
         ensures faulty { IsSome self.old.fault → IsOkAnd result IsSome }
     {
         if let Some(cause) = self.fault {
             let none = Items::from_vec(Vec::new(self.alloc));
-            return Ok(Some(Given::faulty(self.alloc, none, cause)));
+            return Ok(Some(Given::faulty(self.alloc, Bytes::new(), none, cause)));
         }
         let len = join(self.alloc, &mut self.frozen, &mut self.growing, piece)?;
         if let Head::Short = head_of(self.growing.as_slice()) {
@@ -119,16 +121,14 @@ impl Feed {
         Ok(Some(given?))
     }
 
-    /// Takes what was read, and hands its messages out. Takes no memory.
-    pub fn commit(&mut self, given: Given) -> Items<Message>
-        ensures messages { result ≡ given.messages }
+    /// Takes what was read. Takes no memory.
+    pub fn commit(&mut self, given: Given)
         ensures after { self.new ≡ decoder_of given }
     {
-        let (messages, fault, rest) = given.into_parts();
+        let (fault, rest) = given.into_parts();
         self.frozen = Bytes::new();
         self.growing = rest;
         self.fault = fault;
-        messages
     }
 
     /// Reads a piece and takes it.
@@ -139,6 +139,12 @@ impl Feed {
             → result ≡ Err (record { cause = cause; before = [] }) }
     {
         let none = Items::from_vec(Vec::new(self.alloc));
+        if let Some(cause) = self.fault {
+            return Err(WireFault {
+                cause,
+                before: none,
+            });
+        }
         match self.read(piece) {
             Ok(Some(given)) => self.hand_out(given),
             Ok(None) => Ok(none),
@@ -152,11 +158,18 @@ impl Feed {
     fn hand_out(&mut self, given: Given) -> Result<Items<Message>, WireFault>
         ensures answer { Answers result given }
         ensures after { self.new ≡ kept_after result self.old given }
-        ensures faulty { (cause : WireCause) → given.fault ≡ Some cause
-            → result ≡ Err (record { cause = cause; before = given.messages }) }
     {
         let fault = given.fault();
-        let messages = self.commit(given);
+        let messages = match given.to_messages(self.alloc) {
+            Ok(messages) => messages,
+            Err(NoMemory) => {
+                return Err(WireFault {
+                    cause: WireCause::NoMemory,
+                    before: Items::from_vec(Vec::new(self.alloc)),
+                });
+            }
+        };
+        self.commit(given);
         match fault {
             None => Ok(messages),
             Some(cause) => Err(WireFault {

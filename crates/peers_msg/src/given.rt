@@ -1,14 +1,17 @@
 //! What a piece of a stream gives.
 
-ghost use Rattle.std.specs.Prelude.{◌≡◌, ◌+◌, ◌<◌, [], length, None, Some};
+ghost use Rattle.std.specs.Prelude.{◌≡◌, ◌+◌, ◌<◌, [], length, map, slice_get, None, Some, IfOk};
+ghost use Rattle.std.specs.Option.{option_map};
 ghost use Rattle.agg_types.specs.declared.limits.TheConstants.{LONGEST_PAYLOAD};
 ghost use Rattle.peers_msg.specs.Decoded.{IsWireFault};
 ghost use Rattle.peers_msg.specs.DecoderState.{IsKept};
 ghost use Rattle.peers_msg.specs.Kinds.{longest_head};
+ghost use Rattle.peers_msg.specs.Lent.{entry_message, as_message};
 
+use crate::entry::{Entry, LentMessage};
 use crate::{Message, WireCause};
-use agg_types::Items;
-use bytes::BytesMut;
+use agg_types::{Items, NoMemory};
+use bytes::{Bytes, BytesMut};
 use std::alloc::Global;
 use std::marker::Model;
 
@@ -16,19 +19,23 @@ use std::marker::Model;
 /// there, and else the bytes that are no whole message yet.
 #[derive(Debug, Drop)]
 pub struct Given {
-    messages: Items<Message>,
+    /// The bytes that were read, among which those of each update lie.
+    bytes: Bytes,
+    entries: Items<Entry>,
     fault: Option<WireCause>,
     rest: BytesMut,
 }
 
 impl Model for Given {
     ghost use Rattle.peers_msg.specs.Message.{Reading};
+    ghost use Rattle.std.specs.Prelude.{map};
     ghost use Rattle.peers_msg.specs.DecoderState.{IsKept};
+    ghost use Rattle.peers_msg.specs.Lent.{entry_message};
 
     ghost Value = { Reading };
 
     ghost view = { λ given. record {
-      messages = given.messages;
+      messages = map (entry_message given.bytes) given.entries;
       fault = given.fault;
       rest = given.rest.items;
     } };
@@ -37,35 +44,67 @@ impl Model for Given {
 }
 
 impl Given {
-    /// Messages and the bytes behind them, which hold no fault and are less than a message.
-    pub(crate) fn whole(messages: Items<Message>, rest: BytesMut) -> Given
+    /// The messages of these entries and the bytes behind them, which hold no fault and are less
+    /// than a message.
+    pub(crate) fn whole(bytes: Bytes, entries: Items<Entry>, rest: BytesMut) -> Given
         requires { length rest.items < longest_head + LONGEST_PAYLOAD }
-        ensures { result ≡ record { messages = messages; fault = None; rest = rest.items } }
+        ensures { result ≡ record {
+          messages = map (entry_message bytes) entries;
+          fault = None;
+          rest = rest.items;
+        } }
     {
         Given {
-            messages,
+            bytes,
+            entries,
             fault: None,
             rest,
         }
     }
 
-    /// Messages and the fault behind them.
-    pub(crate) fn faulty(alloc: Global, messages: Items<Message>, cause: WireCause) -> Given
+    /// The messages of these entries and the fault behind them.
+    pub(crate) fn faulty(
+        alloc: Global,
+        bytes: Bytes,
+        entries: Items<Entry>,
+        cause: WireCause,
+    ) -> Given
         requires { IsWireFault cause }
-        ensures { result ≡ record { messages = messages; fault = Some cause; rest = [] } }
+        ensures { result ≡ record {
+          messages = map (entry_message bytes) entries;
+          fault = Some cause;
+          rest = [];
+        } }
     {
         Given {
-            messages,
+            bytes,
+            entries,
             fault: Some(cause),
             rest: BytesMut::new(alloc),
         }
     }
 
-    /// The messages that are whole with the piece, in order.
-    pub fn messages(&self) -> &[Message]
-        ensures { result.now ≡ self.now.messages }
+    /// How many messages are whole with the piece.
+    pub fn len(&self) -> usize
+        ensures { result ≡ length self.now.messages }
     {
-        self.messages.as_slice()
+        self.entries.len()
+    }
+
+    /// The message at a place of their order, if there are so many.
+    #[inline]
+    pub fn get(&self, at: usize) -> Option<LentMessage<'_>>
+        ensures { option_map as_message result ≡ slice_get self.now.messages at }
+    {
+        let entry = self.entries.as_slice().get(at)?;
+        Some(entry.lend(self.bytes.as_slice()))
+    }
+
+    /// The messages that are whole with the piece, in order, each of its own.
+    pub(crate) fn to_messages(&self, alloc: Global) -> Result<Items<Message>, NoMemory>
+        ensures { IfOk result (λ messages. messages ≡ self.now.messages) }
+    {
+        to_messages(alloc, &self.bytes, self.entries.as_slice())
     }
 
     /// The fault behind the messages, if one stands there. It is never `NoMemory`.
@@ -75,18 +114,24 @@ impl Given {
         self.fault
     }
 
-    /// The messages, the fault behind them, and the bytes that are kept.
-    pub(crate) fn into_parts(self) -> (Items<Message>, Option<WireCause>, BytesMut)
-        ensures messages { result.0 ≡ self.messages }
-        ensures fault { result.1 ≡ self.fault }
-        ensures rest { result.2.items ≡ self.rest }
+    /// The fault behind the messages, and the bytes that are kept.
+    pub(crate) fn into_parts(self) -> (Option<WireCause>, BytesMut)
+        ensures fault { result.0 ≡ self.fault }
+        ensures rest { result.1.items ≡ self.rest }
         ensures kept { IsKept self.rest self.fault }
     {
-        let Given {
-            messages,
-            fault,
-            rest,
-        } = self;
-        (messages, fault, rest)
+        let Given { fault, rest, .. } = self;
+        (fault, rest)
     }
+}
+
+/// The messages of entries, in order.
+fn to_messages(alloc: Global, bytes: &Bytes, entries: &[Entry]) -> Result<Items<Message>, NoMemory>
+    ensures { IfOk result (λ messages. messages ≡ map (entry_message bytes.now) entries.now) }
+{
+    let mut messages = Vec::with_capacity(alloc, entries.len())?;
+    for entry in entries {
+        messages.push(entry.to_message(alloc, bytes)?)?;
+    }
+    Ok(Items::from_vec(messages))
 }

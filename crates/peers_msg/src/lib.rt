@@ -7,10 +7,13 @@
 //! fault exactly where they hold one, then for good; `laws` says that all bytes have one reading,
 //! as a relation on whole texts, and what more bytes do to it. `get_int` and `put_int` are the one
 //! spelling of an integer, `write_message` that of a message, which is read again whatever follows.
-//! After `NoMemory` all is as it was. No clause says that memory is there, nor how fast it goes.
+//! `Feed::read` lends the same messages to who goes through them once, as a session: an update's
+//! bytes stay where the piece has them. After `NoMemory` all is as it was. No clause says that
+//! memory is there, nor how fast it goes.
 #![tactic(auto)]
 
 mod decoding;
+mod entry;
 mod fault;
 mod feed;
 mod framing;
@@ -22,6 +25,7 @@ mod message;
 mod payload;
 mod writing;
 
+pub use entry::LentMessage;
 pub use fault::{WireCause, WireFault};
 pub use feed::Feed;
 pub use given::Given;

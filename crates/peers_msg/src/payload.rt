@@ -1,12 +1,13 @@
 //! The fields of a message's payload.
 
-ghost use Rattle.std.specs.Prelude.{◌≡◌, ◌<◌, length, IfOk, IfSome, option_map};
+ghost use Rattle.std.specs.Prelude.{◌≡◌, ◌<◌, ◌≤◌, length, drop, IfOk, IfSome, option_map};
 ghost use Rattle.peers_msg.specs.Gives.{Gives, GivesBefore};
 ghost use Rattle.peers_msg.specs.Payload.{number_at, word_at, word_if, string_at, pair_at};
 ghost use Rattle.peers_msg.specs.Payload.{pairs_at, definition_of, switch_of, acked_of, update_of};
+ghost use Rattle.peers_msg.specs.declared.message.Message.TheVariants as messages;
 
 use crate::integer::read_int;
-use crate::{Definition, Message, WireCause};
+use crate::{Definition, WireCause};
 use agg_types::{Items, LAST_TYPE, NoMemory};
 use bytes::Bytes;
 use std::alloc::Global;
@@ -27,30 +28,30 @@ fn take_number(rest: &mut Bytes) -> Result<u64, WireCause>
     }
 }
 
-/// Takes the four bytes at the front, big-endian.
+/// The four bytes at the front, big-endian.
 #[inline]
 #[tactic(auto, unfolding(crate::specs::Payload::word_at))]
-fn take_word(rest: &mut Bytes) -> Result<u32, WireCause>
-    ensures { GivesBefore result rest.new (word_at rest.old) }
+fn word(bytes: &[u8]) -> Option<u32>
+    ensures exact { option_map (λ word. (word, drop 4 bytes.now)) result ≡ word_at bytes.now }
+    ensures long { IfSome result (λ _. 4 ≤ length bytes.now) }
 {
-    if rest.len() < 4 {
-        return Err(WireCause::BadField);
+    if bytes.len() < 4 {
+        return None;
     }
-    let bytes = rest.as_slice();
-    let word = u32::from_be_bytes([bytes[0], bytes[1], bytes[2], bytes[3]]);
-    rest.advance(4);
-    Ok(word)
+    Some(u32::from_be_bytes([bytes[0], bytes[1], bytes[2], bytes[3]]))
 }
 
-/// Takes four bytes where a word is to stand.
+/// Four bytes where a word is to stand, and how many bytes that takes.
 #[inline]
-fn take_word_if(wanted: bool, rest: &mut Bytes) -> Result<Option<u32>, WireCause>
-    ensures { GivesBefore result rest.new (word_if wanted rest.old) }
+fn word_if(wanted: bool, bytes: &[u8]) -> Option<(Option<u32>, usize)>
+    ensures exact { option_map (λ x. (x.0, drop x.1 bytes.now)) result ≡ word_if wanted bytes.now }
+    ensures fits { IfSome result (λ x. x.1 ≤ length bytes.now) }
 {
     if wanted {
-        Ok(Some(take_word(rest)?))
+        let word = word(bytes)?;
+        Some((Some(word), 4))
     } else {
-        Ok(None)
+        Some((None, 0))
     }
 }
 
@@ -130,39 +131,38 @@ pub(crate) fn read_definition(alloc: Global, payload: Bytes) -> Result<Definitio
     })
 }
 
-/// Reads a switch.
+/// The table id of a switch.
 #[tactic(auto, unfolding(crate::specs::Payload::switch_of))]
-pub(crate) fn read_switch(payload: Bytes) -> Result<Message, WireCause>
-    ensures { Gives result (switch_of payload) }
+pub(crate) fn switch_of(payload: &[u8]) -> Option<u64>
+    ensures { option_map (λ id. messages.Switch id) result ≡ switch_of payload.now }
 {
-    let mut rest = payload;
-    let id = take_number(&mut rest)?;
-    Ok(Message::Switch(id))
+    let (id, _) = number(payload)?;
+    Some(id)
 }
 
-/// Reads an acknowledgement.
+/// The table id and the last update id of an acknowledgement.
 #[tactic(auto, unfolding(crate::specs::Payload::acked_of))]
-pub(crate) fn read_acked(payload: Bytes) -> Result<Message, WireCause>
-    ensures { Gives result (acked_of payload) }
+pub(crate) fn acked_of(payload: &[u8]) -> Option<(u64, u32)>
+    ensures { option_map (λ x. messages.Acked x.0 x.1) result ≡ acked_of payload.now }
 {
-    let mut rest = payload;
-    let id = take_number(&mut rest)?;
-    let last = take_word(&mut rest)?;
-    Ok(Message::Acked { id, last })
+    let (id, rest) = number(payload)?;
+    let last = word(rest)?;
+    Some((id, last))
 }
 
-/// Reads an update with or without an id and a remaining life.
+/// The id and the remaining life of an update, where it has them, and how many bytes they take.
 #[inline]
 #[tactic(auto, unfolding(crate::specs::Payload::update_of))]
-pub(crate) fn read_update(
+pub(crate) fn update_of(
     has_id: bool,
     has_life: bool,
-    payload: Bytes,
-) -> Result<Message, WireCause>
-    ensures { Gives result (update_of has_id has_life payload) }
+    payload: &[u8],
+) -> Option<(Option<u32>, Option<u32>, usize)>
+    ensures exact { option_map (λ x. messages.Update x.0 x.1 (drop x.2 payload.now)) result
+        ≡ update_of has_id has_life payload.now }
+    ensures fits { IfSome result (λ x. x.2 ≤ length payload.now) }
 {
-    let mut rest = payload;
-    let id = take_word_if(has_id, &mut rest)?;
-    let life = take_word_if(has_life, &mut rest)?;
-    Ok(Message::Update { id, life, rest })
+    let (id, first) = word_if(has_id, payload)?;
+    let (life, second) = word_if(has_life, &payload[first..])?;
+    Some((id, life, first + second))
 }

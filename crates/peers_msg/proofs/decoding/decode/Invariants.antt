@@ -1,9 +1,12 @@
-use Rattle.std.proofs.Common.{length}
+use Rattle.std.proofs.Common.{◌-◌, ◌≤◌, length, drop, map}
+use Rattle.peers_msg.specs.Lent.{entry_message}
 use Rattle.peers_msg.proofs.Readings.{IsSoFar}
 use Rattle.peers_msg.proofs.decoding.decode.Given as goal
 
-abbrev pub invariant-loop-message : goal.invariant-loop-message
-invariant-loop-message l = IsSoFar l.bytes l.rest l.messages.items
+abbrev pub invariant-loop-entry : goal.invariant-loop-entry
+invariant-loop-entry l =
+    IsSoFar l.bytes (drop l.at l.bytes) (map (entry_message l.bytes) l.entries.items)
+    × (l.at ≤ length l.bytes)
 
-abbrev pub decreases-loop-message : goal.decreases-loop-message
-decreases-loop-message l = length l.rest
+abbrev pub decreases-loop-entry : goal.decreases-loop-entry
+decreases-loop-entry l = length l.bytes - l.at
