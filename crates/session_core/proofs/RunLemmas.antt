@@ -1,7 +1,9 @@
 -- The messages of a piece, one at a time.
-use Rattle.std.proofs.Common.{◌≡◌, ℕ, ◌+◌, ◌<◌, List, [], ◌∷◌, ◌++◌, length, drop, get_or, Option}
+use Rattle.std.proofs.Common.{◌≡◌, ℕ, zero, suc, ◌+◌, ◌≤◌, List, [], ◌∷◌, ◌++◌, length, drop}
+use Rattle.std.proofs.Common.{slice_get, Option}
 use Rattle.std.proofs.Common.{Some, None, refl, sym, ap, arith, ◌∙◌, append_assoc, append-nil}
 use Rattle.std.proofs.lemmas.List.{at_drop_more, at_drop_all}
+use Rattle.std.proofs.lemmas.Option.{slice_get_within, get_or_from_slice_get}
 use Rattle.peers_msg.specs.declared.message.Message.{Message}
 use Rattle.agg_types.specs.declared.config.Shape.{Shape}
 use Rattle.agg_types.specs.declared.event.What.{What}
@@ -22,17 +24,26 @@ pub record GoesOn (old_facts facts : List What) (old_replies replies : List ℕ)
   pub track_is : left.track ≡ all.track
   pub end_is : left.end ≡ all.end
 
+-- where no message stands, there are none behind
+pub got_none : (messages : List Message) (i : ℕ) → None ≡ slice_get messages i
+    → length messages ≤ i
+got_none [] i e = omega arith
+got_none (message ∷ messages) zero e = absurd cc
+got_none (message ∷ messages) (suc i) e = omega (arith, got_none messages i e)
+
 -- the run of what is left begins with the step of the next message
 pub run_next : (tables : List Shape) (peer : ℕ) (t : Tracked) (messages : List Message) (i : ℕ)
-    (message : Message) → i < length messages → message ≡ get_or messages i message
+    (message : Message) → Some message ≡ slice_get messages i
     → run tables peer t (drop i messages)
     ≡ run_step (λ next. run tables peer next (drop (i + 1) messages))
     (step_of tables peer t message)
 unfolding run
-run_next tables peer t messages i message lt is =
+run_next tables peer t messages i message is =
     let next = λ (next : Tracked). run tables peer next (drop (i + 1) messages) in
-    at_drop_more (run tables peer t) messages i message lt
-    ∙ ap (λ m. run_step next (step_of tables peer t m)) (sym is)
+    at_drop_more (run tables peer t) messages i message
+    (slice_get_within messages i message (sym is))
+    ∙ ap (λ m. run_step next (step_of tables peer t m))
+    (get_or_from_slice_get messages i message message (sym is))
 
 pub goes_on_none : (facts : List What) (replies : List ℕ) (run : Run)
     → GoesOn facts facts replies replies run run
@@ -192,7 +203,7 @@ ran_all old_facts facts old_replies replies t end all h = (
 )
 
 pub run_nil : (tables : List Shape) (peer : ℕ) (t : Tracked) (messages : List Message) (i : ℕ)
-    → i ≡ length messages → run tables peer t (drop i messages) ≡ record {
+    → length messages ≤ i → run tables peer t (drop i messages) ≡ record {
       track = t;
       facts =
           [];

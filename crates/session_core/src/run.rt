@@ -9,7 +9,7 @@ use crate::cause::End;
 use crate::track::{Entry, Heard, Track};
 use crate::undo::Change;
 use agg_types::{Declared, NoMemory, Shape, What};
-use peers_msg::{Message, write_message};
+use peers_msg::{Given, Message, write_message};
 use std::alloc::Global;
 
 /// What the messages do, up to the first that ends the session; its cause is returned. The facts
@@ -19,7 +19,7 @@ pub(crate) fn run(
     tables: &Declared<Shape>,
     peer: usize,
     track: &mut Track,
-    messages: &[Message],
+    given: &Given,
     facts: &mut Vec<What>,
     replies: &mut Vec<u8>,
     changes: &mut Vec<Change>,
@@ -27,11 +27,14 @@ pub(crate) fn run(
     ensures undo { LeadBack changes.old.items track.old.entries
         changes.new.items track.new.entries }
     ensures ran { IfOk result (λ end. Ran end track.new facts.old.items facts.new.items
-        replies.old.items replies.new.items (run tables.now peer track.old messages.now)) }
+        replies.old.items replies.new.items (run tables.now peer track.old given.now.messages)) }
 {
     // The plan of the table in force, if one was made.
     let mut plan = track.plan_now(tables);
-    for message in messages {
+    for at in 0..given.len() {
+        let Some(message) = given.get(at) else {
+            break;
+        };
         match track.step(alloc, tables, peer, &mut plan, message, facts, changes)? {
             Heard::Nothing => {}
             Heard::Confirm => write_message(&Message::Confirm, replies)?,

@@ -251,7 +251,7 @@ fn answer(
 {
     let mut facts = facts;
     // A message is a fact at most.
-    facts.reserve(given.messages().len())?;
+    facts.reserve(given.len())?;
     let mut out = replies;
     let current = dialogue.track.current();
     let mut changes = Vec::new(alloc);
@@ -297,16 +297,7 @@ fn say(
     ensures said { IfOk result (λ x. IsSaid x.0 x.1 track.new facts.old.items facts.new.items
         out.old.items out.new.items (run tables.now peer track.old given.now.messages) given.now) }
 {
-    let end = run(
-        alloc,
-        tables,
-        peer,
-        track,
-        given.messages(),
-        facts,
-        out,
-        changes,
-    )?;
+    let end = run(alloc, tables, peer, track, given, facts, out, changes)?;
     let end = first_end(end, given.fault());
     say_end(end, out)?;
     let split = out.len();

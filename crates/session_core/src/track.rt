@@ -3,6 +3,7 @@
 ghost use Rattle.std.specs.Prelude.{◌≡◌, ◌≤◌, List, [], length, IfOk, IfSome, OnOk, true};
 ghost use Rattle.std.specs.Option.{option_map};
 ghost use Rattle.agg_types.specs.declared.event.What.{What};
+ghost use Rattle.peers_msg.specs.Lent.{as_message};
 ghost use Rattle.session_core.specs.Meaning.{AddsFact};
 ghost use Rattle.session_core.specs.Plan.{AreCells, IsPlan, IsPlanOf, IsPlanNow, followed_now};
 ghost use Rattle.session_core.specs.Run.{settled};
@@ -19,7 +20,7 @@ use crate::undo::{Change, note, take_back};
 use crate::values::{TYPES, key_at, life_of, periods_of};
 use agg_types::limits::MOST_FOLLOWED;
 use agg_types::{Cells, Col, Declared, Key, KeyKind, NoMemory, Shape, What};
-use peers_msg::{Definition, Message, WireCause};
+use peers_msg::{Definition, LentMessage, WireCause};
 use std::alloc::Global;
 
 /// The most plans that are kept for tables that aren't in force.
@@ -318,7 +319,7 @@ impl Track {
         tables: &Declared<Shape>,
         peer: usize,
         plan: &mut Option<CachedPlan>,
-        message: &Message,
+        message: LentMessage<'_>,
         facts: &mut Vec<What>,
         changes: &mut Vec<Change>,
     ) -> Result<Heard, NoMemory>
@@ -326,33 +327,25 @@ impl Track {
         ensures undo { LeadBack changes.old.items self.old.entries
             changes.new.items self.new.entries }
         ensures step { IfOk result (λ heard. IsStep self.new heard facts.old.items facts.new.items
-            (step_of tables.now peer self.old message.now)) }
+            (step_of tables.now peer self.old (as_message message.entry))) }
         ensures planned { OnOk result (IfSome plan.new (IsPlanNow tables.now self.new)) }
     {
         match message {
-            Message::Request => Ok(Heard::Partial),
-            Message::Finished | Message::Partial => Ok(Heard::Confirm),
-            Message::ProtocolError | Message::SizeError => Ok(Heard::End(End::PeerError)),
-            Message::Update { id, life, rest } => {
-                self.update(
-                    alloc,
-                    tables,
-                    peer,
-                    plan,
-                    *id,
-                    *life,
-                    rest.as_slice(),
-                    facts,
-                    changes,
-                )
+            LentMessage::Request => Ok(Heard::Partial),
+            LentMessage::Finished | LentMessage::Partial => Ok(Heard::Confirm),
+            LentMessage::ProtocolError | LentMessage::SizeError => Ok(Heard::End(End::PeerError)),
+            LentMessage::Update { id, life, rest } => {
+                self.update(alloc, tables, peer, plan, id, life, rest, facts, changes)
             }
-            Message::Define(definition) => self.take_up(tables, plan, definition, changes),
-            Message::Switch(id) => {
-                self.turn_to(tables, plan, *id);
+            LentMessage::Define(definition) => self.take_up(tables, plan, definition, changes),
+            LentMessage::Switch(id) => {
+                self.turn_to(tables, plan, id);
                 Ok(Heard::Nothing)
             }
-            Message::Confirm | Message::Heartbeat | Message::Acked { .. } | Message::Other { .. } =>
-                Ok(Heard::Nothing),
+            LentMessage::Confirm
+            | LentMessage::Heartbeat
+            | LentMessage::Acked { .. }
+            | LentMessage::Other { .. } => Ok(Heard::Nothing),
         }
     }
 

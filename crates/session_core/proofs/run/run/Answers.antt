@@ -1,34 +1,36 @@
-use Rattle.std.proofs.Common.{◌+◌, drop, arith, ◌∙◌}
+use Rattle.std.proofs.Common.{◌+◌, ◌≤◌, drop, length, arith, ◌∙◌}
+use Rattle.peers_msg.specs.Lent.{as_message}
 use Rattle.session_core.specs.Run.{run}
 use Rattle.session_core.specs.Tracked.{Tracked, step_of}
-use Rattle.session_core.proofs.RunLemmas.{run_next, run_nil, heard_nothing, heard_confirm}
+use Rattle.session_core.proofs.RunLemmas.{run_next, run_nil, got_none, heard_nothing, heard_confirm}
 use Rattle.session_core.proofs.RunLemmas.{heard_partial, heard_end, ran_all}
 use Rattle.session_core.proofs.run.run.Goals as goal
 use Rattle.session_core.proofs.run.run.Goals.{in-Nothing, in-Confirm+in_ok-write_message-in-Confirm}
 use Rattle.session_core.proofs.run.run.Goals.{in-Partial+in_ok-write_message-in-Partial}
+use Rattle.session_core.proofs.run.run.Goals.{else-loop-at-test, then-loop-at-test+in_default}
 
 pub returns-in-End-clause-ran : goal.returns-in-End-clause-ran
 returns-in-End-clause-ran c =
-    let begins = run_next c.args.tables.now c.args.peer c.loop-message.track c.args.messages.now
-    c.loop-message.message-index c.message-item.result c.loop-message-test.true
-    c.message-item.is in
-    let left = rw begins at c.loop-message.invariant.1 in
+    let message = as_message c.in-Some.message in
+    let begins = run_next c.args.tables.now c.args.peer c.loop-at.track
+    c.args.given.now.messages c.loop-at.at message c.in-Some.ensures in
+    let left = rw begins at c.loop-at.invariant.1 in
     let next = λ (t : Tracked). run c.args.tables.now c.args.peer t
-    (drop (c.loop-message.message-index + 1) c.args.messages.now) in
-    let step = step_of c.args.tables.now c.args.peer c.loop-message.track c.message-item.result in
+    (drop (c.loop-at.at + 1) c.args.given.now.messages) in
+    let step = step_of c.args.tables.now c.args.peer c.loop-at.track message in
     let ends = rw c.in-End.is at c.in_ok-step.ensures.step in
     rw (← c.plan_now-plan.ensures.same)
     (ran_all _ _ _ _ _ _ _ (heard_end next c.in-End.cause step ends left))
 
-pub loop-message-preserved : goal.loop-message-preserved
-loop-message-preserved c =
-    let begins = run_next c.args.tables.now c.args.peer c.loop-message.track c.args.messages.now
-    c.loop-message.message-index c.message-item.result c.loop-message-test.true
-    c.message-item.is in
-    let left = rw begins at c.loop-message.invariant.1 in
+pub loop-at-preserved : goal.loop-at-preserved
+loop-at-preserved c =
+    let message = as_message c.in-Some.message in
+    let begins = run_next c.args.tables.now c.args.peer c.loop-at.track
+    c.args.given.now.messages c.loop-at.at message c.in-Some.ensures in
+    let left = rw begins at c.loop-at.invariant.1 in
     let next = λ (t : Tracked). run c.args.tables.now c.args.peer t
-    (drop (c.loop-message.message-index + 1) c.args.messages.now) in
-    let step = step_of c.args.tables.now c.args.peer c.loop-message.track c.message-item.result in (
+    (drop (c.loop-at.at + 1) c.args.given.now.messages) in
+    let step = step_of c.args.tables.now c.args.peer c.loop-at.track message in (
       c.in_ok-step.ensures.planned,
       elim c.match-branch-2.branch [
         | in-Nothing w ↦
@@ -43,11 +45,16 @@ loop-message-preserved c =
             rw (w.replies-is, w.in_ok-write_message-in-Partial.ensures.ok)
             (heard_partial next step is left)
       ],
-      c.in_ok-step.ensures.undo ∙ c.loop-message.invariant.2,
+      c.in_ok-step.ensures.undo ∙ c.loop-at.invariant.2,
     )
 
 pub returns-clause-ran : goal.returns-clause-ran
 returns-clause-ran c =
-    let left = rw (run_nil c.args.tables.now c.args.peer c.loop-message.track c.args.messages.now
-    c.loop-message.message-index (omega arith)) at c.loop-message.invariant.1 in
+    let done : length c.args.given.now.messages ≤ c.loop-at.at = elim c.loop-at-test.branch [
+      | else-loop-at-test w ↦ omega (arith, w.loop-at-test, c.len-at-end.ensures)
+      | then-loop-at-test+in_default w ↦
+          got_none c.args.given.now.messages c.loop-at.at w.in_default.ensures
+    ] in
+    let left = rw (run_nil c.args.tables.now c.args.peer c.loop-at.track c.args.given.now.messages
+    c.loop-at.at done) at c.loop-at.invariant.1 in
     rw (c.keep.ensures, ← c.plan_now-plan.ensures.same) (ran_all _ _ _ _ _ _ _ left)
