@@ -21,6 +21,7 @@ mod memory;
 mod order;
 mod paper;
 mod peers;
+mod pieces;
 mod recording;
 mod scene;
 mod timers;
@@ -65,6 +66,18 @@ fn stage_known<J: Naming, R: Print + Wait + Clock>(
 {
     let hub = Hub::<J, &R>::new(alloc, rt, opening, 4)?;
     known::row(rt, alloc, &hub)
+}
+
+/// Serves a session that is told a large set over a hub of its own.
+fn stage_pieces<J: Naming, R: Print + Wait + Clock>(
+    rt: &R,
+    alloc: Global,
+    opening: Opening,
+) -> Result<()>
+    requires { opening.of ≡ J.book }
+{
+    let hub = Hub::<J, &R>::new(alloc, rt, opening, 4)?;
+    pieces::row(rt, alloc, &hub)
 }
 
 /// Serves all over a hub of its own.
@@ -196,6 +209,8 @@ pub fn run<R: Print + Threads + Wait + Clock + Copy + Send + Sync>(
     for (title, text, writes) in cases::TELLINGS {
         tell(rt, alloc, title, text, writes)?;
     }
+    let large = Opening::new(alloc, config(alloc, pieces::LARGE)?, 0)?;
+    stage_pieces::<Brand, R>(rt, alloc, large)?;
     stage_known::<Brand, R>(rt, alloc, opening(alloc)?)?;
     for course in [WHOLE, CLOSING] {
         stage_all::<Brand, R>(rt, alloc, opening(alloc)?, course)?;

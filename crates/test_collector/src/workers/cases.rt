@@ -99,6 +99,9 @@ pub const TOLD: [Step; 9] = [
     Step::Silent(150),
 ];
 
+/// A session that is told all at its first turn.
+pub const TOLD_AT_ONCE: [Step; 2] = [Step::Bytes(HELLO), Step::Silent(1)];
+
 /// What is pushed, and how many writes of a session of it work.
 pub const TELLINGS: [(&str, &[u8], u64); 5] = [
     ("a filter is pushed", PUSHED, 1000),

@@ -9,3 +9,6 @@ ghosts-stage_all g a = record { book = a.opening.of }
 
 abbrev pub ghosts-stage_known : goal.ghosts-stage_known
 ghosts-stage_known g a = record { book = a.opening.of }
+
+abbrev pub ghosts-stage_pieces : goal.ghosts-stage_pieces
+ghosts-stage_pieces g a = record { book = a.opening.of }
