@@ -64,24 +64,37 @@ def named(pid):
     return crate, "program" if words[1:2] == ["build"] and "--crate-checked" in words else "proof"
 
 
+def owner(pid, found, names):
+    """The name of a process, or of the nearest one above it that has one: a proof has helpers with no name of their own."""
+    while pid in found:
+        parent, began, _ = found[pid]
+        if names.get((pid, began)):
+            return names[pid, began]
+        pid = parent
+    return None
+
+
 def main():
     words = argparse.ArgumentParser(description=__doc__, formatter_class=argparse.RawDescriptionHelpFormatter)
     words.add_argument("--out", default="gate.log")
     words.add_argument("command", nargs="*")
     options = words.parse_args()
-    start, spent, names = time.time(), {}, {}
+    start, spent, names, owners = time.time(), {}, {}, {}
     with open(options.out, "wb") as log:
         process = subprocess.Popen(options.command or ["rt", "ci"], stdout=log, stderr=subprocess.STDOUT)
         while process.poll() is None:
-            for pid, (_, began, seconds) in below(process.pid).items():
+            found = below(process.pid)
+            for pid, (_, began, seconds) in found.items():
                 # (a process has its own name only once it runs its own program)
                 if names.get((pid, began)) is None:
                     names[pid, began] = named(pid)
                 spent[pid, began] = seconds
+            for pid, (_, began, _) in found.items():
+                owners[pid, began] = owner(pid, found, names) or owners.get((pid, began))
             time.sleep(0.1)
     sums = collections.Counter()
     for one, seconds in spent.items():
-        sums[names[one] or ("other", "program")] += seconds
+        sums[owners.get(one) or ("other", "program")] += seconds
     print(f"{'crate':20}" + "".join(f"{kind:>9}" for kind in KINDS) + f"{'all':>9}")
     crates = sorted({crate for crate, _ in sums}, key=lambda it: -sum(sums[it, kind] for kind in KINDS))
     for crate in crates + ["all"]:
