@@ -1,6 +1,7 @@
 -- What the steps of the decoder return, against what is read.
 use Rattle.std.specs.Prelude.{◌≡◌, ℕ, ◌+◌, ◌≤◌, ◌<◌, List, length, take, drop, Option, Some, None}
 use Rattle.std.specs.Prelude.{Result, Ok, Err}
+use Rattle.agg_types.specs.declared.limits.TheConstants.{LONGEST_PAYLOAD}
 use Rattle.peers_msg.specs.declared.entry.Entry.{Entry}
 use Rattle.peers_msg.specs.declared.framing.Head.{Head}
 use Rattle.peers_msg.specs.declared.framing.Head.TheVariants as heads
@@ -17,11 +18,12 @@ IsHead (heads.Wrong cause) bytes frame = frame ≡ Wrong cause
 IsHead (heads.Whole class kind start len) bytes frame =
     frame ≡ Framed class kind (take len (drop start bytes)) (drop len (drop start bytes))
 
--- where a head's payload lies
+-- where a head's payload lies, which is no longer than the limit
 abbrev pub HeadFits : Head → List ℕ → Type 0
 HeadFits heads.Short bytes = Unit {0}
 HeadFits (heads.Wrong cause) bytes = Unit {0}
-HeadFits (heads.Whole class kind start len) bytes = (0 < start) × (start + len ≤ length bytes)
+HeadFits (heads.Whole class kind start len) bytes =
+    (0 < start) × (start + len ≤ length bytes) × (len ≤ LONGEST_PAYLOAD)
 
 abbrev pub FaultIsFirst : WireCause → First → Type 0
 FaultIsFirst TooLong first = first ≡ Faulty TooLong

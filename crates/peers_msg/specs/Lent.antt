@@ -20,7 +20,7 @@ entry_message bytes entries.Confirm = messages.Confirm
 entry_message bytes entries.Heartbeat = messages.Heartbeat
 entry_message bytes entries.ProtocolError = messages.ProtocolError
 entry_message bytes entries.SizeError = messages.SizeError
-entry_message bytes (entries.Update id life start len) =
+entry_message bytes (entries.Update id life len start) =
     messages.Update id life (take len (drop start bytes))
 entry_message bytes (entries.Define definition) = messages.Define (box_value definition)
 entry_message bytes (entries.Switch id) = messages.Switch id

@@ -1,7 +1,8 @@
 //! Messages, one after the other.
 
-ghost use Rattle.std.specs.Prelude.{◌≡◌, ◌+◌, ◌^◌, ◌<◌, ◌≤◌, ℕ, List, length, take, drop, IfOk};
+ghost use Rattle.std.specs.Prelude.{◌≡◌, ◌+◌, ◌≤◌, ℕ, List, length, take, drop, IfOk};
 ghost use Rattle.std.specs.Prelude.{box_value};
+ghost use Rattle.agg_types.specs.declared.limits.TheConstants.{LONGEST_PAYLOAD};
 ghost use Rattle.peers_msg.specs.Lent.{entry_message, define_of, GivesEntry};
 ghost use Rattle.peers_msg.specs.Message.{control_of, error_of, table_of, message_of, first_of};
 ghost use Rattle.peers_msg.specs.Message.{reading_of};
@@ -18,14 +19,13 @@ use agg_types::{Items, NoMemory};
 use bytes::{Bytes, BytesMut};
 use std::alloc::Global;
 
-/// How many bytes an update of few columns has at least.
-const SHORT_UPDATE: usize = 16;
+/// How many bytes a message has at least for which room is made before it is read. An update of few
+/// columns has four times as many. Less room, in blocks of 32 KB, left holes on the heap that no
+/// segment of rows fits into: a key then took 40 to 60 bytes more.
+const FEW_BYTES: usize = 4;
 
-/// For how many messages room is made at once at most.
-const MOST_EXPECTED: usize = 1024;
-
-/// The most bytes that are read at once, so that a place among them is a `u32`.
-const MOST_BYTES: usize = u32::MAX as usize;
+/// For how many messages room is made at once at most: 128 KB.
+const MOST_EXPECTED: usize = 4096;
 
 /// The message of a type in the control class.
 #[tactic(auto, unfolding(crate::specs::Message::control_of))]
@@ -70,7 +70,7 @@ fn update(
     len: usize,
 ) -> Result<Entry, WireCause>
     requires within { start + len ≤ length bytes.now }
-    requires small { length bytes.now < 2 ^ 32 }
+    requires small { len ≤ LONGEST_PAYLOAD }
     ensures { GivesEntry bytes.now result
         (update_of has_id has_life (take len (drop start bytes.now))) }
 {
@@ -79,8 +79,8 @@ fn update(
         Some((id, life, taken)) => Ok(Entry::Update {
             id,
             life,
-            start: (start + taken) as u32,
             len: (len - taken) as u32,
+            start: start + taken,
         }),
     }
 }
@@ -131,7 +131,7 @@ fn table(
     len: usize,
 ) -> Result<Entry, WireCause>
     requires within { start + len ≤ length bytes.now }
-    requires small { length bytes.now < 2 ^ 32 }
+    requires small { len ≤ LONGEST_PAYLOAD }
     ensures { GivesEntry bytes.now result (table_of kind (take len (drop start bytes.now))) }
 {
     let all = bytes.as_slice();
@@ -162,7 +162,7 @@ fn entry(
     len: usize,
 ) -> Result<Entry, WireCause>
     requires within { start + len ≤ length bytes.now }
-    requires small { length bytes.now < 2 ^ 32 }
+    requires small { len ≤ LONGEST_PAYLOAD }
     ensures { GivesEntry bytes.now result
         (message_of class kind (take len (drop start bytes.now))) }
 {
@@ -178,8 +178,7 @@ fn entry(
 #[inline]
 #[tactic(auto, unfolding(crate::specs::Message::first_of))]
 fn entry_at(alloc: Global, bytes: &Bytes, at: usize) -> Result<Option<(Entry, usize)>, WireCause>
-    requires within { at ≤ length bytes.now }
-    requires small { length bytes.now < 2 ^ 32 }
+    requires { at ≤ length bytes.now }
     ensures { IsFirst result bytes.now at (first_of (drop at bytes.now)) }
 {
     match head_of(&bytes.as_slice()[at..]) {
@@ -200,17 +199,13 @@ fn entry_at(alloc: Global, bytes: &Bytes, at: usize) -> Result<Option<(Entry, us
 
 /// How many messages so many bytes may have: room is made for them at once, so that few are moved.
 fn expected(bytes: usize) -> usize {
-    (bytes / SHORT_UPDATE).min(MOST_EXPECTED)
+    (bytes / FEW_BYTES).min(MOST_EXPECTED)
 }
 
-/// Reads all whole messages. Takes no time for a message's payload that isn't whole. Of more than
-/// `MOST_BYTES` none are read: that counts as out of memory.
+/// Reads all whole messages. Takes no time for a message's payload that isn't whole.
 pub(crate) fn decode(alloc: Global, bytes: &Bytes) -> Result<Given, NoMemory>
     ensures { IfOk result (λ given. given ≡ reading_of bytes.now) }
 {
-    if bytes.len() > MOST_BYTES {
-        return Err(NoMemory);
-    }
     let mut entries = Vec::with_capacity(alloc, expected(bytes.len()))?;
     let mut at = 0;
     loop {

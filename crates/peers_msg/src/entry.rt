@@ -22,10 +22,10 @@ pub(crate) enum Entry {
     Update {
         id: Option<u32>,
         life: Option<u32>,
-        /// Where the key and the values begin among the piece's bytes.
-        start: u32,
-        /// How many bytes they have.
+        /// How many bytes the key and the values have.
         len: u32,
+        /// Where they begin among the piece's bytes.
+        start: usize,
     },
     /// A definition is large, and rare.
     Define(Box<Definition>),
@@ -97,12 +97,12 @@ impl Entry {
             Entry::Update {
                 id,
                 life,
-                start,
                 len,
+                start,
             } => LentMessage::Update {
                 id: *id,
                 life: *life,
-                rest: part(bytes, *start as usize, *len as usize),
+                rest: part(bytes, *start, *len as usize),
             },
             Entry::Request => LentMessage::Request,
             Entry::Finished => LentMessage::Finished,
@@ -132,12 +132,12 @@ impl Entry {
             Entry::Update {
                 id,
                 life,
-                start,
                 len,
+                start,
             } => Message::Update {
                 id: *id,
                 life: *life,
-                rest: cut(bytes, *start as usize, *len as usize)?,
+                rest: cut(bytes, *start, *len as usize)?,
             },
             Entry::Request => Message::Request,
             Entry::Finished => Message::Finished,

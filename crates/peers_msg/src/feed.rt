@@ -63,8 +63,7 @@ impl Feed {
     /// Takes the next piece of the stream, and gives the messages that are whole now, in order.
     ///
     /// A fault comes with the messages before it, and is answered for good from then on, with none
-    /// before it. `NoMemory` leaves the feed as it was: the same piece may be fed again. It is also
-    /// answered where the piece and what is kept have 2^32 bytes or more.
+    /// before it. `NoMemory` leaves the feed as it was: the same piece may be fed again.
     pub fn feed(&mut self, piece: &[u8]) -> Result<Items<Message>, WireFault>
         // What the piece gives, from what is kept.
         ensures answer { Answers result (fed self.old piece.now) }
@@ -100,8 +99,7 @@ impl Feed {
     ///
     /// `Some` is what the piece gives, with the feed as it was: `commit` takes the piece, and the
     /// piece may be read again where nothing was committed. `None` where there is no message and no
-    /// fault: then the piece is taken. `NoMemory` leaves the feed as it was. It is also answered
-    /// where the piece and what is kept have 2^32 bytes or more.
+    /// fault: then the piece is taken. `NoMemory` leaves the feed as it was.
     pub fn read(&mut self, piece: &[u8]) -> Result<Option<Given>, NoMemory>
         ensures reading { HasRead result self.old self.new (fed self.old piece.now) }
         ensures faulty { IsSome self.old.fault → IsOkAnd result IsSome }
