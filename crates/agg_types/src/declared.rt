@@ -184,7 +184,8 @@ fn note_again<T: Named>(firsts: &mut IndexMap<Vec<u8>, usize>, entries: &[T])
 {
     firsts.retain(
         |name: &Vec<u8>, first: &mut usize| -> bool
-            ensures { IsNoted (place_of T.name_of entries.entry.now name.now.items) result first.new }
+            ensures { IsNoted (place_of T.name_of entries.entry.now name.now.items) result
+                first.new }
         { note_place(first, first_of(entries, name.as_slice())) },
     );
 }

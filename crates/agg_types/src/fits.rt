@@ -2,9 +2,13 @@ ghost use Rattle.std.specs.Prelude.{◌≡◌, ◌&&◌};
 ghost use Rattle.std.specs.List.{list_all};
 ghost use Rattle.agg_types.specs.Fits.{key_fits, cell_fits, cells_fit, stores, conds_fit};
 ghost use Rattle.agg_types.specs.Fits.{select_fits, at_table, life_fits, filter_fits, fits};
+ghost use Rattle.agg_types.specs.Whats.{as_cells, as_what};
+ghost use Rattle.agg_types.specs.declared.event.What.TheVariants.{Put};
 
 use crate::limits::{LAST_MOMENT, MOST_CONDS};
-use crate::{Cell, Col, Cond, Config, Filter, Key, KeyKind, Select, Shape, What};
+use crate::{
+    Cell, Col, Cond, Config, Filter, Key, KeyKind, LentCells, LentWhat, Select, Shape, What,
+};
 
 impl Config {
     /// Whether something may happen in this configuration: its positions are in range, its key has
@@ -12,6 +16,30 @@ impl Config {
     /// moment is at most the last, and it has a condition or as many as there may be, each on a
     /// stored column.
     pub fn fits(&self, what: &What) -> bool
+        ensures { result ≡ fits self.now what.now }
+    {
+        self.fits_lent(LentWhat::of(what))
+    }
+
+    /// Whether what is lent may happen in this configuration, as `fits` says it.
+    #[inline]
+    pub fn fits_lent(&self, what: LentWhat<'_>) -> bool
+        ensures { result ≡ fits self.now (as_what what.entry) }
+    {
+        match what {
+            LentWhat::Put {
+                peer,
+                table,
+                key,
+                life,
+                cells,
+            } => self.put_fits(peer, table, key, life, cells),
+            LentWhat::Other(what) => self.other_fits(what),
+        }
+    }
+
+    // Whether one may happen that lies elsewhere as it is.
+    fn other_fits(&self, what: &What) -> bool
         ensures { result ≡ fits self.now what.now }
     {
         let tables = self.tables.as_slice();
@@ -24,17 +52,29 @@ impl Config {
                 key,
                 life,
                 cells,
-            } => {
-                *peer < self.peers.len()
-                    && life_fits(*life)
-                    && row_fits(tables, *table, key, cells.as_slice())
-            }
+            } => self.put_fits(*peer, *table, key, *life, LentCells::of(cells)),
             What::Clear { table, sel } => selection_fits(tables, *table, sel),
             What::AddFilter(filter) => filter_fits(tables, filter),
             What::DropFilter(_) => true,
             What::Moment(moment) => *moment <= LAST_MOMENT,
             What::Leave => true,
         }
+    }
+
+    // Whether a row may be put.
+    fn put_fits(
+        &self,
+        peer: usize,
+        table: usize,
+        key: &Key,
+        life: Option<u64>,
+        cells: LentCells<'_>,
+    ) -> bool
+        ensures { result ≡ fits self.now (Put peer table key.now life (as_cells cells.entry)) }
+    {
+        peer < self.peers.len()
+            && life_fits(life)
+            && row_fits(self.tables.as_slice(), table, key, cells)
     }
 }
 
@@ -77,9 +117,9 @@ fn life_fits(life: Option<u64>) -> bool
     }
 }
 
-fn row_fits(tables: &[Shape], table: usize, key: &Key, cells: &[Cell]) -> bool
+fn row_fits(tables: &[Shape], table: usize, key: &Key, cells: LentCells<'_>) -> bool
     ensures { result ≡ at_table tables.now table
-        (λ shape. key_fits shape.kind key.now && cells_fit shape.cols cells.now) }
+        (λ shape. key_fits shape.kind key.now && cells_fit shape.cols (as_cells cells.entry)) }
 {
     match tables.get(table) {
         None => false,
@@ -89,14 +129,14 @@ fn row_fits(tables: &[Shape], table: usize, key: &Key, cells: &[Cell]) -> bool
     }
 }
 
-fn cells_fit(cols: &[(Col, u32)], cells: &[Cell]) -> bool
-    ensures { result ≡ cells_fit cols.now cells.now }
+fn cells_fit(cols: &[(Col, u32)], cells: LentCells<'_>) -> bool
+    ensures { result ≡ cells_fit cols.now (as_cells cells.entry) }
 {
     match cols {
         [] => cells.is_empty(),
-        [col, cols @ ..] => match cells {
-            [] => false,
-            [cell, cells @ ..] => cell_fits(col.0, *cell) && cells_fit(cols, cells),
+        [col, cols @ ..] => match cells.split_first() {
+            None => false,
+            Some((cell, cells)) => cell_fits(col.0, cell) && cells_fit(cols, cells),
         },
     }
 }

@@ -16,16 +16,21 @@ mod check;
 mod column;
 mod config;
 mod declared;
+mod entry;
 mod event;
 mod fits;
 mod items;
 mod key;
 pub mod laws;
+mod lent_cells;
+mod lent_what;
 pub mod limits;
 mod name;
 mod no_memory;
+mod pack;
 mod row_key;
 mod short_key;
+mod whats;
 
 pub use cells::Cells;
 pub use check::ConfigFault;
@@ -35,6 +40,8 @@ pub use declared::{Declared, Named};
 pub use event::{Cell, Event, Select, What};
 pub use items::Items;
 pub use key::Key;
+pub use lent_cells::LentCells;
+pub use lent_what::LentWhat;
 pub use limits::{
     LAST_MOMENT, LAST_SEAT, MOST_CONDS, MOST_FILTERS, MOST_PEERS, MOST_PUSHES, MOST_RANKS,
     MOST_SEATS, MOST_TABLES, NUMBERS_END,
@@ -42,3 +49,4 @@ pub use limits::{
 pub use name::{Name, is_name};
 pub use no_memory::NoMemory;
 pub use row_key::RowKey;
+pub use whats::Whats;

@@ -1,0 +1,45 @@
+//! An event of a batch, as the batch lends it.
+ghost use Rattle.std.specs.Prelude.{◌≡◌};
+ghost use Rattle.agg_types.specs.Whats.{as_what};
+
+use crate::{Key, LentCells, What};
+
+/// What happened, as a batch lends it: the `What` of the same name, or any other.
+#[derive(Clone, Copy, Debug)]
+pub enum LentWhat<'a> {
+    /// A peer's row of a table and key, in place of an older one.
+    Put {
+        peer: usize,
+        table: usize,
+        key: &'a Key,
+        life: Option<u64>,
+        cells: LentCells<'a>,
+    },
+    /// What lies in the batch as it is.
+    Other(&'a What),
+}
+
+impl<'a> LentWhat<'a> {
+    /// What is lent of one that lies elsewhere.
+    #[inline]
+    pub fn of(what: &'a What) -> LentWhat<'a>
+        ensures { as_what result ≡ what.now }
+    {
+        match what {
+            What::Put {
+                peer,
+                table,
+                key,
+                life,
+                cells,
+            } => LentWhat::Put {
+                peer: *peer,
+                table: *table,
+                key,
+                life: *life,
+                cells: LentCells::of(cells),
+            },
+            _ => LentWhat::Other(what),
+        }
+    }
+}

@@ -1,0 +1,185 @@
+//! What a seat posts as one.
+ghost use Rattle.std.specs.Prelude.{◌≡◌, ◌==◌, ◌<◌, ◌+◌, ◌^◌, [], ◌∷◌, ◌++◌, drop, length, slice_get};
+ghost use Rattle.std.specs.Prelude.{IfOk, OnErr, OnOk, Some};
+ghost use Rattle.std.specs.Option.{option_map};
+ghost use Rattle.agg_types.specs.declared.event.What.TheVariants.{Put};
+ghost use Rattle.agg_types.specs.Whats.{as_what};
+
+use crate::entry::{Entry, fits};
+use crate::pack::WIDEST;
+use crate::{Cells, Key, LentWhat, NoMemory, What};
+use std::alloc::Global;
+use std::fmt;
+use std::marker::Model;
+
+/// For how many words of an update `reserve` takes room.
+const EACH: usize = 8;
+
+/// For how many words it takes room at once, at most.
+const AT_ONCE: usize = 1 << 20;
+
+/// What happens at a seat, one event after the other. Contracts see the list of its `What`s.
+///
+/// A session makes it of a piece of the stream, a hub adds it to the history as one, and both
+/// copies of a book take it.
+///
+/// An update takes no memory of its own: its cells lie in words that all updates share.
+pub struct Whats {
+    entries: Vec<Entry>,
+    /// The cells of the updates.
+    words: Vec<u32>,
+}
+
+// By hand, so that what drops it elsewhere proves nothing of its parts.
+impl Drop for Whats {
+    fn drop(self) {
+        let Whats {
+            entries: _,
+            words: _,
+        } = self;
+    }
+}
+
+impl Model for Whats {
+    ghost use Rattle.std.specs.Prelude.{List};
+    ghost use Rattle.agg_types.specs.declared.event.What.{What};
+
+    ghost Value = { List What };
+
+    ghost use Rattle.std.specs.Prelude.{length, map};
+    ghost use Rattle.agg_types.specs.Whats.{AreWithin, entry_what};
+
+    ghost view = { λ whats. map (entry_what whats.words.items) whats.entries.items };
+
+    ghost invariant = { λ whats. AreWithin (length whats.words.items) whats.entries.items };
+}
+
+impl Whats {
+    /// Nothing yet. Takes no memory.
+    pub fn new(alloc: Global) -> Whats
+        ensures { result ≡ [] }
+    {
+        Whats {
+            entries: Vec::new(alloc),
+            words: Vec::new(alloc),
+        }
+    }
+
+    /// One alone.
+    pub fn alone(alloc: Global, what: What) -> Result<Whats, NoMemory>
+        ensures { IfOk result (λ whats. whats ≡ what ∷ []) }
+    {
+        let mut whats = Whats::new(alloc);
+        whats.push(what)?;
+        Ok(whats)
+    }
+
+    /// What takes memory for it.
+    pub fn alloc(&self) -> Global {
+        *self.entries.allocator()
+    }
+
+    /// How much happened: fewer than 2^63.
+    #[inline]
+    pub fn len(&self) -> usize
+        ensures count { result ≡ length self.now }
+        ensures short { result < 2 ^ 63 }
+    {
+        self.entries.len()
+    }
+
+    /// Whether nothing happened.
+    pub fn is_empty(&self) -> bool
+        ensures { result ≡ (length self.now == 0) }
+    {
+        self.entries.is_empty()
+    }
+
+    /// What happened at a place, if it is one.
+    #[inline]
+    pub fn get(&self, place: usize) -> Option<LentWhat<'_>>
+        ensures { option_map (λ what. as_what what) result ≡ slice_get self.now place }
+    {
+        Some(
+            self.entries
+                .as_slice()
+                .get(place)?
+                .lend(self.words.as_slice()),
+        )
+    }
+
+    /// What happened at a place.
+    #[inline]
+    pub fn at(&self, place: usize) -> LentWhat<'_>
+        requires { place < length self.now }
+        ensures get { slice_get self.now place ≡ Some (as_what result) }
+        ensures left { drop place self.now ≡ as_what result ∷ drop (place + 1) self.now }
+    {
+        self.entries[place].lend(self.words.as_slice())
+    }
+
+    /// Takes room for so many updates more at once.
+    pub fn reserve(&mut self, count: usize) -> Result<(), NoMemory>
+        ensures { self.new ≡ self.old }
+    {
+        self.entries.reserve(count)?;
+        Ok(self.words.reserve(count.saturating_mul(EACH).min(AT_ONCE))?)
+    }
+
+    /// Adds what happened behind the others. After NoMemory the list is as it was.
+    pub fn push(&mut self, what: What) -> Result<(), NoMemory>
+        ensures ok { OnOk result (self.new ≡ self.old ++ what ∷ []) }
+        ensures err { OnErr result (self.new ≡ self.old) }
+    {
+        self.entries.reserve(1)?;
+        let what = Box::new(self.alloc(), what)?;
+        self.entries.push_reserved(Entry::Other(what));
+        Ok(())
+    }
+
+    /// Adds an update behind the others. After NoMemory the list is as it was.
+    #[inline]
+    pub fn push_put(
+        &mut self,
+        peer: usize,
+        table: usize,
+        key: Key,
+        life: Option<u64>,
+        cells: Cells,
+    ) -> Result<(), NoMemory>
+        ensures ok { OnOk result
+            (self.new ≡ self.old ++ Put peer table key life cells ∷ []) }
+        ensures err { OnErr result (self.new ≡ self.old) }
+    {
+        let start = self.words.len();
+        if !fits(peer, table, start, cells.len(), life) {
+            return self.push(What::Put {
+                peer,
+                table,
+                key,
+                life,
+                cells,
+            });
+        }
+        self.entries.reserve(1)?;
+        self.words.reserve(WIDEST * cells.len())?;
+        let entry = Entry::put(&mut self.words, peer, table, key, life, &cells);
+        self.entries.push_reserved(entry);
+        Ok(())
+    }
+
+    /// Takes all out. The room stays.
+    pub fn clear(&mut self)
+        ensures { self.new ≡ [] }
+    {
+        self.entries.clear();
+        self.words.clear();
+    }
+}
+
+// How many there are, and no more.
+impl fmt::Debug for Whats {
+    fn fmt<W: fmt::Write>(&self, f: &mut fmt::Formatter<W>) -> fmt::Result {
+        f.debug_tuple("Whats").field(&self.len()).finish()
+    }
+}
