@@ -1,7 +1,7 @@
 -- A joint truth changes only where one of its conditions turns.
 use Rattle.std.proofs.Common.{◌≡◌, ◌≢◌, ℕ, ◌+◌, ◌-◌, ◌<◌, ◌≤◌, zero, suc, Bool, true, false, ◌&&◌}
-use Rattle.std.proofs.Common.{nat_le, List, [], ◌∷◌, length, get_or, drop, Option, None, Some, ◌⊎◌, inl}
-use Rattle.std.proofs.Common.{inr, refl, sym, ap, subst, ◌∙◌, take, arith}
+use Rattle.std.proofs.Common.{nat_le, List, [], ◌∷◌, length, get_or, drop, Option, None, Some}
+use Rattle.std.proofs.Common.{◌⊎◌, inl, inr, refl, sym, ap, subst, ◌∙◌, take, arith}
 use Rattle.std.specs.Prelude.{IfSome}
 use Rattle.std.proofs.lemmas.List.{take_rest}
 use Rattle.agg_types.specs.Op.{op_holds}

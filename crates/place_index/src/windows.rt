@@ -1,6 +1,6 @@
 //! Words that name the places of keys, in windows that their hashes choose.
-ghost use Rattle.std.specs.Prelude.{◌≡◌, ◌≢◌, ℕ, ◌+◌, ◌<◌, ◌%◌, [], Some, length, slice_get, IfSome};
-ghost use Rattle.std.specs.Prelude.{IsTrue, slice_index_or};
+ghost use Rattle.std.specs.Prelude.{◌≡◌, ◌≢◌, ℕ, ◌+◌, ◌<◌, ◌%◌, [], Some, length, slice_get};
+ghost use Rattle.std.specs.Prelude.{IfSome, IsTrue, slice_index_or};
 ghost use Rattle.std.specs.Option.{option_copied};
 ghost use Rattle.place_index.specs.Windows.{word_of, home, hash_in, place_in};
 ghost use Rattle.place_index.specs.Windows.{short_of, IsFreeAt, IsIn, Has, Names};

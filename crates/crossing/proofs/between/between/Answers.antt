@@ -23,7 +23,8 @@ loop-high-preserved-then-is_below g c = record {
     below = grind (arith, nat_tests);
   };
   within = λ span. one_look _ _ _ _ _ _ _ (omega arith) c.loop-high-test.true (omega arith)
-      (λ none. (c.look_at-look.ensures.halves none).0) (omega arith) (c.loop-high.invariant.within span);
+      (λ none. (c.look_at-look.ensures.halves none).0) (omega arith)
+      (c.loop-high.invariant.within span);
 }
 
 pub loop-high-preserved : goal.loop-high-preserved
@@ -35,5 +36,6 @@ loop-high-preserved g c = record {
     below = c.loop-high.invariant.span.below;
   };
   within = λ span. one_look _ _ _ _ _ _ _ (omega arith) c.loop-high-test.true (omega arith)
-      (λ none. (c.look_at-look.ensures.halves none).1) (omega arith) (c.loop-high.invariant.within span);
+      (λ none. (c.look_at-look.ensures.halves none).1) (omega arith)
+      (c.loop-high.invariant.within span);
 }
