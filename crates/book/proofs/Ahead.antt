@@ -34,7 +34,7 @@ use Rattle.standing_filters.proofs.Walking.{key_itself}
 use Rattle.book.specs.Ahead.{AreAhead}
 use Rattle.book.specs.Flatness.{living_falls}
 use Rattle.book.specs.Foreseen.{flat_within, living_within}
-use Rattle.book.specs.Held.{IsJudged, living_in, sums_in}
+use Rattle.book.specs.Verdicts.{IsJudged, living_in, sums_in}
 use Rattle.book.specs.Shown.{of_peer}
 use Rattle.book.specs.Store.{IsEachKeyOf}
 use Rattle.book.proofs.FewReads.{flat_soon}

@@ -10,8 +10,8 @@ use Rattle.fleet_model.specs.Filters.{dropped}
 use Rattle.fleet_model.specs.State.{State}
 use Rattle.standing_filters.proofs.Removed.{all-remove, map-remove}
 use Rattle.standing_filters.specs.Watched.{AllWatched, Watched}
-use Rattle.book.specs.Held.{AreAll, AreHeld, HasFewer, IsAddedPlace, IsJudged}
-use Rattle.book.proofs.Verdicts.{all_judged, still_judged}
+use Rattle.book.specs.Verdicts.{AreAll, AreHeld, HasFewer, IsAddedPlace, IsJudged}
+use Rattle.book.proofs.Judging.{all_judged, still_judged}
 
 -- ---- one element fewer
 length-remove : {X : Type 0} (xs : List X) (place : ℕ) → place < length xs

@@ -30,10 +30,10 @@ use Rattle.standing_filters.specs.Turns.{AreDue, AreReadFor, IsQuiet, is_due}
 use Rattle.standing_filters.specs.Verdicts.{holds_at}
 use Rattle.standing_filters.specs.Watched.{AllWatched, Watched, filters_of, verdict_at}
 use Rattle.book.specs.Foreseen.{flat_within}
-use Rattle.book.specs.Held.{AreAll, AreHeld, AreJudged, AreStill, IsCalm, IsJudged, keys_in}
-use Rattle.book.specs.Held.{living_in, sums_in}
+use Rattle.book.specs.Verdicts.{AreAll, AreHeld, AreJudged, AreStill, IsCalm, IsJudged, keys_in}
+use Rattle.book.specs.Verdicts.{living_in, sums_in}
 use Rattle.book.specs.Reads.{AreDueBy, IsDueBy, IsForDue, IsQuietTo, filters_at, pairs_from}
-use Rattle.book.proofs.Verdicts.{holds_in}
+use Rattle.book.proofs.Judging.{holds_in}
 
 -- the values of a sound state stay soon
 pub flat_soon : (state : State) (table : ℕ) (key : List ℕ) → IsSound state

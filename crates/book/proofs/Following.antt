@@ -25,7 +25,7 @@ use Rattle.fleet_model.specs.Values.{cols_of, meets, same_key}
 use Rattle.fleet_model.specs.declared.arrival.Arrival.{Arrival}
 use Rattle.fleet_model.proofs.KeyChanges.{holds-stays}
 use Rattle.fleet_model.proofs.KeyRows.{clear-each, put-others}
-use Rattle.book.specs.Held.{ChangesKey, ChangesTable, Follows, FollowsClear}
+use Rattle.book.specs.Verdicts.{ChangesKey, ChangesTable, Follows, FollowsClear}
 use Rattle.book_frame.proofs.Chosen.{same_key-decides}
 
 -- ---- nothing happened

@@ -9,7 +9,7 @@ pub mod Counting
 pub mod Foresight
 pub mod Leading
 pub mod FirstKeys
-pub mod Verdicts
+pub mod Judging
 pub mod Dropped
 pub mod Updates
 pub mod Following

@@ -22,7 +22,7 @@ use Rattle.standing_filters.specs.Watched.{Watched}
 use Rattle.standing_filters.specs.declared.flips.Flip.{Flip}
 use Rattle.standing_filters.proofs.Said.{added_then, said_append, tells_none, tells_same}
 use Rattle.book.specs.Flips.{TellsAll, TellsAllIfKnown, TellsStepIfKnown, held_in}
-use Rattle.book.specs.Held.{ChangesTable, Stays}
+use Rattle.book.specs.Verdicts.{ChangesTable, Stays}
 
 -- ---- one part of the events and the next
 -- no event

@@ -27,7 +27,7 @@ use Rattle.fleet_model.specs.Sound.{IsSound}
 use Rattle.fleet_model.specs.State.{State}
 use Rattle.standing_filters.specs.Watched.{AllWatched}
 use Rattle.book.proofs.Following.{follows}
-use Rattle.book.specs.Held.{AreHeld, Follows, IsBook, IsLeaving}
+use Rattle.book.specs.Verdicts.{AreHeld, Follows, IsBook, IsLeaving}
 use Rattle.book.specs.Runs.{IsPartApplied, IsPutOf, IsTurn, IsUpdateOf, counted_to, left_at}
 use Rattle.book.specs.Runs.{with_update}
 

@@ -9,7 +9,7 @@ use Rattle.fleet_model.specs.State.{State}
 use Rattle.peer_rows.specs.Places.{Keys}
 use Rattle.standing_filters.specs.Laws.{AreVerdictsBut}
 use Rattle.standing_filters.specs.Watched.{Watched}
-use Rattle.book.specs.Held.{living_in, sums_in}
+use Rattle.book.specs.Verdicts.{living_in, sums_in}
 use Rattle.book.specs.Shown.{of_peer}
 
 -- keys of a table that lie ahead, each once with its rows; every other has its verdict

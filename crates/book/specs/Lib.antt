@@ -6,7 +6,7 @@ pub mod Due
 pub mod Foreseen
 pub mod Flatness
 pub mod Leading
-pub mod Held
+pub mod Verdicts
 pub mod Reads
 pub use Rattle.book_frame.specs.Lent
 pub mod Heads

@@ -8,7 +8,7 @@ ghost use Rattle.fleet_model.specs.Sound.{IsSound};
 ghost use Rattle.standing_filters.specs.Verdicts.{out};
 ghost use Rattle.standing_filters.specs.Watched.{IsTouched, verdict_at};
 ghost use Rattle.book.specs.Ahead.{AreAhead};
-ghost use Rattle.book.specs.Held.{IsJudged, living_in, sums_in};
+ghost use Rattle.book.specs.Verdicts.{IsJudged, living_in, sums_in};
 ghost use Rattle.book.specs.Store.{AreRowsOf};
 
 use crate::machine::Machine;

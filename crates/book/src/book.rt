@@ -22,12 +22,12 @@ ghost use Rattle.book_frame.specs.Lent.{listed_where, shown_row};
 
 use crate::drops::Drops;
 use crate::foreseen::first_change;
-use crate::held::{Held, held_keys};
 use crate::listing::BookRows;
 use crate::machine::Machine;
 use crate::queries;
 use crate::ranking::Ranked;
 use crate::sets::keys_held;
+use crate::verdicts::{Verdicts, held_keys};
 use agg_types::{Cond, Config, Event, Key, NoMemory, What};
 use book_frame::keys::are_same;
 use book_frame::seats;
@@ -63,7 +63,7 @@ pub struct Taken {
 /// sound.
 pub struct Book {
     pub(crate) machine: Machine,
-    pub(crate) held: Held,
+    pub(crate) verdicts: Verdicts,
     // what full tables didn't take
     pub(crate) drops: Drops,
 }
@@ -73,7 +73,7 @@ impl Drop for Book {
     fn drop(self) {
         let Book {
             machine: _,
-            held: _,
+            verdicts: _,
             drops: _,
         } = self;
     }
@@ -81,13 +81,13 @@ impl Drop for Book {
 
 impl Model for Book {
     ghost use Rattle.fleet_model.specs.State.{State};
-    ghost use Rattle.book.specs.Held.{IsBook};
+    ghost use Rattle.book.specs.Verdicts.{IsBook};
 
     ghost Value = { State };
 
     ghost view = { λ b. b.machine };
 
-    ghost invariant = { λ b. IsBook b.machine b.held.standing };
+    ghost invariant = { λ b. IsBook b.machine b.verdicts.standing };
 }
 
 impl Book {
@@ -104,11 +104,11 @@ impl Book {
         fleet_model::laws::nothing_happened();
         fleet_model::laws::states_are_sound();
         let machine = Machine::new(alloc, config, moment)?;
-        let held = Held::new(&machine);
+        let verdicts = Verdicts::new(&machine);
         let drops = Drops::new(alloc, machine.rows.size)?;
         Ok(Book {
             machine,
-            held,
+            verdicts,
             drops,
         })
     }
@@ -233,8 +233,8 @@ impl Book {
     pub fn has_added(&self, name: &[u8]) -> bool
         ensures { result ≡ is_added self.now.configured self.now.config.filters name.now }
     {
-        let held = &self.machine;
-        added_at(held.config.filters.as_slice(), held.configured, name).is_some()
+        let machine = &self.machine;
+        added_at(machine.config.filters.as_slice(), machine.configured, name).is_some()
     }
 
     /// The moment, in ms. Takes no memory.
@@ -272,8 +272,8 @@ impl Book {
     pub fn keys(&self, alloc: Global, table: usize) -> Result<Vec<&Key>, NoMemory>
         ensures { IfOk result (λ keys. map (λ key. key.now) keys.items ≡ keys_of self.now table) }
     {
-        let held = &self.machine;
-        queries::live_keys(alloc, &held.rows, table, held.moment)
+        let machine = &self.machine;
+        queries::live_keys(alloc, &machine.rows, table, machine.moment)
     }
 
     /// How many keys of a table have a row. Takes no memory.
@@ -333,7 +333,7 @@ impl Book {
             (λ keys. map (λ key. key.now) keys.items
             ≡ set_at self.now (filter_of self.now filter) self.now.moment) }
     {
-        match &self.held.standing {
+        match &self.verdicts.standing {
             None => self.filter_keys_at(alloc, filter, self.moment()),
             Some(standing) => held_keys(alloc, standing, filter),
         }
@@ -353,10 +353,10 @@ impl Book {
             (λ keys. map (λ key. key.now) keys.items
             ≡ set_at self.now (filter_of self.now filter) t) }
     {
-        let held = &self.machine;
-        let standing = filter_at(held.config.filters.as_slice(), filter);
-        let cols = cols_of(held.config.tables.as_slice(), standing.table);
-        keys_held(alloc, &held.rows, cols, standing, t)
+        let machine = &self.machine;
+        let standing = filter_at(machine.config.filters.as_slice(), filter);
+        let cols = cols_of(machine.config.tables.as_slice(), standing.table);
+        keys_held(alloc, &machine.rows, cols, standing, t)
     }
 
     /// The ranked list at a position of the configuration, found by bounds on the values of keys.
@@ -400,7 +400,7 @@ impl Book {
         ensures { IfOk result (IsNextChange self.now (filter_of self.now filter)) }
     {
         standing_filters::laws::first_change_is_the_sets();
-        match &self.held.standing {
+        match &self.verdicts.standing {
             None => self.walk_to_change(alloc, filter),
             Some(standing) => Ok(standing.next_change(filter)),
         }
@@ -467,12 +467,12 @@ impl Book {
         ensures flips_err { OnErr result (flips.new ≡ flips.old) }
     {
         fleet_model::laws::states_are_sound();
-        let before = self.held.keys_used(&self.machine);
+        let before = self.verdicts.keys_used(&self.machine);
         let leaving = self.machine.leaving(what);
         let applied = self.machine.apply(seat, seq, what, hint)?;
         let spot = applied.spot;
         let mut meter = Meter::new();
-        let anew = self.held.follow(
+        let anew = self.verdicts.follow(
             &self.machine,
             what,
             spot,

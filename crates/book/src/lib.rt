@@ -46,7 +46,6 @@ mod book;
 mod clears;
 mod drops;
 mod foreseen;
-mod held;
 mod leaders;
 mod likely;
 mod listed;
@@ -65,6 +64,7 @@ mod runs;
 mod sets;
 mod store;
 mod values;
+mod verdicts;
 
 pub use book::{Book, Taken};
 pub use fleet_model::Summed;

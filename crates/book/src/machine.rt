@@ -15,7 +15,7 @@ ghost use Rattle.fleet_model.specs.Values.{cols_of, selects};
 ghost use Rattle.book_frame.specs.Due.{IsDue};
 ghost use Rattle.book.specs.Dropped.{is_dropped};
 ghost use Rattle.book.specs.Due.{FitsPlace};
-ghost use Rattle.book.specs.Held.{IsLeaving, keys_in};
+ghost use Rattle.book.specs.Verdicts.{IsLeaving, keys_in};
 ghost use Rattle.book.specs.Leading.{AreLed};
 ghost use Rattle.book.specs.Listing.{ListsMeeting};
 ghost use Rattle.book.specs.Planned.{IsInside, IsShort, place_at};

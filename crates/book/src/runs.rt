@@ -9,17 +9,17 @@ ghost use Rattle.fleet_model.specs.Sound.{IsSound};
 ghost use Rattle.book.specs.Due.{FitsPlace};
 ghost use Rattle.book.specs.Dropped.{lacks_room};
 ghost use Rattle.book.specs.Flips.{TellsAllIfKnown, TellsStepIfKnown, part_of};
-ghost use Rattle.book.specs.Held.{IsBook};
+ghost use Rattle.book.specs.Verdicts.{IsBook};
 ghost use Rattle.book.specs.Runs.{IsPartApplied, IsPutOf, IsTurn, IsUpdateOf, counted_to};
 ghost use Rattle.book.specs.Runs.{left_at, with_update};
 
 use crate::at::At;
 use crate::book::Book;
 use crate::drops::Drops;
-use crate::held::Held;
 use crate::lookahead::Lookahead;
 use crate::machine::{Applied, Machine, put};
-use agg_types::{NoMemory, What};
+use crate::verdicts::Verdicts;
+use agg_types::{NoMemory, What, Whats};
 use book_frame::seats;
 use book_frame::seats::{count_to, is_number};
 use crossing::Meter;
@@ -55,22 +55,23 @@ impl Book {
         &mut self,
         seat: u64,
         first: u64,
-        whats: &[What],
+        posted: &Whats,
         from: usize,
         hints: &mut Vec<Option<Spot>>,
         flips: &mut Flips,
     ) -> usize
-        requires from_in { from ≤ length whats.now }
-        requires small { first + length whats.now < NUMBERS_END }
+        requires from_in { from ≤ length posted.now }
+        requires small { first + length posted.now < NUMBERS_END }
         ensures onwards { from ≤ result }
-        ensures within { result ≤ length whats.now }
-        ensures applied { IsPartApplied seat first whats.now from result self.old self.new }
-        ensures brings { fold after self.new (left_at seat first whats.now result)
-            ≡ fold after self.old (left_at seat first whats.now from) }
+        ensures within { result ≤ length posted.now }
+        ensures applied { IsPartApplied seat first posted.now from result self.old self.new }
+        ensures brings { fold after self.new (left_at seat first posted.now result)
+            ≡ fold after self.old (left_at seat first posted.now from) }
         ensures sound { IsSound self.new }
-        ensures flips { TellsAllIfKnown self.old (part_of seat first whats.now from result)
+        ensures flips { TellsAllIfKnown self.old (part_of seat first posted.now from result)
             flips.old flips.new }
     {
+        let whats = posted.as_slice();
         let mut done = from;
         'places: while done < whats.len() {
             let came = self.take_updates(seat, first, whats, done, hints, flips);
@@ -110,7 +111,7 @@ impl Book {
     {
         take_updates(
             &mut self.machine,
-            &mut self.held,
+            &mut self.verdicts,
             &mut self.drops,
             seat,
             first,
@@ -217,7 +218,7 @@ pub(crate) fn note(hints: &mut Vec<Option<Spot>>, place: usize, spot: Option<Spo
 // Takes an update of a turn: its row is put and its key judged. Nothing has changed after NoMemory.
 fn take_one(
     machine: &mut Machine,
-    held: &mut Held,
+    verdicts: &mut Verdicts,
     drops: &mut Drops,
     turn: Turn,
     what: &What,
@@ -226,17 +227,17 @@ fn take_one(
 ) -> Result<Option<Spot>, NoMemory>
     requires session { turn.session ≡ session_of machine.old turn.peer }
     requires update { IsUpdateOf machine.old.config turn.peer what.now }
-    requires book { IsBook machine.old held.old.standing }
+    requires book { IsBook machine.old verdicts.old.standing }
     ensures ok { OnOk result (machine.new ≡ with_update machine.old turn.seat what.now) }
     ensures err { OnErr result (machine.new ≡ machine.old) }
-    ensures book { IsBook machine.new held.new.standing }
+    ensures book { IsBook machine.new verdicts.new.standing }
     ensures flips { OnOk result
         (TellsStepIfKnown machine.old machine.new flips.old flips.new) }
     ensures flips_err { OnErr result (flips.new ≡ flips.old) }
 {
     let applied = machine.put_row(turn, what, hint)?;
     let mut meter = Meter::new();
-    held.follow(machine, what, applied.spot, None, 0, &mut meter, flips);
+    verdicts.follow(machine, what, applied.spot, None, 0, &mut meter, flips);
     drops.note(what, applied.dropped);
     Ok(applied.spot)
 }
@@ -244,7 +245,7 @@ fn take_one(
 // Takes the updates of a turn that follow each other, for which the seat isn't counted up.
 fn take_each(
     machine: &mut Machine,
-    held: &mut Held,
+    verdicts: &mut Verdicts,
     drops: &mut Drops,
     turn: Turn,
     first: u64,
@@ -256,11 +257,11 @@ fn take_each(
     requires from_in { from ≤ length whats.now }
     requires small { first + length whats.now < NUMBERS_END }
     requires turn { IsTurn machine.old turn.seat (first + from) turn.peer turn.session }
-    requires book { IsBook machine.old held.old.standing }
+    requires book { IsBook machine.old verdicts.old.standing }
     ensures onwards { from ≤ result.place }
     ensures within { result.place ≤ length whats.now }
     ensures seats { machine.new.seats ≡ machine.old.seats }
-    ensures book { IsBook machine.new held.new.standing }
+    ensures book { IsBook machine.new verdicts.new.standing }
     ensures applied { IsPartApplied turn.seat first whats.now from result.place machine.old
         (counted_to machine.new turn.seat (first + result.place)) }
     ensures flips { TellsAllIfKnown machine.old
@@ -277,7 +278,7 @@ fn take_each(
             ahead.look(machine, turn.peer, whats, place, hints);
         }
         let hint = ahead.spot(place).or(hint_at(hints, place));
-        let Ok(spot) = take_one(machine, held, drops, turn, what, hint, flips) else {
+        let Ok(spot) = take_one(machine, verdicts, drops, turn, what, hint, flips) else {
             return Came {
                 place,
                 refused: true,
@@ -297,7 +298,7 @@ fn take_each(
 /// it takes none.
 pub(crate) fn take_updates(
     machine: &mut Machine,
-    held: &mut Held,
+    verdicts: &mut Verdicts,
     drops: &mut Drops,
     seat: u64,
     first: u64,
@@ -308,10 +309,10 @@ pub(crate) fn take_updates(
 ) -> Came
     requires from_in { from < length whats.now }
     requires small { first + length whats.now < NUMBERS_END }
-    requires book { IsBook machine.old held.old.standing }
+    requires book { IsBook machine.old verdicts.old.standing }
     ensures onwards { from ≤ result.place }
     ensures within { result.place ≤ length whats.now }
-    ensures book { IsBook machine.new held.new.standing }
+    ensures book { IsBook machine.new verdicts.new.standing }
     ensures applied { IsPartApplied seat first whats.now from result.place machine.old machine.new }
     ensures flips { TellsAllIfKnown machine.old (part_of seat first whats.now from result.place)
         flips.old flips.new }
@@ -322,7 +323,9 @@ pub(crate) fn take_updates(
             refused: false,
         };
     };
-    let came = take_each(machine, held, drops, turn, first, whats, from, hints, flips);
+    let came = take_each(
+        machine, verdicts, drops, turn, first, whats, from, hints, flips,
+    );
     machine.count_to(seat, first + came.place as u64);
     came
 }

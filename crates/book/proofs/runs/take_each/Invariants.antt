@@ -1,7 +1,7 @@
 use Rattle.std.proofs.Common.{◌≡◌, ◌≤◌, ◌+◌, ◌-◌, length}
 use Rattle.fleet_model.specs.Machine.{session_of}
 use Rattle.book.specs.Flips.{TellsAllIfKnown, part_of}
-use Rattle.book.specs.Held.{IsBook}
+use Rattle.book.specs.Verdicts.{IsBook}
 use Rattle.book.specs.Runs.{IsPartApplied, counted_to}
 use Rattle.book.proofs.runs.take_each.Given as goal
 
@@ -12,7 +12,7 @@ invariant-updates l = record {
   within : l.place ≤ length l.whats;
   session : l.turn.session ≡ session_of l.machine l.turn.peer;
   seats : l.machine.seats ≡ l.fn.machine.seats;
-  book : IsBook l.machine l.held.standing;
+  book : IsBook l.machine l.verdicts.standing;
   applied : IsPartApplied l.turn.seat l.first l.whats l.fn.from l.place l.fn.machine
       (counted_to l.machine l.turn.seat (l.first + l.place));
   flips : TellsAllIfKnown l.fn.machine (part_of l.turn.seat l.first l.whats l.fn.from l.place)

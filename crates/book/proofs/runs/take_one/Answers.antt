@@ -1,7 +1,7 @@
 use Rattle.std.proofs.Common.{sym, subst}
 use Rattle.fleet_model.specs.Sound.{IsSound}
 use Rattle.fleet_model.specs.State.{State}
-use Rattle.book.specs.Held.{Follows}
+use Rattle.book.specs.Verdicts.{Follows}
 use Rattle.book.proofs.Updates.{follows_update, put_drops_none, sound_update}
 use Rattle.book.proofs.runs.take_one.Goals as goal
 

@@ -1,6 +1,6 @@
 use Rattle.std.proofs.Common.{◌+◌, sym, subst, arith}
 use Rattle.fleet_model.specs.State.{State}
-use Rattle.book.specs.Held.{IsBook}
+use Rattle.book.specs.Verdicts.{IsBook}
 use Rattle.book.proofs.ToldRuns.{told_none}
 use Rattle.book.proofs.Updates.{book_counted}
 use Rattle.book.proofs.runs.take_updates.Goals as goal
@@ -8,9 +8,9 @@ use Rattle.book.proofs.runs.take_updates.Goals as goal
 pub returns-clause-book : goal.returns-clause-book
 returns-clause-book c =
     let came = c.take_each-came in
-    subst (λ (s : State). IsBook s came.new.held.standing) (sym c.count_to.ensures)
+    subst (λ (s : State). IsBook s came.new.verdicts.standing) (sym c.count_to.ensures)
     (book_counted came.new.machine c.args.seat (c.args.first + came.result.place)
-    came.new.held.standing came.ensures.book)
+    came.new.verdicts.standing came.ensures.book)
 
 pub returns-in_default-clause-flips : goal.returns-in_default-clause-flips
 returns-in_default-clause-flips c =

@@ -3,7 +3,7 @@ use Rattle.agg_types.specs.declared.event.Event.{Event}
 use Rattle.fleet_model.specs.Machine.{after, event_of}
 use Rattle.fleet_model.specs.Sound.{IsSound}
 use Rattle.fleet_model.specs.State.{State}
-use Rattle.book.specs.Held.{Follows, IsCalm, keys_in}
+use Rattle.book.specs.Verdicts.{Follows, IsCalm, keys_in}
 use Rattle.book.specs.Reads.{IsFewFor, IsQuietTo}
 use Rattle.book.specs.Flips.{TellsAllIfKnown}
 use Rattle.book.proofs.ToldAll.{tells_one}

@@ -3,8 +3,8 @@ use Rattle.std.proofs.lemmas.Result.{IfOk-weaker}
 use Rattle.std.specs.Borrow.{Bor}
 use Rattle.fleet_model.specs.Sound.{IsSound}
 use Rattle.fleet_model.specs.State.{State}
-use Rattle.book.specs.Held.{AreAll, AreHeld}
-use Rattle.book.proofs.Verdicts.{kept_set}
+use Rattle.book.specs.Verdicts.{AreAll, AreHeld}
+use Rattle.book.proofs.Judging.{kept_set}
 use Rattle.book.proofs.book.Book.filter_keys.Goals as goal
 
 pub returns-in-Some : goal.returns-in-Some

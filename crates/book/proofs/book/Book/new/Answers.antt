@@ -7,11 +7,11 @@ invariant_of-result c = record {
   sound = subst IsSound (sym c.in_ok-machine.ensures)
       (c.states_are_sound.ensures.opened c.args.config c.args.moment c.requires.checked
       c.requires.in_range);
-  held = c.new-held.ensures;
+  held = c.new-verdicts.ensures;
 }
 
-pub new-held-requires : goal.new-held-requires
-new-held-requires c = record {
+pub new-verdicts-requires : goal.new-verdicts-requires
+new-verdicts-requires c = record {
   sound = subst IsSound (sym c.in_ok-machine.ensures)
       (c.states_are_sound.ensures.opened c.args.config c.args.moment c.requires.checked
       c.requires.in_range);

@@ -1,8 +1,8 @@
 use Rattle.std.proofs.Common.{subst}
 use Rattle.fleet_model.specs.Sound.{IsSound}
 use Rattle.fleet_model.specs.State.{State}
-use Rattle.book.specs.Held.{AreAll, AreHeld}
-use Rattle.book.proofs.Verdicts.{kept_next}
+use Rattle.book.specs.Verdicts.{AreAll, AreHeld}
+use Rattle.book.proofs.Judging.{kept_next}
 use Rattle.book.proofs.book.Book.next_change.Goals as goal
 
 pub returns-in-Some : goal.returns-in-Some

@@ -1,6 +1,6 @@
 use Rattle.std.proofs.Common.{ℕ, Bool, List, ◌∙◌, ap, subst, sym}
 use Rattle.std.proofs.lemmas.Result.{err_from_is_err_and}
-use Rattle.book.proofs.Verdicts.{from_ok}
+use Rattle.book.proofs.Judging.{from_ok}
 use Rattle.hub.specs.Views.{Seeing}
 use Rattle.serve.proofs.Commanded.{stops_unkept, works_kept}
 use Rattle.serve.specs.Commanding.{Works, WorksIf}

@@ -4,8 +4,8 @@ use Rattle.std.specs.List.{list_any}
 use Rattle.agg_types.specs.declared.config.Filter.{Filter}
 use Rattle.fleet_model.specs.State.{State}
 use Rattle.book.proofs.ToldAll.{elsewhere_told}
-use Rattle.book.proofs.Verdicts.{elsewhere_kept}
-use Rattle.book.proofs.held.Held.clear.Goals as goal
+use Rattle.book.proofs.Judging.{elsewhere_kept}
+use Rattle.book.proofs.verdicts.Verdicts.clear.Goals as goal
 
 pub returns-else-has_filter-clause-held : goal.returns-else-has_filter-clause-held
 returns-else-has_filter-clause-held c = λ state changes held.

@@ -3,11 +3,11 @@ use Rattle.std.specs.List.{list_any}
 use Rattle.agg_types.specs.declared.config.Filter.{Filter}
 use Rattle.fleet_model.specs.State.{State}
 use Rattle.standing_filters.specs.Watched.{AreTouched}
-use Rattle.book.specs.Held.{AreAll, AreHeld, living_in, sums_in}
+use Rattle.book.specs.Verdicts.{AreAll, AreHeld, living_in, sums_in}
 use Rattle.book.proofs.FewReads.{touched_few}
 use Rattle.book.proofs.ToldAll.{elsewhere_told, kept_told}
-use Rattle.book.proofs.Verdicts.{elsewhere_kept, from_ok, kept_holds, touched_held}
-use Rattle.book.proofs.held.Held.touch.Goals as goal
+use Rattle.book.proofs.Judging.{elsewhere_kept, from_ok, kept_holds, touched_held}
+use Rattle.book.proofs.verdicts.Verdicts.touch.Goals as goal
 
 pub returns-then-not-has_filter-clause-held : goal.returns-then-not-has_filter-clause-held
 returns-then-not-has_filter-clause-held c = λ state changes held.

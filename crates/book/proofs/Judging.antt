@@ -41,8 +41,8 @@ use Rattle.standing_filters.specs.Watched.{no_filter as nothing}
 use Rattle.crossing.specs.First.{IsFirstFrom}
 use Rattle.book.specs.Flips.{held_in}
 use Rattle.book.specs.Foreseen.{living_within, worth_within}
-use Rattle.book.specs.Held.{AreAll, AreFirst, AreHeld, AreJudged, ChangesKey, ChangesTable}
-use Rattle.book.specs.Held.{GoesOn, HasMore, IsJudged, IsOneMore, Stays, living_in, sums_in}
+use Rattle.book.specs.Verdicts.{AreAll, AreFirst, AreHeld, AreJudged, ChangesKey, ChangesTable}
+use Rattle.book.specs.Verdicts.{GoesOn, HasMore, IsJudged, IsOneMore, Stays, living_in, sums_in}
 use Rattle.book.proofs.Foresight.{bool_same, holds_within}
 
 -- what is read of a key is what a filter says of it

@@ -1,7 +1,7 @@
 use Rattle.std.proofs.Common.{◌+◌, ◌*◌, ◌≤◌, length}
-use Rattle.book.specs.Held.{AreFirst}
+use Rattle.book.specs.Verdicts.{AreFirst}
 use Rattle.book.specs.Reads.{pairs_from}
-use Rattle.book.proofs.held.add_missing.Given as goal
+use Rattle.book.proofs.verdicts.add_missing.Given as goal
 
 abbrev pub invariant-loop-position : goal.invariant-loop-position
 invariant-loop-position l = record {

@@ -1,10 +1,10 @@
 use Rattle.std.proofs.Common.{◌≤◌, ◌+◌, ◌*◌, sym, subst, arith}
 use Rattle.agg_types.specs.declared.event.What.{What}
-use Rattle.book.specs.Held.{Follows}
+use Rattle.book.specs.Verdicts.{Follows}
 use Rattle.book.specs.Reads.{IsFewFor, filters_at}
 use Rattle.book.proofs.ToldAll.{stays_told}
-use Rattle.book.proofs.Verdicts.{stays_kept}
-use Rattle.book.proofs.held.Held.follow.Goals as goal
+use Rattle.book.proofs.Judging.{stays_kept}
+use Rattle.book.proofs.verdicts.Verdicts.follow.Goals as goal
 
 pub returns-in-Sit-clause-held : goal.returns-in-Sit-clause-held
 returns-in-Sit-clause-held c = λ state sound follows leaving held.

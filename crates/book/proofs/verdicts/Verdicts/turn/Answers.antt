@@ -1,11 +1,11 @@
 use Rattle.std.proofs.Common.{◌≡◌, ◌∙◌, ℕ, sym, ap, subst}
 use Rattle.fleet_model.specs.State.{State}
 use Rattle.standing_filters.specs.Turns.{AreTurned}
-use Rattle.book.specs.Held.{AreAll, AreHeld, living_in, sums_in}
+use Rattle.book.specs.Verdicts.{AreAll, AreHeld, living_in, sums_in}
 use Rattle.book.proofs.FewReads.{none_due, turned_calm, turned_few}
 use Rattle.book.proofs.ToldAll.{kept_told}
-use Rattle.book.proofs.Verdicts.{from_ok, kept_holds, turned_held}
-use Rattle.book.proofs.held.Held.turn.Goals as goal
+use Rattle.book.proofs.Judging.{from_ok, kept_holds, turned_held}
+use Rattle.book.proofs.verdicts.Verdicts.turn.Goals as goal
 
 pub returns-else-is_err-clause-held : goal.returns-else-is_err-clause-held
 returns-else-is_err-clause-held c = λ state sound goes held.

@@ -6,8 +6,8 @@ use Rattle.fleet_model.specs.State.{State}
 use Rattle.fleet_model.proofs.Checked.{conds_few}
 use Rattle.book.specs.Reads.{pairs_from}
 use Rattle.book.proofs.FewReads.{pairs_more}
-use Rattle.book.proofs.Verdicts.{first_all, first_more}
-use Rattle.book.proofs.held.add_missing.Goals as goal
+use Rattle.book.proofs.Judging.{first_all, first_more}
+use Rattle.book.proofs.verdicts.add_missing.Goals as goal
 
 pub add_one-requires-clause-few : goal.add_one-requires-clause-few
 add_one-requires-clause-few c =

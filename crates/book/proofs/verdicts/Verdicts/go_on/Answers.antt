@@ -1,5 +1,5 @@
 use Rattle.book.proofs.FewReads.{none_due}
-use Rattle.book.proofs.held.Held.go_on.Goals as goal
+use Rattle.book.proofs.verdicts.Verdicts.go_on.Goals as goal
 
 pub returns-then-keys_used-before-clause-few : goal.returns-then-keys_used-before-clause-few
 returns-then-keys_used-before-clause-few c = λ state sound goes held kept.

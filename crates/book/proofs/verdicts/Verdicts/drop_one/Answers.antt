@@ -1,7 +1,7 @@
 use Rattle.std.proofs.Common.{ℕ, Option, subst}
-use Rattle.book.specs.Held.{IsAddedPlace}
+use Rattle.book.specs.Verdicts.{IsAddedPlace}
 use Rattle.book.proofs.Dropped.{none_kept}
-use Rattle.book.proofs.held.Held.drop_one.Goals as goal
+use Rattle.book.proofs.verdicts.Verdicts.drop_one.Goals as goal
 
 pub returns-in-None : goal.returns-in-None
 returns-in-None c = record {

@@ -1,8 +1,8 @@
 use Rattle.std.proofs.Common.{◌∙◌, ap, length, subst}
 use Rattle.fleet_model.specs.State.{State}
-use Rattle.book.specs.Held.{AreHeld}
+use Rattle.book.specs.Verdicts.{AreHeld}
 use Rattle.book.proofs.Dropped.{fewer_kept_by}
-use Rattle.book.proofs.held.Held.drop_place.Goals as goal
+use Rattle.book.proofs.verdicts.Verdicts.drop_place.Goals as goal
 
 pub returns : goal.returns
 returns c = record {

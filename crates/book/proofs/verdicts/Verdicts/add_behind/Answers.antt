@@ -1,9 +1,9 @@
 use Rattle.std.proofs.Common.{ℕ, ◌+◌, ◌*◌, ◌≤◌, ◌∙◌, sym, subst}
-use Rattle.book.specs.Held.{AreHeld}
+use Rattle.book.specs.Verdicts.{AreHeld}
 use Rattle.book.specs.Reads.{pairs_from}
 use Rattle.book.proofs.FewReads.{count_all}
-use Rattle.book.proofs.Verdicts.{from_ok, more_first}
-use Rattle.book.proofs.held.Held.add_behind.Goals as goal
+use Rattle.book.proofs.Judging.{from_ok, more_first}
+use Rattle.book.proofs.verdicts.Verdicts.add_behind.Goals as goal
 
 pub returns-else-is_err-clause-held : goal.returns-else-is_err-clause-held
 returns-else-is_err-clause-held c = λ state more held.

@@ -17,9 +17,9 @@ ghost use Rattle.fleet_model.specs.Sound.{IsSound};
 ghost use Rattle.fleet_model.specs.State.{State};
 ghost use Rattle.standing_filters.specs.Watched.{verdicts_of, verdict_at};
 ghost use Rattle.book.specs.Flips.{TellsStepIfKnown};
-ghost use Rattle.book.specs.Held.{AreAll, AreFirst, AreHeld, ChangesKey, ChangesTable, Follows};
-ghost use Rattle.book.specs.Held.{AreStill, GoesOn, HasFewer, HasMore, IsAddedPlace, IsCalm};
-ghost use Rattle.book.specs.Held.{IsLeaving, IsOneMore, keys_in};
+ghost use Rattle.book.specs.Verdicts.{AreAll, AreFirst, AreHeld, ChangesKey, ChangesTable, Follows};
+ghost use Rattle.book.specs.Verdicts.{AreStill, GoesOn, HasFewer, HasMore, IsAddedPlace, IsCalm};
+ghost use Rattle.book.specs.Verdicts.{IsLeaving, IsOneMore, keys_in};
 ghost use Rattle.book.specs.Reads.{IsFewFor, IsForDue, MayRenew, filters_at, pairs_from};
 
 use crate::adding::judged;
@@ -33,18 +33,18 @@ use std::alloc::Global;
 
 /// The verdicts of all standing filters, or none where memory for them was refused.
 #[derive(Drop)]
-pub(crate) struct Held {
+pub(crate) struct Verdicts {
     pub(crate) standing: Option<Standing>,
 }
 
-impl Held {
+impl Verdicts {
     /// The verdicts of a machine's filters.
-    pub(crate) fn new(machine: &Machine) -> Held
+    pub(crate) fn new(machine: &Machine) -> Verdicts
         requires sound { IsSound machine.now }
         ensures { AreHeld machine.now result.standing }
     {
         let mut meter = Meter::new();
-        Held {
+        Verdicts {
             standing: judge_all(machine, &mut meter).ok(),
         }
     }
