@@ -116,8 +116,7 @@ fn read(alloc: Global, bytes: &[u8], size: usize) -> Result<u64>
 }
 
 /// Lets a session read a hello, a definition, and the bytes in pieces of this size, and counts the
-/// facts. What a piece gave is kept until the next, as a fleet keeps its rows: else the C library
-/// would give the memory of each piece back to the system and ask for it again.
+/// facts. What a piece gave is given back before the next, as a connection does.
 fn facts(alloc: Global, config: &Config, defined: &[u8], bytes: &[u8], size: usize) -> Result<u64>
     requires { 0 < size }
 {
@@ -125,13 +124,12 @@ fn facts(alloc: Global, config: &Config, defined: &[u8], bytes: &[u8], size: usi
     session.feed(config, HELLO, 0)?;
     session.feed(config, defined, 0)?;
     let mut count = 0_u64;
-    let mut last = None;
     for piece in bytes.chunks(size) {
         let batch = session.feed(config, piece, 0)?;
         count = count.saturating_add(batch.facts().len() as u64);
-        last = Some(batch);
+        let (facts, _) = batch.into_parts();
+        session.give_back(facts);
     }
-    drop(last);
     Ok(count)
 }
 

@@ -1,9 +1,8 @@
 -- What the updates of a run leave, of which each puts a row and the seat is counted up behind them.
 use Rattle.std.proofs.Common.{◌≡◌, ℕ, ◌+◌, ◌<◌, Bool, true, false, cond, ◌&&◌, nat_lt, List, ◌∷◌}
 use Rattle.std.proofs.Common.{Option, None, Some, T, drop, fold, length, refl, sym, ap, ◌∙◌, subst}
-use Rattle.std.proofs.Common.{arith, get_or, suc, [], ◌++◌, append_assoc}
+use Rattle.std.proofs.Common.{arith, suc, [], ◌++◌, append_assoc}
 use Rattle.std.proofs.lemmas.List.Sums.{fold-append}
-use Rattle.std.proofs.Math.Seq.{drop-cons}
 use Rattle.std.proofs.lemmas.Bool.Decides.{nat_tests}
 use Rattle.std.proofs.lemmas.Cmp.{nat_cmp_total}
 use Rattle.std.proofs.lemmas.Map.Lookups.{exact_unsigned}
@@ -221,14 +220,6 @@ put_drops_none peer (Moment moment) s put = absurd put
 put_drops_none peer Leave s put = absurd put
 
 -- ---- what is left of a run
-pub left_next : (whats : List What) (place : ℕ) (what : What) → place < length whats
-    → what ≡ get_or whats place what → drop place whats ≡ what ∷ drop (place + 1) whats
-left_next whats place what there is =
-    let next : suc place ≡ place + 1 = omega arith in
-    drop-cons whats place what there
-    ∙ ap (λ w. w ∷ drop (suc place) whats) (sym is)
-    ∙ ap (λ n. what ∷ drop n whats) next
-
 -- nothing has been applied yet
 unfoldable pub part_none : (seat first place : ℕ) (whats : List What) (old new : State) → new ≡ old
     → IsPartApplied seat first whats place place old new

@@ -1,6 +1,9 @@
 -- Places and rows of a book's peers and tables.
-use Rattle.std.specs.Prelude.{◌≡◌, ℕ, ◌^◌, ◌<◌, Option, None, Some}
+use Rattle.std.specs.Prelude.{◌≡◌, ℕ, ◌^◌, ◌<◌, List, Option, None, Some}
 use Rattle.std.specs.List.{AllByRecursion}
+use Rattle.agg_types.specs.declared.event.Cell.{Cell}
+use Rattle.agg_types.specs.declared.event.What.{What}
+use Rattle.agg_types.specs.declared.event.What.TheVariants.{Put}
 use Rattle.agg_types.specs.declared.row_key.RowKey.{RowKey}
 use Rattle.peer_rows.specs.Rows.{AreInOrder, RowMap}
 use Rattle.book.specs.declared.at.At.{At}
@@ -24,3 +27,7 @@ IsShort (Some life) = life < 2 ^ 32
 -- the place at which a row stands
 abbrev pub place_at : At → RowKey
 place_at at = record { table = at.table; key = at.key.now; peer = at.peer }
+
+-- an update that puts a row there
+abbrev pub put_at : At → Option ℕ → List Cell → What
+put_at at life cells = Put at.peer at.table at.key.now life cells

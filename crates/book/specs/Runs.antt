@@ -8,6 +8,8 @@ use Rattle.agg_types.specs.declared.event.Event.{Event}
 use Rattle.agg_types.specs.declared.event.What.{What}
 use Rattle.agg_types.specs.declared.event.What.TheVariants.{Sit, Open, Put, Clear, AddFilter}
 use Rattle.agg_types.specs.declared.event.What.TheVariants.{DropFilter, Moment, Leave}
+use Rattle.agg_types.specs.declared.lent_what.LentWhat.{LentWhat}
+use Rattle.agg_types.specs.declared.lent_what.LentWhat.TheVariants as lent
 use Rattle.fleet_model.specs.Machine.{after, event_of, happened, number_of, session_of}
 use Rattle.fleet_model.specs.Seats.{is_number, numbered}
 use Rattle.fleet_model.specs.State.{State}
@@ -43,6 +45,11 @@ IsPutOf peer (AddFilter filter) = ⊥
 IsPutOf peer (DropFilter name) = ⊥
 IsPutOf peer (Moment moment) = ⊥
 IsPutOf peer Leave = ⊥
+
+-- an event that a batch lends as an update
+abbrev pub IsLentPut : LentWhat → Type 0
+IsLentPut (lent.Put peer table key life cells) = Unit {0}
+IsLentPut (lent.Other what) = ⊥
 
 -- an update of a peer that fits the configuration
 pub record IsUpdateOf (config : Config) (peer : ℕ) (what : What) : Type 0 where

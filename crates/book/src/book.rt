@@ -7,7 +7,7 @@ ghost use Rattle.agg_types.specs.declared.event.What.TheVariants.{Leave};
 ghost use Rattle.agg_types.specs.declared.limits.TheConstants.{LAST_MOMENT, MOST_SEATS};
 ghost use Rattle.fleet_model.specs.Answers.{filter_of, keys_of, listed, set_at, summed};
 ghost use Rattle.fleet_model.specs.Filters.{is_added};
-ghost use Rattle.fleet_model.specs.Machine.{after, counts_now, event_of, number_of, opened};
+ghost use Rattle.fleet_model.specs.Machine.{after, counts_now, number_of, opened};
 ghost use Rattle.fleet_model.specs.Machine.{session_of};
 ghost use Rattle.fleet_model.specs.Next.{IsNextChange, IsNextChangeBy};
 ghost use Rattle.fleet_model.specs.Ranking.{rank_of, ranked};
@@ -28,12 +28,11 @@ use crate::queries;
 use crate::ranking::Ranked;
 use crate::sets::keys_held;
 use crate::verdicts::{Verdicts, held_keys};
-use agg_types::{Cond, Config, Event, Key, NoMemory, What};
+use agg_types::{Cond, Config, Event, Key, LentWhat, NoMemory};
 use book_frame::keys::are_same;
 use book_frame::seats;
 use book_frame::seats::has_free_seat;
 use book_frame::standing::{added_at, cols_of, filter_at};
-use crossing::Meter;
 use fleet_model::Summed;
 use peer_rows::Spot;
 use standing_filters::Flips;
@@ -147,7 +146,13 @@ impl Book {
         ensures flips_err { OnErr result (flips.new ≡ flips.old) }
     {
         fleet_model::laws::state_after_one_more();
-        self.apply_telling(event.seat, event.seq, &event.what, None, flips)?;
+        self.apply_telling(
+            event.seat,
+            event.seq,
+            LentWhat::of(&event.what),
+            None,
+            flips,
+        )?;
         Ok(())
     }
 
@@ -173,44 +178,6 @@ impl Book {
     {
         fleet_model::laws::state_after_one_more();
         self.apply_at(event.seat, event.seq, &event.what, hint)
-    }
-
-    /// Applies one event by its parts, as `step` does.
-    pub fn apply(&mut self, seat: u64, seq: u64, what: &What) -> Result<(), NoMemory>
-        ensures ok { OnOk result (self.new ≡ after self.old (event_of seat seq what.now)) }
-        ensures err { OnErr result (self.new ≡ self.old) }
-        ensures leaving { what.now ≡ Leave → IsOk result }
-        ensures uncounted { counts_now self.old (event_of seat seq what.now) ≡ false → IsOk result }
-        ensures sound { IsSound self.new }
-    {
-        self.apply_at(seat, seq, what, None)?;
-        Ok(())
-    }
-
-    /// Applies one event by its parts, as `step_at` does.
-    pub fn apply_at(
-        &mut self,
-        seat: u64,
-        seq: u64,
-        what: &What,
-        hint: Option<Spot>,
-    ) -> Result<Taken, NoMemory>
-        ensures ok { OnOk result (self.new ≡ after self.old (event_of seat seq what.now)) }
-        ensures dropped { IfOk result (λ taken. taken.dropped
-            ≡ is_dropped self.old (event_of seat seq what.now)) }
-        ensures err { OnErr result (self.new ≡ self.old) }
-        ensures leaving { what.now ≡ Leave → IsOk result }
-        ensures uncounted { counts_now self.old (event_of seat seq what.now) ≡ false → IsOk result }
-        ensures quiet { IfOk result (λ taken. IsQuietTo self.old what.now
-            → (taken.read ≡ 0) × (taken.anew ≡ false)) }
-        ensures few { IfOk result (λ taken. taken.anew ≡ false
-            → IsFewFor self.old self.new what.now taken.read) }
-        ensures anew { IfOk result (λ taken. taken.anew ≡ true
-            → MayRenew what.now × (taken.read ≤ 505 * pairs_from self.new 0)) }
-        ensures sound { IsSound self.new }
-    {
-        let mut flips = Flips::unknown(self.machine.alloc);
-        self.apply_telling(seat, seq, what, hint, &mut flips)
     }
 
     /// Whether fewer seats sit than may. Takes no memory.
@@ -435,58 +402,5 @@ impl Book {
         fleet_model::laws::sets_are_flat_in_time();
         let standing = self.machine.filter_at(filter);
         first_change(&self.machine, standing, keys)
-    }
-}
-
-impl Book {
-    /// Applies one event by its parts, as `step_at` does, and tells of the sets as `step_telling`
-    /// does.
-    pub(crate) fn apply_telling(
-        &mut self,
-        seat: u64,
-        seq: u64,
-        what: &What,
-        hint: Option<Spot>,
-        flips: &mut Flips,
-    ) -> Result<Taken, NoMemory>
-        ensures ok { OnOk result (self.new ≡ after self.old (event_of seat seq what.now)) }
-        ensures dropped { IfOk result (λ taken. taken.dropped
-            ≡ is_dropped self.old (event_of seat seq what.now)) }
-        ensures err { OnErr result (self.new ≡ self.old) }
-        ensures leaving { what.now ≡ Leave → IsOk result }
-        ensures uncounted { counts_now self.old (event_of seat seq what.now) ≡ false → IsOk result }
-        ensures quiet { IfOk result (λ taken. IsQuietTo self.old what.now
-            → (taken.read ≡ 0) × (taken.anew ≡ false)) }
-        ensures few { IfOk result (λ taken. taken.anew ≡ false
-            → IsFewFor self.old self.new what.now taken.read) }
-        ensures anew { IfOk result (λ taken. taken.anew ≡ true
-            → MayRenew what.now × (taken.read ≤ 505 * pairs_from self.new 0)) }
-        ensures sound { IsSound self.new }
-        ensures flips { OnOk result (TellsAllIfKnown self.old
-            (event_of seat seq what.now ∷ []) flips.old flips.new) }
-        ensures flips_err { OnErr result (flips.new ≡ flips.old) }
-    {
-        fleet_model::laws::states_are_sound();
-        let before = self.verdicts.keys_used(&self.machine);
-        let leaving = self.machine.leaving(what);
-        let applied = self.machine.apply(seat, seq, what, hint)?;
-        let spot = applied.spot;
-        let mut meter = Meter::new();
-        let anew = self.verdicts.follow(
-            &self.machine,
-            what,
-            spot,
-            leaving,
-            before,
-            &mut meter,
-            flips,
-        );
-        self.drops.note(what, applied.dropped);
-        Ok(Taken {
-            spot,
-            dropped: applied.dropped,
-            read: meter.evals,
-            anew,
-        })
     }
 }

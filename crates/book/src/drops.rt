@@ -1,7 +1,7 @@
 //! How many updates full tables didn't take.
 
 use crate::store::Size;
-use agg_types::{NoMemory, What};
+use agg_types::{LentWhat, NoMemory, What};
 use std::alloc::Global;
 
 /// How many updates of new keys were dropped, of each table and each peer, since there was no room
@@ -27,11 +27,14 @@ impl Drops {
     }
 
     /// An event was taken: whether it is an update that was dropped. Takes no memory.
-    pub(crate) fn note(&mut self, what: &What, dropped: bool) {
-        if let What::Put { peer, table, .. } = what
-            && dropped
-        {
-            self.count(*table, *peer);
+    pub(crate) fn note(&mut self, what: LentWhat<'_>, dropped: bool) {
+        if !dropped {
+            return;
+        }
+        match what {
+            LentWhat::Put { peer, table, .. } => self.count(table, peer),
+            LentWhat::Other(What::Put { peer, table, .. }) => self.count(*table, *peer),
+            LentWhat::Other(_) => {}
         }
     }
 

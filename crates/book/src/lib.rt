@@ -41,6 +41,7 @@
 #![tactic(auto)]
 
 mod adding;
+mod applying;
 mod at;
 mod book;
 mod clears;
@@ -63,6 +64,7 @@ mod row;
 mod runs;
 mod sets;
 mod store;
+mod taking;
 mod values;
 mod verdicts;
 

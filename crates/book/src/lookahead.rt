@@ -4,7 +4,7 @@
 
 use crate::machine::Machine;
 use crate::runs::hint_at;
-use agg_types::{Key, What};
+use agg_types::{Key, LentWhat, Whats};
 use peer_rows::{Spot, Trace};
 
 // So many updates are looked at together: enough that their waits for memory overlap, few enough
@@ -43,7 +43,7 @@ impl Lookahead {
         &mut self,
         machine: &Machine,
         peer: usize,
-        whats: &[What],
+        whats: &Whats,
         from: usize,
         hints: &Vec<Option<Spot>>,
     ) {
@@ -58,7 +58,7 @@ impl Lookahead {
 
     // Says whether the rows lie far of the table that the update at a place puts one into. They are
     // counted once for all updates of one table that follow each other.
-    fn find_far(&mut self, machine: &Machine, whats: &[What], from: usize) {
+    fn find_far(&mut self, machine: &Machine, whats: &Whats, from: usize) {
         let table = match put_at(whats, from) {
             Some((table, _)) => Some(table),
             None => None,
@@ -91,77 +91,69 @@ impl Lookahead {
 fn spots(
     machine: &Machine,
     peer: usize,
-    whats: &[What],
+    whats: &Whats,
     from: usize,
     hints: &Vec<Option<Spot>>,
     count: usize,
     spots: &mut [Option<Spot>; GROUP],
 ) {
+    let mut puts = [None; GROUP];
     let mut traces = [None; GROUP];
     let count = count.min(GROUP);
     for ahead in 0..count {
-        traces[ahead] = trace(machine, whats, from.saturating_add(ahead), hints);
+        let place = from.saturating_add(ahead);
+        puts[ahead] = put_at(whats, place);
+        traces[ahead] = trace(machine, puts[ahead], hint_at(hints, place));
     }
     for ahead in 0..count {
-        traces[ahead] = touch(machine, whats, from.saturating_add(ahead), traces[ahead]);
+        traces[ahead] = touch(machine, puts[ahead], traces[ahead]);
     }
     for ahead in 0..count {
         spots[ahead] = match traces[ahead] {
             None => hint_at(hints, from.saturating_add(ahead)),
-            Some(trace) => guess(machine, whats, from.saturating_add(ahead), trace),
+            Some(trace) => guess(machine, puts[ahead], trace),
         };
     }
     for ahead in 0..count {
-        spots[ahead] = confirm(machine, whats, from.saturating_add(ahead), spots[ahead]);
+        spots[ahead] = confirm(machine, puts[ahead], spots[ahead]);
     }
     for ahead in 0..count {
-        spots[ahead] = touch_row(
-            machine,
-            peer,
-            whats,
-            from.saturating_add(ahead),
-            spots[ahead],
-        );
+        spots[ahead] = touch_row(machine, peer, puts[ahead], spots[ahead]);
     }
 }
 
 // The table and the key of the update at a place.
-fn put_at(whats: &[What], place: usize) -> Option<(usize, &Key)> {
+fn put_at(whats: &Whats, place: usize) -> Option<(usize, &Key)> {
     match whats.get(place)? {
-        What::Put { table, key, .. } => Some((*table, key)),
-        _ => None,
+        LentWhat::Put { table, key, .. } => Some((table, key)),
+        LentWhat::Other(_) => None,
     }
 }
 
 // Where an update's key is looked for, if no hint says where its rows lie.
-fn trace(
-    machine: &Machine,
-    whats: &[What],
-    place: usize,
-    hints: &Vec<Option<Spot>>,
-) -> Option<Trace> {
-    if hint_at(hints, place).is_some() {
+fn trace(machine: &Machine, put: Option<(usize, &Key)>, hint: Option<Spot>) -> Option<Trace> {
+    if hint.is_some() {
         return None;
     }
-    let (table, key) = put_at(whats, place)?;
+    let (table, key) = put?;
     machine.rows.trace(table, key)
 }
 
 // The trace with a first look at what it leads to.
-fn touch(machine: &Machine, whats: &[What], place: usize, trace: Option<Trace>) -> Option<Trace> {
-    let (table, _) = put_at(whats, place)?;
+fn touch(machine: &Machine, put: Option<(usize, &Key)>, trace: Option<Trace>) -> Option<Trace> {
+    let (table, _) = put?;
     Some(machine.rows.touch(table, trace?))
 }
 
 // Where the rows of an update's key may lie.
-fn guess(machine: &Machine, whats: &[What], place: usize, trace: Trace) -> Option<Spot> {
-    let (table, _) = put_at(whats, place)?;
+fn guess(machine: &Machine, put: Option<(usize, &Key)>, trace: Trace) -> Option<Spot> {
+    let (table, _) = put?;
     machine.rows.guess(table, trace)
 }
 
 // The spot of an update's key, if its rows lie there.
-fn confirm(machine: &Machine, whats: &[What], place: usize, spot: Option<Spot>) -> Option<Spot> {
-    let (table, key) = put_at(whats, place)?;
+fn confirm(machine: &Machine, put: Option<(usize, &Key)>, spot: Option<Spot>) -> Option<Spot> {
+    let (table, key) = put?;
     machine.rows.confirm(spot?, table, key)
 }
 
@@ -169,10 +161,9 @@ fn confirm(machine: &Machine, whats: &[What], place: usize, spot: Option<Spot>) 
 fn touch_row(
     machine: &Machine,
     peer: usize,
-    whats: &[What],
-    place: usize,
+    put: Option<(usize, &Key)>,
     spot: Option<Spot>,
 ) -> Option<Spot> {
-    let (table, _) = put_at(whats, place)?;
+    let (table, _) = put?;
     machine.rows.touch_row(spot?, table, peer)
 }

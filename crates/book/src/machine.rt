@@ -1,21 +1,16 @@
-//! The machine of one event: what a book holds, and what an event makes of it.
+//! What a book holds, how a row is put, and how rows are cleared.
 
 ghost use Rattle.std.specs.Prelude.{◌≡◌, ◌<◌, ◌≤◌, ◌&&◌, ◌==◌, length};
-ghost use Rattle.std.specs.Prelude.{not, if◌then◌else◌, false, filter, IsTrue, IfOk, IsOk, OnOk};
-ghost use Rattle.std.specs.Prelude.{OnErr};
-ghost use Rattle.agg_types.specs.declared.event.What.TheVariants.{Leave};
+ghost use Rattle.std.specs.Prelude.{not, if◌then◌else◌, false, filter, IfOk, OnOk, OnErr};
+ghost use Rattle.agg_types.specs.Whats.{as_cells};
 ghost use Rattle.agg_types.specs.declared.limits.TheConstants.{LAST_MOMENT};
 ghost use Rattle.fleet_model.specs.Answers.{filter_of};
 ghost use Rattle.fleet_model.specs.Keys.{key_rows, sum_of};
-ghost use Rattle.fleet_model.specs.Machine.{after, counts_now, event_of, number_of, opened};
-ghost use Rattle.fleet_model.specs.Machine.{with_row};
+ghost use Rattle.fleet_model.specs.Machine.{opened, with_row};
 ghost use Rattle.fleet_model.specs.Rows.{arrival_of, has_room, held_rows};
 ghost use Rattle.fleet_model.specs.Seats.{is_number};
 ghost use Rattle.fleet_model.specs.Values.{cols_of, selects};
-ghost use Rattle.book_frame.specs.Due.{IsDue};
-ghost use Rattle.book.specs.Dropped.{is_dropped};
-ghost use Rattle.book.specs.Due.{FitsPlace};
-ghost use Rattle.book.specs.Verdicts.{IsLeaving, keys_in};
+ghost use Rattle.book.specs.Verdicts.{keys_in};
 ghost use Rattle.book.specs.Leading.{AreLed};
 ghost use Rattle.book.specs.Listing.{ListsMeeting};
 ghost use Rattle.book.specs.Planned.{IsInside, IsShort, place_at};
@@ -23,16 +18,13 @@ ghost use Rattle.book.specs.Store.{row_keys};
 
 use crate::at::At;
 use crate::clears::{clear_key, clear_table, clear_where};
-use crate::leaders::{go_on, put_led};
+use crate::leaders::put_led;
 use crate::listing::{BookRows, meeting};
 use crate::queries;
 use crate::store::{Size, Store};
-use agg_types::{Cells, Cond, Config, Filter, Key, NoMemory, Select, What};
-use book_frame::seats;
-use book_frame::seats::{
-    Seats, Sessions, count_up, end_sessions, is_number, open_session, sit_down, stand_up,
-};
-use book_frame::standing::{add_filter, added_at, cols_of, drop_filter, filter_at};
+use agg_types::{Cond, Config, Filter, Key, LentCells, NoMemory, Select};
+use book_frame::seats::{Seats, Sessions, is_number};
+use book_frame::standing::{cols_of, filter_at};
 use fleet_model::Summed;
 use peer_rows::Spot;
 use ranked::Leaders;
@@ -199,33 +191,6 @@ impl Machine {
         filter_at(self.config.filters.as_slice(), position)
     }
 
-    /// The place of the filter that an event drops, if it counts.
-    pub(crate) fn leaving(&self, what: &What) -> Option<usize>
-        ensures { IsLeaving self.now what.now result }
-    {
-        match what {
-            What::DropFilter(name) => {
-                let filters = self.config.filters.as_slice();
-                added_at(filters, self.configured, name.as_slice())
-            }
-            What::Sit => None,
-            What::Open(_) => None,
-            What::Put { .. } => None,
-            What::Clear { .. } => None,
-            What::AddFilter(_) => None,
-            What::Moment(_) => None,
-            What::Leave => None,
-        }
-    }
-
-    #[tactic(auto, unfolding(fleet_model::specs::Machine::counts_now))]
-    fn counts(&self, seat: u64, seq: u64, what: &What) -> bool
-        ensures exact { result ≡ counts_now self.now (event_of seat seq what.now) }
-        ensures sits { IsTrue result → IsDue what.now seat seq (number_of self.now seat) }
-    {
-        seats::is_due(&self.config, &self.seats, self.next_seat, seat, seq, what)
-    }
-
     /// Where the rows of an update's key may lie, for the calls that take an `At`. Ranked lists
     /// read them before one is put.
     pub(crate) fn spot_for(&self, hint: Option<Spot>, table: usize, key: &Key) -> Option<Spot>
@@ -235,122 +200,11 @@ impl Machine {
         let is_ranked = ranks.iter().any(|rank| rank.table == table);
         self.rows.spot_for(hint, is_ranked, table, key)
     }
-
-    // Whether an event counts, and then what its number and its seat are.
-    fn is_due(&self, seat: u64, seq: u64, what: &What) -> bool
-        ensures exact { result ≡ counts_now self.now (event_of seat seq what.now) }
-        ensures sits { IsTrue result → IsDue what.now seat seq (number_of self.now seat) }
-        ensures fits { IsTrue result → FitsPlace self.now.config what.now }
-    {
-        self.counts(seat, seq, what)
-    }
-
-    // One event, as the machine of one event says, whatever the hint; nothing has changed after
-    // NoMemory.
-    #[tactic(auto, unfolding(crate::specs::Dropped::is_dropped, crate::specs::Dropped::lacks_room, fleet_model::specs::Machine::after, fleet_model::specs::Machine::happened, fleet_model::specs::Machine::with_put, fleet_model::specs::Rows::clears_at))]
-    pub(crate) fn apply(
-        &mut self,
-        seat: u64,
-        seq: u64,
-        what: &What,
-        hint: Option<Spot>,
-    ) -> Result<Applied, NoMemory>
-        ensures ok { OnOk result (self.new ≡ after self.old (event_of seat seq what.now)) }
-        ensures dropped { IfOk result (λ applied. applied.dropped
-            ≡ is_dropped self.old (event_of seat seq what.now)) }
-        ensures err { OnErr result (self.new ≡ self.old) }
-        ensures leaving { what.now ≡ Leave → IsOk result }
-        ensures uncounted { counts_now self.old (event_of seat seq what.now) ≡ false → IsOk result }
-    {
-        if !self.is_due(seat, seq, what) {
-            return Ok(Applied::unseen());
-        }
-        match what {
-            What::Sit => {
-                sit_down(&mut self.seats, seat)?;
-                self.next_seat = seat + 1;
-                Ok(Applied::unseen())
-            }
-            What::Open(peer) => {
-                open_session(&mut self.sessions, *peer, seat)?;
-                count_up(&mut self.seats, seat, seq);
-                Ok(Applied::unseen())
-            }
-            What::Put {
-                peer,
-                table,
-                key,
-                life,
-                cells,
-            } => {
-                let at = At {
-                    table: *table,
-                    key,
-                    peer: *peer,
-                    spot: self.spot_for(hint, *table, key),
-                };
-                let applied = put(
-                    &mut self.rows,
-                    &mut self.leaders,
-                    &self.config,
-                    seats::session_of(&self.sessions, *peer),
-                    seat,
-                    self.moment,
-                    at,
-                    *life,
-                    cells,
-                )?;
-                count_up(&mut self.seats, seat, seq);
-                Ok(applied)
-            }
-            What::Clear { table, sel } => {
-                clear(
-                    self.alloc,
-                    &mut self.rows,
-                    &mut self.leaders,
-                    &self.config,
-                    *table,
-                    self.moment,
-                    sel,
-                )?;
-                count_up(&mut self.seats, seat, seq);
-                Ok(Applied::unseen())
-            }
-            What::AddFilter(filter) => {
-                add_filter(self.alloc, &mut self.config.filters, filter)?;
-                count_up(&mut self.seats, seat, seq);
-                Ok(Applied::unseen())
-            }
-            What::DropFilter(name) => {
-                drop_filter(&mut self.config.filters, self.configured, name);
-                count_up(&mut self.seats, seat, seq);
-                Ok(Applied::unseen())
-            }
-            What::Moment(moment) => {
-                let later = self.moment.max(*moment);
-                go_on(
-                    &mut self.rows,
-                    &mut self.leaders,
-                    &self.config,
-                    self.moment,
-                    later,
-                );
-                self.moment = later;
-                count_up(&mut self.seats, seat, seq);
-                Ok(Applied::unseen())
-            }
-            What::Leave => {
-                stand_up(&mut self.seats, seat);
-                end_sessions(&mut self.sessions, seat);
-                Ok(Applied::unseen())
-            }
-        }
-    }
 }
 
 /// Takes away the rows that a clear selects, judged by the values that stand before it, and the
 /// bounds of their keys.
-fn clear(
+pub(crate) fn clear(
     alloc: Global,
     rows: &mut Store,
     leaders: &mut Leaders,
@@ -403,7 +257,7 @@ pub(crate) fn put(
     t: u64,
     at: At<'_>,
     life: Option<u64>,
-    cells: &Cells,
+    cells: LentCells<'_>,
 ) -> Result<Applied, NoMemory>
     requires in_range { t ≤ LAST_MOMENT }
     requires inside { IsInside rows.old.peers rows.old.tables (place_at at) }
@@ -413,7 +267,7 @@ pub(crate) fn put(
       rows = if is_number session seat
           && has_room config.now.tables rows.old.rows (place_at at.entry)
           then with_row t rows.old.rows (place_at at.entry)
-          (arrival_of config.now.tables at.entry.table t life cells.now)
+          (arrival_of config.now.tables at.entry.table t life (as_cells cells.entry))
           else rows.old.rows;
     }) }
     ensures dropped { IfOk result (λ applied. applied.dropped ≡ (is_number session seat
@@ -430,7 +284,7 @@ pub(crate) fn put(
             dropped: true,
         });
     }
-    let spot = put_led(rows, leaders, config, t, at, life, cells.as_slice())?;
+    let spot = put_led(rows, leaders, config, t, at, life, cells)?;
     Ok(Applied {
         spot,
         dropped: false,

@@ -3,6 +3,7 @@
 
 ghost use Rattle.std.specs.Prelude.{◌≡◌, ◌+◌, ◌<◌, ◌≤◌, fold, length, IfOk, IfSome, IsTrue};
 ghost use Rattle.std.specs.Prelude.{OnErr, OnOk, is_some};
+ghost use Rattle.agg_types.specs.Whats.{as_what};
 ghost use Rattle.agg_types.specs.declared.limits.TheConstants.{NUMBERS_END};
 ghost use Rattle.fleet_model.specs.Machine.{after, number_of, session_of};
 ghost use Rattle.fleet_model.specs.Sound.{IsSound};
@@ -10,16 +11,16 @@ ghost use Rattle.book.specs.Due.{FitsPlace};
 ghost use Rattle.book.specs.Dropped.{lacks_room};
 ghost use Rattle.book.specs.Flips.{TellsAllIfKnown, TellsStepIfKnown, part_of};
 ghost use Rattle.book.specs.Verdicts.{IsBook};
-ghost use Rattle.book.specs.Runs.{IsPartApplied, IsPutOf, IsTurn, IsUpdateOf, counted_to};
-ghost use Rattle.book.specs.Runs.{left_at, with_update};
+ghost use Rattle.book.specs.Runs.{IsLentPut, IsPartApplied, IsPutOf, IsTurn, IsUpdateOf};
+ghost use Rattle.book.specs.Runs.{counted_to, left_at, with_update};
 
 use crate::at::At;
 use crate::book::Book;
 use crate::drops::Drops;
 use crate::lookahead::Lookahead;
-use crate::machine::{Applied, Machine, put};
+use crate::machine::{Applied, Machine};
 use crate::verdicts::Verdicts;
-use agg_types::{NoMemory, What, Whats};
+use agg_types::{LentWhat, NoMemory, Whats};
 use book_frame::seats;
 use book_frame::seats::{count_to, is_number};
 use crossing::Meter;
@@ -71,17 +72,16 @@ impl Book {
         ensures flips { TellsAllIfKnown self.old (part_of seat first posted.now from result)
             flips.old flips.new }
     {
-        let whats = posted.as_slice();
         let mut done = from;
-        'places: while done < whats.len() {
-            let came = self.take_updates(seat, first, whats, done, hints, flips);
+        'places: while done < posted.len() {
+            let came = self.take_updates(seat, first, posted, done, hints, flips);
             done = came.place;
-            if came.refused || done == whats.len() {
+            if came.refused || done == posted.len() {
                 break;
             }
             let hint = hint_at(hints, done);
             let number = first + done as u64;
-            let Ok(taken) = self.apply_telling(seat, number, &whats[done], hint, flips) else {
+            let Ok(taken) = self.apply_telling(seat, number, posted.at(done), hint, flips) else {
                 break;
             };
             note(hints, done, taken.spot);
@@ -96,7 +96,7 @@ impl Book {
         &mut self,
         seat: u64,
         first: u64,
-        whats: &[What],
+        whats: &Whats,
         from: usize,
         hints: &mut Vec<Option<Spot>>,
         flips: &mut Flips,
@@ -124,13 +124,13 @@ impl Book {
 }
 
 impl Machine {
-    /// The turn that begins with an event, if it is an update and its number is due.
-    fn turn_at(&self, seat: u64, number: u64, what: &What) -> Option<Turn>
+    /// The turn that begins with an event, if it is lent as an update and its number is due.
+    fn turn_at(&self, seat: u64, number: u64, what: LentWhat<'_>) -> Option<Turn>
         ensures seat { IfSome result (λ turn. turn.seat ≡ seat) }
         ensures turn { IfSome result
             (λ turn. IsTurn self.now seat number turn.peer turn.session) }
     {
-        let What::Put { peer, .. } = what else {
+        let LentWhat::Put { peer, .. } = what else {
             return None;
         };
         if !is_number(seats::number_of(&self.seats, seat), number) {
@@ -138,18 +138,19 @@ impl Machine {
         }
         Some(Turn {
             seat,
-            peer: *peer,
-            session: seats::session_of(&self.sessions, *peer),
+            peer,
+            session: seats::session_of(&self.sessions, peer),
         })
     }
 
-    /// Whether an event is an update of a peer that fits.
-    fn takes(&self, peer: usize, what: &What) -> bool
-        ensures { IsTrue result → IsUpdateOf self.now.config peer what.now }
+    /// Whether an event is lent as an update of a peer, and fits.
+    fn takes(&self, peer: usize, what: LentWhat<'_>) -> bool
+        ensures update { IsTrue result → IsUpdateOf self.now.config peer (as_what what.entry) }
+        ensures lent { IsTrue result → IsLentPut what.entry }
     {
         match what {
-            What::Put { peer: other, .. } => *other == peer && self.config.fits(what),
-            _ => false,
+            LentWhat::Put { peer: other, .. } => other == peer && self.config.fits_lent(what),
+            LentWhat::Other(_) => false,
         }
     }
 
@@ -163,17 +164,22 @@ impl Machine {
 
     // The row of an update of a turn, whatever the hint; its seat isn't counted up. Nothing has
     // changed after NoMemory.
-    #[tactic(auto, unfolding(crate::specs::Dropped::lacks_room, fleet_model::specs::Machine::happened, fleet_model::specs::Machine::with_put))]
-    fn put_row(&mut self, turn: Turn, what: &What, hint: Option<Spot>) -> Result<Applied, NoMemory>
+    fn put_lent(
+        &mut self,
+        turn: Turn,
+        what: LentWhat<'_>,
+        hint: Option<Spot>,
+    ) -> Result<Applied, NoMemory>
         requires session { turn.session ≡ session_of self.old turn.peer }
-        requires put { IsPutOf turn.peer what.now }
-        requires placed { FitsPlace self.old.config what.now }
-        ensures ok { OnOk result (self.new ≡ with_update self.old turn.seat what.now) }
+        requires lent { IsLentPut what }
+        requires put { IsPutOf turn.peer (as_what what) }
+        requires placed { FitsPlace self.old.config (as_what what) }
+        ensures ok { OnOk result (self.new ≡ with_update self.old turn.seat (as_what what.entry)) }
         ensures dropped { IfOk result (λ applied. applied.dropped
-            ≡ lacks_room self.old turn.seat what.now) }
+            ≡ lacks_room self.old turn.seat (as_what what.entry)) }
         ensures err { OnErr result (self.new ≡ self.old) }
     {
-        let What::Put {
+        let LentWhat::Put {
             peer,
             table,
             key,
@@ -184,22 +190,12 @@ impl Machine {
             return Ok(Applied::unseen());
         };
         let at = At {
-            table: *table,
+            table,
             key,
-            peer: *peer,
-            spot: self.spot_for(hint, *table, key),
+            peer,
+            spot: self.spot_for(hint, table, key),
         };
-        put(
-            &mut self.rows,
-            &mut self.leaders,
-            &self.config,
-            turn.session,
-            turn.seat,
-            self.moment,
-            at,
-            *life,
-            cells,
-        )
+        self.put_row(turn.session, turn.seat, at, life, cells)
     }
 }
 
@@ -221,21 +217,23 @@ fn take_one(
     verdicts: &mut Verdicts,
     drops: &mut Drops,
     turn: Turn,
-    what: &What,
+    what: LentWhat<'_>,
     hint: Option<Spot>,
     flips: &mut Flips,
 ) -> Result<Option<Spot>, NoMemory>
     requires session { turn.session ≡ session_of machine.old turn.peer }
-    requires update { IsUpdateOf machine.old.config turn.peer what.now }
+    requires lent { IsLentPut what }
+    requires update { IsUpdateOf machine.old.config turn.peer (as_what what) }
     requires book { IsBook machine.old verdicts.old.standing }
-    ensures ok { OnOk result (machine.new ≡ with_update machine.old turn.seat what.now) }
+    ensures ok { OnOk result
+        (machine.new ≡ with_update machine.old turn.seat (as_what what.entry)) }
     ensures err { OnErr result (machine.new ≡ machine.old) }
     ensures book { IsBook machine.new verdicts.new.standing }
     ensures flips { OnOk result
         (TellsStepIfKnown machine.old machine.new flips.old flips.new) }
     ensures flips_err { OnErr result (flips.new ≡ flips.old) }
 {
-    let applied = machine.put_row(turn, what, hint)?;
+    let applied = machine.put_lent(turn, what, hint)?;
     let mut meter = Meter::new();
     verdicts.follow(machine, what, applied.spot, None, 0, &mut meter, flips);
     drops.note(what, applied.dropped);
@@ -249,7 +247,7 @@ fn take_each(
     drops: &mut Drops,
     turn: Turn,
     first: u64,
-    whats: &[What],
+    whats: &Whats,
     from: usize,
     hints: &mut Vec<Option<Spot>>,
     flips: &mut Flips,
@@ -270,7 +268,7 @@ fn take_each(
     let mut place = from;
     let mut ahead = Lookahead::none();
     'updates: while place < whats.len() {
-        let what = &whats[place];
+        let what = whats.at(place);
         if !machine.takes(turn.peer, what) {
             break;
         }
@@ -302,7 +300,7 @@ pub(crate) fn take_updates(
     drops: &mut Drops,
     seat: u64,
     first: u64,
-    whats: &[What],
+    whats: &Whats,
     from: usize,
     hints: &mut Vec<Option<Spot>>,
     flips: &mut Flips,
@@ -317,7 +315,7 @@ pub(crate) fn take_updates(
     ensures flips { TellsAllIfKnown machine.old (part_of seat first whats.now from result.place)
         flips.old flips.new }
 {
-    let Some(turn) = machine.turn_at(seat, first + from as u64, &whats[from]) else {
+    let Some(turn) = machine.turn_at(seat, first + from as u64, whats.at(from)) else {
         return Came {
             place: from,
             refused: false,

@@ -10,6 +10,7 @@ ghost use Rattle.std.specs.Prelude.{◌≡◌, ◌+◌, ◌*◌, ◌<◌, ◌≤
 ghost use Rattle.std.specs.Prelude.{true, false, if◌then◌else◌, ◌&&◌, nat_lt, remove, ℕ, List};
 ghost use Rattle.std.specs.Prelude.{Some};
 ghost use Rattle.std.specs.List.{list_any};
+ghost use Rattle.agg_types.specs.Whats.{as_what};
 ghost use Rattle.agg_types.specs.declared.limits.TheConstants.{MOST_CONDS};
 ghost use Rattle.fleet_model.specs.Answers.{keys_of};
 ghost use Rattle.fleet_model.specs.Keys.{AreKeysOf};
@@ -25,7 +26,7 @@ ghost use Rattle.book.specs.Reads.{IsFewFor, IsForDue, MayRenew, filters_at, pai
 use crate::adding::judged;
 use crate::machine::Machine;
 use crate::one_key::OneKey;
-use agg_types::{Config, Declared, Filter, Key, Name, NoMemory, Select, What};
+use agg_types::{Config, Declared, Filter, Key, LentWhat, Name, NoMemory, Select, What};
 use crossing::Meter;
 use peer_rows::Spot;
 use standing_filters::{Flips, Keys, Standing};
@@ -67,6 +68,47 @@ impl Verdicts {
     /// are lost where filters come or go, where all keys are judged anew, and where verdicts are
     /// given up.
     pub(crate) fn follow(
+        &mut self,
+        machine: &Machine,
+        what: LentWhat<'_>,
+        spot: Option<Spot>,
+        leaving: Option<usize>,
+        before: u64,
+        meter: &mut Meter,
+        flips: &mut Flips,
+    ) -> bool
+        requires sound { IsSound machine.now }
+        requires fresh { meter.old.evals ≡ 0 }
+        ensures held { (state : State) → IsSound state → Follows (as_what what.entry) state machine.now
+            → IsLeaving state (as_what what.entry) leaving
+            → AreHeld state self.old.standing → AreHeld machine.now self.new.standing }
+        ensures few { (state : State) → IsSound state → Follows (as_what what.entry) state machine.now
+            → AreHeld state self.old.standing → result ≡ false
+            → IsFewFor state machine.now (as_what what.entry) meter.new.evals }
+        ensures anew { result ≡ true
+            → MayRenew (as_what what.entry) × (meter.new.evals ≤ 505 * pairs_from machine.now 0) }
+        ensures calm { (state : State) → IsSound state → Follows (as_what what.entry) state machine.now
+            → AreHeld state self.old.standing → IsCalm state machine.now (as_what what.entry)
+            → (self.old.standing ≡ None
+            → before ≡ keys_in machine.now.rows (length machine.now.config.tables))
+            → (meter.new.evals ≡ 0) × (result ≡ false) }
+        ensures flips { (state : State) → IsSound state → Follows (as_what what.entry) state machine.now
+            → AreHeld state self.old.standing
+            → TellsStepIfKnown state machine.now flips.old flips.new }
+    {
+        match what {
+            LentWhat::Put { table, key, .. } => {
+                self.touch(machine, table, key, spot, meter, flips);
+                false
+            }
+            LentWhat::Other(what) => {
+                self.follow_other(machine, what, spot, leaving, before, meter, flips)
+            }
+        }
+    }
+
+    // The same of one that lies elsewhere as it is.
+    fn follow_other(
         &mut self,
         machine: &Machine,
         what: &What,

@@ -10,7 +10,7 @@ ghost use Rattle.session_core.specs.Asking.{asks_all};
 ghost use Rattle.telling.specs.Telling.{asked, untold};
 ghost use Rattle.fleet_core.specs.Feeding.{Feeds, IsAfter, Tells};
 
-use agg_types::{Config, Items, Key, NoMemory, What};
+use agg_types::{Config, Items, Key, NoMemory, Whats};
 use session_core::{Batch, Session, SessionCause};
 use std::alloc::Global;
 use telling::{Pushed, Teller};
@@ -28,7 +28,7 @@ pub struct Connection {
 /// it ended by it.
 #[derive(Drop)]
 pub struct Outcome {
-    pub facts: Items<What>,
+    pub facts: Whats,
     pub out: Items<u8>,
     pub end: Option<SessionCause>,
 }
@@ -102,12 +102,11 @@ impl Connection {
             self.teller.ask();
         }
         let (facts, out) = batch.into_parts();
-        let facts = facts.into_vec();
         if let Some(seq) = self.next_seq {
             self.next_seq = Some(seq + facts.len() as u64);
         }
         Outcome {
-            facts: Items::from_vec(facts),
+            facts,
             out: Items::from_vec(out),
             end,
         }

@@ -24,7 +24,7 @@ use crate::connections::{Connections, close, close_if, feed, next_seq_at, open, 
 use crate::sets::sets_of;
 use crate::waiting::Waiting;
 use crate::{Book, FleetFault, Replies, Step};
-use agg_types::{Config, Items, LAST_SEAT, NUMBERS_END, NoMemory, What};
+use agg_types::{Config, Items, LAST_SEAT, NUMBERS_END, NoMemory, What, Whats};
 use session_core::SessionCause;
 use std::alloc::Global;
 use std::collections::BTreeMap;
@@ -267,7 +267,7 @@ impl Fleet {
             (λ _. Keeps self.old self.new config opening past)) }
     {
         self.flush()?;
-        let none = Items::from_vec(Vec::new(self.alloc));
+        let none = Whats::new(self.alloc);
         let events = Waiting::at_seat(self.alloc, conn, next_seq, none, true);
         close(&mut self.connections, conn);
         self.queue(events);
@@ -389,10 +389,10 @@ fn is_spent(next_seq: Option<u64>, more: u64) -> bool
 }
 
 // What a connection with a seat begins with.
-fn sit_if(alloc: Global, seated: bool) -> Result<Items<What>, NoMemory>
+fn sit_if(alloc: Global, seated: bool) -> Result<Whats, NoMemory>
     ensures { IfOk result (λ facts. facts ≡ (if seated then Sit ∷ [] else [])) }
 {
-    let mut facts = Items::from_vec(Vec::new(alloc));
+    let mut facts = Whats::new(alloc);
     if seated {
         facts.push(What::Sit)?;
     }
@@ -400,10 +400,10 @@ fn sit_if(alloc: Global, seated: bool) -> Result<Items<What>, NoMemory>
 }
 
 // What a step makes happen at seat 0, if it does.
-fn facts_of(alloc: Global, step: &Step) -> Result<Items<What>, NoMemory>
+fn facts_of(alloc: Global, step: &Step) -> Result<Whats, NoMemory>
     ensures { IfOk result (λ facts. facts ≡ option_to_list (what_at step.now)) }
 {
-    let mut facts = Items::from_vec(Vec::new(alloc));
+    let mut facts = Whats::new(alloc);
     if let Some(what) = step.what(alloc)? {
         facts.push(what)?;
     }

@@ -6,7 +6,7 @@ ghost use Rattle.fleet_model.specs.Seats.{numbered};
 ghost use Rattle.fleet_core.specs.Waiting.{AreHandedOver, IsOneHandedOver, leave_if};
 
 use crate::Book;
-use agg_types::{Items, NoMemory, What};
+use agg_types::{NoMemory, What, Whats};
 use std::alloc::Global;
 use std::marker::Model;
 
@@ -16,7 +16,7 @@ use std::marker::Model;
 pub struct Waiting {
     seat: u64,
     seq: u64,
-    facts: Items<What>,
+    facts: Whats,
     handed: usize,
     leaves: bool,
 }
@@ -44,11 +44,11 @@ impl Waiting {
     pub fn none(alloc: Global) -> Waiting
         ensures { result ≡ [] }
     {
-        Waiting::new(0, 0, Items::from_vec(Vec::new(alloc)), false)
+        Waiting::new(0, 0, Whats::new(alloc), false)
     }
 
     /// These facts of a seat, the first under the number `seq`, and behind them a leave or none.
-    pub fn new(seat: u64, seq: u64, facts: Items<What>, leaves: bool) -> Waiting
+    pub fn new(seat: u64, seq: u64, facts: Whats, leaves: bool) -> Waiting
         requires numbers { seq + length facts < 2 ^ 64 }
         requires short { length facts < 2 ^ 63 }
         ensures { result ≡ numbered seat seq (facts ++ leave_if leaves) }
@@ -68,7 +68,7 @@ impl Waiting {
         alloc: Global,
         conn: u64,
         next_seq: Option<u64>,
-        facts: Items<What>,
+        facts: Whats,
         leaves: bool,
     ) -> Waiting
         requires numbers { IfSome next_seq (λ seq. seq + length facts < 2 ^ 64) }
@@ -108,18 +108,13 @@ impl Waiting {
         ensures err { OnErr result (self.new ≡ self.old) }
         ensures kept { OnErr result (book.new ≡ book.old) }
     {
-        match self.facts.as_slice().get(self.handed) {
-            Some(what) => {
-                book.apply(self.seat, self.seq, what)?;
-                self.handed += 1;
-                self.seq += 1;
-            }
-            None => {
-                if self.leaves {
-                    book.apply(self.seat, self.seq, &What::Leave)?;
-                    self.leaves = false;
-                }
-            }
+        if self.handed < self.facts.len() {
+            book.apply_lent(self.seat, self.seq, self.facts.at(self.handed))?;
+            self.handed += 1;
+            self.seq += 1;
+        } else if self.leaves {
+            book.apply(self.seat, self.seq, &What::Leave)?;
+            self.leaves = false;
         }
         Ok(())
     }

@@ -138,7 +138,7 @@ IsAwaited ticket awaits.Pending = Unit {0}
 abbrev pub PostRefused : Seated → Seated → List What → PostFault → Type 0
 PostRefused p p' whats (Replaced by shown) = (p' ≡ p) × IsReplaced p whats by shown
 PostRefused p p' whats (NotNext found shown) = (p' ≡ p) × IsNotNext p found shown
-PostRefused p p' whats (NoMemory back) = (p' ≡ p) × (back.items ≡ whats)
+PostRefused p p' whats (NoMemory back) = (p' ≡ p) × (back ≡ whats)
 PostRefused p p' whats Pending = p' ≡ advanced p (length whats)
 PostRefused p p' whats Spent = (p' ≡ p) × IsSpent p whats
 
@@ -146,7 +146,7 @@ PostRefused p p' whats Spent = (p' ≡ p) × IsSpent p whats
 abbrev pub LeaveRefused : Seated → Seated → PostFault → Type 0
 LeaveRefused p p' (Replaced by shown) = ⊥
 LeaveRefused p p' (NotNext found shown) = (p' ≡ p) × IsNotNext p found shown
-LeaveRefused p p' (NoMemory back) = (p' ≡ p) × (back.items ≡ [])
+LeaveRefused p p' (NoMemory back) = (p' ≡ p) × (back ≡ [])
 LeaveRefused p p' Pending = ⊥
 LeaveRefused p p' Spent = ⊥
 

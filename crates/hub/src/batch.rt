@@ -1,6 +1,6 @@
 //! Batches: what seats post as one.
 
-ghost use Rattle.std.specs.Prelude.{◌≡◌, ◌<◌, ◌≤◌, ◌+◌, ◌∷◌, drop, fold, length, vec_len};
+ghost use Rattle.std.specs.Prelude.{◌≡◌, ◌<◌, ◌≤◌, ◌+◌, [], ◌∷◌, drop, fold, length};
 ghost use Rattle.std.specs.Prelude.{IfSome, MatchResult};
 ghost use Rattle.std.specs.Arc.{arc_value};
 ghost use Rattle.agg_types.specs.declared.limits.TheConstants.{NUMBERS_END};
@@ -8,7 +8,7 @@ ghost use Rattle.book.specs.Flips.{TellsAllIfKnown};
 ghost use Rattle.fleet_model.specs.Machine.{after};
 ghost use Rattle.hub.specs.Batches.{IsApplied, events_in, left_of, part_of};
 
-use agg_types::What;
+use agg_types::{LentWhat, Whats};
 use book::{Book, Flips, Spot};
 use std::cell::Cell;
 use std::marker::Model;
@@ -19,15 +19,16 @@ use std::sync::Arc;
 pub struct Posting<'a> {
     pub seat: u64,
     pub seq: u64,
-    pub what: &'a What,
+    pub what: LentWhat<'a>,
 }
 
 impl<'a> Model for Posting<'a> {
+    ghost use Rattle.agg_types.specs.Whats.{as_what};
     ghost use Rattle.agg_types.specs.declared.event.Event.{Event};
 
     ghost Value = { Event };
 
-    ghost view = { λ p. record { seat = p.seat; seq = p.seq; what = p.what.now } };
+    ghost view = { λ p. record { seat = p.seat; seq = p.seq; what = as_what p.what } };
 }
 
 /// What a seat posts as one, under its numbers from a first one on.
@@ -35,19 +36,19 @@ impl<'a> Model for Posting<'a> {
 pub struct Batch {
     seat: u64,
     first: u64,
-    whats: Vec<What>,
+    whats: Whats,
 }
 
 impl Model for Batch {
-    ghost use Rattle.std.specs.Prelude.{◌<◌, ◌+◌, vec_len};
+    ghost use Rattle.std.specs.Prelude.{◌<◌, ◌+◌, length};
     ghost use Rattle.agg_types.specs.declared.limits.TheConstants.{NUMBERS_END};
     ghost use Rattle.hub.specs.Batches.{Batched};
 
     ghost Value = { Batched };
 
-    ghost view = { λ b. record { seat = b.seat; first = b.first; whats = b.whats.items } };
+    ghost view = { λ b. record { seat = b.seat; first = b.first; whats = b.whats } };
 
-    ghost invariant = { λ b. b.first + vec_len b.whats < NUMBERS_END };
+    ghost invariant = { λ b. b.first + length b.whats < NUMBERS_END };
 }
 
 impl Batch {
@@ -76,7 +77,7 @@ impl Batch {
         Posting {
             seat: self.seat,
             seq: self.first + place as u64,
-            what: &self.whats[place],
+            what: self.whats.at(place),
         }
     }
 
@@ -99,8 +100,7 @@ impl Batch {
         ensures flips { TellsAllIfKnown book.old (part_of self.now from result)
             flips.old flips.new }
     {
-        let whats = self.whats.as_slice();
-        book.step_run(self.seat, self.first, whats, from, hints, flips)
+        book.step_run(self.seat, self.first, &self.whats, from, hints, flips)
     }
 
     /// Applies what is left of it from a place on, as `apply` does, without hints.
@@ -113,8 +113,17 @@ impl Batch {
         ensures flips { TellsAllIfKnown book.old (part_of self.now from result)
             flips.old flips.new }
     {
-        let mut hints = Vec::new(*self.whats.allocator());
+        let mut hints = Vec::new(self.whats.alloc());
         self.apply(book, from, &mut hints, flips)
+    }
+
+    /// Its list with nothing in it, and with its room.
+    pub fn emptied(self) -> Whats
+        ensures { result ≡ [] }
+    {
+        let Batch { mut whats, .. } = self;
+        whats.clear();
+        whats
     }
 }
 
@@ -143,13 +152,13 @@ impl Model for Run {
 impl Run {
     /// A batch of a seat, under its numbers from `first` on. Without memory what was to be posted
     /// comes back.
-    pub fn new(seat: u64, first: u64, whats: Vec<What>) -> Result<Run, Vec<What>>
-        requires { first + vec_len whats < NUMBERS_END }
+    pub fn new(seat: u64, first: u64, whats: Whats) -> Result<Run, Whats>
+        requires { first + length whats < NUMBERS_END }
         ensures { MatchResult result
-            (λ run. run ≡ record { seat = seat; first = first; whats = whats.items })
-            (λ back. back.items ≡ whats.items) }
+            (λ run. run ≡ record { seat = seat; first = first; whats = whats })
+            (λ back. back ≡ whats) }
     {
-        let alloc = *whats.allocator();
+        let alloc = whats.alloc();
         match Arc::new(alloc, Batch { seat, first, whats }) {
             Ok(batch) => Ok(Run {
                 batch,
@@ -185,7 +194,7 @@ impl Run {
         ensures flips { TellsAllIfKnown book.old (part_of self.now 0 result)
             flips.old flips.new }
     {
-        let alloc = *self.batch.whats.allocator();
+        let alloc = self.batch.whats.alloc();
         let mut hints = self.hints.replace(Vec::new(alloc));
         let done = self.batch.apply(book, 0, &mut hints, flips);
         self.hints.set(hints);

@@ -247,14 +247,14 @@ fn note_changes(changes: &mut Option<Changes>, flips: &Flips, events: u64)
 }
 
 /// What a seat posted as one, on its way into both copies, with the beginning that it ends.
-pub struct Op {
+pub struct Logged {
     posted: Posted,
     at: Front,
 }
 
-impl Drop for Op {
+impl Drop for Logged {
     fn drop(self) {
-        let Op { posted: _, at: _ } = self;
+        let Logged { posted: _, at: _ } = self;
     }
 }
 
@@ -270,7 +270,7 @@ pub enum Posted {
     End,
 }
 
-impl Model for Op {
+impl Model for Logged {
     ghost use Rattle.hub.specs.Copied.{Brought};
     ghost use Rattle.hub.specs.Begun.{events_of};
 
@@ -279,39 +279,39 @@ impl Model for Op {
     ghost view = { λ o. record { events = events_of o.posted; at = o.at } };
 }
 
-impl Op {
+impl Logged {
     /// A single event.
-    pub fn event(event: Event, at: Front) -> Op
+    pub fn event(event: Event, at: Front) -> Logged
         ensures { result ≡ record { events = event ∷ []; at = at } }
     {
-        Op {
+        Logged {
             posted: Posted::Event(event),
             at,
         }
     }
 
     /// A batch.
-    pub fn batch(run: Run, at: Front) -> Op
+    pub fn batch(run: Run, at: Front) -> Logged
         ensures { result ≡ record { events = events_in run; at = at } }
     {
-        Op {
+        Logged {
             posted: Posted::Batch(run),
             at,
         }
     }
 
     /// The end of a batch.
-    pub fn end(at: Front) -> Op
+    pub fn end(at: Front) -> Logged
         ensures { result ≡ record { events = []; at = at } }
     {
-        Op {
+        Logged {
             posted: Posted::End,
             at,
         }
     }
 }
 
-impl Absorb<Op> for Shown {
+impl Absorb<Logged> for Shown {
     ghost use Rattle.hub.specs.Copied.{taken};
 
     type State = Whole;
@@ -320,7 +320,7 @@ impl Absorb<Op> for Shown {
 
     ghost applied = { taken };
 
-    fn absorb_first(&mut self, operation: &Op, _other: &Shown) -> Result<(), AllocError> {
+    fn absorb_first(&mut self, operation: &Logged, _other: &Shown) -> Result<(), AllocError> {
         if !self.finish() {
             return Err(AllocError);
         }

@@ -10,7 +10,7 @@ ghost use Rattle.hub.specs.Keeping.{IsOpened};
 ghost use Rattle.hub.specs.Kept.{IsTold};
 ghost use Rattle.hub.specs.Posts.{Follows};
 
-use crate::copies::Op;
+use crate::copies::Logged;
 use crate::hand::HubReader;
 use crate::idle::Idle;
 use crate::log::Front;
@@ -37,7 +37,7 @@ pub struct Desk<J: Naming, R: Wait + Drop> {
     // The beginning of it that the press took.
     from: Front,
     // What was appended since. It has room for a Leave of each seat that sits.
-    queue: VecDeque<Op>,
+    queue: VecDeque<Logged>,
     roll: Roll,
     // How many seats sit.
     sitting: usize,

@@ -1,5 +1,5 @@
 use crate::receipt::{Receipt, Ticket};
-use agg_types::What;
+use agg_types::Whats;
 
 /// Why a post was refused.
 #[derive(Drop)]
@@ -11,7 +11,7 @@ pub enum PostFault {
     /// stored.
     NotNext { found: u64, shown: Receipt },
     /// Nothing was stored, and the batch comes back.
-    NoMemory(Vec<What>),
+    NoMemory(Whats),
     /// The batch stands in the history, and is shown before any later event. The pass has advanced.
     Pending,
     /// The seat's numbers don't go as far. Nothing was stored.

@@ -5,7 +5,7 @@ ghost use Rattle.std.specs.VecDeque.{deque_capacity};
 ghost use Rattle.left_right.specs.Sides.{view};
 ghost use Rattle.hub.specs.Copied.{all_taken, whole};
 
-use crate::copies::{Op, Published, Shown, Sight};
+use crate::copies::{Logged, Published, Shown, Sight};
 use crate::log::Front;
 use left_right::reader::Reader;
 use left_right::writer::Writer;
@@ -14,7 +14,7 @@ use std::collections::VecDeque;
 use std::sync::Wait;
 
 /// The side of the two copies that writes, with what it hands them.
-pub type HubWriter = Writer<Shown, Op, Option<Front>, Published>;
+pub type HubWriter = Writer<Shown, Logged, Option<Front>, Published>;
 
 /// A side that looks at the copy that is shown.
 pub type HubReader = Reader<Shown, Option<Front>, Published>;
@@ -43,7 +43,7 @@ impl<R: Wait + Drop> Hand<R> {
 }
 
 /// Hands events to the writer, in order, and says whether it took all.
-pub fn hand_over(writer: &mut HubWriter, queue: &mut VecDeque<Op>) -> bool
+pub fn hand_over(writer: &mut HubWriter, queue: &mut VecDeque<Logged>) -> bool
     ensures desk { writer.new.desk ≡ writer.old.desk }
     ensures kept { drop writer.new.behind writer.new.log.items ++ queue.new.items
         ≡ drop writer.old.behind writer.old.log.items ++ queue.old.items }

@@ -4,6 +4,7 @@ ghost use Rattle.std.specs.Prelude.{◌≡◌, ◌<◌, ◌≤◌, [], ◌∷◌
 ghost use Rattle.std.specs.Prelude.{IsTrue, MatchResult};
 ghost use Rattle.std.specs.List.{All};
 ghost use Rattle.agg_types.specs.Check.{config_faults};
+ghost use Rattle.agg_types.specs.Whats.{as_what};
 ghost use Rattle.agg_types.specs.declared.event.What.TheVariants.{Leave};
 ghost use Rattle.agg_types.specs.declared.limits.TheConstants.{LAST_MOMENT};
 ghost use Rattle.fleet_model.specs.Machine.{opened};
@@ -20,7 +21,7 @@ use crate::naming::Naming;
 use crate::pass::Pass;
 use crate::receipt::{Receipt, Ticket};
 use crate::store::hang;
-use agg_types::{Config, NoMemory, What};
+use agg_types::{Config, LentWhat, NoMemory, What, Whats};
 use book::Book;
 use std::alloc::Global;
 use std::marker::Model;
@@ -177,10 +178,15 @@ impl<J: Naming, R: Wait + Drop> Hub<J, R> {
 
     /// Whether a batch may be posted, exactly: each of it fits the configuration, and none is a Sit
     /// or a Leave. Takes no memory and no lock.
-    pub fn allows(&self, whats: &[What]) -> bool
+    pub fn allows(&self, whats: &Whats) -> bool
         ensures { IsTrue result ↔ All (MayPost self.now.config) whats.now }
     {
-        whats.iter().all(|what| may_post(&self.config, what))
+        for place in 0..whats.len() {
+            if !may_post(&self.config, whats.at(place)) {
+                return false;
+            }
+        }
+        true
     }
 
     // What a pass of this hub has seen is of the hub's fleet.
@@ -212,16 +218,11 @@ impl<J: Naming, R: Wait + Drop> Hub<J, R> {
 
     /// Adds a batch to the history as one, and shows it. It waits for looks that last: never call
     /// it in a thread that is inside a look.
-    pub fn post<W: Wait>(
-        &self,
-        rt: &W,
-        pass: &mut Pass,
-        whats: Vec<What>,
-    ) -> Result<Receipt, PostFault>
+    pub fn post<W: Wait>(&self, rt: &W, pass: &mut Pass, whats: Whats) -> Result<Receipt, PostFault>
         requires pass { pass.old.seen.of ≡ self.now.of }
-        requires fits { All (MayPost self.now.config) whats.items }
-        ensures { MatchResult result (PostsAfter pass.old pass.new whats.items)
-            (PostRefused pass.old pass.new whats.items) }
+        requires fits { All (MayPost self.now.config) whats }
+        ensures { MatchResult result (PostsAfter pass.old pass.new whats)
+            (PostRefused pass.old pass.new whats) }
     {
         let ticket = match self.append(rt, pass, whats) {
             Ok(ticket) => ticket,
@@ -241,11 +242,11 @@ impl<J: Naming, R: Wait + Drop> Hub<J, R> {
         rt: &W,
         pass: &Pass,
         fault: AppendFault,
-        whats: Vec<What>,
+        whats: Whats,
     ) -> PostFault
         requires of { pass.now.seen.of ≡ self.now.of }
-        requires refused { IsRefused pass.now whats.items fault }
-        ensures { PostRefused pass.now pass.now whats.items result }
+        requires refused { IsRefused pass.now whats fault }
+        ensures { PostRefused pass.now pass.now whats result }
     {
         match fault {
             AppendFault::NoMemory => PostFault::NoMemory(whats),
@@ -259,13 +260,13 @@ impl<J: Naming, R: Wait + Drop> Hub<J, R> {
         &self,
         rt: &W,
         pass: &Pass,
-        whats: Vec<What>,
+        whats: Whats,
         found: u64,
         now: Ticket,
     ) -> PostFault
         requires of { pass.now.seen.of ≡ self.now.of }
         requires not_next { IsNotNext pass.now found now }
-        ensures { PostRefused pass.now pass.now whats.items result }
+        ensures { PostRefused pass.now pass.now whats result }
     {
         let Some(shown) = self.show(rt, now) else {
             return PostFault::NoMemory(whats);
@@ -277,13 +278,13 @@ impl<J: Naming, R: Wait + Drop> Hub<J, R> {
         &self,
         rt: &W,
         pass: &Pass,
-        whats: Vec<What>,
+        whats: Whats,
         by: u64,
         now: Ticket,
     ) -> PostFault
         requires of { pass.now.seen.of ≡ self.now.of }
-        requires replaced { IsReplaced pass.now whats.items by now }
-        ensures { PostRefused pass.now pass.now whats.items result }
+        requires replaced { IsReplaced pass.now whats by now }
+        ensures { PostRefused pass.now pass.now whats result }
     {
         let Some(shown) = self.show(rt, now) else {
             return PostFault::NoMemory(whats);
@@ -306,7 +307,7 @@ impl<J: Naming, R: Wait + Drop> Hub<J, R> {
             Err(behind) => behind,
         };
         let Some(shown) = self.show(rt, now) else {
-            return Err((pass, PostFault::NoMemory(Vec::new(self.alloc))));
+            return Err((pass, PostFault::NoMemory(Whats::new(self.alloc))));
         };
         Err((pass, PostFault::NotNext { found, shown }))
     }
@@ -337,11 +338,11 @@ impl<J: Naming, R: Wait + Drop> Hub<J, R> {
     }
 }
 
-fn may_post(config: &Config, what: &What) -> bool
-    ensures { IsTrue result ↔ MayPost config.now what.now }
+fn may_post(config: &Config, what: LentWhat<'_>) -> bool
+    ensures { IsTrue result ↔ MayPost config.now (as_what what.entry) }
 {
     match what {
-        What::Sit | What::Leave => false,
-        _ => config.fits(what),
+        LentWhat::Other(What::Sit | What::Leave) => false,
+        _ => config.fits_lent(what),
     }
 }

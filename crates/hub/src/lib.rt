@@ -11,6 +11,9 @@
 //! behind an earlier list, `Look::changes` tells while it is known: applied to the set at that list
 //! it gives the set now.
 //!
+//! A pass keeps another owner of its last two batches. Once both copies have taken one of them, its
+//! list comes back to the session, empty and with its room, by `Pass::take_back`.
+//!
 //! A thread that posts inside a look of its own waits for itself for ever.
 //!
 //! No clause says that a call gets on: not that a wait ends, that memory is there, that a seat or a
@@ -26,6 +29,7 @@ mod faults;
 mod hand;
 mod hub;
 mod idle;
+mod last_batches;
 pub mod laws;
 mod lens;
 mod log;

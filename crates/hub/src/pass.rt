@@ -1,5 +1,5 @@
-ghost use Rattle.std.specs.Prelude.{◌≡◌, ◌<◌, ◌≤◌, ◌+◌, length, Some, vec_len, MatchOption};
-ghost use Rattle.std.specs.Prelude.{MatchResult};
+ghost use Rattle.std.specs.Prelude.{◌≡◌, ◌<◌, ◌≤◌, ◌+◌, [], length, Some, MatchOption};
+ghost use Rattle.std.specs.Prelude.{IfSome, MatchResult};
 ghost use Rattle.std.specs.BTreeMap.{is_at};
 ghost use Rattle.std.specs.List.{All};
 ghost use Rattle.std.specs.Map.{lookup};
@@ -14,24 +14,28 @@ ghost use Rattle.hub.specs.Roll.{IsCountOf, MayPost};
 ghost use Rattle.hub.specs.Sitting.{Recalls};
 
 use crate::batch::Run;
-use crate::copies::Op;
+use crate::copies::Logged;
+use crate::last_batches::LastBatches;
 use crate::log::{Front, Log};
 use crate::receipt::Receipt;
 use crate::roll::Roll;
 use crate::sitting::Sitting;
 use crate::store::{hang, store_all};
-use agg_types::What;
+use agg_types::Whats;
 use std::collections::VecDeque;
 use std::marker::Model;
 use std::sync::Wait;
 
 /// The right to post at a seat. Contracts see its seat, the number of its next event, and the list
-/// that it has seen.
+/// that it has seen. It keeps another owner of each of its last two batches, whose room comes back
+/// by `take_back`.
 pub struct Pass {
     sitting: Sitting,
     // All that was stored of its seat stands here.
     stored: Front,
     front: Front,
+    // What comes back of what it posted.
+    lasts: LastBatches,
 }
 
 impl Drop for Pass {
@@ -40,6 +44,7 @@ impl Drop for Pass {
             sitting: _,
             stored: _,
             front: _,
+            lasts: _,
         } = self;
     }
 }
@@ -66,6 +71,7 @@ impl Pass {
             sitting,
             stored: front.again(),
             front,
+            lasts: LastBatches::new(),
         }
     }
 
@@ -96,6 +102,22 @@ impl Pass {
         self.front = receipt.front().again();
     }
 
+    /// The list of the older of its last two batches, empty and with its room: for what it posts
+    /// next. None while a copy of the book still is to take that batch.
+    pub fn take_back(&mut self) -> Option<Whats>
+        ensures same { self.new ≡ self.old }
+        ensures empty { IfSome result (λ whats. whats ≡ []) }
+    {
+        self.lasts.take_back()
+    }
+
+    /// Lets go of the batches that it still keeps, and of their room.
+    pub fn forget(&mut self)
+        ensures { self.new ≡ self.old }
+    {
+        self.lasts = LastBatches::new();
+    }
+
     // The seat that opened the peer of a posted Put after this seat did, behind all that happened.
     #[tactic(auto, using(crate::proofs::Replacing::none_all))]
     pub(crate) fn replaced<R: Wait>(
@@ -103,7 +125,7 @@ impl Pass {
         rt: &R,
         front: &Front,
         roll: &Roll,
-        whats: &[What],
+        whats: &Whats,
     ) -> Option<u64>
         requires of { front.now.of ≡ self.now.seen.of }
         requires counted { IsCountOf roll.now front.now }
@@ -115,8 +137,9 @@ impl Pass {
             hang(rt);
             unreachable!();
         }
-        for (i, what) in whats.iter().enumerate() {
-            if let Some(by) = self.sitting.replacer_at(roll, &whats[..i], what) {
+        for place in 0..whats.len() {
+            let what = whats.at(place);
+            if let Some(by) = self.sitting.replacer_at(roll, whats, place, what) {
                 return Some(by);
             }
         }
@@ -124,13 +147,13 @@ impl Pass {
     }
 
     // A batch of its next posts. Without memory they come back.
-    pub(crate) fn batch(&self, whats: Vec<What>) -> Result<Run, Vec<What>>
-        requires last { self.now.number + vec_len whats < NUMBERS_END }
+    pub(crate) fn batch(&self, whats: Whats) -> Result<Run, Whats>
+        requires last { self.now.number + length whats < NUMBERS_END }
         ensures { MatchResult result (λ run. run ≡ record {
           seat = self.now.seat;
           first = self.now.number;
-          whats = whats.items;
-        }) (λ back. back.items ≡ whats.items) }
+          whats = whats;
+        }) (λ back. back ≡ whats) }
     {
         Run::new(self.seat(), self.number(), whats)
     }
@@ -141,7 +164,7 @@ impl Pass {
         rt: &R,
         log: &Log,
         front: &mut Front,
-        queue: &mut VecDeque<Op>,
+        queue: &mut VecDeque<Logged>,
         roll: &mut Roll,
         run: Run,
     )
@@ -166,7 +189,9 @@ impl Pass {
             hang(rt);
             unreachable!();
         }
+        let shared = run.share();
         store_all(rt, log, front, queue, roll, &mut self.sitting, run);
         self.stored = front.again();
+        self.lasts.keep(shared);
     }
 }

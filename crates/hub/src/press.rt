@@ -9,7 +9,7 @@ ghost use Rattle.fleet_model.specs.Machine.{opened};
 ghost use Rattle.hub.specs.Copied.{all_taken, whole};
 ghost use Rattle.hub.specs.Kept.{IsTold};
 
-use crate::copies::{Note, Op, Shown};
+use crate::copies::{Logged, Note, Shown};
 use crate::hand::{Hand, HubWriter, hand_over, show};
 use crate::idle::Idle;
 use crate::log::Front;
@@ -30,7 +30,7 @@ use std::sync::Wait;
 pub struct Press<J: Naming, R: Wait + Drop> {
     hand: Hand<R>,
     // What was taken and not yet handed to the writer. It has room for a Leave of each seat.
-    queue: VecDeque<Op>,
+    queue: VecDeque<Logged>,
     taken: Front,
     of: PhantomData<J>,
 }
@@ -70,7 +70,7 @@ impl<J: Naming, R: Wait + Drop> Press<J, R> {
 
     /// Takes over what was appended behind the list that was taken, and gives an empty queue for
     /// it; not where something is left of a showing that was refused.
-    pub fn take_in(&mut self, queue: &mut VecDeque<Op>, front: &Front) -> bool
+    pub fn take_in(&mut self, queue: &mut VecDeque<Logged>, front: &Front) -> bool
         requires named { front.now.of ≡ J.book }
         requires brings { all_taken (whole self.old.taken) queue.old.items ≡ whole front.now }
         requires room { MOST_SEATS ≤ deque_capacity queue.old }

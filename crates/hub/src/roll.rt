@@ -6,10 +6,11 @@ ghost use Rattle.std.specs.Prelude.{is_some, IsTrue};
 ghost use Rattle.std.specs.BTreeMap.{insert_entry, is_at};
 ghost use Rattle.std.specs.Map.{lookup, remove_entry};
 ghost use Rattle.std.specs.Ordering.{nat_cmp};
+ghost use Rattle.agg_types.specs.Whats.{as_what};
 ghost use Rattle.fleet_model.specs.Seats.{is_sit, is_leave};
 ghost use Rattle.hub.specs.Roll.{last_after};
 
-use agg_types::{LAST_SEAT, MOST_SEATS, NoMemory, What};
+use agg_types::{LAST_SEAT, LentWhat, MOST_SEATS, NoMemory, What};
 use std::alloc::Global;
 use std::collections::BTreeMap;
 use std::marker::Model;
@@ -104,10 +105,11 @@ impl Roll {
     }
 
     /// Something happens at a seat. Its number isn't counted up.
-    pub fn note(&mut self, seat: u64, what: &What)
-        ensures { self.new ≡ record self.old { last = last_after self.old.last seat what.now } }
+    pub fn note(&mut self, seat: u64, what: LentWhat<'_>)
+        ensures { self.new ≡ record self.old
+            { last = last_after self.old.last seat (as_what what.entry) } }
     {
-        if let What::Open(peer) = what
+        if let LentWhat::Other(What::Open(peer)) = what
             && let Some(last) = self.last.get_mut(*peer)
         {
             *last = Some(seat);

@@ -1,12 +1,16 @@
 //! What a pass keeps of its own seat.
 
-ghost use Rattle.std.specs.Prelude.{◌≡◌, false, replicate, IfOk};
+ghost use Rattle.std.specs.Prelude.{◌≡◌, ◌≤◌, false, length, replicate, take, IfOk};
+ghost use Rattle.std.specs.Bool.{then_some};
 ghost use Rattle.std.specs.List.{list_any};
+ghost use Rattle.agg_types.specs.Whats.{as_what};
+ghost use Rattle.fleet_model.specs.Rows.{putter};
 ghost use Rattle.fleet_model.specs.Sessions.{opens};
+ghost use Rattle.hub.specs.Posts.{is_put};
 ghost use Rattle.hub.specs.Sitting.{opened_after, replacer, replacer_at};
 
 use crate::roll::Roll;
-use agg_types::{NoMemory, What};
+use agg_types::{LentWhat, NoMemory, What, Whats};
 use std::alloc::Global;
 use std::marker::Model;
 
@@ -55,11 +59,11 @@ impl Sitting {
     }
 
     /// Something happens at the seat. Its number isn't counted up.
-    pub fn note(&mut self, what: &What)
+    pub fn note(&mut self, what: LentWhat<'_>)
         ensures { self.new ≡ record self.old
-            { opened = opened_after self.old.opened what.now } }
+            { opened = opened_after self.old.opened (as_what what.entry) } }
     {
-        if let What::Open(peer) = what
+        if let LentWhat::Other(What::Open(peer)) = what
             && let Some(opened) = self.opened.get_mut(*peer)
         {
             *opened = true;
@@ -83,15 +87,21 @@ impl Sitting {
         }
     }
 
-    /// The seat that makes this post a late one, behind the first posts of its batch.
-    pub fn replacer_at(&self, roll: &Roll, first: &[What], what: &What) -> Option<u64>
-        ensures { result ≡ replacer_at self.now roll.now first.now what.now }
+    /// The seat that makes this post a late one, behind so many first posts of its batch.
+    pub fn replacer_at(
+        &self,
+        roll: &Roll,
+        whats: &Whats,
+        place: usize,
+        what: LentWhat<'_>,
+    ) -> Option<u64>
+        requires { place ≤ length whats.now }
+        ensures { result ≡ replacer_at self.now roll.now (take place whats.now)
+            (as_what what.entry) }
     {
-        let What::Put { peer, .. } = what else {
-            return None;
-        };
-        let by = self.replacer(roll, *peer)?;
-        if open_again(first, *peer) {
+        let peer = putter_of(what)?;
+        let by = self.replacer(roll, peer)?;
+        if open_again(whats, place, peer) {
             None
         } else {
             Some(by)
@@ -99,9 +109,32 @@ impl Sitting {
     }
 }
 
-/// Whether one of these posts opens a peer.
-fn open_again(whats: &[What], peer: usize) -> bool
-    ensures { result ≡ list_any (opens peer) whats.now }
+/// Whose row this post puts, if it puts one.
+fn putter_of(what: LentWhat<'_>) -> Option<usize>
+    ensures { result ≡ then_some (is_put (as_what what.entry)) (putter (as_what what.entry)) }
 {
-    whats.iter().any(|what| matches!(what, What::Open(opened) if *opened == peer))
+    match what {
+        LentWhat::Put { peer, .. } | LentWhat::Other(&What::Put { peer, .. }) => Some(peer),
+        LentWhat::Other(_) => None,
+    }
+}
+
+/// Whether one of so many first posts opens a peer.
+fn open_again(whats: &Whats, place: usize, peer: usize) -> bool
+    requires { place ≤ length whats.now }
+    ensures { result ≡ list_any (opens peer) (take place whats.now) }
+{
+    for i in 0..place {
+        if opens(whats.at(i), peer) {
+            return true;
+        }
+    }
+    false
+}
+
+/// Whether this post opens a peer.
+fn opens(what: LentWhat<'_>, peer: usize) -> bool
+    ensures { result ≡ opens peer (as_what what.entry) }
+{
+    matches!(what, LentWhat::Other(What::Open(opened)) if *opened == peer)
 }

@@ -15,11 +15,11 @@ ghost use Rattle.hub.specs.Roll.{IsCountOf, MayPost, lasts_after};
 ghost use Rattle.hub.specs.Sitting.{Recalls, all_opened_after};
 
 use crate::batch::{Batch, Posting, Run};
-use crate::copies::Op;
+use crate::copies::Logged;
 use crate::log::{Front, Log};
 use crate::roll::Roll;
 use crate::sitting::Sitting;
-use agg_types::Event;
+use agg_types::{Event, LentWhat};
 use std::collections::VecDeque;
 use std::sync::Wait;
 
@@ -47,7 +47,13 @@ fn add<R: Wait>(rt: &R, log: &Log, front: &mut Front, event: &Posting<'_>)
 }
 
 /// Adds an event to the history, and puts it behind what no copy has yet.
-pub fn store<R: Wait>(rt: &R, log: &Log, front: &mut Front, queue: &mut VecDeque<Op>, event: Event)
+pub fn store<R: Wait>(
+    rt: &R,
+    log: &Log,
+    front: &mut Front,
+    queue: &mut VecDeque<Logged>,
+    event: Event,
+)
     requires log { log.now ≡ front.old.of }
     requires counts { counts_now (state_of front.old.config front.old.opening front.old.events)
         event ≡ true }
@@ -61,11 +67,11 @@ pub fn store<R: Wait>(rt: &R, log: &Log, front: &mut Front, queue: &mut VecDeque
     let posting = Posting {
         seat: event.seat,
         seq: event.seq,
-        what: &event.what,
+        what: LentWhat::of(&event.what),
     };
     add(rt, log, front, &posting);
     drop(posting);
-    queue.push_back_reserved(Op::event(event, front.again()));
+    queue.push_back_reserved(Logged::event(event, front.again()));
 }
 
 /// Adds what a seat posts to the history, under the seat's next numbers, and puts it behind what no
@@ -74,7 +80,7 @@ pub fn store_all<R: Wait>(
     rt: &R,
     log: &Log,
     front: &mut Front,
-    queue: &mut VecDeque<Op>,
+    queue: &mut VecDeque<Logged>,
     roll: &mut Roll,
     sitting: &mut Sitting,
     run: Run,
@@ -98,8 +104,8 @@ pub fn store_all<R: Wait>(
     ensures number { sitting.new.number ≡ sitting.old.number + length run.whats }
 {
     add_all(rt, log, front, roll, sitting, run.batch());
-    queue.push_back_reserved(Op::batch(run, front.again()));
-    queue.push_back_reserved(Op::end(front.again()));
+    queue.push_back_reserved(Logged::batch(run, front.again()));
+    queue.push_back_reserved(Logged::end(front.again()));
 }
 
 // Adds a batch to the history, as one.

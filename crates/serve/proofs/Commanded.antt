@@ -36,7 +36,7 @@ use Rattle.serve.specs.Told.{HasTold, IsServed, stored_of}
 use Rattle.serve.specs.Traffic.{Traffic, so_far}
 use Rattle.serve.specs.Turns.{WroteFront}
 use Rattle.serve.specs.declared.answering.Answered.{Answered}
-use Rattle.serve.specs.declared.admin.Worker.{Worker}
+use Rattle.serve.specs.declared.admin.AdminWorker.{AdminWorker}
 use Rattle.serve.specs.declared.poster.Poster.{Poster}
 use Rattle.serve.specs.declared.faults.LineFault.{LineFault}
 use Rattle.serve.specs.declared.faults.LineFault.TheVariants as faults
@@ -102,8 +102,8 @@ lens_follows hub lens is = subst (λ (b : Beginning). Follows hub b)
 -- ---- an admin's poster and lens
 
 -- nothing was told
-pub learned_none : (hub : Beginning) (seat : ℕ) (worker : Worker) → worker.poster.pass.seat ≡ seat
-    → Follows hub worker.lens.seen
+pub learned_none : (hub : Beginning) (seat : ℕ) (worker : AdminWorker)
+    → worker.poster.pass.seat ≡ seat → Follows hub worker.lens.seen
     → HasTold hub worker.poster [] 0 → HasLearned hub hub seat worker []
 learned_none hub seat worker at sees told = record {
   at = at;
@@ -114,7 +114,7 @@ learned_none hub seat worker at sees told = record {
 }
 
 -- its lens has seen more
-pub learned_later : (hub since : Beginning) (seat : ℕ) (old new : Worker) (whats : List What)
+pub learned_later : (hub since : Beginning) (seat : ℕ) (old new : AdminWorker) (whats : List What)
     → new.poster ≡ old.poster
     → Follows old.lens.seen new.lens.seen → HasLearned hub since seat old whats
     → HasLearned hub since seat new whats
@@ -125,7 +125,7 @@ learned_later hub since seat old new whats poster later learned = record {
   shows = shows_on seat whats old.lens.seen new.lens.seen learned.shows later;
 }
 
-pub learned_same : (hub since : Beginning) (seat : ℕ) (old new : Worker) (whats : List What)
+pub learned_same : (hub since : Beginning) (seat : ℕ) (old new : AdminWorker) (whats : List What)
     → new.poster ≡ old.poster
     → new.lens.seen ≡ old.lens.seen → HasLearned hub since seat old whats
     → HasLearned hub since seat new whats
@@ -135,7 +135,7 @@ learned_same hub since seat old new whats poster lens learned =
     learned
 
 -- what its lens has seen begins with itself
-learned_here : (hub since : Beginning) (seat : ℕ) (worker : Worker) (whats : List What)
+learned_here : (hub since : Beginning) (seat : ℕ) (worker : AdminWorker) (whats : List What)
     → HasLearned hub since seat worker whats → HasLearned hub worker.lens.seen seat worker whats
 learned_here hub since seat worker whats learned = record {
   at = learned.at;
@@ -145,7 +145,7 @@ learned_here hub since seat worker whats learned = record {
 }
 
 -- what was told is learned
-pub learned_more : (hub since : Beginning) (seat : ℕ) (old new : Worker) (whats : List What)
+pub learned_more : (hub since : Beginning) (seat : ℕ) (old new : AdminWorker) (whats : List What)
     → new.poster.pass.seat ≡ seat
     → Follows since old.lens.seen → Follows old.lens.seen new.lens.seen
     → HasTold hub new.poster whats 0
@@ -158,14 +158,6 @@ learned_more hub since seat old new whats at sees kept told learned = record {
   shows = subst (λ (s : ℕ). ShowsTold s whats new.lens.seen) at
       (shows_last new.poster.pass.seat whats new.poster.last new.lens.seen told.last learned);
 }
-
--- a batch of one event
-pub pushed_one : (batch old : List What) (what : What) (ok : Bool)
-    → batch ≡ (if ok then old ++ what ∷ [] else old) → old ≡ [] → ok ≡ true
-    → batch ≡ what ∷ []
-pushed_one batch old what ok pushed none is =
-    pushed ∙ (ap (λ (b : Bool). if b then old ++ what ∷ [] else old) is
-    ∙ ap (λ (os : List What). os ++ what ∷ []) none)
 
 -- what is told of a line stands in what is kept of it
 status_kept : (door : Door) (asked : Asked) (book : State) (line answer : List ℕ)
@@ -214,7 +206,8 @@ replied_kept door book line change text says =
     (kept_asks book.config line) says)
 
 -- a line that was answered over a look
-pub looked : {door : Door} (hub since : Beginning) (seat : ℕ) (old new : Worker) (whats : List What)
+pub looked : {door : Door} (hub since : Beginning) (seat : ℕ) (old new : AdminWorker)
+    (whats : List What)
     (line : List ℕ) (book : State) (answered : Answered) (seen : Beginning)
     → new.poster ≡ old.poster → new.lens.seen ≡ seen → Follows old.lens.seen seen
     → IsBookOf book seen
@@ -262,7 +255,8 @@ line_goes_on earlier line rest = ap (λ xs. lines_in earlier ++ xs) (sym (append
 -- ---- an admin at work
 
 -- nothing of the later lines was told nor answered
-pub stops_refused : {door : Door} (hub : Beginning) (seat : ℕ) (old new : Worker) (rest : List ℕ)
+pub stops_refused : {door : Door} (hub : Beginning) (seat : ℕ) (old new : AdminWorker)
+    (rest : List ℕ)
     (start : Traffic) (given before after : Option (List ℕ)) (fault : PostFault)
     → (w : Works door hub seat old rest start (so_far given before))
     → HasTold hub new.poster (changes_in w.replies) (stored_of fault 1)
@@ -286,7 +280,8 @@ stops_refused hub seat old new rest start given before after fault w told none =
   };
 }
 
-pub stops_unseen : {door : Door} (hub : Beginning) (seat : ℕ) (old new : Worker) (rest : List ℕ)
+pub stops_unseen : {door : Door} (hub : Beginning) (seat : ℕ) (old new : AdminWorker)
+    (rest : List ℕ)
     (start : Traffic) (given before after : Option (List ℕ))
     → (w : Works door hub seat old rest start (so_far given before))
     → HasTold hub new.poster (changes_in w.replies) 0
@@ -311,7 +306,7 @@ stops_unseen hub seat old new rest start given before after w told none = record
 }
 
 -- a read failed
-pub stops_failed : {door : Door} (hub : Beginning) (seat : ℕ) (worker : Worker)
+pub stops_failed : {door : Door} (hub : Beginning) (seat : ℕ) (worker : AdminWorker)
     (start now : Traffic)
     → Works door hub seat worker [] start now
     → Stops door hub seat worker start now Read
@@ -335,7 +330,7 @@ stops_failed hub seat worker start now w = record {
 }
 
 -- a piece was read
-pub works_piece : {door : Door} (hub : Beginning) (seat : ℕ) (worker : Worker) (piece : List ℕ)
+pub works_piece : {door : Door} (hub : Beginning) (seat : ℕ) (worker : AdminWorker) (piece : List ℕ)
     (start : Traffic) (given after taken : Option (List ℕ)) → Appends given after piece
     → Works door hub seat worker [] start (so_far given taken)
     → Works door hub seat worker piece start (so_far after taken)
@@ -357,7 +352,7 @@ works_piece hub seat worker piece start given after taken gives w = record {
 }
 
 -- the same poster, lens and line
-pub works_alike : {door : Door} (hub : Beginning) (seat : ℕ) (old new : Worker) (rest : List ℕ)
+pub works_alike : {door : Door} (hub : Beginning) (seat : ℕ) (old new : AdminWorker) (rest : List ℕ)
     (start now : Traffic) → new.poster ≡ old.poster
     → new.lens.seen ≡ old.lens.seen → new.line.bytes.items ≡ old.line.bytes.items
     → Works door hub seat old rest start now
@@ -374,7 +369,7 @@ works_alike hub seat old new rest start now poster lens line w = record {
 }
 
 -- an admin that has read nothing
-pub works_none : {door : Door} (hub : Beginning) (seat : ℕ) (worker : Worker) (start : Traffic)
+pub works_none : {door : Door} (hub : Beginning) (seat : ℕ) (worker : AdminWorker) (start : Traffic)
     → worker.line.bytes.items ≡ []
     → HasLearned hub hub seat worker [] → Works door hub seat worker [] start start
 works_none hub seat worker start line learned = record {
@@ -391,7 +386,8 @@ works_none hub seat worker start line learned = record {
 }
 
 -- bytes couldn't be kept
-pub stops_unkept : {door : Door} (hub : Beginning) (seat : ℕ) (old new : Worker) (rest : List ℕ)
+pub stops_unkept : {door : Door} (hub : Beginning) (seat : ℕ) (old new : AdminWorker)
+    (rest : List ℕ)
     (start now : Traffic) (fault : PostFault)
     → new.poster ≡ old.poster → stored_of fault 1 ≡ 0
     → Works door hub seat old rest start now
@@ -404,7 +400,7 @@ stops_unkept hub seat old new rest start now fault poster none w =
     (wrote_none now.taken)
 
 -- bytes of a line that hasn't ended were kept
-pub works_kept : {door : Door} (hub : Beginning) (seat : ℕ) (old new : Worker) (rest : List ℕ)
+pub works_kept : {door : Door} (hub : Beginning) (seat : ℕ) (old new : AdminWorker) (rest : List ℕ)
     (start now : Traffic) → new.poster ≡ old.poster
     → new.lens.seen ≡ old.lens.seen → HasNoEnd rest
     → ((line : List ℕ) → old.line.bytes.items ≡ kept_of line
@@ -427,7 +423,7 @@ works_kept hub seat old new rest start now poster lens whole keeps w = record {
 }
 
 -- a line that ended was obeyed, and the next one begins
-pub works_obeyed : {door : Door} (hub : Beginning) (seat : ℕ) (old mid new : Worker)
+pub works_obeyed : {door : Door} (hub : Beginning) (seat : ℕ) (old mid new : AdminWorker)
     (bytes rest : List ℕ)
     (start : Traffic) (given before after : Option (List ℕ))
     (reply : Reply) → new.poster ≡ mid.poster → new.lens.seen ≡ mid.lens.seen
@@ -456,7 +452,8 @@ works_obeyed hub seat old mid new bytes rest start given before after reply post
     }
 
 -- a line that ended asks to quit
-pub has_quit : {door : Door} (hub : Beginning) (seat : ℕ) (old new : Worker) (bytes rest : List ℕ)
+pub has_quit : {door : Door} (hub : Beginning) (seat : ℕ) (old new : AdminWorker)
+    (bytes rest : List ℕ)
     (start : Traffic) (given taken : Option (List ℕ)) → new.poster ≡ old.poster
     → HasNoEnd bytes → (w : Works door hub seat old (bytes ++ 10 ∷ rest) start (so_far given taken))
     → quits (w.line ++ bytes) ≡ true → HasQuit door hub seat new start (so_far given taken)
@@ -479,14 +476,15 @@ has_quit hub seat old new bytes rest start given taken poster whole w leaves = r
 }
 
 -- an admin that works on may end as well
-pub works_if : {door : Door} (goes : Bool) (hub : Beginning) (seat : ℕ) (worker : Worker)
+pub works_if : {door : Door} (goes : Bool) (hub : Beginning) (seat : ℕ) (worker : AdminWorker)
     (start now : Traffic)
     → Works door hub seat worker [] start now → WorksIf door goes hub seat worker [] start now
 works_if true hub seat worker start now w = w
 works_if false hub seat worker start now w = inl w
 
 -- of the answer only a beginning was written
-pub stops_cut : {door : Door} (hub : Beginning) (seat : ℕ) (old new : Worker) (bytes rest : List ℕ)
+pub stops_cut : {door : Door} (hub : Beginning) (seat : ℕ) (old new : AdminWorker)
+    (bytes rest : List ℕ)
     (start : Traffic) (given before after : Option (List ℕ))
     (reply : Reply) → (w : Works door hub seat old (bytes ++ 10 ∷ rest) start (so_far given before))
     → HasObeyed door hub (seen_by hub w.replies) seat new (changes_in w.replies) (w.line ++ bytes)
@@ -517,7 +515,7 @@ stops_cut hub seat old new bytes rest start given before after reply w obeyed wr
     }
 
 -- a line that ended, at a fault
-pub stops_obeying : {door : Door} (hub : Beginning) (seat : ℕ) (old new : Worker)
+pub stops_obeying : {door : Door} (hub : Beginning) (seat : ℕ) (old new : AdminWorker)
     (bytes rest : List ℕ)
     (start : Traffic) (given before after : Option (List ℕ))
     (fault : LineFault) → (w : Works door hub seat old (bytes ++ 10 ∷ rest) start
@@ -549,7 +547,7 @@ obeys_unlooked hub poster whats wrote fault none told = (
 )
 
 -- a line whose change was told
-pub has_obeyed : {door : Door} (hub since : Beginning) (seat : ℕ) (worker : Worker)
+pub has_obeyed : {door : Door} (hub since : Beginning) (seat : ℕ) (worker : AdminWorker)
     (whats : List What)
     (line : List ℕ) (change : Option What) (text : List ℕ) (seen : Beginning)
     → IsReply door since seat whats (reply_of line change text seen)
@@ -559,7 +557,7 @@ has_obeyed hub since seat worker whats line change text seen is learned =
     record { answers = refl; is = is; learned = learned }
 
 -- nothing is asked for
-pub changes_none : (hub since : Beginning) (seat : ℕ) (worker : Worker) (whats : List What)
+pub changes_none : (hub since : Beginning) (seat : ℕ) (worker : AdminWorker) (whats : List What)
     → HasLearned hub since seat worker whats
     → HasLearned hub since seat worker (whats ++ [])
 changes_none hub since seat worker whats learned =
@@ -644,7 +642,7 @@ quit_served hub seat Told Shown bytes written f a = record {
   answered = a.answered;
 }
 
-pub commanded_whole : {door : Door} (hub : Beginning) (seat : ℕ) (worker : Worker)
+pub commanded_whole : {door : Door} (hub : Beginning) (seat : ℕ) (worker : AdminWorker)
     (start now : Traffic) (served : Served)
     → ((whats : List What) (waiting : ℕ) → HasTold hub worker.poster whats waiting
     → IsServed hub seat whats waiting served)
@@ -668,7 +666,7 @@ commanded_whole hub seat worker start now served f (inr quit) = record {
       quit.ends);
 }
 
-pub commanded_until : {door : Door} (hub : Beginning) (seat : ℕ) (worker : Worker)
+pub commanded_until : {door : Door} (hub : Beginning) (seat : ℕ) (worker : AdminWorker)
     (start now : Traffic) (faulted : Faulted)
     → ((whats : List What) (waiting : ℕ) → HasTold hub worker.poster whats waiting
     → IsServed hub seat whats waiting faulted.served)

@@ -11,7 +11,7 @@ use Rattle.hub.specs.declared.faults.PostFault.{PostFault}
 use Rattle.hub.specs.History.{Beginning}
 use Rattle.hub.specs.Posts.{Follows}
 use Rattle.serve.specs.declared.answering.Answered.{Answered}
-use Rattle.serve.specs.declared.admin.Worker.{Worker}
+use Rattle.serve.specs.declared.admin.AdminWorker.{AdminWorker}
 use Rattle.serve.specs.declared.door.Door.{Door}
 use Rattle.serve.specs.declared.faults.LineFault.{LineFault}
 use Rattle.serve.specs.declared.faults.LineFault.TheVariants.{Write, Post, Look}
@@ -34,7 +34,7 @@ kept_of line =
     take LONGEST_COMMAND_LINE line ++ option_to_list (text_byte (drop LONGEST_COMMAND_LINE line))
 
 -- this was told at a seat, and what its lens has seen shows it, and begins with an earlier list
-pub record HasLearned (hub since : Beginning) (seat : ℕ) (worker : Worker) (whats : List What)
+pub record HasLearned (hub since : Beginning) (seat : ℕ) (worker : AdminWorker) (whats : List What)
     : Type 0 where
   pub at : worker.poster.pass.seat ≡ seat
   pub sees : Follows since worker.lens.seen
@@ -42,12 +42,12 @@ pub record HasLearned (hub since : Beginning) (seat : ℕ) (worker : Worker) (wh
   pub shows : ShowsTold seat whats worker.lens.seen
 
 -- its pass and its lens are of this hub
-pub record IsAtHub (hub : Beginning) (worker : Worker) : Type 0 where
+pub record IsAtHub (hub : Beginning) (worker : AdminWorker) : Type 0 where
   pub of : worker.poster.pass.seen.of ≡ hub.of
   pub lens : Follows hub worker.lens.seen
 
 -- each step keeps it at its hub and at its seat
-pub record KeepsPoster (hub : Beginning) (old new : Worker) : Type 0 where
+pub record KeepsPoster (hub : Beginning) (old new : AdminWorker) : Type 0 where
   pub of : new.poster.pass.seen.of ≡ hub.of
   pub lens : Follows hub new.lens.seen
   pub seat : new.poster.pass.seat ≡ old.poster.pass.seat
@@ -58,7 +58,7 @@ reply_of line change text seen =
     record { line = line; change = change; text = text; seen = seen }
 
 -- a line is answered over what its lens has seen
-pub record HasLooked (door : Door) (hub since : Beginning) (seat : ℕ) (worker : Worker)
+pub record HasLooked (door : Door) (hub since : Beginning) (seat : ℕ) (worker : AdminWorker)
     (whats : List What)
     (line : List ℕ) (answered : Answered) : Type 0 where
   pub learned : HasLearned hub worker.lens.seen seat worker whats
@@ -66,7 +66,7 @@ pub record HasLooked (door : Door) (hub since : Beginning) (seat : ℕ) (worker 
       (reply_of line answered.change answered.text.items worker.lens.seen)
 
 -- the same, else no copy could be entered, or an allocation failed, and no more was told
-abbrev pub LooksTo : Door → Beginning → Beginning → ℕ → Worker → List What → List ℕ
+abbrev pub LooksTo : Door → Beginning → Beginning → ℕ → AdminWorker → List What → List ℕ
     → Result (Option Answered) NoMemory → Type 0
 LooksTo door hub since seat worker whats line (Ok (Some answered)) =
     HasLooked door hub since seat worker whats line answered
@@ -74,7 +74,7 @@ LooksTo door hub since seat worker whats line (Ok None) = HasTold hub worker.pos
 LooksTo door hub since seat worker whats line (Err want) = HasTold hub worker.poster whats 0
 
 -- what a line asks for is told behind what was told before it, and learned; or refused
-abbrev pub ChangesTo : Beginning → Beginning → ℕ → Worker → List What → List What
+abbrev pub ChangesTo : Beginning → Beginning → ℕ → AdminWorker → List What → List What
     → Result (Unit {0}) PostFault → Type 0
 ChangesTo hub since seat worker whats batch (Ok done) =
     HasLearned hub since seat worker (whats ++ batch)
@@ -82,7 +82,7 @@ ChangesTo hub since seat worker whats batch (Err fault) =
     HasTold hub worker.poster whats (stored_of fault 1)
 
 -- a line has a reply, and what it asks for was told and learned
-pub record HasObeyed (door : Door) (hub since : Beginning) (seat : ℕ) (worker : Worker)
+pub record HasObeyed (door : Door) (hub since : Beginning) (seat : ℕ) (worker : AdminWorker)
     (whats : List What)
     (line : List ℕ) (reply : Reply) : Type 0 where
   pub answers : reply.line ≡ line
@@ -90,7 +90,7 @@ pub record HasObeyed (door : Door) (hub since : Beginning) (seat : ℕ) (worker 
   pub learned : HasLearned hub reply.seen seat worker (whats ++ option_to_list reply.change)
 
 -- its answer was written, or a beginning of it; or nothing of a line was told nor written
-abbrev pub ObeysTo : Door → Beginning → Beginning → ℕ → Worker → List What → List ℕ
+abbrev pub ObeysTo : Door → Beginning → Beginning → ℕ → AdminWorker → List What → List ℕ
     → Option (List ℕ)
     → Option (List ℕ) → Result (Unit {0}) LineFault → Type 0
 ObeysTo door hub since seat worker whats line before after (Ok done) =
@@ -106,7 +106,7 @@ ObeysTo door hub since seat worker whats line before after (Err Look) =
 
 -- an admin at work, with what its source gave and its writer took since it began; so many bytes of
 -- a piece are left
-pub record Works (door : Door) (hub : Beginning) (seat : ℕ) (worker : Worker) (rest : List ℕ)
+pub record Works (door : Door) (hub : Beginning) (seat : ℕ) (worker : AdminWorker) (rest : List ℕ)
     (start now : Traffic) : Type 0 where
   pub replies : List Reply
   pub line : List ℕ
@@ -117,7 +117,7 @@ pub record Works (door : Door) (hub : Beginning) (seat : ℕ) (worker : Worker) 
   pub carried : Advances start now (lines_in replies ++ (line ++ rest)) (texts_in replies)
 
 -- it has ended for this cause
-pub record Stops (door : Door) (hub : Beginning) (seat : ℕ) (worker : Worker)
+pub record Stops (door : Door) (hub : Beginning) (seat : ℕ) (worker : AdminWorker)
     (start now : Traffic) (cause : Cause) : Type 0 where
   pub bytes : List ℕ
   pub written : List ℕ
@@ -125,7 +125,7 @@ pub record Stops (door : Door) (hub : Beginning) (seat : ℕ) (worker : Worker)
   pub ends : EndsCommands door hub seat (HasTold hub worker.poster) bytes written cause
 
 -- a line asked to quit
-pub record HasQuit (door : Door) (hub : Beginning) (seat : ℕ) (worker : Worker)
+pub record HasQuit (door : Door) (hub : Beginning) (seat : ℕ) (worker : AdminWorker)
     (start now : Traffic)
     : Type 0 where
   pub bytes : List ℕ
@@ -134,25 +134,25 @@ pub record HasQuit (door : Door) (hub : Beginning) (seat : ℕ) (worker : Worker
   pub ends : AnsweredToQuit door hub seat (HasTold hub worker.poster) bytes written
 
 -- it has done all that it read asks for, up to a line that asks to quit if there is one
-abbrev pub IsDone : Door → Beginning → ℕ → Worker → Traffic → Traffic → Type 0
+abbrev pub IsDone : Door → Beginning → ℕ → AdminWorker → Traffic → Traffic → Type 0
 IsDone door hub seat worker start now =
     Works door hub seat worker [] start now ⊎ HasQuit door hub seat worker start now
 
 -- it works on, or is done
-abbrev pub WorksIf : Door → Bool → Beginning → ℕ → Worker → List ℕ → Traffic → Traffic → Type 0
+abbrev pub WorksIf : Door → Bool → Beginning → ℕ → AdminWorker → List ℕ → Traffic → Traffic → Type 0
 WorksIf door true hub seat worker rest start now = Works door hub seat worker rest start now
 WorksIf door false hub seat worker rest start now = IsDone door hub seat worker start now
 
 -- it works on, is done, or has ended for a cause
-abbrev pub WorksOn : Door → Beginning → ℕ → Worker → List ℕ → Traffic → Traffic → Result Bool Cause
-    → Type 0
+abbrev pub WorksOn : Door → Beginning → ℕ → AdminWorker → List ℕ → Traffic → Traffic
+    → Result Bool Cause → Type 0
 WorksOn door hub seat worker rest start now (Ok goes) =
     WorksIf door goes hub seat worker rest start now
 WorksOn door hub seat worker rest start now (Err cause) =
     Stops door hub seat worker start now cause
 
 -- the same after a step, which can't fail for every cause
-abbrev pub GoesOn : Door → Beginning → ℕ → Worker → List ℕ → Traffic → Traffic
+abbrev pub GoesOn : Door → Beginning → ℕ → AdminWorker → List ℕ → Traffic → Traffic
     → Result Bool LineFault
     → Type 0
 GoesOn door hub seat worker rest start now (Ok goes) =
@@ -161,14 +161,14 @@ GoesOn door hub seat worker rest start now (Err fault) =
     Stops door hub seat worker start now (cause_of_line fault)
 
 -- it is done, or has ended for a cause
-abbrev pub RunsOut : Door → Beginning → ℕ → Worker → Traffic → Traffic
+abbrev pub RunsOut : Door → Beginning → ℕ → AdminWorker → Traffic → Traffic
     → Result (Unit {0}) Cause → Type 0
 RunsOut door hub seat worker start now (Ok done) = IsDone door hub seat worker start now
 RunsOut door hub seat worker start now (Err cause) = Stops door hub seat worker start now cause
 
 -- a step that takes bytes which were read, and leaves some of them, whatever was read and written
 -- before
-abbrev pub Takes : Door → Beginning → Worker → Worker → List ℕ → List ℕ
+abbrev pub Takes : Door → Beginning → AdminWorker → AdminWorker → List ℕ → List ℕ
     → Option (List ℕ) → Option (List ℕ) → Result Bool LineFault → Type 0
 Takes door hub old new bytes rest before after result =
     (seat : ℕ) (start : Traffic) (given : Option (List ℕ))

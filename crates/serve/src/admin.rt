@@ -26,7 +26,7 @@ use crate::source::{Came, Source, buffer};
 use crate::status::quits;
 use crate::worker::MOST_READS;
 use crate::writing::{front, send};
-use agg_types::{NoMemory, What};
+use agg_types::{NoMemory, What, Whats};
 use book::Book;
 use hub::{Lens, Naming, Pass, PostFault};
 use std::alloc::Global;
@@ -40,23 +40,23 @@ const MOST_SILENT: u32 = 20;
 fn refused(alloc: Global) -> PostFault
     ensures { stored_of result 1 ≡ 0 }
 {
-    PostFault::NoMemory(Vec::new(alloc))
+    PostFault::NoMemory(Whats::new(alloc))
 }
 
 /// An admin at work.
 #[derive(Drop)]
-struct Worker {
+struct AdminWorker {
     lens: Lens,
     poster: Poster,
     line: Line,
     silent: u32,
 }
 
-impl Worker {
+impl AdminWorker {
     ghost use Rattle.serve.specs.Commanding.{HasLearned, LooksTo, kept_of};
 
     // An admin that has read nothing.
-    fn new(alloc: Global, lens: Lens, pass: Pass) -> Worker
+    fn new(alloc: Global, lens: Lens, pass: Pass) -> AdminWorker
         ensures pass { result.poster.pass ≡ pass }
         ensures lens { result.lens ≡ lens }
         ensures line { result.line.bytes.items ≡ [] }
@@ -65,7 +65,7 @@ impl Worker {
     {
         let poster = Poster::new(pass);
         let line = Line::new(alloc);
-        Worker {
+        AdminWorker {
             lens,
             poster,
             line,
@@ -121,7 +121,7 @@ impl Worker {
     fn into_poster(self) -> Poster
         ensures { result ≡ self.poster }
     {
-        let Worker { poster, .. } = self;
+        let AdminWorker { poster, .. } = self;
         poster
     }
 }
@@ -132,7 +132,7 @@ impl<'a, J: Naming, H: Wait + Drop, R: Wait, C: Clock, G: Gate> Context<'a, J, H
     ghost use Rattle.serve.specs.Commanding.{kept_of};
 
     // Posts a change, and learns that it is shown.
-    fn change(&self, worker: &mut Worker, what: What) -> Result<(), PostFault>
+    fn change(&self, worker: &mut AdminWorker, what: What) -> Result<(), PostFault>
         requires at { IsAtHub self.now.hub.now worker.old }
         requires fits { MayPost self.now.hub.now.config what }
         ensures keeps { KeepsPoster self.now.hub.now worker.old worker.new }
@@ -140,17 +140,16 @@ impl<'a, J: Naming, H: Wait + Drop, R: Wait, C: Clock, G: Gate> Context<'a, J, H
             → HasLearned self.now.hub.now since seat worker.old whats
             → ChangesTo self.now.hub.now since seat worker.new whats (what ∷ []) result }
     {
-        let mut whats = Vec::new(self.alloc);
-        if whats.push(what).is_err() {
+        let Ok(whats) = Whats::alone(self.alloc, what) else {
             return Err(refused(self.alloc));
-        }
+        };
         worker.poster.post(self.rt, self.hub, whats)?;
         worker.poster.show(&mut worker.lens);
         Ok(())
     }
 
     // Does what a line asks for.
-    fn carry_out(&self, worker: &mut Worker, change: Option<What>) -> Result<(), PostFault>
+    fn carry_out(&self, worker: &mut AdminWorker, change: Option<What>) -> Result<(), PostFault>
         requires at { IsAtHub self.now.hub.now worker.old }
         requires fits { IfSome change (MayPost self.now.hub.now.config) }
         ensures keeps { KeepsPoster self.now.hub.now worker.old worker.new }
@@ -169,7 +168,7 @@ impl<'a, J: Naming, H: Wait + Drop, R: Wait, C: Clock, G: Gate> Context<'a, J, H
     // at some door.
     fn reply<W: Write>(
         &self,
-        worker: &mut Worker,
+        worker: &mut AdminWorker,
         writer: &mut W,
         answered: Answered,
     ) -> Result<(), LineFault>
@@ -191,7 +190,7 @@ impl<'a, J: Naming, H: Wait + Drop, R: Wait, C: Clock, G: Gate> Context<'a, J, H
     // Does what the line that is kept asks for, and writes its answer.
     fn obey<W: Write>(
         &self,
-        worker: &mut Worker,
+        worker: &mut AdminWorker,
         writer: &mut W,
         door: Door,
     ) -> Result<(), LineFault>
@@ -214,7 +213,7 @@ impl<'a, J: Naming, H: Wait + Drop, R: Wait, C: Clock, G: Gate> Context<'a, J, H
     // Obeys the line that these bytes end, unless it asks to quit. Whether the connection goes on.
     fn end_line<W: Write>(
         &self,
-        worker: &mut Worker,
+        worker: &mut AdminWorker,
         writer: &mut W,
         bytes: &[u8],
         door: Door,
@@ -240,7 +239,7 @@ impl<'a, J: Naming, H: Wait + Drop, R: Wait, C: Clock, G: Gate> Context<'a, J, H
     // connection goes on.
     fn take_lines<W: Write>(
         &self,
-        worker: &mut Worker,
+        worker: &mut AdminWorker,
         writer: &mut W,
         piece: &[u8],
         door: Door,
@@ -267,7 +266,7 @@ impl<'a, J: Naming, H: Wait + Drop, R: Wait, C: Clock, G: Gate> Context<'a, J, H
     // Reads once, and does what that asks for. Whether the connection goes on.
     fn turn_admin<S: Source, W: Write>(
         &self,
-        worker: &mut Worker,
+        worker: &mut AdminWorker,
         link: &mut Link<S, W>,
         buffer: &mut [u8],
         door: Door,
@@ -299,7 +298,7 @@ impl<'a, J: Naming, H: Wait + Drop, R: Wait, C: Clock, G: Gate> Context<'a, J, H
     // Reads until the source ends, a line asks to quit, the gate says so, or a fault comes.
     fn run_admin<S: Source, W: Write>(
         &self,
-        worker: &mut Worker,
+        worker: &mut AdminWorker,
         link: &mut Link<S, W>,
         door: Door,
     ) -> Result<(), Cause>
@@ -363,7 +362,7 @@ impl<'a, J: Naming, H: Wait + Drop, R: Wait, C: Clock, G: Gate> Context<'a, J, H
             → (S.failed link.old.source < S.failed link.new.source)
             ⊎ (S.reads link.new.source ≡ 2 ^ 40)) }
     {
-        let mut worker = Worker::new(self.alloc, lens, pass);
+        let mut worker = AdminWorker::new(self.alloc, lens, pass);
         let ended = self.run_admin(&mut worker, link, door);
         let served = worker.into_poster().leave(self.rt, self.hub);
         match ended {

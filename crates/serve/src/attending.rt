@@ -82,4 +82,23 @@ impl<'a, J: Naming, H: Wait + Drop, R: Wait + std::rt::Clock, C: Clock, G: Gate>
         worker.rest(writer, now)?;
         self.tell(worker, writer, now)
     }
+
+    /// The same where nothing came: it lets go of the batches that it keeps first.
+    pub fn stand_by<W: Write>(
+        &self,
+        worker: &mut Worker,
+        writer: &mut W,
+        now: u64,
+    ) -> Result<(), TurnFault>
+        requires work { (seated : Bool) × (turns : List Turn)
+            × IsAtWork self.now.hub.now seated worker.old turns }
+        ensures seat { seat_at worker.new.poster ≡ seat_at worker.old.poster }
+        ensures takes { Takes self.now.hub.now worker.old worker.new [] (W.contents writer.old)
+            (W.contents writer.new) result }
+        ensures heard { worker.old.session.late ≡ false
+            → HearsAt now worker.old.session worker.new.session result }
+    {
+        worker.let_go(self.alloc);
+        self.attend(worker, writer, now)
+    }
 }

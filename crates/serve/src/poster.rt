@@ -8,7 +8,7 @@ ghost use Rattle.hub.specs.Posts.{Follows, SitsDown};
 ghost use Rattle.hub.specs.Roll.{MayPost};
 
 use crate::served::Served;
-use agg_types::What;
+use agg_types::Whats;
 use hub::{Hub, Lens, Naming, Pass, PostFault, Receipt, Ticket};
 use std::sync::Wait;
 
@@ -54,15 +54,15 @@ impl Poster {
         &mut self,
         rt: &R,
         hub: &Hub<J, H>,
-        whats: Vec<What>,
+        whats: Whats,
     ) -> Result<(), PostFault>
         requires pass { self.old.pass.seen.of ≡ hub.now.of }
-        requires fits { All (MayPost hub.now.config) whats.items }
+        requires fits { All (MayPost hub.now.config) whats }
         ensures seat { self.new.pass.seat ≡ self.old.pass.seat }
         ensures of { self.new.pass.seen.of ≡ hub.now.of }
         ensures last { OnOk result (IfSome self.new.last (λ list. list.of ≡ hub.now.of)) }
         ensures told { (whats_before : List What) → HasTold hub.now self.old whats_before 0
-            → TellsMore hub.now self.new whats_before whats.items result }
+            → TellsMore hub.now self.new whats_before whats result }
     {
         match hub.post(rt, &mut self.pass, whats) {
             Ok(receipt) => {
@@ -79,15 +79,15 @@ impl Poster {
         &mut self,
         rt: &R,
         hub: &Hub<J, H>,
-        whats: Vec<What>,
+        whats: Whats,
     ) -> Result<Ticket, PostFault>
         requires pass { self.old.pass.seen.of ≡ hub.now.of }
-        requires fits { All (MayPost hub.now.config) whats.items }
+        requires fits { All (MayPost hub.now.config) whats }
         ensures seat { self.new.pass.seat ≡ self.old.pass.seat }
         ensures of { self.new.pass.seen.of ≡ hub.now.of }
         ensures ticket { IfOk result (λ ticket. ticket.of ≡ hub.now.of) }
         ensures appended { (whats_before : List What) → HasTold hub.now self.old whats_before 0
-            → AppendsMore hub.now self.new whats_before whats.items result }
+            → AppendsMore hub.now self.new whats_before whats result }
     {
         match hub.append(rt, &mut self.pass, whats) {
             Ok(ticket) => Ok(ticket),
@@ -105,6 +105,22 @@ impl Poster {
     {
         self.pass.see(&receipt);
         self.last = Some(receipt);
+    }
+
+    /// A batch that was posted and that both copies of the book have taken, emptied, if there is
+    /// one.
+    pub fn take_back(&mut self) -> Option<Whats>
+        ensures same { self.new ≡ self.old }
+        ensures empty { IfSome result (λ whats. whats ≡ []) }
+    {
+        self.pass.take_back()
+    }
+
+    /// Lets go of the batches that it still keeps.
+    pub fn forget(&mut self)
+        ensures { self.new ≡ self.old }
+    {
+        self.pass.forget();
     }
 
     /// Gives the pass back to the hub. Where that is refused the seat stays taken.

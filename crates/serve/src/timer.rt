@@ -10,7 +10,7 @@ use crate::context::Context;
 use crate::gate::{Gate, Place};
 use crate::poster::Poster;
 use crate::served::{Cause, Faulted, Served};
-use agg_types::{LAST_MOMENT, What};
+use agg_types::{LAST_MOMENT, What, Whats};
 use hub::{Naming, Pass, PostFault};
 use std::sync::Wait;
 
@@ -29,10 +29,9 @@ impl<'a, J: Naming, H: Wait + Drop, R: Wait, C: Clock, G: Gate> Context<'a, J, H
         if moment > LAST_MOMENT {
             return Ok(());
         }
-        let mut whats = Vec::new(self.alloc);
-        if whats.push(What::Moment(moment)).is_err() {
-            return Err(PostFault::NoMemory(Vec::new(self.alloc)));
-        }
+        let Ok(whats) = Whats::alone(self.alloc, What::Moment(moment)) else {
+            return Err(PostFault::NoMemory(Whats::new(self.alloc)));
+        };
         poster.post(self.rt, self.hub, whats)
     }
 

@@ -21,7 +21,7 @@ use crate::served::Cause;
 use crate::source::{Came, Source, buffer};
 use crate::waiting::{HEARTBEAT, Pulse};
 use crate::writing::{front, send};
-use agg_types::What;
+use agg_types::Whats;
 use hub::{Naming, Pass};
 use session_core::{Batch, Idle, Session, SessionCause, SessionFault};
 use std::alloc::Global;
@@ -98,6 +98,28 @@ impl Worker {
             None => None,
             Some(poster) => Some(poster.seat()),
         })
+    }
+
+    // Gives a batch that both copies of the book have taken back to the session, for its room.
+    fn reuse(&mut self)
+        ensures { self.new ≡ self.old }
+    {
+        let Some(poster) = &mut self.poster else {
+            return;
+        };
+        if let Some(emptied) = poster.take_back() {
+            self.session.give_back(emptied);
+        }
+    }
+
+    /// Lets go of the batches that it keeps, which a connection that rests has no use for.
+    pub fn let_go(&mut self, alloc: Global)
+        ensures { self.new ≡ self.old }
+    {
+        self.session.give_back(Whats::new(alloc));
+        if let Some(poster) = &mut self.poster {
+            poster.forget();
+        }
     }
 
     // Keeps what it hears of a hello, and finds the tables that are defined.
@@ -220,16 +242,16 @@ impl<'a, J: Naming, H: Wait + Drop, R: Wait + std::rt::Clock, C: Clock, G: Gate>
         &self,
         worker: &mut Worker,
         writer: &mut W,
-        facts: Vec<What>,
+        facts: Whats,
     ) -> Result<(), AnswerFault>
         requires of { IsPosterOf self.now.hub.now worker.old.poster }
-        requires fits { All (MayPost self.now.hub.now.config) facts.items }
+        requires fits { All (MayPost self.now.hub.now.config) facts }
         ensures session { worker.new.session ≡ worker.old.session }
         ensures pushing { worker.new.pushing ≡ worker.old.pushing }
         ensures seat { seat_at worker.new.poster ≡ seat_at worker.old.poster }
         ensures told { BeatsThen (W.contents writer.old) (λ written. (whats : List What)
             → PosterTells self.now.hub.now worker.old.poster whats 0
-            → PostsTo self.now.hub.now worker.new.poster whats facts.items
+            → PostsTo self.now.hub.now worker.new.poster whats facts
             (W.contents writer.new) result written) }
     {
         let Some(poster) = &mut worker.poster else {
@@ -243,6 +265,7 @@ impl<'a, J: Naming, H: Wait + Drop, R: Wait + std::rt::Clock, C: Clock, G: Gate>
         let receipt = self.await_shown(&mut worker.pulse, writer, ticket)?;
         poster.take_up(receipt);
         worker.told = worker.told.saturating_add(count);
+        worker.reuse();
         Ok(())
     }
 
@@ -264,7 +287,7 @@ impl<'a, J: Naming, H: Wait + Drop, R: Wait + std::rt::Clock, C: Clock, G: Gate>
             (W.contents writer.new) result) }
     {
         let (facts, out) = batch.into_parts();
-        self.post_facts(worker, writer, facts.into_vec())?;
+        self.post_facts(worker, writer, facts)?;
         send(writer, out.as_slice())?;
         worker.pulse.wrote(out.len(), self.clock.now());
         Ok(())
@@ -380,7 +403,7 @@ impl<'a, J: Naming, H: Wait + Drop, R: Wait + std::rt::Clock, C: Clock, G: Gate>
             Err(_) => Err(Cause::Read),
             Ok(Came::End) => Ok(false),
             Ok(Came::Nothing) => {
-                self.attend(worker, &mut link.writer, self.clock.now())?;
+                self.stand_by(worker, &mut link.writer, self.clock.now())?;
                 Ok(true)
             }
             Ok(Came::Bytes(count)) => {

@@ -1,13 +1,15 @@
 //! What a piece of the stream gives.
 
 ghost use Rattle.std.specs.Prelude.{◌≡◌, ◌++◌, ◌==◌, ◌&&◌, [], length, take, drop, vec_len, ◌≤◌};
+ghost use Rattle.std.specs.Prelude.{◌<◌, ◌^◌};
 ghost use Rattle.session_core.specs.Asking.{asks_all};
 ghost use Rattle.session_core.specs.Piece.{nothing};
 
 use crate::SessionCause;
-use agg_types::{Items, What};
+use agg_types::Whats;
 use std::alloc::Global;
 use std::marker::Model;
+use std::mem;
 use thiserror::Error;
 
 // The two bytes of the message `partial`.
@@ -19,7 +21,7 @@ const PARTIAL: u8 = 2;
 /// replies.
 #[derive(Debug, Drop)]
 pub struct Batch {
-    facts: Items<What>,
+    facts: Whats,
     /// The replies, and behind them the acknowledgements.
     out: Vec<u8>,
     /// How many bytes of these are replies.
@@ -43,33 +45,40 @@ impl Model for Batch {
 
 impl Batch {
     /// A batch of these facts and bytes, of which so many are replies.
-    pub(crate) fn new(facts: Vec<What>, out: Vec<u8>, split: usize) -> Batch
+    pub(crate) fn new(facts: Whats, out: Vec<u8>, split: usize) -> Batch
         requires { split ≤ length out.items }
         ensures { result ≡ record {
-          facts = facts.items;
+          facts = facts;
           replies = take split out.items;
           acks = drop split out.items;
         } }
     {
-        Batch {
-            facts: Items::from_vec(facts),
-            out,
-            split,
-        }
+        Batch { facts, out, split }
     }
 
     /// A batch of nothing. Takes no memory.
     pub(crate) fn empty(alloc: Global) -> Batch
         ensures { result ≡ nothing }
     {
-        Batch::new(Vec::new(alloc), Vec::new(alloc), 0)
+        Batch::new(Whats::new(alloc), Vec::new(alloc), 0)
+    }
+
+    /// Where there are no facts, leaves their room for other facts.
+    pub(crate) fn leave_room(&mut self, spare: &mut Whats)
+        requires { spare.old ≡ [] }
+        ensures same { self.new ≡ self.old }
+        ensures spare { spare.new ≡ [] }
+    {
+        if self.facts.is_empty() {
+            mem::swap(&mut self.facts, spare);
+        }
     }
 
     /// What happens at the session's seat, in order.
-    pub fn facts(&self) -> &[What]
+    pub fn facts(&self) -> &Whats
         ensures { result.now ≡ self.now.facts }
     {
-        self.facts.as_slice()
+        &self.facts
     }
 
     /// The bytes that answer, which are sent before the acknowledgements.
@@ -102,11 +111,13 @@ impl Batch {
     }
 
     /// The facts, and the bytes to send: the replies, then the acknowledgements. Takes no memory.
-    pub fn into_parts(self) -> (Items<What>, Vec<u8>)
+    pub fn into_parts(self) -> (Whats, Vec<u8>)
         ensures facts { result.0 ≡ self.facts }
+        ensures short { length result.0 < 2 ^ 63 }
         ensures out { result.1.items ≡ self.replies ++ self.acks }
     {
         let Batch { facts, out, .. } = self;
+        let _fewer = facts.len();
         (facts, out)
     }
 }

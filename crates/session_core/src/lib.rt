@@ -7,7 +7,8 @@
 //! version 2.1). `Session::feed` gives what the talk has with a piece beyond the talk without it,
 //! and a fault exactly where the talk ends, then for good; `laws` says the hello as a relation on
 //! whole lines, and counts update ids from the last explicit one. After `NoMemory` all is as it
-//! was. No clause says when `feed` and `idle` are called, that memory is there, nor how fast it is.
+//! was. A batch of facts may be given back to its session, which has its room for the next. No
+//! clause says when `feed` and `idle` are called, that memory is there, nor how fast it is.
 #![tactic(auto)]
 
 mod batch;

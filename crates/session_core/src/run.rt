@@ -8,7 +8,7 @@ ghost use Rattle.session_core.specs.Run.{Ran, run, ack_of, acks_of, settled};
 use crate::cause::End;
 use crate::track::{Entry, Heard, Track};
 use crate::undo::Change;
-use agg_types::{Declared, NoMemory, Shape, What};
+use agg_types::{Declared, NoMemory, Shape, Whats};
 use peers_msg::{Given, Message, write_message};
 use std::alloc::Global;
 
@@ -20,13 +20,13 @@ pub(crate) fn run(
     peer: usize,
     track: &mut Track,
     given: &Given,
-    facts: &mut Vec<What>,
+    facts: &mut Whats,
     replies: &mut Vec<u8>,
     changes: &mut Vec<Change>,
 ) -> Result<Option<End>, NoMemory>
     ensures undo { LeadBack changes.old.items track.old.entries
         changes.new.items track.new.entries }
-    ensures ran { IfOk result (λ end. Ran end track.new facts.old.items facts.new.items
+    ensures ran { IfOk result (λ end. Ran end track.new facts.old facts.new
         replies.old.items replies.new.items (run tables.now peer track.old given.now.messages)) }
 {
     // The plan of the table in force, if one was made.

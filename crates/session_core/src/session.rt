@@ -9,9 +9,10 @@ use crate::SessionCause;
 use crate::batch::{Batch, SessionFault};
 use crate::cause::End;
 use crate::stage::{Outcome, Stage, take_piece};
-use agg_types::{Config, Items, NoMemory};
+use agg_types::{Config, Items, NoMemory, Whats};
 use std::alloc::Global;
 use std::marker::Model;
+use std::mem;
 
 /// How long a session may be silent, in ms, before it is ended.
 const LONGEST_SILENCE: u64 = 5000;
@@ -40,6 +41,8 @@ pub struct Session {
     last_input: u64,
     last_output: u64,
     late: bool,
+    /// Room for the next batch; nothing that contracts see.
+    spare: Whats,
     alloc: Global,
 }
 
@@ -52,6 +55,7 @@ impl Drop for Session {
             last_input: _,
             last_output: _,
             late: _,
+            spare: _,
             alloc: _,
         } = self;
     }
@@ -63,8 +67,9 @@ impl Model for Session {
     ghost Value = { SessionState };
 
     ghost use Rattle.session_core.specs.Piece.{IsSettled};
+    ghost use Rattle.std.specs.Prelude.{◌≡◌, []};
 
-    ghost invariant = { λ session. IsSettled session.stage };
+    ghost invariant = { λ session. IsSettled session.stage × (session.spare ≡ []) };
 
     ghost view = { λ session. record {
       seated = session.seated;
@@ -95,6 +100,7 @@ impl Session {
             last_input: now,
             last_output: now,
             late: false,
+            spare: Whats::new(alloc),
             alloc,
         }
     }
@@ -136,16 +142,19 @@ impl Session {
         ensures over { (cause : SessionCause) → over_with self.old.stage ≡ Some cause
             → result ≡ Err (record { cause = cause; batch = nothing }) }
     {
-        let outcome = match take_piece(self.alloc, config, self.seated, &mut self.stage, piece) {
+        let alloc = self.alloc;
+        let facts = mem::replace(&mut self.spare, Whats::new(alloc));
+        let outcome = match take_piece(alloc, config, self.seated, &mut self.stage, facts, piece) {
             Ok(outcome) => outcome,
             Err(NoMemory) => {
                 return Err(SessionFault {
                     cause: SessionCause::NoMemory,
-                    batch: Batch::empty(self.alloc),
+                    batch: Batch::empty(alloc),
                 });
             }
         };
-        let Outcome { batch, end } = outcome;
+        let Outcome { mut batch, end } = outcome;
+        batch.leave_room(&mut self.spare);
         if !piece.is_empty() {
             self.last_input = now;
         }
@@ -159,6 +168,16 @@ impl Session {
                 batch,
             }),
         }
+    }
+
+    /// Takes back a batch of facts that is done with: what is in it goes, and the next piece has
+    /// its room. After `NoMemory` the room may be gone. Takes no memory.
+    pub fn give_back(&mut self, whats: Whats)
+        ensures { self.new ≡ self.old }
+    {
+        let mut spare = whats;
+        spare.clear();
+        self.spare = spare;
     }
 
     /// What is to be done at a moment at which nothing was read. Takes no memory.

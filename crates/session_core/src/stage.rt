@@ -1,6 +1,6 @@
 //! Where a session stands, and what a piece does to it.
 
-ghost use Rattle.std.specs.Prelude.{◌≡◌, ◌++◌, Some, IfOk, IsOkAnd, OnOk, OnErr};
+ghost use Rattle.std.specs.Prelude.{◌≡◌, ◌++◌, [], Some, IfOk, IsOkAnd, OnOk, OnErr};
 ghost use Rattle.std.specs.Option.{option_map};
 ghost use Rattle.peers_msg.specs.Feed.{fed};
 ghost use Rattle.session_core.specs.Hello.{hello_of};
@@ -20,7 +20,7 @@ use crate::hello::hello_of;
 use crate::run::{run, write_acks};
 use crate::track::Track;
 use crate::undo::Change;
-use agg_types::{Config, Declared, Items, NoMemory, Shape, What};
+use agg_types::{Config, Declared, Items, NoMemory, Shape, What, Whats};
 use peers_msg::{Feed, Given, Message, WireCause, write_message};
 use std::alloc::Global;
 
@@ -57,16 +57,19 @@ pub(crate) struct StageOutcome {
     pub(crate) end: Option<End>,
 }
 
-/// What a piece gives, from where the session stands. After `NoMemory` it stands where it did.
+/// What a piece gives, from where the session stands; the facts are there for their room. After
+/// `NoMemory` it stands where it did.
 #[tactic(auto, unfolding(crate::specs::Piece::piece_of))]
 pub(crate) fn take_piece(
     alloc: Global,
     config: &Config,
     seated: bool,
     stage: &mut Stage,
+    facts: Whats,
     piece: &[u8],
 ) -> Result<Outcome, NoMemory>
-    requires { IsSettled stage.old }
+    requires settled { IsSettled stage.old }
+    requires none { facts ≡ [] }
     ensures ok { IfOk result (λ outcome. with_stage outcome stage.new
         ≡ piece_of (setup_of config.now) seated stage.old piece.now) }
     ensures err { OnErr result (stage.new ≡ stage.old) }
@@ -87,14 +90,8 @@ pub(crate) fn take_piece(
         }
         Stage::Talking(dialogue) => {
             let peer = dialogue.peer;
-            let outcome = converse(
-                alloc,
-                &config.tables,
-                dialogue,
-                Vec::new(alloc),
-                Vec::new(alloc),
-                piece,
-            )?;
+            let replies = Vec::new(alloc);
+            let outcome = converse(alloc, &config.tables, dialogue, facts, replies, piece)?;
             end_stage(stage, peer, outcome.end);
             Ok(outcome)
         }
@@ -145,7 +142,7 @@ fn refuse(alloc: Global, status: Status) -> Result<StageOutcome, NoMemory>
     let split = replies.len();
     Ok(StageOutcome {
         stage: Stage::Over(end, None),
-        batch: Batch::new(Vec::new(alloc), replies, split),
+        batch: Batch::new(Whats::new(alloc), replies, split),
         end: Some(end),
     })
 }
@@ -175,7 +172,7 @@ fn open(
         ≡ accepted_outcome tables.now (peer, rest.now)) }
     ensures settled { IfOk result (λ outcome. IsSettled outcome.stage) }
 {
-    let mut facts = Vec::new(alloc);
+    let mut facts = Whats::new(alloc);
     facts.push(What::Open(peer))?;
     let mut replies = Vec::from_slice(alloc, status_text(Status::Accepted))?;
     write_message(&Message::Request, &mut replies)?;
@@ -206,14 +203,14 @@ fn converse(
     alloc: Global,
     tables: &Declared<Shape>,
     dialogue: &mut Dialogue,
-    facts: Vec<What>,
+    facts: Whats,
     replies: Vec<u8>,
     piece: &[u8],
 ) -> Result<Outcome, NoMemory>
     requires { AreSettled dialogue.old.track.entries }
     ensures ok { IfOk result (λ outcome. with_stage outcome
         (stage_at_end (Stage.Talking dialogue.new) dialogue.old.peer outcome.end)
-        ≡ with_front facts.items replies.items
+        ≡ with_front facts replies.items
         (messages_outcome tables.now dialogue.old.peer dialogue.old.track
         (fed dialogue.old.feed piece.now))) }
     ensures err { OnErr result (dialogue.new ≡ dialogue.old) }
@@ -238,13 +235,13 @@ fn answer(
     tables: &Declared<Shape>,
     dialogue: &mut Dialogue,
     given: Given,
-    facts: Vec<What>,
+    facts: Whats,
     replies: Vec<u8>,
 ) -> Result<Outcome, NoMemory>
     requires { AreSettled dialogue.old.track.entries }
     ensures ok { IfOk result (λ outcome. with_stage outcome
         (stage_at_end (Stage.Talking dialogue.new) dialogue.old.peer outcome.end)
-        ≡ with_front facts.items replies.items
+        ≡ with_front facts replies.items
         (messages_outcome tables.now dialogue.old.peer dialogue.old.track given)) }
     ensures err { OnErr result (dialogue.new ≡ dialogue.old) }
     ensures settled { AreSettled dialogue.new.track.entries }
@@ -288,13 +285,13 @@ fn say(
     peer: usize,
     track: &mut Track,
     given: &Given,
-    facts: &mut Vec<What>,
+    facts: &mut Whats,
     out: &mut Vec<u8>,
     changes: &mut Vec<Change>,
 ) -> Result<(Option<End>, usize), NoMemory>
     ensures undo { LeadBack changes.old.items track.old.entries
         changes.new.items track.new.entries }
-    ensures said { IfOk result (λ x. IsSaid x.0 x.1 track.new facts.old.items facts.new.items
+    ensures said { IfOk result (λ x. IsSaid x.0 x.1 track.new facts.old facts.new
         out.old.items out.new.items (run tables.now peer track.old given.now.messages) given.now) }
 {
     let end = run(alloc, tables, peer, track, given, facts, out, changes)?;

@@ -19,7 +19,7 @@ use crate::run::clear_updated;
 use crate::undo::{Change, note, take_back};
 use crate::values::{TYPES, key_at, life_of, periods_of};
 use agg_types::limits::MOST_FOLLOWED;
-use agg_types::{Cells, Col, Declared, Key, KeyKind, NoMemory, Shape, What};
+use agg_types::{Cells, Col, Declared, Key, KeyKind, NoMemory, Shape, Whats};
 use peers_msg::{Definition, LentMessage, WireCause};
 use std::alloc::Global;
 
@@ -130,10 +130,10 @@ fn tell_put(
     plan: &mut Option<CachedPlan>,
     life: Option<u32>,
     bytes: &[u8],
-    facts: &mut Vec<What>,
+    facts: &mut Whats,
 ) -> Result<bool, NoMemory>
     requires { IfSome plan.old (IsPlanOf tables.now followed.now) }
-    ensures put { IfOk result (λ told. AddsFact told facts.old.items facts.new.items
+    ensures put { IfOk result (λ told. AddsFact told facts.old facts.new
         (put_of tables.now peer followed.now life bytes.now)) }
     ensures planned { OnOk result (IfSome plan.new (IsPlanOf tables.now followed.now)) }
 {
@@ -155,15 +155,8 @@ fn tell_put(
         return Ok(false);
     }
     let key = Key::copy(alloc, key)?;
-    // With room for it a row is moved once; a plain push would hand it back where it is refused.
-    facts.reserve(1)?;
-    facts.push_reserved(What::Put {
-        peer,
-        table: followed.table,
-        key,
-        life: life_of(followed.expiry, life),
-        cells,
-    });
+    let life = life_of(followed.expiry, life);
+    facts.push_put(peer, followed.table, key, life, cells)?;
     Ok(true)
 }
 
@@ -320,13 +313,13 @@ impl Track {
         peer: usize,
         plan: &mut Option<CachedPlan>,
         message: LentMessage<'_>,
-        facts: &mut Vec<What>,
+        facts: &mut Whats,
         changes: &mut Vec<Change>,
     ) -> Result<Heard, NoMemory>
         requires { IfSome plan.old (IsPlanNow tables.now self.old) }
         ensures undo { LeadBack changes.old.items self.old.entries
             changes.new.items self.new.entries }
-        ensures step { IfOk result (λ heard. IsStep self.new heard facts.old.items facts.new.items
+        ensures step { IfOk result (λ heard. IsStep self.new heard facts.old facts.new
             (step_of tables.now peer self.old (as_message message.entry))) }
         ensures planned { OnOk result (IfSome plan.new (IsPlanNow tables.now self.new)) }
     {
@@ -451,13 +444,13 @@ impl Track {
         id: Option<u32>,
         life: Option<u32>,
         bytes: &[u8],
-        facts: &mut Vec<What>,
+        facts: &mut Whats,
         changes: &mut Vec<Change>,
     ) -> Result<Heard, NoMemory>
         requires { IfSome plan.old (IsPlanNow tables.now self.old) }
         ensures undo { LeadBack changes.old.items self.old.entries
             changes.new.items self.new.entries }
-        ensures step { IfOk result (λ heard. IsStep self.new heard facts.old.items facts.new.items
+        ensures step { IfOk result (λ heard. IsStep self.new heard facts.old facts.new
             (updated_under tables.now peer self.old self.old.current id life bytes.now)) }
         ensures planned { OnOk result (IfSome plan.new (IsPlanNow tables.now self.new)) }
     {

@@ -3,7 +3,7 @@
 
 ghost use Rattle.std.specs.Prelude.{◌≡◌, IfOk, IfSome};
 
-use agg_types::What;
+use agg_types::{What, Whats};
 use anyhow::{Result, anyhow, ensure};
 use book::Summed;
 use hub::{Hub, Lens, Naming, Opening, Pass, PostFault, Receipt, SeatFault};
@@ -18,7 +18,7 @@ pub fn opening(alloc: Global) -> Result<Opening> {
 }
 
 /// A peer speaks, and puts a count of the address 0.0.0.0.
-pub fn batch(alloc: Global, peer: usize, count: u64) -> Result<Vec<What>> {
+pub fn batch(alloc: Global, peer: usize, count: u64) -> Result<Whats> {
     let mut whats = alone(alloc, What::Open(peer))?;
     whats.push(put(alloc, peer, 0, count)?)?;
     Ok(whats)
@@ -61,16 +61,16 @@ pub fn post<J: Naming, H: Wait + Drop, W: Wait>(
     alloc: Global,
     hub: &Hub<J, H>,
     pass: &mut Pass,
-    whats: Vec<What>,
+    whats: Whats,
 ) -> Result<Receipt>
     requires { pass.old.seen.of ≡ hub.now.of }
     ensures { IfOk result (λ r. (r.of ≡ hub.now.of) × (pass.new.seen.of ≡ hub.now.of)) }
 {
-    ensure!(hub.allows(whats.as_slice()), "it does not fit");
+    ensure!(hub.allows(&whats), "it does not fit");
     match hub.post(rt, pass, whats) {
         Ok(receipt) => Ok(receipt),
         Err(PostFault::NoMemory(back)) => post_once(rt, hub, pass, back),
-        Err(PostFault::Pending) => post_once(rt, hub, pass, Vec::new(alloc)),
+        Err(PostFault::Pending) => post_once(rt, hub, pass, Whats::new(alloc)),
         Err(_) => Err(anyhow!("refused")),
     }
 }
@@ -80,12 +80,12 @@ pub fn post_once<J: Naming, H: Wait + Drop, W: Wait>(
     rt: &W,
     hub: &Hub<J, H>,
     pass: &mut Pass,
-    whats: Vec<What>,
+    whats: Whats,
 ) -> Result<Receipt>
     requires { pass.old.seen.of ≡ hub.now.of }
     ensures { IfOk result (λ r. (r.of ≡ hub.now.of) × (pass.new.seen.of ≡ hub.now.of)) }
 {
-    ensure!(hub.allows(whats.as_slice()), "it does not fit");
+    ensure!(hub.allows(&whats), "it does not fit");
     match hub.post(rt, pass, whats) {
         Ok(receipt) => Ok(receipt),
         Err(_) => Err(anyhow!("refused once more")),

@@ -2,6 +2,7 @@
 
 use crate::scene::{Few, Still};
 use crate::{full, status};
+use agg_types::Whats;
 use collector_log::{Board, Event, Journal, Notes};
 use hub::PostFault;
 use serve::{Cause, Gate, Gone, News, Place};
@@ -197,7 +198,7 @@ fn show_ends<R: Print + Wait + AllocGlobal>(rt: &R, notes: &Notes<'_, Still<R>>)
     let refused = SessionCause::Refused(Status::RemoteName);
     show_end(notes, Some(Cause::Session(refused)));
     show_end(notes, Some(Cause::Session(SessionCause::TimedOut)));
-    let unposted = PostFault::NoMemory(Vec::new(rt.alloc()));
+    let unposted = PostFault::NoMemory(Whats::new(rt.alloc()));
     show_end(notes, Some(Cause::Post(unposted)));
     show_end(notes, Some(Cause::Post(PostFault::Spent)));
     show_end(notes, Some(Cause::Look));

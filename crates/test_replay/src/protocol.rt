@@ -9,7 +9,7 @@
 
 ghost use Rattle.std.specs.Prelude.{◌<◌};
 
-use agg_types::{Config, Items, NoMemory, What};
+use agg_types::{Cell, Config, Items, LentCells, LentWhat, NoMemory, What, Whats};
 use anyhow::Result;
 use bytes::Bytes;
 use peers_msg::{Definition, Feed, Message, WireCause, WireFault, get_int, put_int, write_message};
@@ -166,10 +166,28 @@ fn take_again(
     }
 }
 
-fn print_fact(rt: &impl Print, alloc: Global, fact: &What) -> Result<()> {
+fn copied(alloc: Global, cells: LentCells<'_>) -> Result<Vec<Cell>, NoMemory> {
+    let mut copied = Vec::new(alloc);
+    let mut left = cells;
+    for _ in 0..cells.len() {
+        let Some((cell, others)) = left.split_first() else {
+            break;
+        };
+        copied.push(cell)?;
+        left = others;
+    }
+    Ok(copied)
+}
+
+/// Prints a fact. A row may lie in a batch in two ways, and is printed as one.
+fn print_fact(rt: &impl Print, alloc: Global, fact: LentWhat<'_>) -> Result<()> {
+    let fact = match fact {
+        LentWhat::Other(what) => LentWhat::of(what),
+        put => put,
+    };
     match fact {
-        What::Open(peer) => println!(rt; "open {peer}")?,
-        What::Put {
+        LentWhat::Other(What::Open(peer)) => println!(rt; "open {peer}")?,
+        LentWhat::Put {
             peer,
             table,
             key,
@@ -177,16 +195,17 @@ fn print_fact(rt: &impl Print, alloc: Global, fact: &What) -> Result<()> {
             cells,
         } => {
             let key = hex::encode(alloc, key.as_slice())?;
+            let cells = copied(alloc, cells)?;
             println!(rt; "put {peer} {table} {key} {life:?} {:?}", cells.as_slice())?;
         }
-        _ => println!(rt; "no fact of a session")?,
+        LentWhat::Other(_) => println!(rt; "no fact of a session")?,
     }
     Ok(())
 }
 
-fn print_facts(rt: &impl Print, alloc: Global, facts: &[What]) -> Result<()> {
-    for fact in facts {
-        print_fact(rt, alloc, fact)?;
+fn print_facts(rt: &impl Print, alloc: Global, facts: &Whats) -> Result<()> {
+    for place in 0..facts.len() {
+        print_fact(rt, alloc, facts.at(place))?;
     }
     Ok(())
 }

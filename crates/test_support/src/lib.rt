@@ -10,7 +10,7 @@ ghost use Rattle.std.specs.Prelude.{◌≡◌, [], IfOk};
 
 mod memory;
 
-use agg_types::{Cell, Cells, Config, Key, NoMemory, What};
+use agg_types::{Cell, Cells, Config, Key, NoMemory, What, Whats};
 use anyhow::Result;
 pub use memory::{Full, Torn};
 use std::alloc::Global;
@@ -49,10 +49,8 @@ pub fn put(alloc: Global, peer: usize, number: u32, count: u64) -> Result<What, 
 }
 
 /// A batch of one event.
-pub fn alone(alloc: Global, what: What) -> Result<Vec<What>, NoMemory> {
-    let mut whats = Vec::new(alloc);
-    whats.push(what)?;
-    Ok(whats)
+pub fn alone(alloc: Global, what: What) -> Result<Whats, NoMemory> {
+    Whats::alone(alloc, what)
 }
 
 /// The place at which a turn finds its key: each key in turn, and none beside its neighbour.

@@ -3,7 +3,7 @@
 use crate::measure::{now, since};
 use crate::posting::load::{Load, Share};
 use crate::posting::tell::{Measured, Shown, Speed};
-use agg_types::{NoMemory, What};
+use agg_types::{NoMemory, What, Whats};
 use book::Book;
 use std::alloc::Global;
 use std::rt::Clock;
@@ -28,9 +28,13 @@ impl Alone {
         Ok(())
     }
 
-    fn apply_all(&mut self, whats: &[What]) -> Result<(), NoMemory> {
-        for what in whats {
-            self.apply(what)?;
+    fn apply_all(&mut self, whats: &Whats) -> Result<(), NoMemory> {
+        for place in 0..whats.len() {
+            let Some(what) = whats.get(place) else {
+                break;
+            };
+            self.book.apply_lent(0, self.next, what)?;
+            self.next = self.next.saturating_add(1);
         }
         Ok(())
     }
@@ -46,7 +50,7 @@ impl Alone {
         for number in 0..share.batches() {
             let start = now(rt);
             let whats = share.batch(alloc, number)?;
-            self.apply_all(whats.as_slice())?;
+            self.apply_all(&whats)?;
             longest = longest.max(since(rt, start));
         }
         Ok(longest)

@@ -1,6 +1,6 @@
 //! What the proxies of a run send: updates of an address, two counts and a rate, in batches.
 
-use agg_types::{Cell, Cells, NoMemory, What};
+use agg_types::{Cell, Cells, NoMemory, What, Whats};
 use std::alloc::Global;
 use std::fmt;
 use std::fmt::{Display, Formatter, Write};
@@ -90,20 +90,25 @@ impl Share {
         self.updates.saturating_add(BATCH - 1) / BATCH
     }
 
-    /// One of its batches: the clock goes on by a ms, and then keys are put.
-    pub fn batch(self, alloc: Global, number: u32) -> Result<Vec<What>, NoMemory> {
+    // The turns of one of its batches: from one to before another.
+    fn turns(self, number: u32) -> (u32, u32) {
         let from = number.saturating_mul(BATCH);
-        let to = from.saturating_add(BATCH).min(self.updates);
-        let mut whats = Vec::new(alloc);
+        (from, from.saturating_add(BATCH).min(self.updates))
+    }
+
+    /// One of its batches: the clock goes on by a ms, and then keys are put.
+    pub fn batch(self, alloc: Global, number: u32) -> Result<Whats, NoMemory> {
+        let (from, to) = self.turns(number);
+        let mut whats = Whats::new(alloc);
         whats.push(What::Moment(u64::from(number)))?;
         for turn in from..to {
-            whats.push(self.put(alloc, turn)?)?;
+            self.put(alloc, turn, &mut whats)?;
         }
         Ok(whats)
     }
 
     // One update. Passes share the keys out: each has as many, and they lie beside one another.
-    fn put(self, alloc: Global, turn: u32) -> Result<What, NoMemory> {
+    fn put(self, alloc: Global, turn: u32, whats: &mut Whats) -> Result<(), NoMemory> {
         let number = scattered(turn, self.keys)
             .wrapping_mul(self.passes)
             .wrapping_add(self.peer);
@@ -112,12 +117,8 @@ impl Share {
             cur: 30,
             prev: 100,
         };
-        Ok(What::Put {
-            peer: self.peer(),
-            table: 0,
-            key: address(alloc, number)?,
-            life: Some(LIFE),
-            cells: Cells::copy(alloc, &[Cell::Count(5), Cell::Count(u64::from(turn)), rate])?,
-        })
+        let key = address(alloc, number)?;
+        let cells = Cells::copy(alloc, &[Cell::Count(5), Cell::Count(u64::from(turn)), rate])?;
+        whats.push_put(self.peer(), 0, key, Some(LIFE), cells)
     }
 }

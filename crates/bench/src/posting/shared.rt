@@ -6,7 +6,7 @@ use crate::measure::{now, since};
 use crate::posting::crew::{Crew, Tally};
 use crate::posting::load::{Load, Share};
 use crate::posting::tell::Shown;
-use agg_types::What;
+use agg_types::{What, Whats};
 use hub::{Hub, Lens, Naming, Pass, Receipt};
 use std::alloc::Global;
 use std::rt::Clock;
@@ -43,12 +43,12 @@ fn post<J: Naming, H: Wait + Drop, W: Wait>(
     rt: &W,
     hub: &Hub<J, H>,
     pass: &mut Pass,
-    whats: Vec<What>,
+    whats: Whats,
 ) -> Option<Receipt>
     requires { pass.old.seen.of ≡ hub.now.of }
     ensures { IfSome result (λ r. (r.of ≡ hub.now.of) × (pass.new.seen.of ≡ hub.now.of)) }
 {
-    if !hub.allows(whats.as_slice()) {
+    if !hub.allows(&whats) {
         return None;
     }
     hub.post(rt, pass, whats).ok()
@@ -62,8 +62,8 @@ fn sit<J: Naming, H: Wait + Drop, W: Wait>(rt: &W, hub: &Hub<J, H>) -> Option<Pa
 }
 
 // A batch that opens a peer.
-fn opening(alloc: Global, peer: usize) -> Option<Vec<What>> {
-    let mut whats = Vec::new(alloc);
+fn opening(alloc: Global, peer: usize) -> Option<Whats> {
+    let mut whats = Whats::new(alloc);
     whats.push(What::Open(peer)).ok()?;
     Some(whats)
 }
@@ -162,5 +162,5 @@ fn post_nothing<J: Naming, H: Wait + Drop, W: Wait>(
     ensures { IfSome result (λ r. r.of ≡ hub.now.of) }
 {
     let mut pass = sit(rt, hub)?;
-    post(rt, hub, &mut pass, Vec::new(alloc))
+    post(rt, hub, &mut pass, Whats::new(alloc))
 }

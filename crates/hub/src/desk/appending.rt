@@ -1,6 +1,6 @@
 //! What is appended to the history.
 
-ghost use Rattle.std.specs.Prelude.{◌≡◌, ◌<◌, ◌+◌, length, false, Some, vec_len, MatchOption};
+ghost use Rattle.std.specs.Prelude.{◌≡◌, ◌<◌, ◌+◌, length, false, Some, MatchOption};
 ghost use Rattle.std.specs.Prelude.{MatchResult, ◌≤◌, IsTrue, IsFalse};
 ghost use Rattle.std.specs.BTreeMap.{is_at};
 ghost use Rattle.std.specs.List.{All};
@@ -21,7 +21,7 @@ use crate::naming::Naming;
 use crate::pass::Pass;
 use crate::receipt::Ticket;
 use crate::store::hang;
-use agg_types::{NUMBERS_END, What};
+use agg_types::{NUMBERS_END, Whats};
 use std::sync::Wait;
 
 impl<J: Naming, R: Wait + Drop> Desk<J, R> {
@@ -46,7 +46,7 @@ impl<J: Naming, R: Wait + Drop> Desk<J, R> {
     }
 
     /// The seat that opened the peer of a posted Put after the pass's seat did.
-    fn replaced<W: Wait>(&self, rt: &W, pass: &Pass, whats: &[What]) -> Option<u64>
+    fn replaced<W: Wait>(&self, rt: &W, pass: &Pass, whats: &Whats) -> Option<u64>
         requires of { pass.now.seen.of ≡ J.book }
         requires owns { length (own pass.now.seat self.now.all.events) ≡ pass.now.number }
         ensures { MatchOption result (NoneReplaced pass.now self.now.all.events whats.now)
@@ -62,21 +62,21 @@ impl<J: Naming, R: Wait + Drop> Desk<J, R> {
         rt: &W,
         log: &Log,
         pass: &mut Pass,
-        whats: Vec<What>,
-    ) -> Result<(), Vec<What>>
+        whats: Whats,
+    ) -> Result<(), Whats>
         requires log { log.now ≡ J.book }
         requires pass { pass.old.seen.of ≡ J.book }
         requires owns { length (own pass.old.seat self.old.all.events) ≡ pass.old.number }
-        requires fits { All (MayPost self.old.all.config) whats.items }
+        requires fits { All (MayPost self.old.all.config) whats }
         requires due { lookup (is_at (nat_cmp pass.old.seat)) self.old.roll.seats
             ≡ Some pass.old.number }
-        requires last { pass.old.number + vec_len whats < NUMBERS_END }
+        requires last { pass.old.number + length whats < NUMBERS_END }
         ensures same { ShowsSame self.old self.new }
         ensures all { MatchResult result
             (λ _. self.new.all
-            ≡ longer_by self.old.all (numbered pass.old.seat pass.old.number whats.items))
-            (λ back. (back.items ≡ whats.items) × (self.new.all ≡ self.old.all)) }
-        ensures pass { MatchResult result (λ _. pass.new ≡ advanced pass.old (vec_len whats))
+            ≡ longer_by self.old.all (numbered pass.old.seat pass.old.number whats))
+            (λ back. (back ≡ whats) × (self.new.all ≡ self.old.all)) }
+        ensures pass { MatchResult result (λ _. pass.new ≡ advanced pass.old (length whats))
             (λ _. pass.new ≡ pass.old) }
     {
         let Ok(()) = self.queue.reserve(self.sitting + 2) else {
@@ -100,16 +100,16 @@ impl<J: Naming, R: Wait + Drop> Desk<J, R> {
         rt: &W,
         log: &Log,
         pass: &mut Pass,
-        whats: Vec<What>,
-    ) -> Result<Ticket, (AppendFault, Vec<What>)>
+        whats: Whats,
+    ) -> Result<Ticket, (AppendFault, Whats)>
         requires log { log.now ≡ J.book }
         requires pass { pass.old.seen.of ≡ J.book }
-        requires fits { All (MayPost pass.old.seen.config) whats.items }
+        requires fits { All (MayPost pass.old.seen.config) whats }
         ensures same { ShowsSame self.old self.new }
-        ensures kept { MatchResult result (IsAppended self.old self.new pass.old whats.items)
+        ensures kept { MatchResult result (IsAppended self.old self.new pass.old whats)
             (λ _. self.new.all ≡ self.old.all) }
-        ensures told { MatchResult result (Appends pass.old pass.new whats.items)
-            (λ refused. AppendRefused pass.old pass.new whats.items refused.0 refused.1.items) }
+        ensures told { MatchResult result (Appends pass.old pass.new whats)
+            (λ refused. AppendRefused pass.old pass.new whats refused.0 refused.1) }
     {
         if self.stuck {
             return Err((AppendFault::NoMemory, whats));
@@ -119,7 +119,7 @@ impl<J: Naming, R: Wait + Drop> Desk<J, R> {
             let now = self.ticket();
             return Err((AppendFault::NotNext { found, now }, whats));
         }
-        if let Some(by) = self.replaced(rt, pass, whats.as_slice()) {
+        if let Some(by) = self.replaced(rt, pass, &whats) {
             let now = self.ticket();
             return Err((AppendFault::Replaced { by, now }, whats));
         }
@@ -135,23 +135,23 @@ impl<J: Naming, R: Wait + Drop> Desk<J, R> {
         rt: &W,
         log: &Log,
         pass: &mut Pass,
-        whats: Vec<What>,
-    ) -> Result<Ticket, (AppendFault, Vec<What>)>
+        whats: Whats,
+    ) -> Result<Ticket, (AppendFault, Whats)>
         requires log { log.now ≡ J.book }
         requires pass { pass.old.seen.of ≡ J.book }
         requires runs { self.old.stuck ≡ false }
         requires follows { Follows pass.old.seen self.old.all }
         requires owns { length (own pass.old.seat self.old.all.events) ≡ pass.old.number }
-        requires fits { All (MayPost self.old.all.config) whats.items }
+        requires fits { All (MayPost self.old.all.config) whats }
         requires due { lookup (is_at (nat_cmp pass.old.seat)) self.old.roll.seats
             ≡ Some pass.old.number }
-        requires none_replaced { NoneReplaced pass.old self.old.all.events whats.items }
-        requires last { pass.old.number + vec_len whats < NUMBERS_END }
+        requires none_replaced { NoneReplaced pass.old self.old.all.events whats }
+        requires last { pass.old.number + length whats < NUMBERS_END }
         ensures same { ShowsSame self.old self.new }
-        ensures kept { MatchResult result (IsAppended self.old self.new pass.old whats.items)
+        ensures kept { MatchResult result (IsAppended self.old self.new pass.old whats)
             (λ _. self.new.all ≡ self.old.all) }
-        ensures told { MatchResult result (Appends pass.old pass.new whats.items)
-            (λ refused. AppendRefused pass.old pass.new whats.items refused.0 refused.1.items) }
+        ensures told { MatchResult result (Appends pass.old pass.new whats)
+            (λ refused. AppendRefused pass.old pass.new whats refused.0 refused.1) }
     {
         if let Err(whats) = self.add(rt, log, pass, whats) {
             return Err((AppendFault::NoMemory, whats));

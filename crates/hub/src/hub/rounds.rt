@@ -16,7 +16,7 @@ use crate::naming::Naming;
 use crate::pass::Pass;
 use crate::press::Press;
 use crate::receipt::{Receipt, Ticket};
-use agg_types::What;
+use agg_types::Whats;
 use std::rt::Clock;
 use std::sync::{Condvar, CondvarTimeouts, Wait};
 use std::time::Duration;
@@ -99,12 +99,12 @@ impl<J: Naming, R: Wait + Drop> Hub<J, R> {
         &self,
         rt: &W,
         pass: &mut Pass,
-        whats: Vec<What>,
-    ) -> Result<Ticket, (AppendFault, Vec<What>)>
+        whats: Whats,
+    ) -> Result<Ticket, (AppendFault, Whats)>
         requires pass { pass.old.seen.of ≡ self.now.of }
-        requires fits { All (MayPost self.now.config) whats.items }
-        ensures { MatchResult result (Appends pass.old pass.new whats.items)
-            (λ refused. AppendRefused pass.old pass.new whats.items refused.0 refused.1.items) }
+        requires fits { All (MayPost self.now.config) whats }
+        ensures { MatchResult result (Appends pass.old pass.new whats)
+            (λ refused. AppendRefused pass.old pass.new whats refused.0 refused.1) }
     {
         if !self.catch_up(rt) {
             return Err((AppendFault::NoMemory, whats));

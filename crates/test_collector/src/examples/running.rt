@@ -51,7 +51,7 @@ fn post<J: Naming, H: Wait + Drop, W: Wait + Print>(
 ) -> Result<()> {
     let mut pass = hub.seat(rt).ok().context("no seat")?;
     let whats = alone(alloc, What::Open(0))?;
-    ensure!(hub.allows(whats.as_slice()), "it does not fit");
+    ensure!(hub.allows(&whats), "it does not fit");
     let Ok(receipt) = hub.post(rt, &mut pass, whats) else {
         return Err(anyhow!("refused"));
     };

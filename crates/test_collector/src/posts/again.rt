@@ -7,7 +7,7 @@ ghost use Rattle.std.specs.Prelude.{◌≡◌, IfOk, IfSome};
 
 use crate::posts::shown::seen;
 use crate::shared::{leave_once, post_once};
-use agg_types::What;
+use agg_types::{What, Whats};
 use anyhow::{Result, anyhow, ensure};
 use hub::{Hub, Lens, Naming, Pass, PostFault, Receipt};
 use std::alloc::Global;
@@ -20,13 +20,13 @@ pub fn post<J: Naming, H: Wait + Drop, W: Wait>(
     hub: &Hub<J, H>,
     pass: &mut Pass,
     lens: &mut Lens,
-    whats: Vec<What>,
+    whats: Whats,
 ) -> Result<Receipt>
     requires { pass.old.seen.of ≡ hub.now.of }
     ensures pass { IfOk result (λ r. (r.of ≡ hub.now.of) × (pass.new.seen.of ≡ hub.now.of)) }
     ensures lens { IfOk result (λ r. lens.new.seen.of ≡ lens.old.seen.of) }
 {
-    ensure!(hub.allows(whats.as_slice()), "it does not fit");
+    ensure!(hub.allows(&whats), "it does not fit");
     let before = seen(lens, pass.seat())?;
     let count = whats.len();
     match hub.post(rt, pass, whats) {
@@ -38,7 +38,7 @@ pub fn post<J: Naming, H: Wait + Drop, W: Wait>(
         }
         Err(PostFault::Pending) => {
             before.stands(lens)?;
-            post_once(rt, hub, pass, Vec::new(alloc))
+            post_once(rt, hub, pass, Whats::new(alloc))
         }
         Err(_) => Err(anyhow!("refused")),
     }

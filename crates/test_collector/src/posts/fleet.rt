@@ -1,7 +1,9 @@
 //! The fleet that is posted to, and what its proxies say, in few events that grow all that a book
 //! has.
 
-use agg_types::{Cell, Cells, Col, Cond, Filter, Items, Key, Name, NoMemory, Op, Select, What};
+use agg_types::{
+    Cell, Cells, Col, Cond, Filter, Items, Key, Name, NoMemory, Op, Select, What, Whats,
+};
 use anyhow::Result;
 use hub::Opening;
 use std::alloc::Global;
@@ -55,8 +57,8 @@ fn put(alloc: Global, peer: usize, key: &[u8]) -> Result<What, NoMemory> {
     })
 }
 
-fn rows(alloc: Global, peer: usize, keys: &[&[u8]]) -> Result<Vec<What>, NoMemory> {
-    let mut whats = Vec::new(alloc);
+fn rows(alloc: Global, peer: usize, keys: &[&[u8]]) -> Result<Whats, NoMemory> {
+    let mut whats = Whats::new(alloc);
     whats.push(What::Open(peer))?;
     for key in keys {
         whats.push(put(alloc, peer, key)?)?;
@@ -80,18 +82,18 @@ fn clear(alloc: Global) -> Result<What, NoMemory> {
 }
 
 impl Batch {
-    fn make(self, alloc: Global) -> Result<Vec<What>, NoMemory> {
+    fn make(self, alloc: Global) -> Result<Whats, NoMemory> {
         match self {
             Batch::Rows(peer, keys) => rows(alloc, peer, keys),
             Batch::Filter(name) => alone(alloc, filter(alloc, name)?),
             Batch::Moment(moment) => alone(alloc, What::Moment(moment)),
             Batch::Clear => alone(alloc, clear(alloc)?),
-            Batch::Nothing => Ok(Vec::new(alloc)),
+            Batch::Nothing => Ok(Whats::new(alloc)),
         }
     }
 
     /// Its events, made once more where an allocation failed.
-    pub fn made(self, alloc: Global) -> Result<Vec<What>, NoMemory> {
+    pub fn made(self, alloc: Global) -> Result<Whats, NoMemory> {
         match self.make(alloc) {
             Err(NoMemory) => self.make(alloc),
             made => made,

@@ -6,6 +6,7 @@ use crate::posts::again::{leave, post};
 use crate::posts::fleet::{Batch, opening};
 use crate::posts::shown::seen;
 use crate::shared::sit;
+use agg_types::Whats;
 use anyhow::{Context, Result};
 use hub::{Hub, Lens, Naming, Opening, Pass, Receipt};
 use std::alloc::Global;
@@ -100,7 +101,7 @@ fn go<J: Naming, H: Wait + Drop, W: Wait + Print>(
     let seat = first.seat();
     let receipt = match leave(rt, hub, first, lens)? {
         Some(receipt) => receipt,
-        None => post(rt, alloc, hub, second, lens, Vec::new(alloc))?,
+        None => post(rt, alloc, hub, second, lens, Whats::new(alloc))?,
     };
     show(rt, lens, &receipt, seat)
 }

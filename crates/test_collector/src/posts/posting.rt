@@ -5,7 +5,7 @@ ghost use Rattle.std.specs.Prelude.{◌≡◌};
 use crate::posts::replaced::replace;
 use crate::posts::seats::{fill, has_place};
 use crate::shared::{lens, post, seen, session, sit};
-use agg_types::What;
+use agg_types::{What, Whats};
 use anyhow::Result;
 use hub::{Hub, Lens, Naming, Opening};
 use std::alloc::Global;
@@ -42,7 +42,7 @@ fn look_on<J: Naming, H: Wait + Drop, W: Wait + Print>(
 }
 
 /// A peer speaks, and puts the first 1,000 addresses in turn, so often in all.
-fn long_batch(alloc: Global, peer: usize, puts: u32) -> Result<Vec<What>> {
+fn long_batch(alloc: Global, peer: usize, puts: u32) -> Result<Whats> {
     let mut whats = alone(alloc, What::Open(peer))?;
     for turn in 0..puts {
         whats.push(put(alloc, peer, turn % 1000, 1)?)?;
@@ -61,8 +61,29 @@ fn sizes<J: Naming, H: Wait + Drop, W: Wait + Print>(
         let receipt = post(rt, alloc, hub, &mut pass, long_batch(alloc, 0, puts)?)?;
         println!(rt; "a batch of {}: {} events in all", puts + 1, receipt.len())?;
     }
-    let receipt = post(rt, alloc, hub, &mut pass, Vec::new(alloc))?;
+    let receipt = post(rt, alloc, hub, &mut pass, Whats::new(alloc))?;
     println!(rt; "a batch of 0: {} events in all", receipt.len())?;
+    Ok(())
+}
+
+/// Whether a list comes back to a pass behind each of three posts. The first copy of the book takes
+/// a batch when it is posted, and the second one with the next batch.
+fn come_back<J: Naming, H: Wait + Drop, W: Wait + Print>(
+    rt: &W,
+    alloc: Global,
+    hub: &Hub<J, H>,
+) -> Result<()> {
+    let mut pass = sit(rt, hub)?;
+    for number in 1..4 {
+        post(rt, alloc, hub, &mut pass, long_batch(alloc, 0, number)?)?;
+        let list = pass.take_back();
+        println!(rt;
+            "behind post {number} a list comes back: {}",
+            list.is_some()
+        )?;
+    }
+    pass.forget();
+    println!(rt; "none is kept: {}", pass.take_back().is_none())?;
     Ok(())
 }
 
@@ -73,6 +94,7 @@ pub fn run_alone<J: Naming, R: Print + Wait>(rt: &R, alloc: Global, opening: Ope
     let hub = Hub::<J, &R>::new(alloc, rt, opening, 1)?;
     look_on(rt, alloc, &hub)?;
     sizes(rt, alloc, &hub)?;
+    come_back(rt, alloc, &hub)?;
     println!(rt; "seats: {}", fill(rt, &hub)?)?;
     println!(rt; "then: {}", fill(rt, &hub)?)?;
     Ok(())

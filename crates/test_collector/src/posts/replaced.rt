@@ -6,7 +6,7 @@ ghost use Rattle.hub.specs.Roll.{MayPost};
 ghost use Rattle.test_collector.specs.Seen.{IsSessionShown};
 
 use crate::shared::{batch, post, sit};
-use agg_types::What;
+use agg_types::{What, Whats};
 use anyhow::{Result, anyhow, ensure};
 use hub::{Hub, Lens, Naming, Pass, PostFault, Receipt};
 use std::alloc::Global;
@@ -32,12 +32,12 @@ fn post_late<J: Naming, H: Wait + Drop, W: Wait>(
     rt: &W,
     hub: &Hub<J, H>,
     pass: &mut Pass,
-    whats: Vec<What>,
+    whats: Whats,
 ) -> Result<(u64, Receipt)>
     requires { pass.old.seen.of ≡ hub.now.of }
     ensures { IfOk result (λ r. (r.1.of ≡ hub.now.of) × (pass.new.seen.of ≡ hub.now.of)) }
 {
-    if !hub.allows(whats.as_slice()) {
+    if !hub.allows(&whats) {
         return Err(anyhow!("it does not fit"));
     }
     match hub.post(rt, pass, whats) {
@@ -74,7 +74,7 @@ pub fn replace<J: Naming, H: Wait + Drop, W: Wait + Print>(
     let (by, shown) = post_late(rt, hub, &mut first, alone(alloc, put(alloc, 0, 0, 1)?)?)?;
     lens.learn(&shown);
     println!(rt; "replaced by {by}, in force {:?}", session_of(lens, 0)?)?;
-    post(rt, alloc, hub, &mut first, Vec::new(alloc))?;
+    post(rt, alloc, hub, &mut first, Whats::new(alloc))?;
     println!(rt; "an empty batch is taken")?;
     reopen(rt, alloc, hub, first, lens)
 }
@@ -91,7 +91,7 @@ fn reopen<J: Naming, H: Wait + Drop, W: Wait + Print>(
     requires lens { lens.old.seen.of ≡ hub.now.of }
 {
     let whats = batch(alloc, 0, 3)?;
-    ensure!(hub.allows(whats.as_slice()), "it does not fit");
+    ensure!(hub.allows(&whats), "it does not fit");
     let session = session_behind(rt, hub, &mut pass, lens, whats, 0)?;
     println!(rt; "opened anew: in force {session:?}")?;
     Ok(())
@@ -104,13 +104,13 @@ fn session_behind<J: Naming, H: Wait + Drop, W: Wait>(
     hub: &Hub<J, H>,
     pass: &mut Pass,
     lens: &mut Lens,
-    whats: Vec<What>,
+    whats: Whats,
     peer: usize,
 ) -> Result<Option<u64>>
     requires pass { pass.old.seen.of ≡ hub.now.of }
     requires lens { lens.old.seen.of ≡ hub.now.of }
-    requires fits { All (MayPost hub.now.config) whats.items }
-    ensures { IfOk result (IsSessionShown lens.old.seen pass.old whats.items peer) }
+    requires fits { All (MayPost hub.now.config) whats }
+    ensures { IfOk result (IsSessionShown lens.old.seen pass.old whats peer) }
 {
     let Ok(receipt) = hub.post(rt, pass, whats) else {
         return Err(anyhow!("refused"));

@@ -4,7 +4,7 @@ ghost use Rattle.std.specs.Prelude.{◌≡◌};
 
 use crate::shared::{lens, post, sit};
 use crate::web::answers::standing;
-use agg_types::{Cell, Cells, Key, NoMemory, What};
+use agg_types::{Cell, Cells, Key, NoMemory, What, Whats};
 use anyhow::{Result, anyhow};
 use http_server::{Config, Connection, serve};
 use hub::{Hub, Naming, Opening};
@@ -81,8 +81,8 @@ GET /api/v1/ranks/top?limit=1 HTTP/1.1\r\nHost: x\r\n\r\n\
 GET /healthz HTTP/1.1\r\nHost: x\r\nConnection: close\r\n\r\n";
 
 /// A session of the first peer puts counts of two addresses.
-fn batch(alloc: Global, counts: [u64; 2]) -> Result<Vec<What>> {
-    let mut whats = Vec::new(alloc);
+fn batch(alloc: Global, counts: [u64; 2]) -> Result<Whats> {
+    let mut whats = Whats::new(alloc);
     whats.push(What::Open(0))?;
     for (count, number) in [(counts[0], 7), (counts[1], 9)] {
         let key: Key = address(alloc, number)?;

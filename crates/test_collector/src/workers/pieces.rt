@@ -5,7 +5,7 @@ use crate::workers::cases::TOLD_AT_ONCE;
 use crate::workers::paper::{Paper, Pen};
 use crate::workers::peers::talk;
 use crate::workers::scene::whole;
-use agg_types::What;
+use agg_types::{What, Whats};
 use anyhow::Result;
 use hub::{Hub, Naming};
 use peers_msg::{Feed, Message};
@@ -29,7 +29,7 @@ const BROAD: Pen = Pen {
 };
 
 /// The other peer speaks, and puts the keys of the set.
-fn keys(alloc: Global) -> Result<Vec<What>> {
+fn keys(alloc: Global) -> Result<Whats> {
     let mut whats = alone(alloc, What::Open(1))?;
     for key in 0..KEYS {
         whats.push(put(alloc, 1, key, 6)?)?;

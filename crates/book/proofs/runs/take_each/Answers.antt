@@ -1,12 +1,13 @@
 use Rattle.std.proofs.Common.{rules, refl, sym, ap, subst, ◌∙◌, ◌≡◌, ◌+◌, ◌<◌, length, arith, ℕ}
 use Rattle.std.proofs.Common.{List}
+use Rattle.agg_types.specs.Whats.{as_what}
 use Rattle.agg_types.specs.declared.event.What.{What}
 use Rattle.fleet_model.specs.Machine.{session_of}
 use Rattle.fleet_model.specs.State.{State}
 use Rattle.book.specs.Flips.{TellsStepIfKnown}
 use Rattle.book.specs.Runs.{IsPartApplied, IsUpdateOf, counted_to, with_update}
 use Rattle.book.proofs.ToldRuns.{told_none, told_update}
-use Rattle.book.proofs.Updates.{left_next, part_none, turn_counted, update_more}
+use Rattle.book.proofs.Updates.{part_none, turn_counted, update_more}
 use Rattle.book.proofs.runs.take_each.Goals as goal
 
 pub updates-init : goal.updates-init
@@ -33,12 +34,12 @@ updates-preserved c =
     let place : ℕ = c.updates.place in
     let whats : List What = c.args.whats.now in
     let state : State = c.updates.machine in
-    let what : What = c.index-whats-place.result in
-    let there : c.updates.place < length c.args.whats.now = c.updates-test.true in
-    let update : IsUpdateOf c.updates.machine.config c.args.turn.peer c.index-whats-place.result =
+    let what : What = as_what c.at-what.result in
+    let there : c.updates.place < length c.args.whats.now = omega arith in
+    let update : IsUpdateOf c.updates.machine.config c.args.turn.peer (as_what c.at-what.result) =
     search rules in
     let turned : c.take_one.new.machine
-    ≡ with_update c.updates.machine c.args.turn.seat c.index-whats-place.result =
+    ≡ with_update c.updates.machine c.args.turn.seat (as_what c.at-what.result) =
     c.in-Ok.ensures.ok in
     record {
       onwards = let before = c.updates.invariant.onwards in omega arith;
@@ -52,12 +53,12 @@ updates-preserved c =
           (update_more turn.seat first c.args.from place turn.peer whats what c.args.machine.now
           state c.updates.invariant.book.sound update
           (let small = c.requires.small in omega arith) c.updates.invariant.applied
-          (left_next whats place what there c.index-whats-place.is));
+          c.at-what.ensures.left);
       flips = told_update turn.seat first c.args.from place turn.peer whats what c.args.machine.now
           state c.args.flips.now c.updates.flips c.take_one.new.flips
           c.updates.invariant.book.sound update (let small = c.requires.small in omega arith)
           c.updates.invariant.onwards there c.updates.invariant.applied
-          (left_next whats place what there c.index-whats-place.is) c.updates.invariant.flips
+          c.at-what.ensures.left c.updates.invariant.flips
           (subst (λ (s : State). TellsStepIfKnown state s c.updates.flips c.take_one.new.flips)
           turned c.in-Ok.ensures.flips);
     }

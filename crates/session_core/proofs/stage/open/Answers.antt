@@ -16,7 +16,7 @@ pub returns-clause-opened : goal.returns-clause-opened
 returns-clause-opened c =
     ap (λ (stage : Stage). with_stage c.in_ok-batch.field-0 stage) c.end_stage.ensures
     ∙ c.in_ok-batch.ensures.ok ∙ opened_is c.args.tables.now c.args.peer c.args.rest.now _ _ _ _
-    (c.in_ok-push.ensures.items ∙ ap (λ xs. xs ++ Open c.args.peer ∷ [])
-    c.new-facts.ensures.items) (c.in_ok-write_message.ensures.ok
+    (c.in_ok-push.ensures.ok ∙ ap (λ xs. xs ++ Open c.args.peer ∷ [])
+    c.new-facts.ensures) (c.in_ok-write_message.ensures.ok
     ∙ ap (λ xs. xs ++ message_spelling messages.Request) (c.in_ok-replies.ensures.items
     ∙ c.status_text.ensures)) c.new.ensures c.new-2.ensures

@@ -1,5 +1,6 @@
 use Rattle.std.proofs.Common.{◌≡◌, ◌∙◌, [], ◌∷◌, sym, ap, subst, length}
 use Rattle.agg_types.specs.declared.event.Event.{Event}
+use Rattle.agg_types.specs.Whats.{as_what}
 use Rattle.fleet_model.specs.Machine.{after, event_of}
 use Rattle.fleet_model.specs.Sound.{IsSound}
 use Rattle.fleet_model.specs.State.{State}
@@ -14,13 +15,13 @@ use Rattle.book.proofs.book.Book.apply_telling.Goals as goal
 pub invariant_of-self-2 : goal.invariant_of-self-2
 invariant_of-self-2 c =
     let state : State = c.self.inside.machine in
-    let e : Event = event_of c.args.seat c.args.seq c.args.what.now in
+    let e : Event = event_of c.args.seat c.args.seq (as_what c.args.what) in
     let turned : c.apply.new.self ≡ after state e = c.in_ok-applied.ensures.ok in
     record {
       sound = subst IsSound (sym turned)
           (c.states_are_sound.ensures.kept state e c.self.invariant.sound);
       held = c.follow-anew.ensures.held state c.self.invariant.sound
-          (subst (Follows c.args.what.now state) (sym turned)
+          (subst (Follows (as_what c.args.what) state) (sym turned)
           (follows state e c.self.invariant.sound))
           c.leaving-leaving.ensures c.self.invariant.held;
     }
@@ -28,14 +29,14 @@ invariant_of-self-2 c =
 pub returns-clause-quiet : goal.returns-clause-quiet
 returns-clause-quiet c = λ told.
     let state : State = c.self.inside.machine in
-    let e : Event = event_of c.args.seat c.args.seq c.args.what.now in
+    let e : Event = event_of c.args.seat c.args.seq (as_what c.args.what) in
     let turned : c.apply.new.self ≡ after state e = c.in_ok-applied.ensures.ok in
-    let quiet : IsQuietTo state c.args.what.now =
-    subst (λ (s : State). IsQuietTo s c.args.what.now) (sym c.self.view_is) told in
+    let quiet : IsQuietTo state (as_what c.args.what) =
+    subst (λ (s : State). IsQuietTo s (as_what c.args.what)) (sym c.self.view_is) told in
     c.follow-anew.ensures.calm state c.self.invariant.sound
-    (subst (Follows c.args.what.now state) (sym turned) (follows state e c.self.invariant.sound))
+    (subst (Follows (as_what c.args.what) state) (sym turned) (follows state e c.self.invariant.sound))
     c.self.invariant.held
-    (subst (λ (s : State). IsCalm state s c.args.what.now) (sym turned)
+    (subst (λ (s : State). IsCalm state s (as_what c.args.what)) (sym turned)
     (calm_after state e quiet))
     (λ none. c.keys_used-before.ensures none ∙ keys_stay state e quiet
     ∙ ap (λ (s : State). keys_in s.rows (length s.config.tables)) (sym turned))
@@ -43,22 +44,22 @@ returns-clause-quiet c = λ told.
 pub returns-clause-few : goal.returns-clause-few
 returns-clause-few c = λ kept.
     let state : State = c.self.inside.machine in
-    let e : Event = event_of c.args.seat c.args.seq c.args.what.now in
+    let e : Event = event_of c.args.seat c.args.seq (as_what c.args.what) in
     let turned : c.apply.new.self ≡ after state e = c.in_ok-applied.ensures.ok in
-    subst (λ (s : State). IsFewFor s c.apply.new.self c.args.what.now
+    subst (λ (s : State). IsFewFor s c.apply.new.self (as_what c.args.what)
     c.follow-anew.new.meter.evals) c.self.view_is
     (c.follow-anew.ensures.few state c.self.invariant.sound
-    (subst (Follows c.args.what.now state) (sym turned) (follows state e c.self.invariant.sound))
+    (subst (Follows (as_what c.args.what) state) (sym turned) (follows state e c.self.invariant.sound))
     c.self.invariant.held kept)
 
 pub returns-clause-flips : goal.returns-clause-flips
 returns-clause-flips c =
     let state : State = c.self.inside.machine in
-    let e : Event = event_of c.args.seat c.args.seq c.args.what.now in
+    let e : Event = event_of c.args.seat c.args.seq (as_what c.args.what) in
     let turned : c.apply.new.self ≡ after state e = c.in_ok-applied.ensures.ok in
     subst (λ (s : State). TellsAllIfKnown s (e ∷ []) c.args.flips.now c.follow-anew.new.flips)
     c.self.view_is
     (tells_one state c.apply.new.self e c.args.flips.now c.follow-anew.new.flips turned
     (c.follow-anew.ensures.flips state c.self.invariant.sound
-    (subst (Follows c.args.what.now state) (sym turned) (follows state e c.self.invariant.sound))
+    (subst (Follows (as_what c.args.what) state) (sym turned) (follows state e c.self.invariant.sound))
     c.self.invariant.held))

@@ -7,11 +7,11 @@ use Rattle.book.proofs.book.Book.step_run.Given as goal
 abbrev pub invariant-places : goal.invariant-places
 invariant-places l = record {
   onwards : l.fn.from ≤ l.done;
-  within : l.done ≤ length l.whats;
-  applied : IsPartApplied l.seat l.first l.whats l.fn.from l.done l.fn.self l.self;
-  flips : TellsAllIfKnown l.fn.self (part_of l.seat l.first l.whats l.fn.from l.done) l.fn.flips
+  within : l.done ≤ length l.posted;
+  applied : IsPartApplied l.seat l.first l.posted l.fn.from l.done l.fn.self l.self;
+  flips : TellsAllIfKnown l.fn.self (part_of l.seat l.first l.posted l.fn.from l.done) l.fn.flips
       l.flips;
 }
 
 abbrev pub decreases-places : goal.decreases-places
-decreases-places l = length l.whats - l.done
+decreases-places l = length l.posted - l.done

@@ -18,7 +18,7 @@ returns c = λ config opening past h.
     c.in_ok-flush.ensures.ok
     (rw (sym c.flush.ensures.links) at c.requires.open)
     (rw (ap (λ f. f.links) c.self.view_is) at c.close.ensures)
-    (c.at_seat-events.ensures ∙ rw (c.from_vec-none.ensures, c.new.ensures.items) refl)
+    (c.at_seat-events.ensures ∙ rw c.new-none.ensures refl)
     (rw (ap (λ f. f.book) c.self.view_is) at c.queue.ensures.handed)
     c.queue.ensures.links
     (c.queue.ensures.connected ∙ ap (λ f. f.connected) c.self.view_is)

@@ -1,6 +1,4 @@
-use Rattle.std.proofs.Common.{List, length, subst, ◌≤◌}
-use Rattle.agg_types.specs.declared.event.What.{What}
-use Rattle.book.specs.Runs.{IsPartApplied}
+use Rattle.std.proofs.Common.{subst}
 use Rattle.hub.specs.Batches.{Batched, IsApplied}
 use Rattle.hub.proofs.Trailing.{applied_part}
 use Rattle.hub.proofs.batch.Batch.apply.Goals as goal
@@ -14,11 +12,8 @@ returns-clause-applied c =
     let b : Batched = record {
       seat = c.self.inside.seat;
       first = c.self.inside.first;
-      whats = c.self.inside.whats.items;
+      whats = c.self.inside.whats;
     } in
-    let within = subst (λ (whats : List What). to ≤ length whats) c.as_slice-whats.ensures.value
-    c.step_run.ensures.within in
-    let applied = subst (λ (whats : List What). IsPartApplied b.seat b.first whats from to old new)
-    c.as_slice-whats.ensures.value c.step_run.ensures.applied in
     subst (λ (b : Batched). IsApplied b from to old new) c.self.view_is
-    (applied_part b from to old new c.step_run.ensures.onwards within applied)
+    (applied_part b from to old new c.step_run.ensures.onwards c.step_run.ensures.within
+    c.step_run.ensures.applied)

@@ -22,8 +22,8 @@ invariant_of-self-2 g c = (
 
 pub store-requires-clause-fits : goal.store-requires-clause-fits
 store-requires-clause-fits g c =
-    let fits : All (MayPost c.self.inside.front.config) c.args.whats.items = subst
-    (λ (kept : Kept). All (MayPost kept.all.config) c.args.whats.items) (sym c.self.view_is)
+    let fits : All (MayPost c.self.inside.front.config) c.args.whats = subst
+    (λ (kept : Kept). All (MayPost kept.all.config) c.args.whats) (sym c.self.view_is)
     c.requires.fits in
     subst (λ (b : Batched). All (MayPost c.self.inside.front.config) b.whats)
     (sym c.in_ok-run.ensures) fits

@@ -7,5 +7,5 @@ use Rattle.hub.proofs.hub.Hub.append.Goals as goal
 
 pub append-requires-clause-fits : goal.append-requires-clause-fits
 append-requires-clause-fits g c =
-    subst (λ (config : Config). All (MayPost config) c.args.whats.items)
+    subst (λ (config : Config). All (MayPost config) c.args.whats)
     (sym (ap (λ (b : Beginning). b.config) c.know.ensures.same)) c.requires.fits

@@ -5,6 +5,6 @@ use Rattle.hub.proofs.hub.Hub.refuse_late.Goals as goal
 pub returns : goal.returns
 returns g c = (
   refl,
-  subst (IsReplaced c.args.pass.now c.args.whats.items c.args.by) (sym c.in-Some.ensures)
+  subst (IsReplaced c.args.pass.now c.args.whats c.args.by) (sym c.in-Some.ensures)
       c.requires.replaced,
 )

@@ -10,7 +10,7 @@ returns-in_default-clause-told g c =
       written = before;
       beats = beats_none before;
       goes_on = λ whats told. posts_nowhere c.args.self.now.hub.now c.args.worker.now.poster whats
-          c.args.facts.items before c.in_default.is;
+          c.args.facts before c.in_default.is;
     }
 
 pub returns-then-is_empty-clause-told : goal.returns-then-is_empty-clause-told
@@ -19,8 +19,8 @@ returns-then-is_empty-clause-told g c =
       written = before;
       beats = beats_none before;
       goes_on = λ whats told. (
-        posts_empty c.args.self.now.hub.now c.in-Some.poster whats c.args.facts.items
-            (c.if-is_empty.ensures ∙ ap (λ n. n == 0) c.args.facts.ok.0)
+        posts_empty c.args.self.now.hub.now c.in-Some.poster whats c.args.facts
+            c.if-is_empty.ensures
             (subst (λ d. PosterTells c.args.self.now.hub.now d whats 0) c.in-Some.is told),
         refl,
       );
@@ -44,9 +44,9 @@ returns-clause-told g c =
     let then = c.in_ok-receipt.ensures in record {
       written = then.written;
       beats = then.beats;
-      goes_on = λ whats told. (
-        c.take_up.ensures.told c.args.self.now.hub.now whats c.args.facts.items
-            (waits_for c.args.self.now.hub.now c.append.new.self whats c.args.facts.items
+      goes_on = λ whats told. rw c.reuse.ensures (
+        c.take_up.ensures.told c.args.self.now.hub.now whats c.args.facts
+            (waits_for c.args.self.now.hub.now c.append.new.self whats c.args.facts
             c.in_ok-ticket.ticket c.in_ok-receipt.receipt then.goes_on.0
             (c.in_ok-ticket.ensures.appended whats
             (subst (λ d. PosterTells c.args.self.now.hub.now d whats 0) c.in-Some.is told))),

@@ -1,13 +1,13 @@
 use Rattle.std.proofs.Common.{◌≡◌, ℕ, ◌≤◌, []}
 use Rattle.hub.specs.History.{Beginning}
-use Rattle.serve.specs.declared.admin.Worker.{Worker}
+use Rattle.serve.specs.declared.admin.AdminWorker.{AdminWorker}
 use Rattle.serve.specs.declared.door.Door.{Door}
 use Rattle.serve.specs.Commanding.{KeepsPoster, Works}
 use Rattle.serve.specs.Traffic.{Traffic, so_far}
 use Rattle.serve.proofs.context.Context.run_admin.Given as goal
 
 -- the admin works on, and how often its source was read
-pub record Runs (door : Door) (hub : Beginning) (old worker : Worker) (start now : Traffic)
+pub record Runs (door : Door) (hub : Beginning) (old worker : AdminWorker) (start now : Traffic)
     (reads made failed0 failed : ℕ) : Type 0 where
   pub works : Works door hub old.poster.pass.seat worker [] start now
   pub keeps : KeepsPoster hub old worker

@@ -1,13 +1,13 @@
 use Rattle.std.proofs.Common.{ℕ, List, Option, length}
 use Rattle.hub.specs.History.{Beginning}
-use Rattle.serve.specs.declared.admin.Worker.{Worker}
+use Rattle.serve.specs.declared.admin.AdminWorker.{AdminWorker}
 use Rattle.serve.specs.declared.door.Door.{Door}
 use Rattle.serve.specs.Commanding.{KeepsPoster, Works}
 use Rattle.serve.specs.Traffic.{Traffic, so_far}
 use Rattle.serve.proofs.context.Context.take_lines.Given as goal
 
 -- the lines so far were obeyed, and these bytes of the piece are left
-pub record TakesSome (door : Door) (hub : Beginning) (old worker : Worker) (piece rest : List ℕ)
+pub record TakesSome (door : Door) (hub : Beginning) (old worker : AdminWorker) (piece rest : List ℕ)
     (before after : Option (List ℕ)) : Type 0 where
   pub keeps : KeepsPoster hub old worker
   pub works : (seat : ℕ) (start : Traffic) (given : Option (List ℕ))

@@ -24,15 +24,15 @@ returns-in-Ok-End-clause-works g c =
     works_same c.args.self.now.hub.now seated c.args.worker.now start before after
     (g.W.Write.contents c.args.link.now.writer) gives w
 
-pub returns-in_err-attend-in-Ok-Nothing-clause-works :
-    goal.returns-in_err-attend-in-Ok-Nothing-clause-works
-returns-in_err-attend-in-Ok-Nothing-clause-works g c =
+pub returns-in_err-stand_by-in-Ok-Nothing-clause-works :
+    goal.returns-in_err-stand_by-in-Ok-Nothing-clause-works
+returns-in_err-stand_by-in-Ok-Nothing-clause-works g c =
     λ seated start w.
     let before = g.S.Source.given c.args.link.now.source in
     let after = g.S.Source.given c.read.new.self in
     let gives = rw c.in-Ok-Nothing.field-0-is at c.in-Ok-Nothing.ensures.gives in
     let p = err_from_is_err_and c.from_residual.result c.from_residual.ensures.1 in
-    rw (p.1, p.2) (c.in_err-attend-in-Ok-Nothing.ensures.takes seated start
+    rw (p.1, p.2) (c.in_err-stand_by-in-Ok-Nothing.ensures.takes seated start
     before after gives w)
 
 pub returns-in_err-treat_piece-in-Ok-Bytes-clause-works :

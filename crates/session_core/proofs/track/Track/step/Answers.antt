@@ -11,4 +11,4 @@ pub returns-in-Define-clause-step : goal.returns-in-Define-clause-step
 unfolding step_of
 returns-in-Define-clause-step c =
     rw c.in-Define.is (if_ok c.take_up.result c.take_up.ensures.step
-    (λ heard holds. holds c.args.facts.now.items))
+    (λ heard holds. holds c.args.facts.now))

@@ -3,7 +3,7 @@ use Rattle.serve.proofs.Commanded.{change_may_post, looked}
 use Rattle.serve.proofs.Later.{follows_on}
 use Rattle.serve.specs.Commanding.{kept_of}
 use Rattle.serve.specs.Commands.{Replies}
-use Rattle.serve.proofs.admin.Worker.look.Goals as goal
+use Rattle.serve.proofs.admin.AdminWorker.look.Goals as goal
 
 pub returns-clause-fits : goal.returns-clause-fits
 returns-clause-fits g c =

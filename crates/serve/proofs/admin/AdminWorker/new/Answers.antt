@@ -1,7 +1,7 @@
 use Rattle.std.proofs.Common.{ap}
 use Rattle.hub.specs.Posts.{Seated}
 use Rattle.serve.proofs.Commanded.{learned_none}
-use Rattle.serve.proofs.admin.Worker.new.Goals as goal
+use Rattle.serve.proofs.admin.AdminWorker.new.Goals as goal
 
 pub returns-clause-learned : goal.returns-clause-learned
 returns-clause-learned c =

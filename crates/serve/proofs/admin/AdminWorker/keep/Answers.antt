@@ -1,6 +1,6 @@
 use Rattle.std.proofs.Common.{ℕ, List, Result, Ok, Err, OnOk, ◌≡◌, ◌++◌}
 use Rattle.serve.specs.Commanding.{kept_of}
-use Rattle.serve.proofs.admin.Worker.keep.Goals as goal
+use Rattle.serve.proofs.admin.AdminWorker.keep.Goals as goal
 
 kept : {A E : Type 0} (line more old new : List ℕ) (result : Result A E) → old ≡ kept_of line
     → OnOk result ((line : List ℕ) → old ≡ kept_of line → new ≡ kept_of (line ++ more))

@@ -1,0 +1,123 @@
+//! Events by their parts, as a caller has them or as a batch lends them.
+
+ghost use Rattle.std.specs.Prelude.{◌≡◌, ◌*◌, ◌≤◌, true, false, [], ◌∷◌, IfOk, IsOk, OnOk, OnErr};
+ghost use Rattle.agg_types.specs.Whats.{as_what};
+ghost use Rattle.agg_types.specs.declared.event.What.TheVariants.{Leave};
+ghost use Rattle.fleet_model.specs.Machine.{after, counts_now, event_of};
+ghost use Rattle.fleet_model.specs.Sound.{IsSound};
+ghost use Rattle.book.specs.Dropped.{is_dropped};
+ghost use Rattle.book.specs.Flips.{TellsAllIfKnown};
+ghost use Rattle.book.specs.Reads.{IsFewFor, IsQuietTo, MayRenew, pairs_from};
+
+use crate::book::{Book, Taken};
+use agg_types::{LentWhat, NoMemory, What};
+use crossing::Meter;
+use peer_rows::Spot;
+use standing_filters::Flips;
+
+impl Book {
+    /// Applies one event by its parts, as `step` does.
+    pub fn apply(&mut self, seat: u64, seq: u64, what: &What) -> Result<(), NoMemory>
+        ensures ok { OnOk result (self.new ≡ after self.old (event_of seat seq what.now)) }
+        ensures err { OnErr result (self.new ≡ self.old) }
+        ensures leaving { what.now ≡ Leave → IsOk result }
+        ensures uncounted { counts_now self.old (event_of seat seq what.now) ≡ false → IsOk result }
+        ensures sound { IsSound self.new }
+    {
+        self.apply_lent(seat, seq, LentWhat::of(what))
+    }
+
+    /// Applies one event that is lent, as `step` does.
+    pub fn apply_lent(&mut self, seat: u64, seq: u64, what: LentWhat<'_>) -> Result<(), NoMemory>
+        ensures ok { OnOk result
+            (self.new ≡ after self.old (event_of seat seq (as_what what.entry))) }
+        ensures err { OnErr result (self.new ≡ self.old) }
+        ensures leaving { as_what what.entry ≡ Leave → IsOk result }
+        ensures uncounted { counts_now self.old (event_of seat seq (as_what what.entry)) ≡ false
+            → IsOk result }
+        ensures sound { IsSound self.new }
+    {
+        let mut flips = Flips::unknown(self.machine.alloc);
+        self.apply_telling(seat, seq, what, None, &mut flips)?;
+        Ok(())
+    }
+
+    /// Applies one event by its parts, as `step_at` does.
+    pub fn apply_at(
+        &mut self,
+        seat: u64,
+        seq: u64,
+        what: &What,
+        hint: Option<Spot>,
+    ) -> Result<Taken, NoMemory>
+        ensures ok { OnOk result (self.new ≡ after self.old (event_of seat seq what.now)) }
+        ensures dropped { IfOk result (λ taken. taken.dropped
+            ≡ is_dropped self.old (event_of seat seq what.now)) }
+        ensures err { OnErr result (self.new ≡ self.old) }
+        ensures leaving { what.now ≡ Leave → IsOk result }
+        ensures uncounted { counts_now self.old (event_of seat seq what.now) ≡ false → IsOk result }
+        ensures quiet { IfOk result (λ taken. IsQuietTo self.old what.now
+            → (taken.read ≡ 0) × (taken.anew ≡ false)) }
+        ensures few { IfOk result (λ taken. taken.anew ≡ false
+            → IsFewFor self.old self.new what.now taken.read) }
+        ensures anew { IfOk result (λ taken. taken.anew ≡ true
+            → MayRenew what.now × (taken.read ≤ 505 * pairs_from self.new 0)) }
+        ensures sound { IsSound self.new }
+    {
+        let mut flips = Flips::unknown(self.machine.alloc);
+        self.apply_telling(seat, seq, LentWhat::of(what), hint, &mut flips)
+    }
+
+    /// Applies one event by its parts, as `step_at` does, and tells of the sets as `step_telling`
+    /// does.
+    pub(crate) fn apply_telling(
+        &mut self,
+        seat: u64,
+        seq: u64,
+        what: LentWhat<'_>,
+        hint: Option<Spot>,
+        flips: &mut Flips,
+    ) -> Result<Taken, NoMemory>
+        ensures ok { OnOk result
+            (self.new ≡ after self.old (event_of seat seq (as_what what.entry))) }
+        ensures dropped { IfOk result (λ taken. taken.dropped
+            ≡ is_dropped self.old (event_of seat seq (as_what what.entry))) }
+        ensures err { OnErr result (self.new ≡ self.old) }
+        ensures leaving { as_what what.entry ≡ Leave → IsOk result }
+        ensures uncounted { counts_now self.old (event_of seat seq (as_what what.entry)) ≡ false
+            → IsOk result }
+        ensures quiet { IfOk result (λ taken. IsQuietTo self.old (as_what what.entry)
+            → (taken.read ≡ 0) × (taken.anew ≡ false)) }
+        ensures few { IfOk result (λ taken. taken.anew ≡ false
+            → IsFewFor self.old self.new (as_what what.entry) taken.read) }
+        ensures anew { IfOk result (λ taken. taken.anew ≡ true
+            → MayRenew (as_what what.entry) × (taken.read ≤ 505 * pairs_from self.new 0)) }
+        ensures sound { IsSound self.new }
+        ensures flips { OnOk result (TellsAllIfKnown self.old
+            (event_of seat seq (as_what what.entry) ∷ []) flips.old flips.new) }
+        ensures flips_err { OnErr result (flips.new ≡ flips.old) }
+    {
+        fleet_model::laws::states_are_sound();
+        let before = self.verdicts.keys_used(&self.machine);
+        let leaving = self.machine.leaving(what);
+        let applied = self.machine.apply(seat, seq, what, hint)?;
+        let spot = applied.spot;
+        let mut meter = Meter::new();
+        let anew = self.verdicts.follow(
+            &self.machine,
+            what,
+            spot,
+            leaving,
+            before,
+            &mut meter,
+            flips,
+        );
+        self.drops.note(what, applied.dropped);
+        Ok(Taken {
+            spot,
+            dropped: applied.dropped,
+            read: meter.evals,
+            anew,
+        })
+    }
+}
