@@ -47,4 +47,5 @@ AreWithin len (entries.Other what ∷ entries) = AreWithin len entries
 -- an update's peer, table, words' place, number of cells and life fit an entry
 abbrev pub FitsEntry : ℕ → ℕ → ℕ → ℕ → Option ℕ → Type 0
 FitsEntry peer table start count life =
-    (peer < 2 ^ 32) × (table < 2 ^ 32) × (start < 2 ^ 32) × (count ≤ 32) × (life ≢ Some (2 ^ 64 - 1))
+    (peer < 2 ^ 32) × (table < 2 ^ 32) × (start < 2 ^ 32) × (count ≤ 32)
+    × (life ≢ Some (2 ^ 64 - 1))
