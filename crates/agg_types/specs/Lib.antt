@@ -7,6 +7,5 @@ pub mod Key
 pub mod Name
 pub mod Naming
 pub mod Op
-pub mod Packed
 pub mod RowKey
 pub mod Whats

@@ -1,31 +1,31 @@
 //! An event of a batch, as the batch keeps it.
-ghost use Rattle.std.specs.Prelude.{◌≡◌, ◌≢◌, ◌+◌, ◌-◌, ◌*◌, ◌^◌, ◌≤◌, [], ◌∷◌, ◌++◌, length};
+ghost use Rattle.std.specs.Prelude.{◌≡◌, ◌≢◌, ℕ, ◌+◌, ◌-◌, ◌^◌, ◌≤◌, List, [], ◌∷◌, ◌++◌};
+ghost use Rattle.std.specs.Prelude.{drop, length, take};
 ghost use Rattle.std.specs.Prelude.{IsTrue, Some, false};
-ghost use Rattle.std.specs.Vec.{vec_capacity, vec_len};
-ghost use Rattle.agg_types.specs.Packed.{words_of};
 ghost use Rattle.agg_types.specs.Whats.{AreWithin, FitsEntry, as_what, entry_what, life_of};
+ghost use Rattle.agg_types.specs.declared.event.Cell.{Cell as CellValue};
 ghost use Rattle.agg_types.specs.declared.event.What.TheVariants.{Put};
 
-use crate::lent_cells::from;
-use crate::pack::{MOST, pack};
-use crate::{Cells, Key, LentCells, LentWhat, What};
+use crate::{Cell, Key, LentWhat, What};
 use std::mem::size_of;
 
 /// The life that stands for none.
 const ENDLESS: u64 = u64::MAX;
 
-/// The largest position and the largest place of an update's words that fit an entry.
+/// The largest position and the largest place of an update's cells that fit an entry.
 const LARGEST: usize = u32::MAX as usize;
+
+/// The largest number of cells that fits one.
+const MOST: usize = u8::MAX as usize;
 
 /// An event of a batch.
 pub(crate) enum Entry {
-    /// A peer's row. Its cells lie among the batch's words, from a place on.
+    /// A peer's row. Its cells lie among the batch's, from a place on.
     Put {
         count: u8,
         table: u32,
         peer: u32,
         start: u32,
-        kinds: u32,
         key: Key,
         life: u64,
     },
@@ -33,7 +33,7 @@ pub(crate) enum Entry {
     Other(Box<What>),
 }
 
-const _: () = prove!(size_of::<Entry>() == 56);
+const _: () = prove!(size_of::<Entry>() == 48);
 
 // By hand, so that what drops it elsewhere proves nothing of its parts.
 impl Drop for Entry {
@@ -44,7 +44,6 @@ impl Drop for Entry {
                 table: _,
                 peer: _,
                 start: _,
-                kinds: _,
                 key: _,
                 life: _,
             } => {}
@@ -54,39 +53,36 @@ impl Drop for Entry {
 }
 
 impl Entry {
-    /// Writes an update's cells behind the words of a batch, and makes its entry.
+    /// The entry of an update whose cells, so many, are laid behind these.
     #[inline]
     pub(crate) fn put(
-        words: &mut Vec<u32>,
         peer: usize,
         table: usize,
         key: Key,
         life: Option<u64>,
-        cells: &Cells,
+        start: usize,
+        count: usize,
     ) -> Entry
-        requires fits { FitsEntry peer table (vec_len words.old) (length cells.now) life }
-        requires room { vec_len words.old + 4 * length cells.now ≤ vec_capacity words.old }
-        ensures words { words.new.items ≡ words.old.items ++ words_of cells.now }
-        ensures says { entry_what words.new.items result ≡ Put peer table key life cells.now }
-        ensures within { AreWithin (length words.new.items) (result ∷ []) }
+        requires fits { FitsEntry peer table start count life }
+        ensures says { (before cells : List CellValue) → start ≡ length before
+            → count ≡ length cells
+            → entry_what (before ++ cells) result ≡ Put peer table key life cells }
+        ensures within { (len : ℕ) → start + count ≤ len → AreWithin len (result ∷ []) }
     {
-        let start = words.len() as u32;
-        let kinds = pack(words, cells.as_slice());
         Entry::Put {
-            count: cells.len() as u8,
+            count: count as u8,
             table: table as u32,
             peer: peer as u32,
-            start,
-            kinds,
+            start: start as u32,
             key,
             life: life_word(life),
         }
     }
 
-    /// What the entry says over the batch's words.
+    /// What the entry says over the batch's cells.
     #[inline]
-    pub(crate) fn lend<'a>(&'a self, words: &'a [u32]) -> LentWhat<'a>
-        ensures { as_what result ≡ entry_what words.now self.now }
+    pub(crate) fn lend<'a>(&'a self, cells: &'a [Cell]) -> LentWhat<'a>
+        ensures { as_what result ≡ entry_what cells.now self.now }
     {
         match self {
             Entry::Put {
@@ -94,7 +90,6 @@ impl Entry {
                 table,
                 peer,
                 start,
-                kinds,
                 key,
                 life,
             } => LentWhat::Put {
@@ -102,14 +97,38 @@ impl Entry {
                 table: *table as usize,
                 key,
                 life: life_from(*life),
-                cells: LentCells::packed(*count, *kinds, from(words, *start as usize)),
+                cells: first(from(cells, *start as usize), *count as usize),
             },
             Entry::Other(what) => LentWhat::of(what),
         }
     }
 }
 
-/// Whether an update has such an entry, whose cells begin at this place of the words.
+// The cells from a place on.
+#[inline]
+fn from(cells: &[Cell], start: usize) -> &[Cell]
+    ensures { result.now ≡ drop start cells.now }
+{
+    if start <= cells.len() {
+        &cells[start..]
+    } else {
+        &[]
+    }
+}
+
+// The first so many cells, or all.
+#[inline]
+fn first(cells: &[Cell], count: usize) -> &[Cell]
+    ensures { result.now ≡ take count cells.now }
+{
+    if count <= cells.len() {
+        &cells[..count]
+    } else {
+        cells
+    }
+}
+
+/// Whether an update has such an entry, so many cells of which begin at this place.
 #[inline]
 pub(crate) fn fits(peer: usize, table: usize, start: usize, count: usize, life: Option<u64>) -> bool
     ensures { IsTrue result → FitsEntry peer table start count life }

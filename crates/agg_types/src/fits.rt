@@ -2,13 +2,11 @@ ghost use Rattle.std.specs.Prelude.{◌≡◌, ◌&&◌};
 ghost use Rattle.std.specs.List.{list_all};
 ghost use Rattle.agg_types.specs.Fits.{key_fits, cell_fits, cells_fit, stores, conds_fit};
 ghost use Rattle.agg_types.specs.Fits.{select_fits, at_table, life_fits, filter_fits, fits};
-ghost use Rattle.agg_types.specs.Whats.{as_cells, as_what};
+ghost use Rattle.agg_types.specs.Whats.{as_what};
 ghost use Rattle.agg_types.specs.declared.event.What.TheVariants.{Put};
 
 use crate::limits::{LAST_MOMENT, MOST_CONDS};
-use crate::{
-    Cell, Col, Cond, Config, Filter, Key, KeyKind, LentCells, LentWhat, Select, Shape, What,
-};
+use crate::{Cell, Col, Cond, Config, Filter, Key, KeyKind, LentWhat, Select, Shape, What};
 
 impl Config {
     /// Whether something may happen in this configuration: its positions are in range, its key has
@@ -52,7 +50,7 @@ impl Config {
                 key,
                 life,
                 cells,
-            } => self.put_fits(*peer, *table, key, *life, LentCells::of(cells)),
+            } => self.put_fits(*peer, *table, key, *life, cells.as_slice()),
             What::Clear { table, sel } => selection_fits(tables, *table, sel),
             What::AddFilter(filter) => filter_fits(tables, filter),
             What::DropFilter(_) => true,
@@ -68,9 +66,9 @@ impl Config {
         table: usize,
         key: &Key,
         life: Option<u64>,
-        cells: LentCells<'_>,
+        cells: &[Cell],
     ) -> bool
-        ensures { result ≡ fits self.now (Put peer table key.now life (as_cells cells.entry)) }
+        ensures { result ≡ fits self.now (Put peer table key.now life cells.now) }
     {
         peer < self.peers.len()
             && life_fits(life)
@@ -117,9 +115,9 @@ fn life_fits(life: Option<u64>) -> bool
     }
 }
 
-fn row_fits(tables: &[Shape], table: usize, key: &Key, cells: LentCells<'_>) -> bool
+fn row_fits(tables: &[Shape], table: usize, key: &Key, cells: &[Cell]) -> bool
     ensures { result ≡ at_table tables.now table
-        (λ shape. key_fits shape.kind key.now && cells_fit shape.cols (as_cells cells.entry)) }
+        (λ shape. key_fits shape.kind key.now && cells_fit shape.cols cells.now) }
 {
     match tables.get(table) {
         None => false,
@@ -129,14 +127,14 @@ fn row_fits(tables: &[Shape], table: usize, key: &Key, cells: LentCells<'_>) -> 
     }
 }
 
-fn cells_fit(cols: &[(Col, u32)], cells: LentCells<'_>) -> bool
-    ensures { result ≡ cells_fit cols.now (as_cells cells.entry) }
+fn cells_fit(cols: &[(Col, u32)], cells: &[Cell]) -> bool
+    ensures { result ≡ cells_fit cols.now cells.now }
 {
     match cols {
         [] => cells.is_empty(),
-        [col, cols @ ..] => match cells.split_first() {
-            None => false,
-            Some((cell, cells)) => cell_fits(col.0, cell) && cells_fit(cols, cells),
+        [col, cols @ ..] => match cells {
+            [] => false,
+            [cell, cells @ ..] => cell_fits(col.0, *cell) && cells_fit(cols, cells),
         },
     }
 }

@@ -2,7 +2,7 @@
 ghost use Rattle.std.specs.Prelude.{◌≡◌};
 ghost use Rattle.agg_types.specs.Whats.{as_what};
 
-use crate::{Key, LentCells, What};
+use crate::{Cell, Key, What};
 
 /// What happened, as a batch lends it: the `What` of the same name, or any other.
 #[derive(Clone, Copy, Debug)]
@@ -13,7 +13,7 @@ pub enum LentWhat<'a> {
         table: usize,
         key: &'a Key,
         life: Option<u64>,
-        cells: LentCells<'a>,
+        cells: &'a [Cell],
     },
     /// What lies in the batch as it is.
     Other(&'a What),
@@ -37,7 +37,7 @@ impl<'a> LentWhat<'a> {
                 table: *table,
                 key,
                 life: *life,
-                cells: LentCells::of(cells),
+                cells: cells.as_slice(),
             },
             _ => LentWhat::Other(what),
         }

@@ -22,12 +22,10 @@ mod fits;
 mod items;
 mod key;
 pub mod laws;
-mod lent_cells;
 mod lent_what;
 pub mod limits;
 mod name;
 mod no_memory;
-mod pack;
 mod row_key;
 mod short_key;
 mod whats;
@@ -40,7 +38,6 @@ pub use declared::{Declared, Named};
 pub use event::{Cell, Event, Select, What};
 pub use items::Items;
 pub use key::Key;
-pub use lent_cells::LentCells;
 pub use lent_what::LentWhat;
 pub use limits::{
     LAST_MOMENT, LAST_SEAT, MOST_CONDS, MOST_FILTERS, MOST_PEERS, MOST_PUSHES, MOST_RANKS,

@@ -6,28 +6,27 @@ ghost use Rattle.agg_types.specs.declared.event.What.TheVariants.{Put};
 ghost use Rattle.agg_types.specs.Whats.{as_what};
 
 use crate::entry::{Entry, fits};
-use crate::pack::WIDEST;
-use crate::{Cells, Key, LentWhat, NoMemory, What};
+use crate::{Cell, Cells, Key, LentWhat, NoMemory, What};
 use std::alloc::Global;
 use std::fmt;
 use std::marker::Model;
 
-/// For how many words of an update `reserve` takes room.
-const EACH: usize = 8;
+/// For how many cells of an update `reserve` takes room.
+const EACH: usize = 3;
 
-/// For how many words it takes room at once, at most.
-const AT_ONCE: usize = 1 << 20;
+/// For how many cells it takes room at once, at most.
+const AT_ONCE: usize = 1 << 12;
 
 /// What happens at a seat, one event after the other. Contracts see the list of its `What`s.
 ///
 /// A session makes it of a piece of the stream, a hub adds it to the history as one, and both
 /// copies of a book take it.
 ///
-/// An update takes no memory of its own: its cells lie in words that all updates share.
+/// An update takes no memory of its own: its cells lie in a block that all updates share.
 pub struct Whats {
     entries: Vec<Entry>,
-    /// The cells of the updates.
-    words: Vec<u32>,
+    /// Those of the updates, one update's behind another's.
+    cells: Vec<Cell>,
 }
 
 // By hand, so that what drops it elsewhere proves nothing of its parts.
@@ -35,7 +34,7 @@ impl Drop for Whats {
     fn drop(self) {
         let Whats {
             entries: _,
-            words: _,
+            cells: _,
         } = self;
     }
 }
@@ -49,9 +48,9 @@ impl Model for Whats {
     ghost use Rattle.std.specs.Prelude.{length, map};
     ghost use Rattle.agg_types.specs.Whats.{AreWithin, entry_what};
 
-    ghost view = { λ whats. map (entry_what whats.words.items) whats.entries.items };
+    ghost view = { λ whats. map (entry_what whats.cells.items) whats.entries.items };
 
-    ghost invariant = { λ whats. AreWithin (length whats.words.items) whats.entries.items };
+    ghost invariant = { λ whats. AreWithin (length whats.cells.items) whats.entries.items };
 }
 
 impl Whats {
@@ -61,7 +60,7 @@ impl Whats {
     {
         Whats {
             entries: Vec::new(alloc),
-            words: Vec::new(alloc),
+            cells: Vec::new(alloc),
         }
     }
 
@@ -104,7 +103,7 @@ impl Whats {
             self.entries
                 .as_slice()
                 .get(place)?
-                .lend(self.words.as_slice()),
+                .lend(self.cells.as_slice()),
         )
     }
 
@@ -115,7 +114,7 @@ impl Whats {
         ensures get { slice_get self.now place ≡ Some (as_what result) }
         ensures left { drop place self.now ≡ as_what result ∷ drop (place + 1) self.now }
     {
-        self.entries[place].lend(self.words.as_slice())
+        self.entries[place].lend(self.cells.as_slice())
     }
 
     /// Takes room for so many updates more at once.
@@ -123,7 +122,7 @@ impl Whats {
         ensures { self.new ≡ self.old }
     {
         self.entries.reserve(count)?;
-        Ok(self.words.reserve(count.saturating_mul(EACH).min(AT_ONCE))?)
+        Ok(self.cells.reserve(count.saturating_mul(EACH).min(AT_ONCE))?)
     }
 
     /// Adds what happened behind the others. After NoMemory the list is as it was.
@@ -145,14 +144,15 @@ impl Whats {
         table: usize,
         key: Key,
         life: Option<u64>,
-        cells: Cells,
+        cells: &[Cell],
     ) -> Result<(), NoMemory>
         ensures ok { OnOk result
-            (self.new ≡ self.old ++ Put peer table key life cells ∷ []) }
+            (self.new ≡ self.old ++ Put peer table key life cells.now ∷ []) }
         ensures err { OnErr result (self.new ≡ self.old) }
     {
-        let start = self.words.len();
+        let start = self.cells.len();
         if !fits(peer, table, start, cells.len(), life) {
+            let cells = Cells::copy(self.alloc(), cells)?;
             return self.push(What::Put {
                 peer,
                 table,
@@ -162,8 +162,8 @@ impl Whats {
             });
         }
         self.entries.reserve(1)?;
-        self.words.reserve(WIDEST * cells.len())?;
-        let entry = Entry::put(&mut self.words, peer, table, key, life, &cells);
+        self.cells.extend_from_slice(cells)?;
+        let entry = Entry::put(peer, table, key, life, start, cells.len());
         self.entries.push_reserved(entry);
         Ok(())
     }
@@ -173,7 +173,7 @@ impl Whats {
         ensures { self.new ≡ [] }
     {
         self.entries.clear();
-        self.words.clear();
+        self.cells.clear();
     }
 }
 

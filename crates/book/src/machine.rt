@@ -2,7 +2,6 @@
 
 ghost use Rattle.std.specs.Prelude.{◌≡◌, ◌<◌, ◌≤◌, ◌&&◌, ◌==◌, length};
 ghost use Rattle.std.specs.Prelude.{not, if◌then◌else◌, false, filter, IfOk, OnOk, OnErr};
-ghost use Rattle.agg_types.specs.Whats.{as_cells};
 ghost use Rattle.agg_types.specs.declared.limits.TheConstants.{LAST_MOMENT};
 ghost use Rattle.fleet_model.specs.Answers.{filter_of};
 ghost use Rattle.fleet_model.specs.Keys.{key_rows, sum_of};
@@ -22,7 +21,7 @@ use crate::leaders::put_led;
 use crate::listing::{BookRows, meeting};
 use crate::queries;
 use crate::store::{Size, Store};
-use agg_types::{Cond, Config, Filter, Key, LentCells, NoMemory, Select};
+use agg_types::{Cell, Cond, Config, Filter, Key, NoMemory, Select};
 use book_frame::seats::{Seats, Sessions, is_number};
 use book_frame::standing::{cols_of, filter_at};
 use fleet_model::Summed;
@@ -257,7 +256,7 @@ pub(crate) fn put(
     t: u64,
     at: At<'_>,
     life: Option<u64>,
-    cells: LentCells<'_>,
+    cells: &[Cell],
 ) -> Result<Applied, NoMemory>
     requires in_range { t ≤ LAST_MOMENT }
     requires inside { IsInside rows.old.peers rows.old.tables (place_at at) }
@@ -267,7 +266,7 @@ pub(crate) fn put(
       rows = if is_number session seat
           && has_room config.now.tables rows.old.rows (place_at at.entry)
           then with_row t rows.old.rows (place_at at.entry)
-          (arrival_of config.now.tables at.entry.table t life (as_cells cells.entry))
+          (arrival_of config.now.tables at.entry.table t life cells.now)
           else rows.old.rows;
     }) }
     ensures dropped { IfOk result (λ applied. applied.dropped ≡ (is_number session seat

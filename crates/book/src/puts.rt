@@ -5,7 +5,6 @@ ghost use Rattle.std.specs.Prelude.{IfOk, OnOk, OnErr};
 ghost use Rattle.std.specs.BTreeMap.{insert_entry, is_at};
 ghost use Rattle.std.specs.Map.{remove_entry};
 ghost use Rattle.agg_types.specs.RowKey.{row_key_cmp};
-ghost use Rattle.agg_types.specs.Whats.{as_cells};
 ghost use Rattle.agg_types.specs.declared.limits.TheConstants.{LAST_MOMENT};
 ghost use Rattle.fleet_model.specs.Normalized.{normalized_cell, normalized_cells};
 ghost use Rattle.peer_rows.specs.Rows.{without_key, without_table};
@@ -15,7 +14,7 @@ ghost use Rattle.book.specs.Store.{put_arrival};
 
 use crate::at::At;
 use crate::store::Size;
-use agg_types::{Cell, Col, Key, LentCells, NoMemory};
+use agg_types::{Cell, Col, Key, NoMemory};
 use peer_rows::{Held, Row, RowCells, RowEnd, Rows, Spot};
 use period_rate::Rate;
 use std::alloc::Global;
@@ -27,12 +26,12 @@ pub fn new_row(
     t: u64,
     life: Option<u64>,
     cols: &[(Col, u32)],
-    cells: LentCells<'_>,
+    cells: &[Cell],
 ) -> Result<Row, NoMemory>
     requires in_range { t ≤ LAST_MOMENT }
     requires short { IsShort life }
     ensures { IfOk result
-        (λ row. as_arrival row ≡ put_arrival t life cols.now (as_cells cells.entry)) }
+        (λ row. as_arrival row ≡ put_arrival t life cols.now cells.now) }
 {
     let mut held = RowCells::with_capacity(alloc, cells.len())?;
     hold(&mut held, t, cols, cells)?;
@@ -47,22 +46,17 @@ pub fn new_row(
 }
 
 // Puts cells that arrive at a moment behind others.
-fn hold(
-    held: &mut RowCells,
-    t: u64,
-    cols: &[(Col, u32)],
-    cells: LentCells<'_>,
-) -> Result<(), NoMemory>
+fn hold(held: &mut RowCells, t: u64, cols: &[(Col, u32)], cells: &[Cell]) -> Result<(), NoMemory>
     requires { t ≤ LAST_MOMENT }
     ensures { OnOk result (map (cell_of t) held.new
-        ≡ map (cell_of t) held.old ++ normalized_cells cols.now (as_cells cells.entry)) }
+        ≡ map (cell_of t) held.old ++ normalized_cells cols.now cells.now) }
 {
     match cols {
         [] => Ok(()),
-        [col, cols @ ..] => match cells.split_first() {
-            None => Ok(()),
-            Some((cell, cells)) => {
-                held.push(hold_cell(t, col.1, cell))?;
+        [col, cols @ ..] => match cells {
+            [] => Ok(()),
+            [cell, cells @ ..] => {
+                held.push(hold_cell(t, col.1, *cell))?;
                 hold(held, t, cols, cells)
             }
         },

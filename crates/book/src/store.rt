@@ -3,7 +3,6 @@
 ghost use Rattle.std.specs.Prelude.{◌≡◌, ◌<◌, ◌≤◌, ℕ, List, [], Option, ◌==◌, ◌&&◌, not};
 ghost use Rattle.std.specs.Prelude.{length, map, filter, MatchOption, IfSome, IfOk, OnOk};
 ghost use Rattle.std.specs.Prelude.{OnErr, unwrap_or};
-ghost use Rattle.agg_types.specs.Whats.{as_cells};
 ghost use Rattle.agg_types.specs.declared.column.Col.{Col as ColName};
 ghost use Rattle.agg_types.specs.declared.event.Cell.{Cell as CellValue};
 ghost use Rattle.agg_types.specs.declared.limits.TheConstants.{LAST_MOMENT};
@@ -20,7 +19,7 @@ ghost use Rattle.book.specs.Store.{AreRowsOf, IsEachKeyOf, IsWalk, put_arrival, 
 use crate::at::At;
 use crate::puts::{drop_key, drop_row, drop_table, new_row, set_row};
 use crate::values::{arriving_worth, found_bound};
-use agg_types::{Col, Key, LentCells, NoMemory, Shape};
+use agg_types::{Cell, Col, Key, NoMemory, Shape};
 use peer_rows::{ByKey, EachKey, OfKey, Rows, Spot, Trace};
 use std::alloc::Global;
 use std::marker::Model;
@@ -160,14 +159,14 @@ impl Store {
         at: At<'_>,
         life: Option<u64>,
         cols: &[(Col, u32)],
-        cells: LentCells<'_>,
+        cells: &[Cell],
     ) -> Result<Option<Spot>, NoMemory>
         requires in_range { t ≤ LAST_MOMENT }
         requires inside { IsInside self.old.peers self.old.tables (place_at at) }
         requires short { IsShort life }
         ensures ok { OnOk result (self.new ≡ record self.old {
           rows = with_row t self.old.rows (place_at at.entry)
-              (put_arrival t life cols.now (as_cells cells.entry));
+              (put_arrival t life cols.now cells.now);
         }) }
         ensures err { OnErr result (self.new ≡ self.old) }
     {
@@ -273,14 +272,14 @@ impl Store {
         col: Col,
         t: u64,
         at: At<'_>,
-        cells: LentCells<'_>,
+        cells: &[Cell],
     ) -> u128
         requires { AreInOrder self.now.rows }
         ensures before { worth_of cols.now
             (key_rows self.now.rows at.entry.table at.entry.key.now) col t ≤ result }
         ensures after { (life : Option ℕ) → worth_of cols.now
             (key_rows (with_row t self.now.rows (place_at at.entry)
-            (put_arrival t life cols.now (as_cells cells.entry))) at.entry.table at.entry.key.now)
+            (put_arrival t life cols.now cells.now)) at.entry.table at.entry.key.now)
             col t ≤ result }
     {
         let found = self.of_key_at(at.spot, at.table, at.key);

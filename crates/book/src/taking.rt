@@ -2,7 +2,7 @@
 
 ghost use Rattle.std.specs.Prelude.{◌≡◌, ◌&&◌, false, IsTrue, IfOk, IsOk};
 ghost use Rattle.std.specs.Prelude.{OnErr, OnOk, nat_lt};
-ghost use Rattle.agg_types.specs.Whats.{as_cells, as_what};
+ghost use Rattle.agg_types.specs.Whats.{as_what};
 ghost use Rattle.agg_types.specs.declared.event.What.TheVariants.{Leave};
 ghost use Rattle.agg_types.specs.declared.limits.TheConstants.{NUMBERS_END};
 ghost use Rattle.fleet_model.specs.Machine.{after, counts_now, event_of, happened, number_of};
@@ -18,7 +18,7 @@ ghost use Rattle.book.specs.Verdicts.{IsLeaving};
 use crate::at::At;
 use crate::leaders::go_on;
 use crate::machine::{Applied, Machine, clear, put};
-use agg_types::{LentCells, LentWhat, NUMBERS_END, NoMemory, What};
+use agg_types::{Cell, LentWhat, NUMBERS_END, NoMemory, What};
 use book_frame::seats;
 use book_frame::seats::{count_up, end_sessions, is_number, open_session, sit_down, stand_up};
 use book_frame::standing::{add_filter, added_at, drop_filter};
@@ -139,14 +139,14 @@ impl Machine {
         seat: u64,
         at: At<'_>,
         life: Option<u64>,
-        cells: LentCells<'_>,
+        cells: &[Cell],
     ) -> Result<Applied, NoMemory>
         requires session { session ≡ session_of self.old at.peer }
         requires placed { IsPlaced self.old.config at.peer at.table life }
         ensures ok { OnOk result
-            (self.new ≡ with_update self.old seat (put_at at.entry life (as_cells cells.entry))) }
+            (self.new ≡ with_update self.old seat (put_at at.entry life cells.now)) }
         ensures dropped { IfOk result (λ applied. applied.dropped
-            ≡ lacks_room self.old seat (put_at at.entry life (as_cells cells.entry))) }
+            ≡ lacks_room self.old seat (put_at at.entry life cells.now)) }
         ensures err { OnErr result (self.new ≡ self.old) }
     {
         put(
@@ -170,15 +170,15 @@ impl Machine {
         seq: u64,
         at: At<'_>,
         life: Option<u64>,
-        cells: LentCells<'_>,
+        cells: &[Cell],
     ) -> Result<Applied, NoMemory>
         requires sits { HasDueNumber seq (number_of self.old seat) }
         requires placed { IsPlaced self.old.config at.peer at.table life }
         ensures ok { OnOk result (self.new ≡ happened self.old
-            (event_of seat seq (put_at at.entry life (as_cells cells.entry)))
-            (put_at at.entry life (as_cells cells.entry))) }
+            (event_of seat seq (put_at at.entry life cells.now))
+            (put_at at.entry life cells.now)) }
         ensures dropped { IfOk result (λ applied. applied.dropped
-            ≡ lacks_room self.old seat (put_at at.entry life (as_cells cells.entry))) }
+            ≡ lacks_room self.old seat (put_at at.entry life cells.now)) }
         ensures err { OnErr result (self.new ≡ self.old) }
     {
         let session = seats::session_of(&self.sessions, at.peer);
@@ -229,7 +229,7 @@ impl Machine {
                     peer: *peer,
                     spot: self.spot_for(hint, *table, key),
                 };
-                self.apply_put(seat, seq, at, *life, LentCells::of(cells))
+                self.apply_put(seat, seq, at, *life, cells.as_slice())
             }
             What::Clear { table, sel } => {
                 clear(

@@ -5,7 +5,6 @@ ghost use Rattle.std.specs.Prelude.{IfSome};
 ghost use Rattle.std.specs.List.{list_all, position, position_or_len};
 ghost use Rattle.agg_types.specs.Col.{same_col};
 ghost use Rattle.agg_types.specs.Op.{op_holds};
-ghost use Rattle.agg_types.specs.Whats.{as_cells};
 ghost use Rattle.agg_types.specs.declared.column.Col.{Col as ColName};
 ghost use Rattle.fleet_model.specs.Keys.{Rows, key_rows, row_worth, worth_of};
 ghost use Rattle.fleet_model.specs.Values.{cell_worth, column_worth, meets, value};
@@ -15,7 +14,7 @@ ghost use Rattle.book.specs.Store.{AreFound};
 
 use crate::row::is_live;
 use crate::store::Store;
-use agg_types::{Cell, Col, Cond, Key, LentCells};
+use agg_types::{Cell, Col, Cond, Key};
 use peer_rows::{Held, OfKey, Row};
 use period_rate::Rate;
 
@@ -58,16 +57,16 @@ pub fn found_in(cols: &[(Col, u32)], col: Col) -> Option<(usize, u32)>
 }
 
 /// What the cell of a column is worth as it arrives.
-pub fn arriving_worth(col: Col, cols: &[(Col, u32)], cells: LentCells<'_>) -> u64
-    ensures { result ≡ column_worth col 0 cols.now (as_cells cells.entry) }
+pub fn arriving_worth(col: Col, cols: &[(Col, u32)], cells: &[Cell]) -> u64
+    ensures { result ≡ column_worth col 0 cols.now cells.now }
 {
     match cols {
         [] => 0,
-        [stored, cols @ ..] => match cells.split_first() {
-            None => 0,
-            Some((cell, cells)) => {
+        [stored, cols @ ..] => match cells {
+            [] => 0,
+            [cell, cells @ ..] => {
                 if stored.0.id() == col.id() {
-                    arriving_cell(stored.1, cell)
+                    arriving_cell(stored.1, *cell)
                 } else {
                     arriving_worth(col, cols, cells)
                 }

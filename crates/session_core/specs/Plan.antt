@@ -67,6 +67,11 @@ abbrev pub AreCells : Bool → List Cell → Option (List Cell) → Type 0
 AreCells whole cells None = whole ≡ false
 AreCells whole cells (Some those) = (whole ≡ true) × (cells ≡ those)
 
+-- the cells of the update that was read last along a plan
+abbrev pub cells_read : Option DecodePlan → List Cell
+cells_read None = []
+cells_read (Some plan) = plan.cells.items
+
 -- the plan has room for the integers of these data types, and knows where each column's are
 abbrev pub IsPlan : ℕ → List ℕ → List (Col × ℕ) → DecodePlan → Type 0
 IsPlan bits periods cols plan =

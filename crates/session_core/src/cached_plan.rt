@@ -7,7 +7,7 @@ ghost use Rattle.session_core.specs.Plan.{AreCells, cell_from, numbers_at, IsPla
 use crate::plan::DecodePlan;
 use crate::track::Followed;
 use crate::values::TYPES;
-use agg_types::{Cells, Col, Items, NoMemory};
+use agg_types::{Cell, Col, Items, NoMemory};
 use std::alloc::Global;
 use std::marker::Model;
 
@@ -74,23 +74,24 @@ impl CachedPlan {
         self.made.is_of(bits, periods, cols)
     }
 
-    /// Puts the cells of an update's values where there were none; false where one is cut or too
-    /// large.
+    /// Reads the cells of an update's values; false where one is cut or too large.
     #[inline]
-    pub(crate) fn read(
-        &mut self,
-        alloc: Global,
-        bytes: &[u8],
-        cells: &mut Cells,
-    ) -> Result<bool, NoMemory>
-        requires { cells.old ≡ [] }
-        ensures cells { IfOk result (λ whole. AreCells whole cells.new
+    pub(crate) fn read(&mut self, bytes: &[u8]) -> Result<bool, NoMemory>
+        ensures cells { IfOk result (λ whole. AreCells whole self.new.cells.items
             (option_map (λ numbers. map (cell_from numbers) self.old.sources.items)
             (numbers_at (vec_len self.old.numbers) bytes.now))) }
         ensures width { vec_len self.new.numbers ≡ vec_len self.old.numbers }
         ensures sources { self.new.sources ≡ self.old.sources }
     {
-        self.made.read(alloc, bytes, cells)
+        self.made.read(bytes)
+    }
+
+    /// The cells of the update that was read last.
+    #[inline]
+    pub(crate) fn cells(&self) -> &[Cell]
+        ensures { result.now ≡ self.now.cells.items }
+    {
+        self.made.cells()
     }
 }
 
@@ -104,15 +105,21 @@ impl Made {
     }
 
     #[inline]
-    fn read(&mut self, alloc: Global, bytes: &[u8], cells: &mut Cells) -> Result<bool, NoMemory>
-        requires { cells.old ≡ [] }
-        ensures cells { IfOk result (λ whole. AreCells whole cells.new
+    fn read(&mut self, bytes: &[u8]) -> Result<bool, NoMemory>
+        ensures cells { IfOk result (λ whole. AreCells whole self.new.cells.items
             (option_map (λ numbers. map (cell_from numbers) self.old.sources.items)
             (numbers_at (vec_len self.old.numbers) bytes.now))) }
         ensures width { vec_len self.new.numbers ≡ vec_len self.old.numbers }
         ensures sources { self.new.sources ≡ self.old.sources }
     {
-        self.plan.read(alloc, bytes, cells)
+        self.plan.read(bytes)
+    }
+
+    #[inline]
+    fn cells(&self) -> &[Cell]
+        ensures { result.now ≡ self.now.cells.items }
+    {
+        self.plan.cells.as_slice()
     }
 }
 

@@ -8,12 +8,8 @@ ghost use Rattle.session_core.specs.Plan.{width_of, widths, numbers_at, source_o
 ghost use Rattle.session_core.specs.Plan.{rate_in, cell_from, AreCells, IsPlan};
 
 use crate::values::{TYPES, elapsed_of, has_type, is_rate_type, low_word, number_at};
-use agg_types::{Cell, Cells, Col, NoMemory};
+use agg_types::{Cell, Col, NoMemory};
 use std::alloc::Global;
-
-/// So many cells are put one by one into the list that takes no memory for them; more are read into
-/// kept room and copied out in one block.
-const FEW: usize = 4;
 
 /// Where a column's integers are among those of an update. Three kinds are distinguished by
 /// branches, which are foreseen; four took a table of jumps, and a third of the time of a long row.
@@ -34,7 +30,7 @@ pub(crate) struct DecodePlan {
     pub(crate) numbers: Vec<u64>,
     /// Where each column's integers are among them.
     pub(crate) sources: Vec<Source>,
-    /// Room for the cells of an update.
+    /// The cells of the update that was read last.
     pub(crate) cells: Vec<Cell>,
 }
 
@@ -111,17 +107,10 @@ impl DecodePlan {
         })
     }
 
-    /// Puts the cells of an update's values where there were none; false where one is cut or too
-    /// large.
+    /// Reads the cells of an update's values; false where one is cut or too large.
     #[inline]
-    pub(crate) fn read(
-        &mut self,
-        alloc: Global,
-        bytes: &[u8],
-        cells: &mut Cells,
-    ) -> Result<bool, NoMemory>
-        requires { cells.old ≡ [] }
-        ensures cells { IfOk result (λ whole. AreCells whole cells.new
+    pub(crate) fn read(&mut self, bytes: &[u8]) -> Result<bool, NoMemory>
+        ensures cells { IfOk result (λ whole. AreCells whole self.new.cells.items
             (option_map (λ numbers. map (cell_from numbers) self.old.sources.items)
             (numbers_at (vec_len self.old.numbers) bytes.now))) }
         ensures width { vec_len self.new.numbers ≡ vec_len self.old.numbers }
@@ -130,28 +119,13 @@ impl DecodePlan {
         if read_numbers(bytes, &mut self.numbers).is_none() {
             return Ok(false);
         }
-        let numbers = self.numbers.as_slice();
-        let sources = self.sources.as_slice();
-        if sources.len() <= FEW {
-            put_each(numbers, sources, cells)?;
-            return Ok(true);
-        }
-        fill(&mut self.cells, numbers, sources)?;
-        *cells = Cells::copy(alloc, self.cells.as_slice())?;
+        fill(
+            &mut self.cells,
+            self.numbers.as_slice(),
+            self.sources.as_slice(),
+        )?;
         Ok(true)
     }
-}
-
-/// Puts the cells of all columns where there were none, one by one.
-#[inline]
-fn put_each(numbers: &[u64], sources: &[Source], cells: &mut Cells) -> Result<(), NoMemory>
-    requires { cells.old ≡ [] }
-    ensures { OnOk result (cells.new ≡ map (cell_from numbers.now) sources.now) }
-{
-    for source in sources {
-        cells.push(cell_from(numbers, *source))?;
-    }
-    Ok(())
 }
 
 /// Puts the cells of all columns in place of what was there.

@@ -5,7 +5,7 @@ ghost use Rattle.std.specs.Option.{option_map};
 ghost use Rattle.agg_types.specs.declared.event.What.{What};
 ghost use Rattle.peers_msg.specs.Lent.{as_message};
 ghost use Rattle.session_core.specs.Meaning.{AddsFact};
-ghost use Rattle.session_core.specs.Plan.{AreCells, IsPlan, IsPlanOf, IsPlanNow, followed_now};
+ghost use Rattle.session_core.specs.Plan.{AreCells, IsPlan, IsPlanOf, IsPlanNow, cells_read, followed_now};
 ghost use Rattle.session_core.specs.Run.{settled};
 ghost use Rattle.session_core.specs.Values.{cells_of, sents_at};
 ghost use Rattle.session_core.specs.Undo.{undone, LeadBack};
@@ -19,7 +19,7 @@ use crate::run::clear_updated;
 use crate::undo::{Change, note, take_back};
 use crate::values::{TYPES, key_at, life_of, periods_of};
 use agg_types::limits::MOST_FOLLOWED;
-use agg_types::{Cells, Col, Declared, Key, KeyKind, NoMemory, Shape, Whats};
+use agg_types::{Cell, Col, Declared, Key, KeyKind, NoMemory, Shape, Whats};
 use peers_msg::{Definition, LentMessage, WireCause};
 use std::alloc::Global;
 
@@ -143,48 +143,50 @@ fn tell_put(
     let Some((key, values)) = key_at(shape.kind, bytes) else {
         return Ok(false);
     };
-    let mut cells = Cells::new(alloc);
-    if !planned_cells(
-        alloc,
-        followed,
-        shape.cols.as_slice(),
-        plan,
-        values,
-        &mut cells,
-    )? {
+    if !read_planned(alloc, followed, shape.cols.as_slice(), plan, values)? {
         return Ok(false);
     }
     let key = Key::copy(alloc, key)?;
     let life = life_of(followed.expiry, life);
-    facts.push_put(peer, followed.table, key, life, cells)?;
+    facts.push_put(peer, followed.table, key, life, cells_read(plan))?;
     Ok(true)
 }
 
-/// Puts the cells of an update's values, read along the plan, where there were none.
+/// Reads the cells of an update's values along the plan, which is made where there is none; false
+/// where a value is cut or too large.
 #[inline]
-fn planned_cells(
+fn read_planned(
     alloc: Global,
     followed: &Followed,
     cols: &[(Col, u32)],
     plan: &mut Option<CachedPlan>,
     values: &[u8],
-    cells: &mut Cells,
 ) -> Result<bool, NoMemory>
-    requires plan { IfSome plan.old (IsPlan followed.now.bits followed.now.periods cols.now) }
-    requires none { cells.old ≡ [] }
-    ensures cells { IfOk result (λ whole. AreCells whole cells.new
+    requires { IfSome plan.old (IsPlan followed.now.bits followed.now.periods cols.now) }
+    ensures cells { IfOk result (λ whole. AreCells whole (cells_read plan.new)
         (option_map (λ sents. cells_of sents followed.now.periods cols.now)
         (sents_at followed.now.bits values.now))) }
     ensures planned { OnOk result
         (IfSome plan.new (IsPlan followed.now.bits followed.now.periods cols.now)) }
 {
     if let Some(plan) = plan {
-        return plan.read(alloc, values, cells);
+        return plan.read(values);
     }
     let mut made = CachedPlan::new(alloc, followed.bits, &followed.periods, cols)?;
-    let whole = made.read(alloc, values, cells)?;
+    let whole = made.read(values)?;
     *plan = Some(made);
     Ok(whole)
+}
+
+/// The cells that were read last along a plan.
+#[inline]
+fn cells_read(plan: &Option<CachedPlan>) -> &[Cell]
+    ensures { result.now ≡ cells_read plan.now }
+{
+    match plan {
+        Some(plan) => plan.cells(),
+        None => &[],
+    }
 }
 
 fn id_after(last: u32, id: Option<u32>) -> u32

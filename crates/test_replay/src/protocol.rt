@@ -9,7 +9,7 @@
 
 ghost use Rattle.std.specs.Prelude.{◌<◌};
 
-use agg_types::{Cell, Config, Items, LentCells, LentWhat, NoMemory, What, Whats};
+use agg_types::{Config, Items, LentWhat, NoMemory, What, Whats};
 use anyhow::Result;
 use bytes::Bytes;
 use peers_msg::{Definition, Feed, Message, WireCause, WireFault, get_int, put_int, write_message};
@@ -166,19 +166,6 @@ fn take_again(
     }
 }
 
-fn copied(alloc: Global, cells: LentCells<'_>) -> Result<Vec<Cell>, NoMemory> {
-    let mut copied = Vec::new(alloc);
-    let mut left = cells;
-    for _ in 0..cells.len() {
-        let Some((cell, others)) = left.split_first() else {
-            break;
-        };
-        copied.push(cell)?;
-        left = others;
-    }
-    Ok(copied)
-}
-
 /// Prints a fact. A row may lie in a batch in two ways, and is printed as one.
 fn print_fact(rt: &impl Print, alloc: Global, fact: LentWhat<'_>) -> Result<()> {
     let fact = match fact {
@@ -195,8 +182,7 @@ fn print_fact(rt: &impl Print, alloc: Global, fact: LentWhat<'_>) -> Result<()> 
             cells,
         } => {
             let key = hex::encode(alloc, key.as_slice())?;
-            let cells = copied(alloc, cells)?;
-            println!(rt; "put {peer} {table} {key} {life:?} {:?}", cells.as_slice())?;
+            println!(rt; "put {peer} {table} {key} {life:?} {cells:?}")?;
         }
         LentWhat::Other(_) => println!(rt; "no fact of a session")?,
     }

@@ -1,6 +1,6 @@
 //! What the proxies of a run send: updates of an address, two counts and a rate, in batches.
 
-use agg_types::{Cell, Cells, NoMemory, What, Whats};
+use agg_types::{Cell, NoMemory, What, Whats};
 use std::alloc::Global;
 use std::fmt;
 use std::fmt::{Display, Formatter, Write};
@@ -118,7 +118,7 @@ impl Share {
             prev: 100,
         };
         let key = address(alloc, number)?;
-        let cells = Cells::copy(alloc, &[Cell::Count(5), Cell::Count(u64::from(turn)), rate])?;
-        whats.push_put(self.peer(), 0, key, Some(LIFE), cells)
+        let cells = [Cell::Count(5), Cell::Count(u64::from(turn)), rate];
+        whats.push_put(self.peer(), 0, key, Some(LIFE), &cells)
     }
 }

@@ -1,28 +1,32 @@
-use Rattle.std.proofs.Common.{◌≡◌, ◌++◌, [], ◌∷◌}
-use Rattle.agg_types.specs.Packed.{words_of}
+use Rattle.std.proofs.Common.{◌≡◌, ◌+◌, ◌≤◌, ◌++◌, [], ◌∷◌, length, refl, arith, length-append}
 use Rattle.agg_types.proofs.Packing.{entries-put, entries-within}
 use Rattle.agg_types.proofs.whats.Whats.push_put.Goals as goal
 
 pub invariant_of-self-2 : goal.invariant_of-self-2
 invariant_of-self-2 c =
-    let words : c.put-entry.new.words.items
-    ≡ c.self.inside.words.items ++ words_of c.args.cells =
-    rw (← c.reserve-2.ensures.items) c.put-entry.ensures.words in
+    let cells : c.extend_from_slice.new.self.items
+    ≡ c.self.inside.cells.items ++ c.args.cells.now =
+    c.in_ok-extend_from_slice.ensures.items in
     let entries : c.push_reserved.new.self.items
     ≡ c.self.inside.entries.items ++ c.put-entry.result ∷ [] =
     rw (← c.reserve.ensures.items) c.push_reserved.ensures.items in
-    entries-within c.self.inside.words.items c.put-entry.new.words.items _
+    let long = length-append c.self.inside.cells.items c.args.cells.now in
+    let ends : c.len-start.result + length c.args.cells.now
+    ≤ length (c.self.inside.cells.items ++ c.args.cells.now) = omega (arith, long) in
+    entries-within c.self.inside.cells.items c.extend_from_slice.new.self.items c.args.cells.now
     c.self.inside.entries.items c.push_reserved.new.self.items c.put-entry.result
-    words entries c.self.invariant c.put-entry.ensures.within
+    cells entries c.self.invariant (c.put-entry.ensures.within _ ends)
 
 pub returns-clause-ok : goal.returns-clause-ok
 returns-clause-ok c =
-    let words : c.put-entry.new.words.items
-    ≡ c.self.inside.words.items ++ words_of c.args.cells =
-    rw (← c.reserve-2.ensures.items) c.put-entry.ensures.words in
+    let cells : c.extend_from_slice.new.self.items
+    ≡ c.self.inside.cells.items ++ c.args.cells.now =
+    c.in_ok-extend_from_slice.ensures.items in
     let entries : c.push_reserved.new.self.items
     ≡ c.self.inside.entries.items ++ c.put-entry.result ∷ [] =
     rw (← c.reserve.ensures.items) c.push_reserved.ensures.items in
-    entries-put c.self.inside.words.items c.put-entry.new.words.items _
+    let begins : c.len-start.result ≡ length c.self.inside.cells.items = omega arith in
+    entries-put c.self.inside.cells.items c.extend_from_slice.new.self.items c.args.cells.now
     c.self.inside.entries.items c.push_reserved.new.self.items c.put-entry.result
-    c.args.self.now _ words entries c.self.invariant c.self.view_is c.put-entry.ensures.says
+    c.args.self.now _ cells entries c.self.invariant c.self.view_is
+    (c.put-entry.ensures.says c.self.inside.cells.items c.args.cells.now begins refl)

@@ -2,7 +2,6 @@ use Rattle.std.proofs.Common.{◌≡◌, ◌∙◌, List, not, true, false, sym,
 use Rattle.agg_types.specs.declared.row_key.RowKey.{RowKey}
 use Rattle.agg_types.specs.RowKey.{row_key_cmp}
 use Rattle.std.specs.BTreeMap.{insert_entry}
-use Rattle.agg_types.specs.Whats.{as_cells}
 use Rattle.fleet_model.specs.Machine.{with_row}
 use Rattle.fleet_model.specs.Moments.{is_live}
 use Rattle.fleet_model.specs.declared.arrival.Arrival.{Arrival}
@@ -20,9 +19,9 @@ invariant_of-self-2 c = c.set_row.ensures.kept
 
 pub returns-then-is_over-clause-ok : goal.returns-then-is_over-clause-ok
 returns-then-is_over-clause-ok c =
-    let row = put_arrival c.args.t c.args.life c.args.cols.now (as_cells c.args.cells) in
+    let row = put_arrival c.args.t c.args.life c.args.cols.now c.args.cells.now in
     let over : is_live c.args.t row ≡ false =
-    c.is_over.ensures c.args.t c.args.cols.now (as_cells c.args.cells) ∙ ap not c.if-is_over.true in
+    c.is_over.ensures c.args.t c.args.cols.now c.args.cells.now ∙ ap not c.if-is_over.true in
     let kept : List (RowKey × Arrival) → InForce =
     λ rows. record {
       peers = c.self.inside.size.peers;
@@ -38,9 +37,9 @@ returns-then-is_over-clause-ok c =
 
 pub returns-clause-ok : goal.returns-clause-ok
 returns-clause-ok c =
-    let row = put_arrival c.args.t c.args.life c.args.cols.now (as_cells c.args.cells) in
+    let row = put_arrival c.args.t c.args.life c.args.cols.now c.args.cells.now in
     let live : is_live c.args.t row ≡ true =
-    c.is_over.ensures c.args.t c.args.cols.now (as_cells c.args.cells) ∙ ap not c.if-is_over.false in
+    c.is_over.ensures c.args.t c.args.cols.now c.args.cells.now ∙ ap not c.if-is_over.false in
     let kept : List (RowKey × Arrival) → InForce =
     λ rows. record {
       peers = c.self.inside.size.peers;

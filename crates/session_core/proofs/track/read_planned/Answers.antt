@@ -1,9 +1,9 @@
 use Rattle.session_core.proofs.PlanLemmas.{planned_cells}
-use Rattle.session_core.proofs.track.planned_cells.Goals as goal
+use Rattle.session_core.proofs.track.read_planned.Goals as goal
 
 pub returns-in-Some-clause-cells : goal.returns-in-Some-clause-cells
 returns-in-Some-clause-cells c =
-    let plan = rw c.in-Some.is at c.requires.plan in
+    let plan = rw c.in-Some.is at c.requires in
     rw (← planned_cells c.args.followed.now.bits c.args.followed.now.periods c.args.cols.now
     c.args.values.now c.in-Some.plan plan) c.read.ensures.cells
 
