@@ -1,6 +1,7 @@
 -- What is among a list in order, as one item comes or goes.
 use Rattle.std.proofs.Common.{◌≡◌, Bool, true, false, cond, not, ◌&&◌, ◌||◌, List, [], ◌∷◌, refl}
 use Rattle.std.proofs.Common.{sym, ap, ◌∙◌}
+use Rattle.std.proofs.Math.Bool.{or_self_left}
 use Rattle.std.proofs.lemmas.Bool.{or_right}
 use Rattle.std.proofs.lemmas.Cmp.{eq_by_cmp_equiv, tied_itself}
 use Rattle.std.specs.BTreeMap.{is_at}
@@ -14,10 +15,6 @@ use Rattle.std.specs.declared.cmp.Ordering.{Ordering}
 use Rattle.std.specs.declared.cmp.Ordering.TheVariants.{Less, Equal, Greater}
 use Rattle.fleet_model.proofs.Entries.{equal_from}
 use Rattle.fleet_model.proofs.Members.{among}
-
-twice : (a b : Bool) → (a || b) ≡ (a || (a || b))
-twice true b = refl
-twice false b = refl
 
 swapped : (a b c : Bool) → (a || (b || c)) ≡ (b || (a || c))
 swapped true true c = refl
@@ -46,7 +43,7 @@ module _ {K : Type 0} (R : K → K → Ordering) (o : IsTotalOrder R) (exact : (
           → among R q (match_ordering r (k ∷ x ∷ xs) (x ∷ xs) (x ∷ insert_key R xs k))
           ≡ (is_eq (R q k) || (is_eq (R q x) || among R q xs))
       by Less e rest = refl
-      by Equal e rest = twice (is_eq (R q x)) (among R q xs)
+      by Equal e rest = sym (or_self_left (is_eq (R q x)) (among R q xs))
           ∙ ap (λ y. is_eq (R q y) || (is_eq (R q x) || among R q xs)) (sym (exact k x e))
       by Greater e rest = ap (λ b. is_eq (R q x) || b) rest
           ∙ swapped (is_eq (R q x)) (is_eq (R q k)) (among R q xs)

@@ -9,6 +9,7 @@ use Rattle.std.proofs.lemmas.List.Sums.{sum_by-cons}
 use Rattle.std.specs.List.{AllByRecursion}
 use Rattle.std.specs.Ordering.{is_lt}
 use Rattle.expiry_wheel.proofs.Grouped.{nat_cmp-greater, nat_cmp-less, nat_le-true}
+use Rattle.expiry_wheel.proofs.Lists.{all-append}
 use Rattle.fleet_model.proofs.Every.{every-map}
 use Rattle.fleet_model.proofs.Ranks.{all-put}
 use Rattle.fleet_model.specs.Ranking.{put_in_order, rank_cmp}
@@ -26,11 +27,6 @@ all-take : {X : Type 0} (P : X → Type 0) (m : ℕ) (xs : List X) → AllByRecu
 all-take P zero xs h = tt
 all-take P (suc m) [] h = tt
 all-take P (suc m) (x ∷ xs) h = (h.0, all-take P m xs h.1)
-
-all-append : {X : Type 0} (P : X → Type 0) (xs ys : List X) → AllByRecursion P xs
-    → AllByRecursion P ys → AllByRecursion P (xs ++ ys)
-all-append P [] ys g h = h
-all-append P (x ∷ xs) ys g h = (g.0, all-append P xs ys g.1 h)
 
 -- ---- candidates by rank fall
 before : (x y : List ℕ × ℕ) → is_lt (rank_cmp x y) ≡ true → y.1 ≤ x.1

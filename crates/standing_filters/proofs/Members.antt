@@ -1,6 +1,7 @@
 -- What an index has, as one entry comes or goes, and kept verdicts as one key does.
 use Rattle.std.proofs.Common.{◌≡◌, ℕ, Bool, true, false, cond, not, ◌&&◌, ◌||◌, ◌==◌, List, [], ◌∷◌}
 use Rattle.std.proofs.Common.{Some, None, refl, sym, ap, ◌∙◌}
+use Rattle.std.proofs.Math.Bool.{or_self_left}
 use Rattle.std.proofs.lemmas.Cmp.{eq_by_cmp_equiv, nat_list_cmp_total, tied_itself}
 use Rattle.std.proofs.lemmas.Map.Lookups.{exact_bytes, exact_pairs, exact_unsigned}
 use Rattle.std.specs.BTreeMap.{insert_entry, is_at}
@@ -22,10 +23,6 @@ pub equal_from : (r : Ordering) → is_eq r ≡ true → r ≡ Equal
 equal_from Less e = cc
 equal_from Equal e = refl
 equal_from Greater e = cc
-
-twice : (a b : Bool) → (a || b) ≡ (a || (a || b))
-twice true b = refl
-twice false b = refl
 
 swapped : (a b c : Bool) → (a || (b || c)) ≡ (b || (a || c))
 swapped true true c = refl
@@ -54,7 +51,7 @@ module _ {K : Type 0} (R : K → K → Ordering) (o : IsTotalOrder R) (exact : (
           → list_any (is_at (R q)) (match_ordering r (k ∷ x ∷ xs) (x ∷ xs) (x ∷ insert_key R xs k))
           ≡ (is_eq (R q k) || (is_eq (R q x) || list_any (is_at (R q)) xs))
       by Less e rest = refl
-      by Equal e rest = twice (is_eq (R q x)) (list_any (is_at (R q)) xs)
+      by Equal e rest = sym (or_self_left (is_eq (R q x)) (list_any (is_at (R q)) xs))
           ∙ ap (λ y. is_eq (R q y) || (is_eq (R q x) || list_any (is_at (R q)) xs))
           (sym (exact k x e))
       by Greater e rest = ap (λ b. is_eq (R q x) || b) rest
