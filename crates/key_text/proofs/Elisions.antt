@@ -4,7 +4,7 @@ use Rattle.std.proofs.Common.{leb, List, [], ◌∷◌, ◌++◌, length, replic
 use Rattle.std.proofs.Common.{refl, arith, inl, inr, Option, Some, None, ap, sym, ◌∙◌, append_assoc}
 use Rattle.std.proofs.Common.{length-append, eq-eqb}
 use Rattle.std.proofs.Math.Seq.{take-append_seam, drop-append-add}
-use Rattle.std.proofs.lemmas.Bool.{cases_Bool, eqb-true}
+use Rattle.std.proofs.lemmas.Bool.{and_parts, cases_Bool, eqb-true}
 use Rattle.std.proofs.lemmas.Bool.Decides.{nat_tests}
 use Rattle.std.proofs.lemmas.List.{append-nil, length-replicate}
 use Rattle.std.proofs.lemmas.List.Folds.{list_all-append}
@@ -13,6 +13,7 @@ use Rattle.std.specs.Option.{option_map}
 use Rattle.agg_types.specs.declared.config.KeyKind.TheVariants.{Ipv6}
 use Rattle.agg_types.specs.Fits.{key_fits}
 use Rattle.line_words.specs.Words.{parts}
+use Rattle.line_words.proofs.WordsBack.{differs, parts-join}
 use Rattle.hex.specs.Hex.{IsBytes}
 use Rattle.key_text.specs.Printed.{groups}
 use Rattle.key_text.specs.Elided.{elided, is_part, with_groups}
@@ -21,7 +22,7 @@ use Rattle.key_text.specs.Read.{if_fits, ipv6_of, joined, key_of, number_up_to}
 use Rattle.key_text.specs.Read.{part_bytes, with_zeros}
 use Rattle.key_text.specs.declared.parts.Part.TheVariants.{Group}
 use Rattle.key_text.proofs.Groups.{groups_of-cons}
-use Rattle.key_text.proofs.RoundTrip.{both, differs, groups_free, groups_read, parts-join}
+use Rattle.key_text.proofs.RoundTrip.{groups_free, groups_read}
 
 -- ---- where `::` stands
 
@@ -71,11 +72,11 @@ skip_join : (text : List ℕ) (texts : List (List ℕ)) (rest : List ℕ)
     → list_all is_part (text ∷ texts) ≡ true
     → elision (58 ∷ (join_with_byte 58 (text ∷ texts) ++ rest))
     ≡ option_map (λ at. at + 1) (elision (join_with_byte 58 (text ∷ texts) ++ rest))
-skip_join text [] rest all = skip_colon text rest (both (is_part text) true all).0
+skip_join text [] rest all = skip_colon text rest (and_parts (is_part text) true all).0
 skip_join text (next ∷ texts) rest all =
     let others = 58 ∷ join_with_byte 58 (next ∷ texts) in
     rw (append_assoc text others rest) (skip_colon text (others ++ rest)
-    (both (is_part text) (list_all is_part (next ∷ texts)) all).0)
+    (and_parts (is_part text) (list_all is_part (next ∷ texts)) all).0)
 
 -- a part has no colon
 part_free : (text : List ℕ) → is_part text ≡ true → list_all (differs 58) text ≡ true
@@ -88,9 +89,9 @@ elision-join : (texts : List (List ℕ)) (rest : List ℕ) → list_all is_part 
     ≡ option_map (λ at. at + length (join_with_byte 58 texts)) (elision rest)
 elision-join [] rest all = sym (map_none (elision rest))
 elision-join (text ∷ []) rest all =
-    skip_bytes text rest (part_free text (both (is_part text) true all).0)
+    skip_bytes text rest (part_free text (and_parts (is_part text) true all).0)
 elision-join (text ∷ next ∷ texts) rest all =
-    let h = both (is_part text) (list_all is_part (next ∷ texts)) all in
+    let h = and_parts (is_part text) (list_all is_part (next ∷ texts)) all in
     let others = join_with_byte 58 (next ∷ texts) in
     let colon = skip_join next texts rest h.1 in
     let more = elision-join (next ∷ texts) rest h.1 in
@@ -107,7 +108,7 @@ parts_free : (texts : List (List ℕ)) → list_all is_part texts ≡ true
     → list_all (list_all (differs 58)) texts ≡ true
 parts_free [] all = refl
 parts_free (text ∷ texts) all =
-    let h = both (is_part text) (list_all is_part texts) all in
+    let h = and_parts (is_part text) (list_all is_part texts) all in
     rw (part_free text h.0, parts_free texts h.1) refl
 
 -- parts joined by colons come apart again

@@ -1,10 +1,9 @@
 -- What is printed of a key is read as the key.
 use Rattle.std.proofs.Common.{◌≡◌, ℕ, zero, suc, ◌+◌, ◌*◌, ◌-◌, ◌/◌, ◌%◌, ◌^◌, ◌<◌, ◌≤◌, Bool, true}
-use Rattle.std.proofs.Common.{false, eqb, leb, ltb, ◌&&◌, not, List, [], ◌∷◌, ◌++◌, length, map}
+use Rattle.std.proofs.Common.{false, eqb, leb, ltb, ◌&&◌, List, [], ◌∷◌, ◌++◌, length, map}
 use Rattle.std.proofs.Common.{slice_index, Some, refl, ap, ◌∙◌, arith, inl, inr, lit<}
-use Rattle.std.proofs.lemmas.Bool.{cases_Bool, cases_lt}
+use Rattle.std.proofs.lemmas.Bool.{and_parts, cases_Bool, cases_lt, eqb-true}
 use Rattle.std.proofs.lemmas.Bool.Decides.{nat_tests}
-use Rattle.std.proofs.lemmas.Bool.{eqb-true}
 use Rattle.std.proofs.lemmas.Grind.{common_steps}
 use Rattle.std.proofs.lemmas.Fmt.{decimal_is_IsNumeral, length-decimal-le}
 use Rattle.std.proofs.lemmas.Nat.{be_bytes_2, be_bytes_4}
@@ -12,68 +11,19 @@ use Rattle.std.proofs.lemmas.Str.Parse.{digit_from_value}
 use Rattle.std.specs.Char.{digit_value, is_digit}
 use Rattle.std.specs.Fmt.{decimal}
 use Rattle.std.specs.Int.{w32, to_be_bytes, from_be_bytes}
-use Rattle.std.specs.List.{list_all, flat_map, join_with_byte, slice_split}
+use Rattle.std.specs.List.{list_all, flat_map, join_with_byte}
 use Rattle.std.specs.Option.{option_map}
 use Rattle.std.specs.Result.{result_ok}
 use Rattle.std.specs.Str.Parse.{AllDigits, digits_value}
 use Rattle.hex.specs.Hex.{IsBytes, decode_of, encode_lower, encode_with, lower_digits}
 use Rattle.hex.proofs.HexLemmas.{IsDigits-lower_digits, decode_of-encode_lower}
 use Rattle.line_words.specs.Words.{parts}
+use Rattle.line_words.proofs.WordsBack.{differs, parts-join}
 use Rattle.key_text.specs.declared.parts.Part.TheVariants.{Octet, Group}
 use Rattle.key_text.specs.Elided.{is_part}
 use Rattle.key_text.specs.Printed.{escaped, groups, hex_of, integer_text, is_plain, signed_text}
 use Rattle.key_text.specs.Read.{all_bytes, before, hex_byte, integer_of, number_up_to, octet}
 use Rattle.key_text.specs.Read.{part_bytes, string_of}
-
--- ---- parts
-
--- whether a byte isn't this one
-abbrev pub differs : ℕ → ℕ → Bool
-differs c byte = not (eqb byte c)
-
-same_byte : (c : ℕ) → eqb c c ≡ true
-same_byte c = grind (arith, nat_tests)
-
--- a part before the byte between parts
-split_front : (c : ℕ) (front rest : List ℕ) → list_all (differs c) front ≡ true
-    → slice_split (λ b. eqb b c) (front ++ c ∷ rest) ≡ front ∷ slice_split (λ b. eqb b c) rest
-split_front c [] rest free = rw (same_byte c) refl
-split_front c (x ∷ front) rest free =
-    elim (cases_Bool (eqb x c)) [
-      | inl same ↦ absurd (let bad : false ≡ true = rw same at free in cc)
-      | inr other ↦
-          let less : list_all (differs c) front ≡ true = rw other at free in
-          rw (other, split_front c front rest less) refl
-    ]
-
--- the last part
-split_last : (c : ℕ) (front : List ℕ) → list_all (differs c) front ≡ true
-    → slice_split (λ b. eqb b c) front ≡ front ∷ []
-split_last c [] free = refl
-split_last c (x ∷ front) free =
-    elim (cases_Bool (eqb x c)) [
-      | inl same ↦ absurd (let bad : false ≡ true = rw same at free in cc)
-      | inr other ↦
-          let less : list_all (differs c) front ≡ true = rw other at free in
-          rw (other, split_last c front less) refl
-    ]
-
--- what two tests say together
-pub both : (a b : Bool) → (a && b) ≡ true → (a ≡ true) × (b ≡ true)
-both true b h = (refl, h)
-both false b h = absurd cc
-
--- parts that were joined come apart again
-pub parts-join : (c : ℕ) (front : List ℕ) (others : List (List ℕ))
-    → list_all (list_all (differs c)) (front ∷ others) ≡ true
-    → parts c (join_with_byte c (front ∷ others)) ≡ front ∷ others
-unfolding parts
-parts-join c front [] free = split_last c front (both (list_all (differs c) front) true free).0
-parts-join c front (next ∷ others) free =
-    let h = both (list_all (differs c) front) (list_all (list_all (differs c)) (next ∷ others))
-    free in
-    split_front c front (join_with_byte c (next ∷ others)) h.0
-    ∙ ap (λ more. front ∷ more) (parts-join c next others h.1)
 
 -- ---- numbers
 
@@ -187,7 +137,7 @@ are_glyphs (suc n) = is_glyph n && are_glyphs n
 glyph_at : (n d : ℕ) → are_glyphs n ≡ true → d < n → is_glyph d ≡ true
 glyph_at zero d h lt = absurd (omega arith)
 glyph_at (suc n) d h lt =
-    let h2 = both (is_glyph n) (are_glyphs n) h in
+    let h2 = and_parts (is_glyph n) (are_glyphs n) h in
     elim (cases_lt d n) [
       | inl below ↦ glyph_at n d h2.1 below
       | inr top ↦
@@ -199,7 +149,7 @@ glyph_at (suc n) d h lt =
 glyph : (d : ℕ) → d < 16 → (digit_value (slice_index lower_digits d) ≡ d)
     × (differs 58 (slice_index lower_digits d) ≡ true)
 glyph d lt =
-    let h = both (eqb (digit_value (slice_index lower_digits d)) d)
+    let h = and_parts (eqb (digit_value (slice_index lower_digits d)) d)
     (differs 58 (slice_index lower_digits d)) (glyph_at 16 d refl lt) in
     (eqb-true (digit_value (slice_index lower_digits d)) d h.0, h.1)
 
