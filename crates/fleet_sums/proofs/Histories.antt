@@ -7,7 +7,8 @@ use Rattle.std.specs.Prelude.{unwrap_or}
 use Rattle.std.specs.declared.cmp.Ordering.{Ordering}
 use Rattle.std.specs.declared.cmp.Ordering.TheVariants.{Less, Equal, Greater}
 use Rattle.std.specs.Ordering.{match_ordering, is_eq, nat_cmp, ordering_reverse}
-use Rattle.std.specs.Cmp.{IsTotalOrder, nat_cmp_total, then_total, on_total, eq_by_cmp_equiv}
+use Rattle.std.specs.Cmp.{Equal-is, IsTotalOrder, nat_cmp_total, then_total, on_total}
+use Rattle.std.specs.Cmp.{eq_by_cmp_equiv}
 use Rattle.std.specs.Cmp.Lexicographic.{slice_cmp, nat_list_cmp_total}
 use Rattle.std.specs.Map.{keys_of, lookup}
 use Rattle.std.specs.BTreeMap.{insert_entry, is_at}
@@ -86,14 +87,9 @@ pub lookup-put_or_take : {K X : Type 0} {C : K → K → Ordering} → IsTotalOr
 lookup-put_or_take o es k q (Some v) s = lookup-insert_entry o es k q v
 lookup-put_or_take {K} {X} {C} o es k q None s =
     lookup-remove_entry (eq_by_cmp_equiv o) (is_at (C k))
-    (λ x y e. ap is_eq (o.congr k x y (equal (C k x) e))) q es
+    (λ x y e. ap is_eq (o.congr k x y ((Equal-is (C k x)).0 e))) q es
     (IsDistinct-from_sorted C (keys_of es) s)
     ∙ ap (λ b. cond b None (lookup (is_at (C q)) es)) (turned_eq o k q)
-  where
-    equal : (r : Ordering) → is_eq r ≡ true → r ≡ Equal
-    equal Less e = cc
-    equal Equal e = refl
-    equal Greater e = cc
 
 pub sorted-put_or_take : {K X : Type 0} {C : K → K → Ordering} → IsTotalOrder C
     → (es : List (K × X)) (k : K) (v : Option X) → IsStrictlySortedBy C (keys_of es)
@@ -109,13 +105,8 @@ same_place table key r e =
     exact_pairs nat_cmp (slice_cmp nat_cmp) exact_unsigned exact_bytes (table, key) (
       r.table,
       r.key,
-    ) (equal (table_key_cmp (table, key) (r.table, r.key)) e) in
+    ) ((Equal-is (table_key_cmp (table, key) (r.table, r.key))).0 e) in
     (ap (λ (q : TableKey). q.0) pairs, ap (λ (q : TableKey). q.1) pairs)
-  where
-    equal : (o : Ordering) → is_eq o ≡ true → o ≡ Equal
-    equal Less w = cc
-    equal Equal w = refl
-    equal Greater w = cc
 
 -- the sums of a key after a row was added: its own, with the row where it is one of the key
 sums_of-added : (s : SumMap) (r : SummedRow) (table : ℕ) (key : List ℕ)

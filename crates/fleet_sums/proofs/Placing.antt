@@ -80,12 +80,6 @@ all_keys : (es : List (List ℕ × KeyTotals)) → map (λ e. e.0) (filter (λ e
 all_keys [] = refl
 all_keys (e ∷ es) = ap (λ rest. e.0 ∷ rest) (all_keys es)
 
-pub found_at : (ts : List TableSums) (i : ℕ) (table : TableSums) → i < length ts
-    → table ≡ get_or ts i table → slice_get ts i ≡ Some table
-found_at [] i table h e = absurd (omega (arith, h))
-found_at (x ∷ ts) zero table h e = rw (← e) refl
-found_at (x ∷ ts) (suc i) table h e = found_at ts i table (omega (arith, h)) e
-
 -- the numbers of columns
 abbrev pub widths_of : List TableSums → List ℕ
 widths_of ts = map (λ t. t.width) ts
@@ -109,12 +103,6 @@ widths-set (x ∷ ts) zero new table found is = let first : x ≡ table = cc in
     ap (λ w. w ∷ widths_of ts) same
 widths-set (x ∷ ts) (suc i) new table found is =
     ap (λ rest. x.width ∷ rest) (widths-set ts i new table found is)
-
-set_itself : (ts : List TableSums) (i : ℕ) (table : TableSums) → slice_get ts i ≡ Some table
-    → set ts i table ≡ ts
-set_itself [] i table found = refl
-set_itself (x ∷ ts) zero table found = let first : x ≡ table = cc in ap (λ t. t ∷ ts) (sym first)
-set_itself (x ∷ ts) (suc i) table found = ap (λ rest. x ∷ rest) (set_itself ts i table found)
 
 abbrev pub sum_map : List ℕ → List (TableKey × KeyTotals) → SumMap
 sum_map widths entries = record { widths = widths; entries = entries }
@@ -185,9 +173,6 @@ module _ (ts : List TableSums) (i : ℕ) (table : TableSums) (found : slice_get 
         }
     put_or_take-placed None is = take-placed is
     put_or_take-placed (Some k) is = put-placed k is
-
-  pub same-placed : (new : TableSums) → new ≡ table → sums_in (set ts i new) ≡ sums_in ts
-  same-placed new is = rw (is, set_itself ts i table found) refl
 
 -- a table of a shape's columns, without rows
 abbrev pub new_table : Shape → TableSums

@@ -1,13 +1,14 @@
-use Rattle.std.proofs.Common.{◌≡◌, ◌∙◌, sym, ap}
+use Rattle.std.proofs.Common.{◌≡◌, refl, ◌∙◌, sym, ap}
+use Rattle.std.proofs.lemmas.Option.{slice_get_read}
 use Rattle.std.specs.Prelude.{slice_get, Some, slice_index}
 use Rattle.fleet_sums.specs.Totals.{KeyTotals}
-use Rattle.fleet_sums.proofs.Placing.{found_at, length-widths, sums-placed}
+use Rattle.fleet_sums.proofs.Placing.{length-widths, sums-placed}
 use Rattle.fleet_sums.proofs.sums.Sums.count_of.Goals as goal
 
 pub returns : goal.returns
 returns c =
     let found : slice_get c.self.inside.tables.items c.args.table ≡ Some c.index.result.now =
-    found_at c.self.inside.tables.items c.args.table c.index.result.now
+    slice_get_read c.self.inside.tables.items _ c.args.table c.index.result.now refl
     (rw (← c.self.view_is, length-widths) at c.requires.table_in) c.index.ensures in
     rw (← c.self.view_is) (c.count_of.ensures
     ∙ ap (λ (k : KeyTotals). slice_index k.totals c.args.col)

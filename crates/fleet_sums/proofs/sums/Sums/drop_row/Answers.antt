@@ -1,13 +1,14 @@
-use Rattle.std.proofs.Common.{◌≡◌}
+use Rattle.std.proofs.Common.{◌≡◌, refl}
+use Rattle.std.proofs.lemmas.Option.{slice_get_read}
 use Rattle.std.specs.Prelude.{slice_get, Some}
-use Rattle.fleet_sums.proofs.Placing.{found_at, length-widths, lookup-placed, sums-placed}
+use Rattle.fleet_sums.proofs.Placing.{length-widths, lookup-placed, sums-placed}
 use Rattle.fleet_sums.proofs.Placing.{dropped-placed}
 use Rattle.fleet_sums.proofs.sums.Sums.drop_row.Goals as goal
 
 pub drop_row-requires-clause-there : goal.drop_row-requires-clause-there
 drop_row-requires-clause-there c =
     let found : slice_get c.self.inside.tables.items c.args.table ≡ Some c.index_mut.result.now =
-    found_at c.self.inside.tables.items c.args.table c.index_mut.result.now
+    slice_get_read c.self.inside.tables.items _ c.args.table c.index_mut.result.now refl
     (rw (← c.self.view_is, length-widths) at c.requires.table_in) c.index_mut.ensures.value in
     let same = lookup-placed c.self.inside.tables.items c.args.table c.index_mut.result.now found
     c.args.key.now in
@@ -16,7 +17,7 @@ drop_row-requires-clause-there c =
 pub drop_row-requires-clause-can : goal.drop_row-requires-clause-can
 drop_row-requires-clause-can c =
     let found : slice_get c.self.inside.tables.items c.args.table ≡ Some c.index_mut.result.now =
-    found_at c.self.inside.tables.items c.args.table c.index_mut.result.now
+    slice_get_read c.self.inside.tables.items _ c.args.table c.index_mut.result.now refl
     (rw (← c.self.view_is, length-widths) at c.requires.table_in) c.index_mut.ensures.value in
     let same = sums-placed c.self.inside.tables.items c.args.table c.index_mut.result.now found
     c.args.key.now in
@@ -25,7 +26,7 @@ drop_row-requires-clause-can c =
 pub returns : goal.returns
 returns c =
     let found : slice_get c.self.inside.tables.items c.args.table ≡ Some c.index_mut.result.now =
-    found_at c.self.inside.tables.items c.args.table c.index_mut.result.now
+    slice_get_read c.self.inside.tables.items _ c.args.table c.index_mut.result.now refl
     (rw (← c.self.view_is, length-widths) at c.requires.table_in) c.index_mut.ensures.value in
     let same = sums-placed c.self.inside.tables.items c.args.table c.index_mut.result.now found
     c.args.key.now in
