@@ -28,6 +28,7 @@ use Rattle.peer_rows.specs.Walk.{if_any}
 use Rattle.peer_rows.specs.declared.row.Row.{Row}
 use Rattle.peer_rows.proofs.Ordered.{turned_at}
 use Rattle.book_frame.proofs.Chosen.{same_key-decides}
+use Rattle.book_frame.proofs.Listings.{map-filter}
 use Rattle.book.specs.Foreseen.{living_of}
 use Rattle.book.specs.Leading.{AreLed, IsTableDropped, Lists, rank_at}
 use Rattle.book.specs.Listing.{AreMeeting, AreThoseMeeting}
@@ -35,7 +36,7 @@ use Rattle.book.specs.Planned.{IsInside}
 use Rattle.book.specs.Shown.{arrivals, of_peer, view_of_row}
 use Rattle.book.proofs.Leading.{none_alive, other_list, stays}
 use Rattle.book.proofs.Meeting.{is_some-mapped}
-use Rattle.book.proofs.Lists.{all-map, map-filter, same_filters}
+use Rattle.book.proofs.Lists.{all-map, same_filters}
 use Rattle.book.proofs.Reading.{and_yes, each_filter, eq_turned}
 
 abbrev Entry : Type 0

@@ -8,9 +8,7 @@ use Rattle.std.proofs.lemmas.Map.Lookups.{exact_bytes}
 use Rattle.std.specs.Borrow.{Bor}
 use Rattle.std.specs.Cmp.Lexicographic.{slice_cmp}
 use Rattle.std.specs.List.{AllByRecursion, list_all}
-use Rattle.std.specs.Ordering.{is_eq, nat_cmp}
-use Rattle.std.specs.declared.cmp.Ordering.{Ordering}
-use Rattle.std.specs.declared.cmp.Ordering.TheVariants.{Less, Equal, Greater}
+use Rattle.std.specs.Ordering.{nat_cmp}
 use Rattle.agg_types.specs.Op.{op_holds}
 use Rattle.agg_types.specs.declared.column.Col.{Col}
 use Rattle.agg_types.specs.declared.config.Filter.{Filter}
@@ -27,6 +25,7 @@ use Rattle.fleet_model.specs.Values.{cols_of, same_key}
 use Rattle.fleet_model.proofs.KeyChanges.{first-change, key-flat, never-empty, no-change}
 use Rattle.fleet_model.proofs.KeyChanges.{rows-within}
 use Rattle.fleet_model.proofs.KeyRows.{live-rows}
+use Rattle.fleet_model.proofs.Entries.{equal_from}
 use Rattle.book.specs.Foreseen.{IsFirstOf, IsQuiet, SomeChanges, earlier, living_of, living_within}
 use Rattle.book.specs.Foreseen.{within, worth_within}
 
@@ -201,11 +200,6 @@ no_rows t (row ∷ rows) table key live none =
       none,
     ))
     by false rest none = rest none
-
-equal_from : (r : Ordering) → is_eq r ≡ true → r ≡ Equal
-equal_from Less is = cc
-equal_from Equal is = refl
-equal_from Greater is = cc
 
 among_quiet : (P : List ℕ → Type 0) (keys : Keys) (key : List ℕ)
     → is_key_among key (map (λ k. k.now) keys) ≡ true → AllByRecursion (λ k. P k.now) keys → P key

@@ -15,9 +15,10 @@ use Rattle.fleet_model.proofs.InForce.{row_key_cmp_exact}
 use Rattle.peer_rows.specs.Ends.{is_behind, lives_at}
 use Rattle.peer_rows.specs.Rows.{AreInOrder, RowMap}
 use Rattle.peer_rows.specs.declared.row.Row.{Row}
+use Rattle.book_frame.proofs.Listings.{map-filter}
 use Rattle.book.specs.Planned.{AreRows, IsInside}
 use Rattle.book.specs.Shown.{arrivals, as_arrival, view_of_row}
-use Rattle.book.proofs.Lists.{all-filter, all-insert_entry, map-filter, same_filters}
+use Rattle.book.proofs.Lists.{all-filter, all-insert_entry, same_filters}
 
 abbrev Entry : Type 0
 Entry = RowKey × Row

@@ -13,19 +13,6 @@ use Rattle.std.specs.declared.cmp.Ordering.{Ordering}
 use Rattle.std.specs.declared.cmp.Ordering.TheVariants.{Less, Equal, Greater}
 use Rattle.peer_rows.proofs.Sorted.{equal_itself}
 
-pub filter-cond : {X Y : Type 0} (f : X → Y) (b : Bool) (x : X) (xs : List X)
-    → map f (cond b (x ∷ xs) xs) ≡ cond b (f x ∷ map f xs) (map f xs)
-filter-cond f true x xs = refl
-filter-cond f false x xs = refl
-
--- what is chosen by what it shows shows what is chosen
-pub map-filter : {X Y : Type 0} (f : X → Y) (p : Y → Bool) (xs : List X)
-    → map f (filter (λ x. p (f x)) xs) ≡ filter p (map f xs)
-map-filter f p [] = refl
-map-filter f p (x ∷ xs) =
-    filter-cond f (p (f x)) x (filter (λ x. p (f x)) xs)
-    ∙ ap (λ ys. cond (p (f x)) (f x ∷ ys) ys) (map-filter f p xs)
-
 -- what a filter lets through, a weaker one before it lets through too
 pub filter-filter : {X : Type 0} (p q : X → Bool) → ((x : X) → p x ≡ true → q x ≡ true)
     → (xs : List X) → filter p (filter q xs) ≡ filter p xs

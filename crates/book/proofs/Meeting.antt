@@ -38,7 +38,7 @@ use Rattle.peer_rows.specs.declared.row.Row.{Row}
 use Rattle.peer_rows.proofs.Listed.{alike}
 use Rattle.peer_rows.proofs.Ordered.{turned_at}
 use Rattle.book_frame.specs.Lent.{listed_where, shown_row}
-use Rattle.book.proofs.Lists.{map-filter}
+use Rattle.book_frame.proofs.Listings.{map-filter}
 use Rattle.book.specs.Listing.{AreMeeting, ListsMeeting, if_met, rows_meet, summed_up, sums_of}
 use Rattle.book.specs.Planned.{IsInside}
 use Rattle.book.specs.Shown.{arrivals, of_peer, rows_worth}

@@ -14,12 +14,14 @@ use Rattle.agg_types.specs.declared.column.Col.{Col}
 use Rattle.fleet_model.specs.Moments.{is_live}
 use Rattle.fleet_model.specs.Next.{flat_moment}
 use Rattle.peer_rows.specs.Table.{Spot}
+use Rattle.book_frame.proofs.Listings.{map-filter}
+use Rattle.fleet_model.proofs.Entries.{equal_from}
 use Rattle.book.specs.Store.{InForce, IsWalk, row_keys}
 use Rattle.std.specs.List.Sorted.{IsStrictlySortedBy}
 use Rattle.std.specs.Map.{keys_of, lookup}
-use Rattle.std.specs.Ordering.{is_eq, nat_cmp, ordering_then}
+use Rattle.std.specs.Ordering.{nat_cmp, ordering_then}
 use Rattle.std.specs.declared.cmp.Ordering.{Ordering}
-use Rattle.std.specs.declared.cmp.Ordering.TheVariants.{Less, Equal, Greater}
+use Rattle.std.specs.declared.cmp.Ordering.TheVariants.{Less, Equal}
 use Rattle.std.proofs.lemmas.Bool.{and_parts, eqb-true}
 use Rattle.std.proofs.lemmas.Bool.Decides.{nat_tests}
 use Rattle.std.proofs.lemmas.List.Folds.{fold-map}
@@ -39,7 +41,7 @@ use Rattle.peer_rows.specs.declared.row.Row.{Row}
 use Rattle.book.specs.Planned.{AreRows, IsInside}
 use Rattle.book.specs.Shown.{arrivals, as_arrival, of_peer, of_spot, found_worth, rows_worth}
 use Rattle.book.specs.Shown.{view_of_row}
-use Rattle.book.proofs.Lists.{all-filter, all-map, map-filter, same_filters, sorted-filter}
+use Rattle.book.proofs.Lists.{all-filter, all-map, same_filters, sorted-filter}
 
 abbrev Entry : Type 0
 Entry = RowKey × Row
@@ -47,11 +49,6 @@ Entry = RowKey × Row
 -- ---- the rows of a key
 pub eq_turned : (a b : ℕ) → (a == b) ≡ (b == a)
 eq_turned a b = grind (arith, nat_tests)
-
-equal_from : (r : Ordering) → is_eq r ≡ true → r ≡ Equal
-equal_from Less is = cc
-equal_from Equal is = refl
-equal_from Greater is = cc
 
 at_key : (table : ℕ) (key : List ℕ) (place : RowKey) → of_table_key table key place ≡ true
     → record place { table = table; key = key } ≡ place

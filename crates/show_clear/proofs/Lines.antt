@@ -12,7 +12,7 @@ use Rattle.agg_types.specs.declared.event.Select.TheVariants.{Conds}
 use Rattle.fleet_model.specs.Answers.{keys_of, listed, summed}
 use Rattle.fleet_model.specs.Values.{cols_of, meets}
 use Rattle.book.specs.Lent.{listed_where, shown_row}
-use Rattle.book.proofs.Lists.{map-filter}
+use Rattle.book_frame.proofs.Listings.{map-filter}
 use Rattle.show_clear.specs.Answer.{line_if, row_lines, rows_text, shape_of}
 use Rattle.show_clear.specs.Selected.{key_row, taken_keys}
 use Rattle.show_clear.specs.Tables.{row_text}
