@@ -13,13 +13,14 @@ use Rattle.show_clear.specs.Change.{ChangeFits, asked_event}
 use Rattle.show_clear.specs.declared.command.Command.{Command}
 use Rattle.show_clear.specs.declared.command.Change.TheVariants.{Clear, AddFilter, DropFilter}
 use Rattle.show_clear.specs.declared.command.Command.TheVariants.{Ask, Change as Changes}
+use Rattle.hub.proofs.Showing.{later_on}
 use Rattle.hub.proofs.Rolling.{fits_at}
 use Rattle.hub.specs.History.{Beginning}
 use Rattle.hub.specs.Posts.{Follows}
 use Rattle.hub.specs.Roll.{MayPost}
 use Rattle.hub.specs.Views.{IsBookOf, Seeing}
 use Rattle.hub.specs.declared.faults.PostFault.{PostFault}
-use Rattle.serve.proofs.Later.{follows_on, follows_self, shows_last, shows_on}
+use Rattle.serve.proofs.Later.{follows_self, shows_last, shows_on}
 use Rattle.serve.proofs.Kept.{kept_asks, kept_says, kept_tells}
 use Rattle.serve.proofs.Pieces.{none_in_both}
 use Rattle.serve.proofs.Works.{wrote_more, wrote_none}
@@ -120,7 +121,7 @@ pub learned_later : (hub since : Beginning) (seat : ℕ) (old new : AdminWorker)
     → HasLearned hub since seat new whats
 learned_later hub since seat old new whats poster later learned = record {
   at = ap (λ (d : Poster). d.pass.seat) poster ∙ learned.at;
-  sees = follows_on since old.lens.seen new.lens.seen learned.sees later;
+  sees = later_on since old.lens.seen new.lens.seen learned.sees later;
   told = subst (λ (d : Poster). HasTold hub d whats 0) (sym poster) learned.told;
   shows = shows_on seat whats old.lens.seen new.lens.seen learned.shows later;
 }
@@ -153,7 +154,7 @@ pub learned_more : (hub since : Beginning) (seat : ℕ) (old new : AdminWorker) 
     → HasLearned hub since seat new whats
 learned_more hub since seat old new whats at sees kept told learned = record {
   at = at;
-  sees = follows_on since old.lens.seen new.lens.seen sees kept;
+  sees = later_on since old.lens.seen new.lens.seen sees kept;
   told = told;
   shows = subst (λ (s : ℕ). ShowsTold s whats new.lens.seen) at
       (shows_last new.poster.pass.seat whats new.poster.last new.lens.seen told.last learned);

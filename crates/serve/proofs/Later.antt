@@ -16,12 +16,6 @@ use Rattle.serve.specs.Told.{TellsLast}
 pub follows_self : (b : Beginning) → Follows b b
 follows_self b = record { same = refl; events = prefix_self b.events }
 
-pub follows_on : (a b c : Beginning) → Follows a b → Follows b c → Follows a c
-follows_on a b c p q = record {
-  same = q.same ∙ ap (λ (x : Beginning). record x { events = c.events }) p.same;
-  events = prefix_trans a.events b.events c.events p.events q.events;
-}
-
 own_on : (seat : ℕ) (a b : Beginning) → Follows a b
     → IsPrefix (own seat a.events) (own seat b.events)
 own_on seat a b follows = (

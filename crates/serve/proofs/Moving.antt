@@ -21,12 +21,12 @@ use Rattle.fleet_model.specs.Answers.{filter_of, set_at}
 use Rattle.fleet_model.specs.Keys.{holds}
 use Rattle.fleet_model.specs.Laws.{IsOrdered, is_key_among}
 use Rattle.fleet_model.specs.State.{IsStateOf, State, state_of}
+use Rattle.hub.proofs.Showing.{later_on}
 use Rattle.hub.specs.Changing.{sets_of}
 use Rattle.hub.specs.History.{Beginning}
 use Rattle.hub.specs.Posts.{Follows}
 use Rattle.hub.specs.Views.{IsBookOf, Seeing}
 use Rattle.serve.specs.Gathering.{AreMoves, AreSince, Each, IsMovedSince, state_behind}
-use Rattle.serve.proofs.Later.{follows_on}
 use Rattle.serve.specs.Knowing.{Knows, KnowsAt, Pushing}
 use Rattle.serve.specs.Tellings.{Brings, HoldsLast, SeesMore, TurnsOver}
 use Rattle.serve.specs.Turns.{set_named, sets_in}
@@ -349,7 +349,7 @@ holds_on (Some poster) shown later follows holds = last poster.last holds
     last : (list : Option Beginning) → IfSome list (λ list. Follows list shown)
         → IfSome list (λ list. Follows list later)
     last None h = tt
-    last (Some list) h = follows_on list shown later h follows
+    last (Some list) h = later_on list shown later h follows
 
 -- a lens has seen more behind a look, as what was posted was learned before it
 pub sees_later : (old new : Option Seeing) (lens shown later : Seeing) → old ≡ Some lens
@@ -357,7 +357,7 @@ pub sees_later : (old new : Option Seeing) (lens shown later : Seeing) → old �
     → SeesMore old new
 sees_later old new lens shown later had has learned looked =
     subst (λ (l : Option Seeing). SeesMore l new) (sym had)
-    (later, has, follows_on lens.seen shown.seen later.seen learned looked)
+    (later, has, later_on lens.seen shown.seen later.seen learned looked)
 
 -- a turn was made, by the lens before it, as what was posted was learned, and behind the look
 pub turns_over : (old new : Pushing) (poster : Option Poster) (lens shown later : Seeing)
@@ -370,7 +370,7 @@ turns_over old new poster lens shown later said had has learned holds looked bri
   said = said;
   had = had;
   has = has;
-  follows = follows_on lens.seen shown.seen later.seen learned looked;
+  follows = later_on lens.seen shown.seen later.seen learned looked;
   holds = holds_on poster shown.seen later.seen looked holds;
   brings = brings;
 }

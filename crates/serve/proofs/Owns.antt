@@ -10,6 +10,7 @@ use Rattle.agg_types.specs.declared.event.What.{What}
 use Rattle.agg_types.specs.declared.event.What.TheVariants.{Sit, Leave}
 use Rattle.book.proofs.Updates.{length-numbered}
 use Rattle.fleet_model.specs.Seats.{numbered}
+use Rattle.hub.proofs.Showing.{later_on}
 use Rattle.hub.specs.History.{Beginning, longer_by, own}
 use Rattle.hub.specs.declared.faults.PostFault.{PostFault}
 use Rattle.hub.specs.declared.faults.PostFault.TheVariants.{Replaced, NotNext, NoMemory, Pending}
@@ -17,7 +18,6 @@ use Rattle.hub.specs.declared.faults.PostFault.TheVariants.{Spent}
 use Rattle.hub.specs.Posts.{Appends, Follows, PostRefused, PostsAfter, Seated, ShowsBatch}
 use Rattle.hub.specs.Posts.{advanced}
 use Rattle.serve.specs.declared.poster.Poster.{Poster}
-use Rattle.serve.proofs.Later.{follows_on}
 use Rattle.serve.specs.Told.{HasTold, IsLeft, IsWaiting, Tells, stored_of}
 
 same_seat : (seat : ℕ) → (seat == seat) ≡ true
@@ -128,9 +128,9 @@ pub shown_follows : (hub : Beginning) (p : Seated) (shown : Beginning) (batch : 
     → Follows hub p.seen → ShowsBatch p batch shown → Follows hub shown
 shown_follows hub p shown batch seen shows =
     let made = numbered p.seat p.number batch in
-    let before = follows_on hub p.seen shows.before seen shows.seen in
+    let before = later_on hub p.seen shows.before seen shows.seen in
     subst (λ (b : Beginning). Follows hub b) (sym shows.posted)
-    (follows_on hub shows.before (longer_by shows.before made) before
+    (later_on hub shows.before (longer_by shows.before made) before
     (record { same = refl; events = (made, refl) }))
 
 -- the same of a leave, if it shows something

@@ -16,12 +16,13 @@ use Rattle.session_core.specs.Batched.{Batched}
 use Rattle.session_core.specs.Piece.{Setup, setup_of}
 use Rattle.session_core.specs.Talk.{Grows, talk}
 use Rattle.session_core.specs.TalkAnswers.{OpensWith}
+use Rattle.hub.proofs.Showing.{later_on}
 use Rattle.hub.specs.History.{Beginning}
 use Rattle.hub.specs.Posts.{Follows}
 use Rattle.hub.specs.Views.{Seeing}
 use Rattle.telling.proofs.Brought.{marks_at, set_from, set_held, set_marks, set_told, told_at}
 use Rattle.telling.proofs.Brought.{told_of}
-use Rattle.serve.proofs.Later.{follows_on, follows_self, shows_last}
+use Rattle.serve.proofs.Later.{follows_self, shows_last}
 use Rattle.serve.specs.declared.poster.Poster.{Poster}
 use Rattle.serve.specs.Knowing.{Pushing}
 use Rattle.serve.specs.Tellings.{AreTellings, Equips, HoldsLast, IsBroughtTo}
@@ -61,7 +62,7 @@ shown_follows hub seated seat (Beat ∷ earlier) shown =
 shown_follows hub seated seat (Say count ∷ earlier) shown =
     shown_follows hub seated seat earlier shown
 shown_follows hub seated seat (Tell telling ∷ earlier) shown =
-    follows_on hub (shown_by hub earlier) telling.seen
+    later_on hub (shown_by hub earlier) telling.seen
     (shown_follows hub seated seat earlier shown.1) shown.0.follows
 
 -- ---- what is kept of what was told
@@ -127,7 +128,7 @@ lens_of : (hub : Beginning) (seated : Bool) (seat : Option ℕ) (turns : List Tu
     → AreTellings hub seated seat turns → Follows (shown_by hub turns) lens.seen
     → Follows hub lens.seen
 lens_of hub seated seat turns lens shown sees =
-    follows_on hub (shown_by hub turns) lens.seen (shown_follows hub seated seat turns shown) sees
+    later_on hub (shown_by hub turns) lens.seen (shown_follows hub seated seat turns shown) sees
 
 of_same : (hub list seen : Beginning) → Follows hub list → Follows hub seen → list.of ≡ seen.of
 of_same hub list seen listed sees =
@@ -191,7 +192,7 @@ sees_more : (hub : Beginning) (turns : List Turn) (old new : Option Seeing) → 
 sees_more hub turns None new more sees = subst (SeesShown hub turns) (sym more) sees
 sees_more hub turns (Some lens) new more sees =
     subst (SeesShown hub turns) (sym more.1)
-    (follows_on (shown_by hub turns) lens.seen more.0.seen sees more.2)
+    (later_on (shown_by hub turns) lens.seen more.0.seen sees more.2)
 
 -- what is kept where no turn was made
 pub unturned : (hub : Beginning) (seated : Bool) (turns : List Turn) (old new : Pushing)
@@ -376,7 +377,7 @@ pub is_telling : (hub : Beginning) (seated : Bool) (turns : List Turn) (poster :
     → IsTelling hub seated (seat_at poster) turns (telling_of old new poster turn)
 is_telling hub seated turns poster old new turn shown told greeted tells = record {
   said = sym tells.unsaid ∙ turn.said;
-  follows = follows_on (shown_by hub turns) turn.lens.seen turn.later.seen
+  follows = later_on (shown_by hub turns) turn.lens.seen turn.later.seen
       (sees_from hub turns old.lens turn.lens turn.had tells.sees) turn.follows;
   shows = posted_shown hub turn.later.seen poster (facts_in (setup_of hub.config) seated turns) told
       turn.holds;
@@ -396,7 +397,7 @@ turn_says hub seated turns poster old new turn shown tells =
     let setup : Setup = setup_of hub.config in
     let book : State = turn.brings.book in
     let sees : Follows hub turn.later.seen =
-    follows_on hub turn.lens.seen turn.later.seen
+    later_on hub turn.lens.seen turn.later.seen
     (lens_of hub seated (seat_at poster) turns turn.lens
     shown (sees_from hub turns old.lens turn.lens turn.had tells.sees)) turn.follows in
     let config : turn.later.seen.config ≡ hub.config =

@@ -1,6 +1,6 @@
 use Rattle.std.proofs.Common.{rules, ℕ, List, refl, subst, ◌∙◌}
+use Rattle.hub.proofs.Showing.{later_on}
 use Rattle.serve.proofs.Commanded.{change_may_post, looked}
-use Rattle.serve.proofs.Later.{follows_on}
 use Rattle.serve.specs.Commanding.{kept_of}
 use Rattle.serve.specs.Commands.{Replies}
 use Rattle.serve.proofs.admin.AdminWorker.look.Goals as goal
@@ -10,7 +10,7 @@ returns-clause-fits g c =
     λ hub follows.
     change_may_post hub c.in-Some.look.lens.now.seen c.book.result.now
     c.in_ok-answered.answered.change
-    (follows_on hub c.args.self.now.lens.seen c.in-Some.look.lens.now.seen follows
+    (later_on hub c.args.self.now.lens.seen c.in-Some.look.lens.now.seen follows
     c.in-Some.ensures.some.2) c.book.ensures
     (c.in_ok-answered.ensures.fits c.book.result.now.config refl)
 
