@@ -16,7 +16,8 @@ use Rattle.agg_types.specs.declared.entry.Entry.TheVariants.{Put, Other}
 
 -- ---- cells behind others
 -- what entries say stays where cells are added
-pub entries-more : (cells more : List Cell) (entries : List Entry) → AreWithin (length cells) entries
+pub entries-more : (cells more : List Cell) (entries : List Entry)
+    → AreWithin (length cells) entries
     → map (entry_what (cells ++ more)) entries ≡ map (entry_what cells) entries
 entries-more cells more [] within = refl
 entries-more cells more (Put count table peer start key life ∷ entries) within =

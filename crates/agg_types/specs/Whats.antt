@@ -1,6 +1,6 @@
 -- What a batch lends of one of its events, and what it keeps of it.
-use Rattle.std.specs.Prelude.{ℕ, ◌+◌, ◌-◌, ◌^◌, ◌==◌, ◌≢◌, ◌<◌, ◌≤◌, List, [], ◌∷◌, drop, take, box_value}
-use Rattle.std.specs.Prelude.{Option, None, Some, if◌then◌else◌}
+use Rattle.std.specs.Prelude.{ℕ, ◌+◌, ◌-◌, ◌^◌, ◌==◌, ◌≢◌, ◌<◌, ◌≤◌, List, [], ◌∷◌, drop, take}
+use Rattle.std.specs.Prelude.{Option, None, Some, box_value, if◌then◌else◌}
 use Rattle.agg_types.specs.declared.entry.Entry.{Entry}
 use Rattle.agg_types.specs.declared.entry.Entry.TheVariants as entries
 use Rattle.agg_types.specs.declared.event.Cell.{Cell}

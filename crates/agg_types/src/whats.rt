@@ -1,6 +1,6 @@
 //! What a seat posts as one.
-ghost use Rattle.std.specs.Prelude.{◌≡◌, ◌==◌, ◌<◌, ◌+◌, ◌^◌, [], ◌∷◌, ◌++◌, drop, length, slice_get};
-ghost use Rattle.std.specs.Prelude.{IfOk, OnErr, OnOk, Some};
+ghost use Rattle.std.specs.Prelude.{◌≡◌, ◌==◌, ◌<◌, ◌+◌, ◌^◌, [], ◌∷◌, ◌++◌, drop, length};
+ghost use Rattle.std.specs.Prelude.{slice_get, IfOk, OnErr, OnOk, Some};
 ghost use Rattle.std.specs.Option.{option_map};
 ghost use Rattle.agg_types.specs.declared.event.What.TheVariants.{Put};
 ghost use Rattle.agg_types.specs.Whats.{as_what};
@@ -22,7 +22,8 @@ const AT_ONCE: usize = 1 << 12;
 /// A session makes it of a piece of the stream, a hub adds it to the history as one, and both
 /// copies of a book take it.
 ///
-/// An update takes no memory of its own: its cells lie in a block that all updates share.
+/// An update takes no memory of its own but for a key of more than 16 bytes, which has a block: its
+/// cells lie in a block that all updates share.
 pub struct Whats {
     entries: Vec<Entry>,
     /// Those of the updates, one update's behind another's.

@@ -79,20 +79,24 @@ impl Verdicts {
     ) -> bool
         requires sound { IsSound machine.now }
         requires fresh { meter.old.evals ≡ 0 }
-        ensures held { (state : State) → IsSound state → Follows (as_what what.entry) state machine.now
+        ensures held { (state : State) → IsSound state
+            → Follows (as_what what.entry) state machine.now
             → IsLeaving state (as_what what.entry) leaving
             → AreHeld state self.old.standing → AreHeld machine.now self.new.standing }
-        ensures few { (state : State) → IsSound state → Follows (as_what what.entry) state machine.now
+        ensures few { (state : State) → IsSound state
+            → Follows (as_what what.entry) state machine.now
             → AreHeld state self.old.standing → result ≡ false
             → IsFewFor state machine.now (as_what what.entry) meter.new.evals }
         ensures anew { result ≡ true
             → MayRenew (as_what what.entry) × (meter.new.evals ≤ 505 * pairs_from machine.now 0) }
-        ensures calm { (state : State) → IsSound state → Follows (as_what what.entry) state machine.now
+        ensures calm { (state : State) → IsSound state
+            → Follows (as_what what.entry) state machine.now
             → AreHeld state self.old.standing → IsCalm state machine.now (as_what what.entry)
             → (self.old.standing ≡ None
             → before ≡ keys_in machine.now.rows (length machine.now.config.tables))
             → (meter.new.evals ≡ 0) × (result ≡ false) }
-        ensures flips { (state : State) → IsSound state → Follows (as_what what.entry) state machine.now
+        ensures flips { (state : State) → IsSound state
+            → Follows (as_what what.entry) state machine.now
             → AreHeld state self.old.standing
             → TellsStepIfKnown state machine.now flips.old flips.new }
     {

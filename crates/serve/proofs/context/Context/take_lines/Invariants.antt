@@ -7,8 +7,8 @@ use Rattle.serve.specs.Traffic.{Traffic, so_far}
 use Rattle.serve.proofs.context.Context.take_lines.Given as goal
 
 -- the lines so far were obeyed, and these bytes of the piece are left
-pub record TakesSome (door : Door) (hub : Beginning) (old worker : AdminWorker) (piece rest : List ℕ)
-    (before after : Option (List ℕ)) : Type 0 where
+pub record TakesSome (door : Door) (hub : Beginning) (old worker : AdminWorker)
+    (piece rest : List ℕ) (before after : Option (List ℕ)) : Type 0 where
   pub keeps : KeepsPoster hub old worker
   pub works : (seat : ℕ) (start : Traffic) (given : Option (List ℕ))
       → Works door hub seat old piece start (so_far given before)
