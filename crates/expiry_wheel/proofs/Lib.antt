@@ -6,3 +6,4 @@ pub mod Turning
 pub mod Grouped
 pub mod Firsts
 pub mod Marked
+pub mod Members

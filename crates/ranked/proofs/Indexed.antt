@@ -4,20 +4,19 @@ use Rattle.std.proofs.Common.{List, Option, Some, None, refl, sym, ap, ◌∙◌
 use Rattle.std.specs.Prelude.{◌≢◌}
 use Rattle.std.proofs.lemmas.Bool.{eqb-true}
 use Rattle.std.proofs.lemmas.Cmp.{eq_by_cmp_equiv, nat_list_cmp_total}
-use Rattle.std.proofs.lemmas.Map.Lookups.{exact_bytes, exact_pairs, exact_unsigned}
+use Rattle.std.proofs.lemmas.Map.Lookups.{exact_bytes}
 use Rattle.std.specs.BTreeMap.{is_at}
 use Rattle.std.specs.Cmp.{unsigned_ties}
 use Rattle.std.specs.Cmp.Lexicographic.{slice_cmp}
 use Rattle.std.specs.List.{AllByRecursion}
 use Rattle.std.specs.Option.{IsSomeAnd, option_map}
 use Rattle.std.specs.Ordering.{is_eq, nat_cmp}
-use Rattle.std.specs.declared.cmp.Ordering.TheVariants.{Equal}
 use Rattle.expiry_wheel.proofs.Left.{entries_total}
+use Rattle.expiry_wheel.proofs.Members.{any-insert_key, any-remove_key, exact_entry, tells}
 use Rattle.expiry_wheel.specs.Entries.{IsInOrder, entry_cmp, has_entry, with_entry, without_entry}
 use Rattle.fleet_model.proofs.Entries.{equal_from}
-use Rattle.fleet_model.proofs.Ranks.{tied_parts}
 use Rattle.fleet_model.specs.Seats.{is_number}
-use Rattle.ranked.proofs.Members.{among-insert_key, among-remove_key, each_among}
+use Rattle.ranked.proofs.Members.{each_among}
 use Rattle.ranked.specs.Bounds.{AreAllBounded, IsIndexOf, zeros_at}
 use Rattle.ranked.specs.Walk.{AreBounds, bound_of}
 
@@ -27,9 +26,6 @@ Index = List (ℕ × List ℕ)
 abbrev KeyBounds : Type 0
 KeyBounds = List (List ℕ × ℕ)
 
-pub exact_entry : (a b : ℕ × List ℕ) → entry_cmp (slice_cmp nat_cmp) a b ≡ Equal → a ≡ b
-exact_entry = exact_pairs nat_cmp (slice_cmp nat_cmp) exact_unsigned exact_bytes
-
 -- a key's zeros become these
 abbrev pub Becomes : KeyBounds → KeyBounds → List ℕ → Option ℕ → Type 0
 Becomes old new key zeros = (q : List ℕ) → zeros_at new q ≡ cond (is_at (slice_cmp nat_cmp key) q)
@@ -38,22 +34,14 @@ Becomes old new key zeros = (q : List ℕ) → zeros_at new q ≡ cond (is_at (s
 has_with : (index : Index) (e x : ℕ × List ℕ)
     → has_entry (slice_cmp nat_cmp) (with_entry (slice_cmp nat_cmp) index x) e
     ≡ (is_eq (entry_cmp (slice_cmp nat_cmp) e x) || has_entry (slice_cmp nat_cmp) index e)
-has_with index e x = among-insert_key (entry_cmp (slice_cmp nat_cmp))
+has_with index e x = any-insert_key (entry_cmp (slice_cmp nat_cmp))
     (entries_total (slice_cmp nat_cmp) nat_list_cmp_total) exact_entry e x index
 
 has_without : (index : Index) (e x : ℕ × List ℕ) → IsInOrder (slice_cmp nat_cmp) index
     → has_entry (slice_cmp nat_cmp) (without_entry (slice_cmp nat_cmp) index x) e
     ≡ (has_entry (slice_cmp nat_cmp) index e && not (is_eq (entry_cmp (slice_cmp nat_cmp) e x)))
-has_without index e x ordered = among-remove_key (entry_cmp (slice_cmp nat_cmp))
+has_without index e x ordered = any-remove_key (entry_cmp (slice_cmp nat_cmp))
     (entries_total (slice_cmp nat_cmp) nat_list_cmp_total) exact_entry e x index ordered
-
-tells : (e : ℕ × List ℕ) (zeros : ℕ) (key : List ℕ)
-    → is_eq (entry_cmp (slice_cmp nat_cmp) e (zeros, key))
-    ≡ ((e.0 == zeros) && is_at (slice_cmp nat_cmp key) e.1)
-tells e zeros key =
-    tied_parts (nat_cmp e.0 zeros) (slice_cmp nat_cmp e.1 key)
-    ∙ ap (λ b. b && is_eq (slice_cmp nat_cmp e.1 key)) (sym (unsigned_ties e.0 zeros))
-    ∙ ap (λ b. (e.0 == zeros) && b) ((eq_by_cmp_equiv nat_list_cmp_total).symm e.1 key)
 
 same_at : (old : KeyBounds) (key q : List ℕ) → is_at (slice_cmp nat_cmp key) q ≡ true
     → zeros_at old q ≡ zeros_at old key
@@ -203,7 +191,7 @@ pub entries_kept : (index : Index) (kept : KeyBounds) → IsIndexOf index kept
     → AllByRecursion (λ e. zeros_at kept e.1 ≡ Some e.0) index
 entries_kept index kept indexed =
     each_among (entry_cmp (slice_cmp nat_cmp))
-    (entries_total (slice_cmp nat_cmp) nat_list_cmp_total) exact_entry (λ e. zeros_at kept e.1
+    (entries_total (slice_cmp nat_cmp) nat_list_cmp_total) (λ e. zeros_at kept e.1
     ≡ Some e.0) index
     (λ e there. number_is (zeros_at kept e.1) e.0 (sym (indexed e) ∙ there))
 
@@ -211,7 +199,7 @@ pub bounds_hold : (index : Index) (kept : KeyBounds) (living value : List ℕ �
     kept → AreAllBounded kept living value → AreBounds living value index
 bounds_hold index kept living value indexed bounded =
     each_among (entry_cmp (slice_cmp nat_cmp))
-    (entries_total (slice_cmp nat_cmp) nat_list_cmp_total) exact_entry (λ e. 0 < living e.1
+    (entries_total (slice_cmp nat_cmp) nat_list_cmp_total) (λ e. 0 < living e.1
     → value e.1 ≤ bound_of e.0) index
     (λ e there lives. subst (λ zeros. IsSomeAnd (option_map bound_of zeros)
     (λ bound. value e.1 ≤ bound)) (number_is (zeros_at kept e.1) e.0 (sym (indexed e) ∙ there))

@@ -21,7 +21,7 @@ use Rattle.standing_filters.specs.Plans.{IsPlanOf, has_plan, is_moment}
 use Rattle.standing_filters.specs.Verdicts.{out}
 use Rattle.standing_filters.specs.Watched.{IsFirstChange, keys_held, verdict_at}
 use Rattle.standing_filters.specs.declared.judging.Verdict.{Verdict}
-use Rattle.standing_filters.proofs.Members.{equal_from, exact_entry}
+use Rattle.expiry_wheel.proofs.Members.{equal_from, exact_entry}
 use Rattle.standing_filters.proofs.Planning.{is_that}
 
 abbrev KeyVerdicts : Type 0

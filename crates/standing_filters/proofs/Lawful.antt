@@ -20,7 +20,7 @@ use Rattle.standing_filters.specs.Turns.{has_come, is_due, same_key}
 use Rattle.standing_filters.specs.Verdicts.{Foretells, IsVerdict, holds_at, out}
 use Rattle.standing_filters.specs.Watched.{is_among, verdict_at}
 use Rattle.standing_filters.specs.declared.judging.Verdict.{Verdict}
-use Rattle.standing_filters.proofs.Members.{equal_from}
+use Rattle.expiry_wheel.proofs.Members.{equal_from}
 use Rattle.standing_filters.proofs.Told.{dead_never, told_same}
 use Rattle.standing_filters.proofs.Walking.{key_itself, not_come, one_key}
 

@@ -15,7 +15,8 @@ use Rattle.standing_filters.specs.Plans.{has_plan, is_moment, kept_at, with_room
 use Rattle.standing_filters.specs.Verdicts.{out}
 use Rattle.standing_filters.specs.Watched.{verdict_at}
 use Rattle.standing_filters.specs.declared.judging.Verdict.{Verdict}
-use Rattle.standing_filters.proofs.Members.{equal_from, has-with, has-without, out-put}
+use Rattle.expiry_wheel.proofs.Members.{equal_from}
+use Rattle.standing_filters.proofs.Members.{has-with, has-without, out-put}
 
 abbrev KeyVerdicts : Type 0
 KeyVerdicts = List (List ℕ × Verdict)

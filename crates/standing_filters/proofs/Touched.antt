@@ -18,7 +18,7 @@ use Rattle.standing_filters.specs.Plans.{without_key}
 use Rattle.standing_filters.specs.Verdicts.{IsVerdict, out}
 use Rattle.standing_filters.specs.Watched.{AreTouched, IsTouched, verdict_at}
 use Rattle.standing_filters.specs.declared.judging.Verdict.{Verdict}
-use Rattle.standing_filters.proofs.Members.{equal_from}
+use Rattle.expiry_wheel.proofs.Members.{equal_from}
 use Rattle.standing_filters.proofs.Planning.{backed_out, committed, entered, forgotten}
 use Rattle.standing_filters.proofs.Planning.{room_restored}
 

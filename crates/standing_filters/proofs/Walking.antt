@@ -31,7 +31,7 @@ use Rattle.standing_filters.specs.Watched.{Watched, verdict_at}
 use Rattle.standing_filters.specs.declared.coming.Judged.{Judged}
 use Rattle.standing_filters.specs.declared.judging.Verdict.{Verdict}
 use Rattle.standing_filters.proofs.HeldKeys.{least, stands}
-use Rattle.standing_filters.proofs.Members.{equal_from, exact_entry}
+use Rattle.expiry_wheel.proofs.Members.{equal_from, exact_entry}
 use Rattle.standing_filters.proofs.Planning.{is_that}
 
 abbrev KeyVerdicts : Type 0
