@@ -7,7 +7,7 @@ ghost use Rattle.hub.specs.Copied.{all_taken, whole};
 
 use crate::copies::{Logged, Published, Shown, Sight};
 use crate::log::Front;
-use left_right::reader::Reader;
+use left_right::reader::{Reader, Reading};
 use left_right::writer::Writer;
 use std::alloc::AllocError;
 use std::collections::VecDeque;
@@ -18,6 +18,9 @@ pub type HubWriter = Writer<Shown, Logged, Option<Front>, Published>;
 
 /// A side that looks at the copy that is shown.
 pub type HubReader = Reader<Shown, Option<Front>, Published>;
+
+/// A copy that a reader entered, so one that was shown then.
+pub type HubReading = Reading<Shown, Option<Front>, Published>;
 
 /// A writer with the handle by which its drop waits for readers.
 pub struct Hand<R: Wait + Drop> {

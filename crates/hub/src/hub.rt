@@ -327,7 +327,7 @@ impl<J: Naming, R: Wait + Drop> Hub<J, R> {
         for _ in rt.forever() {
             let mut desk = self.desk.lock(rt);
             if let Some(reader) = desk.reader() {
-                return Ok(Lens::new(reader, self.start.again()));
+                return Ok(Lens::new(reader, Receipt::first(&self.start)));
             }
             if desk.has_press() {
                 return Err(LensFault::NoPlace);

@@ -59,5 +59,5 @@ pub fn of_two_receipts_one_begins_the_other(first: &Receipt, second: &Receipt) -
     requires { second.now.of ≡ first.now.of }
     ensures { MatchBool result (Follows first.now second.now) (Follows second.now first.now) }
 {
-    first.front().compare(second.front())
+    first.begins(second)
 }

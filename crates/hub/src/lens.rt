@@ -11,19 +11,17 @@ ghost use Rattle.hub.specs.Posts.{Follows};
 ghost use Rattle.hub.specs.Trailed.{trail_to};
 ghost use Rattle.hub.specs.Views.{IsBookOf, Learns};
 
-use crate::copies::{Published, Shown, Sight};
-use crate::hand::HubReader;
-use crate::log::Front;
+use crate::copies::Sight;
+use crate::hand::{HubReader, HubReading};
 use crate::receipt::Receipt;
 use agg_types::NoMemory;
 use book::Book;
-use left_right::reader::Reading;
 use set_changes::Change;
 use std::marker::Model;
 
 /// A copy that was entered.
 struct Visit {
-    reading: Reading<Shown, Option<Front>, Published>,
+    reading: HubReading,
 }
 
 impl Drop for Visit {
@@ -46,7 +44,8 @@ impl Visit {
 pub struct Lens {
     reader: Option<HubReader>,
     visit: Option<Visit>,
-    front: Front,
+    // For the list that it has seen.
+    seen: Receipt,
 }
 
 impl Drop for Lens {
@@ -54,7 +53,7 @@ impl Drop for Lens {
         let Lens {
             reader: _,
             visit: _,
-            front: _,
+            seen: _,
         } = self;
     }
 }
@@ -68,12 +67,12 @@ impl Model for Lens {
 
     ghost Value = { Seeing };
 
-    ghost view = { λ l. record { seen = l.front; inside = is_some l.visit } };
+    ghost view = { λ l. record { seen = l.seen; inside = is_some l.visit } };
 
-    ghost invariant = { λ l. IfSome l.reader (λ r. IsTold l.front.of (view_of r.place))
+    ghost invariant = { λ l. IfSome l.reader (λ r. IsTold l.seen.of (view_of r.place))
         × IfSome l.visit (λ v. IsWhole v.reading.part.value.copied
-        × (v.reading.part.value.copied.at ≡ l.front) × (v.reading.part.value.part ≡ false)
-        × IsTold l.front.of (view_of v.reading.place)) };
+        × (v.reading.part.value.copied.at ≡ l.seen) × (v.reading.part.value.part ≡ false)
+        × IsTold l.seen.of (view_of v.reading.place)) };
 }
 
 /// A look at the book, which stays as it is while the look lasts.
@@ -124,14 +123,14 @@ impl Lens {
     ghost use Rattle.hub.specs.Looking.{Rests};
 
     /// A lens that has seen this list, over a reader that was told of its log.
-    pub(crate) fn new(reader: HubReader, front: Front) -> Lens
-        requires { IsTold front.of (view reader.place) }
-        ensures { result ≡ record { seen = front; inside = false } }
+    pub(crate) fn new(reader: HubReader, seen: Receipt) -> Lens
+        requires { IsTold seen.of (view reader.place) }
+        ensures { result ≡ record { seen = seen; inside = false } }
     {
         Lens {
             reader: Some(reader),
             visit: None,
-            front,
+            seen,
         }
     }
 
@@ -140,14 +139,14 @@ impl Lens {
         ensures length { result ≡ length self.now.seen.events }
         ensures legal { AllCount self.now.seen.config self.now.seen.opening self.now.seen.events }
     {
-        self.front.len()
+        self.seen.len()
     }
 
     // A receipt for the list that it has seen.
     fn receipt(&self) -> Receipt
         ensures { result ≡ self.now.seen }
     {
-        Receipt::of(&self.front)
+        self.seen.again()
     }
 
     fn book(&self) -> &Book
@@ -196,8 +195,8 @@ impl Lens {
                 false
             }
             Ok(reading) => {
-                let at = reading.get().at.again();
-                if !self.front.compare(&at) {
+                let found = Receipt::found(&reading);
+                if !self.seen.begins(&found) {
                     self.reader = Some(reading.leave());
                     return false;
                 }
@@ -205,7 +204,7 @@ impl Lens {
                     self.reader = Some(reading.leave());
                     return false;
                 }
-                self.front = at;
+                self.seen = found;
                 self.visit = Some(Visit { reading });
                 true
             }
@@ -235,8 +234,8 @@ impl Lens {
         ensures { Learns self.old.seen receipt.now self.new.seen }
     {
         self.leave();
-        if self.front.compare(receipt.front()) {
-            self.front = receipt.front().again();
+        if self.seen.begins(receipt) {
+            self.seen = receipt.again();
         }
     }
 }

@@ -1,10 +1,11 @@
 //! What posts are given: tickets for what was appended, and receipts for what is shown.
 
-ghost use Rattle.std.specs.Prelude.{◌≡◌, length, IfSome};
-ghost use Rattle.hub.specs.History.{AllCount};
+ghost use Rattle.std.specs.Prelude.{◌≡◌, [], length, IfSome, MatchBool};
+ghost use mathlib.Core.List.{IsPrefix};
+ghost use Rattle.hub.specs.History.{AllCount, IsLonger};
 ghost use Rattle.hub.specs.Posts.{Follows};
 
-use crate::hand::HubWriter;
+use crate::hand::{HubReading, HubWriter};
 use crate::log::Front;
 use std::marker::Model;
 
@@ -42,6 +43,9 @@ impl Ticket {
 }
 
 /// Which list of events a post showed, or a look found. Contracts see it as that list.
+///
+/// It is made here alone, of what is shown: of the writer's shown copy, of a copy that a reader
+/// entered, or of the list with no event.
 pub struct Receipt {
     front: Front,
 }
@@ -61,12 +65,31 @@ impl Model for Receipt {
 }
 
 impl Receipt {
-    // The receipt for a list that is shown.
-    pub(crate) fn of(front: &Front) -> Receipt
-        ensures { result ≡ front.now }
+    /// The receipt for the list with no event, which both copies show from the start.
+    pub(crate) fn first(start: &Front) -> Receipt
+        requires { start.now.events ≡ [] }
+        ensures { result ≡ start.now }
     {
         Receipt {
-            front: front.again(),
+            front: start.again(),
+        }
+    }
+
+    /// The receipt for the list of a copy that was entered.
+    pub(crate) fn found(reading: &HubReading) -> Receipt
+        ensures { result ≡ reading.now.part.value.copied.at }
+    {
+        Receipt {
+            front: reading.get().at.again(),
+        }
+    }
+
+    /// A copy.
+    pub(crate) fn again(&self) -> Receipt
+        ensures { result ≡ self.now }
+    {
+        Receipt {
+            front: self.front.again(),
         }
     }
 
@@ -74,6 +97,17 @@ impl Receipt {
         ensures { result.now ≡ self.now }
     {
         &self.front
+    }
+
+    /// Of the lists of two receipts of one history one begins the other. Whether this one's does.
+    pub(crate) fn begins(&self, other: &Receipt) -> bool
+        requires { other.now.of ≡ self.now.of }
+        ensures fleet { (other.now.config ≡ self.now.config)
+            × (other.now.opening ≡ self.now.opening) }
+        ensures order { MatchBool result (IsPrefix self.now.events other.now.events)
+            (IsLonger other.now.events self.now.events) }
+    {
+        self.front.compare(&other.front)
     }
 
     /// How many events its list has. They all count.
@@ -117,6 +151,8 @@ impl Showing {
         if !ticket.front.compare(&self.front) {
             return None;
         }
-        Some(Receipt::of(&ticket.front))
+        Some(Receipt {
+            front: ticket.front.again(),
+        })
     }
 }

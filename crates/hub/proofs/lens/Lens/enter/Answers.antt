@@ -11,35 +11,34 @@ use Rattle.hub.proofs.lens.Lens.enter.Goals as goal
 pub enter_as-requires : goal.enter_as-requires
 enter_as-requires c = looks _ _
 
-pub compare-requires : goal.compare-requires
-compare-requires c =
-    let told : IsTold c.self.inside.front.of (view c.in-Some.reader.place) =
-    subst (λ o. IfSome o (λ r. IsTold c.self.inside.front.of (view r.place)))
+pub begins-requires : goal.begins-requires
+begins-requires c =
+    let told : IsTold c.self.inside.seen.of (view c.in-Some.reader.place) =
+    subst (λ o. IfSome o (λ r. IsTold c.self.inside.seen.of (view r.place)))
     (sym c.in-Some.ensures.value) c.self.invariant.0 in
-    let at : c.again-at.result ≡ c.in-Ok.reading.part.value.copied.at = c.again-at.ensures
-    ∙ ap (λ (x : Copy). x.copied.at) (c.behind-reading.view_is ∙ c.get.ensures) in
+    let at : c.found-found.result ≡ c.in-Ok.reading.part.value.copied.at = c.found-found.ensures in
     ap (λ (b : Beginning). b.of) at
-    ∙ log_of c.self.inside.front.of c.in-Ok.reading.part.value.copied
+    ∙ log_of c.self.inside.seen.of c.in-Ok.reading.part.value.copied
     (view c.in-Some.reader.place) told c.in-Ok.ensures.1.1
 
-pub invariant_of-self-then-not-compare : goal.invariant_of-self-then-not-compare
-invariant_of-self-then-not-compare c =
-    let told : IsTold c.self.inside.front.of (view c.in-Some.reader.place) =
-    subst (λ o. IfSome o (λ r. IsTold c.self.inside.front.of (view r.place)))
+pub invariant_of-self-then-not-begins : goal.invariant_of-self-then-not-begins
+invariant_of-self-then-not-begins c =
+    let told : IsTold c.self.inside.seen.of (view c.in-Some.reader.place) =
+    subst (λ o. IfSome o (λ r. IsTold c.self.inside.seen.of (view r.place)))
     (sym c.in-Some.ensures.value) c.self.invariant.0 in (
-      told_again c.self.inside.front.of c.in-Ok.reading.part.value.copied
+      told_again c.self.inside.seen.of c.in-Ok.reading.part.value.copied
           (view c.in-Some.reader.place)
-          (view c.leave-then-not-compare.result.place) told c.in-Ok.ensures.1.1
-          (c.leave-then-not-compare.ensures.1 ∙ c.in-Ok.ensures.1.2),
+          (view c.leave-then-not-begins.result.place) told c.in-Ok.ensures.1.1
+          (c.leave-then-not-begins.ensures.1 ∙ c.in-Ok.ensures.1.2),
       c.self.invariant.1,
     )
 
 pub invariant_of-self-then-has_part : goal.invariant_of-self-then-has_part
 invariant_of-self-then-has_part c =
-    let told : IsTold c.self.inside.front.of (view c.in-Some.reader.place) =
-    subst (λ o. IfSome o (λ r. IsTold c.self.inside.front.of (view r.place)))
+    let told : IsTold c.self.inside.seen.of (view c.in-Some.reader.place) =
+    subst (λ o. IfSome o (λ r. IsTold c.self.inside.seen.of (view r.place)))
     (sym c.in-Some.ensures.value) c.self.invariant.0 in (
-      told_again c.self.inside.front.of c.in-Ok.reading.part.value.copied
+      told_again c.self.inside.seen.of c.in-Ok.reading.part.value.copied
           (view c.in-Some.reader.place)
           (view c.leave-then-has_part.result.place) told c.in-Ok.ensures.1.1
           (c.leave-then-has_part.ensures.1 ∙ c.in-Ok.ensures.1.2),
@@ -48,18 +47,17 @@ invariant_of-self-then-has_part c =
 
 pub returns-else-has_part-clause-seen : goal.returns-else-has_part-clause-seen
 returns-else-has_part-clause-seen c =
-    let told : IsTold c.self.inside.front.of (view c.in-Some.reader.place) =
-    subst (λ o. IfSome o (λ r. IsTold c.self.inside.front.of (view r.place)))
+    let told : IsTold c.self.inside.seen.of (view c.in-Some.reader.place) =
+    subst (λ o. IfSome o (λ r. IsTold c.self.inside.seen.of (view r.place)))
     (sym c.in-Some.ensures.value) c.self.invariant.0 in
-    let at : c.again-at.result ≡ c.in-Ok.reading.part.value.copied.at = c.again-at.ensures
-    ∙ ap (λ (x : Copy). x.copied.at) (c.behind-reading.view_is ∙ c.get.ensures) in
-    let of : c.again-at.result.of ≡ c.self.inside.front.of =
+    let at : c.found-found.result ≡ c.in-Ok.reading.part.value.copied.at = c.found-found.ensures in
+    let of : c.found-found.result.of ≡ c.self.inside.seen.of =
     ap (λ (b : Beginning). b.of) at
-    ∙ log_of c.self.inside.front.of c.in-Ok.reading.part.value.copied
+    ∙ log_of c.self.inside.seen.of c.in-Ok.reading.part.value.copied
     (view c.in-Some.reader.place) told c.in-Ok.ensures.1.1 in
-    let seen : c.self.inside.front ≡ c.args.self.now.seen =
+    let seen : c.self.inside.seen ≡ c.args.self.now.seen =
     ap (λ (s : Seeing). s.seen) (c.self.view_is ∙ c.leave.ensures) in
-    subst (λ (b : Beginning). Follows b c.again-at.result) seen
-    (follows_on c.self.inside.front c.again-at.result of c.compare.ensures.fleet.0
-    c.compare.ensures.fleet.1
-    (rw c.if-not-compare.false at c.compare.ensures.order))
+    subst (λ (b : Beginning). Follows b c.found-found.result) seen
+    (follows_on c.self.inside.seen c.found-found.result of c.begins.ensures.fleet.0
+    c.begins.ensures.fleet.1
+    (rw c.if-not-begins.false at c.begins.ensures.order))
