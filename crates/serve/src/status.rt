@@ -4,11 +4,11 @@ ghost use Rattle.std.specs.Prelude.{◌≡◌};
 ghost use Rattle.line_words.specs.Words.{words};
 ghost use Rattle.serve.specs.Status.{alone, asked_by, asked_in, is_quit, peer_named, peers_asked};
 ghost use Rattle.serve.specs.Status.{quits, shown};
-ghost use Rattle.show_clear.specs.Parse.{without_returns};
 
 use agg_types::Config;
 use agg_types::limits::LONGEST_COMMAND_LINE;
 use line_words::next_word;
+use show_clear::without_returns;
 
 /// What an admin asks for that a gate tells.
 #[derive(Clone, Copy, Debug, PartialEq, Eq)]
@@ -61,17 +61,6 @@ pub(crate) fn quits(line: &[u8]) -> bool
         return false;
     }
     is_quit(text)
-}
-
-// A line without the CRs at its end.
-fn without_returns(line: &[u8]) -> &[u8]
-    ensures { result.now ≡ without_returns line.now }
-{
-    let mut left = line;
-    while let Some(front) = left.strip_suffix(b"\r") {
-        left = front;
-    }
-    left
 }
 
 fn is_quit(line: &[u8]) -> bool

@@ -31,4 +31,4 @@ pub use answers::{answer, answer_people};
 pub use command::{Change, Command, Question};
 pub use explaining::explain;
 pub use fault::{CommandFault, refusal};
-pub use parsing::parse;
+pub use parsing::{parse, without_returns};

@@ -50,8 +50,8 @@ fn parse_line(alloc: Global, book: &Book, line: &[u8]) -> Result<Command, Comman
     parse_words(alloc, book, line)
 }
 
-/// A line without the CRs at its end.
-pub(crate) fn without_returns(line: &[u8]) -> &[u8]
+/// A line without the CRs at its end, which don't count.
+pub fn without_returns(line: &[u8]) -> &[u8]
     ensures { result.now ≡ without_returns line.now }
 {
     let mut left = line;
