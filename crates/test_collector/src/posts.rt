@@ -1,11 +1,12 @@
 //! Seats, posts, receipts and looks of a hub, in one thread, and what came into a filter's set and
-//! left it between two looks.
+//! left it between two looks. A thread appends inside a look, beside one that posts.
 //!
 //! Then posts, seats, lenses and leaves, each made once more where an allocation failed. So what is
 //! printed of these is the same whichever allocation fails: `test_collector again` runs them alone,
 //! and `tools/refuse_growths.py` lets each of its allocations fail in turn.
 
 mod again;
+mod beside;
 mod changes;
 mod fleet;
 mod no_memory;
@@ -22,6 +23,8 @@ use anyhow::Result;
 use std::alloc::Global;
 use std::marker::Brand;
 use std::sync::Wait;
+use std::thread::Threads;
+use std::time::Clock;
 
 /// Posts, seats, lenses and leaves, each made once more where an allocation failed.
 pub fn run_again<R: Print + Wait>(rt: &R, alloc: Global) -> Result<()> {
@@ -34,9 +37,13 @@ pub fn run_again<R: Print + Wait>(rt: &R, alloc: Global) -> Result<()> {
 }
 
 /// Runs each.
-pub fn run<R: Print + Wait>(rt: &R, alloc: Global) -> Result<()> {
+pub fn run<R: Print + Threads + Wait + Clock + Copy + Send + Sync>(
+    rt: &R,
+    alloc: Global,
+) -> Result<()> {
     run_alone::<Brand, R>(rt, alloc, opening(alloc)?)?;
     late::<Brand, R>(rt, alloc, opening(alloc)?)?;
     follow::<Brand, R>(rt, alloc, pushing(alloc)?)?;
+    beside::stage::<Brand, R>(rt, alloc, opening(alloc)?)?;
     run_again(rt, alloc)
 }

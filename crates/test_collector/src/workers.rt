@@ -23,6 +23,7 @@ mod paper;
 mod peers;
 mod pieces;
 mod recording;
+mod rival;
 mod scene;
 mod timers;
 mod told;
@@ -78,6 +79,18 @@ fn stage_pieces<J: Naming, R: Print + Wait + Clock>(
 {
     let hub = Hub::<J, &R>::new(alloc, rt, opening, 4)?;
     pieces::row(rt, alloc, &hub)
+}
+
+/// Serves a session whose peer calls again, over a hub of its own.
+fn stage_rival<J: Naming, R: Print + Wait + Clock>(
+    rt: &R,
+    alloc: Global,
+    opening: Opening,
+) -> Result<()>
+    requires { opening.of ≡ J.book }
+{
+    let hub = Hub::<J, &R>::new(alloc, rt, opening, 4)?;
+    rival::row(rt, alloc, &hub)
 }
 
 /// Serves all over a hub of its own.
@@ -211,6 +224,7 @@ pub fn run<R: Print + Threads + Wait + Clock + Copy + Send + Sync>(
     }
     let large = Opening::new(alloc, config(alloc, pieces::LARGE)?, 0)?;
     stage_pieces::<Brand, R>(rt, alloc, large)?;
+    stage_rival::<Brand, R>(rt, alloc, opening(alloc)?)?;
     stage_known::<Brand, R>(rt, alloc, opening(alloc)?)?;
     for course in [WHOLE, CLOSING] {
         stage_all::<Brand, R>(rt, alloc, opening(alloc)?, course)?;

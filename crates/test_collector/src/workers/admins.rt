@@ -62,7 +62,7 @@ fn command<J: Naming, H: Wait + Drop, R: Wait>(
     };
     let ended = serve(&context, &mut link, lens, pass, door);
     let Link { writer, .. } = link;
-    Some((writer, Ending::of(&ended)))
+    Some((writer, Ending::of(&ended).behind(gate.turns())))
 }
 
 /// Serves an admin over a paper that looks, with answers for these readers.

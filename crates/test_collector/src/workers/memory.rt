@@ -78,6 +78,13 @@ impl<'a> Script<'a> {
     }
 }
 
+impl Script<'_> {
+    /// How often it was read.
+    pub fn reads(&self) -> u64 {
+        self.reads
+    }
+}
+
 impl<'a> Source for Script<'a> {
     ghost use Rattle.std.specs.Prelude.{None};
 
@@ -123,11 +130,12 @@ pub fn copied(bytes: &[u8], buffer: &mut [u8]) -> Came
     Came::Bytes(count)
 }
 
-/// A gate that is open for so many looks, and closed from then on.
+/// A gate that is open for so many looks, and closed from then on. It counts the turns.
 #[derive(Drop)]
 pub struct Turnstile {
     open: u64,
     looks: AtomicU64,
+    turns: AtomicU64,
 }
 
 impl Turnstile {
@@ -136,12 +144,20 @@ impl Turnstile {
         Turnstile {
             open,
             looks: AtomicU64::new(0),
+            turns: AtomicU64::new(0),
         }
+    }
+
+    /// How many turns workers made.
+    pub fn turns(&self) -> u64 {
+        self.turns.load(Ordering::SeqCst)
     }
 }
 
 impl Gate for Turnstile {
-    fn turn(&self, _place: Place) {}
+    fn turn(&self, _place: Place) {
+        self.turns.fetch_add(1, Ordering::SeqCst);
+    }
 
     fn stop(&self) -> bool {
         self.looks.fetch_add(1, Ordering::SeqCst) >= self.open

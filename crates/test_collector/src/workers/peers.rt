@@ -69,7 +69,7 @@ pub fn talk<J: Naming, H: Wait + Drop, R: Wait + Clock>(
     };
     let ended = serve(&context, &mut link, pass);
     let Link { writer, .. } = link;
-    (writer, Ending::of(&ended))
+    (writer, Ending::of(&ended).behind(gate.turns()))
 }
 
 /// Prints what was written, what the row of 10.0.0.1 was at each write, and how it ended.

@@ -13,8 +13,30 @@ enum How {
     Read,
     Write,
     Session(SessionCause),
-    Post,
+    Post(Refusal),
     Look,
+}
+
+/// Why a post was refused.
+#[derive(Clone, Copy, Debug)]
+enum Refusal {
+    Replaced,
+    NotNext,
+    NoMemory,
+    Pending,
+    Spent,
+}
+
+impl Refusal {
+    fn of(fault: &PostFault) -> Refusal {
+        match fault {
+            PostFault::Replaced { .. } => Refusal::Replaced,
+            PostFault::NotNext { .. } => Refusal::NotNext,
+            PostFault::NoMemory(_) => Refusal::NoMemory,
+            PostFault::Pending => Refusal::Pending,
+            PostFault::Spent => Refusal::Spent,
+        }
+    }
 }
 
 impl How {
@@ -23,7 +45,7 @@ impl How {
             Cause::Read => How::Read,
             Cause::Write => How::Write,
             Cause::Session(cause) => How::Session(*cause),
-            Cause::Post(_) => How::Post,
+            Cause::Post(fault) => How::Post(Refusal::of(fault)),
             Cause::Look => How::Look,
         }
     }
@@ -35,7 +57,7 @@ impl How {
             How::Read => "a read failed",
             How::Write => "a write failed",
             How::Session(_) => "the session ended",
-            How::Post => "a post was refused",
+            How::Post(_) => "a post was refused",
             How::Look => "no look",
         }
     }
@@ -45,17 +67,20 @@ impl Display for How {
     fn fmt<W: Write>(&self, f: &mut Formatter<W>) -> fmt::Result {
         match self {
             How::Session(cause) => write!(f, "{cause}"),
+            How::Post(refusal) => write!(f, "{}: {refusal:?}", self.words()),
             how => write!(f, "{}", how.words()),
         }
     }
 }
 
-/// How a worker ended, and how many events its receipts show.
+/// How a worker ended, how many events its receipts show, and how many turns it made, if its gate
+/// counts them.
 #[derive(Clone, Copy)]
 pub struct Ending {
     how: How,
     last: Option<u64>,
     left: Option<u64>,
+    turns: Option<u64>,
 }
 
 fn count(receipt: &Option<Receipt>) -> Option<u64> {
@@ -71,6 +96,7 @@ impl Ending {
             how,
             last: count(&served.last),
             left: count(&served.left),
+            turns: None,
         }
     }
 
@@ -80,6 +106,13 @@ impl Ending {
             Ok(served) => Ending::told(How::Whole, served),
             Err(faulted) => Ending::told(How::of(&faulted.cause), &faulted.served),
         }
+    }
+
+    /// The same, behind so many turns.
+    pub fn behind(self, turns: u64) -> Ending {
+        let mut ending = self;
+        ending.turns = Some(turns);
+        ending
     }
 
     /// Whether its seat is free again.
@@ -94,6 +127,10 @@ impl Display for Ending {
             f,
             "{}; last {:?}, left {:?}",
             self.how, self.last, self.left
-        )
+        )?;
+        match self.turns {
+            None => Ok(()),
+            Some(turns) => write!(f, "; turns {turns}"),
+        }
     }
 }

@@ -9,3 +9,6 @@ ghosts-late g a = record { book = a.opening.of }
 
 abbrev pub ghosts-follow : goal.ghosts-follow
 ghosts-follow g a = record { book = a.opening.of }
+
+abbrev pub ghosts-stage : goal.ghosts-stage
+ghosts-stage g a = record { book = a.opening.of }

@@ -12,3 +12,6 @@ ghosts-stage_known g a = record { book = a.opening.of }
 
 abbrev pub ghosts-stage_pieces : goal.ghosts-stage_pieces
 ghosts-stage_pieces g a = record { book = a.opening.of }
+
+abbrev pub ghosts-stage_rival : goal.ghosts-stage_rival
+ghosts-stage_rival g a = record { book = a.opening.of }
