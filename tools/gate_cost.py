@@ -106,4 +106,5 @@ def main():
     sys.exit(process.returncode)
 
 
-main()
+if __name__ == "__main__":
+    main()
