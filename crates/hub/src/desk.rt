@@ -129,16 +129,6 @@ impl<J: Naming, R: Wait + Drop> Desk<J, R> {
         Some(press)
     }
 
-    /// Takes the press as `take` does, where something was appended that it hasn't.
-    pub fn take_more(&mut self) -> Option<Press<J, R>>
-        ensures { self.new ≡ self.old }
-    {
-        if self.queue.is_empty() {
-            return None;
-        }
-        self.take()
-    }
-
     /// Lays the press back, which showed all that it took or was refused.
     pub fn put_back<W: Wait>(&mut self, rt: &W, press: Press<J, R>, showed: bool)
         requires { showed ≡ true → press.shown ≡ whole press.taken }

@@ -7,11 +7,10 @@ use crate::posting::crew::{Crew, Tally};
 use crate::posting::load::{Load, Share};
 use crate::posting::tell::Shown;
 use agg_types::{What, Whats};
-use hub::{Await, Hub, Lens, Naming, Pass, Receipt, Ticket};
+use hub::{Hub, Lens, Naming, Pass, Receipt};
 use std::alloc::Global;
 use std::rt::Clock;
 use std::sync::Wait;
-use std::time::Duration;
 use test_support::{address, scattered};
 
 /// The threads of a run over a hub.
@@ -55,41 +54,6 @@ fn post<J: Naming, H: Wait + Drop, W: Wait>(
     hub.post(rt, pass, whats).ok()
 }
 
-// Appends a batch, as a session does.
-fn append<J: Naming, H: Wait + Drop, W: Wait>(
-    rt: &W,
-    hub: &Hub<J, H>,
-    pass: &mut Pass,
-    whats: Whats,
-) -> Option<Ticket>
-    requires { pass.old.seen.of ≡ hub.now.of }
-    ensures pass { pass.new.seen.of ≡ hub.now.of }
-    ensures ticket { IfSome result (λ ticket. ticket.of ≡ hub.now.of) }
-{
-    if !hub.allows(&whats) {
-        return None;
-    }
-    match hub.append(rt, pass, whats) {
-        Ok(ticket) => Some(ticket),
-        Err(_) => None,
-    }
-}
-
-// Waits until an appended batch is shown, as a session does.
-fn wait<J: Naming, H: Wait + Drop, W: Wait + Clock>(
-    rt: &W,
-    hub: &Hub<J, H>,
-    ticket: Ticket,
-) -> Option<Receipt>
-    requires { ticket.of ≡ hub.now.of }
-    ensures { IfSome result (λ receipt. receipt.of ≡ hub.now.of) }
-{
-    match hub.wait(rt, ticket, Duration::from_secs(60)) {
-        Await::Shown(receipt) => Some(receipt),
-        Await::NotYet(_) | Await::Pending => None,
-    }
-}
-
 // A new seat.
 fn sit<J: Naming, H: Wait + Drop, W: Wait>(rt: &W, hub: &Hub<J, H>) -> Option<Pass>
     ensures { IfSome result (λ p. p.seen.of ≡ hub.now.of) }
@@ -119,7 +83,7 @@ fn open<J: Naming, H: Wait + Drop, W: Wait>(
 }
 
 // Posts one batch of a share.
-fn post_batch<J: Naming, H: Wait + Drop, W: Wait + Clock>(
+fn post_batch<J: Naming, H: Wait + Drop, W: Wait>(
     rt: &W,
     alloc: Global,
     hub: &Hub<J, H>,
@@ -131,9 +95,7 @@ fn post_batch<J: Naming, H: Wait + Drop, W: Wait + Clock>(
     ensures { IfSome result (λ _. pass.new.seen.of ≡ hub.now.of) }
 {
     let whats = share.batch(alloc, number).ok()?;
-    let ticket = append(rt, hub, pass, whats)?;
-    let receipt = wait(rt, hub, ticket)?;
-    pass.see(&receipt);
+    post(rt, hub, pass, whats)?;
     Some(())
 }
 

@@ -2,12 +2,10 @@
 //!
 //! Whoever finds the press under the lock takes it with all that was appended, shows readers that
 //! without the lock, and lays it back. It then wakes those whose lists are shown, and one of those
-//! that appended meanwhile: that one is the next to publish. Whoever waits with a clock takes the
-//! press again a few times where more was appended, as long as no look holds it up.
+//! that appended meanwhile: that one is the next to publish.
 
 ghost use Rattle.std.specs.Prelude.{◌≡◌, true, IfSome, MatchResult};
 ghost use Rattle.std.specs.List.{All};
-ghost use Rattle.hub.specs.Copied.{whole};
 ghost use Rattle.hub.specs.Posts.{AppendRefused, Appends, IsAwaited};
 ghost use Rattle.hub.specs.Roll.{MayPost};
 
@@ -19,28 +17,9 @@ use crate::pass::Pass;
 use crate::press::Press;
 use crate::receipt::{Receipt, Ticket};
 use agg_types::Whats;
-use std::io;
 use std::rt::Clock;
 use std::sync::{Condvar, CondvarTimeouts, Wait};
-use std::time::{Duration, Instant};
-
-/// In how many rounds at most one thread publishes, before another one goes on. What it wrote lies in
-/// the caches of its core.
-const MOST_ROUNDS: u32 = 4;
-
-/// For how long it goes on with a further round, in ms. A round that waited for a look takes longer.
-const QUICK: u64 = 5;
-
-// Whether it is quick so far.
-fn is_quick<W: Clock>(rt: &W, start: &io::Result<Instant>) -> bool {
-    let Ok(start) = start else {
-        return false;
-    };
-    match start.elapsed(rt) {
-        Ok(time) => time < Duration::from_millis(QUICK),
-        Err(_) => false,
-    }
-}
+use std::time::Duration;
 
 impl<J: Naming, R: Wait + Drop> Hub<J, R> {
     /// Where those wait that wait for a round.
@@ -55,59 +34,20 @@ impl<J: Naming, R: Wait + Drop> Hub<J, R> {
     // Publishes once, without the lock, and says whether that was shown.
     fn publish<W: Wait>(&self, rt: &W, press: Press<J, R>) -> bool {
         let (press, showed) = press.publish(rt);
-        let _ = self.lay_back(rt, press, showed, false);
-        showed
-    }
-
-    // Publishes what the press has, and while that is quick what is appended meanwhile, in a few
-    // rounds; says whether the last one was shown.
-    fn publish_on<W: Wait + Clock>(&self, rt: &W, press: Press<J, R>) -> bool {
-        let start = Instant::now(rt);
-        let mut press = press;
-        for _ in 1..MOST_ROUNDS {
-            let (same, showed) = press.publish(rt);
-            let goes_on = showed && is_quick(rt, &start);
-            match self.lay_back(rt, same, showed, goes_on) {
-                Some(next) => press = next,
-                None => return showed,
-            }
-        }
-        self.publish(rt, press)
-    }
-
-    // Lays the press back, and wakes those whose lists are shown. If this thread goes on, and more
-    // was appended, it gets the press again; else one of those that appended is woken, to publish.
-    fn lay_back<W: Wait>(
-        &self,
-        rt: &W,
-        press: Press<J, R>,
-        showed: bool,
-        goes_on: bool,
-    ) -> Option<Press<J, R>>
-        requires { showed ≡ true → press.shown ≡ whole press.taken }
-    {
         let (press, idle) = press.reader();
         let mut desk = self.desk.lock(rt);
         desk.keep(idle);
         desk.put_back(rt, press, showed);
         let round = desk.round();
-        let more = if goes_on { desk.take_more() } else { None };
         drop(desk);
         self.bell(round).notify_all();
-        if more.is_none() {
-            self.wake_next(round, showed);
-        }
-        more
-    }
-
-    // Wakes one of those that wait for the round behind this one, or all where this one was refused.
-    fn wake_next(&self, round: u64, showed: bool) {
         let next = self.bell(round.wrapping_add(1));
         if showed {
             next.notify_one();
         } else {
             next.notify_all();
         }
+        showed
     }
 
     /// Where the last showing was refused, tries it again; whether none is refused now.
@@ -189,7 +129,7 @@ impl<J: Naming, R: Wait + Drop> Hub<J, R> {
             }
             if let Some(press) = desk.take() {
                 drop(desk);
-                if !self.publish_on(rt, press) {
+                if !self.publish(rt, press) {
                     return Await::Pending;
                 }
             } else if late {

@@ -1,6 +1,11 @@
+use Rattle.std.proofs.Common.{◌≡◌, sym, subst}
+use Rattle.hub.specs.Copied.{whole}
+use Rattle.hub.specs.Kept.{Pressed}
 use Rattle.hub.proofs.Held.{published}
 use Rattle.hub.proofs.hub.Hub.publish.Goals as goal
 
-pub lay_back-requires : goal.lay_back-requires
-lay_back-requires g c = published c.args.press c.publish-press.result.0 c.publish-press.result.1
-    c.publish-press.ensures.taken c.publish-press.ensures.shown
+pub put_back-requires : goal.put_back-requires
+put_back-requires g c = λ done. subst (λ (p : Pressed). p.shown ≡ whole p.taken)
+    (sym c.reader-press.ensures)
+    (published c.args.press c.publish-press.result.0 c.publish-press.result.1
+    c.publish-press.ensures.taken c.publish-press.ensures.shown done)

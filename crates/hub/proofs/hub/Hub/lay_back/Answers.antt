@@ -1,8 +1,0 @@
-use Rattle.std.proofs.Common.{◌≡◌, sym, subst}
-use Rattle.hub.specs.Copied.{whole}
-use Rattle.hub.specs.Kept.{Pressed}
-use Rattle.hub.proofs.hub.Hub.lay_back.Goals as goal
-
-pub put_back-requires : goal.put_back-requires
-put_back-requires g c = λ done. subst (λ (p : Pressed). p.shown ≡ whole p.taken)
-    (sym c.reader-press.ensures) (c.requires done)
