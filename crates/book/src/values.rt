@@ -17,6 +17,7 @@ use crate::store::Store;
 use agg_types::{Cell, Col, Cond, Key};
 use peer_rows::{Held, OfKey, Row};
 use period_rate::Rate;
+use standing_filters::fails_for_good;
 
 // What the sum of a bound and a cell still fits beside.
 const LARGEST_BOUND: u128 = u128::MAX - (1 << 64);
@@ -251,8 +252,21 @@ pub fn found_meets(rows: Option<&OfKey<'_>>, cols: &[(Col, u32)], t: u64, conds:
         (λ cond. op_holds cond.op (found_worth cols.now cond.col t rows.entry) cond.bound)
         conds.now }
 {
-    conds.iter().all(|cond| {
-        cond.op
-            .holds(found_worth(rows, cols, cond.col, t), cond.bound)
-    })
+    conds.iter().all(|cond| found_holds(rows, cols, t, cond))
+}
+
+// Whether a condition holds of what the rows of the key that were found sum up to. No row is read
+// where the most that they are ever worth is at hand and fails it.
+fn found_holds(rows: Option<&OfKey<'_>>, cols: &[(Col, u32)], t: u64, cond: &Cond) -> bool
+    requires { IfSome rows (λ rows. length rows.now < 2 ^ 64) }
+    ensures { result ≡ op_holds cond.now.op
+        (found_worth cols.now cond.now.col t rows.entry) cond.now.bound }
+{
+    if let Some(most) = found_most(rows, cols, cond.col) {
+        if fails_for_good(cond.op, most, cond.bound) {
+            return false;
+        }
+    }
+    cond.op
+        .holds(found_worth(rows, cols, cond.col, t), cond.bound)
 }

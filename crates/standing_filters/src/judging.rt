@@ -233,8 +233,11 @@ fn holds_now<F: Falls>(part: &Part<F>, now: u64, meter: &mut Meter) -> Option<bo
     }
 }
 
-// Whether a comparison fails for this value and all below it.
-fn fails_for_good(op: Op, value: u128, bound: u64) -> bool
+/// Whether a comparison fails for this value and all below it.
+///
+/// Who keeps at hand the most that values are ever worth asks this first, and so reads none of them
+/// where it settles the answer.
+pub fn fails_for_good(op: Op, value: u128, bound: u64) -> bool
     ensures { IsTrue result → (lower : ℕ) → lower ≤ value → op_holds op lower bound ≡ false }
 {
     match op {

@@ -40,6 +40,6 @@ mod watch;
 
 pub use adding::Adding;
 pub use flips::{Flip, Flips};
-pub use judging::{Verdict, judge};
+pub use judging::{Verdict, fails_for_good, judge};
 pub use keys::Keys;
 pub use standing::Standing;
