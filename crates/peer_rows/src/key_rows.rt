@@ -420,23 +420,36 @@ fn is_only(rows: &[PeerRow], peer: usize) -> bool
 }
 
 // Where the row of a peer stands among rows by peer, or else where it would stand. Where all peers
-// hold the key, that is at its own number.
+// hold the key, that is at its own number, and where those who don't come before it, by so many
+// sooner.
 fn find(rows: &[PeerRow], peer: usize) -> Result<usize, usize>
     requires { IsStrictlySortedBy nat_cmp (keys_of rows.now) }
     ensures { MatchResult result (IsFound peer rows.now) (IsGap peer rows.now) }
 {
-    if is_own(rows, peer) {
+    if stands_at(rows, peer, peer) {
         return Ok(peer);
+    }
+    let near = peer.saturating_sub(absent(rows));
+    if stands_at(rows, near, peer) {
+        return Ok(near);
     }
     rows.binary_search_by_key(&peer, |held| held.0)
 }
 
-// Whether the row of a peer stands at its own number.
-fn is_own(rows: &[PeerRow], peer: usize) -> bool
+// Whether the row of a peer stands at a place.
+fn stands_at(rows: &[PeerRow], at: usize, peer: usize) -> bool
     requires { IsStrictlySortedBy nat_cmp (keys_of rows.now) }
-    ensures { IsTrue result → IsFound peer rows.now peer }
+    ensures { IsTrue result → IsFound peer rows.now at }
 {
-    peer < rows.len() && rows[peer].0 == peer
+    at < rows.len() && rows[at].0 == peer
+}
+
+// How many peers before that of the last row have none.
+fn absent(rows: &[PeerRow]) -> usize {
+    match rows.last() {
+        None => 0,
+        Some(last) => last.0.saturating_sub(rows.len().saturating_sub(1)),
+    }
 }
 
 // When the first of some rows ends, if one does.
