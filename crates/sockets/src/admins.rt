@@ -13,6 +13,11 @@ use std::time::{Clock, Duration};
 /// How often is looked for a connection, in ms.
 const LOOK: u64 = 10;
 
+/// How often behind the last one, since who has asked often asks again, and how many times.
+const FIRST_LOOK: u64 = 1;
+
+const FIRST_LOOKS: u32 = 200;
+
 /// How long is rested after an accept that failed, in ms: if it may pass, and if not.
 const REST: u64 = 100;
 
@@ -50,6 +55,15 @@ fn rest_after<R: Wait>(rt: &R, connections: &Connections, fault: &io::Error) -> 
         LOOK
     } else {
         REST
+    }
+}
+
+// How long is rested where nobody came at so many looks, in ms.
+fn rest_behind(looks: u32) -> u64 {
+    if looks < FIRST_LOOKS {
+        FIRST_LOOK
+    } else {
+        LOOK
     }
 }
 
@@ -122,6 +136,7 @@ impl Admins {
     /// The next connection. None once the peers' door is closed.
     pub fn next<R: Clock + Wait>(&self, rt: &R, connections: &Connections) -> Option<Call> {
         let _turn = self.turn.lock(rt);
+        let mut looks = 0u32;
         for _ in rt.forever() {
             if connections.are_closed() {
                 return None;
@@ -131,9 +146,10 @@ impl Admins {
             }
             let rest = match self.accept() {
                 Answer::Came(call) => return Some(call),
-                Answer::Nobody => LOOK,
+                Answer::Nobody => rest_behind(looks),
                 Answer::Failed(fault) => rest_after(rt, connections, &fault),
             };
+            looks = looks.saturating_add(1);
             rt.sleep(Duration::from_millis(rest));
         }
         unreachable!()
