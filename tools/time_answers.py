@@ -3,8 +3,10 @@
 
     time_answers.py --haproxy /usr/sbin/haproxy --keys 100000
     time_answers.py --collector ../crates/aggregator/out/aggregator --keys 100000
+    time_answers.py --collector ../crates/aggregator/out/aggregator --keys 100000 --peers 20
 
-It speaks as the peer `lb1` to the receiver `agg`, as time_receiver.py does, and defines a table `t` of addresses
+It speaks as the peer `lb1` to the receiver `agg`, as time_receiver.py does, and with `--peers` as so many peers that
+hold the same keys, which HAProxy isn't asked for. It defines a table `t` of addresses
 with gpc0, conn_cnt and http_req_rate(10s). The key of each number n has gpc0 n modulo 200. Then it asks for the
 whole table, for the rows of one key in 200, and for one key, each the least of five times, and clears the table.
 A time is from the question's first byte to the answer's last; the bytes of each answer are printed too.
@@ -22,7 +24,10 @@ from time_receiver import COLLECTOR_CONFIG, Peer, definition, message, start_hap
 
 EXPIRY = 600000
 
-QUESTIONS = ["show table t", "show table t data.gpc0 gt 198", "show table t key 10.0.0.7"]
+
+def questions(peers):
+    """The whole table, the rows of one key in 200, and one key, where so many peers hold each key."""
+    return ["show table t", f"show table t data.gpc0 gt {199 * peers - 1}", "show table t key 10.0.0.7"]
 
 
 def stream(keys):
@@ -45,10 +50,11 @@ def timed(question, asked, times):
     print(f"{question}: {min(took) * 1e3:.1f} ms, {len(answer)} bytes")
 
 
-def measure(address, keys, asked):
+def measure(address, keys, asked, names):
     data = stream(keys)
-    Peer(address, "lb1", "agg").push(data, keys)
-    for question in QUESTIONS:
+    for name in names:
+        Peer(address, name, "agg").push(data, keys)
+    for question in questions(len(names)):
         timed(question, asked, 5)
     timed("clear table t", asked, 1)
 
@@ -58,20 +64,22 @@ def main():
     words.add_argument("--collector", help="the aggregator program to ask")
     words.add_argument("--haproxy", help="the haproxy program to ask")
     words.add_argument("--keys", type=int, default=100000)
+    words.add_argument("--peers", type=int, default=1, help="how many peers hold the keys, for --collector")
     options = words.parse_args()
+    names = [f"lb{number + 1}" for number in range(1 if options.haproxy else options.peers)]
     with tempfile.TemporaryDirectory() as folder:
         if options.haproxy:
             process, address, asked = start_haproxy(options.haproxy, 1, folder)
         elif options.collector:
             config = pathlib.Path(folder) / "collector.conf"
-            config.write_text(COLLECTOR_CONFIG.format(peers="peer lb1", more=""))
+            config.write_text(COLLECTOR_CONFIG.format(peers="\n".join(f"peer {name}" for name in names), more=""))
             peers, admin = free_ports(2)
             collector = Collector(options.collector, peers, admin, config)
             process, address, asked = collector.process, ("127.0.0.1", peers), collector.ask
         else:
             words.error("--collector or --haproxy is needed")
         try:
-            measure(address, options.keys, asked)
+            measure(address, options.keys, asked, names)
         finally:
             process.terminate()
             process.wait()
