@@ -233,7 +233,8 @@ fn holds_now<F: Falls>(part: &Part<F>, now: u64, meter: &mut Meter) -> Option<bo
     }
 }
 
-/// Whether a comparison fails for this value and all below it.
+/// Whether a comparison by `gt`, `ge` or `eq` fails for this value and all below it. Of the others
+/// it says that of none.
 ///
 /// Who keeps at hand the most that values are ever worth asks this first, and so reads none of them
 /// where it settles the answer.
