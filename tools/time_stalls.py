@@ -13,8 +13,10 @@ and the longest of these waits are printed for each of:
     clear   `clear table` of them all
     ends    as many rows that end at one moment
     looks   `--senders` peers that push the same `--table` keys over and over, beside no admin, one, and four that ask
-            a conditional `show table` without a pause; and what the peers bring then, as a share of what they bring
-            beside none
+            a conditional `show table`, or what `--ask` says, without a pause; and what the peers bring then, as a
+            share of what they bring beside none
+
+With `--filter all` a filter on a rate stands that all keys meet, and with `few` one that few meet.
 """
 
 import argparse
@@ -27,6 +29,7 @@ import threading
 import time
 
 from peers_protocol import TIMED_INCREMENTAL, put_int
+from time_receiver import FILTERS as STANDING
 from time_receiver import SCATTER, Peer, definition, message, start_collector, updates
 
 PHASES = ("rest", "count", "rate", "clear", "ends", "looks")
@@ -135,20 +138,20 @@ def push_on(address, name, keys, count, done):
                 count.value += 5000
 
 
-def look_on(ask, done, took):
+def look_on(ask, question, done, took):
     """Asks without a pause."""
     waits = []
     while not done.is_set():
         start = time.perf_counter()
-        ask(LOOK)
+        ask(question)
         waits.append((time.perf_counter() - start) * 1e3)
     took.put(waits)
 
 
-def beside_admins(address, ask, admins, count, seconds):
+def beside_admins(address, ask, question, admins, count, seconds):
     """What the peers bring beside so many admins, in updates a second."""
     done, took = multiprocessing.Event(), multiprocessing.Queue()
-    askers = [multiprocessing.Process(target=look_on, args=(ask, done, took)) for _ in range(admins)]
+    askers = [multiprocessing.Process(target=look_on, args=(ask, question, done, took)) for _ in range(admins)]
     for asker in askers:
         asker.start()
     probe = begin(address)
@@ -164,16 +167,16 @@ def beside_admins(address, ask, admins, count, seconds):
     return brought
 
 
-def looks(address, ask, senders, keys, seconds):
+def looks(address, ask, question, senders, keys, seconds):
     count, done = multiprocessing.Value("Q", 0), multiprocessing.Event()
     pushers = [multiprocessing.Process(target=push_on, args=(address, name, keys, count, done)) for name in senders]
     for pusher in pushers:
         pusher.start()
     while count.value < len(senders) * 5000:
         time.sleep(0.5)
-    alone = beside_admins(address, ask, 0, count, seconds)
+    alone = beside_admins(address, ask, question, 0, count, seconds)
     for admins in (1, 4):
-        beside = beside_admins(address, ask, admins, count, seconds)
+        beside = beside_admins(address, ask, question, admins, count, seconds)
         print(f"beside {admins} admins the peers bring {beside / alone:.2f} of what they bring alone", flush=True)
     done.set()
     for pusher in pushers:
@@ -191,10 +194,11 @@ def over_a_table(address, ask, options, phases):
     keeps.socket.close()
 
 
-def measure(program, senders, work):
+def measure(options, senders, work):
     """Does the work beside a collector of its own."""
+    standing = STANDING[options.filter] if options.filter else ""
     with tempfile.TemporaryDirectory() as folder:
-        process, address, ask = start_collector(program, ["probe", *senders], folder)
+        process, address, ask = start_collector(options.collector, ["probe", *senders], folder, standing)
         try:
             work(address, ask)
         finally:
@@ -209,18 +213,20 @@ def main():
     words.add_argument("--table", type=int, default=100000, help="the keys that all senders have")
     words.add_argument("--senders", type=int, default=20)
     words.add_argument("--seconds", type=float, default=5)
+    words.add_argument("--ask", default=LOOK, help="what the admins of looks ask")
+    words.add_argument("--filter", choices=STANDING, help="which keys a filter of the collector holds")
     words.add_argument("--only", choices=PHASES, action="append", help="one of the measurements; may be repeated")
     options = words.parse_args()
     phases = [it for it in PHASES if it in (options.only or PHASES)]
     senders = [f"lb{number + 1}" for number in range(max(options.senders, 1))]
     tabled = [it for it in phases if it not in ("ends", "looks")]
     if tabled:
-        measure(options.collector, senders, lambda address, ask: over_a_table(address, ask, options, tabled))
+        measure(options, senders, lambda address, ask: over_a_table(address, ask, options, tabled))
     if "ends" in phases:
-        measure(options.collector, senders, lambda address, ask: at_one_moment(address, options.keys))
+        measure(options, senders, lambda address, ask: at_one_moment(address, options.keys))
     if "looks" in phases:
-        measure(options.collector, senders,
-                lambda address, ask: looks(address, ask, senders, options.table, options.seconds))
+        measure(options, senders,
+                lambda address, ask: looks(address, ask, options.ask, senders, options.table, options.seconds))
 
 
 if __name__ == "__main__":
