@@ -10,12 +10,13 @@ use std::os::unix::net::UnixListener;
 use std::sync::{Mutex, Wait};
 use std::time::{Clock, Duration};
 
-/// How often is looked for a connection, in ms.
+/// How often is looked for a connection, in ms, once nobody came for some time.
 const LOOK: u64 = 10;
 
-/// How often behind the last one, since who has asked often asks again, and how many times.
+/// How often before that, in ms: who has asked often asks again.
 const FIRST_LOOK: u64 = 1;
 
+/// How many such looks there are behind each connection.
 const FIRST_LOOKS: u32 = 200;
 
 /// How long is rested after an accept that failed, in ms: if it may pass, and if not.
