@@ -21,6 +21,9 @@
 //! of a filter and a key the last flip says whether it is held, and where there is none that hasn't
 //! changed. Where memory for flips is refused they are lost, and no call fails for that.
 //!
+//! `fails_for_good` says of a condition that the most which values are ever worth settles it, for who
+//! lists keys by conditions too.
+//!
 //! That a key which can't come into a set again is known by one value of each condition, or by none
 //! where the values tell the most that a key is ever worth, is meant for speed, and no clause says
 //! so; nor that a verdict is searched for once where a filter is the last of its table.
