@@ -1,4 +1,4 @@
-ghost use Rattle.std.specs.Prelude.{◌≡◌, IfOk};
+ghost use Rattle.std.specs.Prelude.{◌≡◌, [], IfOk};
 ghost use Rattle.std.proofs.Common.{rules};
 ghost use Rattle.std.specs.Cmp.{partial_order_from_own_ties};
 ghost use Rattle.std.specs.Cmp.Rules.{comparing};
@@ -46,6 +46,15 @@ impl Model for Key {
 }
 
 impl Key {
+    /// The key of no bytes. Takes no memory.
+    pub fn empty() -> Key
+        ensures { result ≡ [] }
+    {
+        Key {
+            form: Form::Short(ShortKey::copy(&[])),
+        }
+    }
+
     /// A key of these bytes.
     pub fn copy(alloc: Global, bytes: &[u8]) -> Result<Key, NoMemory>
         ensures { IfOk result (λ key. key ≡ bytes.now) }

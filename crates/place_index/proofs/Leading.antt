@@ -13,14 +13,14 @@ use Rattle.place_index.specs.Reach.{Leads, IsIndex}
 use Rattle.place_index.specs.declared.reach.Reach.{Reach}
 use Rattle.place_index.proofs.Held.{empty_again}
 
-laid_same : {X : Type 0} (xs : List X) (at : ℕ) (x d : X) → at ≤ length xs
+pub laid_same : {X : Type 0} (xs : List X) (at : ℕ) (x d : X) → at ≤ length xs
     → slice_index_or (laid xs at x) at d ≡ x
 laid_same [] zero x d within = refl
 laid_same [] (suc at) x d within = absurd (omega arith)
 laid_same (y ∷ xs) zero x d within = refl
 laid_same (y ∷ xs) (suc at) x d within = laid_same xs at x d (omega arith)
 
-laid_other : {X : Type 0} (xs : List X) (at q : ℕ) (x d : X) → at ≤ length xs → (q ≡ at → ⊥)
+pub laid_other : {X : Type 0} (xs : List X) (at q : ℕ) (x d : X) → at ≤ length xs → (q ≡ at → ⊥)
     → slice_index_or (laid xs at x) q d ≡ slice_index_or xs q d
 laid_other [] zero zero x d within other = absurd (other refl)
 laid_other [] zero (suc q) x d within other =
@@ -90,7 +90,7 @@ index-laid {K} {V} {cmp} {hashed} old new places at key value was absent within 
           ];
     }
 
-emptied_same : {K V : Type 0} (places : List (Option (K × V))) (at : ℕ)
+pub emptied_same : {K V : Type 0} (places : List (Option (K × V))) (at : ℕ)
     → item_at (slice_set places at None) at ≡ None
 emptied_same [] zero = refl
 emptied_same [] (suc at) = refl
@@ -138,7 +138,7 @@ key_of_revalued : {K V : Type 0} (item : Option (K × V)) (value : V)
 key_of_revalued None value = refl
 key_of_revalued (Some i) value = refl
 
-key_at-revalued : {K V : Type 0} (places : List (Option (K × V))) (at : ℕ) (value : V) (q : ℕ)
+pub key_at-revalued : {K V : Type 0} (places : List (Option (K × V))) (at : ℕ) (value : V) (q : ℕ)
     → key_at (revalued places at value) q ≡ key_at places q
 key_at-revalued [] at value q = refl
 key_at-revalued (x ∷ places) zero value zero = key_of_revalued x value

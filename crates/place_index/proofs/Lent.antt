@@ -1,17 +1,19 @@
 -- What segments, slots and places are once a borrow of one of their values ends.
 use Rattle.std.proofs.Common.{◌≡◌, ℕ, zero, suc, ◌+◌, ◌*◌, ◌<◌, List, [], ◌∷◌, ◌++◌, length}
 use Rattle.std.proofs.Common.{Some, None, Option, refl, ap, sym, ◌∙◌, subst, arith, slice_get}
+use Rattle.std.proofs.Common.{Bool, true, false, if◌then◌else◌, inl, inr}
+use Rattle.std.proofs.lemmas.Bool.{cases_lt}
+use Rattle.std.proofs.lemmas.Option.{none-some, slice_get_past}
 use Rattle.std.proofs.lemmas.List.{append-nil, length-append, length-set}
 use Rattle.std.specs.Option.{option_map}
 use Rattle.std.specs.Prelude.{slice_set, slice_index_or, IsSome}
-use Rattle.place_index.proofs.Held.{read_item}
+use Rattle.place_index.proofs.Held.{read_item, no_item, set_from, empty_again, item_of}
 use Rattle.place_index.proofs.Joined.{joined-written, AreFull-written}
-use Rattle.place_index.specs.Lending.{with_item, with_value_in, with_slot}
+use Rattle.place_index.specs.Lending.{with_item, with_value, with_slot}
 use Rattle.place_index.specs.Places.{item_at, value_at, revalued}
 use Rattle.place_index.specs.Segments.{Roomy, joined, AreFull, AreRoomy}
-use Rattle.place_index.specs.Slots.{held_in, held}
+use Rattle.place_index.specs.Slots.{is_empty_at, held}
 use Rattle.place_index.specs.declared.slots.Slot.{Slot}
-use Rattle.place_index.specs.declared.slots.Slot.TheVariants.{Taken, Free}
 use Rattle.place_index.specs.declared.slots.Slots.{Slots}
 
 -- items, and for how many further ones there is memory
@@ -77,23 +79,29 @@ lent_roomy {X} segments blank s most len room j i n x was within is some read =
       small = was.small;
     }
 
-pub some_slot : {K V : Type 0} (slots : List (Slot K V)) (at : ℕ)
-    → IsSome (item_at (held slots) at) → at < length slots
-some_slot [] zero some = cc
-some_slot [] (suc at) some = cc
-some_slot (s ∷ slots) zero some = omega arith
-some_slot (s ∷ slots) (suc at) some = let later = some_slot slots at some in omega (arith, later)
+is_none : {X : Type 0} (item : Option X) → item ≡ None → IsSome item → ⊥
+is_none None e some = cc
+is_none (Some i) e some = none-some i (sym e)
 
-pub some_held : {K V : Type 0} (slots : List (Slot K V)) (at : ℕ) (s : Slot K V)
-    → slice_get slots at ≡ Some s → IsSome (item_at (held slots) at) → IsSome (held_in s)
-some_held {K} {V} slots at s is some =
-    subst (λ (o : Option (K × V)). IsSome o) (read_item slots at s is) some
+pub some_slot : {K V : Type 0} (b : K → Bool) (s : Slots K V) (at : ℕ)
+    → IsSome (item_at (held b s) at) → at < length s.slots.items
+some_slot {K} {V} b s at some =
+    elim (cases_lt at (length s.slots.items)) [
+      | inl within ↦ within
+      | inr past ↦ absurd (is_none (item_at (held b s) at)
+          (no_item b s at (slice_get_past s.slots.items at past)) some)
+    ]
 
-pub lent_value : {K V : Type 0} (slots : List (Slot K V)) (at : ℕ) (s : Slot K V) (v : V)
-    → slice_get slots at ≡ Some s → option_map (λ (i : K × V). i.1) (held_in s) ≡ Some v
-    → value_at (held slots) at ≡ Some v
-lent_value {K} {V} slots at s v is value =
-    ap (option_map (λ (i : K × V). i.1)) (read_item slots at s is) ∙ value
+pub lent_value : {K V : Type 0} (b : K → Bool) (s : Slots K V) (at : ℕ) (slot : Slot K V) (v : V)
+    → slice_get s.slots.items at ≡ Some slot → v ≡ slot.value
+    → IsSome (item_at (held b s) at) → value_at (held b s) at ≡ Some v
+lent_value {K} {V} b s at slot v is value some =
+    by (is_empty_at b s.own at slot.key) (read_item b s at slot is)
+  where
+    by : (e : Bool) → item_at (held b s) at ≡ (if e then None else Some (item_of slot))
+        → value_at (held b s) at ≡ Some v
+    by true none = absurd (is_none (item_at (held b s) at) none some)
+    by false item = ap (option_map (λ (i : K × V). i.1)) item ∙ ap Some (sym value)
 
 pub lent_slot : {K V : Type 0} (s : Slots K V) (at : ℕ) (slot : Slot K V) (value : V)
     → slice_get s.slots.items at ≡ Some slot
@@ -101,17 +109,25 @@ pub lent_slot : {K V : Type 0} (s : Slots K V) (at : ℕ) (slot : Slot K V) (val
 lent_slot {K} {V} s at slot value is =
     ap (λ (o : Option (Slot K V)). with_slot s o at value) (sym is)
 
-pub held_lent : {K V : Type 0} (slots : List (Slot K V)) (at : ℕ) (value : V)
-    → held (with_value_in (slice_get slots at) slots at value) ≡ revalued (held slots) at value
-held_lent [] zero value = refl
-held_lent [] (suc at) value = refl
-held_lent (Taken key before ∷ slots) zero value = refl
-held_lent (Free next ∷ slots) zero value = refl
-held_lent {K} {V} (s ∷ slots) (suc at) value =
-    by (slice_get slots at)
-    ∙ ap (λ (l : List (Option (K × V))). held_in s ∷ l) (held_lent slots at value)
+pub held_lent : {K V : Type 0} (b : K → Bool) (s : Slots K V) (at : ℕ) (value : V)
+    → held b (with_slot s (slice_get s.slots.items at) at value) ≡ revalued (held b s) at value
+held_lent {K} {V} b s at value = by (slice_get s.slots.items at) refl
   where
-    by : (o : Option (Slot K V)) → held (with_value_in o (s ∷ slots) (suc at) value)
-        ≡ held_in s ∷ held (with_value_in o slots at value)
-    by None = refl
-    by (Some t) = refl
+    in_slot : (slot : Slot K V) (e : Bool)
+        → (if e then None else Some (item_of (with_value slot value)))
+        ≡ option_map (λ (i : K × V). (i.0, value)) (if e then None else Some (item_of slot))
+    in_slot slot true = refl
+    in_slot slot false = refl
+
+    by : (o : Option (Slot K V)) → slice_get s.slots.items at ≡ o
+        → held b (with_slot s o at value) ≡ revalued (held b s) at value
+    by None none =
+        empty_again (held b s) at (no_item b s at none)
+        ∙ ap (λ (i : Option (K × V)). slice_set (held b s) at
+        (option_map (λ (i : K × V). (i.0, value)) i)) (sym (no_item b s at none))
+    by (Some slot) is =
+        set_from b s.own s.own at 0 at s.slots.items (with_value slot value) (omega arith)
+        (λ q m t e apart there. refl)
+        ∙ ap (λ (i : Option (K × V)). slice_set (held b s) at i)
+        (in_slot slot (is_empty_at b s.own at slot.key)
+        ∙ ap (option_map (λ (i : K × V). (i.0, value))) (sym (read_item b s at slot is)))

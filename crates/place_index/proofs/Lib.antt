@@ -5,5 +5,6 @@ pub mod Words
 pub mod Leading
 mod Filled
 mod Apart
+mod Own
 mod Lent
 mod Crowded

@@ -7,7 +7,6 @@ use Rattle.std.specs.declared.cmp.PartialEq as partial_eq
 use Rattle.std.specs.declared.cmp.PartialOrd as partial_ord
 use Rattle.place_index.specs.declared.key.IndexKey as index_key
 use Rattle.place_index.specs.declared.slots.Slot.{Slot}
-use Rattle.place_index.specs.declared.slots.Slot.TheVariants.{Taken, Free}
 use Rattle.place_index.specs.declared.slots.Slots.{Slots}
 use Rattle.place_index.specs.contracts.index.PlaceIndex as place_index
 use Rattle.place_index.specs.contracts.segments.Segment as segment
@@ -29,8 +28,7 @@ lends_joined T s at r = Lends (segments.the_row T) T s r (with_item s.now at)
 
 -- a slot with another value
 abbrev pub with_value : {K V : Type 0} → Slot K V → V → Slot K V
-with_value (Taken key before) value = Taken key value
-with_value (Free next) value = Free next
+with_value slot value = record slot { value = value }
 
 -- a slot ends with the last value behind r
 abbrev pub lends_value : (K V : RattleType) → MutBor (Slot K.Denot V.Denot) → MutBor V.Denot → Fml

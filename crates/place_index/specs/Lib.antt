@@ -2,6 +2,7 @@ pub mod Places
 pub mod Hash
 pub mod Segments
 pub mod Windows
+pub mod Blank
 pub mod Slots
 pub mod Loose
 pub mod Marks

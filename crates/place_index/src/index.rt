@@ -6,10 +6,10 @@ ghost use Rattle.place_index.specs.Slots.{held};
 ghost use Rattle.place_index.specs.Reach.{IsIndex, spare};
 ghost use Rattle.place_index.specs.Places.{AreDistinct, IsAbsent, AreEmpty};
 
-use crate::IndexKey;
 use crate::reach::Reach;
 use crate::slots::Slots;
 use crate::windows::{Near, Trace};
+use crate::{IndexKey, PlaceValue};
 use agg_types::NoMemory;
 use std::alloc::Global;
 use std::marker::Model;
@@ -49,13 +49,13 @@ impl<K: IndexKey, V: Drop> Model for PlaceIndex<K, V> {
 
     ghost coded = { numbered_code K.code V.code };
 
-    ghost view = { λ a. record { places = held a.slots.slots.items; room = a.room } };
+    ghost view = { λ a. record { places = held K.is_blank a.slots; room = a.room } };
 
-    ghost invariant = { λ a. IsIndex K.cmp K.hashed a.reach (held a.slots.slots.items)
-        × IsCounted a.reach (held a.slots.slots.items) a.count a.slots.slots.room a.room };
+    ghost invariant = { λ a. IsIndex K.cmp K.hashed a.reach (held K.is_blank a.slots)
+        × IsCounted a.reach (held K.is_blank a.slots) a.count a.slots.slots.room a.room };
 }
 
-impl<K: IndexKey, V: Drop> PlaceIndex<K, V> {
+impl<K: IndexKey, V: PlaceValue> PlaceIndex<K, V> {
     ghost use Rattle.std.specs.Borrow.{sem};
     ghost use Rattle.place_index.specs.Lending.{lends_place};
 
@@ -162,8 +162,8 @@ impl<K: IndexKey, V: Drop> PlaceIndex<K, V> {
     pub fn value_mut(&mut self, at: usize) -> &mut V
         requires { IsSome (item_at self.old.places at) }
         ensures* writes_back { sem 𝓛 (lends_place K.row V.row
-            (record { hashed = K.hashed }) (record { cmp = K.cmp }) (record { eq = K.eq })
-            (record { partial_cmp = K.partial_cmp }) self.entry at result) }
+            (record { hashed = K.hashed; is_blank = K.is_blank }) (record { cmp = K.cmp })
+            (record { eq = K.eq }) (record { partial_cmp = K.partial_cmp }) self.entry at result) }
         ensures value { value_at self.old.places at ≡ Some result.now }
     {
         self.slots.value_mut(at)
@@ -249,31 +249,31 @@ impl<K: IndexKey, V: Drop> PlaceIndex<K, V> {
 
 // The place of a key.
 #[inline]
-fn look<K: IndexKey, V: Drop>(slots: &Slots<K, V>, reach: &Reach<K>, key: &K) -> Option<usize>
-    requires { IsIndex K.cmp K.hashed reach.now (held slots.now.slots.items) }
-    ensures some { IfSome result (λ at. key_at (held slots.now.slots.items) at ≡ Some key.now) }
-    ensures none { IfNone result (IsAbsent (held slots.now.slots.items) key.now) }
-    ensures distinct { AreDistinct (held slots.now.slots.items) }
+fn look<K: IndexKey, V: PlaceValue>(slots: &Slots<K, V>, reach: &Reach<K>, key: &K) -> Option<usize>
+    requires { IsIndex K.cmp K.hashed reach.now (held K.is_blank slots.now) }
+    ensures some { IfSome result (λ at. key_at (held K.is_blank slots.now) at ≡ Some key.now) }
+    ensures none { IfNone result (IsAbsent (held K.is_blank slots.now) key.now) }
+    ensures distinct { AreDistinct (held K.is_blank slots.now) }
 {
     reach.find(slots, key)
 }
 
 // Lays a key that has no place into an empty one, and answers its number.
-fn lay<K: IndexKey, V: Drop>(
+fn lay<K: IndexKey, V: PlaceValue>(
     slots: &mut Slots<K, V>,
     reach: &mut Reach<K>,
     key: K,
     value: V,
 ) -> Result<usize, NoMemory>
-    requires index { IsIndex K.cmp K.hashed reach.old (held slots.old.slots.items) }
-    requires absent { IsAbsent (held slots.old.slots.items) key }
-    ensures index { IsIndex K.cmp K.hashed reach.new (held slots.new.slots.items) }
-    ensures bound { IfOk result (λ at. at ≤ length (held slots.old.slots.items)) }
-    ensures empty { IfOk result (λ at. item_at (held slots.old.slots.items) at ≡ None) }
-    ensures ok { IfOk result (λ at. held slots.new.slots.items
-        ≡ laid (held slots.old.slots.items) at (Some (key, value))) }
-    ensures err { OnErr result (held slots.new.slots.items ≡ held slots.old.slots.items) }
-    ensures small { OnOk result (length (held slots.new.slots.items) < 2 ^ 64) }
+    requires index { IsIndex K.cmp K.hashed reach.old (held K.is_blank slots.old) }
+    requires absent { IsAbsent (held K.is_blank slots.old) key }
+    ensures index { IsIndex K.cmp K.hashed reach.new (held K.is_blank slots.new) }
+    ensures bound { IfOk result (λ at. at ≤ length (held K.is_blank slots.old)) }
+    ensures empty { IfOk result (λ at. item_at (held K.is_blank slots.old) at ≡ None) }
+    ensures ok { IfOk result (λ at. held K.is_blank slots.new
+        ≡ laid (held K.is_blank slots.old) at (Some (key, value))) }
+    ensures err { OnErr result (held K.is_blank slots.new ≡ held K.is_blank slots.old) }
+    ensures small { OnOk result (length (held K.is_blank slots.new) < 2 ^ 64) }
     ensures free { slots.old.slots.room ≤ slots.new.slots.room + 1 }
     ensures spare { spare reach.old ≤ spare reach.new + 1 }
     ensures reserved { 0 < slots.old.slots.room → 0 < spare reach.old → IsOk result }
@@ -288,35 +288,35 @@ fn lay<K: IndexKey, V: Drop>(
 }
 
 // Exchanges the value in a place.
-fn exchange<K: IndexKey, V: Drop>(
+fn exchange<K: IndexKey, V: PlaceValue>(
     slots: &mut Slots<K, V>,
     reach: &Reach<K>,
     at: usize,
     value: V,
 ) -> Option<V>
-    requires { IsIndex K.cmp K.hashed reach.now (held slots.old.slots.items) }
-    ensures index { IsIndex K.cmp K.hashed reach.now (held slots.new.slots.items) }
-    ensures value { result ≡ value_at (held slots.old.slots.items) at }
-    ensures after { held slots.new.slots.items
-        ≡ revalued (held slots.old.slots.items) at value }
-    ensures filled { filled (held slots.new.slots.items)
-        ≡ filled (held slots.old.slots.items) }
+    requires { IsIndex K.cmp K.hashed reach.now (held K.is_blank slots.old) }
+    ensures index { IsIndex K.cmp K.hashed reach.now (held K.is_blank slots.new) }
+    ensures value { result ≡ value_at (held K.is_blank slots.old) at }
+    ensures after { held K.is_blank slots.new
+        ≡ revalued (held K.is_blank slots.old) at value }
+    ensures filled { filled (held K.is_blank slots.new)
+        ≡ filled (held K.is_blank slots.old) }
     ensures free { slots.new.slots.room ≡ slots.old.slots.room }
 {
     slots.replace(at, value)
 }
 
 // Empties a place, and answers what lay there. A hint says where its word may stand.
-fn take<K: IndexKey, V: Drop>(
+fn take<K: IndexKey, V: PlaceValue>(
     slots: &mut Slots<K, V>,
     reach: &mut Reach<K>,
     at: usize,
     near: Near,
 ) -> Option<(K, V)>
-    requires { IsIndex K.cmp K.hashed reach.old (held slots.old.slots.items) }
-    ensures index { IsIndex K.cmp K.hashed reach.new (held slots.new.slots.items) }
-    ensures value { result ≡ item_at (held slots.old.slots.items) at }
-    ensures after { held slots.new.slots.items ≡ slice_set (held slots.old.slots.items) at None }
+    requires { IsIndex K.cmp K.hashed reach.old (held K.is_blank slots.old) }
+    ensures index { IsIndex K.cmp K.hashed reach.new (held K.is_blank slots.new) }
+    ensures value { result ≡ item_at (held K.is_blank slots.old) at }
+    ensures after { held K.is_blank slots.new ≡ slice_set (held K.is_blank slots.old) at None }
     ensures free { slots.new.slots.room ≡ slots.old.slots.room }
     ensures spare { spare reach.old ≤ spare reach.new }
 {

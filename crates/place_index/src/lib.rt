@@ -24,6 +24,12 @@
 //! before the place's key was looked at. So all that is proved of them is one direction: each
 //! filled place is reached from its key.
 //!
+//! A place is a key beside its value (`Slot`), without a byte that says whether it is empty: there
+//! the blank key stands (`IndexKey::blank`), and a value that keeps the number of the next empty
+//! place (`PlaceValue::blank`). The blank key may be laid down as any other: the number of its own
+//! place is kept once for all, so all other places where it stands are empty. No value says that a
+//! place is empty, so whoever borrows one may write any.
+//!
 //! Windows are made one by one as places come, each out of one other whose words it parts. Places
 //! and windows lie in segments of 1,024, which never move; the memory of a segment is taken at
 //! once, and written only as items come. So an insert moves 16 words, and the list of the
@@ -51,9 +57,12 @@ mod parting;
 mod reach;
 mod segments;
 mod slots;
+mod value;
 mod windows;
 
 pub use index::PlaceIndex;
 pub use key::IndexKey;
 pub use segments::Segments;
+pub use slots::Slot;
+pub use value::PlaceValue;
 pub use windows::{Near, Trace};

@@ -9,10 +9,10 @@ ghost use Rattle.place_index.specs.Slots.{held};
 ghost use Rattle.place_index.specs.Windows.{word_of, IsIn};
 ghost use Rattle.place_index.specs.Reach.{Leads, spare};
 
-use crate::IndexKey;
 use crate::crowd::Crowd;
 use crate::slots::Slots;
 use crate::windows::{Near, Trace, Windows, Word, short, word_at};
+use crate::{IndexKey, PlaceValue};
 use agg_types::NoMemory;
 use std::alloc::Global;
 
@@ -38,10 +38,10 @@ impl<K: IndexKey> Reach<K> {
 
     /// The place of a key.
     #[inline]
-    pub(crate) fn find<V: Drop>(&self, slots: &Slots<K, V>, key: &K) -> Option<usize>
-        ensures some { IfSome result (λ at. key_at (held slots.now.slots.items) at ≡ Some key.now) }
+    pub(crate) fn find<V: PlaceValue>(&self, slots: &Slots<K, V>, key: &K) -> Option<usize>
+        ensures some { IfSome result (λ at. key_at (held K.is_blank slots.now) at ≡ Some key.now) }
         ensures none { IfNone result ((at : ℕ)
-            → key_at (held slots.now.slots.items) at ≡ Some key.now
+            → key_at (held K.is_blank slots.now) at ≡ Some key.now
             → Leads K.cmp K.hashed self.now key.now at → ⊥) }
     {
         let hash = key.hash_of();
@@ -145,14 +145,14 @@ impl<K: IndexKey> Reach<K> {
 
 // The place of a key, if a word of the window names it.
 #[inline]
-fn named_in<K: IndexKey, V: Drop>(
+fn named_in<K: IndexKey, V: PlaceValue>(
     window: &[Word],
     slots: &Slots<K, V>,
     hash: u32,
     key: &K,
 ) -> Option<usize>
-    ensures some { IfSome result (λ at. key_at (held slots.now.slots.items) at ≡ Some key.now) }
-    ensures none { IfNone result ((at : ℕ) → key_at (held slots.now.slots.items) at ≡ Some key.now
+    ensures some { IfSome result (λ at. key_at (held K.is_blank slots.now) at ≡ Some key.now) }
+    ensures none { IfNone result ((at : ℕ) → key_at (held K.is_blank slots.now) at ≡ Some key.now
         → IsIn window.now (word_of hash at) → ⊥) }
 {
     for index in 0..window.len() {
@@ -165,15 +165,15 @@ fn named_in<K: IndexKey, V: Drop>(
 
 // The place of a key, if the word of an index names it.
 #[inline]
-fn named_at<K: IndexKey, V: Drop>(
+fn named_at<K: IndexKey, V: PlaceValue>(
     window: &[Word],
     index: usize,
     slots: &Slots<K, V>,
     hash: u32,
     key: &K,
 ) -> Option<usize>
-    ensures some { IfSome result (λ at. key_at (held slots.now.slots.items) at ≡ Some key.now) }
-    ensures none { IfNone result ((at : ℕ) → key_at (held slots.now.slots.items) at ≡ Some key.now
+    ensures some { IfSome result (λ at. key_at (held K.is_blank slots.now) at ≡ Some key.now) }
+    ensures none { IfNone result ((at : ℕ) → key_at (held K.is_blank slots.now) at ≡ Some key.now
         → slice_get window.now index ≢ Some (word_of hash at)) }
 {
     match word_at(window, index) {
@@ -184,14 +184,14 @@ fn named_at<K: IndexKey, V: Drop>(
 
 // The place of a key, if the word names it.
 #[inline]
-fn named_by<K: IndexKey, V: Drop>(
+fn named_by<K: IndexKey, V: PlaceValue>(
     word: Word,
     slots: &Slots<K, V>,
     hash: u32,
     key: &K,
 ) -> Option<usize>
-    ensures some { IfSome result (λ at. key_at (held slots.now.slots.items) at ≡ Some key.now) }
-    ensures none { IfNone result ((at : ℕ) → key_at (held slots.now.slots.items) at ≡ Some key.now
+    ensures some { IfSome result (λ at. key_at (held K.is_blank slots.now) at ≡ Some key.now) }
+    ensures none { IfNone result ((at : ℕ) → key_at (held K.is_blank slots.now) at ≡ Some key.now
         → word ≢ word_of hash at) }
 {
     match word.named(hash) {
@@ -202,14 +202,14 @@ fn named_by<K: IndexKey, V: Drop>(
 
 // The place of a key, if it is among those that found no free word.
 #[inline]
-fn crowded_at<K: IndexKey, V: Drop>(
+fn crowded_at<K: IndexKey, V: PlaceValue>(
     crowd: &Crowd<K>,
     slots: &Slots<K, V>,
     hash: u32,
     key: &K,
 ) -> Option<usize>
-    ensures some { IfSome result (λ at. key_at (held slots.now.slots.items) at ≡ Some key.now) }
-    ensures none { IfNone result ((at : ℕ) → key_at (held slots.now.slots.items) at ≡ Some key.now
+    ensures some { IfSome result (λ at. key_at (held K.is_blank slots.now) at ≡ Some key.now) }
+    ensures none { IfNone result ((at : ℕ) → key_at (held K.is_blank slots.now) at ≡ Some key.now
         → IsCrowded K.cmp crowd.now key.now hash at → ⊥) }
 {
     match crowd.get(hash, key) {
@@ -219,9 +219,13 @@ fn crowded_at<K: IndexKey, V: Drop>(
 }
 
 // The place of a key, if it is among some.
-fn loose_in<K: IndexKey, V: Drop>(loose: &[usize], slots: &Slots<K, V>, key: &K) -> Option<usize>
-    ensures some { IfSome result (λ at. key_at (held slots.now.slots.items) at ≡ Some key.now) }
-    ensures none { IfNone result ((at : ℕ) → key_at (held slots.now.slots.items) at ≡ Some key.now
+fn loose_in<K: IndexKey, V: PlaceValue>(
+    loose: &[usize],
+    slots: &Slots<K, V>,
+    key: &K,
+) -> Option<usize>
+    ensures some { IfSome result (λ at. key_at (held K.is_blank slots.now) at ≡ Some key.now) }
+    ensures none { IfNone result ((at : ℕ) → key_at (held K.is_blank slots.now) at ≡ Some key.now
         → IsLoose loose.now at → ⊥) }
 {
     for index in 0..loose.len() {
@@ -234,10 +238,10 @@ fn loose_in<K: IndexKey, V: Drop>(loose: &[usize], slots: &Slots<K, V>, key: &K)
 
 // A place, if the key lies there.
 #[inline]
-fn checked<K: IndexKey, V: Drop>(slots: &Slots<K, V>, at: usize, key: &K) -> Option<usize>
+fn checked<K: IndexKey, V: PlaceValue>(slots: &Slots<K, V>, at: usize, key: &K) -> Option<usize>
     ensures some { IfSome result
-        (λ place. key_at (held slots.now.slots.items) place ≡ Some key.now) }
-    ensures none { IfNone result (key_at (held slots.now.slots.items) at ≢ Some key.now) }
+        (λ place. key_at (held K.is_blank slots.now) place ≡ Some key.now) }
+    ensures none { IfNone result (key_at (held K.is_blank slots.now) at ≢ Some key.now) }
 {
     if slots.is_of(at, key) { Some(at) } else { None }
 }

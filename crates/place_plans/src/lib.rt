@@ -20,7 +20,7 @@
 //! number that doesn't fit there takes the memory for 12 bytes a place, in which all then lie.
 //!
 //! No clause says how long a call takes, that an empty bucket is given back, or how much memory is
-//! used: those 8 or 12 bytes a place, and 4 to 4.5 a plan in a bucket of many.
+//! used. It is those 8 or 12 bytes a place, and 4 to 4.5 a plan in a bucket of many.
 #![tactic(auto)]
 
 mod all_links;

@@ -10,10 +10,10 @@ pub returns-clause-index : goal.returns-clause-index
 returns-clause-index g c =
     subst (λ p. IsIndex g.K.Ord.cmp g.K.IndexKey.hashed c.args.reach.now p)
     (sym c.replace.ensures.after)
-    (index-revalued c.args.reach.now (held c.args.slots.now.slots.items) c.args.at c.args.value
-    c.requires)
+    (index-revalued c.args.reach.now (held g.K.IndexKey.is_blank c.args.slots.now) c.args.at
+    c.args.value c.requires)
 
 pub returns-clause-filled : goal.returns-clause-filled
 returns-clause-filled g c =
     ap (λ p. filled p) c.replace.ensures.after
-    ∙ filled-revalued (held c.args.slots.now.slots.items) c.args.at c.args.value
+    ∙ filled-revalued (held g.K.IndexKey.is_blank c.args.slots.now) c.args.at c.args.value

@@ -8,6 +8,7 @@ pub returns-clause-index : goal.returns-clause-index
 returns-clause-index g c =
     subst (λ p. IsIndex g.K.Ord.cmp g.K.IndexKey.hashed c.clear.new.self p)
     (sym c.empty.ensures.after)
-    (index-emptied c.args.reach.now c.clear.new.self (held c.args.slots.now.slots.items) c.args.at
+    (index-emptied c.args.reach.now c.clear.new.self (held g.K.IndexKey.is_blank c.args.slots.now)
+    c.args.at
     c.in_ok-key.key.now c.requires
     (sym c.in_ok-key.ensures) c.clear.ensures.others)

@@ -10,7 +10,7 @@ returns-in-Some-clause-none g c =
     if_none c.checked.result c.checked.ensures.none
     (λ wrong at is_held crowded.
     wrong (subst
-    (λ n. key_at (held c.args.slots.now.slots.items) n ≡ Some c.args.key.now)
+    (λ n. key_at (held g.K.IndexKey.is_blank c.args.slots.now) n ≡ Some c.args.key.now)
     (same_Some at c.in-Some.at (sym (c.get.ensures at crowded) ∙ c.in-Some.is)) is_held))
 
 pub returns-in-None-clause-none : goal.returns-in-None-clause-none

@@ -9,7 +9,7 @@ pub returns-in-Some-clause-none : goal.returns-in-Some-clause-none
 returns-in-Some-clause-none g c =
     if_none c.checked.result c.checked.ensures.none
     (λ wrong at is_held is.
-    wrong (subst (λ n. key_at (held c.args.slots.now.slots.items) n ≡ Some c.args.key.now)
+    wrong (subst (λ n. key_at (held g.K.IndexKey.is_blank c.args.slots.now) n ≡ Some c.args.key.now)
     (same_Some at c.in-Some.at (sym (c.named.ensures at is) ∙ c.in-Some.is)) is_held))
 
 pub returns-in-None-clause-none : goal.returns-in-None-clause-none

@@ -6,5 +6,5 @@ use Rattle.place_index.proofs.reach.named_in.Given as goal
 
 abbrev pub invariant-loop-index : goal.invariant-loop-index
 invariant-loop-index g l =
-    (k at : ℕ) → k < l.index → key_at (held l.slots.slots.items) at ≡ Some l.key
+    (k at : ℕ) → k < l.index → key_at (held g.K.IndexKey.is_blank l.slots) at ≡ Some l.key
     → slice_get l.window k ≡ Some (word_of l.hash at) → ⊥

@@ -6,8 +6,8 @@ use Rattle.place_index.proofs.index.PlaceIndex.insert.Goals as goal
 
 pub overflow_add-self : goal.overflow_add-self
 overflow_add-self g c =
-    let old = held c.self.inside.slots.slots.items in
-    let new = held c.lay.new.slots.slots.items in
+    let old = held g.K.IndexKey.is_blank c.self.inside.slots in
+    let new = held g.K.IndexKey.is_blank c.lay.new.slots in
     let more : filled new ≡ filled old + 1 =
     ap (λ p. filled p) c.in_ok-at.ensures.ok
     ∙ filled-laid old c.in_ok-at.at (c.args.key, c.args.value) c.in_ok-at.ensures.bound
@@ -17,8 +17,8 @@ overflow_add-self g c =
 
 pub invariant_of-self-2 : goal.invariant_of-self-2
 invariant_of-self-2 g c =
-    let old = held c.self.inside.slots.slots.items in
-    let new = held c.lay.new.slots.slots.items in
+    let old = held g.K.IndexKey.is_blank c.self.inside.slots in
+    let new = held g.K.IndexKey.is_blank c.lay.new.slots in
     let more : filled new ≡ filled old + 1 =
     ap (λ p. filled p) c.in_ok-at.ensures.ok
     ∙ filled-laid old c.in_ok-at.at (c.args.key, c.args.value) c.in_ok-at.ensures.bound

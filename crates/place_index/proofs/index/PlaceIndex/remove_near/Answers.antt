@@ -6,15 +6,15 @@ use Rattle.place_index.proofs.index.PlaceIndex.remove_near.Goals as goal
 
 pub overflow_sub-self : goal.overflow_sub-self
 overflow_sub-self g c =
-    let old = held c.self.inside.slots.slots.items in
+    let old = held g.K.IndexKey.is_blank c.self.inside.slots in
     let less = filled-emptied old c.args.at c.in_ok-item.item
     (sym c.in_ok-item.ensures.value) in
     omega (arith, c.self.invariant.1.counted)
 
 pub invariant_of-self-2 : goal.invariant_of-self-2
 invariant_of-self-2 g c =
-    let old = held c.self.inside.slots.slots.items in
-    let new = held c.take.new.slots.slots.items in
+    let old = held g.K.IndexKey.is_blank c.self.inside.slots in
+    let new = held g.K.IndexKey.is_blank c.take.new.slots in
     let less = filled-emptied old c.args.at c.in_ok-item.item
     (sym c.in_ok-item.ensures.value) in
     let same = ap (λ p. filled p) c.in_ok-item.ensures.after in (

@@ -7,10 +7,10 @@ use Rattle.place_index.proofs.index.PlaceIndex.reserve.Goals as goal
 
 pub invariant_of-self-in_err-reserve-2 : goal.invariant_of-self-in_err-reserve-2
 invariant_of-self-in_err-reserve-2 g c =
-    let same = ap held c.reserve.ensures.same in (
+    let same = c.reserve.ensures.same in (
       subst (λ places. IsIndex g.K.Ord.cmp g.K.IndexKey.hashed c.reserve-2.new.self places)
           (sym same) (index-kept c.self.inside.reach c.reserve-2.new.self
-          (held c.self.inside.slots.slots.items) c.self.invariant.0
+          (held g.K.IndexKey.is_blank c.self.inside.slots) c.self.invariant.0
           (λ k q is. c.reserve-2.ensures.others k q)),
       record {
         counted = c.self.invariant.1.counted ∙ ap filled (sym same);
@@ -21,10 +21,10 @@ invariant_of-self-in_err-reserve-2 g c =
 
 pub invariant_of-self-2 : goal.invariant_of-self-2
 invariant_of-self-2 g c =
-    let same = ap held c.reserve.ensures.same in (
+    let same = c.reserve.ensures.same in (
       subst (λ places. IsIndex g.K.Ord.cmp g.K.IndexKey.hashed c.reserve-2.new.self places)
           (sym same) (index-kept c.self.inside.reach c.reserve-2.new.self
-          (held c.self.inside.slots.slots.items) c.self.invariant.0
+          (held g.K.IndexKey.is_blank c.self.inside.slots) c.self.invariant.0
           (λ k q is. c.reserve-2.ensures.others k q)),
       record {
         counted = c.self.invariant.1.counted ∙ ap filled (sym same);

@@ -15,13 +15,13 @@ value_mut-requires g c =
 
 pub invariant_of-self-lent : goal.invariant_of-self-lent
 invariant_of-self-lent g c = λ w.
-    let slots = c.self.inside.slots.slots.items in
-    let same = held_lent slots c.args.at w in (
+    let old = held g.K.IndexKey.is_blank c.self.inside.slots in
+    let same = held_lent g.K.IndexKey.is_blank c.self.inside.slots c.args.at w in (
       subst (λ p. IsIndex g.K.Ord.cmp g.K.IndexKey.hashed c.self.inside.reach p) (sym same)
-          (index-revalued c.self.inside.reach (held slots) c.args.at w c.self.invariant.0),
+          (index-revalued c.self.inside.reach old c.args.at w c.self.invariant.0),
       record {
         counted = c.self.invariant.1.counted
-            ∙ sym (ap (λ p. filled p) same ∙ filled-revalued (held slots) c.args.at w);
+            ∙ sym (ap (λ p. filled p) same ∙ filled-revalued old c.args.at w);
         within = c.self.invariant.1.within;
         spared = c.self.invariant.1.spared;
       },
@@ -32,7 +32,7 @@ returns g c = (
   (
     refl,
     λ w. ap (λ p. record { places = p; room = c.self.inside.room })
-        (held_lent c.self.inside.slots.slots.items c.args.at w)
+        (held_lent g.K.IndexKey.is_blank c.self.inside.slots c.args.at w)
         ∙ ap (λ n. with_place n c.args.at w) c.self.view_is,
   ),
   record {

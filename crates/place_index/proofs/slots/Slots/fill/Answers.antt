@@ -1,21 +1,35 @@
-use Rattle.std.proofs.Common.{◌≡◌, ap, ◌∙◌, arith, length}
-use Rattle.std.proofs.lemmas.List.{length-map}
-use Rattle.place_index.proofs.Held.{laid-push, laid-set}
-use Rattle.place_index.specs.Slots.{held_in, held}
-use Rattle.place_index.specs.declared.slots.Slot.TheVariants.{Taken}
+use Rattle.std.proofs.Common.{◌≡◌, length, ap, ◌∙◌, arith}
+use Rattle.std.proofs.lemmas.List.{length-set}
+use Rattle.place_index.proofs.Held.{length-held}
+use Rattle.place_index.proofs.Own.{held_pushed, held_laid}
 use Rattle.place_index.proofs.slots.Slots.fill.Goals as goal
 
 pub returns-then-at-len-clause-after : goal.returns-then-at-len-clause-after
 returns-then-at-len-clause-after g c =
-    let m : length (held c.args.self.now.slots.items) ≡ length c.args.self.now.slots.items =
-    length-map c.args.self.now.slots.items held_in in
-    ap held c.push_reserved.ensures.items
-    ∙ laid-push c.args.self.now.slots.items c.args.at (Taken c.args.key c.args.value)
-    (omega arith)
+    held_pushed g.K.IndexKey.is_blank g.met.K.IndexKey.one c.args.self.now c.own_with-self.result
+    c.push_reserved.new.self.items c.args.at
+    (record { key = c.args.key; value = c.args.value }) c.requires.absent (omega arith)
+    c.own_with-self.ensures c.push_reserved.ensures.items
+
+pub returns-then-at-len-clause-small : goal.returns-then-at-len-clause-small
+returns-then-at-len-clause-small g c =
+    let len = length-held g.K.IndexKey.is_blank c.own_with-self.result 0
+    c.push_reserved.new.self.items in
+    omega (arith, c.push_reserved.ensures.small)
 
 pub returns-clause-after : goal.returns-clause-after
 returns-clause-after g c =
-    let m : length (held c.args.self.now.slots.items) ≡ length c.args.self.now.slots.items =
-    length-map c.args.self.now.slots.items held_in in
-    ap held c.replace.ensures.after
-    ∙ laid-set c.args.self.now.slots.items c.args.at (Taken c.args.key c.args.value) (omega arith)
+    let len = length-held g.K.IndexKey.is_blank c.args.self.now.own 0
+    c.args.self.now.slots.items in
+    held_laid g.K.IndexKey.is_blank g.met.K.IndexKey.one c.args.self.now c.own_with-self.result
+    c.replace.new.self.items c.args.at
+    (record { key = c.args.key; value = c.args.value }) c.requires.absent (omega arith)
+    c.own_with-self.ensures c.replace.ensures.after
+
+pub returns-clause-small : goal.returns-clause-small
+returns-clause-small g c =
+    let len = length-held g.K.IndexKey.is_blank c.own_with-self.result 0 c.replace.new.self.items in
+    let same = ap (λ l. length l) c.replace.ensures.after
+    ∙ length-set c.args.self.now.slots.items c.args.at
+    (record { key = c.args.key; value = c.args.value }) in
+    omega (arith, len, same)

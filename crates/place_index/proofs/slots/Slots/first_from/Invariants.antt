@@ -5,4 +5,4 @@ use Rattle.place_index.proofs.slots.Slots.first_from.Given as goal
 
 abbrev pub invariant-loop-at : goal.invariant-loop-at
 invariant-loop-at g l =
-    (q : ℕ) → l.from ≤ q → q < l.at → item_at (held l.self.slots.items) q ≡ None
+    (q : ℕ) → l.from ≤ q → q < l.at → item_at (held g.K.IndexKey.is_blank l.self) q ≡ None

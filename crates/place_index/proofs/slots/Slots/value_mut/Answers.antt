@@ -1,13 +1,10 @@
 use Rattle.std.proofs.Common.{refl}
-use Rattle.place_index.proofs.Lent.{some_slot, some_held, lent_value, lent_slot}
+use Rattle.place_index.proofs.Lent.{some_slot, lent_value, lent_slot}
 use Rattle.place_index.proofs.slots.Slots.value_mut.Goals as goal
 
 pub item_mut-slot-requires : goal.item_mut-slot-requires
-item_mut-slot-requires g c = some_slot c.args.self.now.slots.items c.args.at c.requires
-
-pub value_mut-requires : goal.value_mut-requires
-value_mut-requires g c = some_held c.args.self.now.slots.items c.args.at
-    c.item_mut-slot.result.now c.item_mut-slot.ensures.value c.requires
+item_mut-slot-requires g c =
+    some_slot g.K.IndexKey.is_blank c.args.self.now c.args.at c.requires
 
 pub returns : goal.returns
 returns g c = (
@@ -18,7 +15,7 @@ returns g c = (
   ),
   record {
     writes_back = tt;
-    value = lent_value c.args.self.now.slots.items c.args.at c.item_mut-slot.result.now
-        c.value_mut.result.now c.item_mut-slot.ensures.value c.value_mut.ensures.value;
+    value = lent_value g.K.IndexKey.is_blank c.args.self.now c.args.at c.item_mut-slot.result.now
+        c.value_mut.result.now c.item_mut-slot.ensures.value c.value_mut.ensures.value c.requires;
   },
 )
