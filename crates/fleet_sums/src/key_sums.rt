@@ -5,7 +5,7 @@ ghost use Rattle.fleet_sums.specs.Totals.{totals_by};
 
 use crate::total::Total;
 use agg_types::NoMemory;
-use peer_rows::RowCells;
+use peer_rows::Row;
 use std::alloc::Global;
 use std::marker::Model;
 
@@ -59,34 +59,35 @@ impl KeySums {
     }
 
     /// Adds a row.
-    pub(crate) fn add(&mut self, cells: &RowCells)
-        requires width { length cells.now ≡ length self.old.totals }
+    pub(crate) fn add(&mut self, row: &Row)
+        requires width { length row.now.cells ≡ length self.old.totals }
         requires few { self.old.rows < 2 ^ 32 }
-        ensures { self.new ≡ with_row self.old cells.now }
+        ensures { self.new ≡ with_row self.old row.now.cells }
     {
-        add_counts(&mut self.totals, cells);
+        add_counts(&mut self.totals, row);
         self.rows += 1;
     }
 
     /// Takes a row away.
-    pub(crate) fn drop_row(&mut self, cells: &RowCells)
-        requires width { length cells.now ≡ length self.old.totals }
+    pub(crate) fn drop_row(&mut self, row: &Row)
+        requires width { length row.now.cells ≡ length self.old.totals }
         requires some { 1 ≤ self.old.rows }
-        requires enough { (col : ℕ) → counted_at cells.now col ≤ slice_index self.old.totals col }
-        requires left { (col : ℕ) → slice_index self.old.totals col - counted_at cells.now col
+        requires enough { (col : ℕ) → counted_at row.now.cells col
+            ≤ slice_index self.old.totals col }
+        requires left { (col : ℕ) → slice_index self.old.totals col - counted_at row.now.cells col
             ≤ (self.old.rows - 1) * (2 ^ 64 - 1) }
-        ensures { self.new ≡ with_row_less self.old cells.now }
+        ensures { self.new ≡ with_row_less self.old row.now.cells }
     {
-        take_counts(&mut self.totals, cells);
+        take_counts(&mut self.totals, row);
         self.rows -= 1;
     }
 
     /// Puts a row in the place of another.
-    pub(crate) fn replace_row(&mut self, old: &RowCells, new: &RowCells)
-        requires old_width { length old.now ≡ length self.old.totals }
-        requires new_width { length new.now ≡ length self.old.totals }
-        requires can { CanDrop self.old old.now }
-        ensures { self.new ≡ with_row (with_row_less self.old old.now) new.now }
+    pub(crate) fn replace_row(&mut self, old: &Row, new: &Row)
+        requires old_width { length old.now.cells ≡ length self.old.totals }
+        requires new_width { length new.now.cells ≡ length self.old.totals }
+        requires can { CanDrop self.old old.now.cells }
+        ensures { self.new ≡ with_row (with_row_less self.old old.now.cells) new.now.cells }
     {
         replace_counts(&mut self.totals, old, new);
     }
@@ -103,38 +104,38 @@ fn no_totals(alloc: Global, width: usize) -> Result<Vec<Total>, NoMemory>
     Ok(totals)
 }
 
-fn add_counts(totals: &mut [Total], cells: &RowCells)
-    requires width { length cells.now ≡ length totals.old }
+fn add_counts(totals: &mut [Total], row: &Row)
+    requires width { length row.now.cells ≡ length totals.old }
     requires room { (col : ℕ) → slice_index totals.old col + (2 ^ 64 - 1) < 2 ^ 96 }
-    ensures sums { totals.new ≡ totals_by (λ t n. t + n) totals.old cells.now }
+    ensures sums { totals.new ≡ totals_by (λ t n. t + n) totals.old row.now.cells }
     ensures bound { (col : ℕ) → slice_index totals.new col
         ≤ slice_index totals.old col + (2 ^ 64 - 1) }
 {
     for col in 0..totals.len() {
-        totals[col].add(cells.count(col));
+        totals[col].add(row.count(col));
     }
 }
 
-fn take_counts(totals: &mut [Total], cells: &RowCells)
-    requires width { length cells.now ≡ length totals.old }
-    requires enough { (col : ℕ) → counted_at cells.now col ≤ slice_index totals.old col }
-    ensures { totals.new ≡ totals_by (λ t n. t - n) totals.old cells.now }
+fn take_counts(totals: &mut [Total], row: &Row)
+    requires width { length row.now.cells ≡ length totals.old }
+    requires enough { (col : ℕ) → counted_at row.now.cells col ≤ slice_index totals.old col }
+    ensures { totals.new ≡ totals_by (λ t n. t - n) totals.old row.now.cells }
 {
     for col in 0..totals.len() {
-        totals[col].take(cells.count(col));
+        totals[col].take(row.count(col));
     }
 }
 
-fn replace_counts(totals: &mut [Total], old: &RowCells, new: &RowCells)
-    requires old_width { length old.now ≡ length totals.old }
-    requires new_width { length new.now ≡ length totals.old }
-    requires enough { (col : ℕ) → counted_at old.now col ≤ slice_index totals.old col }
-    requires room { (col : ℕ) → slice_index totals.old col - counted_at old.now col + (2 ^ 64 - 1)
-        < 2 ^ 96 }
+fn replace_counts(totals: &mut [Total], old: &Row, new: &Row)
+    requires old_width { length old.now.cells ≡ length totals.old }
+    requires new_width { length new.now.cells ≡ length totals.old }
+    requires enough { (col : ℕ) → counted_at old.now.cells col ≤ slice_index totals.old col }
+    requires room { (col : ℕ) → slice_index totals.old col - counted_at old.now.cells col
+        + (2 ^ 64 - 1) < 2 ^ 96 }
     ensures sums { totals.new ≡ totals_by (λ t n. t + n)
-        (totals_by (λ t n. t - n) totals.old old.now) new.now }
+        (totals_by (λ t n. t - n) totals.old old.now.cells) new.now.cells }
     ensures bound { (col : ℕ) → slice_index totals.new col
-        ≤ slice_index totals.old col - counted_at old.now col + (2 ^ 64 - 1) }
+        ≤ slice_index totals.old col - counted_at old.now.cells col + (2 ^ 64 - 1) }
 {
     take_counts(totals, old);
     add_counts(totals, new);

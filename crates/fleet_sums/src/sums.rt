@@ -65,7 +65,7 @@ impl Sums {
         ensures held { HasRow self.old table key.now → IsOk result }
         ensures err { OnErr result (self.new ≡ self.old) }
     {
-        self.tables[table].add(key, &row.cells)
+        self.tables[table].add(key, row)
     }
 
     /// Takes a row of a table and key away that was added before. Takes no memory.
@@ -76,7 +76,7 @@ impl Sums {
         requires can { CanDrop (sums_of self.old table key.now) row.now.cells }
         ensures { self.new ≡ dropped self.old table key.now row.now.cells }
     {
-        self.tables[table].drop_row(key, &row.cells)
+        self.tables[table].drop_row(key, row)
     }
 
     /// Puts a row of a table and key in the place of one that was added before. Takes no memory.
@@ -88,7 +88,7 @@ impl Sums {
         requires can { CanDrop (sums_of self.old table key.now) old.now.cells }
         ensures { self.new ≡ replaced self.old table key.now old.now.cells new.now.cells }
     {
-        self.tables[table].replace_row(key, &old.cells, &new.cells)
+        self.tables[table].replace_row(key, old, new)
     }
 
     /// How many rows of a table and key stand. Takes no memory.

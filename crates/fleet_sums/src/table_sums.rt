@@ -8,7 +8,7 @@ ghost use Rattle.std.specs.BTreeMap.{insert_entry, is_at, IsOrdered};
 use crate::Keys;
 use crate::key_sums::KeySums;
 use agg_types::{Key, NoMemory};
-use peer_rows::RowCells;
+use peer_rows::Row;
 use std::alloc::Global;
 use std::collections::BTreeMap;
 use std::marker::Model;
@@ -48,36 +48,36 @@ impl Table {
     }
 
     /// Adds a row of a key.
-    pub(crate) fn add(&mut self, key: &Key, cells: &RowCells) -> Result<(), NoMemory>
-        requires width { length cells.now ≡ self.old.width }
+    pub(crate) fn add(&mut self, key: &Key, row: &Row) -> Result<(), NoMemory>
+        requires width { length row.now.cells ≡ self.old.width }
         requires few { (sums_of_key self.old key.now).rows < 2 ^ 32 }
         ensures ok { OnOk result (self.new
             ≡ record self.old {
               entries = insert_entry (slice_cmp nat_cmp) self.old.entries key.now
-                  (with_row (sums_of_key self.old key.now) cells.now);
+                  (with_row (sums_of_key self.old key.now) row.now.cells);
             }) }
         ensures held { IsSome (lookup (is_at (slice_cmp nat_cmp key.now)) self.old.entries)
             → IsOk result }
         ensures err { OnErr result (self.new ≡ self.old) }
     {
         if let Some(sums) = self.keys.get_mut(key) {
-            sums.add(cells);
+            sums.add(row);
             return Ok(());
         }
         let mut sums = KeySums::new(self.alloc, self.width)?;
-        sums.add(cells);
+        sums.add(row);
         self.keys.insert(key.duplicate(self.alloc)?, sums)?;
         Ok(())
     }
 
     /// Takes a row of a key away, and the key with its last row.
-    pub(crate) fn drop_row(&mut self, key: &Key, cells: &RowCells)
-        requires width { length cells.now ≡ self.old.width }
+    pub(crate) fn drop_row(&mut self, key: &Key, row: &Row)
+        requires width { length row.now.cells ≡ self.old.width }
         requires there { IsSome (lookup (is_at (slice_cmp nat_cmp key.now)) self.old.entries) }
-        requires can { CanDrop (sums_of_key self.old key.now) cells.now }
+        requires can { CanDrop (sums_of_key self.old key.now) row.now.cells }
         ensures { self.new ≡ record self.old {
           entries = put_or_take (slice_cmp nat_cmp) self.old.entries key.now
-              (without_row (sums_of_key self.old key.now) cells.now);
+              (without_row (sums_of_key self.old key.now) row.now.cells);
         } }
     {
         let Some(sums) = self.keys.get_mut(key) else {
@@ -86,19 +86,19 @@ impl Table {
         if sums.rows() == 1 {
             forget(&mut self.keys, key);
         } else {
-            sums.drop_row(cells);
+            sums.drop_row(row);
         }
     }
 
     /// Puts a row of a key in the place of another.
-    pub(crate) fn replace_row(&mut self, key: &Key, old: &RowCells, new: &RowCells)
-        requires old_width { length old.now ≡ self.old.width }
-        requires new_width { length new.now ≡ self.old.width }
+    pub(crate) fn replace_row(&mut self, key: &Key, old: &Row, new: &Row)
+        requires old_width { length old.now.cells ≡ self.old.width }
+        requires new_width { length new.now.cells ≡ self.old.width }
         requires there { IsSome (lookup (is_at (slice_cmp nat_cmp key.now)) self.old.entries) }
-        requires can { CanDrop (sums_of_key self.old key.now) old.now }
+        requires can { CanDrop (sums_of_key self.old key.now) old.now.cells }
         ensures { self.new ≡ record self.old {
           entries = insert_entry (slice_cmp nat_cmp) self.old.entries key.now
-              (with_row (with_row_less (sums_of_key self.old key.now) old.now) new.now);
+              (with_row (with_row_less (sums_of_key self.old key.now) old.now.cells) new.now.cells);
         } }
     {
         let Some(sums) = self.keys.get_mut(key) else {

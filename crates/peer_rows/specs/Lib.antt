@@ -11,5 +11,5 @@ pub mod Rows
 pub mod Places
 pub mod Walk
 pub mod Ends
-pub mod RowEnd
+pub mod Laid
 pub mod Changed

@@ -171,7 +171,7 @@ impl Index {
         requires { IsSome (item_at self.old.places at) }
         ensures { IsPut peer row result at self.old.places self.new.places }
     {
-        let now = row.arrived;
+        let now = row.arrived();
         let most = self.peers;
         let rows = self.keys.value_mut(at);
         let old = rows.put(peer, row, most);
@@ -184,7 +184,7 @@ impl Index {
         requires { IsSome (item_at self.old.places at) }
         ensures { IsExchanged peer row.old row.new result at self.old.places self.new.places }
     {
-        let now = row.arrived;
+        let now = row.arrived();
         let end = row.end();
         let rows = self.keys.value_mut(at);
         let found = rows.exchange(peer, row);

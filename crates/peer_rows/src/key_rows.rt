@@ -20,7 +20,9 @@ use std::mem;
 /// A row with the peer that holds it.
 pub(crate) type PeerRow = (usize, Row);
 
-const _: () = prove!(size_of::<KeyRows>() == 56);
+const _: () = prove!(size_of::<KeyRows>() == 48);
+
+const _: () = prove!(size_of::<PeerRow>() == 48);
 
 /// The rows of one key: at least one, each with the peer that holds it, by peer.
 ///
@@ -127,7 +129,7 @@ impl KeyRows {
             Peers::One(_, _) => true,
             Peers::Many(rows, _) => match rows.get(peer).or(rows.last()) {
                 None => true,
-                Some((own, row)) => *own != usize::MAX && row.arrived != u64::MAX,
+                Some((own, row)) => *own != usize::MAX && row.arrived() != u64::MAX,
             },
         }
     }
@@ -250,7 +252,7 @@ fn put_second(alloc: Global, peers: &mut Peers, new: PeerRow) -> Result<(), NoMe
         unreachable!();
     };
     let mosts = Mosts::of_two(alloc, held, &new.1)?;
-    let nothing = Peers::Many(Vec::new(alloc), Mosts::empty(alloc));
+    let nothing = Peers::One(0, Row::blank());
     let Peers::One(own, held) = mem::replace(peers, nothing) else {
         unreachable!();
     };

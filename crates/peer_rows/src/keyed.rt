@@ -332,8 +332,8 @@ fn insert_new(
     let number = narrow(peer)?;
     let own = key.duplicate(alloc)?;
     index.reserve(1)?;
-    let now = row.arrived;
-    let first = mem::replace(row, Row::blank(alloc));
+    let now = row.arrived();
+    let first = mem::replace(row, Row::blank());
     let _at = index.insert(own, KeyRows::new(alloc, number, first), now)?;
     Ok(())
 }

@@ -5,11 +5,11 @@
 //! removal, a look-up or a filter of that list, and a call that ran out of memory changed nothing.
 //! The rows of one key lie together, so that one search finds what all peers hold of it.
 //!
-//! Rows lie in the numbered places of an exact index, a place for a key, in no order. A `Spot` is
-//! the number of a place: the place's key is looked at before it is believed. A key whose hash's
-//! window is full lies in an ordered map. So keys that are made to collide cost what an ordered map
-//! costs, and the hash needs no secret. `by_key` sorts the keys of its table in memory of its own,
-//! which is given back with the listing. `each_key` walks the places as they lie.
+//! Rows lie in the numbered places of an exact index, a place of 72 bytes for a key, in no order. A
+//! `Spot` is the number of a place: the place's key is looked at before it is believed. A key whose
+//! hash's window is full lies in an ordered map. So keys that are made to collide cost what an
+//! ordered map costs, and the hash needs no secret. `by_key` sorts the keys of its table in memory
+//! of its own, which is given back with the listing. `each_key` walks the places as they lie.
 //!
 //! A key's place is looked at before the first of its rows ends (`place_plans`), and `end_rows`
 //! takes out what has ended by a moment: it looks at what is due and no more. A row that is
@@ -25,6 +25,7 @@
 #![tactic(auto)]
 
 mod ahead;
+mod blank;
 mod by_key;
 mod each_key;
 mod ending;
@@ -39,7 +40,6 @@ mod narrow;
 mod of_key;
 mod packed;
 mod row;
-mod row_end;
 mod rows;
 mod spot;
 mod table;
@@ -49,6 +49,5 @@ pub use each_key::EachKey;
 pub use of_key::OfKey;
 pub use place_index::Trace;
 pub use row::{Held, Row, RowCells};
-pub use row_end::RowEnd;
 pub use rows::Rows;
 pub use spot::Spot;

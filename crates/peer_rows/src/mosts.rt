@@ -7,24 +7,27 @@ ghost use Rattle.std.specs.Prelude.{◌≡◌, ◌≤◌, ℕ, [], ◌∷◌, le
 ghost use Rattle.std.specs.Option.{option_copied};
 ghost use Rattle.peer_rows.specs.Most.{AreAdded, AreMosts, AreRaised};
 
-use crate::{Row, RowCells};
+use crate::Row;
 use agg_types::NoMemory;
 use std::alloc::Global;
 use std::marker::Model;
 
 /// Sums over rows of the most that each is worth at any moment, for the first columns. Contracts
-/// see the list of them.
+/// see the list of them. It takes eight bytes, so that it adds nothing to the place of a key of one
+/// row.
 #[derive(Drop)]
 pub(crate) struct Mosts {
-    sums: Vec<u128>,
+    sums: Box<Vec<u128>>,
 }
+
+const _: () = prove!(size_of::<Mosts>() == 8);
 
 impl Model for Mosts {
     ghost use Rattle.std.specs.Prelude.{List, ℕ};
 
     ghost Value = { List ℕ };
 
-    ghost view = { λ mosts. mosts.sums.items };
+    ghost view = { λ mosts. mosts.sums.value.items };
 }
 
 impl Mosts {
@@ -33,15 +36,8 @@ impl Mosts {
         ensures { IfOk result (λ mosts. AreMosts mosts []) }
     {
         Ok(Mosts {
-            sums: vec![in alloc; 0u128; columns]?,
+            sums: Box::new(alloc, vec![in alloc; 0u128; columns]?)?,
         })
-    }
-
-    /// No sums. Takes no memory.
-    pub(crate) fn empty(alloc: Global) -> Mosts {
-        Mosts {
-            sums: Vec::new(alloc),
-        }
     }
 
     /// Those of two rows, for the columns of the second.
@@ -51,7 +47,7 @@ impl Mosts {
         ensures turned { IfOk result (λ mosts. (p q : ℕ)
             → AreMosts mosts ((p, second.now) ∷ (q, first.now) ∷ [])) }
     {
-        let mut mosts = Mosts::none(alloc, second.cells.len())?;
+        let mut mosts = Mosts::none(alloc, second.width())?;
         mosts.add(Some(first));
         mosts.add(Some(second));
         Ok(mosts)
@@ -70,7 +66,7 @@ impl Mosts {
         ensures sums { AreRaised (option_copied row.entry) self.old self.new (length self.new) }
     {
         if let Some(row) = row {
-            if !add_each(self.sums.as_mut_slice(), &row.cells) {
+            if !add_each(self.sums.as_mut_slice(), row) {
                 self.sums.clear();
             }
         }
@@ -82,7 +78,7 @@ impl Mosts {
         ensures sums { AreRaised (option_copied row.entry) self.new self.old (length self.new) }
     {
         if let Some(row) = row {
-            if !take_each(self.sums.as_mut_slice(), &row.cells) {
+            if !take_each(self.sums.as_mut_slice(), row) {
                 self.sums.clear();
             }
         }
@@ -90,13 +86,13 @@ impl Mosts {
 }
 
 // Adds the most that each cell is worth to its column's sum, if all fit.
-fn add_each(sums: &mut [u128], cells: &RowCells) -> bool
+fn add_each(sums: &mut [u128], row: &Row) -> bool
     ensures columns { length sums.new ≡ length sums.old }
     ensures sums { IsTrue result
-        → AreAdded cells.now sums.old sums.new (length sums.new) }
+        → AreAdded row.now.cells sums.old sums.new (length sums.new) }
 {
     for col in 0..sums.len() {
-        let Some(sum) = sums[col].checked_add(u128::from(cells.most(col))) else {
+        let Some(sum) = sums[col].checked_add(u128::from(row.most(col))) else {
             return false;
         };
         sums[col] = sum;
@@ -105,13 +101,13 @@ fn add_each(sums: &mut [u128], cells: &RowCells) -> bool
 }
 
 // Takes the most that each cell is worth off its column's sum, if it is in there.
-fn take_each(sums: &mut [u128], cells: &RowCells) -> bool
+fn take_each(sums: &mut [u128], row: &Row) -> bool
     ensures columns { length sums.new ≡ length sums.old }
     ensures sums { IsTrue result
-        → AreAdded cells.now sums.new sums.old (length sums.new) }
+        → AreAdded row.now.cells sums.new sums.old (length sums.new) }
 {
     for col in 0..sums.len() {
-        let Some(sum) = sums[col].checked_sub(u128::from(cells.most(col))) else {
+        let Some(sum) = sums[col].checked_sub(u128::from(row.most(col))) else {
             return false;
         };
         sums[col] = sum;

@@ -86,7 +86,7 @@ impl<'a> OfKey<'a> {
         ensures { IfSome result (λ most. most_in col self.now ≤ most) }
     {
         match self.one {
-            Some((_, row)) if self.rows.is_empty() => Some(u128::from(row.cells.most(col))),
+            Some((_, row)) if self.rows.is_empty() => Some(u128::from(row.most(col))),
             _ => self.mosts.get(col).copied(),
         }
     }

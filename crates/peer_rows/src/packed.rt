@@ -5,8 +5,8 @@ use crate::Held;
 use period_rate::Rate;
 use std::mem::size_of;
 
-// How many numbers a word has.
-const WORD: u64 = 1 << 32;
+/// How many numbers a word has.
+pub(crate) const WORD: u64 = 1 << 32;
 
 /// A cell in words of 32 bits, so that it takes less room than a `Held`.
 #[derive(Clone, Copy, Debug)]

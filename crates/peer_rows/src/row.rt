@@ -1,18 +1,21 @@
-ghost use Rattle.std.specs.Prelude.{◌≡◌, ◌<◌, ◌==◌, [], ◌∷◌, ◌++◌, length, map, slice_get, IfOk};
-ghost use Rattle.std.specs.Prelude.{OnOk, OnErr, if◌then◌else◌};
+ghost use Rattle.std.specs.Prelude.{◌≡◌, ◌+◌, ◌/◌, ◌≤◌, [], ◌∷◌, ◌++◌, length, map};
+ghost use Rattle.std.specs.Prelude.{slice_get, IfOk, IfSome, OnOk, OnErr, if◌then◌else◌};
+ghost use Rattle.std.specs.Option.{option_map};
+ghost use Rattle.agg_types.specs.declared.limits.TheConstants.{LAST_MOMENT};
 ghost use Rattle.peer_rows.specs.Counted.{counted, counted_at};
 ghost use Rattle.peer_rows.specs.Ends.{end_of, lives_at};
 ghost use Rattle.peer_rows.specs.Form.{cells_in};
+ghost use Rattle.peer_rows.specs.Laid.{life_in, moment_of, row_in, stored};
 ghost use Rattle.peer_rows.specs.Most.{most_at, most_of};
 ghost use Rattle.peer_rows.specs.Packed.{held_of};
 
-use crate::RowEnd;
 use crate::few::{self, WORDS, Words};
-use crate::packed::Packed;
+use crate::packed::{Packed, WORD, whole};
 use agg_types::NoMemory;
 use period_rate::Rate;
 use std::alloc::Global;
 use std::marker::Model;
+use std::mem;
 
 // How many cells are laid into the value itself, while they fit there.
 const FEW: usize = 5;
@@ -184,30 +187,6 @@ impl RowCells {
         }
     }
 
-    /// What is counted in a column: nothing where it holds a rate, or where there is no such
-    /// column.
-    pub fn count(&self, col: usize) -> u64
-        ensures { result ≡ counted_at self.now col }
-    {
-        match self.get(col) {
-            Some(held) => held.counted(),
-            None => 0,
-        }
-    }
-
-    /// The most that the cell of a column is worth at any moment: nothing where there is none.
-    pub fn most(&self, col: usize) -> u64
-        ensures { result ≡ most_at self.now col }
-    {
-        match &self.form {
-            Form::Few { len, kinds, words } => few::most(*len, *kinds, words, col),
-            Form::Many(_) => match self.get(col) {
-                Some(held) => held.most(),
-                None => 0,
-            },
-        }
-    }
-
     /// How many cells there are.
     pub fn len(&self) -> usize
         ensures { result ≡ length self.now }
@@ -216,13 +195,6 @@ impl RowCells {
             Form::Few { len, kinds, words } => few::count(*len, *kinds, words),
             Form::Many(cells) => cells.len(),
         }
-    }
-
-    /// Whether there is no cell.
-    pub fn is_empty(&self) -> bool
-        ensures { result ≡ (length self.now == 0) }
-    {
-        self.len() == 0
     }
 }
 
@@ -240,35 +212,148 @@ fn spread(alloc: Global, few: &RowCells) -> Result<Vec<Packed>, NoMemory>
 }
 
 /// A row as it stands: its cells, the moment of its arrival, and the moment from which it has
-/// ended, if it ends. Moments are in milliseconds.
-#[derive(Debug, Drop)]
+/// ended, if it ends. Moments are in milliseconds. Contracts see these three.
+///
+/// It takes 40 bytes. Few cells lie in the value itself, beside a moment of arrival in the first
+/// four years, below 2^37 ms, and any life but the longest. Other rows have their cells in a block.
+#[derive(Debug)]
 pub struct Row {
-    pub cells: RowCells,
-    pub arrived: u64,
-    pub ends: RowEnd,
+    laid: Laid,
 }
 
-const _: () = prove!(size_of::<Row>() == 48);
+// By hand, so that what drops it elsewhere proves nothing of its parts.
+impl Drop for Row {
+    fn drop(self) {
+        let Row { laid: _ } = self;
+    }
+}
+
+const _: () = prove!(size_of::<Row>() == 40);
+
+#[derive(Debug, Drop)]
+enum Laid {
+    // How many cells there are, with the high bits of the moment of arrival, the digits that say
+    // the cells' kinds, and their words; the low bits of the moment, and the life.
+    Few {
+        head: u8,
+        kinds: u16,
+        words: Words,
+        low: u32,
+        life: u32,
+    },
+    // Whether it ends, and by which life.
+    Block {
+        ends: bool,
+        life: u32,
+        cells: Vec<Packed>,
+        arrived: u64,
+    },
+}
+
+// So many numbers of cells there are in a byte, beside the high bits of a moment.
+const LENS: u8 = 8;
+
+// So many numbers these bits have.
+const HIGHS: u64 = 32;
+
+// The life that says that a row of few cells never ends.
+const ENDLESS: u32 = u32::MAX;
+
+impl Model for Row {
+    ghost use Rattle.std.specs.Prelude.{◌≤◌};
+    ghost use Rattle.agg_types.specs.declared.limits.TheConstants.{LAST_MOMENT};
+    ghost use Rattle.peer_rows.specs.Laid.{StoredRow, row_in};
+
+    ghost Value = { StoredRow };
+
+    ghost view = { λ row. row_in row.laid };
+
+    ghost invariant = { λ row. (row_in row.laid).arrived ≤ LAST_MOMENT };
+}
 
 impl Row {
-    /// A row without cells, which never ends, to be left where one is taken. Takes no memory.
-    pub fn blank(alloc: Global) -> Row {
-        Row {
-            cells: RowCells {
-                form: Form::none(),
-                alloc,
-            },
-            arrived: 0,
-            ends: RowEnd::never(),
+    /// A row of cells that arrive at a moment, and end once their life is over, if they have one.
+    #[inline(always)]
+    pub fn new(cells: RowCells, arrived: u64, life: Option<u32>) -> Result<Row, NoMemory>
+        requires { arrived ≤ LAST_MOMENT }
+        ensures { IfOk result (λ row. row ≡ record {
+          cells = cells;
+          arrived = arrived;
+          ends = option_map (λ life. arrived + life) life;
+        }) }
+    {
+        match lay(&cells, arrived, life) {
+            Some(laid) => Ok(Row { laid }),
+            None => {
+                let laid = block(cells, arrived, life)?;
+                Ok(Row { laid })
+            }
         }
     }
 
-    /// The moment from which it has ended, if it ends: no sooner than it arrived.
+    /// A row without cells, which never ends, to be left where one is taken. Takes no memory.
+    pub fn blank() -> Row {
+        Row {
+            laid: Laid::Few {
+                head: 0,
+                kinds: 0,
+                words: [0; WORDS],
+                low: 0,
+                life: ENDLESS,
+            },
+        }
+    }
+
+    /// The moment of its arrival.
+    #[inline]
+    pub fn arrived(&self) -> u64
+        ensures { result ≡ self.now.arrived }
+    {
+        match &self.laid {
+            Laid::Few { head, low, .. } => moment(*head, *low),
+            Laid::Block { arrived, .. } => *arrived,
+        }
+    }
+
+    /// The moment from which it has ended, if it ends.
+    #[inline]
+    pub fn ends(&self) -> Option<u64>
+        ensures { result ≡ self.now.ends }
+    {
+        match &self.laid {
+            Laid::Few {
+                head,
+                low,
+                life,
+                ..
+            } => {
+                if *life == ENDLESS {
+                    None
+                } else {
+                    Some(moment(*head, *low) + u64::from(*life))
+                }
+            }
+            Laid::Block {
+                ends,
+                life,
+                arrived,
+                ..
+            } => {
+                if *ends {
+                    Some(*arrived + u64::from(*life))
+                } else {
+                    None
+                }
+            }
+        }
+    }
+
+    /// The same, known to be no sooner than it arrived.
     #[inline]
     pub fn end(&self) -> Option<u64>
         ensures { result ≡ end_of self.now }
     {
-        Some(self.ends.get()?.max(self.arrived))
+        Some(self.ends()?.max(self.arrived()))
     }
 
     /// Whether it lives at a moment.
@@ -280,5 +365,132 @@ impl Row {
             None => true,
             Some(end) => t < end,
         }
+    }
+
+    /// The cell of a column, if there is one.
+    pub fn get(&self, col: usize) -> Option<Held>
+        ensures { result ≡ slice_get self.now.cells col }
+    {
+        match &self.laid {
+            Laid::Few {
+                head,
+                kinds,
+                words,
+                ..
+            } => few::get(*head % LENS, *kinds, words, col),
+            Laid::Block { cells, .. } => Some(cells.get(col)?.held()),
+        }
+    }
+
+    /// What is counted in a column: nothing where it holds a rate, or where there is no such
+    /// column.
+    pub fn count(&self, col: usize) -> u64
+        ensures { result ≡ counted_at self.now.cells col }
+    {
+        match self.get(col) {
+            Some(held) => held.counted(),
+            None => 0,
+        }
+    }
+
+    /// The most that the cell of a column is worth at any moment: nothing where there is none.
+    pub fn most(&self, col: usize) -> u64
+        ensures { result ≡ most_at self.now.cells col }
+    {
+        match &self.laid {
+            Laid::Few {
+                head,
+                kinds,
+                words,
+                ..
+            } => few::most(*head % LENS, *kinds, words, col),
+            Laid::Block { .. } => match self.get(col) {
+                Some(held) => held.most(),
+                None => 0,
+            },
+        }
+    }
+
+    /// How many cells it has.
+    pub fn width(&self) -> usize
+        ensures { result ≡ length self.now.cells }
+    {
+        match &self.laid {
+            Laid::Few {
+                head,
+                kinds,
+                words,
+                ..
+            } => few::count(*head % LENS, *kinds, words),
+            Laid::Block { cells, .. } => cells.len(),
+        }
+    }
+}
+
+// The moment whose high bits lie in a byte with a number of cells.
+#[inline]
+fn moment(head: u8, low: u32) -> u64
+    ensures { result ≡ moment_of low (head / 8) }
+{
+    whole(low, u32::from(head / LENS))
+}
+
+// A row with its cells in the value itself, if these and its moments fit there.
+#[inline(always)]
+fn lay(cells: &RowCells, arrived: u64, life: Option<u32>) -> Option<Laid>
+    ensures { IfSome result (λ laid. row_in laid ≡ stored cells.now arrived life) }
+{
+    let Form::Few { len, kinds, words } = &cells.form else {
+        return None;
+    };
+    let high = arrived / WORD;
+    if *len >= LENS || high >= HIGHS {
+        return None;
+    }
+    let life = life_word(life)?;
+    Some(Laid::Few {
+        head: *len + LENS * high as u8,
+        kinds: *kinds,
+        words: *words,
+        low: (arrived % WORD) as u32,
+        life,
+    })
+}
+
+// The number of a life, if that isn't the one that says that there is none.
+#[inline(always)]
+fn life_word(life: Option<u32>) -> Option<u32>
+    ensures { IfSome result (λ word. life_in word ≡ life) }
+{
+    match life {
+        None => Some(ENDLESS),
+        Some(ENDLESS) => None,
+        Some(life) => Some(life),
+    }
+}
+
+// A row with its cells in a block.
+#[cold]
+#[inline(never)]
+fn block(cells: RowCells, arrived: u64, life: Option<u32>) -> Result<Laid, NoMemory>
+    ensures { IfOk result (λ laid. row_in laid ≡ stored cells arrived life) }
+{
+    let cells = packed(cells)?;
+    Ok(Laid::Block {
+        ends: life.is_some(),
+        life: life.unwrap_or(0),
+        cells,
+        arrived,
+    })
+}
+
+// The block of cells, made of few ones.
+fn packed(mut cells: RowCells) -> Result<Vec<Packed>, NoMemory>
+    ensures { IfOk result (λ block. map held_of block.items ≡ cells) }
+{
+    let alloc = cells.alloc;
+    match mem::replace(&mut cells.form, Form::none()) {
+        Form::Many(block) => Ok(block),
+        few => spread(alloc, &RowCells { form: few, alloc }),
     }
 }

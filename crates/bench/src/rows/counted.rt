@@ -32,7 +32,7 @@ impl Counted {
         self.rows.put(0, 0, place, row(self.alloc, id, now)?)?;
         let mut sum = 0u128;
         for (_, row) in self.rows.of_key(0, &key) {
-            sum = sum.saturating_add(u128::from(row.cells.count(0)));
+            sum = sum.saturating_add(u128::from(row.count(0)));
         }
         Ok(sum)
     }

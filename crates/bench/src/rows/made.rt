@@ -2,7 +2,7 @@
 
 use crate::measure::{print_time, time_used};
 use agg_types::{Key, NoMemory};
-use peer_rows::{Held, Row, RowCells, RowEnd};
+use peer_rows::{Held, Row, RowCells};
 use period_rate::Rate;
 use std::alloc::Global;
 use test_support::address;
@@ -14,13 +14,10 @@ pub fn scattered(alloc: Global, place: u32, number: u32) -> Result<Key, NoMemory
 
 /// A row of two counts and a rate.
 pub fn row(alloc: Global, id: u32, now: u64) -> Result<Row, NoMemory> {
-    let rate = Rate::arrive(10_000, 3, 100, 5, now.min(1 << 40));
+    let now = now.min(1 << 40);
+    let rate = Rate::arrive(10_000, 3, 100, 5, now);
     let held = [Held::Count(u64::from(id)), Held::Count(7), Held::Rate(rate)];
-    Ok(Row {
-        cells: RowCells::copy(alloc, &held)?,
-        arrived: now,
-        ends: RowEnd::from(now.min(1 << 40) + 30_000),
-    })
+    Row::new(RowCells::copy(alloc, &held)?, now, Some(30_000))
 }
 
 /// Makes the keys and rows of so many updates of so many keys and drops them, and answers how many
@@ -30,7 +27,7 @@ fn make_all(alloc: Global, number: u32, updates: u32) -> Result<u64, NoMemory> {
     for now in 0..updates {
         let key = scattered(alloc, now, number)?;
         let row = row(alloc, now, u64::from(now))?;
-        made = made.saturating_add(row.cells.len() as u64);
+        made = made.saturating_add(row.width() as u64);
         made = made.saturating_add(key.as_slice().len() as u64);
     }
     Ok(made)

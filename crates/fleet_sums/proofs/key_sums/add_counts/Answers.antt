@@ -19,7 +19,7 @@ loop-col-preserved c =
     c.index-totals-col.is 0 in
     let rest = c.loop-col.invariant.done.rest c.loop-col.col (omega arith) in
     record {
-      done = next_done (λ t n. t + n) c.args.totals.now c.args.cells.now c.loop-col.col
+      done = next_done (λ t n. t + n) c.args.totals.now c.args.row.now.cells c.loop-col.col
           c.loop-col.totals c.add.new.self c.loop-col.invariant.done (omega arith) (omega arith)
           (omega (arith, read));
       bound = bound-set c.loop-col.totals c.args.totals.now c.loop-col.col c.add.new.self

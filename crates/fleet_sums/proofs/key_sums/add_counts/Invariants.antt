@@ -4,6 +4,6 @@ use Rattle.fleet_sums.proofs.key_sums.add_counts.Given as goal
 
 abbrev pub invariant-loop-col : goal.invariant-loop-col
 invariant-loop-col l = record {
-  done : IsDone (λ t n. t + n) l.initial.totals l.cells l.col l.totals;
+  done : IsDone (λ t n. t + n) l.initial.totals l.row.cells l.col l.totals;
   bound : (k : ℕ) → get_or l.totals k 0 ≤ get_or l.initial.totals k 0 + (2 ^ 64 - 1);
 }

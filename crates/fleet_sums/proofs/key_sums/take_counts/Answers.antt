@@ -17,5 +17,5 @@ loop-col-preserved c =
     let read : c.index-totals-col.result ≡ get_or c.loop-col.totals c.loop-col.col 0 =
     get_or_read c.loop-col.totals c.loop-col.col c.index-totals-col.result (omega arith)
     c.index-totals-col.is 0 in
-    next_done (λ t n. t - n) c.args.totals.now c.args.cells.now c.loop-col.col c.loop-col.totals
+    next_done (λ t n. t - n) c.args.totals.now c.args.row.now.cells c.loop-col.col c.loop-col.totals
     c.take.new.self c.loop-col.invariant (omega arith) (omega arith) (omega (arith, read))

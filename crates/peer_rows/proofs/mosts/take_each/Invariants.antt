@@ -6,6 +6,6 @@ use Rattle.peer_rows.proofs.mosts.take_each.Given as goal
 abbrev pub invariant-loop-col : goal.invariant-loop-col
 invariant-loop-col l = record {
   columns : length l.sums ≡ length l.fn.sums;
-  sums : AreAdded l.cells l.sums l.fn.sums l.col;
+  sums : AreAdded l.row.cells l.sums l.fn.sums l.col;
   left : (k : ℕ) → l.col ≤ k → slice_index l.sums k ≡ slice_index l.fn.sums k;
 }

@@ -22,7 +22,7 @@ invariant_of-self c =
     c.in-Some.sums.now c.add.new.self (sym c.in-Some.ensures.value)
     (c.get_mut.follows.lender c.add.new.self).entries (c.get_mut.follows.holds c.add.new.self).0
     (ap (λ (k : KeyTotals). length k.totals) c.add.ensures
-    ∙ length-totals_by (λ t n. t + n) c.in-Some.sums.now.totals c.args.cells.now)
+    ∙ length-totals_by (λ t n. t + n) c.in-Some.sums.now.totals c.args.row.now.cells)
 
 pub returns-in-Some-clause-ok : goal.returns-in-Some-clause-ok
 returns-in-Some-clause-ok c =

@@ -36,7 +36,7 @@ invariant_of-self-else-rows-eq1 c =
     (c.get_mut.follows.lender c.drop_row.new.self).entries
     (c.get_mut.follows.holds c.drop_row.new.self).0
     (ap (λ (k : KeyTotals). length k.totals) c.drop_row.ensures
-    ∙ length-totals_by (λ t n. t - n) c.in-Some.sums.now.totals c.args.cells.now)
+    ∙ length-totals_by (λ t n. t - n) c.in-Some.sums.now.totals c.args.row.now.cells)
 
 pub returns-then-rows-eq1 : goal.returns-then-rows-eq1
 returns-then-rows-eq1 c =
@@ -47,7 +47,7 @@ returns-then-rows-eq1 c =
     c.in-Some.sums.now found in
     let gone = c.forget.ensures.entries
     ∙ ap (λ es. remove_entry (is_at (slice_cmp nat_cmp c.args.key.now)) es) before in
-    let last = last_row c.in-Some.sums.now c.args.cells.now (sym c.rows.ensures
+    let last = last_row c.in-Some.sums.now c.args.row.now.cells (sym c.rows.ensures
     ∙ c.if-rows-eq1.true) in
     rw (← c.self.view_is, found, last) (same_table c.self.inside.width _ _ gone)
 
@@ -58,7 +58,7 @@ returns-else-rows-eq1 c =
     let set = (c.get_mut.follows.holds c.drop_row.new.self).0
     ∙ set-held c.self.inside.width c.self.inside.keys.entries c.args.key.now c.self.invariant
     c.in-Some.sums.now c.drop_row.new.self found in
-    let more = not_last_row c.in-Some.sums.now c.args.cells.now
+    let more = not_last_row c.in-Some.sums.now c.args.row.now.cells
     (λ one. c.if-rows-eq1.false (c.rows.ensures ∙ one)) in
     rw (← c.self.view_is, found, more) (same_table c.self.inside.width _ _ (set
     ∙ ap (λ k. insert_entry (slice_cmp nat_cmp) c.self.inside.keys.entries c.args.key.now k)

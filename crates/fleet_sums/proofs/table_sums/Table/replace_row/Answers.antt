@@ -23,14 +23,14 @@ replace_row-requires-clause-new_width c =
 
 pub invariant_of-self-2 : goal.invariant_of-self-2
 invariant_of-self-2 c =
-    let taken : KeyTotals = with_row_less c.in-Some.sums.now c.args.old.now in
+    let taken : KeyTotals = with_row_less c.in-Some.sums.now c.args.old.now.cells in
     table-set c.self.inside.width c.self.inside.keys.entries c.args.key.now c.self.invariant
     c.in-Some.sums.now c.replace_row.new.self (sym c.in-Some.ensures.value)
     (c.get_mut.follows.lender c.replace_row.new.self).entries
     (c.get_mut.follows.holds c.replace_row.new.self).0
     (ap (λ (k : KeyTotals). length k.totals) c.replace_row.ensures
-    ∙ length-totals_by (λ t n. t + n) taken.totals c.args.new.now
-    ∙ length-totals_by (λ t n. t - n) c.in-Some.sums.now.totals c.args.old.now)
+    ∙ length-totals_by (λ t n. t + n) taken.totals c.args.new.now.cells
+    ∙ length-totals_by (λ t n. t - n) c.in-Some.sums.now.totals c.args.old.now.cells)
 
 pub returns : goal.returns
 returns c =

@@ -1,0 +1,10 @@
+use Rattle.std.proofs.Common.{sym, ◌∙◌}
+use Rattle.peer_rows.proofs.Counting.{counted_at_held, counted_at_none}
+use Rattle.peer_rows.proofs.row.Row.count.Goals as goal
+
+pub returns-in-Some : goal.returns-in-Some
+returns-in-Some c = c.counted.ensures
+    ∙ sym (counted_at_held c.args.self.now.cells c.args.col c.in-Some.held (sym c.in-Some.ensures))
+
+pub returns-in-None : goal.returns-in-None
+returns-in-None c = sym (counted_at_none c.args.self.now.cells c.args.col (sym c.in-None.ensures))
