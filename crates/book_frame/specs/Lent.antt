@@ -1,7 +1,6 @@
 -- What entries that are lent show.
 use Rattle.std.specs.Prelude.{ℕ, List, Option, Some, filter}
 use Rattle.std.specs.Borrow.{Bor}
-use Rattle.std.specs.Option.{option_map}
 use Rattle.agg_types.specs.declared.column.Col.{Col}
 use Rattle.agg_types.specs.declared.config.Cond.{Cond}
 use Rattle.fleet_model.specs.Answers.{listed}
@@ -20,10 +19,6 @@ key_and_sums row = (row.0.now, row.1)
 -- a key that has a summed row
 abbrev pub shown_row : List ℕ × Summed → List ℕ × Option Summed
 shown_row row = (row.0, Some row.1)
-
--- a key with its summed row, if it has one
-abbrev pub with_sums : List ℕ → Option Summed → Option (List ℕ × Summed)
-with_sums key sums = option_map (λ found. (key, found)) sums
 
 -- the keys of a table whose values meet all conditions, each with its summed row, in order
 abbrev pub listed_where : State → ℕ → List Cond → List (List ℕ × Option Summed)

@@ -60,8 +60,9 @@ pub record AnswersAlike (state later : State) : Type 0 where
   pub sets : (filter : Filter) (t : ℕ) → set_at later filter t ≡ set_at state filter t
   pub rankings : (rank : Rank) → ranked later rank ≡ ranked state rank
 
--- an event that says nothing: a moment that isn't later, a Put that isn't of its peer's session in
--- force or has no room, a filter that isn't taken, or one to be dropped that no event added
+-- an event that says nothing: a moment that isn't later, or a Put that has no room or isn't of its
+-- peer's session in force. So is a filter that isn't taken, or one to be dropped that no event
+-- added
 abbrev pub SaysNothing : State → ℕ → What → Type 0
 SaysNothing state seat Sit = ⊥
 SaysNothing state seat (Open peer) = ⊥

@@ -51,7 +51,8 @@ pub fn nothing_happened()
 {}
 
 /// Recomputing from a list of events with one more at its end gives what that event makes of the
-/// state that recomputing from the list gives: for every kind of event, whether it counts or not.
+/// state that recomputing from the list gives. That holds for every kind of event, whether it
+/// counts or not.
 pub fn one_event_more()
     ensures { (config : Config) (opening : ℕ) (events : List Event) (e : Event)
         → state_of config opening (events ++ e ∷ []) ≡ after (state_of config opening events) e }
@@ -85,9 +86,9 @@ pub fn counting_is_of_the_list()
         ≡ counts config (counted_of (judged config opening events)) e }
 {}
 
-/// Over events among which none that counts drops a filter, those that stood stay, and behind them
-/// stands the first added one of each name that none of these has, while fewer are active than may
-/// be.
+/// Over events among which none that counts drops a filter, those that were active stay. Behind
+/// them comes the first added one of each name that none of these has, while fewer are active than
+/// may be.
 pub fn filters_are_the_first_of_each_name()
     ensures { (config : Config) (opening : ℕ) (events later some : List Event)
         → counted_of (judged config opening (events ++ later))
@@ -116,7 +117,7 @@ pub fn a_drop_takes_one_added_filter()
 {}
 
 /// What a state says of a seat is the number of its next event, which is how many of its events
-/// counted; and what it says of a peer is the seat that last opened it, if that seat still sits.
+/// counted. What it says of a peer is the seat that last opened it, if that seat still sits.
 pub fn seats_and_sessions_are_found()
     ensures numbers { (config : Config) (opening : ℕ) (events : List Event) (seat : ℕ)
         → number_of (state_of config opening events) seat
@@ -139,9 +140,10 @@ pub fn one_row_of_a_place()
     ensures { (state : State) → IsOrdered state → IsDistinct same_place (keys_of state.rows) }
 {}
 
-/// A row is in force exactly where some event put it, as a Put of its peer's session in force with
-/// room at that event's place in the list; it lives at the last moment; and no later event put
-/// another row at its place or cleared it, each judged at its own place in the list.
+/// A row is in force exactly where three things hold. Some event put it, as a Put of its peer's
+/// session in force with room at that event's place in the list. It lives at the last moment. No
+/// later event put another row at its place or cleared it, each judged at its own place in the
+/// list.
 pub fn rows_in_force_are_exact()
     ensures put { (config : Config) (opening : ℕ) (events : List Event) (row : RowKey × Arrival)
         → lookup (is_at (row_key_cmp row.0)) (state_of config opening events).rows ≡ Some row.1
@@ -163,9 +165,9 @@ pub fn sizes_hold()
         → IsWithinSizes (state_of config opening events) }
 {}
 
-/// A moment that isn't later, a row of a seat that isn't its peer's session in force, a row past
-/// the table's size, a filter that isn't taken, and one to be dropped that no event added, change
-/// no summed row, set or ranked list.
+/// Some events change no summed row, set or ranked list: a moment that isn't later, a row of a seat
+/// that isn't its peer's session in force, and a row past the table's size. Nor does a filter that
+/// isn't taken, or one to be dropped that no event added.
 pub fn some_events_say_nothing()
     ensures { (state : State) (e : Event)
         → AreLive state → SaysNothing state e.seat e.what → AnswersAlike state (after state e) }

@@ -1,8 +1,8 @@
 use agg_types::COLUMNS;
 
-/// What the fleet says of a key: how many peers hold a row of it, the ms that the longest of them
-/// has left, or none where some row never ends, and the sum of each column, in the order of
-/// `Col::ALL` (0 for a column that isn't stored).
+/// What the fleet says of a key. It has how many peers hold a row of it, and the ms that the
+/// longest of them has left, or none where some row never ends. It has the sum of each column, in
+/// the order of `Col::ALL` (0 for a column that isn't stored).
 #[derive(Clone, Copy, Debug, PartialEq, Eq)]
 pub struct Summed {
     pub peers: usize,

@@ -3,8 +3,10 @@ use Rattle.std.proofs.Common.{◌≡◌, ℕ, Bool, true, List, map, is_some, Op
 use Rattle.std.specs.List.{AllByRecursion, filter, filter_map}
 use Rattle.fleet_model.proofs.Every.{every-filter}
 use Rattle.fleet_model.specs.declared.summed.Summed.{Summed}
-use Rattle.book_frame.specs.Lent.{shown_row, with_sums}
-use Rattle.book_frame.proofs.Listings.{all_listed, map-filter}
+use Rattle.book_frame.specs.Lent.{shown_row}
+use Rattle.book_frame.proofs.Listings.{map-filter}
+use Rattle.plain_book.proofs.Listed.{all_listed}
+use Rattle.plain_book.specs.Shown.{with_sums}
 
 -- keys that are chosen, of which each has a summed row, are listed as the chosen ones of all
 pub chosen_listed : (sum_of : List ℕ → Option Summed) (chosen : List ℕ → Bool)

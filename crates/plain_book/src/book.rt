@@ -13,9 +13,11 @@ ghost use Rattle.fleet_model.specs.Next.{IsNextChange, IsNextChangeBy, table_fla
 ghost use Rattle.fleet_model.specs.Ranking.{rank_of, ranked};
 ghost use Rattle.fleet_model.specs.Sound.{IsSound};
 ghost use Rattle.fleet_model.specs.State.{IsStateOf};
-ghost use Rattle.book_frame.specs.Lent.{key_and_sums, listed_where, shown_row, with_sums};
+ghost use Rattle.book_frame.specs.Lent.{key_and_sums, listed_where, shown_row};
 ghost use Rattle.fleet_model.specs.Values.{cols_of, meets};
+ghost use Rattle.plain_book.specs.Shown.{with_sums};
 
+use crate::listing::{BookRows, push_found};
 use crate::machine::Machine;
 use crate::next::flat_moment;
 use crate::queries;
@@ -23,7 +25,6 @@ use crate::ranking::{Ranked, first_by_rank};
 use crate::sets::{keys_held, keys_meeting};
 use agg_types::{Cond, Config, Event, Key, NoMemory, What};
 use book_frame::keys::are_same;
-use book_frame::listing::{BookRows, push_found};
 use book_frame::seats;
 use book_frame::seats::has_free_seat;
 use book_frame::standing::{cols_of, filter_at, longest_period, rank_at};
@@ -269,8 +270,8 @@ impl Book {
     }
 
     /// The first moment above the book's, up to a last one, both in ms, at which a filter holds
-    /// other keys than now, if only the clock goes on; none where it holds the same up to then.
-    /// Judges each moment on the way, so it is for small inputs.
+    /// other keys than now, if only the clock goes on. It is none where the filter holds the same
+    /// up to then. Judges each moment on the way, so it is for small inputs.
     pub fn next_change_until(
         &self,
         alloc: Global,

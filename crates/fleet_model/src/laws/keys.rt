@@ -48,7 +48,7 @@ pub fn a_set_is_the_keys_that_hold()
 {}
 
 /// A row that is put makes its peer's rows one more where the place was free, one less where it
-/// takes the older one away, and else changes no count; one that is taken out makes them one less.
+/// takes the older one away, and else changes no count. One that is taken out makes them one less.
 pub fn peers_rows_are_counted()
     ensures put { (t : ℕ) (rows : Rows) (place : RowKey) (row : Arrival) (table peer : ℕ)
         → AreInOrder rows

@@ -2,8 +2,9 @@ use Rattle.std.proofs.Common.{◌∙◌, List, ℕ, map, ap}
 use Rattle.std.specs.Borrow.{Bor}
 use Rattle.std.specs.List.{filter_map}
 use Rattle.fleet_model.specs.Answers.{keys_of, listed, summed}
-use Rattle.book_frame.specs.Lent.{shown_row, with_sums}
-use Rattle.book_frame.proofs.Listings.{all_listed}
+use Rattle.book_frame.specs.Lent.{shown_row}
+use Rattle.plain_book.proofs.Listed.{all_listed}
+use Rattle.plain_book.specs.Shown.{with_sums}
 use Rattle.plain_book.proofs.book.Book.rows.Goals as goal
 
 pub returns : goal.returns

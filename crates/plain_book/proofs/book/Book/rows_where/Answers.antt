@@ -3,7 +3,8 @@ use Rattle.std.specs.Borrow.{Bor}
 use Rattle.std.specs.List.{filter_map}
 use Rattle.fleet_model.specs.Answers.{keys_of, listed, summed}
 use Rattle.fleet_model.specs.Values.{cols_of, meets}
-use Rattle.book_frame.specs.Lent.{shown_row, with_sums}
+use Rattle.book_frame.specs.Lent.{shown_row}
+use Rattle.plain_book.specs.Shown.{with_sums}
 use Rattle.plain_book.proofs.Where.{chosen_listed}
 use Rattle.plain_book.proofs.book.Book.rows_where.Goals as goal
 

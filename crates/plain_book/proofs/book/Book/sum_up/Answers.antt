@@ -1,8 +1,8 @@
 use Rattle.std.proofs.Common.{◌∙◌, ◌++◌, ◌<◌, [], List, ℕ, length, sym, arith}
 use Rattle.std.specs.List.{cons_option}
 use Rattle.fleet_model.specs.Answers.{summed}
-use Rattle.book_frame.specs.Lent.{with_sums}
-use Rattle.book_frame.proofs.Listings.{found_more}
+use Rattle.plain_book.proofs.Listed.{found_more}
+use Rattle.plain_book.specs.Shown.{with_sums}
 use Rattle.plain_book.proofs.book.Book.sum_up.Goals as goal
 
 pub loop-key-preserved : goal.loop-key-preserved

@@ -1,7 +1,8 @@
 use Rattle.std.proofs.Common.{◌≡◌, take, map}
 use Rattle.std.specs.List.{filter_map}
 use Rattle.fleet_model.specs.Answers.{summed}
-use Rattle.book_frame.specs.Lent.{key_and_sums, with_sums}
+use Rattle.book_frame.specs.Lent.{key_and_sums}
+use Rattle.plain_book.specs.Shown.{with_sums}
 use Rattle.plain_book.proofs.book.Book.sum_up.Given as goal
 
 abbrev pub invariant-loop-key : goal.invariant-loop-key

@@ -4,7 +4,8 @@ ghost use Rattle.std.specs.Prelude.{◌≡◌, [], ◌++◌, length, map, OnOk};
 ghost use Rattle.std.specs.Iterator.{at_most};
 ghost use Rattle.std.specs.List.{cons_option};
 ghost use Rattle.std.specs.Map.Iter.{TakesFirst};
-ghost use Rattle.book_frame.specs.Lent.{key_and_sums, with_sums};
+ghost use Rattle.book_frame.specs.Lent.{key_and_sums};
+ghost use Rattle.plain_book.specs.Shown.{with_sums};
 
 use agg_types::{Key, NoMemory};
 use fleet_model::Summed;
