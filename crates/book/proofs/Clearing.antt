@@ -29,7 +29,9 @@ use Rattle.peer_rows.specs.declared.row.Row.{Row}
 use Rattle.peer_rows.proofs.Ordered.{turned_at}
 use Rattle.book_frame.proofs.Chosen.{same_key-decides}
 use Rattle.book_frame.proofs.Listings.{map-filter}
+use Rattle.standing_filters.specs.Watched.{is_among}
 use Rattle.book.specs.Foreseen.{living_of}
+use Rattle.book.specs.Gone.{without_keys}
 use Rattle.book.specs.Leading.{AreLed, IsTableDropped, Lists, rank_at}
 use Rattle.book.specs.Listing.{AreMeeting, AreThoseMeeting}
 use Rattle.book.specs.Planned.{IsInside}
@@ -185,3 +187,28 @@ cleared_where rows table cols conds t keys those = same_filters
         (those row.0.key (some here))
     by row false here some = ap (λ b. not (b && list_any (λ key. same_key key row.0.key) keys)) here
         ∙ sym (ap (λ b. not (b && meets cols rows table row.0.key t conds)) here)
+
+-- the same keys, asked the other way round
+pub among_gone : (table : ℕ) (keys : List (List ℕ)) (rows : Rows)
+    → filter (λ row. not ((row.0.table == table) && list_any (λ key. same_key key row.0.key) keys))
+    rows
+    ≡ without_keys table (is_among keys) rows
+among_gone table keys rows = each_filter
+    (λ (row : RowKey × Arrival). not ((row.0.table == table)
+    && list_any (λ key. same_key key row.0.key) keys))
+    (λ row. not ((row.0.table == table) && is_among keys row.0.key))
+    (λ row. ap (λ b. not ((row.0.table == table) && b)) (any_turned row.0.key keys)) rows
+
+-- one key alone
+or_none : (b : Bool) → b ≡ (b || false)
+or_none true = refl
+or_none false = refl
+
+pub one_gone : (table : ℕ) (key : List ℕ) (rows : Rows)
+    → filter (λ row. not ((row.0.table == table) && same_key key row.0.key)) rows
+    ≡ without_keys table (is_among (key ∷ [])) rows
+one_gone table key rows = each_filter
+    (λ (row : RowKey × Arrival). not ((row.0.table == table) && same_key key row.0.key))
+    (λ row. not ((row.0.table == table) && is_among (key ∷ []) row.0.key))
+    (λ row. ap (λ b. not ((row.0.table == table) && b))
+    (or_none (same_key key row.0.key) ∙ any_turned row.0.key (key ∷ []))) rows

@@ -9,7 +9,6 @@ use Rattle.std.proofs.lemmas.List.{take-append-le, take_all}
 use Rattle.agg_types.specs.declared.config.Filter.{Filter}
 use Rattle.agg_types.specs.declared.event.Event.{Event}
 use Rattle.agg_types.specs.declared.event.Select.{Select}
-use Rattle.agg_types.specs.declared.event.Select.TheVariants.{All, One, Conds}
 use Rattle.agg_types.specs.declared.event.What.{What}
 use Rattle.agg_types.specs.declared.event.What.TheVariants.{Sit, Open, Put, Clear, AddFilter}
 use Rattle.agg_types.specs.declared.event.What.TheVariants.{DropFilter, Moment, Leave}
@@ -21,11 +20,13 @@ use Rattle.fleet_model.specs.Rows.{arrival_of, clears_at, has_room}
 use Rattle.fleet_model.specs.Seats.{is_number}
 use Rattle.fleet_model.specs.Sound.{IsSound}
 use Rattle.fleet_model.specs.State.{State}
-use Rattle.fleet_model.specs.Values.{cols_of, meets, same_key}
+use Rattle.fleet_model.specs.Values.{cols_of, same_key, selects}
 use Rattle.fleet_model.specs.declared.arrival.Arrival.{Arrival}
 use Rattle.fleet_model.proofs.KeyChanges.{holds-stays}
 use Rattle.fleet_model.proofs.KeyRows.{clear-each, put-others}
-use Rattle.book.specs.Verdicts.{ChangesKey, ChangesTable, Follows, FollowsClear}
+use Rattle.book.specs.Gone.{AreGone, is_gone, without_keys}
+use Rattle.book.specs.Verdicts.{ChangesKey, ChangesTable, Follows}
+use Rattle.book.specs.declared.gone.Gone.TheVariants.{Nothing}
 use Rattle.book_frame.proofs.Chosen.{same_key-decides}
 
 -- ---- nothing happened
@@ -35,16 +36,11 @@ no_key table key state = record { config = refl; moment = refl; others = λ t ot
 no_table : (table : ℕ) (state : State) → ChangesTable table state state
 no_table table state = record { config = refl; moment = refl; others = λ t other apart. refl }
 
-no_clear : (table : ℕ) (sel : Select) (state : State) → FollowsClear table sel state state
-no_clear table All state = no_table table state
-no_clear table (One key) state = no_key table key state
-no_clear table (Conds conds) state = no_table table state
-
 nothing : (what : What) (state : State) → Follows what state state
 nothing Sit state = record { config = refl; moment = refl; rows = refl }
 nothing (Open peer) state = record { config = refl; moment = refl; rows = refl }
 nothing (Put peer table key life cells) state = no_key table key state
-nothing (Clear table sel) state = no_clear table sel state
+nothing (Clear table sel) state = no_table table state
 nothing (AddFilter filtering) state = record {
   tables = refl;
   moment = refl;
@@ -100,16 +96,6 @@ put_apart state true place row ordered t other apart =
     put-others state.moment state.rows place row t other ordered
     (is_apart place.table t other place.key (turned apart))
 
-clear_apart : (rows : Rows) (table : ℕ) (key : List ℕ) (t : ℕ) (other : List ℕ)
-    → (t ≢ table) ⊎ (other ≢ key)
-    → key_rows (filter (λ row. not ((row.0.table == table) && same_key key row.0.key)) rows) t other
-    ≡ key_rows rows t other
-clear_apart rows table key t other apart =
-    clear-each (same_key key) rows table t other
-    ∙ ap (λ b. cond b [] (key_rows rows t other))
-    (is_apart t table key other
-    (⊎_elim (λ h. inl h) (λ h. inr (λ e. h (sym e))) apart))
-
 cleared_apart : (gone : List ℕ → Bool) (rows : Rows) (table t : ℕ) (other : List ℕ) → t ≢ table
     → key_rows (filter (λ row. not ((row.0.table == table) && gone row.0.key)) rows) t other
     ≡ key_rows rows t other
@@ -125,23 +111,13 @@ first_stay true filters added =
 first_stay false filters added = take_all (length filters) filters (omega arith)
 
 cleared : (state : State) (e : Event) (table : ℕ) (sel : Select)
-    → FollowsClear table sel state (happened state e (Clear table sel))
+    → ChangesTable table state (happened state e (Clear table sel))
 unfolding happened clears_at
-cleared state e table All = record {
-  config = refl;
-  moment = refl;
-  others = λ t other apart. cleared_apart (λ key. true) state.rows table t other apart;
-}
-cleared state e table (One key) = record {
-  config = refl;
-  moment = refl;
-  others = λ t other apart. clear_apart state.rows table key t other apart;
-}
-cleared state e table (Conds conds) = record {
+cleared state e table sel = record {
   config = refl;
   moment = refl;
   others = λ t other apart. cleared_apart
-      (λ key. meets (cols_of state.config.tables table) state.rows table key state.moment conds)
+      (selects (cols_of state.config.tables table) state.rows table state.moment sel)
       state.rows table t other apart;
 }
 
@@ -202,3 +178,20 @@ follows state e sound = by (counts_now state e) refl
         → Follows e.what state (cond b (happened state e e.what) state)
     by true counts = done state e e.what sound refl counts
     by false uncounted = nothing e.what state
+
+-- ---- an event that doesn't count
+none_taken : (table : ℕ) (rows : Rows) → rows ≡ without_keys table (λ key. false) rows
+none_taken table [] = refl
+none_taken table (row ∷ rows) =
+    rw (and_none (row.0.table == table)) (ap (λ rs. row ∷ rs) (none_taken table rows))
+
+-- takes no key
+pub none_gone : (what : What) (rows : Rows) → AreGone what (is_gone Nothing) rows rows
+none_gone Sit rows = tt
+none_gone (Open peer) rows = tt
+none_gone (Put peer table key life cells) rows = tt
+none_gone (Clear table sel) rows = none_taken table rows
+none_gone (AddFilter filtering) rows = tt
+none_gone (DropFilter name) rows = tt
+none_gone (Moment told) rows = tt
+none_gone Leave rows = tt

@@ -9,7 +9,7 @@ use Rattle.std.proofs.lemmas.Bool.Decides.{nat_tests}
 use Rattle.std.proofs.lemmas.List.{take_more}
 use Rattle.std.proofs.lemmas.List.Elements.{All-from_recursion}
 use Rattle.std.proofs.lemmas.Bool.{false≢true}
-use Rattle.std.proofs.Common.{Bool, true, ◌&&◌, ◌||◌, ◌==◌, eq-eqb}
+use Rattle.std.proofs.Common.{Bool, true, cond, ◌&&◌, ◌||◌, ◌==◌, eq-eqb}
 use Rattle.std.specs.List.{AllByRecursion, list_all, list_any}
 use Rattle.agg_types.specs.Op.{op_holds}
 use Rattle.agg_types.specs.declared.column.Col.{Col}
@@ -27,20 +27,23 @@ use Rattle.fleet_model.specs.Sound.{IsSound}
 use Rattle.fleet_model.specs.State.{State}
 use Rattle.fleet_model.specs.Values.{cols_of}
 use Rattle.fleet_model.proofs.KeyChanges.{first-change, no-change}
-use Rattle.fleet_model.proofs.KeyRows.{held-keys, only-keys}
+use Rattle.fleet_model.proofs.KeyRows.{clear-each, held-keys, only-keys}
 use Rattle.fleet_model.proofs.Members.{any-map}
 use Rattle.fleet_model.proofs.Small.{flat_if_sound}
 use Rattle.standing_filters.specs.Flips.{holding}
 use Rattle.standing_filters.specs.Laws.{AreVerdicts, FirstChangeIsTheSets}
-use Rattle.standing_filters.specs.Laws.{IsChanged, MomentKeepsVerdicts, TouchKeepsVerdicts}
+use Rattle.standing_filters.specs.Laws.{ForgettingKeepsVerdicts, IsChanged, MomentKeepsVerdicts}
+use Rattle.standing_filters.specs.Laws.{TouchKeepsVerdicts}
 use Rattle.standing_filters.specs.Turns.{AreTurned}
-use Rattle.standing_filters.specs.Verdicts.{holds_at}
-use Rattle.standing_filters.specs.Watched.{AllWatched, AreTouched, IsFirstChange, Watched}
+use Rattle.standing_filters.specs.Verdicts.{holds_at, out}
+use Rattle.standing_filters.specs.Watched.{AllWatched, AreForgotten, AreTouched, IsFirstChange}
+use Rattle.standing_filters.specs.Watched.{Watched}
 use Rattle.standing_filters.specs.Watched.{verdicts_of, unheld, verdict_at}
 use Rattle.standing_filters.specs.Watched.{no_filter as nothing}
 use Rattle.crossing.specs.First.{IsFirstFrom}
 use Rattle.book.specs.Flips.{held_in}
 use Rattle.book.specs.Foreseen.{living_within, worth_within}
+use Rattle.book.specs.Gone.{without_keys}
 use Rattle.book.specs.Verdicts.{AreAll, AreFirst, AreHeld, AreJudged, ChangesKey, ChangesTable}
 use Rattle.book.specs.Verdicts.{GoesOn, HasMore, IsJudged, IsOneMore, Stays, living_in, sums_in}
 use Rattle.book.proofs.Foresight.{bool_same, holds_within}
@@ -194,6 +197,77 @@ touched_held law state later table key old new changes touched held = record {
           touched.0,
       each old new touched.1 judged.1,
     )
+
+-- ---- keys of a table are gone
+own_left : (table : ℕ) (is_gone : List ℕ → Bool) (rows later : Rows)
+    → later ≡ without_keys table is_gone rows → (t : ℕ) (key : List ℕ)
+    → key_rows later t key ≡ cond ((t == table) && is_gone key) [] (key_rows rows t key)
+own_left table is_gone rows later gone t key =
+    ap (λ (rs : Rows). key_rows rs t key) gone ∙ clear-each is_gone rows table t key
+
+pub forgotten_held : ForgettingKeepsVerdicts → (state later : State) (table : ℕ)
+    (is_gone : List ℕ → Bool) (old new : List Watched) → ChangesTable table state later
+    → later.rows ≡ without_keys table is_gone state.rows → AreForgotten table is_gone old new
+    → AreAll state old → AreAll later new
+forgotten_held law state later table is_gone old new changes gone forgotten held = record {
+  filters = same_filters old new forgotten ∙ held.filters
+      ∙ ap (λ (c : Config). c.filters) (sym changes.config);
+  judged = each old new forgotten held.judged;
+}
+  where
+    same_filters : (old new : List Watched) → AreForgotten table is_gone old new
+        → map (λ (w : Watched). w.filter) new ≡ map (λ (w : Watched). w.filter) old
+    same_filters [] [] forgotten = refl
+    same_filters [] (b ∷ new) forgotten = absurd forgotten
+    same_filters (a ∷ old) [] forgotten = absurd forgotten
+    same_filters (a ∷ old) (b ∷ new) forgotten =
+        λ i. forgotten.0.filter i ∷ same_filters old new forgotten.1 i
+
+    stays : (t : ℕ) (key : List ℕ) → ((t == table) && is_gone key) ≡ false
+        → key_rows later.rows t key ≡ key_rows state.rows t key
+    stays t key apart = own_left table is_gone state.rows later.rows gone t key
+        ∙ ap (λ b. cond b [] (key_rows state.rows t key)) apart
+
+    none : (key : List ℕ) (t : ℕ) → is_gone key ≡ true → living_in later table key t ≡ 0
+    none key t its =
+        let own : Rows = key_rows state.rows table key in
+        let none : key_rows later.rows table key ≡ [] =
+        own_left table is_gone state.rows later.rows gone table key
+        ∙ ap (λ b. cond (b && is_gone key) [] own) (eq-eqb table table refl)
+        ∙ ap (λ b. cond b [] own) its in
+        ap (λ (rows : Rows). living_within rows t) none
+
+    each : (old new : List Watched) → AreForgotten table is_gone old new
+        → AreJudged state old → AreJudged later new
+    each [] [] forgotten judged = tt
+    each [] (b ∷ new) forgotten judged = absurd forgotten
+    each (a ∷ old) [] forgotten judged = absurd forgotten
+    each (a ∷ old) (b ∷ new) forgotten judged = (
+      law (sums_in state) (sums_in later) (living_in state) (living_in later) table is_gone
+          later.moment a b
+          (λ t key apart. (
+            (λ i. λ col u. worth_within (cols_of (changes.config i).tables t)
+                (stays t key apart i) col u),
+            (λ i. λ u. living_within (stays t key apart i) u),
+          ))
+          none
+          (subst (λ (t : ℕ). AreVerdicts (sums_in state) (living_in state) t a)
+          (sym changes.moment) judged.0)
+          forgotten.0,
+      each old new forgotten.1 judged.1,
+    )
+
+-- where no key is gone
+pub none_forgotten : (table : ℕ) (ws : List Watched) → AreForgotten table (λ key. false) ws ws
+none_forgotten table [] = tt
+none_forgotten table (w ∷ ws) = (
+  record { filter = refl; kept = λ key. kept (w.filter.table == table) (verdict_at w.kept key) },
+  none_forgotten table ws,
+)
+  where
+    kept : (b : Bool) (v : Verdict) → v ≡ cond (b && false) out v
+    kept true v = refl
+    kept false v = refl
 
 -- ---- the clock has gone on
 pub turned_held : MomentKeepsVerdicts → (state later : State) (old new : List Watched)

@@ -6,6 +6,8 @@ use Rattle.std.specs.Prelude.{Result, OnErr, OnOk, filter, sum_by}
 use Rattle.std.proofs.lemmas.Bool.{eqb-true, false≢true}
 use Rattle.std.proofs.lemmas.Bool.Decides.{nat_tests}
 use Rattle.std.proofs.lemmas.List.{get_or_default}
+use Rattle.std.proofs.lemmas.List.Folds.{list_any_at}
+use Rattle.std.specs.List.{list_any}
 use Rattle.std.specs.Option.{IsSomeAnd}
 use Rattle.agg_types.specs.declared.config.Rank.{Rank}
 use Rattle.agg_types.specs.declared.config.Shape.{Shape}
@@ -299,6 +301,27 @@ elsewhere_rows rows t place row rank item other ordered is apart =
     by false e = ap (λ (b : Bool). b && same_key other place.key) e
 
 -- ---- a key's bounds dropped
+-- a table that no list is of
+unranked : (table : ℕ) (ranks : List Rank) (list : ℕ)
+    → list_any (λ (r : Rank). r.table == table) ranks ≡ false → list < length ranks
+    → (rank_at ranks list).table ≢ table
+unranked table ranks list none inside = λ same. false≢true (sym none
+    ∙ list_any_at (λ (r : Rank). r.table == table) ranks list no_rank inside (eq-eqb _ _ same))
+
+-- a row of it needs no bound
+pub unranked_led : (tables : List Shape) (ranks : List Rank) (rows : Rows) (t : ℕ) (place : RowKey)
+    (row : Arrival) (lists : Lists) → AreInOrder rows
+    → list_any (λ (r : Rank). r.table == place.table) ranks ≡ false
+    → AreLed tables ranks rows t lists
+    → AreLed tables ranks (with_row t rows place row) t lists
+unranked_led tables ranks rows t place row lists ordered none led = record {
+  count = led.count;
+  each = λ list inside. same_led tables rows (with_row t rows place row) t (rank_at ranks list)
+      (bounds_of lists list) (led.each list inside)
+      (λ other. elsewhere_rows rows t place row (rank_at ranks list) (rank_at ranks list) other
+      ordered refl (unranked place.table ranks list none inside));
+}
+
 pub none_alive : {C : Type 0} (n : ℕ) → n ≡ 0 → 0 < n → C
 none_alive n none some = absurd (omega arith)
 

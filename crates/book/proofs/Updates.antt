@@ -1,7 +1,7 @@
 -- What the updates of a run leave, of which each puts a row and the seat is counted up behind them.
 use Rattle.std.proofs.Common.{◌≡◌, ℕ, ◌+◌, ◌<◌, Bool, true, false, cond, ◌&&◌, nat_lt, List, ◌∷◌}
 use Rattle.std.proofs.Common.{Option, None, Some, T, drop, fold, length, refl, sym, ap, ◌∙◌, subst}
-use Rattle.std.proofs.Common.{arith, suc, [], ◌++◌, append_assoc}
+use Rattle.std.proofs.Common.{arith, suc, [], ◌++◌, append_assoc, inl}
 use Rattle.std.proofs.lemmas.List.Sums.{fold-append}
 use Rattle.std.proofs.lemmas.Bool.Decides.{nat_tests}
 use Rattle.std.proofs.lemmas.Cmp.{nat_cmp_total}
@@ -16,19 +16,23 @@ use Rattle.agg_types.specs.declared.event.Event.{Event}
 use Rattle.agg_types.specs.declared.event.What.{What}
 use Rattle.agg_types.specs.declared.event.What.TheVariants.{Sit, Open, Put, Clear, AddFilter}
 use Rattle.agg_types.specs.declared.event.What.TheVariants.{DropFilter, Moment, Leave}
+use Rattle.agg_types.specs.declared.lent_what.LentWhat.{LentWhat}
+use Rattle.agg_types.specs.declared.lent_what.LentWhat.TheVariants as lent
 use Rattle.agg_types.specs.declared.limits.TheConstants.{NUMBERS_END}
+use Rattle.agg_types.specs.Whats.{as_what}
 use Rattle.fleet_model.proofs.Entries.{equal_from, lookup-insert, same_lookups, sorted-insert}
 use Rattle.fleet_model.proofs.Every.{ordered-insert, sorted_from}
 use Rattle.fleet_model.proofs.Sound.{sound_after}
+use Rattle.fleet_model.specs.Keys.{Rows}
 use Rattle.fleet_model.specs.Machine.{after, counts_now, event_of, happened, number_of, with_put}
 use Rattle.fleet_model.specs.Seats.{is_number, numbered}
 use Rattle.fleet_model.specs.Sound.{IsSound}
 use Rattle.fleet_model.specs.State.{State}
 use Rattle.standing_filters.specs.Watched.{AllWatched}
 use Rattle.book.proofs.Following.{follows}
-use Rattle.book.specs.Verdicts.{AreHeld, Follows, IsBook, IsLeaving}
-use Rattle.book.specs.Runs.{IsPartApplied, IsPutOf, IsTurn, IsUpdateOf, counted_to, left_at}
-use Rattle.book.specs.Runs.{with_update}
+use Rattle.book.specs.Verdicts.{AreHeld, ChangesTable, Follows, IsBook}
+use Rattle.book.specs.Runs.{IsLentInto, IsPartApplied, IsPutOf, IsTurn, IsUpdateOf, counted_to}
+use Rattle.book.specs.Runs.{left_at, with_update}
 
 abbrev Numbers : Type 0
 Numbers = List (ℕ × ℕ)
@@ -207,17 +211,15 @@ follows_update s seat peer what sound update =
     (subst (Follows what (counted_to s seat 0)) (first_after s seat peer what sound update)
     (follows (counted_to s seat 0) (event_of seat 0 what) (sound_counted s seat 0 sound)))
 
--- and it drops no filter
-pub put_drops_none : (peer : ℕ) (what : What) (s : State) → IsPutOf peer what
-    → IsLeaving s what None
-put_drops_none peer Sit s put = absurd put
-put_drops_none peer (Open other) s put = absurd put
-put_drops_none peer (Put other table key life cells) s put = tt
-put_drops_none peer (Clear table sel) s put = absurd put
-put_drops_none peer (AddFilter filter) s put = absurd put
-put_drops_none peer (DropFilter name) s put = absurd put
-put_drops_none peer (Moment moment) s put = absurd put
-put_drops_none peer Leave s put = absurd put
+-- an update of a table changes no other's rows
+pub update_changes : (table : ℕ) (what : LentWhat) (state later : State) → IsLentInto table what
+    → Follows (as_what what) state later → ChangesTable table state later
+update_changes table (lent.Put peer own key life cells) state later into follows = record {
+  config = follows.config;
+  moment = follows.moment;
+  others = λ t other apart. follows.others t other (inl (λ same. apart (same ∙ into)));
+}
+update_changes table (lent.Other what) state later into follows = absurd into
 
 -- ---- what is left of a run
 -- nothing has been applied yet

@@ -14,4 +14,6 @@ pub mod Listing
 pub mod Ahead
 pub mod Dropped
 pub mod Runs
+pub mod Uses
 pub mod Flips
+pub mod Gone

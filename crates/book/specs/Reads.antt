@@ -4,6 +4,8 @@ use Rattle.std.specs.Prelude.{◌≡◌, ◌≢◌, ℕ, ◌+◌, ◌*◌, ◌<�
 use Rattle.std.specs.Prelude.{drop, length, max, sum_by, true, ◌==◌}
 use Rattle.std.specs.List.{AllByRecursion, AllZip, IsDistinct}
 use Rattle.agg_types.specs.declared.config.Filter.{Filter}
+use Rattle.agg_types.specs.declared.event.Select.{Select}
+use Rattle.agg_types.specs.declared.event.Select.TheVariants.{All, One, Conds}
 use Rattle.agg_types.specs.declared.event.What.{What}
 use Rattle.agg_types.specs.declared.event.What.TheVariants.{Sit, Open, Put, Clear, AddFilter}
 use Rattle.agg_types.specs.declared.event.What.TheVariants.{DropFilter, Moment, Leave}
@@ -60,25 +62,31 @@ unfoldable pub pairs_from : State → ℕ → ℕ
 pairs_from state first =
     sum_by (λ filtering. length (keys_of state filtering.table)) (drop first state.config.filters)
 
--- At most 505 for each filter of the table of a put row or of a cleared key; for each key, by a
--- filter that the event adds; and for each pair that comes due by a moment. None for the others.
+-- At most 505 for each filter of the table of a put row; for each key, by a filter that the event
+-- adds; and for each pair that comes due by a moment. None for the others.
 abbrev pub IsFewFor : State → State → What → ℕ → Type 0
 IsFewFor state later Sit read = read ≡ 0
 IsFewFor state later (Open peer) read = read ≡ 0
 IsFewFor state later (Put peer table key life cells) read = read ≤ 505 * filters_at state table
-IsFewFor state later (Clear table sel) read = read ≤ 505 * filters_at state table
+IsFewFor state later (Clear table sel) read = read ≡ 0
 IsFewFor state later (AddFilter filtering) read =
     read ≤ 505 * pairs_from later (length state.config.filters)
 IsFewFor state later (DropFilter name) read = read ≡ 0
 IsFewFor state later (Moment moment) read = IsForDue state later.moment read
 IsFewFor state later Leave read = read ≡ 0
 
+-- whether a clear may make all verdicts anew
+abbrev pub MayRenewBy : Select → Type 0
+MayRenewBy All = Unit {0}
+MayRenewBy (One key) = ⊥
+MayRenewBy (Conds conds) = Unit {0}
+
 -- whether an event may make all verdicts anew
 abbrev pub MayRenew : What → Type 0
 MayRenew Sit = ⊥
 MayRenew (Open peer) = ⊥
 MayRenew (Put peer table key life cells) = ⊥
-MayRenew (Clear table sel) = Unit {0}
+MayRenew (Clear table sel) = MayRenewBy sel
 MayRenew (AddFilter filtering) = Unit {0}
 MayRenew (DropFilter name) = ⊥
 MayRenew (Moment moment) = Unit {0}

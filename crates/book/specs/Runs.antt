@@ -46,10 +46,10 @@ IsPutOf peer (DropFilter name) = ⊥
 IsPutOf peer (Moment moment) = ⊥
 IsPutOf peer Leave = ⊥
 
--- an event that a batch lends as an update
-abbrev pub IsLentPut : LentWhat → Type 0
-IsLentPut (lent.Put peer table key life cells) = Unit {0}
-IsLentPut (lent.Other what) = ⊥
+-- an event that a batch lends as an update of a table
+abbrev pub IsLentInto : ℕ → LentWhat → Type 0
+IsLentInto into (lent.Put peer table key life cells) = table ≡ into
+IsLentInto into (lent.Other what) = ⊥
 
 -- an update of a peer that fits the configuration
 pub record IsUpdateOf (config : Config) (peer : ℕ) (what : What) : Type 0 where

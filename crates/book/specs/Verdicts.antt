@@ -5,8 +5,6 @@ use Rattle.std.specs.Option.{option_map_or}
 use Rattle.std.specs.List.{AllByRecursion}
 use Rattle.agg_types.specs.declared.column.Col.{Col}
 use Rattle.agg_types.specs.declared.config.Filter.{Filter}
-use Rattle.agg_types.specs.declared.event.Select.{Select}
-use Rattle.agg_types.specs.declared.event.Select.TheVariants.{All, One, Conds}
 use Rattle.agg_types.specs.declared.event.What.{What}
 use Rattle.agg_types.specs.declared.event.What.TheVariants.{Sit, Open, Put, Clear, AddFilter}
 use Rattle.agg_types.specs.declared.event.What.TheVariants.{DropFilter, Moment, Leave}
@@ -122,18 +120,12 @@ IsLeaving state (DropFilter name) place = IsAddedPlace state name place
 IsLeaving state (Moment moment) place = Unit {0}
 IsLeaving state Leave place = Unit {0}
 
--- what a clear leaves
-abbrev pub FollowsClear : ℕ → Select → State → State → Type 0
-FollowsClear table All state later = ChangesTable table state later
-FollowsClear table (One key) state later = ChangesKey table key state later
-FollowsClear table (Conds conds) state later = ChangesTable table state later
-
 -- what an event leaves
 abbrev pub Follows : What → State → State → Type 0
 Follows Sit state later = Stays state later
 Follows (Open peer) state later = Stays state later
 Follows (Put peer table key life cells) state later = ChangesKey table key state later
-Follows (Clear table sel) state later = FollowsClear table sel state later
+Follows (Clear table sel) state later = ChangesTable table state later
 Follows (AddFilter filtering) state later = HasMore state later
 Follows (DropFilter name) state later = HasFewer name state later
 Follows (Moment moment) state later = GoesOn state later

@@ -100,7 +100,8 @@ impl Book {
         fleet_model::laws::states_are_sound();
         let before = self.verdicts.keys_used(&self.machine);
         let leaving = self.machine.leaving(what);
-        let applied = self.machine.apply(seat, seq, what, hint)?;
+        let outcome = self.machine.apply(seat, seq, what, hint)?;
+        let applied = outcome.applied;
         let spot = applied.spot;
         let mut meter = Meter::new();
         let anew = self.verdicts.follow(
@@ -108,6 +109,7 @@ impl Book {
             what,
             spot,
             leaving,
+            &outcome.gone,
             before,
             &mut meter,
             flips,

@@ -10,4 +10,6 @@ pub struct At<'a> {
     pub key: &'a Key,
     pub peer: usize,
     pub spot: Option<Spot>,
+    /// Whether a ranked list is of the table.
+    pub is_ranked: bool,
 }

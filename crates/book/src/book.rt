@@ -50,8 +50,7 @@ pub struct Taken {
     pub dropped: bool,
     /// How many values of keys were read for the standing filters.
     pub read: u64,
-    /// Whether all verdicts were made anew: those that had been given up as an allocation
-    /// failed, or where several keys were cleared.
+    /// Whether all verdicts were made anew, which had been given up as an allocation failed.
     pub anew: bool,
 }
 
@@ -130,7 +129,7 @@ impl Book {
     }
 
     /// What `step` does, and tells which keys come into the filters' sets and which leave them, or
-    /// that this isn't known: as where filters come or go, or several keys are cleared. After
+    /// that this isn't known: as where filters come or go, or a table is cleared whole. After
     /// NoMemory nothing more is told.
     pub fn step_telling(&mut self, event: &Event, flips: &mut Flips) -> Result<(), NoMemory>
         ensures ok { OnOk result (self.new ≡ after self.old event.now) }
@@ -157,8 +156,9 @@ impl Book {
     }
 
     /// What `step` does, whatever the hint at where the rows of a Put's key lie, and how much was
-    /// read for it: nothing by a moment up to which no row ends and no filter's set changes, and
-    /// else at most 505 values for each pair of a filter and a key that it concerns.
+    /// read for it: nothing by a moment up to which no row ends and no filter's set changes, nor by
+    /// a clear where verdicts are kept, and else at most 505 values for each pair of a filter and a
+    /// key that it concerns.
     pub fn step_at(&mut self, event: &Event, hint: Option<Spot>) -> Result<Taken, NoMemory>
         ensures ok { OnOk result (self.new ≡ after self.old event.now) }
         ensures stands { OnOk result ((config : Config) (opening : ℕ) (events : List Event)

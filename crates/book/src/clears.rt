@@ -1,10 +1,12 @@
 //! Clears. A whole table goes at once. Where conditions choose, the keys are found in one walk of
 //! the rows as they lie, and then their rows are taken away one by one.
 
-ghost use Rattle.std.specs.Prelude.{◌≡◌, ◌≤◌, ◌&&◌, ◌==◌, not, filter, length, map, IfOk};
-ghost use Rattle.std.specs.Prelude.{OnOk, OnErr};
+ghost use Rattle.std.specs.Prelude.{◌≡◌, ◌≤◌, ◌&&◌, ◌==◌, ◌∷◌, [], not, filter, length, map};
+ghost use Rattle.std.specs.Prelude.{IfOk, OnOk, OnErr};
 ghost use Rattle.std.specs.List.{list_any};
 ghost use Rattle.fleet_model.specs.Values.{meets, same_key};
+ghost use Rattle.standing_filters.specs.Watched.{is_among};
+ghost use Rattle.book.specs.Gone.{without_keys};
 ghost use Rattle.book.specs.Leading.{StaysLed};
 ghost use Rattle.book.specs.Listing.{AreThoseMeeting, rows_meet};
 
@@ -22,18 +24,44 @@ pub fn clear_key(
     leaders: &mut Leaders,
     ranks: &[Rank],
     table: usize,
-    key: Key,
+    key: &Key,
     t: u64,
 )
     requires { length ranks.now ≤ length leaders.old }
     ensures rows { store.new ≡ record store.old {
-      rows = filter (λ row. not ((row.0.table == table) && same_key key row.0.key)) store.old.rows;
+      rows = filter (λ row. not ((row.0.table == table) && same_key key.now row.0.key))
+          store.old.rows;
     } }
     ensures count { length leaders.new ≡ length leaders.old }
     ensures led { StaysLed ranks.now store.old.rows t leaders.old store.new.rows t leaders.new }
 {
-    drop_bounds(leaders, ranks, table, &key);
-    store.clear_key(table, &key);
+    drop_bounds(leaders, ranks, table, key);
+    store.clear_key(table, key);
+}
+
+/// The same, and answers the key alone.
+pub fn clear_one(
+    alloc: Global,
+    store: &mut Store,
+    leaders: &mut Leaders,
+    ranks: &[Rank],
+    table: usize,
+    key: &Key,
+    t: u64,
+) -> Result<Vec<Key>, NoMemory>
+    requires { length ranks.now ≤ length leaders.old }
+    ensures ok { OnOk result (store.new ≡ record store.old {
+      rows = filter (λ row. not ((row.0.table == table) && same_key key.now row.0.key))
+          store.old.rows;
+    }) }
+    ensures gone { IfOk result (λ keys. keys.items ≡ key.now ∷ []) }
+    ensures err { OnErr result (store.new ≡ store.old) }
+    ensures led { StaysLed ranks.now store.old.rows t leaders.old store.new.rows t leaders.new }
+{
+    let mut keys = Vec::new(alloc);
+    keys.push(key.duplicate(alloc)?)?;
+    clear_key(store, leaders, ranks, table, key, t);
+    Ok(keys)
 }
 
 /// Takes away the rows of a table, and the bounds of its keys. Takes no memory.
@@ -49,7 +77,7 @@ pub fn clear_table(store: &mut Store, leaders: &mut Leaders, ranks: &[Rank], tab
 }
 
 /// Takes away the rows of each key of a table whose values meet the conditions, as they were
-/// before, and its bounds.
+/// before, and its bounds, and answers these keys.
 pub fn clear_where(
     alloc: Global,
     store: &mut Store,
@@ -59,19 +87,21 @@ pub fn clear_where(
     table: usize,
     t: u64,
     conds: &[Cond],
-) -> Result<(), NoMemory>
+) -> Result<Vec<Key>, NoMemory>
     requires { length ranks.now ≤ length leaders.old }
     ensures ok { OnOk result (store.new ≡ record store.old {
       rows = filter (λ row. not
           ((row.0.table == table) && meets cols.now store.old.rows table row.0.key t conds.now))
           store.old.rows;
     }) }
+    ensures gone { IfOk result (λ keys.
+        store.new.rows ≡ without_keys table (is_among keys.items) store.old.rows) }
     ensures err { OnErr result (store.new ≡ store.old) }
     ensures led { StaysLed ranks.now store.old.rows t leaders.old store.new.rows t leaders.new }
 {
     let keys = keys_that_meet(alloc, store, cols, table, t, conds)?;
-    clear_keys(store, leaders, ranks, table, keys, t);
-    Ok(())
+    clear_keys(store, leaders, ranks, table, keys.as_slice(), t);
+    Ok(keys)
 }
 
 // The keys of a table that have rows and meet the conditions, in no order: one walk of the rows as
@@ -120,13 +150,13 @@ fn clear_keys(
     leaders: &mut Leaders,
     ranks: &[Rank],
     table: usize,
-    keys: Vec<Key>,
+    keys: &[Key],
     t: u64,
 )
     requires { length ranks.now ≤ length leaders.old }
     ensures rows { store.new ≡ record store.old {
       rows = filter (λ row. not
-          ((row.0.table == table) && list_any (λ key. same_key key row.0.key) keys.items))
+          ((row.0.table == table) && list_any (λ key. same_key key row.0.key) keys.now))
           store.old.rows;
     } }
     ensures led { StaysLed ranks.now store.old.rows t leaders.old store.new.rows t leaders.new }

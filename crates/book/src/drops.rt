@@ -27,10 +27,15 @@ impl Drops {
     }
 
     /// An event was taken: whether it is an update that was dropped. Takes no memory.
+    #[inline]
     pub(crate) fn note(&mut self, what: LentWhat<'_>, dropped: bool) {
-        if !dropped {
-            return;
+        if dropped {
+            self.count_one(what);
         }
+    }
+
+    // One more update was dropped.
+    fn count_one(&mut self, what: LentWhat<'_>) {
         match what {
             LentWhat::Put { peer, table, .. } => self.count(table, peer),
             LentWhat::Other(What::Put { peer, table, .. }) => self.count(*table, *peer),

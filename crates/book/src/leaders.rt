@@ -14,6 +14,7 @@ ghost use Rattle.fleet_model.specs.Moments.{is_live};
 ghost use Rattle.fleet_model.specs.Rows.{arrival_of};
 ghost use Rattle.book.specs.Leading.{AreLed, IsKeyDropped, IsTableDropped, StaysLed};
 ghost use Rattle.book.specs.Planned.{IsInside, IsShort, place_at};
+ghost use Rattle.book.specs.Uses.{has_list};
 
 use crate::at::At;
 use crate::foreseen::live_rows;
@@ -53,6 +54,36 @@ pub fn lead(
 /// Puts a row that arrives at a moment, in ms, with bounds that hold before and after, and answers
 /// where the rows of its key lay, if that was seen.
 pub fn put_led(
+    rows: &mut Store,
+    leaders: &mut Leaders,
+    config: &Config,
+    t: u64,
+    at: At<'_>,
+    life: Option<u64>,
+    cells: &[Cell],
+) -> Result<Option<Spot>, NoMemory>
+    requires in_range { t ≤ LAST_MOMENT }
+    requires inside { IsInside rows.old.peers rows.old.tables (place_at at) }
+    requires short { IsShort life }
+    requires ordered { AreInOrder rows.old.rows }
+    requires ranked { at.is_ranked ≡ has_list config.now at.table }
+    requires led { AreLed config.now.tables config.now.ranks rows.old.rows t leaders.old }
+    ensures ok { OnOk result (rows.new ≡ record rows.old {
+      rows = with_row t rows.old.rows (place_at at.entry)
+          (arrival_of config.now.tables at.entry.table t life cells.now);
+    }) }
+    ensures err { OnErr result (rows.new ≡ rows.old) }
+    ensures led { AreLed config.now.tables config.now.ranks rows.new.rows t leaders.new }
+{
+    if at.is_ranked {
+        return put_ranked(rows, leaders, config, t, at, life, cells);
+    }
+    let cols = cols_of(config.tables.as_slice(), at.table);
+    rows.put(t, at, life, cols, cells)
+}
+
+// The same of a table that has a ranked list.
+fn put_ranked(
     rows: &mut Store,
     leaders: &mut Leaders,
     config: &Config,

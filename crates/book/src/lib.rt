@@ -16,21 +16,23 @@
 //! No event fails for want of a verdict's memory. Verdicts are given up where memory for them is
 //! refused, all at once; from then on a filter's keys and its next change are found by judging each
 //! key of its table. The verdicts are made anew as a filter is added, by a clear of more than one
-//! key, or by a moment at which a key's last row ended.
+//! key, or by a moment at which a key's last row ended. Where they are kept a clear takes those on
+//! its keys away and judges none (`forgetting`).
 //!
-//! `Book::step_at` says how many values an event read: none where nothing changes by it, and else
-//! at most 505 for each pair of a filter and a key that it concerns (`specs/Reads.antt`). That
-//! verdicts are kept while there is memory for them, no clause says.
+//! `Book::step_at` says how many values an event read: none where nothing changes by it or keys are
+//! cleared, and else at most 505 for each pair of a filter and a key that it concerns
+//! (`specs/Reads.antt`). That verdicts are kept while there is memory for them, no clause says.
 //!
 //! `Book::step_run` takes a seat's events as one: what updates of one peer that follow each other
-//! have in common is looked up once, and the seat is counted up once behind them (`runs`). The keys
+//! have in common is looked up once, and the seat is counted up once behind them (`runs`). So is,
+//! while they are of one table, whether filters and ranked lists are of it (`table_use`). The keys
 //! of sixteen updates are looked for together, so that their waits for memory overlap
 //! (`lookahead`). It promises the state that the events make one by one.
 //!
 //! `Book::step_telling` and `step_run` tell by `Flips` which keys come into the filters' sets and
 //! which leave them, so that who keeps copies of the sets needn't list them anew. That isn't known
-//! where filters come or go, where several keys of a filter's table are cleared, while verdicts are
-//! given up, and where an allocation for it failed.
+//! where filters come or go, where a filter's table is cleared whole, while verdicts are given up,
+//! and where an allocation for it failed.
 //!
 //! `Taken` says whether an event is an update that a full table doesn't take. A book counts these
 //! by table and peer, beside what contracts see of it. So what `Book::dropped` answers, tests show.
@@ -47,6 +49,8 @@ mod book;
 mod clears;
 mod drops;
 mod foreseen;
+mod forgetting;
+mod gone;
 mod leaders;
 mod likely;
 mod listed;
@@ -64,7 +68,9 @@ mod row;
 mod runs;
 mod sets;
 mod store;
+mod table_use;
 mod taking;
+mod touching;
 mod values;
 mod verdicts;
 

@@ -30,15 +30,15 @@ pub struct Falling {
 impl Falling {
     /// The rate that a row holds in a place, if it holds one there.
     pub fn of(row: &Row, place: usize, period: u32) -> Option<Falling> {
-        let Held::Rate(rate) = row.cells.get(place)? else {
+        let Held::Rate(rate) = row.get(place)? else {
             return None;
         };
         let [own, _, _, cur, prev] = rate.to_words();
         let over = 2 * u64::from(own) + 1;
-        let elapsed = over.saturating_sub(rate.zero_at().saturating_sub(row.arrived));
+        let elapsed = over.saturating_sub(rate.zero_at().saturating_sub(row.arrived()));
         let both = 2 * u64::from(period);
         Some(Falling {
-            last: row.arrived.saturating_add(both).saturating_sub(elapsed),
+            last: row.arrived().saturating_add(both).saturating_sub(elapsed),
             ends: row.end().unwrap_or(u64::MAX),
             cur: u64::from(cur),
             prev: u64::from(prev),

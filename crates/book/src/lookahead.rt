@@ -14,10 +14,11 @@ const GROUP: usize = 16;
 // Tables of fewer rows lie in the nearer caches, where a look ahead costs more than it saves.
 const FAR: usize = 1 << 17;
 
-/// The spots of some updates of a run, from a place on.
+/// The spots of some updates of a run, from a place on, up to another one.
 #[derive(Clone, Copy)]
 pub(crate) struct Lookahead {
     from: usize,
+    until: usize,
     // The table of the first of them, and whether its rows lie far.
     table: Option<usize>,
     is_far: bool,
@@ -28,7 +29,8 @@ impl Lookahead {
     /// Before the first update: none is looked for.
     pub(crate) fn none() -> Lookahead {
         Lookahead {
-            from: usize::MAX,
+            from: 0,
+            until: 0,
             table: None,
             is_far: false,
             spots: [None; GROUP],
@@ -48,9 +50,10 @@ impl Lookahead {
         hints: &Vec<Option<Spot>>,
     ) {
         self.find_far(machine, whats, from);
-        self.from = from;
-        self.spots = [None; GROUP];
+        self.until = from.saturating_add(GROUP);
         if self.is_far {
+            self.from = from;
+            self.spots = [None; GROUP];
             let count = GROUP.min(whats.len().saturating_sub(from));
             spots(machine, peer, whats, from, hints, count, &mut self.spots);
         }
@@ -73,13 +76,18 @@ impl Lookahead {
         };
     }
 
-    /// Whether a place is among those that were looked at.
+    /// Whether the updates up to a place, as they come one after the other, were looked at.
+    #[inline]
     pub(crate) fn has(&self, place: usize) -> bool {
-        self.from <= place && place.saturating_sub(self.from) < GROUP
+        place < self.until
     }
 
     /// The spot of the update at a place, if it was looked for and found.
+    #[inline]
     pub(crate) fn spot(&self, place: usize) -> Option<Spot> {
+        if !self.is_far {
+            return None;
+        }
         self.spots
             .get(place.saturating_sub(self.from))
             .copied()

@@ -9,14 +9,18 @@ ghost use Rattle.fleet_model.specs.Machine.{opened, with_row};
 ghost use Rattle.fleet_model.specs.Rows.{arrival_of, has_room, held_rows};
 ghost use Rattle.fleet_model.specs.Seats.{is_number};
 ghost use Rattle.fleet_model.specs.Values.{cols_of, selects};
+ghost use Rattle.book.specs.Gone.{is_gone, without_keys};
 ghost use Rattle.book.specs.Verdicts.{keys_in};
+ghost use Rattle.book.specs.declared.gone.Gone.TheVariants.{Nothing};
 ghost use Rattle.book.specs.Leading.{AreLed};
 ghost use Rattle.book.specs.Listing.{ListsMeeting};
 ghost use Rattle.book.specs.Planned.{IsInside, IsShort, place_at};
 ghost use Rattle.book.specs.Store.{row_keys};
+ghost use Rattle.book.specs.Uses.{has_list};
 
 use crate::at::At;
-use crate::clears::{clear_key, clear_table, clear_where};
+use crate::clears::{clear_one, clear_table, clear_where};
+use crate::gone::Gone;
 use crate::leaders::put_led;
 use crate::listing::{BookRows, meeting};
 use crate::queries;
@@ -48,6 +52,34 @@ impl Applied {
         Applied {
             spot: None,
             dropped: false,
+        }
+    }
+}
+
+/// What became of an event, and which keys of its table it took the rows of.
+#[derive(Debug, Drop)]
+pub(crate) struct Outcome {
+    pub(crate) applied: Applied,
+    pub(crate) gone: Gone,
+}
+
+impl Outcome {
+    /// No row was seen, nothing was dropped, and no key is gone.
+    pub(crate) fn unseen() -> Outcome
+        ensures dropped { result.applied.dropped ≡ false }
+        ensures gone { result.gone ≡ Nothing }
+    {
+        Outcome::of(Applied::unseen())
+    }
+
+    /// An update: no key is gone by it.
+    pub(crate) fn of(applied: Applied) -> Outcome
+        ensures applied { result.applied ≡ applied }
+        ensures gone { result.gone ≡ Nothing }
+    {
+        Outcome {
+            applied,
+            gone: Gone::Nothing,
         }
     }
 }
@@ -189,20 +221,10 @@ impl Machine {
     {
         filter_at(self.config.filters.as_slice(), position)
     }
-
-    /// Where the rows of an update's key may lie, for the calls that take an `At`. Ranked lists
-    /// read them before one is put.
-    pub(crate) fn spot_for(&self, hint: Option<Spot>, table: usize, key: &Key) -> Option<Spot>
-        requires { table < length self.now.config.tables }
-    {
-        let ranks = self.config.ranks.as_slice();
-        let is_ranked = ranks.iter().any(|rank| rank.table == table);
-        self.rows.spot_for(hint, is_ranked, table, key)
-    }
 }
 
 /// Takes away the rows that a clear selects, judged by the values that stand before it, and the
-/// bounds of their keys.
+/// bounds of their keys. Answers which keys these are.
 pub(crate) fn clear(
     alloc: Global,
     rows: &mut Store,
@@ -211,7 +233,7 @@ pub(crate) fn clear(
     table: usize,
     t: u64,
     sel: &Select,
-) -> Result<(), NoMemory>
+) -> Result<Gone, NoMemory>
     requires { AreLed config.now.tables config.now.ranks rows.old.rows t leaders.old }
     ensures ok { OnOk result (rows.new ≡ record rows.old {
       rows = filter (λ row. not
@@ -219,6 +241,8 @@ pub(crate) fn clear(
           && selects (cols_of config.now.tables table) rows.old.rows table t sel.now row.0.key))
           rows.old.rows;
     }) }
+    ensures gone { IfOk result (λ gone.
+        rows.new.rows ≡ without_keys table (is_gone gone) rows.old.rows) }
     ensures err { OnErr result (rows.new ≡ rows.old) }
     ensures led { AreLed config.now.tables config.now.ranks rows.new.rows t leaders.new }
 {
@@ -226,22 +250,18 @@ pub(crate) fn clear(
     match sel {
         Select::All => {
             clear_table(rows, leaders, ranks, table, t);
-            Ok(())
+            Ok(Gone::Table)
         }
         Select::One(key) => {
-            clear_key(rows, leaders, ranks, table, key.duplicate(alloc)?, t);
-            Ok(())
+            let alone = clear_one(alloc, rows, leaders, ranks, table, key, t)?;
+            Ok(Gone::Keys(alone))
         }
-        Select::Conds(conds) => clear_where(
-            alloc,
-            rows,
-            leaders,
-            ranks,
-            cols_of(config.tables.as_slice(), table),
-            table,
-            t,
-            conds.as_slice(),
-        ),
+        Select::Conds(conds) => {
+            let cols = cols_of(config.tables.as_slice(), table);
+            let conds = conds.as_slice();
+            let keys = clear_where(alloc, rows, leaders, ranks, cols, table, t, conds)?;
+            Ok(Gone::Keys(keys))
+        }
     }
 }
 
@@ -261,6 +281,7 @@ pub(crate) fn put(
     requires in_range { t ≤ LAST_MOMENT }
     requires inside { IsInside rows.old.peers rows.old.tables (place_at at) }
     requires short { IsShort life }
+    requires ranked { at.is_ranked ≡ has_list config.now at.table }
     requires led { AreLed config.now.tables config.now.ranks rows.old.rows t leaders.old }
     ensures ok { OnOk result (rows.new ≡ record rows.old {
       rows = if is_number session seat

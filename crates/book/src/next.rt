@@ -11,9 +11,9 @@ pub fn flat_from(longest: u32, row: &Row) -> u64
     ensures { result ≡ min (flat_from longest (as_arrival row.now)) (2 ^ 64 - 1) }
 {
     let rates = 2 * u64::from(longest) + 1;
-    let life = match row.ends.get() {
+    let life = match row.ends() {
         None => 0,
-        Some(ends) => ends.saturating_sub(row.arrived),
+        Some(ends) => ends.saturating_sub(row.arrived()),
     };
-    row.arrived.saturating_add(rates.max(life))
+    row.arrived().saturating_add(rates.max(life))
 }

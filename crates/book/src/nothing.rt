@@ -86,11 +86,11 @@ fn over_from(place: usize, period: u32, row: &Row) -> Option<(u64, Falling)>
         → found_in cols col ≡ Some (place, period) → IfSome result
         (λ over. over.0 ≤ t → row_worth cols col t (as_arrival row.now) ≡ 0) }
 {
-    match row.cells.get(place) {
+    match row.get(place) {
         Some(Held::Rate(rate)) => {
-            let elapsed = elapsed_at(rate, row.arrived);
+            let elapsed = elapsed_at(rate, row.arrived());
             let both = 2 * u64::from(period) + 1;
-            let over = row.arrived.checked_add(both)?.saturating_sub(elapsed);
+            let over = row.arrived().checked_add(both)?.saturating_sub(elapsed);
             match end_of(row) {
                 None => Some((over, falling(rate, over, u64::MAX))),
                 Some(end) => Some((over.min(end), falling(rate, over, end))),
@@ -104,9 +104,9 @@ fn over_from(place: usize, period: u32, row: &Row) -> Option<(u64, Falling)>
 fn end_of(row: &Row) -> Option<u64>
     ensures { (t : ℕ) → IfSome result (λ end. is_live t (as_arrival row.now) ≡ nat_lt t end) }
 {
-    match row.ends.get() {
+    match row.ends() {
         None => None,
-        Some(ends) => Some(ends.max(row.arrived)),
+        Some(ends) => Some(ends.max(row.arrived())),
     }
 }
 

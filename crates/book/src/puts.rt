@@ -15,7 +15,7 @@ ghost use Rattle.book.specs.Store.{put_arrival};
 use crate::at::At;
 use crate::store::Size;
 use agg_types::{Cell, Col, Key, NoMemory};
-use peer_rows::{Held, Row, RowCells, RowEnd, Rows, Spot};
+use peer_rows::{Held, Row, RowCells, Rows, Spot};
 use period_rate::Rate;
 use std::alloc::Global;
 use std::mem;
@@ -35,14 +35,18 @@ pub fn new_row(
 {
     let mut held = RowCells::with_capacity(alloc, cells.len())?;
     hold(&mut held, t, cols, cells)?;
-    Ok(Row {
-        cells: held,
-        arrived: t,
-        ends: match life {
-            None => RowEnd::never(),
-            Some(life) => RowEnd::from(t + life),
-        },
-    })
+    Ok(Row::new(held, t, short(life))?)
+}
+
+// A life in 32 bits.
+fn short(life: Option<u64>) -> Option<u32>
+    requires { IsShort life }
+    ensures { result ≡ life }
+{
+    match life {
+        None => None,
+        Some(life) => Some(life as u32),
+    }
 }
 
 // Puts cells that arrive at a moment behind others.
@@ -78,13 +82,7 @@ fn hold_cell(t: u64, period: u32, cell: Cell) -> Held
 }
 
 // Puts a row at a place: one that stands there is exchanged for it. Answers the place's hint.
-fn put_row(
-    alloc: Global,
-    rows: &mut Rows,
-    size: Size,
-    at: At<'_>,
-    row: &mut Row,
-) -> Result<Option<Spot>, NoMemory>
+fn put_row(rows: &mut Rows, size: Size, at: At<'_>, row: &mut Row) -> Result<Option<Spot>, NoMemory>
     requires rows { AreRows size.peers size.tables rows.old }
     requires inside { IsInside size.peers size.tables (place_at at) }
     ensures ok { OnOk result (rows.new ≡ record rows.old
@@ -95,7 +93,7 @@ fn put_row(
     if rows.exchange_at(at.spot, at.peer, at.table, at.key, row) {
         return Ok(at.spot);
     }
-    let row = mem::replace(row, Row::blank(alloc));
+    let row = mem::replace(row, Row::blank());
     rows.put_at(at.spot, at.peer, at.table, at.key, row)?;
     Ok(at.spot)
 }
@@ -104,7 +102,6 @@ fn put_row(
 /// it was taken. A key whose spot isn't known is searched once, whether it has rows or not. Answers
 /// where its rows lay, if it had any.
 pub fn set_row(
-    alloc: Global,
     rows: &mut Rows,
     size: Size,
     at: At<'_>,
@@ -118,7 +115,7 @@ pub fn set_row(
     ensures kept { AreRows size.peers size.tables rows.new }
 {
     if at.spot.is_some() {
-        return put_row(alloc, rows, size, at, row);
+        return put_row(rows, size, at, row);
     }
     match rows.insert_first(at.peer, at.table, at.key, row)? {
         None => Ok(None),
@@ -127,7 +124,7 @@ pub fn set_row(
                 spot: Some(spot),
                 ..at
             };
-            put_row(alloc, rows, size, at, row)
+            put_row(rows, size, at, row)
         }
     }
 }

@@ -83,9 +83,9 @@ pub fn tally(rows: OfKey<'_>, t: u64) -> Option<(usize, Option<u64>)>
 fn left_of(t: u64, row: &Row) -> Option<u64>
     ensures { result ≡ left_of t (as_arrival row.now) }
 {
-    let ends = row.ends.get()?;
-    let life = ends.saturating_sub(row.arrived);
-    Some(life.saturating_sub(t.saturating_sub(row.arrived)))
+    let ends = row.ends()?;
+    let life = ends.saturating_sub(row.arrived());
+    Some(life.saturating_sub(t.saturating_sub(row.arrived())))
 }
 
 /// What rows of one key sum up to, by column: nothing in those that the table doesn't store.

@@ -10,8 +10,8 @@ use peer_rows::Row;
 pub fn is_live(t: u64, row: &Row) -> bool
     ensures { result ≡ is_live t (as_arrival row.now) }
 {
-    match row.ends.get() {
+    match row.ends() {
         None => true,
-        Some(ends) => t < ends.max(row.arrived),
+        Some(ends) => t < ends.max(row.arrived()),
     }
 }

@@ -11,27 +11,30 @@ ghost use Rattle.book.specs.Due.{FitsPlace};
 ghost use Rattle.book.specs.Dropped.{lacks_room};
 ghost use Rattle.book.specs.Flips.{TellsAllIfKnown, TellsStepIfKnown, part_of};
 ghost use Rattle.book.specs.Verdicts.{IsBook};
-ghost use Rattle.book.specs.Runs.{IsLentPut, IsPartApplied, IsPutOf, IsTurn, IsUpdateOf};
+ghost use Rattle.book.specs.Runs.{IsLentInto, IsPartApplied, IsPutOf, IsTurn, IsUpdateOf};
 ghost use Rattle.book.specs.Runs.{counted_to, left_at, with_update};
+ghost use Rattle.book.specs.Uses.{IsUseOf};
 
 use crate::at::At;
 use crate::book::Book;
 use crate::drops::Drops;
 use crate::lookahead::Lookahead;
 use crate::machine::{Applied, Machine};
+use crate::table_use::TableUse;
 use crate::verdicts::Verdicts;
 use agg_types::{LentWhat, NoMemory, Whats};
 use book_frame::seats;
 use book_frame::seats::{count_to, is_number};
-use crossing::Meter;
 use peer_rows::Spot;
 use standing_filters::Flips;
 
-/// Whose updates come one after the other, and the session in force of the peer.
+/// Whose updates come one after the other, the table of the first, and the session in force of the
+/// peer.
 #[derive(Clone, Copy)]
 pub(crate) struct Turn {
     pub(crate) seat: u64,
     pub(crate) peer: usize,
+    pub(crate) table: usize,
     pub(crate) session: Option<u64>,
 }
 
@@ -130,7 +133,7 @@ impl Machine {
         ensures turn { IfSome result
             (λ turn. IsTurn self.now seat number turn.peer turn.session) }
     {
-        let LentWhat::Put { peer, .. } = what else {
+        let LentWhat::Put { peer, table, .. } = what else {
             return None;
         };
         if !is_number(seats::number_of(&self.seats, seat), number) {
@@ -139,18 +142,30 @@ impl Machine {
         Some(Turn {
             seat,
             peer,
+            table,
             session: seats::session_of(&self.sessions, peer),
         })
     }
 
-    /// Whether an event is lent as an update of a peer, and fits.
-    fn takes(&self, peer: usize, what: LentWhat<'_>) -> bool
-        ensures update { IsTrue result → IsUpdateOf self.now.config peer (as_what what.entry) }
-        ensures lent { IsTrue result → IsLentPut what.entry }
+    /// The table of an update of a peer, if an event is lent as one, and fits.
+    fn table_of(&self, peer: usize, what: LentWhat<'_>) -> Option<usize>
+        ensures update { IfSome result
+            (λ _. IsUpdateOf self.now.config peer (as_what what.entry)) }
+        ensures lent { IfSome result (λ table. IsLentInto table what.entry) }
     {
         match what {
-            LentWhat::Put { peer: other, .. } => other == peer && self.config.fits_lent(what),
-            LentWhat::Other(_) => false,
+            LentWhat::Put {
+                peer: other,
+                table,
+                ..
+            } => {
+                if other == peer && self.config.fits_lent(what) {
+                    Some(table)
+                } else {
+                    None
+                }
+            }
+            LentWhat::Other(_) => None,
         }
     }
 
@@ -162,16 +177,18 @@ impl Machine {
         count_to(&mut self.seats, seat, number);
     }
 
-    // The row of an update of a turn, whatever the hint; its seat isn't counted up. Nothing has
-    // changed after NoMemory.
+    // The row of an update of a turn, of a table on which this stands, whatever the hint; its seat
+    // isn't counted up. Nothing has changed after NoMemory.
     fn put_lent(
         &mut self,
         turn: Turn,
+        table_use: TableUse,
         what: LentWhat<'_>,
         hint: Option<Spot>,
     ) -> Result<Applied, NoMemory>
         requires session { turn.session ≡ session_of self.old turn.peer }
-        requires lent { IsLentPut what }
+        requires found { IsUseOf self.old.config table_use }
+        requires lent { IsLentInto table_use.table what }
         requires put { IsPutOf turn.peer (as_what what) }
         requires placed { FitsPlace self.old.config (as_what what) }
         ensures ok { OnOk result (self.new ≡ with_update self.old turn.seat (as_what what.entry)) }
@@ -193,7 +210,8 @@ impl Machine {
             table,
             key,
             peer,
-            spot: self.spot_for(hint, table, key),
+            spot: self.rows.spot_for(hint, table_use.is_ranked, table, key),
+            is_ranked: table_use.is_ranked,
         };
         self.put_row(turn.session, turn.seat, at, life, cells)
     }
@@ -217,12 +235,14 @@ fn take_one(
     verdicts: &mut Verdicts,
     drops: &mut Drops,
     turn: Turn,
+    table_use: TableUse,
     what: LentWhat<'_>,
     hint: Option<Spot>,
     flips: &mut Flips,
 ) -> Result<Option<Spot>, NoMemory>
     requires session { turn.session ≡ session_of machine.old turn.peer }
-    requires lent { IsLentPut what }
+    requires found { IsUseOf machine.old.config table_use }
+    requires lent { IsLentInto table_use.table what }
     requires update { IsUpdateOf machine.old.config turn.peer (as_what what) }
     requires book { IsBook machine.old verdicts.old.standing }
     ensures ok { OnOk result
@@ -233,9 +253,8 @@ fn take_one(
         (TellsStepIfKnown machine.old machine.new flips.old flips.new) }
     ensures flips_err { OnErr result (flips.new ≡ flips.old) }
 {
-    let applied = machine.put_lent(turn, what, hint)?;
-    let mut meter = Meter::new();
-    verdicts.follow(machine, what, applied.spot, None, 0, &mut meter, flips);
+    let applied = machine.put_lent(turn, table_use, what, hint)?;
+    verdicts.follow_update(machine, table_use, what, applied.spot, flips);
     drops.note(what, applied.dropped);
     Ok(applied.spot)
 }
@@ -267,16 +286,19 @@ fn take_each(
 {
     let mut place = from;
     let mut ahead = Lookahead::none();
+    let mut table_use = machine.use_of(turn.table);
     'updates: while place < whats.len() {
         let what = whats.at(place);
-        if !machine.takes(turn.peer, what) {
+        let Some(table) = machine.table_of(turn.peer, what) else {
             break;
-        }
+        };
+        table_use = machine.use_after(table_use, table);
         if !ahead.has(place) {
             ahead.look(machine, turn.peer, whats, place, hints);
         }
         let hint = ahead.spot(place).or(hint_at(hints, place));
-        let Ok(spot) = take_one(machine, verdicts, drops, turn, what, hint, flips) else {
+        let taken = take_one(machine, verdicts, drops, turn, table_use, what, hint, flips);
+        let Ok(spot) = taken else {
             return Came {
                 place,
                 refused: true,

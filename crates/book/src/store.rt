@@ -175,7 +175,7 @@ impl Store {
             return Ok(at.spot);
         }
         let mut row = new_row(self.alloc, t, life, cols, cells)?;
-        Ok(set_row(self.alloc, &mut self.rows, self.size, at, &mut row)?)
+        Ok(set_row(&mut self.rows, self.size, at, &mut row)?)
     }
 
     /// The rows of a key, by peer: one search. None where there is no such table.

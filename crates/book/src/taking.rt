@@ -11,13 +11,15 @@ ghost use Rattle.fleet_model.specs.Seats.{is_number};
 ghost use Rattle.book_frame.specs.Due.{HasDueNumber, IsDue};
 ghost use Rattle.book.specs.Dropped.{is_dropped, lacks_room};
 ghost use Rattle.book.specs.Due.{FitsPlace, IsPlaced};
+ghost use Rattle.book.specs.Gone.{AreGone, is_gone};
 ghost use Rattle.book.specs.Planned.{put_at};
 ghost use Rattle.book.specs.Runs.{with_update};
+ghost use Rattle.book.specs.Uses.{has_list};
 ghost use Rattle.book.specs.Verdicts.{IsLeaving};
 
 use crate::at::At;
 use crate::leaders::go_on;
-use crate::machine::{Applied, Machine, clear, put};
+use crate::machine::{Applied, Machine, Outcome, clear, put};
 use agg_types::{Cell, LentWhat, NUMBERS_END, NoMemory, What};
 use book_frame::seats;
 use book_frame::seats::{count_up, end_sessions, is_number, open_session, sit_down, stand_up};
@@ -97,18 +99,20 @@ impl Machine {
         seq: u64,
         what: LentWhat<'_>,
         hint: Option<Spot>,
-    ) -> Result<Applied, NoMemory>
+    ) -> Result<Outcome, NoMemory>
         ensures ok { OnOk result
             (self.new ≡ after self.old (event_of seat seq (as_what what.entry))) }
-        ensures dropped { IfOk result (λ applied. applied.dropped
+        ensures dropped { IfOk result (λ outcome. outcome.applied.dropped
             ≡ is_dropped self.old (event_of seat seq (as_what what.entry))) }
+        ensures gone { IfOk result (λ outcome. AreGone (as_what what.entry)
+            (is_gone outcome.gone) self.old.rows self.new.rows) }
         ensures err { OnErr result (self.new ≡ self.old) }
         ensures leaving { as_what what.entry ≡ Leave → IsOk result }
         ensures uncounted { counts_now self.old (event_of seat seq (as_what what.entry)) ≡ false
             → IsOk result }
     {
         if !self.is_due(seat, seq, what) {
-            return Ok(Applied::unseen());
+            return Ok(Outcome::unseen());
         }
         match what {
             LentWhat::Put {
@@ -118,13 +122,15 @@ impl Machine {
                 life,
                 cells,
             } => {
+                let is_ranked = self.is_ranked(table);
                 let at = At {
                     table,
                     key,
                     peer,
-                    spot: self.spot_for(hint, table, key),
+                    spot: self.rows.spot_for(hint, is_ranked, table, key),
+                    is_ranked,
                 };
-                self.apply_put(seat, seq, at, life, cells)
+                Ok(Outcome::of(self.apply_put(seat, seq, at, life, cells)?))
             }
             LentWhat::Other(what) => self.apply_other(seat, seq, what, hint),
         }
@@ -143,6 +149,7 @@ impl Machine {
     ) -> Result<Applied, NoMemory>
         requires session { session ≡ session_of self.old at.peer }
         requires placed { IsPlaced self.old.config at.peer at.table life }
+        requires ranked { at.is_ranked ≡ has_list self.old.config at.table }
         ensures ok { OnOk result
             (self.new ≡ with_update self.old seat (put_at at.entry life cells.now)) }
         ensures dropped { IfOk result (λ applied. applied.dropped
@@ -174,6 +181,7 @@ impl Machine {
     ) -> Result<Applied, NoMemory>
         requires sits { HasDueNumber seq (number_of self.old seat) }
         requires placed { IsPlaced self.old.config at.peer at.table life }
+        requires ranked { at.is_ranked ≡ has_list self.old.config at.table }
         ensures ok { OnOk result (self.new ≡ happened self.old
             (event_of seat seq (put_at at.entry life cells.now))
             (put_at at.entry life cells.now)) }
@@ -195,13 +203,15 @@ impl Machine {
         seq: u64,
         what: &What,
         hint: Option<Spot>,
-    ) -> Result<Applied, NoMemory>
+    ) -> Result<Outcome, NoMemory>
         requires sits { IsDue what.now seat seq (number_of self.old seat) }
         requires fits { FitsPlace self.old.config what.now }
         ensures ok { OnOk result
             (self.new ≡ happened self.old (event_of seat seq what.now) what.now) }
         ensures dropped { IfOk result
-            (λ applied. applied.dropped ≡ lacks_room self.old seat what.now) }
+            (λ outcome. outcome.applied.dropped ≡ lacks_room self.old seat what.now) }
+        ensures gone { IfOk result (λ outcome.
+            AreGone what.now (is_gone outcome.gone) self.old.rows self.new.rows) }
         ensures err { OnErr result (self.new ≡ self.old) }
         ensures leaving { what.now ≡ Leave → IsOk result }
     {
@@ -209,12 +219,12 @@ impl Machine {
             What::Sit => {
                 sit_down(&mut self.seats, seat)?;
                 self.next_seat = seat + 1;
-                Ok(Applied::unseen())
+                Ok(Outcome::unseen())
             }
             What::Open(peer) => {
                 open_session(&mut self.sessions, *peer, seat)?;
                 count_up(&mut self.seats, seat, seq);
-                Ok(Applied::unseen())
+                Ok(Outcome::unseen())
             }
             What::Put {
                 peer,
@@ -223,16 +233,19 @@ impl Machine {
                 life,
                 cells,
             } => {
+                let is_ranked = self.is_ranked(*table);
                 let at = At {
                     table: *table,
                     key,
                     peer: *peer,
-                    spot: self.spot_for(hint, *table, key),
+                    spot: self.rows.spot_for(hint, is_ranked, *table, key),
+                    is_ranked,
                 };
-                self.apply_put(seat, seq, at, *life, cells.as_slice())
+                let applied = self.apply_put(seat, seq, at, *life, cells.as_slice())?;
+                Ok(Outcome::of(applied))
             }
             What::Clear { table, sel } => {
-                clear(
+                let gone = clear(
                     self.alloc,
                     &mut self.rows,
                     &mut self.leaders,
@@ -242,17 +255,20 @@ impl Machine {
                     sel,
                 )?;
                 count_up(&mut self.seats, seat, seq);
-                Ok(Applied::unseen())
+                Ok(Outcome {
+                    applied: Applied::unseen(),
+                    gone,
+                })
             }
             What::AddFilter(filter) => {
                 add_filter(self.alloc, &mut self.config.filters, filter)?;
                 count_up(&mut self.seats, seat, seq);
-                Ok(Applied::unseen())
+                Ok(Outcome::unseen())
             }
             What::DropFilter(name) => {
                 drop_filter(&mut self.config.filters, self.configured, name);
                 count_up(&mut self.seats, seat, seq);
-                Ok(Applied::unseen())
+                Ok(Outcome::unseen())
             }
             What::Moment(moment) => {
                 let later = self.moment.max(*moment);
@@ -265,12 +281,12 @@ impl Machine {
                 );
                 self.moment = later;
                 count_up(&mut self.seats, seat, seq);
-                Ok(Applied::unseen())
+                Ok(Outcome::unseen())
             }
             What::Leave => {
                 stand_up(&mut self.seats, seat);
                 end_sessions(&mut self.sessions, seat);
-                Ok(Applied::unseen())
+                Ok(Outcome::unseen())
             }
         }
     }

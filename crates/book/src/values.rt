@@ -96,9 +96,9 @@ pub fn row_worth(found: Option<(usize, u32)>, t: u64, row: &Row) -> u64
     }
     match found {
         None => 0,
-        Some((place, period)) => match row.cells.get(place) {
+        Some((place, period)) => match row.get(place) {
             None => 0,
-            Some(held) => cell_worth(period, row.arrived, t.saturating_sub(row.arrived), held),
+            Some(held) => cell_worth(period, row.arrived(), t.saturating_sub(row.arrived()), held),
         },
     }
 }

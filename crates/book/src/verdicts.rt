@@ -1,10 +1,11 @@
 //! Kept verdicts: which keys the standing filters hold, and when the clock alone changes that.
 //!
 //! A key is judged by the filters of its table when its rows may have changed, and else when a
-//! change that was planned for it has come. Memory for verdicts may be refused: then they are given
-//! up, and queries read the rows until the verdicts are made anew: as a filter is added, as more
-//! than one key may be cleared, or at a moment by which a key's rows ended. So no event fails for
-//! them, and a moment by which nothing changes reads nothing.
+//! change that was planned for it has come. Keys that a clear took are in no set, so they needn't
+//! be judged (`forgetting`). Memory for verdicts may be refused: then they are given up, and
+//! queries read the rows until the verdicts are made anew: as a filter is added, as more than one
+//! key may be cleared, or at a moment by which a key's rows ended. So no event fails for them, and
+//! a moment by which nothing changes reads nothing.
 
 ghost use Rattle.std.specs.Prelude.{◌≡◌, ◌+◌, ◌*◌, ◌<◌, ◌≤◌, ◌==◌, [], length, map, IfOk, OnOk};
 ghost use Rattle.std.specs.Prelude.{true, false, if◌then◌else◌, ◌&&◌, nat_lt, remove, ℕ, List};
@@ -18,14 +19,15 @@ ghost use Rattle.fleet_model.specs.Sound.{IsSound};
 ghost use Rattle.fleet_model.specs.State.{State};
 ghost use Rattle.standing_filters.specs.Watched.{verdicts_of, verdict_at};
 ghost use Rattle.book.specs.Flips.{TellsStepIfKnown};
-ghost use Rattle.book.specs.Verdicts.{AreAll, AreFirst, AreHeld, ChangesKey, ChangesTable, Follows};
+ghost use Rattle.book.specs.Gone.{AreGone, is_gone};
+ghost use Rattle.book.specs.Verdicts.{AreAll, AreFirst, AreHeld, Follows};
 ghost use Rattle.book.specs.Verdicts.{AreStill, GoesOn, HasFewer, HasMore, IsAddedPlace, IsCalm};
 ghost use Rattle.book.specs.Verdicts.{IsLeaving, IsOneMore, keys_in};
-ghost use Rattle.book.specs.Reads.{IsFewFor, IsForDue, MayRenew, filters_at, pairs_from};
+ghost use Rattle.book.specs.Reads.{IsFewFor, IsForDue, MayRenew, pairs_from};
 
 use crate::adding::judged;
+use crate::gone::Gone;
 use crate::machine::Machine;
-use crate::one_key::OneKey;
 use agg_types::{Config, Declared, Filter, Key, LentWhat, Name, NoMemory, Select, What};
 use crossing::Meter;
 use peer_rows::Spot;
@@ -62,17 +64,19 @@ impl Verdicts {
     }
 
     /// Something has happened to the machine: judges what it touched, and answers whether all keys
-    /// were judged anew. The spot is a hint at where the rows of a Put's key lie. A filter that the
-    /// event may have dropped stood at the place that leaves. So many keys had rows before, where
-    /// verdicts were given up. The flips tell which keys come into sets and which leave them; they
-    /// are lost where filters come or go, where all keys are judged anew, and where verdicts are
-    /// given up.
+    /// were judged anew, which is so only where verdicts had been given up. The spot is a hint at
+    /// where the rows of a Put's key lie. A filter that the event may have dropped stood at the
+    /// place that leaves; the keys that it took from its table are those that are gone. So many
+    /// keys had rows before, where verdicts were given up. The flips tell which keys come into sets
+    /// and which leave them; they are lost where filters come or go, where a filter's table is
+    /// cleared whole, and where verdicts are given up.
     pub(crate) fn follow(
         &mut self,
         machine: &Machine,
         what: LentWhat<'_>,
         spot: Option<Spot>,
         leaving: Option<usize>,
+        gone: &Gone,
         before: u64,
         meter: &mut Meter,
         flips: &mut Flips,
@@ -82,6 +86,7 @@ impl Verdicts {
         ensures held { (state : State) → IsSound state
             → Follows (as_what what.entry) state machine.now
             → IsLeaving state (as_what what.entry) leaving
+            → AreGone (as_what what.entry) (is_gone gone.now) state.rows machine.now.rows
             → AreHeld state self.old.standing → AreHeld machine.now self.new.standing }
         ensures few { (state : State) → IsSound state
             → Follows (as_what what.entry) state machine.now
@@ -89,6 +94,7 @@ impl Verdicts {
             → IsFewFor state machine.now (as_what what.entry) meter.new.evals }
         ensures anew { result ≡ true
             → MayRenew (as_what what.entry) × (meter.new.evals ≤ 505 * pairs_from machine.now 0) }
+        ensures given_up { result ≡ true → self.old.standing ≡ None }
         ensures calm { (state : State) → IsSound state
             → Follows (as_what what.entry) state machine.now
             → AreHeld state self.old.standing → IsCalm state machine.now (as_what what.entry)
@@ -97,6 +103,7 @@ impl Verdicts {
             → (meter.new.evals ≡ 0) × (result ≡ false) }
         ensures flips { (state : State) → IsSound state
             → Follows (as_what what.entry) state machine.now
+            → AreGone (as_what what.entry) (is_gone gone.now) state.rows machine.now.rows
             → AreHeld state self.old.standing
             → TellsStepIfKnown state machine.now flips.old flips.new }
     {
@@ -106,7 +113,7 @@ impl Verdicts {
                 false
             }
             LentWhat::Other(what) => {
-                self.follow_other(machine, what, spot, leaving, before, meter, flips)
+                self.follow_other(machine, what, spot, leaving, gone, before, meter, flips)
             }
         }
     }
@@ -118,6 +125,7 @@ impl Verdicts {
         what: &What,
         spot: Option<Spot>,
         leaving: Option<usize>,
+        gone: &Gone,
         before: u64,
         meter: &mut Meter,
         flips: &mut Flips,
@@ -126,18 +134,21 @@ impl Verdicts {
         requires fresh { meter.old.evals ≡ 0 }
         ensures held { (state : State) → IsSound state → Follows what.now state machine.now
             → IsLeaving state what.now leaving
+            → AreGone what.now (is_gone gone.now) state.rows machine.now.rows
             → AreHeld state self.old.standing → AreHeld machine.now self.new.standing }
         ensures few { (state : State) → IsSound state → Follows what.now state machine.now
             → AreHeld state self.old.standing → result ≡ false
             → IsFewFor state machine.now what.now meter.new.evals }
         ensures anew { result ≡ true
             → MayRenew what.now × (meter.new.evals ≤ 505 * pairs_from machine.now 0) }
+        ensures given_up { result ≡ true → self.old.standing ≡ None }
         ensures calm { (state : State) → IsSound state → Follows what.now state machine.now
             → AreHeld state self.old.standing → IsCalm state machine.now what.now
             → (self.old.standing ≡ None
             → before ≡ keys_in machine.now.rows (length machine.now.config.tables))
             → (meter.new.evals ≡ 0) × (result ≡ false) }
         ensures flips { (state : State) → IsSound state → Follows what.now state machine.now
+            → AreGone what.now (is_gone gone.now) state.rows machine.now.rows
             → AreHeld state self.old.standing
             → TellsStepIfKnown state machine.now flips.old flips.new }
     {
@@ -147,11 +158,13 @@ impl Verdicts {
                 false
             }
             What::Clear { table, sel } => match sel {
-                Select::One(key) => {
-                    self.touch(machine, *table, key, None, meter, flips);
+                Select::One(_) => {
+                    self.forget(machine, *table, gone, flips);
                     false
                 }
-                Select::All | Select::Conds(_) => self.clear(machine, *table, meter, flips),
+                Select::All | Select::Conds(_) => {
+                    self.clear(machine, *table, gone, meter, flips)
+                }
             },
             What::AddFilter(_) => {
                 flips.lose();
@@ -166,69 +179,6 @@ impl Verdicts {
             What::Sit => false,
             What::Open(_) => false,
             What::Leave => false,
-        }
-    }
-
-    // The rows of a key may have changed.
-    fn touch(
-        &mut self,
-        machine: &Machine,
-        table: usize,
-        key: &Key,
-        spot: Option<Spot>,
-        meter: &mut Meter,
-        flips: &mut Flips,
-    )
-        requires sound { IsSound machine.now }
-        ensures held { (state : State) → ChangesKey table key.now state machine.now
-            → AreHeld state self.old.standing → AreHeld machine.now self.new.standing }
-        ensures few { (state : State) → AreHeld state self.old.standing
-            → meter.new.evals ≤ meter.old.evals + 505 * filters_at state table }
-        ensures flips { (state : State) → IsSound state → ChangesKey table key.now state machine.now
-            → AreHeld state self.old.standing
-            → TellsStepIfKnown state machine.now flips.old flips.new }
-    {
-        standing_filters::laws::touch_keeps_verdicts();
-        if !has_filter(machine.config.filters.as_slice(), table) {
-            return;
-        }
-        let Some(standing) = &mut self.standing else {
-            flips.lose();
-            return;
-        };
-        let values = OneKey::new(machine, spot, table, key);
-        if standing
-            .touch(table, key, &values, machine.moment, meter, flips)
-            .is_err()
-        {
-            self.standing = None;
-            flips.lose();
-        }
-    }
-
-    // The rows of several keys of a table may be gone. Answers whether all keys were judged.
-    fn clear(
-        &mut self,
-        machine: &Machine,
-        table: usize,
-        meter: &mut Meter,
-        flips: &mut Flips,
-    ) -> bool
-        requires sound { IsSound machine.now }
-        ensures held { (state : State) → ChangesTable table state machine.now
-            → AreHeld state self.old.standing → AreHeld machine.now self.new.standing }
-        ensures few { result ≡ false → meter.new.evals ≡ meter.old.evals }
-        ensures anew { result ≡ true
-            → meter.new.evals ≤ meter.old.evals + 505 * pairs_from machine.now 0 }
-        ensures flips { (state : State) → ChangesTable table state machine.now
-            → TellsStepIfKnown state machine.now flips.old flips.new }
-    {
-        if has_filter(machine.config.filters.as_slice(), table) {
-            flips.lose();
-            self.renew(machine, meter);
-            true
-        } else {
-            false
         }
     }
 
@@ -249,6 +199,7 @@ impl Verdicts {
             → AreHeld state self.old.standing → result ≡ false
             → IsForDue state machine.now.moment meter.new.evals }
         ensures anew { result ≡ true → meter.new.evals ≤ 505 * pairs_from machine.now 0 }
+        ensures given_up { result ≡ true → self.old.standing ≡ None }
         ensures calm { (state : State) → IsSound state → GoesOn state machine.now
             → AreHeld state self.old.standing → AreStill state machine.now
             → (self.old.standing ≡ None
@@ -315,6 +266,7 @@ impl Verdicts {
             + 505 * pairs_from machine.now (length state.config.filters) }
         ensures anew { result ≡ true
             → meter.new.evals ≤ meter.old.evals + 505 * pairs_from machine.now 0 }
+        ensures given_up { result ≡ true → self.old.standing ≡ None }
     {
         match &self.standing {
             Some(_) => {
@@ -369,8 +321,8 @@ impl Verdicts {
         drop_at(standing, place, machine.config.filters.len());
     }
 
-    // All keys are judged anew.
-    fn renew(&mut self, machine: &Machine, meter: &mut Meter)
+    /// All keys are judged anew.
+    pub(crate) fn renew(&mut self, machine: &Machine, meter: &mut Meter)
         requires sound { IsSound machine.now }
         ensures held { AreHeld machine.now self.new.standing }
         ensures few { meter.new.evals ≤ meter.old.evals + 505 * pairs_from machine.now 0 }
@@ -379,8 +331,8 @@ impl Verdicts {
     }
 }
 
-// Whether some filter is of a table.
-fn has_filter(filters: &[Filter], table: usize) -> bool
+/// Whether some filter is of a table.
+pub(crate) fn has_filter(filters: &[Filter], table: usize) -> bool
     ensures { result ≡ list_any (λ filter. filter.table == table) filters.now }
 {
     filters.iter().any(|filter| filter.table == table)

@@ -13,8 +13,8 @@ const SHORT_MS: u64 = 1 << 32;
 const NEAR_MS: u64 = 1 << 26;
 
 /// The least moment from `now` on, in ms, at which a value is below a bound; none exactly where it
-/// never is. Reads the value at most 35 times where it stays from 2^33 ms on, and three times where
-/// it stays from 2^32 ms on and isn't below the bound before the moment from which it stays.
+/// never is. Reads the value at most 35 times where it stays from 2^33 ms on. Reads it three times
+/// where it stays from 2^32 ms on and isn't below the bound before the moment from which it stays.
 pub fn first_below<F: Falls>(fall: &F, now: u64, bound: u128, meter: &mut Meter) -> Option<u64>
     ensures first { IsFirstFrom now (λ t. F.value fall.now t < bound) result }
     ensures counted { IsFlatSoon now (F.flat fall.now)

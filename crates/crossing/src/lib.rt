@@ -8,16 +8,16 @@
 //! `Values::most`, so that no row is read where that settles what is asked. Whether a value is
 //! below a bound is asked for by `is_below`, so that who adds it up may stop where that is sure.
 //! Who can tell at once when a value falls below a bound does so by `known_drop`, and is held to
-//! it; who can tell when that is likely says so by `likely`, so that the value is mostly looked at
-//! twice there in place of halving the time up to the moment from which it stays.
+//! it. Who can tell when that is likely says so by `likely`. The value is then mostly looked at
+//! twice there, in place of halving the time up to the moment from which it stays.
 //!
-//! Promised: `first_below` gives the least moment at which a value is below a bound, and
-//! `next_change` the least later moment at which the truth of all conditions together differs from
-//! now; none exactly where there is none. `Meter` counts every value that is read for it, a look at
-//! a bound and a drop that is told as one each. For up to five conditions on values that stay from
-//! 2^33 ms on that is at most 500. `first_below` reads a value three times that drops only at the
-//! moment from which it stays, up to 2^32 ms from now. Nothing takes memory. No clause says how
-//! long reading a value takes.
+//! Promised: `first_below` gives the least moment at which a value is below a bound. `next_change`
+//! gives the least later moment at which the truth of all conditions together differs from now.
+//! Both give none exactly where there is none. `Meter` counts every value that is read for it, a
+//! look at a bound and a drop that is told as one each. For up to five conditions on values that
+//! stay from 2^33 ms on that is at most 500. `first_below` reads a value three times that drops
+//! only at the moment from which it stays, up to 2^32 ms from now. Nothing takes memory. No clause
+//! says how long reading a value takes.
 #![tactic(auto)]
 
 mod between;

@@ -10,8 +10,8 @@ use std::marker::Model;
 /// A due index kept as a wheel: levels of 256 slots, each with the entries of its own moments.
 ///
 /// The wheel counts from a moment `now`. The entries up to its `near_end` stand together, and each
-/// later one in the slot that its moment has: the level is the highest digit, in base 256, in which
-/// the moment differs from `now`, and the slot that digit. So a slot of the lowest level is one
+/// later one in the slot that its moment has. The level is the highest digit, in base 256, in which
+/// the moment differs from `now`, and the slot is that digit. So a slot of the lowest level is one
 /// moment, and a slot of any other is 256 times as long as one of the level below.
 ///
 /// When nothing near is left, the first slot with entries is taken near as it is. While many

@@ -1,7 +1,7 @@
 //! Ranked lists, found by bounds on the values of keys.
 //!
 //! Books list the first keys of a table by a column. `Bounds` keeps for each key a bound that its
-//! value doesn't exceed, and an index of them with the greatest first; `Ranked` takes entries from
+//! value doesn't exceed, and an index of them with the greatest first. `Ranked` takes entries from
 //! the front until its best key stands before all that are left, and then gives it. Values only
 //! fall by themselves, so bounds hold as time goes on.
 //!
@@ -12,8 +12,8 @@
 //! have as many digits, nearly all. `Leaders` keeps bounds for several lists, by their positions.
 //!
 //! Promised: a touched key has a bound of at least what was touched, and at most four times of it
-//! and 3, until it is touched again or dropped; `Ranked` lends the first keys that a sort of all
-//! live ones would give, each with its value, and by then never took more entries than there are
+//! and 3, until it is touched again or dropped. `Ranked` lends the first keys that a sort of all
+//! live ones would give, each with its value. By then it never took more entries than there are
 //! keys with a bound of at least that value. No clause says what a step costs.
 #![tactic(auto)]
 

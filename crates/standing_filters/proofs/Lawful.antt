@@ -1,9 +1,10 @@
 -- The laws of kept verdicts.
-use Rattle.std.proofs.Common.{◌≡◌, ℕ, ◌+◌, ◌<◌, ◌≤◌, Bool, true, false, ◌&&◌, ◌||◌, nat_lt, List}
-use Rattle.std.proofs.Common.{Option}
+use Rattle.std.proofs.Common.{◌≡◌, ℕ, ◌+◌, ◌<◌, ◌≤◌, ◌==◌, Bool, true, false, ◌&&◌, ◌||◌, nat_lt}
+use Rattle.std.proofs.Common.{List, Option, cond}
 use Rattle.std.proofs.Common.{None, Some, refl, sym, ap, ◌∙◌, subst, arith, inl, inr, ⊎_elim}
 use Rattle.std.specs.Prelude.{◌≢◌, ◌⊎◌}
-use Rattle.std.proofs.lemmas.Bool.{cases_Bool, cases_eq, cases_lt, false≢true, true≢false}
+use Rattle.std.proofs.lemmas.Bool.{cases_Bool, cases_eq, cases_lt, eqb-true, false≢true}
+use Rattle.std.proofs.lemmas.Bool.{true≢false}
 use Rattle.std.proofs.lemmas.Cmp.{nat_list_cmp_total, tied_itself}
 use Rattle.std.proofs.lemmas.Map.Lookups.{exact_bytes}
 use Rattle.std.specs.BTreeMap.{is_at}
@@ -15,13 +16,14 @@ use Rattle.agg_types.specs.declared.column.Col.{Col}
 use Rattle.agg_types.specs.declared.config.Filter.{Filter}
 use Rattle.crossing.specs.First.{IsFirstAt, IsFirstFrom}
 use Rattle.standing_filters.specs.Laws.{AddingBegins, AddingGoesOn, FirstChangeIsTheSets}
-use Rattle.standing_filters.specs.Laws.{MomentKeepsVerdicts, TouchKeepsVerdicts}
+use Rattle.standing_filters.specs.Laws.{ForgettingKeepsVerdicts, MomentKeepsVerdicts}
+use Rattle.standing_filters.specs.Laws.{TouchKeepsVerdicts}
 use Rattle.standing_filters.specs.Turns.{has_come, is_due, same_key}
 use Rattle.standing_filters.specs.Verdicts.{Foretells, IsVerdict, holds_at, out}
 use Rattle.standing_filters.specs.Watched.{is_among, verdict_at}
 use Rattle.standing_filters.specs.declared.judging.Verdict.{Verdict}
 use Rattle.expiry_wheel.proofs.Members.{equal_from}
-use Rattle.standing_filters.proofs.Told.{dead_never, told_same}
+use Rattle.standing_filters.proofs.Told.{dead_never, never_lives, told_same}
 use Rattle.standing_filters.proofs.Walking.{key_itself, not_come, one_key}
 
 quiet : (truth : ℕ → Bool) (now : ℕ) (v : Verdict) → Foretells truth now v → v.next ≡ None
@@ -103,6 +105,37 @@ touch_keeps_verdicts before after living lives table key now old new same verdic
 
     here : old.filter.table ≡ table → IsVerdict after lives old.filter now q (verdict_at new.kept q)
     here of = by of (is_at (slice_cmp nat_cmp key) q) refl
+
+-- ---- keys are gone
+pub forgetting_keeps_verdicts : ForgettingKeepsVerdicts
+forgetting_keeps_verdicts before after living lives table is_gone now old new same none verdicts
+    forgot q =
+    subst (λ f. IsVerdict after lives f now q (verdict_at new.kept q)) (sym forgot.filter)
+    (by (old.filter.table == table) (is_gone q) refl refl)
+  where
+    kept : ((old.filter.table == table) && is_gone q) ≡ false
+        → IsVerdict after lives old.filter now q (verdict_at new.kept q)
+    kept stays =
+        let values = same old.filter.table q stays in
+        subst (λ v. IsVerdict after lives old.filter now q v)
+        (sym (forgot.kept q ∙ ap (λ b. cond b out (verdict_at old.kept q)) stays))
+        (told_same (λ t. holds_at before living old.filter q t)
+        (λ t. holds_at after lives old.filter q t) now (verdict_at old.kept q)
+        (λ t. same_truth (before old.filter.table q) (after old.filter.table q)
+        (living old.filter.table q) (lives old.filter.table q) old.filter t values.0 values.1)
+        (verdicts q))
+
+    by : (b c : Bool) → (old.filter.table == table) ≡ b → is_gone q ≡ c
+        → IsVerdict after lives old.filter now q (verdict_at new.kept q)
+    by true true of gone =
+        subst (λ v. IsVerdict after lives old.filter now q v)
+        (sym (forgot.kept q ∙ (λ i. cond (of i && gone i) out (verdict_at old.kept q))))
+        (never_lives (lives old.filter.table q)
+        (λ t. list_all (λ cond. op_holds cond.op (after old.filter.table q cond.col t) cond.bound)
+        old.filter.conds) now
+        (λ t. ap (λ n. lives n q t) (eqb-true old.filter.table table of) ∙ none q t gone))
+    by true false of gone = kept (λ i. of i && gone i)
+    by false c of gone = kept (ap (λ b. b && is_gone q) of)
 
 -- ---- the clock goes on
 

@@ -8,3 +8,6 @@ pub mod Touched
 pub mod Ahead
 pub mod Walking
 pub mod Removed
+pub mod Placing
+pub mod Laid
+pub mod Forgotten

@@ -70,7 +70,7 @@ unplanned_is due key at stays ordered differ e =
 
 -- ---- a verdict becomes another
 
-same_key : (key q : List ℕ) → is_at (slice_cmp nat_cmp key) q ≡ true → key ≡ q
+pub same_key : (key q : List ℕ) → is_at (slice_cmp nat_cmp key) q ≡ true → key ≡ q
 same_key key q same = exact_bytes key q (equal_from _ same)
 
 change_at : (kept : KeyVerdicts) (key : List ℕ) → (verdict_at kept key).next ≡ change_of
@@ -196,17 +196,20 @@ backed_out due planned after kept key verdict old exact is plan unplan e =
 
 -- ---- room for a verdict
 
-pub room_same : (kept new : KeyVerdicts) (key : List ℕ) → kept_at kept key ≡ None
-    → ((q : List ℕ) → kept_at new q ≡ cond (is_at (slice_cmp nat_cmp key) q) (Some out)
-    (kept_at kept q)) → (q : List ℕ) → verdict_at new q ≡ verdict_at kept q
-room_same kept new key none becomes q = ap (λ found. unwrap_or found out) (becomes q)
-    ∙ by (is_at (slice_cmp nat_cmp key) q) refl
+-- a key on which no verdict is kept is out already
+pub becomes_none : (kept : KeyVerdicts) (key : List ℕ) → kept_at kept key ≡ None
+    → Becomes key out kept kept
+becomes_none kept key none = λ q. by q (is_at (slice_cmp nat_cmp key) q) refl
   where
-    by : (b : Bool) → is_at (slice_cmp nat_cmp key) q ≡ b
-        → unwrap_or (cond b (Some out) (kept_at kept q)) out ≡ verdict_at kept q
-    by true same = ap (λ found. unwrap_or found out) (sym none)
-        ∙ ap (λ k. verdict_at kept k) (same_key key q same)
-    by false other = refl
+    by : (q : List ℕ) (b : Bool) → is_at (slice_cmp nat_cmp key) q ≡ b
+        → verdict_at kept q ≡ cond b out (verdict_at kept q)
+    by q true same = ap (λ k. verdict_at kept k) (sym (same_key key q same))
+        ∙ ap (λ found. unwrap_or found out) none
+    by q false other = refl
+
+pub room_same : (kept new : KeyVerdicts) (key : List ℕ) → kept_at kept key ≡ None
+    → Becomes key out kept new → (q : List ℕ) → verdict_at new q ≡ verdict_at kept q
+room_same kept new key none becomes q = becomes q ∙ sym (becomes_none kept key none q)
 
 pub none_there : (found : Option Verdict) → is_some found ≡ false → found ≡ None
 none_there None h = refl

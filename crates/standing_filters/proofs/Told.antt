@@ -82,6 +82,17 @@ never_in living met now never = record {
     nowhere : (t : ℕ) → (nat_lt 0 (living t) && met t) ≡ false
     nowhere t = ap (λ b. nat_lt 0 (living t) && b) (never t) ∙ by (nat_lt 0 (living t))
 
+-- a key that never has a live row is out for good
+pub never_lives : (living : ℕ → ℕ) (met : ℕ → Bool) (now : ℕ) → ((t : ℕ) → living t ≡ 0)
+    → Foretells (λ t. nat_lt 0 (living t) && met t) now out
+never_lives living met now none = record {
+  holds = sym (nowhere now);
+  next = λ s since differs. differs (nowhere s ∙ sym (nowhere now));
+}
+  where
+    nowhere : (t : ℕ) → (nat_lt 0 (living t) && met t) ≡ false
+    nowhere t = ap (λ n. nat_lt 0 n && met t) (none t)
+
 -- what is asked first may be asked behind another
 behind : (a b c : Bool) → (a && (b && c)) ≡ (b && (a && c))
 behind true b c = refl

@@ -1,11 +1,13 @@
 -- What kept verdicts say of a filter's set, now and as the clock goes on.
-use Rattle.std.specs.Prelude.{◌≡◌, ◌≢◌, ◌⊎◌, ℕ, ◌+◌, ◌≤◌, true, false, List, ◌∷◌, Option}
+use Rattle.std.specs.Prelude.{◌≡◌, ◌≢◌, ◌==◌, ◌&&◌, ◌⊎◌, ℕ, ◌+◌, ◌≤◌, Bool, true, false, List}
+use Rattle.std.specs.Prelude.{◌∷◌, Option}
 use Rattle.agg_types.specs.declared.column.Col.{Col}
 use Rattle.agg_types.specs.declared.config.Filter.{Filter}
 use Rattle.crossing.specs.First.{IsFirstFrom}
 use Rattle.standing_filters.specs.Turns.{IsTurned}
 use Rattle.standing_filters.specs.Verdicts.{IsVerdict, holds_at, out}
-use Rattle.standing_filters.specs.Watched.{IsFirstChange, IsTouched, Watched, is_among, unheld}
+use Rattle.standing_filters.specs.Watched.{IsFirstChange, IsForgotten, IsTouched, Watched}
+use Rattle.standing_filters.specs.Watched.{is_among, unheld}
 use Rattle.standing_filters.specs.Watched.{verdict_at}
 
 -- every key has its verdict of a moment
@@ -32,6 +34,18 @@ TouchKeepsVerdicts = (before after : ℕ → List ℕ → Col → ℕ → ℕ) (
     → ((t : ℕ) (other : List ℕ) → (t ≢ table) ⊎ (other ≢ key)
     → (after t other ≡ before t other) × (lives t other ≡ living t other))
     → AreVerdicts before living now old → IsTouched after lives table key now old new
+    → AreVerdicts after lives now new
+
+-- where every key had its verdict, and keys of a table have no live row any more while the values
+-- of all others are what they were, forgetting these keys gives every key its verdict
+abbrev pub ForgettingKeepsVerdicts : Type 0
+ForgettingKeepsVerdicts = (before after : ℕ → List ℕ → Col → ℕ → ℕ)
+    (living lives : ℕ → List ℕ → ℕ → ℕ) (table : ℕ) (is_gone : List ℕ → Bool) (now : ℕ)
+    (old new : Watched)
+    → ((t : ℕ) (key : List ℕ) → ((t == table) && is_gone key) ≡ false
+    → (after t key ≡ before t key) × (lives t key ≡ living t key))
+    → ((key : List ℕ) (t : ℕ) → is_gone key ≡ true → lives table key t ≡ 0)
+    → AreVerdicts before living now old → IsForgotten table is_gone old new
     → AreVerdicts after lives now new
 
 -- where every key had its verdict, and the clock has gone on to t, every key has its verdict once

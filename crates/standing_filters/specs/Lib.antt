@@ -1,5 +1,6 @@
 pub mod Flips
 pub mod Laws
+pub mod Placed
 pub mod Plans
 pub mod Turns
 pub mod Verdicts

@@ -1,7 +1,8 @@
 -- What contracts see of standing filters: each with the keys on which its verdict isn't `out`, in
 -- order, and their verdicts.
-use Rattle.std.specs.Prelude.{◌≡◌, ◌≢◌, ◌==◌, ℕ, ◌≤◌, Bool, List, [], Option, None}
-use Rattle.std.specs.Prelude.{Some, count_by, filter, map, slice_index_or, unwrap_or}
+use Rattle.std.specs.Prelude.{◌≡◌, ◌≢◌, ◌==◌, ◌&&◌, ℕ, ◌≤◌, Bool, List, [], Option, None}
+use Rattle.std.specs.Prelude.{Some, count_by, filter, if◌then◌else◌, map, slice_index_or}
+use Rattle.std.specs.Prelude.{unwrap_or}
 use Rattle.std.specs.BTreeMap.{is_at}
 use Rattle.std.specs.Cmp.Lexicographic.{slice_cmp}
 use Rattle.std.specs.List.{AllZip, list_any}
@@ -66,6 +67,17 @@ abbrev pub AreTouched : (ℕ → List ℕ → Col → ℕ → ℕ) → (ℕ → 
     → List Watched → List Watched → Type 0
 AreTouched summed living table key now old new =
     AllZip (λ a b. IsTouched summed living table key now a b) old new
+
+-- A filter of a table has no verdict but `out` on keys that are gone, and its other verdicts are
+-- what they were. A filter of another table is what it was.
+pub record IsForgotten (table : ℕ) (is_gone : List ℕ → Bool) (old new : Watched) : Type 0 where
+  pub filter : new.filter ≡ old.filter
+  pub kept : (key : List ℕ) → verdict_at new.kept key
+      ≡ (if (old.filter.table == table) && is_gone key then out else verdict_at old.kept key)
+
+-- each of some filters
+abbrev pub AreForgotten : ℕ → (List ℕ → Bool) → List Watched → List Watched → Type 0
+AreForgotten table is_gone old new = AllZip (λ a b. IsForgotten table is_gone a b) old new
 
 -- whether a key is one of these
 abbrev pub is_among : List (List ℕ) → List ℕ → Bool

@@ -1,10 +1,12 @@
 ghost use Rattle.std.specs.Prelude.{◌≡◌, length};
 ghost use Rattle.std.specs.Iterator.{at_most};
 ghost use Rattle.std.specs.Map.Iter.{TakesFirst, deref};
+ghost use Rattle.standing_filters.specs.Placed.{verdict_in, verdicts_in};
 ghost use Rattle.standing_filters.specs.Watched.{keys_held};
 
 use crate::judging::Verdict;
 use agg_types::Key;
+use place_index::PlaceIndex;
 use std::collections::btree_map::Iter;
 use std::marker::Model;
 
@@ -13,23 +15,29 @@ use std::marker::Model;
 /// Contracts see the list of what it has left.
 #[derive(Drop)]
 pub struct Keys<'a> {
-    kept: Iter<'a, Key, Verdict>,
+    // The place of each key's verdict.
+    order: Iter<'a, Key, usize>,
+    verdicts: &'a PlaceIndex<Key, Verdict>,
 }
 
 impl<'a> Model for Keys<'a> {
     ghost use Rattle.std.specs.Prelude.{List, ℕ};
+    ghost use Rattle.standing_filters.specs.Placed.{verdicts_in};
     ghost use Rattle.standing_filters.specs.Watched.{keys_held};
 
     ghost Value = { List (List ℕ) };
 
-    ghost view = { λ keys. keys_held keys.kept };
+    ghost view = { λ keys. keys_held (verdicts_in keys.verdicts.now.places keys.order) };
 }
 
 impl<'a> Keys<'a> {
-    pub(crate) fn new(kept: Iter<'a, Key, Verdict>) -> Keys<'a>
-        ensures { result ≡ keys_held kept.entry }
+    pub(crate) fn new(
+        order: Iter<'a, Key, usize>,
+        verdicts: &'a PlaceIndex<Key, Verdict>,
+    ) -> Keys<'a>
+        ensures { result ≡ keys_held (verdicts_in verdicts.entry.now.places order.entry) }
     {
-        Keys { kept }
+        Keys { order, verdicts }
     }
 }
 
@@ -41,11 +49,21 @@ impl<'a> Iterator for Keys<'a> {
     ghost remaining = { λ keys. at_most (length keys) };
 
     fn next(&mut self) -> Option<&'a Key> {
-        while let Some((key, verdict)) = self.kept.next() {
-            if verdict.holds {
+        while let Some((key, at)) = self.order.next() {
+            if is_held(self.verdicts, *at) {
                 return Some(key);
             }
         }
         None
+    }
+}
+
+// Whether the verdict in a place says that its key is held.
+fn is_held(verdicts: &PlaceIndex<Key, Verdict>, at: usize) -> bool
+    ensures { result ≡ (verdict_in verdicts.now.places at).holds }
+{
+    match verdicts.value(at) {
+        Some(verdict) => verdict.holds,
+        None => false,
     }
 }

@@ -1,7 +1,8 @@
 //! What kept verdicts say of a filter's set.
 
 ghost use Rattle.standing_filters.specs.Laws.{AddingBegins, AddingGoesOn, FirstChangeIsTheSets};
-ghost use Rattle.standing_filters.specs.Laws.{MomentKeepsVerdicts, TouchKeepsVerdicts};
+ghost use Rattle.standing_filters.specs.Laws.{ForgettingKeepsVerdicts, MomentKeepsVerdicts};
+ghost use Rattle.standing_filters.specs.Laws.{TouchKeepsVerdicts};
 
 /// Where every key has its verdict of now, the first change of a verdict is the first moment at
 /// which the filter holds a key that it doesn't now, or the other way round.
@@ -13,6 +14,12 @@ pub fn first_change_is_the_sets()
 /// verdict again once that one is touched.
 pub fn touch_keeps_verdicts()
     ensures { TouchKeepsVerdicts }
+{}
+
+/// Where every key had its verdict and some keys of a table have no live row any more, every key
+/// has its verdict again once these are forgotten.
+pub fn forgetting_keeps_verdicts()
+    ensures { ForgettingKeepsVerdicts }
 {}
 
 /// Where every key had its verdict and the clock has gone on, every key has its verdict again once

@@ -13,26 +13,31 @@
 //! verdicts at its moment and leaves all others, `moment` gives each key whose change has come its
 //! verdict then, however many changes were passed, and `add` adds a last filter, which has judged
 //! the keys one by one before (`begin`, `Adding`). Each changes nothing where it runs out of
-//! memory; `remove`, which takes a filter away, needs none. `keys` lends the keys whose verdict is
-//! that they are held, `planned` the moments at which verdicts change, each with its key, and
-//! `next_change` is the least of them.
+//! memory; `remove`, which takes a filter away, needs none. Nor do `forget` and `clear_table`,
+//! after which no filter of a table holds keys that have no row any more; they read no value.
+//! `keys` lends the keys whose verdict is that they are held, `planned` the moments at which
+//! verdicts change, each with its key, and `next_change` is the least of them.
 //!
-//! `Flips` take down which keys come into sets and which leave them, as `touch` and `moment` judge:
-//! of a filter and a key the last flip says whether it is held, and where there is none that hasn't
-//! changed. Where memory for flips is refused they are lost, and no call fails for that.
+//! `Flips` take down which keys come into sets and which leave them, as `touch`, `moment` and
+//! `forget` change verdicts: of a filter and a key the last flip says whether it is held, and where
+//! there is none that hasn't changed. Where memory for flips is refused they are lost, and no call
+//! fails for that.
 //!
 //! `fails_for_good` says of a condition that the most which values are ever worth settles it, for who
 //! lists keys by conditions too.
 //!
 //! That a key which can't come into a set again is known by one value of each condition, or by none
 //! where the values tell the most that a key is ever worth, is meant for speed, and no clause says
-//! so; nor that a verdict is searched for once where a filter is the last of its table.
+//! so; nor that a verdict is searched for once where a filter is the last of its table, and by the
+//! hash of its key, so that keys in order are searched only where a verdict comes or goes.
 #![tactic(auto)]
 
 mod adding;
 mod coming;
 mod flips;
+mod forgetting;
 mod judging;
+mod kept;
 mod keys;
 pub mod laws;
 mod plans;

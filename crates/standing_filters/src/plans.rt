@@ -1,6 +1,6 @@
 //! The planned change of one key, in an index of changes.
 
-ghost use Rattle.std.specs.Prelude.{◌≡◌, OnOk, OnErr};
+ghost use Rattle.std.specs.Prelude.{◌≡◌, [], OnOk, OnErr};
 ghost use Rattle.standing_filters.specs.Plans.{IsMoved, IsPlanned, IsUnplanned};
 
 use agg_types::{Key, NoMemory};
@@ -36,6 +36,15 @@ pub(crate) fn unplan(due: &mut Wheel<Key>, key: &Key, gone: Option<u64>, stays: 
     }
     if let Some(at) = gone {
         due.cancel(at, key);
+    }
+}
+
+/// Cancels all changes. Takes no memory.
+pub(crate) fn unplan_all(due: &mut Wheel<Key>)
+    ensures { due.new ≡ [] }
+{
+    while let Some(at) = due.next_at() {
+        let _gone = due.take_due(at);
     }
 }
 

@@ -1,7 +1,7 @@
 //! The standing filters of a collector.
 
 ghost use Rattle.std.specs.Prelude.{◌≡◌, ◌≤◌, ◌<◌, ◌+◌, ◌*◌, ◌==◌, ◌++◌, ◌∷◌, [], ℕ, List};
-ghost use Rattle.std.specs.Prelude.{length, map, remove, IfOk, IsOk, OnOk, OnErr};
+ghost use Rattle.std.specs.Prelude.{length, map, remove, true, IfOk, IsOk, OnOk, OnErr};
 ghost use Rattle.std.specs.List.{All, AllByRecursion, list_any};
 ghost use Rattle.std.specs.List.Sorted.{IsStrictlySortedBy};
 ghost use Rattle.std.specs.BTreeMap.{is_at};
@@ -13,12 +13,13 @@ ghost use Rattle.expiry_wheel.specs.Entries.{IsInOrder};
 ghost use Rattle.standing_filters.specs.Flips.{TellsIfKnown, holding};
 ghost use Rattle.standing_filters.specs.Plans.{IsPlanOf};
 ghost use Rattle.standing_filters.specs.Turns.{AreReadFor, AreTurned, IsQuiet};
-ghost use Rattle.standing_filters.specs.Watched.{AreTouched, IsFirstChange};
-ghost use Rattle.standing_filters.specs.Watched.{filters_of, keys_held, unheld, verdict_at};
-ghost use Rattle.standing_filters.specs.Watched.{verdicts_of};
+ghost use Rattle.standing_filters.specs.Watched.{AreForgotten, AreTouched, IsFirstChange};
+ghost use Rattle.standing_filters.specs.Watched.{filters_of, is_among, keys_held, unheld};
+ghost use Rattle.standing_filters.specs.Watched.{verdict_at, verdicts_of};
 
 use crate::adding::Adding;
 use crate::flips::Flips;
+use crate::forgetting::{clear_each, forget_each};
 use crate::keys::Keys;
 use crate::touching::touch_each;
 use crate::turning::turn_each;
@@ -129,6 +130,26 @@ impl Standing {
             (holding self.new.filters) flips.old flips.new) }
     {
         turn_each(self.watches.as_mut_slice(), 0, values, t, meter, flips)
+    }
+
+    /// Keys of a table have no row any more: no filter of the table holds one of them, nor will by
+    /// the clock alone. Reads no value, and takes no memory but for flips, which tell which of them
+    /// were held.
+    pub fn forget(&mut self, table: usize, keys: &[Key], flips: &mut Flips)
+        ensures forgotten { AreForgotten table (is_among keys.now) self.old.filters
+            self.new.filters }
+        ensures flips { TellsIfKnown (holding self.old.filters) (holding self.new.filters)
+            flips.old flips.new }
+    {
+        forget_each(self.watches.as_mut_slice(), 0, table, keys, flips);
+    }
+
+    /// No key of a table has a row any more: no filter of the table holds one, nor will by the
+    /// clock alone. Reads no value and takes no memory, so which were held isn't told.
+    pub fn clear_table(&mut self, table: usize)
+        ensures { AreForgotten table (λ key. true) self.old.filters self.new.filters }
+    {
+        clear_each(self.watches.as_mut_slice(), table);
     }
 
     /// A filter that is to be added: it holds no key, and judges those that have rows before it is

@@ -25,13 +25,13 @@ ghost use Rattle.standing_filters.specs.Turns.{keys_judged, same_key, verdict_af
 use crate::coming::{Coming, Judged};
 use crate::flips::Flips;
 use crate::judging::{OUT, Verdict, judge};
+use crate::kept::KeptVerdicts;
 use crate::keys::Keys;
-use crate::plans::{move_plan, plan, unplan};
+use crate::plans::{plan, unplan, unplan_all};
 use agg_types::{Filter, Key, NoMemory};
 use crossing::{Meter, Values};
 use expiry_wheel::{DueIndex, Entries, Wheel};
 use std::alloc::Global;
-use std::collections::BTreeMap;
 use std::marker::Model;
 
 /// A standing filter with the verdicts on its keys.
@@ -41,8 +41,8 @@ use std::marker::Model;
 #[derive(Drop)]
 pub(crate) struct Watch {
     filter: Filter,
-    // By key: its verdict, where that isn't `OUT`.
-    kept: BTreeMap<Key, Verdict>,
+    // Those that aren't `OUT`.
+    kept: KeptVerdicts,
     // Each of them at the moment at which its verdict changes, if it does.
     due: Wheel<Key>,
     alloc: Global,
@@ -53,7 +53,7 @@ impl Model for Watch {
 
     ghost Value = { Watching };
 
-    ghost view = { λ w. record { filter = w.filter; kept = w.kept.entries; due = w.due } };
+    ghost view = { λ w. record { filter = w.filter; kept = w.kept; due = w.due } };
 }
 
 impl Watch {
@@ -63,7 +63,7 @@ impl Watch {
     {
         Ok(Watch {
             filter,
-            kept: BTreeMap::new(alloc),
+            kept: KeptVerdicts::new(alloc),
             due: Wheel::new(alloc, 0)?,
             alloc,
         })
@@ -84,7 +84,7 @@ impl Watch {
             → list_any (is_at (slice_cmp nat_cmp key)) (keys_held self.now.kept)
             ≡ (verdict_at self.now.kept key).holds }
     {
-        Keys::new(self.kept.iter())
+        self.kept.keys()
     }
 
     /// The first moment at which a verdict on a key changes.
@@ -176,9 +176,7 @@ impl Watch {
             return;
         }
         self.unplan(key, change_of(old), verdict.next);
-        if let Some(kept) = self.kept.get_mut(key) {
-            *kept = verdict;
-        }
+        self.kept.exchange(key, verdict);
     }
 
     /// Keeps a verdict on a key, and plans its change. Answers whether the key was held before.
@@ -216,6 +214,14 @@ impl Watch {
         };
         self.unplan(key, old.next, None);
         old.holds
+    }
+
+    /// Keeps no verdict on any key, so that each is `OUT`. Takes no memory.
+    pub(crate) fn clear(&mut self)
+        ensures { self.new ≡ record self.old { kept = []; due = [] } }
+    {
+        self.kept.clear();
+        unplan_all(&mut self.due);
     }
 }
 
@@ -329,12 +335,7 @@ impl Watch {
         if verdict.is_out() {
             return held_by(self.kept.remove(key));
         }
-        let Some(kept) = self.kept.get_mut(key) else {
-            return false;
-        };
-        let was = kept.holds;
-        *kept = verdict;
-        was
+        held_by(self.kept.exchange(key, verdict))
     }
 
     // Makes room for a verdict on a key, and answers the one that is kept.
@@ -347,9 +348,9 @@ impl Watch {
             ≡ verdict_at self.old.kept q) }
         ensures err { OnErr result (self.new ≡ self.old) }
     {
-        let old = self.kept.get(key).copied();
+        let old = self.kept.get(key);
         if old.is_none() {
-            self.kept.insert(key.duplicate(self.alloc)?, OUT)?;
+            self.kept.insert(key, OUT)?;
         }
         Ok(old)
     }
@@ -365,15 +366,7 @@ impl Watch {
         ensures planned { OnOk result (IsPlanOf self.new.kept self.new.due) }
         ensures err { OnErr result (self.new ≡ self.old) }
     {
-        let Some(kept) = self.kept.get_mut(key) else {
-            return Ok(None);
-        };
-        let old = *kept;
-        if old != verdict {
-            move_plan(self.alloc, &mut self.due, key, old.next, verdict.next)?;
-            *kept = verdict;
-        }
-        Ok(Some(old))
+        self.kept.replace(&mut self.due, key, verdict)
     }
 
     // Keeps a verdict on a key on which none is kept, and plans its change.
@@ -395,14 +388,14 @@ impl Watch {
 
     // Puts a verdict on a key in.
     fn insert(&mut self, key: &Key, verdict: Verdict) -> Result<(), NoMemory>
+        requires { kept_at self.old.kept key.now ≡ None }
         ensures ok { OnOk result (self.new ≡ record self.old {
           kept = insert_entry (slice_cmp nat_cmp) self.old.kept key.now verdict;
         }) }
         ensures becomes { OnOk result (Becomes key.now verdict self.old.kept self.new.kept) }
         ensures err { OnErr result (self.new ≡ self.old) }
     {
-        self.kept.insert(key.duplicate(self.alloc)?, verdict)?;
-        Ok(())
+        self.kept.insert(key, verdict)
     }
 
     // Takes a key's verdict out.

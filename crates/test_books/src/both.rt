@@ -1,7 +1,7 @@
 //! Runs lists of events through the book that the product runs on and through the plain book, side
-//! by side, and compares all that both answer after each event: rows, sums, sets, ranked lists,
-//! next changes, sessions and seats. Prints how many events there were, how many answers differ,
-//! how many values the book read for its filters, how often it made its verdicts anew, and how many
+//! by side. Compares all that both answer after each event: rows, sums, sets, ranked lists, next
+//! changes, sessions and seats. Prints how many events there were, how many answers differ, how
+//! many values the book read for its filters, how often it made its verdicts anew, and how many
 //! updates full tables didn't take. For one more list it prints of how many events the book could
 //! tell the flips, how many flips these were, and how many sets they don't lead to.
 //!

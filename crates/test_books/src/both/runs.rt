@@ -11,9 +11,9 @@ pub struct Row {
     pub cell: Cell,
 }
 
-/// A fleet of two peers and one table of a column, with a list of its first two keys; the
-/// conditions of its filter; rows that arrive at a moment; and the moments from then on at which it
-/// is looked at, all in ms.
+/// A fleet of two peers and one table of a column, with a list of its first two keys; and the
+/// conditions of its filter. Then rows that arrive at a moment, and the moments from then on at
+/// which it is looked at, all in ms.
 #[derive(Clone, Copy)]
 pub struct Run {
     pub name: &'static str,

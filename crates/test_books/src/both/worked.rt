@@ -102,7 +102,7 @@ pub const LIVES: &[Deed] = &[
 ];
 
 /// Filters are added and dropped: the one in the middle of three, one of another name that nothing
-/// has, that of the configuration, and one that is added anew on another table; the others hold
+/// has, that of the configuration, and one that is added anew on another table. The others hold
 /// what they held, before the clock goes on and behind it.
 pub const DROPS: &[Deed] = &[
     Deed::Sit(0),

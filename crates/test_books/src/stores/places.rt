@@ -1,6 +1,6 @@
 //! A few keys, and the places that they leave and take.
 
-use crate::stores::laying::{lay, place};
+use crate::stores::laying::{lay, lay_key, place};
 use agg_types::Key;
 use anyhow::Result;
 use place_index::PlaceIndex;
@@ -63,13 +63,24 @@ fn print_some(rt: &HostRuntime, index: &PlaceIndex<Key, u32>, from: u32, to: u32
     Ok(())
 }
 
+/// Lays the key of no bytes, which stands in empty places too, and takes it out again.
+fn lay_empty_key(rt: &HostRuntime, index: &mut PlaceIndex<Key, u32>) -> Result<()> {
+    empty(rt, index, 2)?;
+    let before = index.find(&Key::empty()).is_some();
+    let at = lay_key(index, Key::empty(), 100);
+    println!(rt; "the key of no bytes: there before: {before}, then in place {at:?}")?;
+    print_all(rt, index)?;
+    empty_some(rt, index, &[2, 2])
+}
+
 fn run_all(rt: &HostRuntime, index: &mut PlaceIndex<Key, u32>) -> Result<()> {
     print_place(rt, index, 0)?;
     lay_some(rt, index, 0, 5)?;
     empty_some(rt, index, &[1, 3, 1, 9])?;
     print_some(rt, index, 1, 5)?;
     lay_some(rt, index, 5, 8)?;
-    print_all(rt, index)
+    print_all(rt, index)?;
+    lay_empty_key(rt, index)
 }
 
 /// Lays keys into places, empties some, and lays others there.

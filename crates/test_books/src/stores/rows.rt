@@ -3,7 +3,7 @@ ghost use Rattle.std.specs.Prelude.{◌≡◌, ◌<◌};
 
 use agg_types::{Key, NoMemory};
 use anyhow::Result;
-use peer_rows::{Held, Row, RowCells, RowEnd, Rows};
+use peer_rows::{Held, Row, RowCells, Rows};
 use period_rate::Rate;
 use std::alloc::Global;
 
@@ -31,11 +31,7 @@ fn row(alloc: Global, count: u64) -> Result<Row, NoMemory> {
         Held::Count(count),
         Held::Rate(Rate::arrive(1000, 0, 3, 1, 0)),
     ];
-    Ok(Row {
-        cells: RowCells::copy(alloc, &held)?,
-        arrived: 7,
-        ends: RowEnd::never(),
-    })
+    Row::new(RowCells::copy(alloc, &held)?, 7, None)
 }
 
 fn print_row(rt: &HostRuntime, last: u8, peer: usize, count: u64) -> Result<()> {
@@ -45,8 +41,8 @@ fn print_row(rt: &HostRuntime, last: u8, peer: usize, count: u64) -> Result<()> 
 
 // What is held of a row's first columns.
 fn print_cells(rt: &HostRuntime, peer: usize, row: &Row) -> Result<()> {
-    let cells = (row.cells.get(0), row.cells.get(1), row.cells.get(2));
-    println!(rt; "peer {peer} arrived {} cells {cells:?}", row.arrived)?;
+    let cells = (row.get(0), row.get(1), row.get(2));
+    println!(rt; "peer {peer} arrived {} cells {cells:?}", row.arrived())?;
     Ok(())
 }
 
@@ -102,7 +98,7 @@ impl Fleet {
     // Prints a line for each row, and how many there are.
     fn show(&self, rt: &HostRuntime) -> Result<()> {
         for (key, peer, row) in self.rows.by_key(0)? {
-            print_row(rt, last(key), peer, row.cells.count(0))?;
+            print_row(rt, last(key), peer, row.count(0))?;
         }
         let counts = (self.rows.count(0, 0), self.rows.count(1, 0));
         println!(rt; "rows {counts:?} keys {}", self.rows.used(0))?;
@@ -113,7 +109,7 @@ impl Fleet {
     fn sum(&self, key: &Key, column: usize) -> u64 {
         let mut sum = 0u64;
         for (_, row) in self.rows.of_key(0, key) {
-            sum = sum.saturating_add(row.cells.count(column));
+            sum = sum.saturating_add(row.count(column));
         }
         sum
     }
@@ -134,7 +130,7 @@ impl Fleet {
     fn take(&mut self, rt: &HostRuntime, last: u8) -> Result<()> {
         let key = key(self.alloc, last)?;
         let found = self.rows.get(0, 0, &key).is_some();
-        let taken = self.rows.take(0, 0, &key).map(|row| row.cells.len());
+        let taken = self.rows.take(0, 0, &key).map(|row| row.width());
         println!(rt; "take key {last}: found {found}, cells taken {taken:?}")?;
         Ok(())
     }

@@ -4,7 +4,7 @@ ghost use Rattle.std.specs.Prelude.{◌≡◌, ◌∷◌, [], IfOk};
 use agg_types::{Col, Items, Key, KeyKind, Name, NoMemory, Shape};
 use anyhow::Result;
 use fleet_sums::Sums;
-use peer_rows::{Held, Row, RowCells, RowEnd};
+use peer_rows::{Held, Row, RowCells};
 use period_rate::Rate;
 use std::alloc::Global;
 
@@ -33,11 +33,8 @@ fn row(alloc: Global, count: u64) -> Result<Row, NoMemory>
         × (row.cells ≡ Held.Count count ∷ Held.Rate rate ∷ [])) }
 {
     let rate = Rate::arrive(1000, 0, 3, 1, 0);
-    Ok(Row {
-        cells: RowCells::copy(alloc, &[Held::Count(count), Held::Rate(rate)])?,
-        arrived: 0,
-        ends: RowEnd::never(),
-    })
+    let cells = RowCells::copy(alloc, &[Held::Count(count), Held::Rate(rate)])?;
+    Row::new(cells, 0, None)
 }
 
 impl Summed {

@@ -1,13 +1,12 @@
-use Rattle.std.proofs.Common.{◌≡◌, length}
-use Rattle.std.specs.Vec.Iter.{into_iter_items}
+use Rattle.std.proofs.Common.{◌≡◌, drop, length}
 use Rattle.book.specs.Leading.{StaysLed}
 use Rattle.book.proofs.Reading.{rest_left}
 use Rattle.book.proofs.clears.clear_keys.Given as goal
 
 abbrev pub invariant-loop-key : goal.invariant-loop-key
 invariant-loop-key l = record {
-  rows : rest_left l.table (into_iter_items l.key-iterator) l.store
-      ≡ rest_left l.table l.fn.keys.items l.fn.store;
+  rows : rest_left l.table (drop l.key-index l.keys) l.store
+      ≡ rest_left l.table l.keys l.fn.store;
   count : length l.leaders ≡ length l.fn.leaders;
   led : StaysLed l.ranks l.fn.store.rows l.t l.fn.leaders l.store.rows l.t l.leaders;
 }

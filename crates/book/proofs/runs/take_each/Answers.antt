@@ -6,6 +6,7 @@ use Rattle.fleet_model.specs.Machine.{session_of}
 use Rattle.fleet_model.specs.State.{State}
 use Rattle.book.specs.Flips.{TellsStepIfKnown}
 use Rattle.book.specs.Runs.{IsPartApplied, IsUpdateOf, counted_to, with_update}
+use Rattle.book.specs.Uses.{IsUseOf}
 use Rattle.book.proofs.ToldRuns.{told_none, told_update}
 use Rattle.book.proofs.Updates.{part_none, turn_counted, update_more}
 use Rattle.book.proofs.runs.take_each.Goals as goal
@@ -18,6 +19,7 @@ updates-init c =
       within = c.requires.from_in;
       session = c.requires.turn.session;
       seats = refl;
+      found = c.use_of-table_use.ensures.found;
       book = c.requires.book;
       applied = part_none turn.seat c.args.first c.args.from c.args.whats.now c.args.machine.now
           (counted_to c.args.machine.now turn.seat (c.args.first + c.args.from))
@@ -37,8 +39,8 @@ updates-preserved c =
     let what : What = as_what c.at-what.result in
     let there : c.updates.place < length c.args.whats.now = omega arith in
     let update : IsUpdateOf c.updates.machine.config c.args.turn.peer (as_what c.at-what.result) =
-    search rules in
-    let turned : c.take_one.new.machine
+    c.in-Some.ensures.update in
+    let turned : c.take_one-taken.new.machine
     ≡ with_update c.updates.machine c.args.turn.seat (as_what c.at-what.result) =
     c.in-Ok.ensures.ok in
     record {
@@ -47,6 +49,8 @@ updates-preserved c =
       session = c.updates.invariant.session
           ∙ sym (ap (λ (s : State). session_of s turn.peer) turned);
       seats = ap (λ (s : State). s.seats) turned ∙ c.updates.invariant.seats;
+      found = subst (λ (s : State). IsUseOf s.config c.use_after-table_use.result) (sym turned)
+          c.use_after-table_use.ensures.found;
       book = c.in-Ok.ensures.book;
       applied = subst (λ (s : State). IsPartApplied turn.seat first whats c.args.from (place + 1)
           c.args.machine.now (counted_to s turn.seat (first + (place + 1)))) (sym turned)
@@ -55,10 +59,10 @@ updates-preserved c =
           (let small = c.requires.small in omega arith) c.updates.invariant.applied
           c.at-what.ensures.left);
       flips = told_update turn.seat first c.args.from place turn.peer whats what c.args.machine.now
-          state c.args.flips.now c.updates.flips c.take_one.new.flips
+          state c.args.flips.now c.updates.flips c.take_one-taken.new.flips
           c.updates.invariant.book.sound update (let small = c.requires.small in omega arith)
           c.updates.invariant.onwards there c.updates.invariant.applied
           c.at-what.ensures.left c.updates.invariant.flips
-          (subst (λ (s : State). TellsStepIfKnown state s c.updates.flips c.take_one.new.flips)
-          turned c.in-Ok.ensures.flips);
+          (subst (λ (s : State). TellsStepIfKnown state s c.updates.flips
+          c.take_one-taken.new.flips) turned c.in-Ok.ensures.flips);
     }

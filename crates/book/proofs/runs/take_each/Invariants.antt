@@ -2,6 +2,7 @@ use Rattle.std.proofs.Common.{◌≡◌, ◌≤◌, ◌+◌, ◌-◌, length}
 use Rattle.fleet_model.specs.Machine.{session_of}
 use Rattle.book.specs.Flips.{TellsAllIfKnown, part_of}
 use Rattle.book.specs.Verdicts.{IsBook}
+use Rattle.book.specs.Uses.{IsUseOf}
 use Rattle.book.specs.Runs.{IsPartApplied, counted_to}
 use Rattle.book.proofs.runs.take_each.Given as goal
 
@@ -12,6 +13,7 @@ invariant-updates l = record {
   within : l.place ≤ length l.whats;
   session : l.turn.session ≡ session_of l.machine l.turn.peer;
   seats : l.machine.seats ≡ l.fn.machine.seats;
+  found : IsUseOf l.machine.config l.table_use;
   book : IsBook l.machine l.verdicts.standing;
   applied : IsPartApplied l.turn.seat l.first l.whats l.fn.from l.place l.fn.machine
       (counted_to l.machine l.turn.seat (l.first + l.place));

@@ -22,6 +22,8 @@ returns-in-Some-get c = λ cols col is.
     let lives : is_live c.args.t (as_arrival c.args.row.now) ≡ true = search rules in
     let some : c.args.found ≡ Some (c.in-Some.place, c.in-Some.period) = search rules in
     c.cell_worth.ensures
+    ∙ ap (λ arrived. cell_worth c.in-Some.period c.saturating_sub.result
+    (cell_of arrived c.in-Some-get.held)) c.arrived.ensures
     ∙ ap (λ since. cell_worth c.in-Some.period since (cell_of c.args.row.now.arrived
     c.in-Some-get.held)) (omega arith)
     ∙ row_holds cols col c.args.t c.args.row.now c.args.found c.in-Some.place c.in-Some.period

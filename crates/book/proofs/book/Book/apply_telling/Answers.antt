@@ -16,21 +16,21 @@ pub invariant_of-self-2 : goal.invariant_of-self-2
 invariant_of-self-2 c =
     let state : State = c.self.inside.machine in
     let e : Event = event_of c.args.seat c.args.seq (as_what c.args.what) in
-    let turned : c.apply.new.self ≡ after state e = c.in_ok-applied.ensures.ok in
+    let turned : c.apply.new.self ≡ after state e = c.in_ok-outcome.ensures.ok in
     record {
       sound = subst IsSound (sym turned)
           (c.states_are_sound.ensures.kept state e c.self.invariant.sound);
       held = c.follow-anew.ensures.held state c.self.invariant.sound
           (subst (Follows (as_what c.args.what) state) (sym turned)
           (follows state e c.self.invariant.sound))
-          c.leaving-leaving.ensures c.self.invariant.held;
+          c.leaving-leaving.ensures c.in_ok-outcome.ensures.gone c.self.invariant.held;
     }
 
 pub returns-clause-quiet : goal.returns-clause-quiet
 returns-clause-quiet c = λ told.
     let state : State = c.self.inside.machine in
     let e : Event = event_of c.args.seat c.args.seq (as_what c.args.what) in
-    let turned : c.apply.new.self ≡ after state e = c.in_ok-applied.ensures.ok in
+    let turned : c.apply.new.self ≡ after state e = c.in_ok-outcome.ensures.ok in
     let quiet : IsQuietTo state (as_what c.args.what) =
     subst (λ (s : State). IsQuietTo s (as_what c.args.what)) (sym c.self.view_is) told in
     c.follow-anew.ensures.calm state c.self.invariant.sound
@@ -45,7 +45,7 @@ pub returns-clause-few : goal.returns-clause-few
 returns-clause-few c = λ kept.
     let state : State = c.self.inside.machine in
     let e : Event = event_of c.args.seat c.args.seq (as_what c.args.what) in
-    let turned : c.apply.new.self ≡ after state e = c.in_ok-applied.ensures.ok in
+    let turned : c.apply.new.self ≡ after state e = c.in_ok-outcome.ensures.ok in
     subst (λ (s : State). IsFewFor s c.apply.new.self (as_what c.args.what)
     c.follow-anew.new.meter.evals) c.self.view_is
     (c.follow-anew.ensures.few state c.self.invariant.sound
@@ -56,10 +56,10 @@ pub returns-clause-flips : goal.returns-clause-flips
 returns-clause-flips c =
     let state : State = c.self.inside.machine in
     let e : Event = event_of c.args.seat c.args.seq (as_what c.args.what) in
-    let turned : c.apply.new.self ≡ after state e = c.in_ok-applied.ensures.ok in
+    let turned : c.apply.new.self ≡ after state e = c.in_ok-outcome.ensures.ok in
     subst (λ (s : State). TellsAllIfKnown s (e ∷ []) c.args.flips.now c.follow-anew.new.flips)
     c.self.view_is
     (tells_one state c.apply.new.self e c.args.flips.now c.follow-anew.new.flips turned
     (c.follow-anew.ensures.flips state c.self.invariant.sound
     (subst (Follows (as_what c.args.what) state) (sym turned) (follows state e c.self.invariant.sound))
-    c.self.invariant.held))
+    c.in_ok-outcome.ensures.gone c.self.invariant.held))

@@ -7,17 +7,17 @@ use Rattle.book.proofs.Judging.{stays_kept}
 use Rattle.book.proofs.verdicts.Verdicts.follow_other.Goals as goal
 
 pub returns-in-Sit-clause-held : goal.returns-in-Sit-clause-held
-returns-in-Sit-clause-held c = λ state sound follows leaving held.
+returns-in-Sit-clause-held c = λ state sound follows leaving gone held.
     stays_kept state c.args.machine.now c.args.self.now.standing
     (subst (λ (w : What). Follows w state c.args.machine.now) c.in-Sit.is follows) held
 
 pub returns-in-Open-clause-held : goal.returns-in-Open-clause-held
-returns-in-Open-clause-held c = λ state sound follows leaving held.
+returns-in-Open-clause-held c = λ state sound follows leaving gone held.
     stays_kept state c.args.machine.now c.args.self.now.standing
     (subst (λ (w : What). Follows w state c.args.machine.now) c.in-Open.is follows) held
 
 pub returns-in-Leave-clause-held : goal.returns-in-Leave-clause-held
-returns-in-Leave-clause-held c = λ state sound follows leaving held.
+returns-in-Leave-clause-held c = λ state sound follows leaving gone held.
     stays_kept state c.args.machine.now c.args.self.now.standing
     (subst (λ (w : What). Follows w state c.args.machine.now) c.in-Leave.is follows) held
 
@@ -29,16 +29,16 @@ returns-in-Put-clause-few c = λ state sound follows held kept.
     (sym c.in-Put.is) (omega (arith, few, c.requires.fresh))
 
 pub returns-in-Sit-clause-flips : goal.returns-in-Sit-clause-flips
-returns-in-Sit-clause-flips c = λ state sound follows held.
+returns-in-Sit-clause-flips c = λ state sound follows gone held.
     stays_told state c.args.machine.now c.args.flips.now
     (subst (λ (w : What). Follows w state c.args.machine.now) c.in-Sit.is follows)
 
 pub returns-in-Open-clause-flips : goal.returns-in-Open-clause-flips
-returns-in-Open-clause-flips c = λ state sound follows held.
+returns-in-Open-clause-flips c = λ state sound follows gone held.
     stays_told state c.args.machine.now c.args.flips.now
     (subst (λ (w : What). Follows w state c.args.machine.now) c.in-Open.is follows)
 
 pub returns-in-Leave-clause-flips : goal.returns-in-Leave-clause-flips
-returns-in-Leave-clause-flips c = λ state sound follows held.
+returns-in-Leave-clause-flips c = λ state sound follows gone held.
     stays_told state c.args.machine.now c.args.flips.now
     (subst (λ (w : What). Follows w state c.args.machine.now) c.in-Leave.is follows)

@@ -1,9 +1,11 @@
 use Rattle.std.proofs.Common.{◌≡◌, length}
+use Rattle.standing_filters.specs.Placed.{verdicts_in}
 use Rattle.standing_filters.specs.Watched.{keys_held}
 use Rattle.standing_filters.proofs.keys.KeysIterator.next.Given as goal
 
 abbrev pub invariant-loop-key : goal.invariant-loop-key
-invariant-loop-key l = keys_held l.self-inside.kept ≡ l.fn.self
+invariant-loop-key l = keys_held (verdicts_in l.self-inside.verdicts.now.places l.self-inside.order)
+    ≡ l.fn.self
 
 abbrev pub decreases-loop-key : goal.decreases-loop-key
-decreases-loop-key l = length l.self-inside.kept
+decreases-loop-key l = length l.self-inside.order

@@ -12,10 +12,10 @@ use Rattle.standing_filters.proofs.watch.Watch.keys.Goals as goal
 pub returns-clause-ordered : goal.returns-clause-ordered
 returns-clause-ordered c =
     subst (λ (w : Watching). IsStrictlySortedBy (slice_cmp nat_cmp) (keys_held w.kept))
-    c.self.view_is (held_ordered c.self.inside.kept.entries c.iter.ensures.ordered)
+    c.self.view_is (held_ordered c.self.inside.kept c.keys.ensures.ordered)
 
 pub returns-clause-exact : goal.returns-clause-exact
 returns-clause-exact c = λ key.
     subst (λ (w : Watching). list_any (is_at (slice_cmp nat_cmp key)) (keys_held w.kept)
     ≡ (verdict_at w.kept key).holds) c.self.view_is
-    (held_exact c.self.inside.kept.entries c.iter.ensures.ordered key)
+    (held_exact c.self.inside.kept c.keys.ensures.ordered key)

@@ -1,0 +1,18 @@
+-- What stands on a table: filters, and ranked lists.
+use Rattle.std.specs.Prelude.{◌≡◌, ◌==◌, ℕ, Bool}
+use Rattle.std.specs.List.{list_any}
+use Rattle.agg_types.specs.declared.config.Config.{Config}
+use Rattle.book.specs.declared.table_use.TableUse.{TableUse}
+
+-- whether a filter is of a table
+abbrev pub has_filter : Config → ℕ → Bool
+has_filter config table = list_any (λ filter. filter.table == table) config.filters
+
+-- whether a ranked list is of a table
+abbrev pub has_list : Config → ℕ → Bool
+has_list config table = list_any (λ rank. rank.table == table) config.ranks
+
+-- so it is of the table that was looked up
+pub record IsUseOf (config : Config) (used : TableUse) : Type 0 where
+  pub judged : used.is_judged ≡ has_filter config used.table
+  pub ranked : used.is_ranked ≡ has_list config used.table

@@ -1,0 +1,110 @@
+//! The judging of a key whose rows may have changed.
+
+ghost use Rattle.std.specs.Prelude.{◌+◌, ◌*◌, ◌≤◌};
+ghost use Rattle.agg_types.specs.Whats.{as_what};
+ghost use Rattle.fleet_model.specs.Sound.{IsSound};
+ghost use Rattle.fleet_model.specs.State.{State};
+ghost use Rattle.book.specs.Flips.{TellsStepIfKnown};
+ghost use Rattle.book.specs.Reads.{filters_at};
+ghost use Rattle.book.specs.Runs.{IsLentInto};
+ghost use Rattle.book.specs.Uses.{IsUseOf};
+ghost use Rattle.book.specs.Verdicts.{AreHeld, ChangesKey, Follows};
+
+use crate::machine::Machine;
+use crate::one_key::OneKey;
+use crate::table_use::TableUse;
+use crate::verdicts::{Verdicts, has_filter};
+use agg_types::{Key, LentWhat};
+use crossing::Meter;
+use peer_rows::Spot;
+use standing_filters::Flips;
+
+impl Verdicts {
+    /// The rows of a key may have changed: the filters of its table judge it.
+    pub(crate) fn touch(
+        &mut self,
+        machine: &Machine,
+        table: usize,
+        key: &Key,
+        spot: Option<Spot>,
+        meter: &mut Meter,
+        flips: &mut Flips,
+    )
+        requires sound { IsSound machine.now }
+        ensures held { (state : State) → ChangesKey table key.now state machine.now
+            → AreHeld state self.old.standing → AreHeld machine.now self.new.standing }
+        ensures few { (state : State) → AreHeld state self.old.standing
+            → meter.new.evals ≤ meter.old.evals + 505 * filters_at state table }
+        ensures flips { (state : State) → IsSound state → ChangesKey table key.now state machine.now
+            → AreHeld state self.old.standing
+            → TellsStepIfKnown state machine.now flips.old flips.new }
+    {
+        if !has_filter(machine.config.filters.as_slice(), table) {
+            return;
+        }
+        self.judge(machine, table, key, spot, meter, flips);
+    }
+
+    /// An update was put, of a table on which this stands: where no filter does, nothing is judged.
+    #[inline]
+    pub(crate) fn follow_update(
+        &mut self,
+        machine: &Machine,
+        table_use: TableUse,
+        what: LentWhat<'_>,
+        spot: Option<Spot>,
+        flips: &mut Flips,
+    )
+        requires sound { IsSound machine.now }
+        requires found { IsUseOf machine.now.config table_use }
+        requires lent { IsLentInto table_use.table what }
+        ensures held { (state : State) → Follows (as_what what.entry) state machine.now
+            → AreHeld state self.old.standing → AreHeld machine.now self.new.standing }
+        ensures flips { (state : State) → IsSound state
+            → Follows (as_what what.entry) state machine.now → AreHeld state self.old.standing
+            → TellsStepIfKnown state machine.now flips.old flips.new }
+    {
+        if !table_use.is_judged {
+            return;
+        }
+        let LentWhat::Put { table, key, .. } = what else {
+            return;
+        };
+        let mut meter = Meter::new();
+        self.judge(machine, table, key, spot, &mut meter, flips);
+    }
+
+    // What `touch` does where a filter is of the table.
+    fn judge(
+        &mut self,
+        machine: &Machine,
+        table: usize,
+        key: &Key,
+        spot: Option<Spot>,
+        meter: &mut Meter,
+        flips: &mut Flips,
+    )
+        requires sound { IsSound machine.now }
+        ensures held { (state : State) → ChangesKey table key.now state machine.now
+            → AreHeld state self.old.standing → AreHeld machine.now self.new.standing }
+        ensures few { (state : State) → AreHeld state self.old.standing
+            → meter.new.evals ≤ meter.old.evals + 505 * filters_at state table }
+        ensures flips { (state : State) → IsSound state → ChangesKey table key.now state machine.now
+            → AreHeld state self.old.standing
+            → TellsStepIfKnown state machine.now flips.old flips.new }
+    {
+        standing_filters::laws::touch_keeps_verdicts();
+        let Some(standing) = &mut self.standing else {
+            flips.lose();
+            return;
+        };
+        let values = OneKey::new(machine, spot, table, key);
+        if standing
+            .touch(table, key, &values, machine.moment, meter, flips)
+            .is_err()
+        {
+            self.standing = None;
+            flips.lose();
+        }
+    }
+}
