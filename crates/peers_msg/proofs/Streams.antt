@@ -66,15 +66,14 @@ stands_for_stream result old new piece h taken is =
     ∙ ap (λ (kept : DecoderState). kept_after result kept (reading_of (taken ++ piece))) is
 
 -- bytes that are less than a message and hold no fault
-pub short_read : (old : DecoderState) (piece frozen growing : List ℕ) → old.fault ≡ None → frozen
-    ≡ [] → growing ≡ old.rest ++ piece → frame_at growing ≡ Short
-    → fed old piece ≡ record { messages = []; fault = None; rest = frozen ++ growing }
-short_read old piece frozen growing none empty is short =
-    rw (none, empty, ← is) (reading_short growing short)
+pub short_read : (old : DecoderState) (piece kept : List ℕ) → old.fault ≡ None
+    → kept ≡ old.rest ++ piece → frame_at kept ≡ Short
+    → fed old piece ≡ record { messages = []; fault = None; rest = kept }
+short_read old piece kept none is short = rw (none, ← is) (reading_short kept short)
 
-pub short_kept : (fault : Option WireCause) (frozen growing : List ℕ) → fault ≡ None → frozen ≡ []
-    → frame_at growing ≡ Short → IsKept (frozen ++ growing) fault
-short_kept fault frozen growing none empty short = rw (none, empty) (frame_short growing short)
+pub short_kept : (fault : Option WireCause) (kept : List ℕ) → fault ≡ None
+    → frame_at kept ≡ Short → IsKept kept fault
+short_kept fault kept none short = rw none (frame_short kept short)
 
 -- a feed that has ended with a fault stays as it is
 faulty_stays : (rest piece : List ℕ) (cause : WireCause) → IsKept rest (Some cause)

@@ -9,7 +9,7 @@ ghost use Rattle.peers_msg.specs.Message.{reading_of};
 ghost use Rattle.peers_msg.specs.Payload.{update_of, switch_of, acked_of};
 ghost use Rattle.peers_msg.specs.Decoded.{IsFirst};
 
-use crate::entry::{Entry, cut};
+use crate::entry::Entry;
 use crate::framing::{Head, head_of};
 use crate::given::Given;
 use crate::kinds::*;
@@ -26,6 +26,10 @@ const FEW_BYTES: usize = 4;
 
 /// For how many messages room is made at once at most: 128 KB.
 const MOST_EXPECTED: usize = 4096;
+
+/// How many bytes of the next piece have room behind those that are kept, so that a short piece
+/// takes none of its own.
+const SHORT_PIECE: usize = 256;
 
 /// The message of a type in the control class.
 #[tactic(auto, unfolding(crate::specs::Message::control_of))]
@@ -107,10 +111,10 @@ fn acked(payload: &[u8]) -> Result<Entry, WireCause>
 
 /// A definition, in a block of its own.
 #[inline(never)]
-fn define(alloc: Global, payload: Bytes) -> Result<Entry, WireCause>
-    ensures { (bytes : List ℕ) → GivesEntry bytes result (define_of payload) }
+fn define(alloc: Global, payload: &[u8]) -> Result<Entry, WireCause>
+    ensures { (bytes : List ℕ) → GivesEntry bytes result (define_of payload.now) }
 {
-    let definition = read_definition(alloc, payload)?;
+    let definition = read_definition(alloc, Bytes::copy_from_slice(alloc, payload)?)?;
     Ok(Entry::Define(boxed(alloc, definition)?))
 }
 
@@ -126,7 +130,7 @@ fn boxed(alloc: Global, definition: Definition) -> Result<Box<Definition>, NoMem
 fn table(
     alloc: Global,
     kind: u8,
-    bytes: &Bytes,
+    bytes: &[u8],
     start: usize,
     len: usize,
 ) -> Result<Entry, WireCause>
@@ -134,15 +138,14 @@ fn table(
     requires small { len ≤ LONGEST_PAYLOAD }
     ensures { GivesEntry bytes.now result (table_of kind (take len (drop start bytes.now))) }
 {
-    let all = bytes.as_slice();
     match kind {
-        UPDATE => update(true, false, all, start, len),
-        INCREMENTAL_UPDATE => update(false, false, all, start, len),
-        TABLE_DEFINITION => define(alloc, cut(bytes, start, len)?),
-        TABLE_SWITCH => switch(&all[start..][..len]),
-        ACKNOWLEDGEMENT => acked(&all[start..][..len]),
-        TIMED_UPDATE => update(true, true, all, start, len),
-        TIMED_INCREMENTAL_UPDATE => update(false, true, all, start, len),
+        UPDATE => update(true, false, bytes, start, len),
+        INCREMENTAL_UPDATE => update(false, false, bytes, start, len),
+        TABLE_DEFINITION => define(alloc, &bytes[start..][..len]),
+        TABLE_SWITCH => switch(&bytes[start..][..len]),
+        ACKNOWLEDGEMENT => acked(&bytes[start..][..len]),
+        TIMED_UPDATE => update(true, true, bytes, start, len),
+        TIMED_INCREMENTAL_UPDATE => update(false, true, bytes, start, len),
         _ => Ok(Entry::Other {
             class: TABLE_CLASS,
             kind,
@@ -157,7 +160,7 @@ fn entry(
     alloc: Global,
     class: u8,
     kind: u8,
-    bytes: &Bytes,
+    bytes: &[u8],
     start: usize,
     len: usize,
 ) -> Result<Entry, WireCause>
@@ -177,11 +180,11 @@ fn entry(
 /// The first message from a place on, where one is whole, and the place behind it.
 #[inline]
 #[tactic(auto, unfolding(crate::specs::Message::first_of))]
-fn entry_at(alloc: Global, bytes: &Bytes, at: usize) -> Result<Option<(Entry, usize)>, WireCause>
+fn entry_at(alloc: Global, bytes: &[u8], at: usize) -> Result<Option<(Entry, usize)>, WireCause>
     requires { at ≤ length bytes.now }
     ensures { IsFirst result bytes.now at (first_of (drop at bytes.now)) }
 {
-    match head_of(&bytes.as_slice()[at..]) {
+    match head_of(&bytes[at..]) {
         Head::Short => Ok(None),
         Head::Wrong(cause) => Err(cause),
         Head::Whole {
@@ -202,27 +205,36 @@ fn expected(bytes: usize) -> usize {
     (bytes / FEW_BYTES).min(MOST_EXPECTED)
 }
 
+/// A copy of bytes, with room for a short piece behind them.
+fn with_room(alloc: Global, bytes: &[u8]) -> Result<BytesMut, NoMemory>
+    ensures { IfOk result (λ copied. copied.items ≡ bytes.now) }
+{
+    let mut copied = BytesMut::with_capacity(alloc, bytes.len().saturating_add(SHORT_PIECE))?;
+    copied.extend_from_slice(bytes)?;
+    Ok(copied)
+}
+
 /// Reads all whole messages. Takes no time for a message's payload that isn't whole.
-pub(crate) fn decode(alloc: Global, bytes: &Bytes) -> Result<Given, NoMemory>
-    ensures { IfOk result (λ given. given ≡ reading_of bytes.now) }
+pub(crate) fn decode(alloc: Global, bytes: BytesMut) -> Result<Given, NoMemory>
+    ensures { IfOk result (λ given. given ≡ reading_of bytes.items) }
 {
     let mut entries = Vec::with_capacity(alloc, expected(bytes.len()))?;
     let mut at = 0;
     loop {
-        match entry_at(alloc, bytes, at) {
+        match entry_at(alloc, bytes.as_slice(), at) {
             Ok(Some((entry, next))) => {
                 entries.push(entry)?;
                 at = next;
             }
             Ok(None) => {
-                let rest = BytesMut::copy_from_slice(alloc, &bytes.as_slice()[at..])?;
-                return Ok(Given::whole(bytes.clone()?, Items::from_vec(entries), rest));
+                let rest = with_room(alloc, &bytes.as_slice()[at..])?;
+                return Ok(Given::whole(bytes, Items::from_vec(entries), rest));
             }
             Err(cause) => match cause {
                 WireCause::NoMemory => return Err(NoMemory),
                 _ => {
                     let entries = Items::from_vec(entries);
-                    return Ok(Given::faulty(alloc, bytes.clone()?, entries, cause));
+                    return Ok(Given::faulty(alloc, bytes, entries, cause));
                 }
             },
         }

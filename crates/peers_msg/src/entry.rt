@@ -186,7 +186,7 @@ fn from(bytes: &[u8], start: usize) -> &[u8]
 }
 
 /// So many bytes from a place on, as far as there are any, which share memory with the others.
-pub(crate) fn cut(bytes: &Bytes, start: usize, len: usize) -> Result<Bytes, NoMemory>
+fn cut(bytes: &Bytes, start: usize, len: usize) -> Result<Bytes, NoMemory>
     ensures { IfOk result (λ part. part ≡ take len (drop start bytes.now)) }
 {
     let mut part = bytes.clone()?;

@@ -1,7 +1,7 @@
 //! A stream of messages that comes in pieces.
 
-ghost use Rattle.std.specs.Prelude.{◌≡◌, ◌≢◌, ◌+◌, ◌++◌, ◌<◌, ℕ, List, [], length, take, Some, Err};
-ghost use Rattle.std.specs.Prelude.{IsSome, IfOk, IfErr, IsOkAnd, OnOk, OnErr};
+ghost use Rattle.std.specs.Prelude.{◌≡◌, ◌≢◌, ◌+◌, ◌++◌, ◌<◌, ◌≤◌, ℕ, List, [], length, take, Some, Err};
+ghost use Rattle.std.specs.Prelude.{IsSome, IfOk, IfErr, IsOkAnd};
 ghost use Rattle.agg_types.specs.declared.limits.TheConstants.{LONGEST_PAYLOAD};
 
 use crate::decoding::decode;
@@ -9,9 +9,10 @@ use crate::framing::{Head, head_of};
 use crate::given::Given;
 use crate::{Message, WireCause, WireFault};
 use agg_types::{Items, NoMemory};
-use bytes::{Bytes, BytesMut};
+use bytes::BytesMut;
 use std::alloc::Global;
 use std::marker::Model;
+use std::mem;
 
 /// The reader of a stream of messages that comes in pieces, cut anywhere.
 ///
@@ -19,27 +20,23 @@ use std::marker::Model;
 /// stream. Contracts see these two.
 #[derive(Debug, Drop)]
 pub struct Feed {
-    /// Bytes that are kept and share memory with what was last read from them. There are none once
-    /// that is committed.
-    frozen: Bytes,
-    /// The kept bytes behind those.
-    growing: BytesMut,
+    /// The kept bytes.
+    kept: BytesMut,
     fault: Option<WireCause>,
     alloc: Global,
 }
 
 impl Model for Feed {
-    ghost use Rattle.std.specs.Prelude.{◌++◌};
     ghost use Rattle.peers_msg.specs.DecoderState.{DecoderState, IsKept};
 
     ghost Value = { DecoderState };
 
     ghost view = { λ feed. record {
-      rest = feed.frozen ++ feed.growing.items;
+      rest = feed.kept.items;
       fault = feed.fault;
     } };
 
-    ghost invariant = { λ feed. IsKept (feed.frozen ++ feed.growing.items) feed.fault };
+    ghost invariant = { λ feed. IsKept feed.kept.items feed.fault };
 }
 
 impl Feed {
@@ -53,8 +50,7 @@ impl Feed {
         ensures { result ≡ feed_of [] }
     {
         Feed {
-            frozen: Bytes::new(),
-            growing: BytesMut::new(alloc),
+            kept: BytesMut::new(alloc),
             fault: None,
             alloc,
         }
@@ -88,9 +84,9 @@ impl Feed {
     {
         // A hint to the prover: reading a field brings what every feed keeps of itself into scope,
         // before and after the call.
-        let _ = &self.growing;
+        let _ = &self.kept;
         let handed_out = self.take_piece(piece);
-        let _ = &self.growing;
+        let _ = &self.kept;
         handed_out
     }
 
@@ -106,17 +102,16 @@ impl Feed {
     {
         if let Some(cause) = self.fault {
             let none = Items::from_vec(Vec::new(self.alloc));
-            return Ok(Some(Given::faulty(self.alloc, Bytes::new(), none, cause)));
+            let bytes = BytesMut::new(self.alloc);
+            return Ok(Some(Given::faulty(self.alloc, bytes, none, cause)));
         }
-        let len = join(self.alloc, &mut self.frozen, &mut self.growing, piece)?;
-        if let Head::Short = head_of(self.growing.as_slice()) {
+        let len = self.kept.len();
+        self.kept.extend_from_slice(piece)?;
+        if let Head::Short = head_of(self.kept.as_slice()) {
             return Ok(None);
         }
-        let all = freeze(&mut self.growing, len)?;
-        let given = decode(self.alloc, &all);
-        self.frozen = all;
-        self.frozen.truncate(len);
-        Ok(Some(given?))
+        let all = take_out(self.alloc, &mut self.kept, len)?;
+        Ok(Some(decode(self.alloc, all)?))
     }
 
     /// Takes what was read. Takes no memory.
@@ -124,8 +119,7 @@ impl Feed {
         ensures after { self.new ≡ decoder_of given }
     {
         let (fault, rest) = given.into_parts();
-        self.frozen = Bytes::new();
-        self.growing = rest;
+        self.kept = rest;
         self.fault = fault;
     }
 
@@ -178,40 +172,16 @@ impl Feed {
     }
 }
 
-/// Moves the kept bytes into one buffer with the piece behind them, and gives how many they are.
-/// After `NoMemory` they are as they were, though they may lie elsewhere.
-fn join(
-    alloc: Global,
-    frozen: &mut Bytes,
-    growing: &mut BytesMut,
-    piece: &[u8],
-) -> Result<usize, NoMemory>
-    ensures count { IfOk result (λ len. len ≡ length (frozen.old ++ growing.old.items)) }
-    ensures ok { OnOk result ((frozen.new ≡ [])
-        × (growing.new.items ≡ (frozen.old ++ growing.old.items) ++ piece.now)) }
-    ensures err { OnErr result (frozen.new ++ growing.new.items ≡ frozen.old ++ growing.old.items) }
+/// Takes all bytes out, and leaves the first `len`, after `NoMemory` too.
+fn take_out(alloc: Global, kept: &mut BytesMut, len: usize) -> Result<BytesMut, NoMemory>
+    requires { len ≤ length kept.old.items }
+    ensures all { IfOk result (λ all. all.items ≡ kept.old.items) }
+    ensures left { kept.new.items ≡ take len kept.old.items }
 {
-    if !frozen.is_empty() {
-        let mut whole = BytesMut::copy_from_slice(alloc, frozen.as_slice())?;
-        whole.extend_from_slice(growing.as_slice())?;
-        *growing = whole;
-        frozen.clear();
-    }
-    let len = growing.len();
-    growing.extend_from_slice(piece)?;
-    Ok(len)
-}
-
-/// Freezes all bytes; after `NoMemory` the first `len` are left.
-fn freeze(growing: &mut BytesMut, len: usize) -> Result<Bytes, NoMemory>
-    ensures frozen { IfOk result (λ all. all ≡ growing.old.items) }
-    ensures ok { OnOk result (growing.new.items ≡ []) }
-    ensures err { OnErr result (growing.new.items ≡ take len growing.old.items) }
-{
-    match growing.freeze_to(growing.len()) {
-        Ok(all) => Ok(all),
+    match BytesMut::copy_from_slice(alloc, &kept.as_slice()[..len]) {
+        Ok(front) => Ok(mem::replace(kept, front)),
         Err(_) => {
-            growing.truncate(len);
+            kept.truncate(len);
             Err(NoMemory)
         }
     }

@@ -20,7 +20,7 @@ use std::marker::Model;
 #[derive(Debug, Drop)]
 pub struct Given {
     /// The bytes that were read, among which those of each update lie.
-    bytes: Bytes,
+    bytes: BytesMut,
     entries: Items<Entry>,
     fault: Option<WireCause>,
     rest: BytesMut,
@@ -35,7 +35,7 @@ impl Model for Given {
     ghost Value = { Reading };
 
     ghost view = { λ given. record {
-      messages = map (entry_message given.bytes) given.entries;
+      messages = map (entry_message given.bytes.items) given.entries;
       fault = given.fault;
       rest = given.rest.items;
     } };
@@ -46,10 +46,10 @@ impl Model for Given {
 impl Given {
     /// The messages of these entries and the bytes behind them, which hold no fault and are less
     /// than a message.
-    pub(crate) fn whole(bytes: Bytes, entries: Items<Entry>, rest: BytesMut) -> Given
+    pub(crate) fn whole(bytes: BytesMut, entries: Items<Entry>, rest: BytesMut) -> Given
         requires { length rest.items < longest_head + LONGEST_PAYLOAD }
         ensures { result ≡ record {
-          messages = map (entry_message bytes) entries;
+          messages = map (entry_message bytes.items) entries;
           fault = None;
           rest = rest.items;
         } }
@@ -65,13 +65,13 @@ impl Given {
     /// The messages of these entries and the fault behind them.
     pub(crate) fn faulty(
         alloc: Global,
-        bytes: Bytes,
+        bytes: BytesMut,
         entries: Items<Entry>,
         cause: WireCause,
     ) -> Given
         requires { IsWireFault cause }
         ensures { result ≡ record {
-          messages = map (entry_message bytes) entries;
+          messages = map (entry_message bytes.items) entries;
           fault = Some cause;
           rest = [];
         } }
@@ -104,7 +104,8 @@ impl Given {
     pub(crate) fn to_messages(&self, alloc: Global) -> Result<Items<Message>, NoMemory>
         ensures { IfOk result (λ messages. messages ≡ self.now.messages) }
     {
-        to_messages(alloc, &self.bytes, self.entries.as_slice())
+        let bytes = Bytes::copy_from_slice(alloc, self.bytes.as_slice())?;
+        to_messages(alloc, &bytes, self.entries.as_slice())
     }
 
     /// The fault behind the messages, if one stands there. It is never `NoMemory`.

@@ -15,3 +15,4 @@ pub mod FactLemmas
 pub mod PlanNowLemmas
 pub mod UndoLemmas
 pub mod AskingLemmas
+pub mod AlongLemmas

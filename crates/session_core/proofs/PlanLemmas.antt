@@ -8,7 +8,7 @@ use Rattle.std.specs.Prelude.{ltb, slice_get, unwrap_or}
 use Rattle.std.specs.Option.{option_map}
 use Rattle.std.specs.Prelude.{vec_len}
 use Rattle.std.proofs.lemmas.List.{drop-drop}
-use Rattle.session_core.specs.declared.plan.DecodePlan.{DecodePlan}
+use Rattle.session_core.specs.declared.decode_plan.DecodePlan.{DecodePlan}
 use Rattle.peers_msg.specs.Payload.{◌>>=◌, number_at}
 use Rattle.agg_types.proofs.Columns.{of_each}
 use Rattle.agg_types.specs.Col.{col_id, is_rate, is_wide}

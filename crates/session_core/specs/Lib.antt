@@ -4,7 +4,9 @@ pub mod Values
 pub mod Cause
 pub mod Meaning
 pub mod Tracked
+pub mod Straight
 pub mod Plan
+pub mod Along
 pub mod Run
 pub mod Batched
 pub mod Piece

@@ -9,7 +9,7 @@ use Rattle.agg_types.specs.declared.column.Col.{Col}
 use Rattle.agg_types.specs.declared.config.Shape.{Shape}
 use Rattle.agg_types.specs.declared.event.Cell.{Cell}
 use Rattle.agg_types.specs.declared.event.Cell.TheVariants as cells
-use Rattle.session_core.specs.declared.plan.DecodePlan.{DecodePlan}
+use Rattle.session_core.specs.declared.decode_plan.DecodePlan.{DecodePlan}
 use Rattle.session_core.specs.declared.plan.Source.{Source}
 use Rattle.session_core.specs.declared.plan.Source.TheVariants as sources
 use Rattle.session_core.specs.declared.track.Followed.{Followed}

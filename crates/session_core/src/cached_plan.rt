@@ -4,7 +4,7 @@ ghost use Rattle.std.specs.Prelude.{◌≡◌, [], map, vec_len, IsTrue, IfOk, I
 ghost use Rattle.std.specs.Option.{option_map};
 ghost use Rattle.session_core.specs.Plan.{AreCells, cell_from, numbers_at, IsPlan};
 
-use crate::plan::DecodePlan;
+use crate::decode_plan::DecodePlan;
 use crate::track::Followed;
 use crate::values::TYPES;
 use agg_types::{Cell, Col, Items, NoMemory};
@@ -28,7 +28,7 @@ struct Made {
 
 impl Model for CachedPlan {
     ghost use Rattle.std.specs.Prelude.{box_value};
-    ghost use Rattle.session_core.specs.declared.plan.DecodePlan.{DecodePlan};
+    ghost use Rattle.session_core.specs.declared.decode_plan.DecodePlan.{DecodePlan};
 
     ghost Value = { DecodePlan };
 
@@ -36,7 +36,7 @@ impl Model for CachedPlan {
 }
 
 impl Model for Made {
-    ghost use Rattle.session_core.specs.declared.plan.DecodePlan.{DecodePlan};
+    ghost use Rattle.session_core.specs.declared.decode_plan.DecodePlan.{DecodePlan};
     ghost use Rattle.session_core.specs.Plan.{IsPlan};
 
     ghost Value = { DecodePlan };
@@ -76,10 +76,10 @@ impl CachedPlan {
 
     /// Reads the cells of an update's values; false where one is cut or too large.
     #[inline]
-    pub(crate) fn read(&mut self, bytes: &[u8]) -> Result<bool, NoMemory>
-        ensures cells { IfOk result (λ whole. AreCells whole self.new.cells.items
+    pub(crate) fn read(&mut self, bytes: &[u8]) -> bool
+        ensures cells { AreCells result self.new.cells.items
             (option_map (λ numbers. map (cell_from numbers) self.old.sources.items)
-            (numbers_at (vec_len self.old.numbers) bytes.now))) }
+            (numbers_at (vec_len self.old.numbers) bytes.now)) }
         ensures width { vec_len self.new.numbers ≡ vec_len self.old.numbers }
         ensures sources { self.new.sources ≡ self.old.sources }
     {
@@ -105,10 +105,10 @@ impl Made {
     }
 
     #[inline]
-    fn read(&mut self, bytes: &[u8]) -> Result<bool, NoMemory>
-        ensures cells { IfOk result (λ whole. AreCells whole self.new.cells.items
+    fn read(&mut self, bytes: &[u8]) -> bool
+        ensures cells { AreCells result self.new.cells.items
             (option_map (λ numbers. map (cell_from numbers) self.old.sources.items)
-            (numbers_at (vec_len self.old.numbers) bytes.now))) }
+            (numbers_at (vec_len self.old.numbers) bytes.now)) }
         ensures width { vec_len self.new.numbers ≡ vec_len self.old.numbers }
         ensures sources { self.new.sources ≡ self.old.sources }
     {

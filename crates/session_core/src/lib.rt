@@ -14,12 +14,14 @@
 mod batch;
 mod cached_plan;
 mod cause;
+mod decode_plan;
 mod hello;
 pub mod laws;
 mod plan;
 mod run;
 mod session;
 mod stage;
+mod straight;
 mod track;
 mod undo;
 mod values;

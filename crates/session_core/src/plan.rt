@@ -1,15 +1,13 @@
-//! How the values of a table's updates are read: the integers one after the other, and from them
-//! the cells of the configured columns.
+//! Where a column's integers are among those of an update, and its cell from them.
 
-ghost use Rattle.std.specs.Prelude.{◌≡◌, ◌<◌, ◌≤◌, ◌*◌, [], length, drop, map, vec_len, IfOk, OnOk};
+ghost use Rattle.std.specs.Prelude.{◌≡◌, ◌<◌, ◌≤◌, ◌*◌, length, drop, map};
 ghost use Rattle.std.specs.Option.{option_map};
 ghost use Rattle.session_core.specs.Values.{types};
 ghost use Rattle.session_core.specs.Plan.{width_of, widths, numbers_at, source_of, count_in};
-ghost use Rattle.session_core.specs.Plan.{rate_in, cell_from, AreCells, IsPlan};
+ghost use Rattle.session_core.specs.Plan.{rate_in, cell_from};
 
-use crate::values::{TYPES, elapsed_of, has_type, is_rate_type, low_word, number_at};
-use agg_types::{Cell, Col, NoMemory};
-use std::alloc::Global;
+use crate::values::{elapsed_of, has_type, is_rate_type, low_word, number_at};
+use agg_types::{Cell, Col};
 
 /// Where a column's integers are among those of an update. Three kinds are distinguished by
 /// branches, which are foreseen; four took a table of jumps, and a third of the time of a long row.
@@ -21,17 +19,6 @@ pub(crate) enum Source {
     Count { at: usize, wide: bool },
     /// A rate's three.
     Rate { at: usize },
-}
-
-/// How the updates of a table are read.
-#[derive(Debug, Drop)]
-pub(crate) struct DecodePlan {
-    /// Room for the integers of an update.
-    pub(crate) numbers: Vec<u64>,
-    /// Where each column's integers are among them.
-    pub(crate) sources: Vec<Source>,
-    /// The cells of the update that was read last.
-    pub(crate) cells: Vec<Cell>,
 }
 
 /// How many integers an update has of a data type.
@@ -49,7 +36,7 @@ fn width_of(bits: u64, kind: usize) -> usize
 }
 
 /// How many integers an update has of the data types below this one.
-fn widths(bits: u64, below: usize) -> usize
+pub(crate) fn widths(bits: u64, below: usize) -> usize
     requires { below ≤ types }
     ensures all { result ≡ widths bits below 0 }
     ensures small { result ≤ 3 * below }
@@ -61,7 +48,7 @@ fn widths(bits: u64, below: usize) -> usize
     all
 }
 
-fn source_of(bits: u64, periods: &[u64], col: (Col, u32)) -> Source
+pub(crate) fn source_of(bits: u64, periods: &[u64], col: (Col, u32)) -> Source
     ensures { result ≡ source_of bits periods.now col }
 {
     let id = usize::from(col.0.id());
@@ -84,64 +71,19 @@ fn source_of(bits: u64, periods: &[u64], col: (Col, u32)) -> Source
     }
 }
 
-impl DecodePlan {
-    /// The plan for updates with these data types and periods, under these columns.
-    pub(crate) fn new(
-        alloc: Global,
-        bits: u64,
-        periods: &[u64],
-        cols: &[(Col, u32)],
-    ) -> Result<DecodePlan, NoMemory>
-        ensures { IfOk result (IsPlan bits periods.now cols.now) }
-    {
-        let mut sources = Vec::with_capacity(alloc, cols.len())?;
-        for col in cols {
-            sources.push(source_of(bits, periods, *col))?;
-        }
-        let mut numbers = Vec::new(alloc);
-        numbers.resize(widths(bits, TYPES), 0)?;
-        Ok(DecodePlan {
-            numbers,
-            sources,
-            cells: Vec::new(alloc),
-        })
-    }
-
-    /// Reads the cells of an update's values; false where one is cut or too large.
-    #[inline]
-    pub(crate) fn read(&mut self, bytes: &[u8]) -> Result<bool, NoMemory>
-        ensures cells { IfOk result (λ whole. AreCells whole self.new.cells.items
-            (option_map (λ numbers. map (cell_from numbers) self.old.sources.items)
-            (numbers_at (vec_len self.old.numbers) bytes.now))) }
-        ensures width { vec_len self.new.numbers ≡ vec_len self.old.numbers }
-        ensures sources { self.new.sources ≡ self.old.sources }
-    {
-        if read_numbers(bytes, &mut self.numbers).is_none() {
-            return Ok(false);
-        }
-        fill(
-            &mut self.cells,
-            self.numbers.as_slice(),
-            self.sources.as_slice(),
-        )?;
-        Ok(true)
-    }
-}
-
 /// Puts the cells of all columns in place of what was there.
 #[inline]
-fn fill(cells: &mut Vec<Cell>, numbers: &[u64], sources: &[Source]) -> Result<(), NoMemory>
-    ensures { OnOk result (cells.new.items ≡ map (cell_from numbers.now) sources.now) }
+pub(crate) fn fill(cells: &mut [Cell], numbers: &[u64], sources: &[Source])
+    requires { length cells.old ≡ length sources.now }
+    ensures { cells.new ≡ map (cell_from numbers.now) sources.now }
 {
-    cells.clear();
-    for source in sources {
-        cells.push(cell_from(numbers, *source))?;
+    for (at, source) in sources.iter().enumerate() {
+        cells[at] = cell_from(numbers, *source);
     }
-    Ok(())
 }
 
 /// Reads as many integers as there is room for; `None` where one is cut or too large.
-fn read_numbers(bytes: &[u8], numbers: &mut [u64]) -> Option<()>
+pub(crate) fn read_numbers(bytes: &[u8], numbers: &mut [u64]) -> Option<()>
     ensures { option_map (λ _. numbers.new) result ≡ numbers_at (length numbers.old) bytes.now }
 {
     let mut rest = bytes;
@@ -177,7 +119,7 @@ fn from(numbers: &[u64], at: usize) -> &[u64]
 }
 
 #[inline]
-fn count_in(numbers: &[u64], wide: bool) -> Cell
+pub(crate) fn count_in(numbers: &[u64], wide: bool) -> Cell
     ensures { result ≡ count_in wide numbers.now }
 {
     match numbers {
@@ -188,7 +130,7 @@ fn count_in(numbers: &[u64], wide: bool) -> Cell
 }
 
 #[inline]
-fn rate_in(numbers: &[u64]) -> Cell
+pub(crate) fn rate_in(numbers: &[u64]) -> Cell
     ensures { result ≡ rate_in numbers.now }
 {
     match numbers {
@@ -198,7 +140,7 @@ fn rate_in(numbers: &[u64]) -> Cell
 }
 
 #[inline]
-fn rate(elapsed: u64, cur: u32, prev: u32) -> Cell
+pub(crate) fn rate(elapsed: u64, cur: u32, prev: u32) -> Cell
     ensures { result ≡ Cell.Rate elapsed cur prev }
 {
     Cell::Rate { elapsed, cur, prev }

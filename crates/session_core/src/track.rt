@@ -147,10 +147,21 @@ fn tell_put(
     if !read_planned(alloc, followed, shape.cols.as_slice(), plan, values)? {
         return Ok(false);
     }
-    let key = Key::copy(alloc, key)?;
+    let key = key_of(alloc, key)?;
     let life = life_of(followed.expiry, life);
     facts.push_put(peer, followed.table, key, life, cells_read(plan))?;
     Ok(true)
+}
+
+/// The key of these bytes. Those of an address, as most keys are, need no copy of unknown length.
+#[inline]
+fn key_of(alloc: Global, bytes: &[u8]) -> Result<Key, NoMemory>
+    ensures { IfOk result (λ key. key ≡ bytes.now) }
+{
+    match bytes {
+        [a, b, c, d] => Key::copy(alloc, &[*a, *b, *c, *d]),
+        _ => Key::copy(alloc, bytes),
+    }
 }
 
 /// Reads the cells of an update's values along the plan, which is made where there is none; false
@@ -171,10 +182,10 @@ fn read_planned(
         (IfSome plan.new (IsPlan followed.now.bits followed.now.periods cols.now)) }
 {
     if let Some(plan) = plan {
-        return plan.read(values);
+        return Ok(plan.read(values));
     }
     let mut made = CachedPlan::new(alloc, followed.bits, &followed.periods, cols)?;
-    let whole = made.read(values)?;
+    let whole = made.read(values);
     *plan = Some(made);
     Ok(whole)
 }
@@ -190,6 +201,7 @@ fn cells_read(plan: &Option<CachedPlan>) -> &[Cell]
     }
 }
 
+#[inline]
 fn id_after(last: u32, id: Option<u32>) -> u32
     ensures { result ≡ id_after last id }
 {
@@ -476,6 +488,7 @@ impl Track {
 }
 
 /// Keeps an update's id, and that it came in this piece.
+#[inline]
 fn note_update(entry: &mut Entry, id: Option<u32>)
     ensures { entry.new ≡ record entry.old { last = id_after entry.old.last id; updated = true } }
 {

@@ -28,6 +28,7 @@ pub(crate) enum Sent {
 }
 
 /// The key at the front of an update's bytes, and the bytes after it; `None` where it is cut.
+#[inline]
 pub(crate) fn key_at(kind: KeyKind, bytes: &[u8]) -> Option<(&[u8], &[u8])>
     ensures { option_map (λ x. (x.0.now, x.1.now)) result ≡ key_at kind bytes.now }
 {
@@ -39,6 +40,7 @@ pub(crate) fn key_at(kind: KeyKind, bytes: &[u8]) -> Option<(&[u8], &[u8])>
     }
 }
 
+#[inline]
 fn bytes_at(len: u64, bytes: &[u8]) -> Option<(&[u8], &[u8])>
     ensures { option_map (λ x. (x.0.now, x.1.now)) result ≡ bytes_at len bytes.now }
 {
@@ -124,6 +126,7 @@ pub(crate) fn low_word(number: u64) -> u32
 }
 
 /// The life of a row, in ms.
+#[inline]
 pub(crate) fn life_of(expiry: u64, life: Option<u32>) -> Option<u64>
     ensures { result ≡ life_of expiry life }
 {

@@ -11,7 +11,7 @@ const SCRIPT: &[u8] = b"name agg\nstart 0\nx";
 const TWO: &[u8] = b"name agg\nstart 0\nx\ny\n";
 
 /// Prints how the replay ends where its reader fails behind none of its bytes, one, and so on, and
-/// where it doesn't fail: of a script of one line behind `start`, and of one of two.
+/// where it doesn't fail. The scripts have one line behind `start`, and two.
 pub fn show_reads(rt: &(impl Print + AllocGlobal)) -> io::Result<()> {
     for room in 0..SCRIPT.len().saturating_add(2) {
         show_read(rt, SCRIPT, room)?;

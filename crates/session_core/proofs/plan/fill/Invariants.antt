@@ -1,6 +1,8 @@
-use Rattle.std.proofs.Common.{◌≡◌, take, map}
+use Rattle.std.proofs.Common.{◌≡◌, length, take, map}
 use Rattle.session_core.specs.Plan.{cell_from}
 use Rattle.session_core.proofs.plan.fill.Given as goal
 
-abbrev pub invariant-loop-source : goal.invariant-loop-source
-invariant-loop-source l = l.cells.items ≡ map (cell_from l.numbers) (take l.source-index l.sources)
+abbrev pub invariant-loop-at : goal.invariant-loop-at
+invariant-loop-at l =
+    (take l.at l.cells ≡ map (cell_from l.numbers) (take l.at l.sources))
+    × (length l.cells ≡ length l.sources)

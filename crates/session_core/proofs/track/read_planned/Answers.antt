@@ -10,4 +10,4 @@ returns-in-Some-clause-cells c =
 pub returns-clause-cells : goal.returns-clause-cells
 returns-clause-cells c =
     rw (← planned_cells c.args.followed.now.bits c.args.followed.now.periods c.args.cols.now
-    c.args.values.now c.in_ok-made.made c.in_ok-made.ensures) c.in_ok-whole.ensures.cells
+    c.args.values.now c.in_ok-made.made c.in_ok-made.ensures) c.read-whole.ensures.cells

@@ -4,4 +4,4 @@ use Rattle.peers_msg.proofs.feed.Feed.new.Goals as goal
 
 pub returns : goal.returns
 unfolding reading_of reading_within
-returns c = rw (c.new.ensures, c.new-2.ensures.items) refl
+returns c = rw c.new.ensures.items refl

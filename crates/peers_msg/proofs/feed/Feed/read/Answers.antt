@@ -1,4 +1,4 @@
-use Rattle.std.proofs.Common.{◌≡◌, ◌++◌, ◌∙◌, ap, sym}
+use Rattle.std.proofs.Common.{◌≡◌, ◌∙◌, ap, sym}
 use Rattle.peers_msg.specs.Message.{Short, frame_at, Reading}
 use Rattle.peers_msg.specs.DecoderState.{DecoderState}
 use Rattle.peers_msg.specs.Feed.{fed, decoder_of}
@@ -7,26 +7,23 @@ use Rattle.peers_msg.proofs.feed.Feed.read.Goals as goal
 
 pub invariant_of-self-in-Short : goal.invariant_of-self-in-Short
 invariant_of-self-in-Short c =
-    let short : frame_at c.join.new.growing.items ≡ Short = ap frame_at (sym c.as_slice.ensures)
+    let kept = c.extend_from_slice.new.self.items in
+    let short : frame_at kept ≡ Short = ap frame_at (sym c.as_slice.ensures)
     ∙ c.in-Short.ensures.exact in
-    short_kept c.self.inside.fault c.join.new.frozen c.join.new.growing.items c.in_default.is
-    c.in_ok-len.ensures.ok.0 short
+    short_kept c.self.inside.fault kept c.in_default.is short
 
 pub returns-in-Short-clause-reading : goal.returns-in-Short-clause-reading
 returns-in-Short-clause-reading c =
-    let short : frame_at c.join.new.growing.items ≡ Short = ap frame_at (sym c.as_slice.ensures)
+    let kept = c.extend_from_slice.new.self.items in
+    let short : frame_at kept ≡ Short = ap frame_at (sym c.as_slice.ensures)
     ∙ c.in-Short.ensures.exact in
-    let old : DecoderState = record {
-      rest = c.self.inside.frozen ++ c.self.inside.growing.items;
-      fault =
-          c.self.inside.fault;
-    } in
+    let old : DecoderState =
+    record { rest = c.self.inside.kept.items; fault = c.self.inside.fault } in
     let same : c.args.self.now ≡ old = sym c.self.view_is in
-    let read = ap (λ (kept : DecoderState). fed kept c.args.piece.now) same
-    ∙ short_read old c.args.piece.now c.join.new.frozen c.join.new.growing.items c.in_default.is
-    c.in_ok-len.ensures.ok.0 c.in_ok-len.ensures.ok.1 short in (
+    let read = ap (λ (state : DecoderState). fed state c.args.piece.now) same
+    ∙ short_read old c.args.piece.now kept c.in_default.is
+    c.in_ok-extend_from_slice.ensures.ok short in (
       read,
-      ap (λ fault. let kept : DecoderState =
-          record { rest = c.join.new.frozen ++ c.join.new.growing.items; fault = fault } in
-          kept) c.in_default.is ∙ ap (λ (reading : Reading). decoder_of reading) (sym read),
+      ap (λ fault. let state : DecoderState = record { rest = kept; fault = fault } in state)
+          c.in_default.is ∙ ap (λ (reading : Reading). decoder_of reading) (sym read),
     )

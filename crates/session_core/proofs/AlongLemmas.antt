@@ -1,0 +1,279 @@
+-- Cells that are read one behind the other are those of the integers.
+use Rattle.std.proofs.Common.{◌≡◌, ℕ, zero, suc, ◌+◌, ◌-◌, ◌<◌, ◌≤◌, Bool, List, [], ◌∷◌, ◌++◌}
+use Rattle.std.proofs.Common.{length, take, drop, map, Option, Some, None, refl, sym, ap, ◌∙◌, arith}
+use Rattle.std.proofs.Common.{append_assoc, length-append, get_or, true, false, ltb, ◌*◌, ◌%◌, ◌^◌}
+use Rattle.std.proofs.Common.{eqb, ◌&&◌}
+use Rattle.std.proofs.lemmas.Bool.{lt-ltb, lt-leb, eqb-true, false≢true}
+use Rattle.std.specs.Prelude.{leb}
+use Rattle.std.proofs.lemmas.List.{drop_at, drop_more, drop_all, take_rest}
+use Rattle.std.specs.Option.{option_map}
+use Rattle.peers_msg.specs.Payload.{◌>>=◌, number_at}
+use Rattle.peers_msg.specs.Numeral.{integer_at}
+use Rattle.agg_types.specs.declared.event.Cell.{Cell}
+use Rattle.agg_types.specs.declared.event.Cell.TheVariants as cells
+use Rattle.session_core.specs.Values.{elapsed_of}
+use Rattle.session_core.specs.declared.plan.Source.{Source}
+use Rattle.session_core.specs.declared.plan.Source.TheVariants as sources
+use Rattle.session_core.specs.Plan.{count_in, rate_in, cell_from, numbers_at, AreCells}
+use Rattle.session_core.specs.Straight.{is_straight}
+use Rattle.session_core.specs.Along.{cell_at, cells_along, rate_at}
+
+-- ---- the cells of columns, one behind the other
+
+-- cells in front of others
+abbrev pub behind_cells : List Cell → Option (List Cell) → Option (List Cell)
+behind_cells front others = others >>= λ (more : List Cell). Some (front ++ more)
+
+pub along_none : (o : Option (List Cell)) → behind_cells [] o ≡ o
+along_none None = refl
+along_none (Some cells) = refl
+
+behind_one : (front : List Cell) (cell : Cell) (o : Option (List Cell))
+    → behind_cells front (o >>= λ (more : List Cell). Some (cell ∷ more))
+    ≡ behind_cells (front ++ cell ∷ []) o
+behind_one front cell None = refl
+behind_one front cell (Some more) = ap Some (sym (append_assoc front (cell ∷ []) more))
+
+pub along_more : (all : List Source) (at : ℕ) (front : List Cell) (rest after : List ℕ)
+    (source : Source) (cell : Cell) → at < length all → source ≡ get_or all at source
+    → cell_at source rest ≡ Some (cell, after)
+    → behind_cells front (cells_along (drop at all) rest)
+    ≡ behind_cells (front ++ cell ∷ []) (cells_along (drop (at + 1) all) after)
+along_more all at front rest after source cell lt is found =
+    let split : drop at all ≡ source ∷ drop (at + 1) all =
+    drop_more all at source lt ∙ ap (λ (s : Source). s ∷ drop (at + 1) all) (sym is) in
+    rw (split, found) (behind_one front cell (cells_along (drop (at + 1) all) after))
+
+pub along_cut : (all : List Source) (at : ℕ) (front : List Cell) (rest : List ℕ) (source : Source)
+    → at < length all → source ≡ get_or all at source → cell_at source rest ≡ None
+    → behind_cells front (cells_along (drop at all) rest) ≡ None
+along_cut all at front rest source lt is found =
+    let split : drop at all ≡ source ∷ drop (at + 1) all =
+    drop_more all at source lt ∙ ap (λ (s : Source). s ∷ drop (at + 1) all) (sym is) in
+    rw (split, found) refl
+
+pub along_all : (all : List Source) (at : ℕ) (front : List Cell) (rest : List ℕ)
+    → length all ≤ at → behind_cells front (cells_along (drop at all) rest) ≡ Some (front ++ [])
+along_all all at front rest le = rw (drop_all at all le) refl
+
+-- ---- a straight plan's cells are those of its integers
+
+abbrev pub straight_cells : List ℕ → List Source → Option (List ℕ) → Option (List Cell)
+straight_cells front all o =
+    option_map (λ (numbers : List ℕ). map (cell_from (front ++ numbers)) all) o
+
+abbrev IsStraight : ℕ → ℕ → List Source → Type 0
+IsStraight at end [] = at ≡ end
+IsStraight at end (sources.Blank cell ∷ others) = IsStraight at end others
+IsStraight at end (sources.Count place wide ∷ others) =
+    (place ≡ at) × IsStraight (at + 1) end others
+IsStraight at end (sources.Rate place ∷ others) = (place ≡ at) × IsStraight (at + 3) end others
+
+three_parts : (a b c : Bool) → (a && b && c) ≡ true → (a ≡ true) × (c ≡ true)
+three_parts true true c is = (refl, is)
+three_parts true false c is = absurd (false≢true is)
+three_parts false b c is = absurd (false≢true is)
+
+straight_parts : (all : List Source) (at end : ℕ) → is_straight at end all ≡ true
+    → IsStraight at end all
+straight_parts [] at end is = eqb-true at end is
+straight_parts (sources.Blank cell ∷ others) at end is = straight_parts others at end is
+straight_parts (sources.Count place wide ∷ others) at end is =
+    let parts = three_parts (eqb place at) (ltb at end) (is_straight (at + 1) end others) is in (
+      eqb-true place at parts.0,
+      straight_parts others (at + 1) end parts.1,
+    )
+straight_parts (sources.Rate place ∷ others) at end is =
+    let parts = three_parts (eqb place at) (leb 3 (end - at)) (is_straight (at + 3) end others) is
+    in (
+      eqb-true place at parts.0,
+      straight_parts others (at + 3) end parts.1,
+    )
+
+straight_le : (all : List Source) (at end : ℕ) → IsStraight at end all → at ≤ end
+straight_le [] at end is = omega (arith, is)
+straight_le (sources.Blank cell ∷ others) at end is = straight_le others at end is
+straight_le (sources.Count place wide ∷ others) at end is =
+    omega (arith, straight_le others (at + 1) end is.1)
+straight_le (sources.Rate place ∷ others) at end is =
+    omega (arith, straight_le others (at + 3) end is.1)
+
+-- a cell in front of others
+cell_then : (cell : Cell) (f : List ℕ → List Cell) (o : Option (List ℕ))
+    → option_map (λ (numbers : List ℕ). cell ∷ f numbers) o
+    ≡ (option_map f o >>= λ (cells : List Cell). Some (cell ∷ cells))
+cell_then cell f None = refl
+cell_then cell f (Some numbers) = refl
+
+count_then : (front : List ℕ) (place x : ℕ) (wide : Bool) (others : List Source)
+    (o : Option (List ℕ)) → length front ≡ place
+    → straight_cells front (sources.Count place wide ∷ others)
+    (o >>= λ (more : List ℕ). Some (x ∷ more))
+    ≡ (straight_cells (front ++ x ∷ []) others o
+    >>= λ (cells : List Cell). Some (count_in wide (x ∷ []) ∷ cells))
+count_then front place x wide others None long = refl
+count_then front place x wide others (Some more) long =
+    rw (drop_at front (x ∷ more) place long, append_assoc front (x ∷ []) more) refl
+
+count_found : (front : List ℕ) (place : ℕ) (wide : Bool) (others : List Source)
+    (next : List ℕ → Option (List ℕ)) (o : Option (ℕ × List ℕ)) → length front ≡ place
+    → ((x : ℕ) (after : List ℕ) → straight_cells (front ++ x ∷ []) others (next after)
+    ≡ cells_along others after)
+    → straight_cells front (sources.Count place wide ∷ others)
+    (o >>= λ (first : ℕ × List ℕ). next first.1 >>= λ (more : List ℕ). Some (first.0 ∷ more))
+    ≡ ((o >>= λ (count : ℕ × List ℕ). Some (count_in wide (count.0 ∷ []), count.1))
+    >>= λ (first : Cell × List ℕ). cells_along others first.1
+    >>= λ (cells : List Cell). Some (first.0 ∷ cells))
+count_found front place wide others next None long same = refl
+count_found front place wide others next (Some x) long same =
+    rw (← same x.0 x.1) (count_then front place x.0 wide others (next x.1) long)
+
+-- three integers in front of others
+abbrev pub three_then : ℕ → ℕ → ℕ → Option (List ℕ) → Option (List ℕ)
+three_then x y z o =
+    ((o >>= λ (more : List ℕ). Some (z ∷ more)) >>= λ (more : List ℕ). Some (y ∷ more))
+    >>= λ (more : List ℕ). Some (x ∷ more)
+
+rate_then : (front : List ℕ) (place x y z : ℕ) (others : List Source) (o : Option (List ℕ))
+    → length front ≡ place
+    → straight_cells front (sources.Rate place ∷ others) (three_then x y z o)
+    ≡ (straight_cells (front ++ x ∷ y ∷ z ∷ []) others o
+    >>= λ (cells : List Cell). Some (rate_in (x ∷ y ∷ z ∷ []) ∷ cells))
+rate_then front place x y z others None long = refl
+rate_then front place x y z others (Some more) long =
+    rw (
+      drop_at front (x ∷ y ∷ z ∷ more) place long,
+      append_assoc front (x ∷ y ∷ z ∷ []) more,
+    ) refl
+
+-- what a rate's cell is behind, and the cells of the others
+abbrev pub rate_and : List Source → Option (Cell × List ℕ) → Option (List Cell)
+rate_and others o =
+    o >>= λ (first : Cell × List ℕ). cells_along others first.1
+    >>= λ (cells : List Cell). Some (first.0 ∷ cells)
+
+abbrev pub GoesAlong : List ℕ → List Source → (List ℕ → Option (List ℕ)) → Type 0
+GoesAlong front others next =
+    (x y z : ℕ) (after : List ℕ)
+    → straight_cells (front ++ x ∷ y ∷ z ∷ []) others (next after) ≡ cells_along others after
+
+prev_found : (front : List ℕ) (place x y : ℕ) (others : List Source)
+    (next : List ℕ → Option (List ℕ)) (o : Option (ℕ × List ℕ)) → length front ≡ place
+    → GoesAlong front others next
+    → straight_cells front (sources.Rate place ∷ others)
+    (((o >>= λ (prev : ℕ × List ℕ). next prev.1 >>= λ (more : List ℕ). Some (prev.0 ∷ more))
+    >>= λ (more : List ℕ). Some (y ∷ more)) >>= λ (more : List ℕ). Some (x ∷ more))
+    ≡ rate_and others (o >>= λ (prev : ℕ × List ℕ). Some (rate_in (x ∷ y ∷ prev.0 ∷ []), prev.1))
+prev_found front place x y others next None long same = refl
+prev_found front place x y others next (Some z) long same =
+    rw (← same x y z.0 z.1) (rate_then front place x y z.0 others (next z.1) long)
+
+cur_found : (front : List ℕ) (place x : ℕ) (others : List Source)
+    (next : List ℕ → Option (List ℕ)) (o : Option (ℕ × List ℕ)) → length front ≡ place
+    → GoesAlong front others next
+    → straight_cells front (sources.Rate place ∷ others)
+    ((o >>= λ (cur : ℕ × List ℕ). (number_at cur.1 >>= λ (prev : ℕ × List ℕ). next prev.1
+    >>= λ (more : List ℕ). Some (prev.0 ∷ more)) >>= λ (more : List ℕ). Some (cur.0 ∷ more))
+    >>= λ (more : List ℕ). Some (x ∷ more))
+    ≡ rate_and others (o >>= λ (cur : ℕ × List ℕ). number_at cur.1
+    >>= λ (prev : ℕ × List ℕ). Some (rate_in (x ∷ cur.0 ∷ prev.0 ∷ []), prev.1))
+cur_found front place x others next None long same = refl
+cur_found front place x others next (Some y) long same =
+    prev_found front place x y.0 others next (number_at y.1) long same
+
+rate_found : (front : List ℕ) (place : ℕ) (others : List Source)
+    (next : List ℕ → Option (List ℕ)) (o : Option (ℕ × List ℕ)) → length front ≡ place
+    → GoesAlong front others next
+    → straight_cells front (sources.Rate place ∷ others)
+    (o >>= λ (elapsed : ℕ × List ℕ). (number_at elapsed.1 >>= λ (cur : ℕ × List ℕ).
+    (number_at cur.1 >>= λ (prev : ℕ × List ℕ). next prev.1
+    >>= λ (more : List ℕ). Some (prev.0 ∷ more)) >>= λ (more : List ℕ). Some (cur.0 ∷ more))
+    >>= λ (more : List ℕ). Some (elapsed.0 ∷ more))
+    ≡ rate_and others (o >>= λ (elapsed : ℕ × List ℕ). number_at elapsed.1
+    >>= λ (cur : ℕ × List ℕ). number_at cur.1
+    >>= λ (prev : ℕ × List ℕ). Some (rate_in (elapsed.0 ∷ cur.0 ∷ prev.0 ∷ []), prev.1))
+rate_found front place others next None long same = refl
+rate_found front place others next (Some x) long same =
+    cur_found front place x.0 others next (number_at x.1) long same
+
+straight_along : (all : List Source) (at end : ℕ) (front bytes : List ℕ) → length front ≡ at
+    → IsStraight at end all
+    → straight_cells front all (numbers_at (end - at) bytes) ≡ cells_along all bytes
+unfolding numbers_at
+straight_along [] at end front bytes long is =
+    let none : end - at ≡ 0 = omega (arith, is) in
+    rw none refl
+straight_along (sources.Blank cell ∷ others) at end front bytes long is =
+    cell_then cell (λ (numbers : List ℕ). map (cell_from (front ++ numbers)) others)
+    (numbers_at (end - at) bytes)
+    ∙ ap (λ (o : Option (List Cell)). o >>= λ (cells : List Cell). Some (cell ∷ cells))
+    (straight_along others at end front bytes long is)
+straight_along (sources.Count place wide ∷ others) at end front bytes long is =
+    let more : end - at ≡ suc (end - (at + 1)) =
+    omega (arith, straight_le others (at + 1) end is.1) in
+    rw more (count_found front place wide others (numbers_at (end - (at + 1))) (number_at bytes)
+    (long ∙ sym is.0) (λ x after.
+    straight_along others (at + 1) end (front ++ x ∷ []) after
+    (omega (arith, length-append front (x ∷ []), long)) is.1))
+straight_along (sources.Rate place ∷ others) at end front bytes long is =
+    let more : end - at ≡ suc (suc (suc (end - (at + 3)))) =
+    omega (arith, straight_le others (at + 3) end is.1) in
+    rw more (rate_found front place others (numbers_at (end - (at + 3))) (number_at bytes)
+    (long ∙ sym is.0) (λ x y z after.
+    straight_along others (at + 3) end (front ++ x ∷ y ∷ z ∷ []) after
+    (omega (arith, length-append front (x ∷ y ∷ z ∷ []), long)) is.1))
+
+pub straight_is : (all : List Source) (end : ℕ) (bytes : List ℕ) → is_straight 0 end all ≡ true
+    → option_map (λ (numbers : List ℕ). map (cell_from numbers) all) (numbers_at end bytes)
+    ≡ cells_along all bytes
+straight_is all end bytes is =
+    let n : end - 0 ≡ end = omega arith in
+    ap (λ (m : ℕ). option_map (λ (numbers : List ℕ). map (cell_from numbers) all)
+    (numbers_at m bytes)) (sym n) ∙ straight_along all 0 end [] bytes refl
+    (straight_parts all 0 end is)
+
+-- ---- integers of one byte
+
+small_number : (n : ℕ) (rest : List ℕ) → n < 240 → number_at (n ∷ rest) ≡ Some (n, rest)
+unfolding number_at integer_at
+small_number n rest lt =
+    let low : ltb n 240 ≡ true = lt-ltb n 240 lt in
+    let same : n * 1 + 0 ≡ n = omega arith in
+    let fits : leb (2 ^ 64) n ≡ false = lt-leb (2 ^ 64) n (omega arith) in
+    rw (low, same, fits) refl
+
+small_elapsed : (n : ℕ) → n < 240 → elapsed_of n ≡ n
+small_elapsed n lt =
+    let low : leb (2 ^ 32 - 60000) n ≡ false = lt-leb (2 ^ 32 - 60000) n (omega arith) in
+    rw low refl
+
+pub small_rate : (elapsed cur prev : ℕ) (rest : List ℕ) → elapsed < 240 → cur < 240 → prev < 240
+    → rate_at (elapsed ∷ cur ∷ prev ∷ rest) ≡ Some (cells.Rate elapsed cur prev, rest)
+small_rate elapsed cur prev rest a b c =
+    let m : cur % 2 ^ 32 ≡ cur = omega arith in
+    let n : prev % 2 ^ 32 ≡ prev = omega arith in
+    rw (
+      small_number elapsed (cur ∷ prev ∷ rest) a,
+      small_number cur (prev ∷ rest) b,
+      small_number prev rest c,
+      small_elapsed elapsed a,
+      m,
+      n,
+    ) refl
+
+pub small_rate_front : (bytes : List ℕ) (elapsed cur prev : ℕ) (cell : Cell) → 3 ≤ length bytes
+    → elapsed ≡ get_or bytes 0 0 → cur ≡ get_or bytes 1 0 → prev ≡ get_or bytes 2 0
+    → elapsed < 240 → cur < 240 → prev < 240 → cell ≡ cells.Rate elapsed cur prev
+    → rate_at bytes ≡ Some (cell, take (length bytes - 3) (drop 3 bytes))
+small_rate_front [] elapsed cur prev cell three is_a is_b is_c a b c is = absurd (omega arith)
+small_rate_front (x ∷ []) elapsed cur prev cell three is_a is_b is_c a b c is =
+    absurd (omega arith)
+small_rate_front (x ∷ y ∷ []) elapsed cur prev cell three is_a is_b is_c a b c is =
+    absurd (omega arith)
+small_rate_front (x ∷ y ∷ z ∷ rest) elapsed cur prev cell three is_a is_b is_c a b c is =
+    let low_a : x < 240 = omega (arith, is_a, a) in
+    let low_b : y < 240 = omega (arith, is_b, b) in
+    let low_c : z < 240 = omega (arith, is_c, c) in
+    small_rate x y z rest low_a low_b low_c
+    ∙ ap (λ (one : Cell). Some (one, rest)) (sym (rw (is_a, is_b, is_c) at is))
+    ∙ ap (λ (after : List ℕ). Some (cell, after)) (sym (take_rest (x ∷ y ∷ z ∷ rest) 3))
