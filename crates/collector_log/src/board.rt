@@ -2,15 +2,13 @@
 
 use crate::judging::Verdict;
 use agg_types::NoMemory;
+use agg_types::limits::MOST_FOLLOWED;
 use std::alloc::Global;
 use std::net::SocketAddr;
 use std::sync::atomic::{AtomicU64, Ordering};
 use std::sync::{Mutex, Wait};
 use web_serve::Rates;
 use web_text::PeerStanding;
-
-/// How many tables of a connection are kept at most.
-const MOST_TABLES: usize = 256;
 
 /// A table that a peer's present or last connection defined.
 #[derive(Drop)]
@@ -153,7 +151,7 @@ impl Board {
     }
 
     /// The timer is about to post at a moment, in ms: what it posted before is shown.
-    pub fn turn<R: Wait>(&self, rt: &R, now: u64) {
+    pub fn tick<R: Wait>(&self, rt: &R, now: u64) {
         self.turned.store(now.saturating_add(1), Ordering::SeqCst);
         self.rates.count(rt, now, self.updates());
     }
@@ -270,13 +268,14 @@ fn count_unfollowed(tables: &[Defined]) -> usize {
     unfollowed
 }
 
-// Keeps a table, or what comes of one that is kept: whether that is news.
+// Keeps a table, or what comes of one that is kept: whether that is news. As many are kept as a
+// session ever follows.
 fn add_table(alloc: Global, tables: &mut Vec<Defined>, name: &[u8], verdict: Verdict) -> bool {
     let is_same = |table: &Defined| table.name.as_slice() == name;
     if let Some(place) = tables.iter().position(is_same) {
         return set_verdict(tables, place, verdict);
     }
-    if tables.len() >= MOST_TABLES {
+    if tables.len() >= MOST_FOLLOWED {
         return false;
     }
     let Ok(name) = Vec::from_slice(alloc, name) else {

@@ -83,8 +83,8 @@ impl Fullness {
         Ok(Fullness { tables: seen })
     }
 
-    /// Looks at a book at a moment, in ms: of a table that didn't take an update since the last
-    /// look a line is noted, with the first peer of which that is so, at most once in a minute.
+    /// Looks at a book at a moment, in ms. Of a table that didn't take an update since the last
+    /// look it notes a line, at most once in a minute, with the first peer of which that is so.
     pub fn look<R: Clock + Wait>(&mut self, rt: &R, journal: &Journal, book: &Book, now: u64) {
         for table in 0..self.tables.len() {
             let Some(seen) = self.tables.get_mut(table) else {

@@ -187,7 +187,7 @@ impl<'a, R: Clock + Wait + Memory> Gate for Notes<'a, R> {
         if place != Place::Timer {
             return;
         }
-        self.board.turn(&self.rt, self.clock.moment());
+        self.board.tick(&self.rt, self.clock.moment());
         if let Some(Unasked { count, last }) = self.connections.unasked(&self.rt) {
             self.board.refuse(count);
             self.note(Event::PeersUnasked { count, last });

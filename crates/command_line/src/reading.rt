@@ -43,9 +43,9 @@ const UNKNOWN_PEERS: &str =
     "Peers that aren't configured: refuse, or wait until they are [default: refuse]";
 
 /// The job that the words of a command line ask for, the first of them the program's name. Help
-/// that is asked for and words that aren't the program's are `Usage::Words`; of words that are, an
-/// address that is none is `Usage::BadAddress`, no place where operators connect `Usage::NoAdmin`,
-/// and another word for unknown peers `Usage::BadUnknownPeers`.
+/// that is asked for and words that aren't the program's are `Usage::Words`. Of words that are, an
+/// address that is none is `Usage::BadAddress`. No place where operators connect is
+/// `Usage::NoAdmin`, and another word for unknown peers `Usage::BadUnknownPeers`.
 pub fn read<'a, S: AsStr>(alloc: Global, words: &'a [S]) -> Result<Job<'a>, Usage>
     ensures job { IfOk result (AsksFor (map S.text words.now)) }
     ensures usage { IfErr result (IsRefused (map S.text words.now)) }

@@ -26,8 +26,8 @@ abbrev pub WasTold : List (ℕ × Connection) → Config → ℕ → List Step �
 WasTold links config opening past conn =
     IfSome (found links conn) (λ connection. connection.teller ≡ told_of config opening past conn)
 
--- The fleet stands for these steps, newest first, each of which could be done: its book is what
--- recomputing gives from all their events but the last, which wait, and of each connection it keeps
+-- The fleet represents these steps, newest first, each of which could be done. Its book is what
+-- recomputing gives from all their events but the last, which wait. Of each connection it keeps
 -- what their steps say.
 pub record Represents (fleet : Collected) (config : Config) (opening : ℕ)
     (past : List Step) : Type 0 where

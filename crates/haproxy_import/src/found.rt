@@ -130,7 +130,8 @@ impl<'a> Found<'a> {
             return Ok(());
         }
         if MOST_PEERS < self.peers.len() {
-            return left_out(&mut self.notes, name, b"there are 256 others");
+            let why = format!(in self.alloc; "there are {MOST_PEERS} others")?;
+            return left_out(&mut self.notes, name, why.as_bytes());
         }
         self.last = name;
         self.peers.push(Name::copy(self.alloc, name)?)
@@ -163,11 +164,8 @@ impl<'a> Found<'a> {
             );
         }
         if self.tables.contains(name) || MOST_TABLES <= self.tables.len() {
-            return left_out(
-                &mut self.notes,
-                name,
-                b"there is one of this name, or 16 in all",
-            );
+            let why = format!(in self.alloc; "there is one of this name, or {MOST_TABLES} in all")?;
+            return left_out(&mut self.notes, name, why.as_bytes());
         }
         self.tables.push(shape)
     }

@@ -4,9 +4,10 @@
 //! and `stick-table` lines, and nothing else of the file.
 //!
 //! `import` promises two things of the text that it gives. The collector reads it without a fault,
-//! and what it then has is exactly `imported`, a definition in specs/: the peers and tables of the
-//! file, in its order, with HAProxy's lengths and periods and with room for more rows. So a table
-//! is neither lost nor made up. No clause says what its comments tell, nor that there is memory.
+//! and what it then has is exactly `imported`, a definition in specs/. That is the peers and tables
+//! of the file, in its order, with HAProxy's lengths and periods and with room for more rows. So a
+//! table is neither lost nor made up. No clause says what its comments tell, nor that there is
+//! memory.
 #![tactic(auto)]
 
 mod found;

@@ -106,7 +106,7 @@ abbrev pub Appends : Seated → Seated → List What → Beginning → Type 0
 Appends p p' whats ticket = ShowsBatch p whats ticket × (p' ≡ advanced p (length whats))
 
 -- the numbers of a seat don't go as far, in a list of the history in which the pass has its next
--- number, and no Put of the batch is of a peer that another seat opened later
+-- number. In that list no Put of the batch is of a peer that another seat opened later
 pub record IsSpent (p : Seated) (whats : List What) : Type 0 where
   pub before : Beginning
   pub seen : Follows p.seen before

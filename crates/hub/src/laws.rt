@@ -32,7 +32,7 @@ pub fn what_may_be_posted()
 
 /// The one law on many threads. A batch was posted at Ok; a lens learned the receipt, and looked.
 /// Then the book answers what recomputing from a list gives that begins with all that the lens had
-/// seen and learned, and that has exactly this batch, in one piece and behind all that the pass had
+/// seen and learned. The list has exactly this batch, in one piece and behind all that the pass had
 /// seen. It holds whatever other threads do meanwhile.
 pub fn a_look_shows_what_was_posted()
     ensures { (pass after : Seated) (whats : List What)

@@ -5,8 +5,8 @@
 //! microseconds. Batches become visible by one exchange of two copies of the book: one thread
 //! publishes all that was appended, without the lock, and the others wait for it.
 //!
-//! Promised: a look answers for a list of events that begins with all that its lens saw or learned;
-//! a receipt's list ends with exactly the batch that was posted, behind what its pass had seen.
+//! Promised: a look answers for a list of events that begins with all that its lens saw or learned.
+//! A receipt's list ends with exactly the batch that was posted, behind what its pass had seen.
 //! Lists stand in proofs alone and take no bytes. What came into a filter's set and what left it
 //! behind an earlier list, `Look::changes` tells while it is known: applied to the set at that list
 //! it gives the set now.

@@ -106,8 +106,9 @@ abbrev pub elided_at : List ℕ → Option ℕ → Option (List ℕ)
 elided_at text None = groups_of (parts 58 text)
 elided_at text (Some at) = with_zeros (front_bytes (take at text)) (back_bytes (drop (at + 2) text))
 
--- the bytes of an IPv6 address (RFC 4291, 2.2): groups of hexadecimal digits, an IPv4 address in
--- the place of the last two or not, and at most one `::` for one or more groups of zeros
+-- the bytes of an IPv6 address (RFC 4291, 2.2): groups of hexadecimal digits, of which an IPv4
+-- address may stand in the place of the last two. At most one `::` stands for one or more groups of
+-- zeros
 unfoldable pub ipv6_of : List ℕ → Option (List ℕ)
 ipv6_of text = elided_at text (elision text)
 

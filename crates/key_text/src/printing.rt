@@ -16,10 +16,10 @@ const DIGITS: [u8; 16] = *b"0123456789abcdef";
 /// Appends the text of a key. After `NoMemory` some of it may stand behind the bytes that were
 /// there.
 ///
-/// An integer is a signed number of 32 bits; an IPv4 address four numbers joined by dots; an IPv6
-/// address groups of four hexadecimal digits joined by colons; a string the bytes 33 to 126 but `%`
-/// as themselves and any other as `%` and two digits; a binary key its hexadecimal digits. A key
-/// that has not the length of an integer has no text.
+/// An integer is a signed number of 32 bits, an IPv4 address four numbers joined by dots, and an
+/// IPv6 address groups of four hexadecimal digits joined by colons. A string has the bytes 33 to
+/// 126 but `%` as themselves, and any other as `%` and two digits. A binary key is its hexadecimal
+/// digits. A key that has not the length of an integer has no text.
 pub fn append_key(kind: KeyKind, key: &[u8], out: &mut Vec<u8>) -> Result<(), NoMemory>
     ensures ok { OnOk result (out.new.items ≡ out.old.items ++ key_text kind key.now) }
     ensures begins { take (length out.old.items) out.new.items ≡ out.old.items }

@@ -5,7 +5,7 @@ ghost use Rattle.agg_types.specs.Check.{config_faults};
 
 use crate::beside::serve_beside;
 use crate::disk::Paths;
-use agg_types::Config;
+use agg_types::{Config, MOST_SEATS};
 use collector_log::{Board, CollectorFacts, Event, Journal, Memory, Notes, Watch};
 use command_line::Endpoints;
 use hub::{Hub, Naming, Opening};
@@ -27,20 +27,17 @@ use web_serve::Web;
 /// sees to full tables.
 const PLACES: usize = 9;
 
-/// How many sessions may look at once, where tables are pushed: as many as may have a seat.
-const SESSION_PLACES: usize = 512;
-
 /// How many more where there is an HTTP door.
 const WEB_PLACES: usize = 80;
 
-// How many may look at once.
+// How many may look at once. Where tables are pushed, a session with a seat may too.
 fn places_for(config: &Config, endpoints: &Endpoints) -> usize
     ensures { (0 < result) × (result ≤ 1000) }
 {
     let sessions = if config.pushes.is_empty() {
         0
     } else {
-        SESSION_PLACES
+        MOST_SEATS
     };
     let visits = if endpoints.http.is_some() {
         WEB_PLACES

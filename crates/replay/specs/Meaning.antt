@@ -1,8 +1,9 @@
 -- What the words of a line behind `start` say.
-use Rattle.std.specs.Prelude.{◌≡◌, ⊤, true, ℕ, ◌^◌, nat_lt, if◌then◌else◌, List, [], ◌∷◌, codes}
+use Rattle.std.specs.Prelude.{◌≡◌, ⊤, true, ℕ, nat_lt, if◌then◌else◌, List, [], ◌∷◌, codes}
 use Rattle.std.specs.Prelude.{Option, None, Some, Result, Ok, Err}
 use Rattle.std.specs.Str.{bytes_eq}
 use Rattle.agg_types.specs.declared.config.Config.{Config}
+use Rattle.agg_types.specs.declared.limits.TheConstants.{LAST_MOMENT}
 use Rattle.fleet_core.specs.Possible.{does_fit}
 use Rattle.fleet_core.specs.declared.step.Step.TheVariants.{Connect, Bytes, Lost, Moment, Told}
 use Rattle.hex.specs.Hex.{decode_of}
@@ -37,10 +38,10 @@ abbrev pub lost_of : List (List ℕ) → Meaning
 lost_of words = lost_with (only words)
 
 abbrev pub moment_by : Result ℕ NumberFault → Meaning
-moment_by (Ok moment) = if nat_lt (2 ^ 62) moment then BadStep else Does (Moment moment)
+moment_by (Ok moment) = if nat_lt LAST_MOMENT moment then BadStep else Does (Moment moment)
 moment_by (Err fault) = BadStep
 
--- behind `moment` stands a moment of at most 2^62 ms
+-- behind `moment` is a moment of at most LAST_MOMENT
 abbrev pub moment_with : Option (List ℕ) → Meaning
 moment_with None = BadStep
 moment_with (Some word) = moment_by (number_of word)

@@ -1,10 +1,11 @@
 -- What a script prints: a configuration, a line `start`, and the lines of a run.
-use Rattle.std.specs.Prelude.{◌≡◌, ◌≢◌, ◌⊎◌, ℕ, ◌+◌, ◌^◌, Bool, false, nat_lt, if◌then◌else◌, List}
+use Rattle.std.specs.Prelude.{◌≡◌, ◌≢◌, ◌⊎◌, ℕ, ◌+◌, Bool, false, nat_lt, if◌then◌else◌, List}
 use Rattle.std.specs.Prelude.{[], ◌∷◌, ◌++◌, codes, length, take, drop, position, slice_index_or}
 use Rattle.std.specs.Prelude.{Option, None, Some, Result, Ok, Err}
 use Rattle.std.specs.Fmt.{decimal}
 use Rattle.std.specs.Str.{bytes_eq}
 use Rattle.agg_types.specs.declared.config.Config.{Config}
+use Rattle.agg_types.specs.declared.limits.TheConstants.{LAST_MOMENT}
 use Rattle.agg_config.specs.Reading.{IsFirstFault, Write, fault_line}
 use Rattle.agg_config.specs.declared.causes.LineCause.TheVariants as cause
 use Rattle.agg_config.specs.declared.causes.LineFault.{LineFault}
@@ -26,14 +27,14 @@ abbrev pub is_start : List ℕ → Bool
 is_start line = begins_with_start (words line)
 
 abbrev pub opening_by : Result ℕ NumberFault → Option ℕ
-opening_by (Ok moment) = if nat_lt (2 ^ 62) moment then None else Some moment
+opening_by (Ok moment) = if nat_lt LAST_MOMENT moment then None else Some moment
 opening_by (Err fault) = None
 
 abbrev pub opening_with : Option (List ℕ) → Option ℕ
 opening_with None = None
 opening_with (Some word) = opening_by (number_of word)
 
--- the opening moment that these words say, if behind the first stands but one of at most 2^62 ms
+-- the opening moment that these words say, if behind the first is but one of at most LAST_MOMENT
 abbrev pub opening_of : List (List ℕ) → Option ℕ
 opening_of [] = None
 opening_of (first ∷ words) = opening_with (only words)

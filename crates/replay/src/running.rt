@@ -5,6 +5,7 @@ ghost use Rattle.std.specs.Prelude.{OnErr};
 ghost use Rattle.std.specs.Fmt.{decimal};
 ghost use Rattle.agg_types.specs.Check.{config_faults};
 ghost use Rattle.agg_types.specs.declared.config.Config.{Config};
+ghost use Rattle.agg_types.specs.declared.limits.TheConstants.{LAST_MOMENT};
 ghost use Rattle.fleet_core.specs.declared.step.Step.{Step};
 ghost use Rattle.line_words.specs.Words.{lines_of};
 ghost use Rattle.replay.specs.Given.{IsSettled};
@@ -38,7 +39,7 @@ pub fn run<R: BufRead, W: Write>(
     out: &mut W,
 ) -> io::Result<Ending>
     requires checked { config_faults config ≡ [] }
-    requires in_range { opening ≤ 2 ^ 62 }
+    requires in_range { opening ≤ LAST_MOMENT }
     requires numbered { first ≤ 2 ^ 64 }
     ensures whole { IfSome (R.remaining script.old) (λ text. IfOk result
         (Wrote (OrNothing (Prints config opening (lines_of text) [] first))

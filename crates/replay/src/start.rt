@@ -2,6 +2,7 @@
 
 ghost use Rattle.std.specs.Prelude.{◌≡◌, ◌≤◌, ◌^◌, [], List, ℕ, length, position, IfOk, IfSome};
 ghost use Rattle.agg_config.specs.Lines.{HasRead, lines_read};
+ghost use Rattle.agg_types.specs.declared.limits.TheConstants.{LAST_MOMENT};
 ghost use Rattle.line_words.specs.Words.{lines_of, words};
 ghost use Rattle.replay.specs.Script.{is_start, opening_of};
 ghost use Rattle.replay.specs.Source.{OfLines};
@@ -16,9 +17,9 @@ use std::alloc::Global;
 use std::io;
 use std::io::{BufRead, ErrorKind};
 
-/// What a script has up to its first line whose first word is `start`, or up to its end: the
-/// configuration that stands before it, the line's number, and the opening moment that it says, if
-/// it says one of at most 2^62 ms and nothing else.
+/// What a script has up to its first line whose first word is `start`, or up to its end. It is the
+/// configuration before that line, the line's number, and the opening moment that it says, if it
+/// says one of at most `LAST_MOMENT` and nothing else.
 #[derive(Drop)]
 pub struct Start {
     pub config: Reader,
@@ -33,7 +34,7 @@ pub fn start_of<R: BufRead>(alloc: Global, config: Reader, script: &mut R) -> io
     requires count { lines_read config ≡ 0 }
     ensures cut { IfOk result (λ start. OfLines (R.remaining script.old) (R.remaining script.new)
         (λ lines rest. IsCutAt lines (position is_start lines) rest start)) }
-    ensures in_range { IfOk result (λ start. IfSome start.opening (λ moment. moment ≤ 2 ^ 62)) }
+    ensures in_range { IfOk result (λ start. IfSome start.opening (λ moment. moment ≤ LAST_MOMENT)) }
     ensures numbered { IfOk result (λ start. start.number ≤ 2 ^ 63) }
 {
     let mut config = config;
@@ -72,7 +73,7 @@ fn is_start(line: &[u8]) -> bool
 // The moment that a line of two words says.
 fn opening_of(line: &[u8]) -> Option<u64>
     ensures said { result ≡ opening_of (words line.now) }
-    ensures in_range { IfSome result (λ moment. moment ≤ 2 ^ 62) }
+    ensures in_range { IfSome result (λ moment. moment ≤ LAST_MOMENT) }
 {
     let (_, behind) = next_word(line)?;
     let word = only(behind)?;

@@ -20,7 +20,7 @@ pub fn write_text<W: Write>(text: &[u8], out: &mut W) -> io::Result<()>
         }
         match out.write(left) {
             Ok(0) => return Err(io::Error::from(ErrorKind::WriteZero)),
-            Ok(count) => left = rest(left, count),
+            Ok(count) => left = behind(left, count),
             Err(error) if error.kind() == ErrorKind::Interrupted => {}
             Err(error) => return Err(error),
         }
@@ -29,7 +29,7 @@ pub fn write_text<W: Write>(text: &[u8], out: &mut W) -> io::Result<()>
 }
 
 // What stands behind the first bytes of a text, this many.
-fn rest(text: &[u8], len: usize) -> &[u8]
+fn behind(text: &[u8], len: usize) -> &[u8]
     requires { len ≤ length text.now }
     ensures { result.now ≡ drop len text.now }
 {

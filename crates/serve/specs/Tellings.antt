@@ -60,7 +60,7 @@ IsBroughtTo false table set keys moment earlier = keys ≡ set
 IsBroughtTo true table set keys moment earlier = HoldsSet table set keys moment earlier
 
 -- After a telling, what was told and hasn't ended at its moment is of each pushed table exactly the
--- set at its list; with a hold, it has that set, and further keys that left it less than the hold
+-- set at its list. With a hold, it has that set, and further keys that left it less than the hold
 -- before.
 abbrev pub IsExact : Beginning → Bool → List Turn → Telling → Type 0
 IsExact hub seated earlier telling = (place : ℕ) (table : Pushed)

@@ -22,7 +22,7 @@ abbrev pub TellsLast : ℕ → List What → Option Beginning → Type 0
 TellsLast seat whats last = MatchOption last (whats ≡ []) (Tells seat whats)
 
 -- a pass of this hub, and the last receipt of its posts, where this was told, and so many events
--- more are stored and not shown yet; what they have seen is of the hub's history
+-- more are posted and not shown yet. What they have seen is of the hub's history
 pub record HasTold (hub : Beginning) (poster : Poster) (whats : List What)
     (waiting : ℕ) : Type 0 where
   pub seen : Follows hub poster.pass.seen

@@ -79,7 +79,7 @@ impl<'a, J: Naming, H: Wait + Drop, R: Wait + std::rt::Clock, C: Clock, G: Gate>
         ensures heard { worker.old.session.late ≡ false
             → HearsAt now worker.old.session worker.new.session result }
     {
-        worker.rest(writer, now)?;
+        worker.pause(writer, now)?;
         self.tell(worker, writer, now)
     }
 

@@ -435,9 +435,9 @@ fn open<
     });
 }
 
-/// Serves until both doors have closed and their workers have ended: one worker for each connection
-/// of a peer, four admin connections at once, what the doors serve beside them, and a timer, whose
-/// seat is taken first.
+/// Serves until both doors have closed and their workers have ended. There is one worker for each
+/// connection of a peer, four admin connections at once, what the doors serve beside them, and a
+/// timer, whose seat is taken first.
 ///
 /// Where that seat is refused, or the thread of the timer, of an admin or of what is served beside
 /// them, nothing is served. Each connection that was served goes back to the doors, and the timer

@@ -1,19 +1,21 @@
 //! What a connection calls itself before its hello is accepted.
 
-ghost use Rattle.std.specs.Prelude.{◌≤◌};
+ghost use Rattle.std.specs.Prelude.{◌≤◌, ◌+◌, ◌*◌};
+ghost use Rattle.agg_types.specs.declared.limits.TheConstants.{LONGEST_HELLO_LINE};
 
 use crate::lines::split_line;
+use agg_types::limits::LONGEST_HELLO_LINE;
 use line_words::next_part;
 
-/// The most bytes that the three lines of a hello have: 256 and an LF each.
-const LONGEST_HELLO: usize = 771;
+/// The most bytes that the three lines of a hello have, with an LF each.
+const LONGEST_HELLO: usize = 3 * (LONGEST_HELLO_LINE + 1);
 
 /// The first bytes of a connection, as many as a hello may have.
 #[derive(Drop)]
 pub struct Hello {
     bytes: [u8; LONGEST_HELLO],
     count: usize,
-    ghost within: { count ≤ 771 },
+    ghost within: { count ≤ 3 * (LONGEST_HELLO_LINE + 1) },
 }
 
 impl Hello {

@@ -9,11 +9,11 @@
 //! written whole, exactly their sets at one list of the history, and these lists go on from one
 //! another. A telling is written in pieces of whole messages, and all of it before the next one is
 //! made. No clause says when a telling is made, nor when a piece of it is written. Promised of an
-//! admin: exactly the changes that its lines ask for are told, in their order, and each line is
-//! answered over a book that shows those before it, for programs or for people (`Door`); a change
-//! is answered only once it was told. Promised of a timer: it tells moments of its clock.
-//! Each goes back from `serve_all` with what is promised of it; no clause says what `serve_all`
-//! starts, when it ends, or what it counts.
+//! admin: exactly the changes that its lines ask for are posted, in their order. It answers each
+//! line over a book that shows those before it, for programs or for people (`Door`). It answers a
+//! change only once that was posted. Promised of a timer: it tells moments of its clock. Each goes
+//! back from `serve_all` with what is promised of it; no clause says what `serve_all` starts, when
+//! it ends, or what it counts.
 #![tactic(auto)]
 
 mod admin;

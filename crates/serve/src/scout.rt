@@ -89,8 +89,8 @@ impl Scout {
         }
     }
 
-    /// Takes the next piece.
-    pub fn take(&mut self, piece: &[u8]) {
+    /// Reads the next piece.
+    pub fn read_piece(&mut self, piece: &[u8]) {
         let mut rest = piece;
         for _ in 0..u64::MAX {
             if rest.is_empty() {

@@ -131,7 +131,7 @@ impl Worker {
         if self.peer.is_none() {
             self.hello.add(piece);
         }
-        self.scout.take(piece);
+        self.scout.read_piece(piece);
     }
 
     // Tells that a peer's hello was accepted, once, and what was posted and defined since it told.
@@ -204,7 +204,7 @@ impl Worker {
     }
 
     /// Sends a heartbeat where one is due, and ends a session that was silent for too long.
-    pub fn rest<W: Write>(&mut self, writer: &mut W, now: u64) -> Result<(), TurnFault>
+    pub fn pause<W: Write>(&mut self, writer: &mut W, now: u64) -> Result<(), TurnFault>
         ensures seat { seat_at self.new.poster ≡ seat_at self.old.poster }
         ensures takes { (hub : Beginning) → Takes hub self.old self.new [] (W.contents writer.old)
             (W.contents writer.new) result }
@@ -270,7 +270,7 @@ impl<'a, J: Naming, H: Wait + Drop, R: Wait + std::rt::Clock, C: Clock, G: Gate>
     }
 
     // Posts a batch's facts, and then writes its replies and acknowledgements.
-    fn settle<W: Write>(
+    fn post_batch<W: Write>(
         &self,
         worker: &mut Worker,
         writer: &mut W,
@@ -316,7 +316,7 @@ impl<'a, J: Naming, H: Wait + Drop, R: Wait + std::rt::Clock, C: Clock, G: Gate>
         match cause {
             SessionCause::NoMemory => Ok(SessionCause::NoMemory),
             _ => {
-                self.settle(worker, writer, batch)?;
+                self.post_batch(worker, writer, batch)?;
                 Ok(cause)
             }
         }
@@ -341,7 +341,7 @@ impl<'a, J: Naming, H: Wait + Drop, R: Wait + std::rt::Clock, C: Clock, G: Gate>
         match worker.session.feed(self.hub.config(), piece, now) {
             Ok(batch) => {
                 let asks = batch.asks_all();
-                self.settle(worker, writer, batch)?;
+                self.post_batch(worker, writer, batch)?;
                 worker.ask(asks);
                 Ok(())
             }

@@ -17,7 +17,8 @@ use std::fmt;
 pub enum CommandFault {
     /// The line has no word.
     Empty,
-    /// A word is unknown, missing or one too many, or the line has more than 4,096 bytes.
+    /// A word is unknown, missing or one too many, or the line has more bytes than
+    /// `LONGEST_COMMAND_LINE`.
     Unknown,
     /// No table, standing filter or ranked list has this name.
     NoTable,
@@ -29,15 +30,16 @@ pub enum CommandFault {
     BadValue,
     /// It is no key of the table's kind.
     BadKey,
-    /// A fifth condition.
+    /// A condition more than `MOST_CONDS`.
     TooMany,
     /// An allocation failed.
     NoMemory,
-    /// It can't name a standing filter: it has more than 128 bytes, or one outside 33 to 126.
+    /// It can't name a standing filter: it has more than `LONGEST_NAME` bytes, or one outside 33 to
+    /// 126.
     BadName,
     /// A standing filter has this name already.
     Exists,
-    /// 32 standing filters stand.
+    /// `MOST_FILTERS` standing filters are active.
     Full,
 }
 

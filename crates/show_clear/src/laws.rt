@@ -22,8 +22,8 @@ ghost use Rattle.show_clear.specs.Written.{can_ask, command_line};
 ghost use Rattle.show_clear.specs.declared.command.Command.{Command};
 ghost use Rattle.show_clear.specs.declared.fault.CommandFault.{CommandFault};
 
-/// Conditions hold of the row that is shown of a key where a clear judges that the key meets them;
-/// so a table is shown by conditions as the rows of exactly the keys that a clear by them takes.
+/// Conditions hold of the row that is shown of a key where a clear judges that the key meets them.
+/// So a table is shown by conditions as the rows of exactly the keys that a clear by them takes.
 pub fn what_is_shown_is_what_a_clear_takes()
     ensures conditions { (state : State) (table : ℕ) (key : List ℕ) (conds : List Cond)
         (sums : Summed) → summed state table key ≡ Some sums
@@ -53,7 +53,7 @@ pub fn answers_are_no_refusals()
         → map is_answer_line (lines_of (explained_refusal state line fault)) ≡ false ∷ [] }
 {}
 
-/// A command written out is read as that command, for each kind of question and change: where what
+/// A command written out is read as that command, for each kind of question and change. Where what
 /// it names is there, and its selector or its filter fits, `parse` gives it from its line, unless
 /// an allocation fails. A key of no bytes is no word, and so no line names one.
 pub fn written_command_is_read()

@@ -186,7 +186,7 @@ impl<'a, R: Clock + Wait> Incoming<'a, R> {
             return;
         };
         if let Some(pace) = &mut self.pace {
-            pace.take(*last);
+            pace.note_piece(*last);
         }
     }
 }

@@ -72,7 +72,7 @@ impl<'a, R: Clock + Wait> Pace<'a, R> {
     }
 
     /// A piece of a line came, of which this is the last byte.
-    pub fn take(&mut self, last: u8) {
+    pub fn note_piece(&mut self, last: u8) {
         if last == b'\n' {
             self.has_ended = true;
         } else if !self.is_in_line {

@@ -1,5 +1,5 @@
 -- Marks as they are packed, in parts: the bytes of the keys one behind the other, and of each mark
--- a word, which has the length of its key and whether the key is in the set, and its moment.
+-- a word and its moment. The word has the length of its key and whether the key is in the set.
 use Rattle.std.specs.Prelude.{◌≡◌, ◌≤◌, ◌%◌, ℕ, List, [], ◌∷◌, ◌++◌, length, take, drop, min}
 use Rattle.std.specs.Prelude.{◌+◌, ◌-◌, ◌^◌, map}
 use Rattle.std.specs.Prelude.{Bool, true, false, Option, None, Some, nat_lt, if◌then◌else◌}

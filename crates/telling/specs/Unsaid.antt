@@ -8,9 +8,9 @@ use Rattle.telling.specs.declared.pushed.Pushed.{Pushed}
 use Rattle.telling.specs.declared.unsaid.UnsaidTable.{UnsaidTable}
 use Rattle.telling.specs.declared.unsaid.TheConstants.{PIECE}
 
--- of the definitions that the first turn begins with, the place of the first that is left; the
--- table that is defined last before the updates; and of each table the updates that are left, but
--- for so many first tables, of which none is
+-- of the definitions that the first turn begins with, the place of the first that is left; and the
+-- table that is defined last before the updates. Of each table it has the updates that are left,
+-- but for so many first tables, of which none is
 pub record Unsaid : Type 0 where
   pub undefined : Option ℕ
   pub defined : ℕ
@@ -44,7 +44,7 @@ pub record IsSaid (unsaid : Unsaid) : Type 0 where
   pub told : AllByRecursion (λ table. table.changes ≡ []) unsaid.tables
 
 -- a piece is the first messages of what was left, at least one where one was left, and no more than
--- fit unless it is one alone; what is left then is what stands behind them
+-- fit unless it is one alone. What is left then is what stands behind them
 pub record IsPiece (pushed : List Pushed) (old new : Unsaid) (piece : List ℕ) : Type 0 where
   pub count : ℕ
   pub goes_on : unsaid_messages pushed old ≢ [] → 0 < count

@@ -10,7 +10,7 @@ ghost use Rattle.telling.specs.Telling.{update_of};
 
 use crate::{Change, Pushed};
 use agg_types::limits::LONGEST_KEY;
-use agg_types::{KeyKind, NoMemory};
+use agg_types::{Col, KeyKind, NoMemory};
 use peers_msg::put_int;
 use std::alloc::Global;
 
@@ -20,9 +20,6 @@ const TABLE_CLASS: u8 = 10;
 const TABLE_DEFINITION: u8 = 130;
 
 const TIMED_UPDATE: u8 = 133;
-
-// The bit of gpc0 among the stored data types.
-const GPC0: u64 = 4;
 
 // The life of a key that is taken away, in ms.
 const GONE: u32 = 1;
@@ -92,8 +89,15 @@ fn append_fields(id: u64, pushed: &Pushed, out: &mut Vec<u8>) -> Result<(), NoMe
     out.extend_from_slice(name)?;
     put_int(type_number(pushed.kind), out)?;
     put_int(key_length(pushed.kind), out)?;
-    put_int(GPC0, out)?;
+    put_int(stored_types(), out)?;
     put_int(u64::from(pushed.life), out)
+}
+
+// The bits of the data types that a pushed table stores: gpc0 alone.
+fn stored_types() -> u64
+    ensures { result ≡ 4 }
+{
+    1 << Col::Gpc0.id()
 }
 
 // Appends the payload of an update.

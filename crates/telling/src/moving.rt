@@ -27,9 +27,9 @@ pub struct Moving<'a> {
     marks: Packed<'a>,
 }
 
-/// Takes down of a table, behind the update with this id, what has changed by these moves, which
-/// are in the order of their keys, each once: what is to be written, and what is told of it behind
-/// that.
+/// Takes down of a table, behind the update with this id, what has changed by these moves: what is
+/// to be written, and what is told of it behind that. The moves are in the order of their keys,
+/// each once.
 pub fn tell_moves(
     alloc: Global,
     turn: Turn,

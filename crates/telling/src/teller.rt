@@ -24,8 +24,8 @@ use std::marker::Model;
 /// What one connection was told of the pushed tables.
 ///
 /// Contracts see of each table the last update id and the keys that were put, each with the moment
-/// at which it was last put, and whether its set had it at the last turn; which table was defined
-/// last; whether the first turn was made; and whether all is asked for anew.
+/// at which it was last put, and whether its set had it at the last turn. They see which table was
+/// defined last, whether the first turn was made, and whether all is asked for anew.
 pub struct Teller {
     alloc: Global,
     tables: Items<ToldTable>,
@@ -105,13 +105,13 @@ impl Teller {
         let (left, tables) = tell_all(self.alloc, turn, pushed, sets, self.tables.as_slice())?;
         let (unsaid, defined) = self.unsaid_of(pushed, left);
         let text = unsaid.text(pushed)?;
-        self.settle(tables, defined);
+        self.end_turn(tables, defined);
         Ok(text)
     }
 
-    /// Makes the turn that `turn` makes, and gives what it has to write in place of its bytes, for
-    /// `Unsaid::write` to write piece by piece: of each key that is to be written its bytes and two
-    /// more. After `NoMemory` nothing is told, and the teller is as it was.
+    /// Makes the turn that `turn` makes, and gives what it has to write in place of its bytes: of
+    /// each key that is to be written its bytes and two more. `Unsaid::write` writes it piece by
+    /// piece. After `NoMemory` nothing is told, and the teller is as it was.
     ///
     /// A turn that writes nothing takes no memory where the marks stay as they are.
     pub fn begin(
@@ -133,7 +133,7 @@ impl Teller {
         let turn = self.turn_at(now);
         let (left, tables) = tell_all(self.alloc, turn, pushed, sets, self.tables.as_slice())?;
         let (unsaid, defined) = self.unsaid_of(pushed, left);
-        self.settle(tables, defined);
+        self.end_turn(tables, defined);
         Ok(unsaid)
     }
 
@@ -174,7 +174,7 @@ impl Teller {
             self.tables.as_slice(),
         )?;
         let (unsaid, defined) = self.unsaid_of(pushed, left);
-        self.settle(tables, defined);
+        self.end_turn(tables, defined);
         Ok(unsaid)
     }
 
@@ -267,7 +267,7 @@ impl Teller {
     }
 
     // A turn is made.
-    fn settle(&mut self, tables: Items<ToldTable>, defined: u64)
+    fn end_turn(&mut self, tables: Items<ToldTable>, defined: u64)
         ensures { self.new ≡ record {
           tables = tables;
           defined = defined;

@@ -113,7 +113,7 @@ impl Unsaid {
         ensures err { OnErr result (self.new ≡ self.old) }
     {
         self.write_messages(pushed, piece)?;
-        self.settle(pushed);
+        self.give_back(pushed);
         Ok(())
     }
 
@@ -128,7 +128,7 @@ impl Unsaid {
             return Ok(());
         };
         piece.extend_from_slice(draft.message.as_slice())?;
-        self.take(step);
+        self.leave_behind(step);
         while self.write_further(pushed, &mut draft, piece) {}
         Ok(())
     }
@@ -143,7 +143,7 @@ impl Unsaid {
         let mut text = Vec::new(alloc);
         while let Some(step) = left.draft_next(pushed, &mut draft)? {
             text.extend_from_slice(draft.message.as_slice())?;
-            left.take(step);
+            left.leave_behind(step);
         }
         Ok(text)
     }
@@ -168,7 +168,7 @@ impl Unsaid {
         if piece.extend_from_slice(message).is_err() {
             return false;
         }
-        self.take(step);
+        self.leave_behind(step);
         true
     }
 
@@ -196,7 +196,7 @@ impl Unsaid {
     }
 
     // Gives the memory back where nothing is left.
-    fn settle(&mut self, pushed: &[Pushed])
+    fn give_back(&mut self, pushed: &[Pushed])
         ensures same { unsaid_messages pushed.now self.new ≡ unsaid_messages pushed.now self.old }
         ensures ends { unsaid_messages pushed.now self.new ≡ [] → IsSaid self.new }
     {
@@ -217,7 +217,7 @@ impl Unsaid {
     }
 
     // Leaves the message of a step behind.
-    fn take(&mut self, step: Step)
+    fn leave_behind(&mut self, step: Step)
         requires { self.old.before ≤ step.place }
         ensures { self.new ≡ behind step self.old }
     {
@@ -231,8 +231,8 @@ impl Unsaid {
 }
 
 /// A step behind one message: the place of the first definition that is left then, the table that
-/// is defined last, the place of the first table that isn't told, and whether the message is an
-/// update of this table.
+/// is defined last, and the place of the first table that isn't told. It says whether the message
+/// is an update of this table.
 #[derive(Clone, Copy)]
 pub struct Step {
     pub undefined: Option<usize>,

@@ -1,12 +1,12 @@
 //! What sessions, admins, timers and all of them together do, over connections in memory.
 //!
-//! Each scene is over a hub of its own. A line has the bytes that a worker wrote; `over`, what the
-//! row of 10.0.0.1 was in the fleet as each write was made; why the worker ended; and how many
-//! events the history has up to the last that it told (`last`), and up to its leave (`left`). The
-//! last lines are of two peers, one that nobody knows, an admin and a timer at once, each in a
-//! thread of its own, which go one at a time in a fixed order: one thread for all would wait for
-//! ever. The first time all say what they have, the second time a gate closes before they have.
-//! Before them stand sessions of fleets whose proxies are told a filter's keys.
+//! Each scene is over a hub of its own. A line has the bytes that a worker wrote, and at `over`
+//! what the row of 10.0.0.1 was in the fleet as each write was made. It has why the worker ended,
+//! and how many events the history has up to the last that it posted (`last`), and up to its leave
+//! (`left`). The last lines are of two peers, one that nobody knows, an admin and a timer at once,
+//! each in a thread of its own. The threads go one at a time in a fixed order: one thread for all
+//! would wait for ever. The first time all say what they have, the second time a gate closes before
+//! they have. Before them stand sessions of fleets whose proxies are told a filter's keys.
 
 ghost use Rattle.std.specs.Prelude.{◌≡◌};
 

@@ -36,8 +36,8 @@ macro_rules! put {
     };
 }
 
-/// What is put, and when the book is looked at then, in ms: nothing is dropped; both peers have no
-/// room; a peer has none within the same minute, twice; a held key comes again; the minute is over;
+/// What is put, and when the book is looked at then, in ms. Nothing is dropped; both peers have no
+/// room; a peer has none within the same minute, twice. A held key comes again; the minute is over;
 /// the other table is full.
 const SCENES: [(u64, [Put; 3]); 7] = [
     (0, [put!(0, 0, 1), put!(1, 0, 1), put!(0, 1, 1)]),

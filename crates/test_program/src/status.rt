@@ -16,8 +16,8 @@ use std::sync::Wait;
 const SESSION: Place = Place::Session(Some(1));
 
 /// Definitions of tables: two that fit, of which one has another period; a name with a slash, and
-/// one that nobody knows; the same, and one that fits, with types above 18; keys of another type,
-/// and of another length; a pushed filter's. What fits comes twice.
+/// one that nobody knows. Then the same, and one that fits, with types above 18; keys of another
+/// type, and of another length; a pushed filter's. What fits comes twice.
 const DEFINITIONS: [&[u8]; 11] = [
     b"\x0a\x82\x11\x01\x07clients\x04\x04\xf4\x31\x00\x0a\xf0\x62",
     b"\x0a\x82\x11\x01\x07clients\x04\x04\xf4\x31\x00\x0a\xf0\x62",

@@ -22,9 +22,9 @@ use std::thread::Threads;
 use std::time::{Clock, Duration};
 use std::{fs, io};
 
-/// What the peer sends, and how many bytes it is answered: a hello; a definition of the table `t`,
-/// of addresses with gpc0, whose rows never end, and behind it an update of 10.0.0.1 to 5; one of
-/// 10.0.0.2 to 9; and one of 10.0.0.1 to 6.
+/// What the peer sends, and how many bytes it is answered. First a hello. Then a definition of the
+/// table `t`, of addresses with gpc0, whose rows never end, and behind it an update that puts
+/// 10.0.0.1 to 5. Then an update of 10.0.0.2 to 9, and one of 10.0.0.1 to 6.
 const TALK: [(&[u8], usize); 4] = [
     (b"HAProxyS 2.1\nagg\nlb1 1 1\n", 6),
     (

@@ -6,9 +6,9 @@
 //! and the figures and the page share a look that is at most a second old.
 //!
 //! Promised of a clerk: each answer leaves its lens at a list of events that begins with the list
-//! of the answer before, so on one connection lists never shrink (`Clerk`'s `answers`); a look that
-//! is shared comes with a receipt, by which each clerk that tells of it learns its list; and the
-//! budget of looks is never passed (`Budget`). What the texts say, tests show.
+//! of the answer before. So on one connection lists never shrink (`Clerk`'s `answers`). A look that
+//! is shared comes with a receipt, by which each clerk that tells of it learns its list. The budget
+//! of looks is never passed (`Budget`). What the texts say, tests show.
 #![tactic(auto)]
 
 mod asking;

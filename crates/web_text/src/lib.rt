@@ -4,8 +4,8 @@
 //! page need of a book that was looked at, so that one look serves both for a while. A `Standing`
 //! is what stands of the collector beside the book.
 //!
-//! Promised: of a list of keys exactly the part is told that was asked for (`keys_from`), the text
-//! of a label's value is exact (`append_label`), and so are a peer's state (`PeerStanding::state`),
+//! Promised: of a list of keys exactly the part is told that was asked for (`keys_from`). The text
+//! of a label's value is exact (`append_label`). So are a peer's state (`PeerStanding::state`),
 //! what it holds of all tables (`Summary::of_peer`) and a table's kind of keys (`put_table`). A
 //! list of peers behind none that is configured is refused (`peer_list`). What the texts say beside
 //! that, tests show. No clause says that an allocation fails only where there is no memory.

@@ -5,18 +5,18 @@ use Rattle.serve.proofs.Works.{wrote_none}
 use Rattle.serve.specs.Traffic.{so_far}
 use Rattle.serve.proofs.context.Context.attend.Goals as goal
 
-pub returns-in_err-rest-clause-takes : goal.returns-in_err-rest-clause-takes
-returns-in_err-rest-clause-takes g c =
+pub returns-in_err-pause-clause-takes : goal.returns-in_err-pause-clause-takes
+returns-in_err-pause-clause-takes g c =
     λ seated start given more gives w.
     let p = err_from_is_err_and c.from_residual.result c.from_residual.ensures.1 in
-    rw (p.1, p.2) (c.in_err-rest.ensures.takes c.args.self.now.hub.now seated start given more gives
+    rw (p.1, p.2) (c.in_err-pause.ensures.takes c.args.self.now.hub.now seated start given more gives
     w)
 
 pub tell-requires : goal.tell-requires
 tell-requires g c =
     let hub = c.args.self.now.hub.now in
     let seated = c.requires.work.0 in
-    let after = c.in_ok-rest.ensures.takes hub seated untraced None None tt
+    let after = c.in_ok-pause.ensures.takes hub seated untraced None None tt
     (works_untraced hub seated c.args.worker.now c.requires.work.1
     (so_far None (g.W.Write.contents c.args.writer.now)) c.requires.work.2) in record {
       work = (seated, after.turns, after.work);
@@ -26,4 +26,4 @@ pub returns-clause-takes : goal.returns-clause-takes
 returns-clause-takes g c =
     λ seated start given more gives w.
     c.tell.ensures.takes seated start more more (wrote_none more)
-    (c.in_ok-rest.ensures.takes c.args.self.now.hub.now seated start given more gives w)
+    (c.in_ok-pause.ensures.takes c.args.self.now.hub.now seated start given more gives w)

@@ -14,8 +14,8 @@ use Rattle.serve.specs.Turns.{PosterTells, facts_in, seat_at, taken_in}
 use Rattle.serve.specs.Working.{Works}
 use Rattle.serve.proofs.context.Context.take_piece.Goals as goal
 
-pub settle-requires-clause-fits : goal.settle-requires-clause-fits
-settle-requires-clause-fits g c =
+pub post_batch-requires-clause-fits : goal.post_batch-requires-clause-fits
+post_batch-requires-clause-fits g c =
     let w = c.requires.work.2 in
     fact_may_post c.config.result.now c.args.self.now.hub.now.config
     c.args.worker.now.session.seated
@@ -36,12 +36,12 @@ end_session-requires-clause-fits g c =
     c.in-Err.fault c.config.ensures w.has_seat w.stands
     c.in-Err.ensures.talk c.in-Err.ensures.fits c.in-Err.ensures.exact
 
-pub returns-in_ok-settle-in-Ok-clause-takes : goal.returns-in_ok-settle-in-Ok-clause-takes
-returns-in_ok-settle-in-Ok-clause-takes g c =
+pub returns-in_ok-post_batch-in-Ok-clause-takes : goal.returns-in_ok-post_batch-in-Ok-clause-takes
+returns-in_ok-post_batch-in-Ok-clause-takes g c =
     λ seated start given more gives at_first.
     let hub = c.args.self.now.hub.now in
     let new = c.ask.new.self in
-    let then = c.in_ok-settle-in-Ok.ensures.told in
+    let then = c.in_ok-post_batch-in-Ok.ensures.told in
     let w : Works hub seated c.args.worker.now start (so_far given then.written) =
     then.beats hub seated c.args.worker.now start given at_first in
     let stands : ContinuesTalk (setup_of hub.config) seated (taken_in w.turns) c.args.piece.now
@@ -51,30 +51,30 @@ returns-in_ok-settle-in-Ok-clause-takes g c =
     c.in-Ok.batch None
     c.config.ensures w.work.has_seat w.work.stands c.in-Ok.ensures.talk in
     let session : new.session ≡ c.feed.new.self =
-    c.ask.ensures.session ∙ c.settle.ensures.session in
+    c.ask.ensures.session ∙ c.post_batch.ensures.session in
     let same : new.session.seated ≡ seated =
     ap (λ (s : SessionState). s.seated) session
     ∙ (ap (λ (s : SessionState). s.seated) c.in-Ok.ensures.exact.2 ∙ w.work.has_seat) in
     let told = then.goes_on (facts_in (setup_of hub.config) seated w.turns) w.work.told in
     settled hub seated c.args.worker.now new start given more
-    then.written (g.W.Write.contents c.settle.new.writer)
+    then.written (g.W.Write.contents c.post_batch.new.writer)
     c.args.piece.now c.in-Ok.batch gives w
     (subst (λ stage. ContinuesTalk (setup_of hub.config) seated (taken_in w.turns) c.args.piece.now
     c.in-Ok.batch None stage) (sym (ap (λ (s : SessionState). s.stage) session)) stands)
-    same (ap seat_at c.ask.ensures.poster ∙ c.settle.ensures.seat)
+    same (ap seat_at c.ask.ensures.poster ∙ c.post_batch.ensures.seat)
     (asked_on c.asks_all-asks.result c.in-Ok.batch.replies c.args.worker.now.pushing
-    c.settle.new.worker.pushing new.pushing c.ask.ensures.pushing c.settle.ensures.pushing
+    c.post_batch.new.worker.pushing new.pushing c.ask.ensures.pushing c.post_batch.ensures.pushing
     c.asks_all-asks.ensures)
     (subst (λ (poster : Option Poster). PosterTells hub poster
     (facts_in (setup_of hub.config) seated w.turns ++ c.in-Ok.batch.facts) 0)
     (sym c.ask.ensures.poster) told.0) told.1
 
-pub returns-in_err-settle-in-Ok-clause-takes : goal.returns-in_err-settle-in-Ok-clause-takes
-returns-in_err-settle-in-Ok-clause-takes g c =
+pub returns-in_err-post_batch-in-Ok-clause-takes : goal.returns-in_err-post_batch-in-Ok-clause-takes
+returns-in_err-post_batch-in-Ok-clause-takes g c =
     λ seated start given more gives at_first.
     let hub = c.args.self.now.hub.now in
-    let new = c.settle.new.worker in
-    let then = c.in_err-settle-in-Ok.ensures.told in
+    let new = c.post_batch.new.worker in
+    let then = c.in_err-post_batch-in-Ok.ensures.told in
     let w : Works hub seated c.args.worker.now start (so_far given then.written) =
     then.beats hub seated c.args.worker.now start given at_first in
     let stands : ContinuesTalk (setup_of hub.config) seated (taken_in w.turns) c.args.piece.now
@@ -85,11 +85,11 @@ returns-in_err-settle-in-Ok-clause-takes g c =
     c.config.ensures w.work.has_seat w.work.stands c.in-Ok.ensures.talk in
     let p = err_from_is_err_and c.from_residual.result c.from_residual.ensures.1 in
     rw (p.1, p.2) (unsettled (Unit {0}) hub seated c.args.worker.now new start given more
-    then.written (g.W.Write.contents c.settle.new.writer)
+    then.written (g.W.Write.contents c.post_batch.new.writer)
     c.args.piece.now c.in-Ok.batch None _ gives w
     (subst (λ stage. ContinuesTalk (setup_of hub.config) seated (taken_in w.turns) c.args.piece.now
     c.in-Ok.batch None stage) (sym
-    (ap (λ (s : SessionState). s.stage) c.settle.ensures.session)) stands) c.settle.ensures.seat
+    (ap (λ (s : SessionState). s.stage) c.post_batch.ensures.session)) stands) c.post_batch.ensures.seat
     (then.goes_on (facts_in (setup_of hub.config) seated w.turns) w.work.told))
 
 pub returns-in_ok-cause-in-Err-clause-takes : goal.returns-in_ok-cause-in-Err-clause-takes

@@ -18,6 +18,6 @@ returns-clause-told c = λ sets to.
     let tables = c.as_slice.ensures ∙ ap (λ t. t.tables) c.self.view_is in
     let moved = subst (λ (ts : List ToldTable). AreMovedTo c.args.pushed.now
     (map (λ ms. ms.items) c.args.moves.now) ts sets) (sym tables) to in
-    c.settle.ensures ∙ whole_told c.args.pushed.now sets c.args.now c.args.self.now _ _ _ _ _
+    c.end_turn.ensures ∙ whole_told c.args.pushed.now sets c.args.now c.args.self.now _ _ _ _ _
     c.turn_at-turn.ensures tables (c.in_ok-left.ensures.unsaid sets moved)
     (c.in_ok-left.ensures.after sets moved) c.unsaid_of-unsaid.ensures.defined

@@ -23,7 +23,7 @@ returns-clause-goes c = λ yes.
     record {
       message = next.message;
       left = next.left ∙ ap (λ (u : Unsaid).
-          next.message ∷ unsaid_messages c.args.pushed.now u) (sym c.take.ensures);
+          next.message ∷ unsaid_messages c.args.pushed.now u) (sym c.leave_behind.ensures);
       says = more ∙ ap (λ (bytes : List ℕ). c.args.piece.now.items ++ bytes)
           (c.as_slice-message.ensures.value ∙ next.spelled);
       small = omega (

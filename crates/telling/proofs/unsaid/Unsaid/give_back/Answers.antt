@@ -1,7 +1,7 @@
 use Rattle.std.proofs.Common.{◌∙◌, ap, refl, sym}
 use Rattle.telling.specs.Unsaid.{unsaid_messages}
 use Rattle.telling.proofs.Steps.{said_none}
-use Rattle.telling.proofs.unsaid.Unsaid.settle.Goals as goal
+use Rattle.telling.proofs.unsaid.Unsaid.give_back.Goals as goal
 
 pub returns-then-not-has_next-clause-same : goal.returns-then-not-has_next-clause-same
 returns-then-not-has_next-clause-same c =

@@ -3,7 +3,7 @@ use Rattle.std.proofs.lemmas.Result.{err_from_is_err_and}
 use Rattle.session_core.specs.State.{after_idle}
 use Rattle.serve.specs.declared.worker.Worker.{Worker}
 use Rattle.serve.proofs.Works.{beaten, unbeaten, works_same}
-use Rattle.serve.proofs.worker.Worker.rest.Goals as goal
+use Rattle.serve.proofs.worker.Worker.pause.Goals as goal
 
 pub returns-in_ok-send-in-Beat-clause-takes : goal.returns-in_ok-send-in-Beat-clause-takes
 returns-in_ok-send-in-Beat-clause-takes g c =
