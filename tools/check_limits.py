@@ -1,19 +1,17 @@
 #!/usr/bin/env python3
-"""Compares the limits that the documents name with crates/agg_types/src/limits.rt.
+"""Compares the limits that documents and comments name with crates/agg_types/src/limits.rt.
 
-Prints what differs, or is no longer found, and exits with 1 then."""
+The code cites limits by their names. A few of its places tell a number all the same: they stand
+last. It prints what differs, and what a document no longer tells, and exits with 1 then."""
 
 import re
 import sys
 from pathlib import Path
 
 TOP = Path(__file__).resolve().parent.parent
-WORDS = {"four": 4}
+WORDS = {"four": 4, "fifth": 5}
 
-# limits that no document tells as a number
-UNTOLD = {"PERIOD_END", "HOLD_END"}
-
-# a constant, a document, and a pattern whose group is the number
+# what is told of a limit, a document, and a pattern whose group is the number
 PLACES = [
     ("MOST_PEERS", "README.md", r"peers; seated connections at once \| (\d+);"),
     ("MOST_SEATS", "README.md", r"peers; seated connections at once \| \d+; (\d+)"),
@@ -71,6 +69,57 @@ PLACES = [
     ("MOST_PEERS", "docs/OPERATIONS.md", r"One collector takes (\d+) names"),
     ("MOST_SEATS", "docs/OPERATIONS.md", r"and (\d+) connections may hold a seat"),
     ("MOST_SEATS", "docs/OPERATIONS.md", r"all (\d+) seats (?:are|were) taken"),
+    ("MOST_CONDS", "docs/COMMANDS.md", r"all of the one to (\w+) conditions hold"),
+    ("MOST_CONDS", "docs/HTTP.md", r"up to (\w+) conditions"),
+    ("MOST_CONDS + 1", "docs/COMMANDS.md", r"\| a (\w+) condition \|"),
+    ("MOST_CONDS + 1", "docs/CONFIGURATION.md", r"`store`; a (\w+) condition"),
+    ("MOST_PEERS", "docs/CONFIGURATION.md", r"peers beyond (\d+)"),
+    ("PERIOD_END - 1", "docs/CONFIGURATION.md", r"period in ms, 1 to (\d+)"),
+    ("PERIOD_END - 1", "docs/CONFIGURATION.md", r"a period of 0 or above (\d+)"),
+    ("HOLD_END - 1", "docs/CONFIGURATION.md", r"a hold of [\d,]+ to (\d+)"),
+    ("HOLD_END - 1", "docs/CONFIGURATION.md", r"a hold below [\d,]+ or above (\d+)"),
+    ("HOLD_END - 1", "docs/ACTING.md", r"A hold is [\d,]+ to ([\d,]+)"),
+    ("LAST_MOMENT", "docs/REPLAY.md", r"a moment above (2\^\d+)"),
+    ("LAST_MOMENT", "docs/PROOFS.md", r"moment up to (2\^\d+)"),
+    ("NUMBERS_END", "docs/MODEL.md", r"numbers would pass (2\^\d+) − 1"),
+    ("LAST_SEAT", "docs/MODEL.md", r"− 1: (2\^\d+) connections"),
+    ("MOST_SEATS", "docs/PROOFS.md", r"A hub: (\d+) seats"),
+    ("MOST_PEERS", "packaging/sesamejoist.service", r"hello, (\d+) peers"),
+    # comments
+    ("PERIOD_END", "crates/agg_types/src/check.rt", r"a period of 1 to (2\^\d+) - 1 ms"),
+    ("SHORTEST_HOLD", "crates/agg_types/src/check.rt", r"a hold outside ([\d,]+) to"),
+    ("HOLD_END", "crates/agg_types/src/check.rt", r"/// (2\^\d+) - 1 ms\."),
+    ("LONGEST_NAME", "crates/agg_types/src/check.rt", r"more than (\d+) bytes, or a byte"),
+    ("LONGEST_NAME", "crates/agg_types/src/name.rt", r"1 to (\d+) bytes, each"),
+    ("PERIOD_END", "crates/agg_types/specs/Check.antt", r"a period of 1 to (2\^\d+) - 1"),
+    ("HOLD_END", "crates/agg_types/specs/Check.antt", r"a hold is 1 s to (2\^\d+) - 1"),
+    ("MOST_CONDS", "crates/standing_filters/src/judging.rt", r"by up to (\w+) conditions"),
+    ("MOST_CONDS", "crates/agg_config/src/filters.rt", r"end a line, up to (\w+)\."),
+    ("MOST_CONDS", "crates/agg_config/specs/Declarations.antt", r"one to (\w+) conditions"),
+    ("MOST_CONDS", "crates/show_clear/src/conditions.rt", r"(?:Up|One) to (\w+) conditions"),
+    ("MOST_CONDS", "crates/show_clear/specs/Parse.antt", r"one to (\w+) conditions"),
+    ("MOST_CONDS + 1", "crates/show_clear/src/fault.rt", r"A (\w+) condition"),
+    ("LONGEST_COMMAND_LINE", "crates/show_clear/src/fault.rt", r"line has more than ([\d,]+)"),
+    ("LONGEST_NAME", "crates/show_clear/src/fault.rt", r"it has more than (\d+) bytes"),
+    ("MOST_FILTERS", "crates/show_clear/src/fault.rt", r"/// (\d+) standing filters"),
+    ("LONGEST_HELLO_LINE", "crates/serve/src/hello.rt", r"a hello have: (\d+) and an LF"),
+    ("LAST_MOMENT", "crates/replay/src/start.rt", r"at most (2\^\d+) ms"),
+    ("LAST_MOMENT", "crates/replay/specs/Script.antt", r"at most (2\^\d+) ms"),
+    ("LAST_MOMENT", "crates/replay/specs/Meaning.antt", r"at most (2\^\d+) ms"),
+    ("MOST_FOLLOWED", "crates/collector_log/src/board.rt", r"At most (\d+) tables"),
+    # code and definitions
+    ("MOST_CONDS", "crates/agg_config/src/filters.rt", r"\(conditions (\d+) "),
+    ("MOST_CONDS", "crates/agg_config/specs/Declarations.antt", r"← conditions (\d+) "),
+    ("LAST_MOMENT", "crates/replay/src/start.rt", r"moment ≤ (2 \^ \d+)"),
+    ("LAST_MOMENT", "crates/replay/src/running.rt", r"opening ≤ (2 \^ \d+)"),
+    ("LAST_MOMENT", "crates/replay/specs/Script.antt", r"nat_lt \((2 \^ \d+)\)"),
+    ("LAST_MOMENT", "crates/replay/specs/Meaning.antt", r"nat_lt \((2 \^ \d+)\)"),
+    ("LAST_MOMENT", "crates/period_rate/src/rate.rt", r"now ≤ (2 \^ \d+)"),
+    ("3 * (LONGEST_HELLO_LINE + 1)", "crates/serve/src/hello.rt", r"(?:= |≤ )(\d{3})\b"),
+    ("MOST_FOLLOWED", "crates/collector_log/src/board.rt", r"MOST_TABLES: usize = (\d+)"),
+    ("MOST_SEATS", "crates/listening/src/collecting.rt", r"SESSION_PLACES: usize = (\d+)"),
+    ("MOST_PEERS", "crates/haproxy_import/src/found.rt", r"there are (\d+) others"),
+    ("MOST_TABLES", "crates/haproxy_import/src/found.rt", r"or (\d+) in all"),
 ]
 
 
@@ -94,12 +143,15 @@ def main():
     limits = {name: value_of(text) for name, text in found}
     faults = 0
     for name, document, pattern in PLACES:
+        wanted = eval(name, {}, limits)
         numbers = re.findall(pattern, (TOP / document).read_text())
         told = [number_in(n) for n in numbers]
-        if not told or any(number != limits[name] for number in told):
-            print(f"{document}: {name} is {limits[name]}, told {told or 'nowhere'}")
+        if not told and document.startswith("crates/"):
+            continue  # it may cite the limit by its name since
+        if not told or any(number != wanted for number in told):
+            print(f"{document}: {name} is {wanted}, told {told or 'nowhere'}")
             faults += 1
-    for name in limits.keys() - {name for name, _, _ in PLACES} - UNTOLD:
+    for name in limits.keys() - set(re.findall(r"\w+", " ".join(place[0] for place in PLACES))):
         print(f"{name}: no document tells it")
         faults += 1
     return 1 if faults else 0
