@@ -197,9 +197,9 @@ impl Reader {
 ///
 /// Each line is judged behind the lines before it: Syntax comes before Number, and that before
 /// Check. A text without a `name` line has the fault Syntax at the line after its last. `NoMemory`
-/// is reported at the line where an allocation failed, and may come before any other fault; a blank
-/// line takes no memory, nor does a comment. docs/CONFIGURATION.md has the lines; what they declare
-/// is HAProxy's `peers` section and its `stick-table` lines (Configuration Manual).
+/// is reported at the line where an allocation failed, and may come before any other fault. A blank
+/// line takes no memory, nor does a comment. docs/CONFIGURATION.md has the lines. They declare what
+/// HAProxy's `peers` section and its `stick-table` lines do (Configuration Manual).
 pub fn read(alloc: Global, text: &[u8]) -> Result<Config, LineFault>
     ensures written { IfOk result (Write (lines_of text.now)) }
     ensures faultless { IfOk result (λ config. all_faults config ≡ []) }

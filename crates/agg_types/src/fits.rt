@@ -9,9 +9,9 @@ use crate::limits::{LAST_MOMENT, MOST_CONDS};
 use crate::{Cell, Col, Cond, Config, Filter, Key, KeyKind, LentWhat, Select, Shape, What};
 
 impl Config {
-    /// Whether something may happen in this configuration: its positions are in range, its key has
-    /// the table's length, each stored column has one cell of its kind, its life has 32 bits, its
-    /// moment is at most the last, and it has a condition or as many as there may be, each on a
+    /// Whether something may happen in this configuration. Its positions are in range, its key has
+    /// the table's length, and each stored column has one cell of its kind. Its life has 32 bits,
+    /// and its moment is at most the last. It has a condition or as many as there may be, each on a
     /// stored column.
     pub fn fits(&self, what: &What) -> bool
         ensures { result ≡ fits self.now what.now }

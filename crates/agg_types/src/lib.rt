@@ -7,8 +7,9 @@
 //! stated order and none exactly where there is none; `Config::fits` holds exactly of what may
 //! happen; `Op::holds` is the comparison; what is copied or duplicated is equal.
 //!
-//! No clause says that a copy succeeds while there is memory, nor how much room a key takes (24
-//! bytes where it has up to 16), nor that up to four cells take none beside their list.
+//! No clause says that a copy succeeds while there is memory, or how much room a key takes (24
+//! bytes where it has up to 16). Nor does one say that up to four cells take none beside their
+//! list.
 #![tactic(auto)]
 
 mod cells;

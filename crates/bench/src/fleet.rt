@@ -2,14 +2,14 @@
 //!
 //! `bench fleet KEYS UPDATES [lives] [four|sixteen|sixty-four] [texts] [rare] [every] [busy]
 //! [rank]` lets one proxy send one update of each key, then so many more over the keys in turn, and
-//! then so many over keys drawn from a fixed generator, each of an address, two counts and a rate,
-//! in pieces of 16 KB. The keys come in a scattered order. With `lives` rows live for ten minutes,
-//! and the clock goes on by 100 ms after each 100,000 updates. With `four`, `sixteen` or
-//! `sixty-four` so many proxies send the same, in turn by 100,000; with `texts` keys are texts of
-//! 20 bytes. With `rare` a filter on the rate stands that holds one key in a thousand, with `every`
-//! one on a count and with `busy` one on the rate that hold them all, and with `rank` a list of the
-//! ten keys with the greatest rates. At last the rows are asked for, then their text and that of
-//! one row in a thousand, some keys, the filters and the list.
+//! then so many over keys drawn from a fixed generator. Each is of an address, two counts and a
+//! rate, and they come in pieces of 16 KB. The keys come in a scattered order. With `lives` rows
+//! live for ten minutes, and the clock goes on by 100 ms after each 100,000 updates. With `four`,
+//! `sixteen` or `sixty-four` so many proxies send the same, in turn by 100,000; with `texts` keys
+//! are texts of 20 bytes. With `rare` a filter on the rate stands that holds one key in a thousand.
+//! With `every` one on a count holds them all, and with `busy` one on the rate. With `rank` a list
+//! of the ten keys with the greatest rates stands. At last the rows are asked for, then their text
+//! and that of one row in a thousand, some keys, the filters and the list.
 
 mod asking;
 mod load;

@@ -1,7 +1,7 @@
 //! Measures how fast a hub takes batches of updates, and how fast readers look meanwhile.
 //!
-//! `bench hub KEYS UPDATES` lets one book alone take one update of each key and then so many more,
-//! and then hubs with one pass and with four, beside no reader, one and eight, each in a thread of
+//! `bench hub KEYS UPDATES` lets one book alone take one update of each key and then so many more.
+//! Then hubs do, with one pass and with four, beside no reader, one and eight, each in a thread of
 //! its own. `bench hub KEYS UPDATES PASSES READERS` runs one hub alone, and so can tell what a key
 //! costs in memory. Updates are of an address, two counts and a rate, and live for ten minutes.
 //! They come in batches of 900, and the keys in a scattered order. Making them, and asking whether

@@ -42,8 +42,9 @@ use std::marker::Model;
 /// What an event came to, beside the state that it leaves.
 #[derive(Clone, Copy, Debug)]
 pub struct Taken {
-    /// Where the rows of a Put's key lay, for another book that takes the same events: none where
-    /// the key had no rows or they weren't seen lately, or where the event isn't a Put that counts.
+    /// Where the rows of a Put's key lay, for another book that takes the same events. There is
+    /// none where the key had no rows or they weren't seen lately, or where the event isn't a Put
+    /// that counts.
     pub spot: Option<Spot>,
     /// Whether it is an update that a full table didn't take: of a key that its peer holds no row
     /// of, where it holds as many rows of the table as the table's size.
@@ -156,9 +157,9 @@ impl Book {
     }
 
     /// What `step` does, whatever the hint at where the rows of a Put's key lie, and how much was
-    /// read for it: nothing by a moment up to which no row ends and no filter's set changes, nor by
-    /// a clear where verdicts are kept, and else at most 505 values for each pair of a filter and a
-    /// key that it concerns.
+    /// read for it. A moment up to which no row ends and no filter's set changes reads nothing, nor
+    /// does a clear where verdicts are kept. Any other event reads at most 505 values for each pair
+    /// of a filter and a key that it concerns.
     pub fn step_at(&mut self, event: &Event, hint: Option<Spot>) -> Result<Taken, NoMemory>
         ensures ok { OnOk result (self.new ≡ after self.old event.now) }
         ensures stands { OnOk result ((config : Config) (opening : ℕ) (events : List Event)
@@ -335,8 +336,8 @@ impl Book {
     }
 
     /// The first moment above the book's, up to a last one, both in ms, at which a filter holds
-    /// other keys than now, if only the clock goes on; none where it holds the same up to then.
-    /// Judges each moment on the way, so it is for small inputs.
+    /// other keys than now, if only the clock goes on. There is none where it holds the same up to
+    /// then. Judges each moment on the way, so it is for small inputs.
     pub fn next_change_until(
         &self,
         alloc: Global,

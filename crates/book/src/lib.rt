@@ -3,15 +3,15 @@
 //!
 //! Contracts see a book as `fleet_model`'s state, with the clauses of `plain_book`, which it is
 //! compared with. Inside, rows lie by table, key and peer in `peer_rows`, which looks at them
-//! before they end, for each ranked list bounds are kept on the values of its table's keys, and
-//! for each standing filter verdicts on its table's keys (`standing_filters`). An update is a
-//! search and a row replaced, and its key is judged by the filters of its table. Where several
-//! proxies hold the key, the most that its rows are ever worth lies with them. A filter that the
-//! key can't meet by that, and a list's bound, read no row. Whether a key meets a bound is asked of
-//! no more rows than it takes (`values`), and when its rows come to nothing one pass over them
-//! tells (`nothing`). A moment looks at what is due and no more: rows that end, and verdicts that
-//! change. A filter's keys and its next change are read off its verdicts, and a list looks at the
-//! keys of which a bound isn't below what it gives. Users are the fleet, the hub and the commands.
+//! before they end. For each ranked list bounds are kept on the values of its table's keys, and for
+//! each standing filter verdicts on them (`standing_filters`). An update is a search and a row
+//! replaced, and its key is judged by the filters of its table. Where several proxies hold the key,
+//! the most that its rows are ever worth lies with them. A filter that the key can't meet by that,
+//! and a list's bound, read no row. Whether a key meets a bound is asked of no more rows than it
+//! takes (`values`), and when its rows come to nothing one pass over them tells (`nothing`). A
+//! moment looks at what is due and no more: rows that end, and verdicts that change. A filter's
+//! keys and its next change are read off its verdicts, and a list looks at the keys of which a
+//! bound isn't below what it gives. Users are the fleet, the hub and the commands.
 //!
 //! No event fails for want of a verdict's memory. Verdicts are given up where memory for them is
 //! refused, all at once; from then on a filter's keys and its next change are found by judging each
@@ -19,9 +19,9 @@
 //! key, or by a moment at which a key's last row ended. Where they are kept a clear takes those on
 //! its keys away and judges none (`forgetting`).
 //!
-//! `Book::step_at` says how many values an event read: none where nothing changes by it or keys are
-//! cleared, and else at most 505 for each pair of a filter and a key that it concerns
-//! (`specs/Reads.antt`). That verdicts are kept while there is memory for them, no clause says.
+//! `Book::step_at` says how many values an event read (`specs/Reads.antt`). It is none where
+//! nothing changes by it or keys are cleared, and else at most 505 for each pair of a filter and a
+//! key that it concerns. That verdicts are kept while there is memory for them, no clause says.
 //!
 //! `Book::step_run` takes a seat's events as one: what updates of one peer that follow each other
 //! have in common is looked up once, and the seat is counted up once behind them (`runs`). So is,
@@ -37,9 +37,9 @@
 //! `Taken` says whether an event is an update that a full table doesn't take. A book counts these
 //! by table and peer, beside what contracts see of it. So what `Book::dropped` answers, tests show.
 //!
-//! Speed is measured, not promised: an end stays planned where it was while its row's end only
-//! moves later, and is planned anew when it comes due, so some rows are looked at before they end;
-//! and a bound stays while it holds and isn't far above what it bounds.
+//! Speed is measured, not promised. An end stays planned where it was while its row's end only
+//! moves later, and is planned anew when it comes due, so some rows are looked at before they end.
+//! A bound stays while it holds and isn't far above what it bounds.
 #![tactic(auto)]
 
 mod adding;

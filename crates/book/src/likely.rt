@@ -221,8 +221,8 @@ impl<'a> Sum<'a> {
     }
 }
 
-// A span of moments at whose end a sum is below a bound, and at whose beginning it isn't; and how
-// far above and below it is there, as far as a line from one to the other is to tell.
+// A span of moments at whose end a sum is below a bound, and at whose beginning it isn't. It says
+// how far above and below the sum is there, as far as a line from one to the other is to tell.
 #[derive(Clone, Copy)]
 struct Span {
     low: u64,

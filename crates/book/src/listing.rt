@@ -79,7 +79,7 @@ impl<'a> Iterator for BookRows<'a> {
 }
 
 /// The keys of a table whose values meet all conditions at a moment, each with its summed row, in
-/// order: one walk of the rows as they lie, and then a sort of the keys that are kept.
+/// order. One walk of the rows as they lie, and then a sort of the keys that are kept.
 pub fn meeting<'a>(
     alloc: Global,
     store: &'a Store,

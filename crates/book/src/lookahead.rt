@@ -38,9 +38,9 @@ impl Lookahead {
     }
 
     /// Looks for the keys of the updates of a peer from a place on, each step for all of them
-    /// before the next: where each is looked for, a first look there, where its rows may lie, by
-    /// that or by its hint, a look whether they do, and one at the peer's row. Looks for none where
-    /// the table has few rows.
+    /// before the next. The steps are: where a key is looked for, a first look there, where its
+    /// rows may lie, by that or by its hint, a look whether they do, and one at the peer's row.
+    /// Looks for none where the table has few rows.
     pub(crate) fn look(
         &mut self,
         machine: &Machine,

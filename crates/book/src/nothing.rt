@@ -18,7 +18,8 @@ use peer_rows::{Held, OfKey, Row};
 use period_rate::Rate;
 
 /// The first moment above `from` at which the rows of a key that were found are worth less than a
-/// bound in a column, which they aren't at `from`: where the bound is 1, as far as it can be told.
+/// bound in a column, which they aren't at `from`. It is told where the bound is 1, as far as it
+/// can be.
 pub fn found_drop(
     rows: Option<&OfKey<'_>>,
     cols: &[(Col, u32)],

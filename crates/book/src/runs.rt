@@ -46,11 +46,11 @@ pub(crate) struct Came {
 }
 
 impl Book {
-    /// Applies what a seat posted as one, under its numbers from a first one on, from a place on,
-    /// up to the first event for which an allocation fails, and answers the place that it came to.
-    /// Each event up to there is applied as by `apply`. The hints are where another book found the
-    /// rows of keys, by place; where they end, they take up where this one finds them, as far as
-    /// there is memory.
+    /// Applies what a seat posted as one, under its numbers from a first one on, from a place on.
+    /// It stops at the first event for which an allocation fails, and answers the place that it
+    /// came to. Each event up to there is applied as by `apply`. The hints are where another book
+    /// found the rows of keys, by place; where they end, they take up where this one finds them, as
+    /// far as there is memory.
     ///
     /// What updates of one peer have in common is looked up once for all that come one after the
     /// other. How much was read for a run, no clause says. The flips tell which keys came into the

@@ -3,9 +3,9 @@
 //! A key is judged by the filters of its table when its rows may have changed, and else when a
 //! change that was planned for it has come. Keys that a clear took are in no set, so they needn't
 //! be judged (`forgetting`). Memory for verdicts may be refused: then they are given up, and
-//! queries read the rows until the verdicts are made anew: as a filter is added, as more than one
-//! key may be cleared, or at a moment by which a key's rows ended. So no event fails for them, and
-//! a moment by which nothing changes reads nothing.
+//! queries read the rows until the verdicts are made anew. That is as a filter is added, as more
+//! than one key may be cleared, or at a moment by which a key's rows ended. So no event fails for
+//! them, and a moment by which nothing changes reads nothing.
 
 ghost use Rattle.std.specs.Prelude.{◌≡◌, ◌+◌, ◌*◌, ◌<◌, ◌≤◌, ◌==◌, [], length, map, IfOk, OnOk};
 ghost use Rattle.std.specs.Prelude.{true, false, if◌then◌else◌, ◌&&◌, nat_lt, remove, ℕ, List};

@@ -1,7 +1,7 @@
 //! The rows that the peers of a fleet hold: for each peer, table and key at most one.
 //!
 //! It is what a book of a fleet keeps of its peers' updates. Contracts see one finite map from
-//! places to rows, as the list of its entries by table, key and peer: each call is an insertion, a
+//! places to rows, as the list of its entries by table, key and peer. Each call is an insertion, a
 //! removal, a look-up or a filter of that list, and a call that ran out of memory changed nothing.
 //! The rows of one key lie together, so that one search finds what all peers hold of it.
 //!
@@ -17,11 +17,10 @@
 //! refused, the row is put all the same, and the next `end_rows` looks at all places. A place of
 //! whose rows none ends has no plan, so none is left behind.
 //!
-//! No clause says how long a call takes: a look-up is at most one search of a table's keys,
-//! `count` and `used` take constant time, and a row that replaces another takes no memory but for
-//! its plan. Nor does one say anything of a `Spot` or a `Trace` but that no answer depends on it,
-//! or which keys `end_rows` answers: those of which no row is left, as far as there was memory to
-//! tell them.
+//! No clause says how long a call takes. A look-up is at most one search of a table's keys, `count`
+//! and `used` take constant time, and a row that replaces another takes no memory but for its plan.
+//! Of a `Spot` or a `Trace` clauses say only that no answer depends on it. Which keys `end_rows`
+//! answers none says: those of which no row is left, as far as there was memory to tell them.
 #![tactic(auto)]
 
 mod ahead;

@@ -24,11 +24,11 @@
 //! before the place's key was looked at. So all that is proved of them is one direction: each
 //! filled place is reached from its key.
 //!
-//! A place is a key beside its value (`Slot`), without a byte that says whether it is empty: there
-//! the blank key stands (`IndexKey::blank`), and a value that keeps the number of the next empty
-//! place (`PlaceValue::blank`). The blank key may be laid down as any other: the number of its own
-//! place is kept once for all, so all other places where it stands are empty. No value says that a
-//! place is empty, so whoever borrows one may write any.
+//! A place is a key beside its value (`Slot`), without a byte that says whether it is empty. In an
+//! empty one the blank key stands (`IndexKey::blank`), and a value that keeps the number of the
+//! next empty place (`PlaceValue::blank`). The blank key may be laid down as any other: the number
+//! of its own place is kept once for all, so all other places where it stands are empty. No value
+//! says that a place is empty, so whoever borrows one may write any.
 //!
 //! Windows are made one by one as places come, each out of one other whose words it parts. Places
 //! and windows lie in segments of 1,024, which never move; the memory of a segment is taken at
@@ -41,12 +41,13 @@
 //! `guess` say where a key may lie, `near` and `touch_near` where the word may stand that
 //! `remove_near` frees. All are hints: nothing is promised of them, and no answer depends on one.
 //!
-//! No clause says how long a call takes; that keys stand in windows at all, that windows grow, how
-//! few hashes are marked (with more than 16,384 keys in the map they aren't marked anew), and
-//! that words and entries which name nothing any more are gone (a `remove` that leaves them would
-//! meet its contract, and be slow); that an empty place is taken before a new one; how much memory
-//! is used, and that an insert with room asks for none, only that it does without. A key stays in
-//! the ordered map or in the list until it is removed, though there may be room elsewhere again.
+//! No clause says how long a call takes, or how much memory is used. None says that keys stand in
+//! windows at all, that windows grow, or how few hashes are marked (with more than 16,384 keys in
+//! the map they aren't marked anew). None says that words and entries which name nothing any more
+//! are gone: a `remove` that leaves them would meet its contract, and be slow. Nor does one say
+//! that an empty place is taken before a new one, or that an insert with room asks for no memory,
+//! only that it does without. A key stays in the ordered map or in the list until it is removed,
+//! though there may be room elsewhere again.
 #![tactic(auto)]
 
 mod crowd;

@@ -16,8 +16,9 @@ use crate::{IndexKey, PlaceValue};
 use agg_types::NoMemory;
 use std::alloc::Global;
 
-/// How a key's place is found: by a word of its hash's window, by an ordered map of the keys that
-/// found no room there, or by a look at each of the few places for which the map had no memory.
+/// How a key's place is found: by a word of its hash's window, or by an ordered map of the keys
+/// that found no room there. The few places for which that map had no memory are looked at one by
+/// one.
 #[derive(Drop)]
 pub(crate) struct Reach<K: Ord> {
     windows: Windows,

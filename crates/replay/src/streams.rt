@@ -38,9 +38,9 @@ pub(crate) fn take_line<R: BufRead>(source: &mut R, bytes: &mut Vec<u8>) -> io::
 /// prints was written.
 ///
 /// Faults of the script are found in this order: the line `start`, the configuration, then line by
-/// line. Out of memory ends it as `Ending::Failed`; before the fleet is open nothing is written
-/// then, and later `fault NoMemory` in place of the text of the line that wanted it. docs/REPLAY.md
-/// has the lines of a script.
+/// line. Out of memory ends it as `Ending::Failed`. Before the fleet is open nothing is written
+/// then, and later `fault NoMemory` in place of the text of the line that wanted it. The lines of a
+/// script are told in docs/REPLAY.md.
 pub fn replay_lines<R: BufRead, W: Write>(
     alloc: Global,
     script: &mut R,

@@ -49,8 +49,8 @@ pub fn hello_lines()
         → verdict ≡ hello_of me peers seated bytes }
 {}
 
-/// The last update id of a sender's table id is the explicit one of its last followed update, or,
-/// if that was incremental, the last explicit one (0 if none) and as many more as came since,
+/// The last update id of a sender's table id is the explicit one of its last followed update. If
+/// that was incremental, it is the last explicit one (0 if none) and as many more as came since,
 /// modulo 2^32.
 pub fn update_ids()
     ensures { (tables : List Shape) (id : ℕ) (past : List Message)

@@ -2,11 +2,11 @@
 //! acknowledgements.
 //!
 //! `fleet_core` stands on it, with a session for each connection. A session's meaning is `talk`, of
-//! the whole byte string so far, however it was cut into pieces: a hello of three lines, then
-//! messages of the peers protocol 2.1 (HAProxy's `doc/peers-v2.0.txt`, and the timed messages of
-//! version 2.1). `Session::feed` gives what the talk has with a piece beyond the talk without it,
-//! and a fault exactly where the talk ends, then for good; `laws` says the hello as a relation on
-//! whole lines, and counts update ids from the last explicit one. After `NoMemory` all is as it
+//! the whole byte string so far, however it was cut into pieces. That is a hello of three lines,
+//! then messages of the peers protocol 2.1 (HAProxy's `doc/peers-v2.0.txt`, and the timed messages
+//! of version 2.1). `Session::feed` gives what the talk has with a piece beyond the talk without
+//! it, and a fault exactly where the talk ends, then for good; `laws` says the hello as a relation
+//! on whole lines, and counts update ids from the last explicit one. After `NoMemory` all is as it
 //! was. A batch of facts may be given back to its session, which has its room for the next. No
 //! clause says when `feed` and `idle` are called, that memory is there, nor how fast it is.
 #![tactic(auto)]

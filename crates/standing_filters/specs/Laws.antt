@@ -48,8 +48,8 @@ ForgettingKeepsVerdicts = (before after : ℕ → List ℕ → Col → ℕ → �
     → AreVerdicts before living now old → IsForgotten table is_gone old new
     → AreVerdicts after lives now new
 
--- where every key had its verdict, and the clock has gone on to t, every key has its verdict once
--- those that were to change up to then are judged, by values that are the same from t on
+-- Every key had its verdict, and the clock has gone on to t. Those that were to change up to then
+-- are judged, by values that are the same from t on. Then every key has its verdict.
 abbrev pub MomentKeepsVerdicts : Type 0
 MomentKeepsVerdicts = (before after : ℕ → List ℕ → Col → ℕ → ℕ) (living lives : ℕ → List ℕ → ℕ → ℕ)
     (now t : ℕ) (old new : Watched) → now ≤ t

@@ -39,8 +39,8 @@ impl Verdict {
 }
 
 /// Judges a key at a moment, in ms. Reads at most 505 values where they stay from 2^33 ms on, and
-/// one of each condition up to the first that fails for good; none where the most that the key is
-/// ever worth can't meet a condition. Takes no memory.
+/// one of each condition up to the first that fails for good. Reads none where the most that the
+/// key is ever worth can't meet a condition. Takes no memory.
 pub fn judge<V: Values>(
     filter: &Filter,
     key: &Key,

@@ -22,8 +22,8 @@ pub fn forgetting_keeps_verdicts()
     ensures { ForgettingKeepsVerdicts }
 {}
 
-/// Where every key had its verdict and the clock has gone on, every key has its verdict again once
-/// those that were to change up to then are judged, though rows that have ended are gone.
+/// Where every key had its verdict and the clock has gone on, those that were to change up to then
+/// are judged. Then every key has its verdict again, though rows that have ended are gone.
 pub fn moment_keeps_verdicts()
     ensures { MomentKeepsVerdicts }
 {}

@@ -1,7 +1,7 @@
 //! Standing filters: whether a filter holds a key, and when the clock alone changes that.
 //!
 //! Books list the keys of filters by it, and name the moment at which a set changes next. `judge`
-//! reads one key's summed values, as they fall with time, and answers whether some row of it lives
+//! reads one key's summed values, as they fall with time. It answers whether some row of it lives
 //! and all conditions hold now, and the least later moment at which that is otherwise: to the
 //! millisecond, ends of rows included. `Standing` keeps these verdicts for all filters of a
 //! configuration, but for keys that a filter doesn't hold and never will by the clock alone. A key
@@ -10,26 +10,26 @@
 //!
 //! Promised: a verdict is exact; none is named as its change exactly where it never changes; at
 //! most 505 values are read for it where they stay from 2^33 ms on. A touch gives the key's
-//! verdicts at its moment and leaves all others, `moment` gives each key whose change has come its
-//! verdict then, however many changes were passed, and `add` adds a last filter, which has judged
-//! the keys one by one before (`begin`, `Adding`). Each changes nothing where it runs out of
-//! memory; `remove`, which takes a filter away, needs none. Nor do `forget` and `clear_table`,
-//! after which no filter of a table holds keys that have no row any more; they read no value.
-//! `keys` lends the keys whose verdict is that they are held, `planned` the moments at which
-//! verdicts change, each with its key, and `next_change` is the least of them.
+//! verdicts at its moment and leaves all others. `moment` gives each key whose change has come its
+//! verdict then, however many changes were passed. `add` adds a last filter, which has judged the
+//! keys one by one before (`begin`, `Adding`). Each changes nothing where it runs out of memory;
+//! `remove`, which takes a filter away, needs none. Nor do `forget` and `clear_table`, after which
+//! no filter of a table holds keys that have no row any more; they read no value. `keys` lends the
+//! keys whose verdict is that they are held, `planned` the moments at which verdicts change, each
+//! with its key, and `next_change` is the least of them.
 //!
 //! `Flips` take down which keys come into sets and which leave them, as `touch`, `moment` and
-//! `forget` change verdicts: of a filter and a key the last flip says whether it is held, and where
+//! `forget` change verdicts. Of a filter and a key the last flip says whether it is held, and where
 //! there is none that hasn't changed. Where memory for flips is refused they are lost, and no call
 //! fails for that.
 //!
 //! `fails_for_good` says of a condition that the most which values are ever worth settles it, for who
 //! lists keys by conditions too.
 //!
-//! That a key which can't come into a set again is known by one value of each condition, or by none
-//! where the values tell the most that a key is ever worth, is meant for speed, and no clause says
-//! so; nor that a verdict is searched for once where a filter is the last of its table, and by the
-//! hash of its key, so that keys in order are searched only where a verdict comes or goes.
+//! Two things are meant for speed, and no clause says them. A key which can't come into a set again
+//! is known by one value of each condition, or by none where the values tell the most that a key is
+//! ever worth. Where a filter is the last of its table, a verdict is searched for once. It is found
+//! by its key's hash, so that keys in order are searched only where a verdict comes or goes.
 #![tactic(auto)]
 
 mod adding;

@@ -11,7 +11,7 @@ use std::alloc::Global;
 const KEYS_ASKED: u32 = 1000;
 
 /// What stands: a filter on the rate that holds one key in a thousand, one on a count and one on
-/// the rate that hold every key, and a list of the ten keys with the greatest rates.
+/// the rate that hold every key. Beside them stands a list of the ten keys with the greatest rates.
 #[derive(Clone, Copy)]
 pub struct Standing {
     pub rare: bool,
