@@ -4,6 +4,7 @@ pub mod Col
 pub mod FaultName
 pub mod Fits
 pub mod Key
+pub mod Kind
 pub mod Name
 pub mod Naming
 pub mod Op

@@ -4,15 +4,15 @@ ghost use Rattle.std.specs.Str.{bytes_eq};
 ghost use Rattle.agg_types.specs.Col.{col_id};
 ghost use Rattle.agg_types.specs.FaultName.{config_fault_name};
 ghost use Rattle.agg_types.specs.Check.{FindsFirst, all_faults, ascends, each, filter_faults};
-ghost use Rattle.agg_types.specs.Check.{hold_fits, is_within, len_fits, peer_faults, period_fits};
+ghost use Rattle.agg_types.specs.Check.{hold_fits, is_within, peer_faults, period_fits};
 ghost use Rattle.agg_types.specs.Check.{push_faults, rank_faults, table_faults};
 
 use crate::fits::all_stored;
 use crate::limits::{
-    HOLD_END, LARGEST_SIZE, LONGEST_KEY, LONGEST_RANK, MOST_CONDS, MOST_FILTERS, MOST_PEERS,
-    MOST_PUSHES, MOST_RANKS, MOST_TABLES, PERIOD_END, SHORTEST_HOLD,
+    HOLD_END, LARGEST_SIZE, LONGEST_RANK, MOST_CONDS, MOST_FILTERS, MOST_PEERS, MOST_PUSHES,
+    MOST_RANKS, MOST_TABLES, PERIOD_END, SHORTEST_HOLD,
 };
-use crate::{Col, Config, Declared, Filter, KeyKind, Name, Named, Push, Rank, Shape};
+use crate::{Col, Config, Declared, Filter, Name, Named, Push, Rank, Shape};
 use std::error::Error;
 use std::fmt;
 
@@ -158,7 +158,7 @@ impl Checked for Shape {
         if !all_periods_fit(self.cols.as_slice()) {
             return Err(ConfigFault::BadPeriod);
         }
-        if !is_within(self.size, LARGEST_SIZE) || !len_fits(self.kind) {
+        if !is_within(self.size, LARGEST_SIZE) || !self.kind.length_fits() {
             return Err(ConfigFault::BadSize);
         }
         Ok(())
@@ -293,16 +293,7 @@ fn period_fits(col: Col, period: u32) -> bool
     }
 }
 
-fn len_fits(kind: KeyKind) -> bool
-    ensures { result ≡ len_fits kind }
-{
-    match kind {
-        KeyKind::Str(len) | KeyKind::Binary(len) => is_within(len, LONGEST_KEY),
-        KeyKind::Integer | KeyKind::Ip | KeyKind::Ipv6 => true,
-    }
-}
-
-fn is_within(number: u64, most: u64) -> bool
+pub(crate) fn is_within(number: u64, most: u64) -> bool
     ensures { result ≡ is_within number most }
 {
     1 <= number && number <= most

@@ -81,13 +81,7 @@ impl KeyKind {
     pub fn fits(self, key: &[u8]) -> bool
         ensures { result ≡ key_fits self key.now }
     {
-        let len = key.len() as u64;
-        match self {
-            KeyKind::Integer | KeyKind::Ip => len == 4,
-            KeyKind::Ipv6 => len == 16,
-            KeyKind::Str(most) => len <= most,
-            KeyKind::Binary(exact) => len == exact,
-        }
+        self.length().allows(key.len() as u64)
     }
 }
 

@@ -22,6 +22,7 @@ mod event;
 mod fits;
 mod items;
 mod key;
+mod kind;
 pub mod laws;
 mod lent_what;
 pub mod limits;
@@ -39,6 +40,7 @@ pub use declared::{Declared, Named};
 pub use event::{Cell, Event, Select, What};
 pub use items::Items;
 pub use key::Key;
+pub use kind::{KINDS, KeyLength, KindInfo};
 pub use lent_what::LentWhat;
 pub use limits::{
     LAST_MOMENT, LAST_SEAT, MOST_CONDS, MOST_FILTERS, MOST_PEERS, MOST_PUSHES, MOST_RANKS,
