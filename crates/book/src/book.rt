@@ -9,7 +9,7 @@ ghost use Rattle.fleet_model.specs.Answers.{filter_of, keys_of, listed, set_at, 
 ghost use Rattle.fleet_model.specs.Filters.{is_added};
 ghost use Rattle.fleet_model.specs.Machine.{after, counts_now, number_of, opened};
 ghost use Rattle.fleet_model.specs.Machine.{session_of};
-ghost use Rattle.fleet_model.specs.Next.{IsNextChange, IsNextChangeBy};
+ghost use Rattle.fleet_model.specs.Next.{IsNextChange};
 ghost use Rattle.fleet_model.specs.Ranking.{rank_of, ranked};
 ghost use Rattle.fleet_model.specs.Rows.{held_rows};
 ghost use Rattle.fleet_model.specs.Sound.{IsSound};
@@ -29,7 +29,6 @@ use crate::ranking::Ranked;
 use crate::sets::keys_held;
 use crate::verdicts::{Verdicts, held_keys};
 use agg_types::{Cond, Config, Event, Key, LentWhat, NoMemory};
-use book_frame::keys::are_same;
 use book_frame::seats;
 use book_frame::seats::has_free_seat;
 use book_frame::standing::{added_at, cols_of, filter_at};
@@ -307,15 +306,10 @@ impl Book {
         }
     }
 
-    /// The keys that a standing filter holds at a moment, in ms, if only the clock goes on until
-    /// then.
+    // The keys that a standing filter holds at a moment, in ms, if only the clock goes on until
+    // then.
     #[tactic(auto, unfolding(fleet_model::specs::Answers::set_at))]
-    pub fn filter_keys_at(
-        &self,
-        alloc: Global,
-        filter: usize,
-        t: u64,
-    ) -> Result<Vec<&Key>, NoMemory>
+    fn filter_keys_at(&self, alloc: Global, filter: usize, t: u64) -> Result<Vec<&Key>, NoMemory>
         requires { filter < length self.now.config.filters }
         ensures { IfOk result
             (λ keys. map (λ key. key.now) keys.items
@@ -333,30 +327,6 @@ impl Book {
         ensures { IfOk result (λ entries. entries ≡ ranked self.now (rank_of self.now rank)) }
     {
         Ok(Ranked::new(self.machine.top(alloc, rank)?))
-    }
-
-    /// The first moment above the book's, up to a last one, both in ms, at which a filter holds
-    /// other keys than now, if only the clock goes on. There is none where it holds the same up to
-    /// then. Judges each moment on the way, so it is for small inputs.
-    pub fn next_change_until(
-        &self,
-        alloc: Global,
-        filter: usize,
-        last: u64,
-    ) -> Result<Option<u64>, NoMemory>
-        requires { filter < length self.now.config.filters }
-        ensures { IfOk result (IsNextChangeBy self.now (filter_of self.now filter) last) }
-    {
-        let now = self.filter_keys(alloc, filter)?;
-        let moment = self.moment();
-        for ms in 0..last.saturating_sub(moment) {
-            let t = moment + ms + 1;
-            let then = self.filter_keys_at(alloc, filter, t)?;
-            if !are_same(now.as_slice(), then.as_slice()) {
-                return Ok(Some(t));
-            }
-        }
-        Ok(None)
     }
 
     /// The first moment above the book's, in ms, at which a filter holds other keys than now, if
