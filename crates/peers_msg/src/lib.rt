@@ -19,7 +19,7 @@ mod feed;
 mod framing;
 mod given;
 mod integer;
-mod kinds;
+pub mod kinds;
 pub mod laws;
 mod message;
 mod payload;
