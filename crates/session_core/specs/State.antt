@@ -4,6 +4,7 @@ use Rattle.std.specs.Prelude.{if◌then◌else◌, List, [], ◌++◌, length, S
 use Rattle.session_core.specs.declared.batch.SessionFault.{SessionFault}
 use Rattle.session_core.specs.declared.cause.SessionCause.{SessionCause}
 use Rattle.session_core.specs.declared.cause.SessionCause.TheVariants as cause
+use Rattle.session_core.specs.declared.session.TheConstants.{BEAT_AFTER, LONGEST_SILENCE}
 use Rattle.session_core.specs.declared.session.Idle.{Idle}
 use Rattle.session_core.specs.declared.session.Idle.TheVariants.{Nothing, Beat, Ended}
 use Rattle.session_core.specs.declared.stage.Stage.{Stage}
@@ -76,12 +77,13 @@ Answers (Err fault) old new piece now taken =
 abbrev pub timed_out : Stage → Stage
 timed_out stage = Over (end_by_silence stage) (peer_of stage)
 
--- ended for good after 5,000 ms of silence, a beat 3,000 ms after the last output or beat of an
--- accepted session
+-- ended for good after the longest silence; a beat when it is due after the last output or beat of
+-- an accepted session
 abbrev pub idle_of : SessionState → ℕ → Idle
 idle_of session now =
-    if session.late || nat_le 5000 (now - session.last_input) then Ended
-    else if is_some (peer_of session.stage) && nat_le 3000 (now - session.last_output) then Beat
+    if session.late || nat_le LONGEST_SILENCE (now - session.last_input) then Ended
+    else if is_some (peer_of session.stage)
+    && nat_le BEAT_AFTER (now - session.last_output) then Beat
     else Nothing
 
 abbrev pub after_idle : SessionState → ℕ → Idle → SessionState

@@ -10,8 +10,10 @@ use Rattle.peers_msg.specs.declared.message.Definition.{Definition}
 use Rattle.peers_msg.specs.declared.message.Message.{Message}
 use Rattle.peers_msg.specs.declared.message.Message.TheVariants as messages
 use Rattle.peers_msg.specs.Payload.{◌>>=◌}
+use Rattle.agg_types.specs.Kind.{kind_length, kind_number}
 use Rattle.agg_types.specs.declared.config.KeyKind.{KeyKind}
-use Rattle.agg_types.specs.declared.config.KeyKind.TheVariants.{Integer, Ip, Ipv6, Str, Binary}
+use Rattle.agg_types.specs.declared.kind.KeyLength.{KeyLength}
+use Rattle.agg_types.specs.declared.kind.KeyLength.TheVariants.{Exactly, AtMost}
 use Rattle.agg_types.specs.declared.config.Shape.{Shape}
 use Rattle.agg_types.specs.declared.event.What.{What}
 use Rattle.agg_types.specs.declared.event.What.TheVariants.{Put}
@@ -28,13 +30,15 @@ pub record Tracked : Type 0 where
   pub entries : List Entry
   pub current : Option ℕ
 
--- whether a definition's key is that of a table; the length of a string key isn't compared
+-- whether a definition's length of keys is a table's; where a table's keys differ in length, it
+-- isn't compared
+abbrev pub is_length_of : KeyLength → ℕ → Bool
+is_length_of (Exactly exact) len = len == exact
+is_length_of (AtMost most) len = true
+
+-- whether a definition's key is that of a table: its number and its length
 abbrev pub is_key_of : KeyKind → ℕ → ℕ → Bool
-is_key_of Integer kind len = kind == 2 && len == 4
-is_key_of Ip kind len = kind == 4 && len == 4
-is_key_of Ipv6 kind len = kind == 5 && len == 16
-is_key_of (Str most) kind len = kind == 6
-is_key_of (Binary exact) kind len = kind == 7 && len == exact
+is_key_of kind number len = number == kind_number kind && is_length_of (kind_length kind) len
 
 -- what a definition says for the table at this position
 abbrev pub followed_as : ℕ → Definition → Followed

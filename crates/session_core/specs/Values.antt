@@ -6,10 +6,12 @@ use Rattle.std.specs.Prelude.{None}
 use Rattle.std.specs.List.{list_any}
 use Rattle.peers_msg.specs.Payload.{◌>>=◌, number_at, string_at}
 use Rattle.agg_types.specs.Col.{all_cols, col_id, is_rate, is_wide}
+use Rattle.agg_types.specs.Kind.{kind_length}
 use Rattle.agg_types.specs.declared.column.Col.{Col}
 use Rattle.agg_types.specs.declared.column.TheConstants.{LAST_TYPE}
 use Rattle.agg_types.specs.declared.config.KeyKind.{KeyKind}
-use Rattle.agg_types.specs.declared.config.KeyKind.TheVariants.{Integer, Ip, Ipv6, Str, Binary}
+use Rattle.agg_types.specs.declared.kind.KeyLength.{KeyLength}
+use Rattle.agg_types.specs.declared.kind.KeyLength.TheVariants.{Exactly, AtMost}
 use Rattle.agg_types.specs.declared.event.Cell.{Cell}
 use Rattle.agg_types.specs.declared.event.Cell.TheVariants as cells
 use Rattle.session_core.specs.declared.values.Sent.{Sent}
@@ -30,13 +32,14 @@ text_at len bytes = do
   text ← string_at bytes
   Some (take len text.0, text.1)
 
+-- a key of this length, and the bytes after it; where keys differ in length, theirs stands first
+abbrev pub key_of_length : KeyLength → List ℕ → Option (List ℕ × List ℕ)
+key_of_length (Exactly exact) bytes = bytes_at exact bytes
+key_of_length (AtMost most) bytes = text_at most bytes
+
 -- the key of a row, and the bytes after it
 abbrev pub key_at : KeyKind → List ℕ → Option (List ℕ × List ℕ)
-key_at Integer bytes = bytes_at 4 bytes
-key_at Ip bytes = bytes_at 4 bytes
-key_at Ipv6 bytes = bytes_at 16 bytes
-key_at (Str len) bytes = text_at len bytes
-key_at (Binary len) bytes = bytes_at len bytes
+key_at kind bytes = key_of_length (kind_length kind) bytes
 
 -- whether a definition has a data type
 abbrev pub has_type : ℕ → ℕ → Bool

@@ -7,15 +7,11 @@ ghost use Rattle.session_core.specs.Piece.{nothing};
 
 use crate::SessionCause;
 use agg_types::Whats;
+use peers_msg::kinds::{CONTROL_CLASS, RESYNC_PARTIAL};
 use std::alloc::Global;
 use std::marker::Model;
 use std::mem;
 use thiserror::Error;
-
-// The two bytes of the message `partial`.
-const CONTROL: u8 = 0;
-
-const PARTIAL: u8 = 2;
 
 /// What a piece gives: facts for the fleet, replies, and acknowledgements, which are sent after the
 /// replies.
@@ -129,7 +125,7 @@ fn has_partial(replies: &[u8]) -> bool
 {
     let mut left = replies;
     'pairs: while let [class, kind, rest @ ..] = left {
-        if *class == CONTROL && *kind == PARTIAL {
+        if *class == CONTROL_CLASS && *kind == RESYNC_PARTIAL {
             return true;
         }
         left = rest;

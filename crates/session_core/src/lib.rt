@@ -28,4 +28,4 @@ mod values;
 
 pub use batch::{Batch, SessionFault};
 pub use cause::{SessionCause, Status};
-pub use session::{Idle, Session};
+pub use session::{BEAT_AFTER, Idle, LONGEST_SILENCE, Session};

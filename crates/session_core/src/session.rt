@@ -15,10 +15,10 @@ use std::marker::Model;
 use std::mem;
 
 /// How long a session may be silent, in ms, before it is ended.
-const LONGEST_SILENCE: u64 = 5000;
+pub const LONGEST_SILENCE: u64 = 5000;
 
 /// How long nothing may be sent, in ms, before a heartbeat is.
-const BEAT_AFTER: u64 = 3000;
+pub const BEAT_AFTER: u64 = 3000;
 
 /// What is to be done when nothing was read.
 #[derive(Clone, Copy, Debug, PartialEq, Eq)]
@@ -27,7 +27,7 @@ pub enum Idle {
     Nothing,
     /// A heartbeat is to be sent.
     Beat,
-    /// The session is over: nothing came for 5,000 ms.
+    /// The session is over: nothing came for `LONGEST_SILENCE` ms.
     Ended,
 }
 

@@ -20,7 +20,7 @@ use crate::run::clear_updated;
 use crate::undo::{Change, note, take_back};
 use crate::values::{TYPES, key_at, life_of, periods_of};
 use agg_types::limits::MOST_FOLLOWED;
-use agg_types::{Cell, Col, Declared, Key, KeyKind, NoMemory, Shape, Whats};
+use agg_types::{Cell, Col, Declared, Key, KeyKind, KeyLength, NoMemory, Shape, Whats};
 use peers_msg::{Definition, LentMessage, WireCause};
 use std::alloc::Global;
 
@@ -84,13 +84,11 @@ impl std::marker::Model for Track {
 fn is_key_of(kind: KeyKind, sent: u64, len: u64) -> bool
     ensures { result ≡ is_key_of kind sent len }
 {
-    match kind {
-        KeyKind::Integer => sent == 2 && len == 4,
-        KeyKind::Ip => sent == 4 && len == 4,
-        KeyKind::Ipv6 => sent == 5 && len == 16,
-        KeyKind::Str(_) => sent == 6,
-        KeyKind::Binary(exact) => sent == 7 && len == exact,
-    }
+    sent == kind.number()
+        && match kind.length() {
+            KeyLength::Exactly(exact) => len == exact,
+            KeyLength::AtMost(_) => true,
+        }
 }
 
 /// What is kept of a definition, if it is followed: its table's name is configured, and its key is

@@ -6,7 +6,7 @@ ghost use Rattle.peers_msg.specs.Payload.{number_at, string_at};
 ghost use Rattle.session_core.specs.Values.{bytes_at, text_at, key_at, has_type, is_rate_type};
 ghost use Rattle.session_core.specs.Values.{periods_of, elapsed_of, life_of};
 
-use agg_types::{Col, KeyKind, LAST_TYPE};
+use agg_types::{Col, KeyKind, KeyLength, LAST_TYPE};
 use peers_msg::get_int;
 
 /// How many data types come before those that are trailing bytes.
@@ -32,11 +32,9 @@ pub(crate) enum Sent {
 pub(crate) fn key_at(kind: KeyKind, bytes: &[u8]) -> Option<(&[u8], &[u8])>
     ensures { option_map (λ x. (x.0.now, x.1.now)) result ≡ key_at kind bytes.now }
 {
-    match kind {
-        KeyKind::Integer | KeyKind::Ip => bytes_at(4, bytes),
-        KeyKind::Ipv6 => bytes_at(16, bytes),
-        KeyKind::Str(len) => text_at(len, bytes),
-        KeyKind::Binary(len) => bytes_at(len, bytes),
+    match kind.length() {
+        KeyLength::Exactly(exact) => bytes_at(exact, bytes),
+        KeyLength::AtMost(most) => text_at(most, bytes),
     }
 }
 
