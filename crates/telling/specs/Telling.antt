@@ -4,8 +4,10 @@ use Rattle.std.specs.Prelude.{List, [], ◌∷◌, ◌++◌, length, map, filter
 use Rattle.std.specs.Prelude.{Some, option_to_list, slice_get}
 use Rattle.std.specs.List.{flat_map}
 use Rattle.std.specs.Option.{option_map, option_map_or}
+use Rattle.agg_types.specs.Kind.{kind_length, kind_number}
 use Rattle.agg_types.specs.declared.config.KeyKind.{KeyKind}
-use Rattle.agg_types.specs.declared.config.KeyKind.TheVariants.{Integer, Ip, Ipv6, Str, Binary}
+use Rattle.agg_types.specs.declared.kind.KeyLength.{KeyLength}
+use Rattle.agg_types.specs.declared.kind.KeyLength.TheVariants.{Exactly, AtMost}
 use Rattle.agg_types.specs.declared.limits.TheConstants.{LONGEST_KEY}
 use Rattle.peers_msg.specs.Spelling.{integer_spelling, message_spelling}
 use Rattle.peers_msg.specs.declared.message.Definition.{Definition}
@@ -22,29 +24,23 @@ use Rattle.telling.specs.declared.pushed.Pushed.{Pushed}
 use Rattle.telling.specs.declared.told.Mark.{Mark}
 use Rattle.telling.specs.declared.told.ToldTable.{ToldTable}
 
--- the number of a key's type in a definition
-abbrev pub type_number : KeyKind → ℕ
-type_number Integer = 2
-type_number Ip = 4
-type_number Ipv6 = 5
-type_number (Str len) = 6
-type_number (Binary len) = 7
+-- a length of keys in a definition, in bytes; where keys differ in length, it counts one more
+abbrev pub length_told : KeyLength → ℕ
+length_told (Exactly exact) = exact
+length_told (AtMost most) = min most LONGEST_KEY + 1
 
--- the length of a key in a definition, in bytes; that of a string key counts one more
+-- the length of a kind's keys in a definition
 abbrev pub key_length : KeyKind → ℕ
-key_length Integer = 4
-key_length Ip = 4
-key_length Ipv6 = 16
-key_length (Str len) = min len LONGEST_KEY + 1
-key_length (Binary len) = len
+key_length kind = length_told (kind_length kind)
 
--- a string key stands behind its length
+-- a key, which stands behind its own length where keys differ in length
+abbrev pub spelling_under : KeyLength → List ℕ → List ℕ
+spelling_under (Exactly exact) key = key
+spelling_under (AtMost most) key = integer_spelling (length key) ++ key
+
+-- a key as its kind's updates have it
 abbrev pub key_spelling : KeyKind → List ℕ → List ℕ
-key_spelling Integer key = key
-key_spelling Ip key = key
-key_spelling Ipv6 key = key
-key_spelling (Str len) key = integer_spelling (length key) ++ key
-key_spelling (Binary len) key = key
+key_spelling kind key = spelling_under (kind_length kind) key
 
 -- a pushed table, which stores gpc0 alone
 abbrev pub definition_of : ℕ → Pushed → Definition
@@ -52,7 +48,7 @@ definition_of id pushed =
     record {
       id = id;
       name = pushed.name;
-      kind = type_number pushed.kind;
+      kind = kind_number pushed.kind;
       len = key_length pushed.kind;
       bits = 4;
       expiry = pushed.life;

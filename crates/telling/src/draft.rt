@@ -5,21 +5,14 @@ ghost use Rattle.peers_msg.specs.Kinds.{table_definition, timed_update};
 ghost use Rattle.peers_msg.specs.Spelling.{definition_spelling, message_spelling, table_spelling};
 ghost use Rattle.peers_msg.specs.Spelling.{payload_spelling};
 ghost use Rattle.peers_msg.specs.declared.message.Message.TheVariants.{Define};
-ghost use Rattle.telling.specs.Telling.{definition_of, key_length, key_spelling, type_number};
-ghost use Rattle.telling.specs.Telling.{update_of};
+ghost use Rattle.telling.specs.Telling.{definition_of, key_length, key_spelling, update_of};
 
 use crate::{Change, Pushed};
 use agg_types::limits::LONGEST_KEY;
-use agg_types::{Col, KeyKind, NoMemory};
+use agg_types::{Col, KeyKind, KeyLength, NoMemory};
+use peers_msg::kinds::{TABLE_CLASS, TABLE_DEFINITION, TIMED_UPDATE};
 use peers_msg::put_int;
 use std::alloc::Global;
-
-// The class of a stick table's messages, and the types of these that are written.
-const TABLE_CLASS: u8 = 10;
-
-const TABLE_DEFINITION: u8 = 130;
-
-const TIMED_UPDATE: u8 = 133;
 
 // The life of a key that is taken away, in ms.
 const GONE: u32 = 1;
@@ -87,7 +80,7 @@ fn append_fields(id: u64, pushed: &Pushed, out: &mut Vec<u8>) -> Result<(), NoMe
     put_int(id, out)?;
     put_int(name.len() as u64, out)?;
     out.extend_from_slice(name)?;
-    put_int(type_number(pushed.kind), out)?;
+    put_int(pushed.kind.number(), out)?;
     put_int(key_length(pushed.kind), out)?;
     put_int(stored_types(), out)?;
     put_int(u64::from(pushed.life), out)
@@ -125,33 +118,18 @@ fn append_update(
 fn append_key(kind: KeyKind, key: &[u8], out: &mut Vec<u8>) -> Result<(), NoMemory>
     ensures { OnOk result (out.new.items ≡ out.old.items ++ key_spelling kind key.now) }
 {
-    if let KeyKind::Str(_) = kind {
+    if let KeyLength::AtMost(_) = kind.length() {
         put_int(key.len() as u64, out)?;
     }
     Ok(out.extend_from_slice(key)?)
-}
-
-// The number of a key's type in a definition.
-fn type_number(kind: KeyKind) -> u64
-    ensures { result ≡ type_number kind }
-{
-    match kind {
-        KeyKind::Integer => 2,
-        KeyKind::Ip => 4,
-        KeyKind::Ipv6 => 5,
-        KeyKind::Str(_) => 6,
-        KeyKind::Binary(_) => 7,
-    }
 }
 
 // The length of a key in a definition, in bytes.
 fn key_length(kind: KeyKind) -> u64
     ensures { result ≡ key_length kind }
 {
-    match kind {
-        KeyKind::Integer | KeyKind::Ip => 4,
-        KeyKind::Ipv6 => 16,
-        KeyKind::Str(len) => len.min(LONGEST_KEY) + 1,
-        KeyKind::Binary(len) => len,
+    match kind.length() {
+        KeyLength::Exactly(exact) => exact,
+        KeyLength::AtMost(most) => most.min(LONGEST_KEY) + 1,
     }
 }

@@ -12,6 +12,7 @@ use Rattle.std.proofs.lemmas.Bool.Decides.{nat_tests}
 use Rattle.std.proofs.lemmas.Cmp.{nat_eq_equiv}
 use Rattle.std.proofs.lemmas.List.{drop_at, take_at}
 use Rattle.agg_types.specs.Fits.{key_fits}
+use Rattle.agg_types.specs.Kind.{kind_number}
 use Rattle.agg_types.specs.declared.config.KeyKind.{KeyKind}
 use Rattle.agg_types.specs.declared.config.KeyKind.TheVariants.{Integer, Ip, Ipv6, Str, Binary}
 use Rattle.peers_msg.specs.Payload.{◌>>=◌, number_at, string_at}
@@ -23,7 +24,7 @@ use Rattle.peers_msg.proofs.Numerals.{number_again}
 use Rattle.telling.specs.Stands.{stands}
 use Rattle.telling.specs.Told.{no_table}
 use Rattle.telling.specs.Telling.{TableTurn, changes, definition_of, key_length, key_spelling}
-use Rattle.telling.specs.Telling.{next_id, table_turn, table_turns, type_number, update_of, updates}
+use Rattle.telling.specs.Telling.{next_id, table_turn, table_turns, update_of, updates}
 use Rattle.telling.specs.declared.change.Change.{Change}
 use Rattle.telling.specs.declared.change.Change.TheVariants.{Put, TakeAway}
 use Rattle.telling.specs.declared.change.Turn.{Turn}
@@ -92,7 +93,7 @@ equal a b e = grind (arith, nat_tests)
 
 key_again : (kind : KeyKind) (key : List ℕ) (change : Change) → key_fits kind key ≡ true
     → length key ≤ 256
-    → key_and_count (type_number kind) (key_length kind)
+    → key_and_count (kind_number kind) (key_length kind)
     (key_spelling kind key ++ flag change ∷ []) ≡ Some (key, flag change)
 key_again Integer key change fits short =
     fixed_again 4 key (flag change) (equal (length key) 4 fits) ∙ flag_read key change
@@ -194,7 +195,7 @@ other_entry : (id other : ℕ) (table : Pushed) (now : ℕ) (key : List ℕ) (u 
     ≡ newest id key entries
 other_entry id other table now key (messages.Update n (Some life) rest) entries e =
     other_made id other (now + life) key
-    (key_and_count (type_number table.kind) (key_length table.kind) rest) entries e
+    (key_and_count (kind_number table.kind) (key_length table.kind) rest) entries e
 other_entry id other table now key (messages.Update n None rest) entries e = refl
 other_entry id other table now key messages.Request entries e = refl
 other_entry id other table now key messages.Finished entries e = refl

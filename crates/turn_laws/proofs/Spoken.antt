@@ -6,6 +6,7 @@ use Rattle.std.specs.Prelude.{nat_eq, slice_index_or}
 use Rattle.std.specs.Int.{w32, to_be_bytes}
 use Rattle.std.specs.List.{AllByRecursion}
 use Rattle.std.proofs.lemmas.Cmp.{nat_eq_equiv}
+use Rattle.agg_types.specs.Kind.{kind_number}
 use Rattle.agg_types.specs.declared.config.KeyKind.{KeyKind}
 use Rattle.agg_types.specs.declared.config.KeyKind.TheVariants.{Integer, Ip, Ipv6, Str, Binary}
 use Rattle.agg_types.specs.declared.limits.TheConstants.{LONGEST_KEY, LONGEST_PAYLOAD}
@@ -21,7 +22,7 @@ use Rattle.telling.specs.Told.{Told, no_table}
 use Rattle.telling.specs.Telling.{TableTurn, changes, defined_after, defined_before, define_unless}
 use Rattle.telling.specs.Telling.{definition_of, definitions, first_definitions, key_length}
 use Rattle.telling.specs.Telling.{key_spelling, next_id, table_turn, table_turns, text_of}
-use Rattle.telling.specs.Telling.{turn_at, turn_text, turns, type_number, update_messages}
+use Rattle.telling.specs.Telling.{turn_at, turn_text, turns, update_messages}
 use Rattle.telling.specs.Telling.{update_of, updates, with_definition}
 use Rattle.telling.specs.declared.change.Change.{Change}
 use Rattle.telling.specs.declared.change.Change.TheVariants.{Put, TakeAway}
@@ -58,7 +59,7 @@ spoken_append (m ∷ ms) ns h k = (h.0, spoken_append ms ns h.1 k)
 
 -- ---- each message
 
-type_small : (kind : KeyKind) → type_number kind < 8
+type_small : (kind : KeyKind) → kind_number kind < 8
 type_small Integer = omega arith
 type_small Ip = omega arith
 type_small Ipv6 = omega arith
@@ -68,14 +69,14 @@ type_small (Binary len) = omega arith
 definition_spoken : (id : ℕ) (table : Pushed) → id < 2 ^ 64 → IsTable table
     → IsSpoken (messages.Define (definition_of id table))
 definition_spoken id table small h =
-    let kind : type_number table.kind < 2 ^ 64 = omega (arith, type_small table.kind) in
+    let kind : kind_number table.kind < 2 ^ 64 = omega (arith, type_small table.kind) in
     let life : table.life < 2 ^ 64 = omega (arith, h.life) in
     let named : length table.name < 2 ^ 64 = omega (arith, h.name) in
     let l1 : length (integer_spelling id) ≤ 10 = spelling_len id small in
     let l2 : length (integer_spelling (length table.name)) ≤ 10 =
     spelling_len (length table.name) named in
-    let l3 : length (integer_spelling (type_number table.kind)) ≤ 10 =
-    spelling_len (type_number table.kind) kind in
+    let l3 : length (integer_spelling (kind_number table.kind)) ≤ 10 =
+    spelling_len (kind_number table.kind) kind in
     let l4 : length (integer_spelling (key_length table.kind)) ≤ 10 =
     spelling_len (key_length table.kind) h.length in
     let l5 : length (integer_spelling 4) ≤ 10 = spelling_len 4 (omega arith) in

@@ -6,6 +6,8 @@ use Rattle.std.specs.List.{AllByRecursion}
 use Rattle.std.specs.Option.{option_map}
 use Rattle.std.specs.Str.{bytes_eq}
 use Rattle.agg_types.specs.Fits.{key_fits}
+use Rattle.agg_types.specs.Kind.{kind_number}
+use Rattle.agg_types.specs.declared.config.KeyKind.TheVariants.{Str}
 use Rattle.peers_msg.specs.Message.{reading_of}
 use Rattle.peers_msg.specs.Payload.{◌>>=◌, number_at, string_at}
 use Rattle.peers_msg.specs.declared.message.Definition.{Definition}
@@ -36,11 +38,15 @@ new_receiver = record { force = None; entries = [] }
 abbrev pub with_count : List ℕ → List ℕ → Option (List ℕ × ℕ)
 with_count key rest = number_at rest >>= λ count. Some (key, count.0)
 
+-- the number of strings, whatever their length
+abbrev pub string_number : ℕ
+string_number = kind_number (Str 0)
+
 -- the key and the count of an update, by its table's type and length of keys: a string stands
 -- behind its length, and any other key has the table's
 abbrev pub key_and_count : ℕ → ℕ → List ℕ → Option (List ℕ × ℕ)
 key_and_count kind len rest =
-    if kind == 6 then (string_at rest >>= λ text. with_count text.0 text.1)
+    if kind == string_number then (string_at rest >>= λ text. with_count text.0 text.1)
     else if nat_lt (length rest) len then None
     else with_count (take len rest) (drop len rest)
 
