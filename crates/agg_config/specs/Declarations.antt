@@ -3,11 +3,11 @@ use Rattle.std.specs.Prelude.{ℕ, ◌==◌, if◌then◌else◌, List, length, 
 use Rattle.std.specs.Prelude.{nat_eq}
 use Rattle.std.specs.Prelude.{Result, Ok, Err}
 use Rattle.std.specs.Str.{bytes_eq}
+use Rattle.agg_types.specs.Kind.{kind_named, takes_length, with_length}
 use Rattle.agg_types.specs.declared.column.Col.{Col}
 use Rattle.agg_types.specs.declared.config.KeyKind.{KeyKind}
-use Rattle.agg_types.specs.declared.config.KeyKind.TheVariants.{Integer, Ip, Ipv6, Str, Binary}
 use Rattle.line_words.specs.Reader.{◌>>=◌, Left, column, end, keyword, left_of, missing, number}
-use Rattle.line_words.specs.Reader.{word, wrong}
+use Rattle.line_words.specs.Reader.{said_by, word, wrong}
 use Rattle.line_words.specs.Words.{are_comment, words}
 use Rattle.line_words.specs.declared.misread.Expected.TheVariants.{Name, Keyword, Condition}
 use Rattle.line_words.specs.declared.misread.Misread.{Misread}
@@ -38,27 +38,21 @@ length_of left = do
   len ← keyword (codes "len") left
   number len.1
 
--- a kind of keys that has a length
-abbrev pub kind_of_length : (ℕ → KeyKind) → Left → Result (Result KeyKind Misread × Left) Misread
+-- a kind of keys with the length that stands behind it
+abbrev pub kind_of_length : KeyKind → Left → Result (Result KeyKind Misread × Left) Misread
 kind_of_length kind left = do
   len ← length_of left
-  Ok (len.0 >>= λ bytes. Ok (kind bytes), len.1)
+  Ok (len.0 >>= λ bytes. Ok (with_length kind bytes), len.1)
 
--- `integer`, `ip`, `ipv6`, `string len <n>` or `binary len <n>`; this is the place of the first
-abbrev pub kind_named :
-    ℕ → List ℕ → Left → Result (Result KeyKind Misread × Left) Misread
-kind_named place kind left =
-    if bytes_eq kind (codes "integer") then Ok (Ok Integer, left)
-    else if bytes_eq kind (codes "ip") then Ok (Ok Ip, left)
-    else if bytes_eq kind (codes "ipv6") then Ok (Ok Ipv6, left)
-    else if bytes_eq kind (codes "string") then kind_of_length Str left
-    else if bytes_eq kind (codes "binary") then kind_of_length Binary left
-    else Err (wrong place Keyword)
+-- the same, where a declaration gives the kind a length
+abbrev pub kind_behind : KeyKind → Left → Result (Result KeyKind Misread × Left) Misread
+kind_behind kind left = if takes_length kind then kind_of_length kind left else Ok (Ok kind, left)
 
+-- the name of a kind, and `len <n>` where a declaration gives the kind a length
 unfoldable pub key_kind : Left → Result (Result KeyKind Misread × Left) Misread
 key_kind left = do
-  kind ← word Keyword left
-  kind_named left.number kind.0 kind.1
+  kind ← said_by Keyword kind_named left
+  kind_behind kind.0 kind.1
 
 -- a table of these words, where its numbers are known
 unfoldable pub shape :

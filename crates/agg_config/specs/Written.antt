@@ -6,6 +6,7 @@ use Rattle.std.specs.List.{flat_map, join_with_byte, list_all}
 use Rattle.std.specs.Option.{option_map_or}
 use Rattle.agg_types.specs.Check.{ascends, hold_fits, is_within, len_fits, period_fits}
 use Rattle.agg_types.specs.Col.{col_id, col_name, is_rate}
+use Rattle.agg_types.specs.Kind.{given_length, kind_name}
 use Rattle.agg_types.specs.Name.{is_name}
 use Rattle.agg_types.specs.declared.column.Col.{Col}
 use Rattle.agg_types.specs.declared.config.Cond.{Cond}
@@ -13,7 +14,6 @@ use Rattle.agg_types.specs.declared.config.Config.{Config}
 use Rattle.agg_types.specs.declared.config.Filter as Filters
 use Rattle.agg_types.specs.declared.config.Rank as Ranks
 use Rattle.agg_types.specs.declared.config.KeyKind.{KeyKind}
-use Rattle.agg_types.specs.declared.config.KeyKind.TheVariants.{Integer, Ip, Ipv6, Str, Binary}
 use Rattle.agg_types.specs.declared.config.Shape.{Shape}
 use Rattle.agg_types.specs.declared.limits.TheConstants.{LARGEST_SIZE, LONGEST_RANK, MOST_CONDS}
 use Rattle.line_words.specs.Operators.{operator_word}
@@ -21,13 +21,14 @@ use Rattle.agg_config.specs.declared.declarations.Declaration.{Declaration}
 use Rattle.agg_config.specs.declared.declarations.Declaration.TheVariants.{Me, Peer, Table, Filter}
 use Rattle.agg_config.specs.declared.declarations.Declaration.TheVariants.{Rank, Push}
 
--- the words for a kind of keys
+-- `len` and a length, where there is one
+abbrev pub length_words : Option ℕ → List (List ℕ)
+length_words None = []
+length_words (Some len) = codes "len" ∷ decimal len ∷ []
+
+-- the words for a kind of keys: its name, and the length that a declaration gives it
 abbrev pub kind_words : KeyKind → List (List ℕ)
-kind_words Integer = codes "integer" ∷ []
-kind_words Ip = codes "ip" ∷ []
-kind_words Ipv6 = codes "ipv6" ∷ []
-kind_words (Str len) = codes "string" ∷ codes "len" ∷ decimal len ∷ []
-kind_words (Binary len) = codes "binary" ∷ codes "len" ∷ decimal len ∷ []
+kind_words kind = kind_name kind ∷ length_words (given_length kind)
 
 -- a stored column: a rate has its period in parentheses, a count none
 abbrev pub column_text : Col × ℕ → List ℕ

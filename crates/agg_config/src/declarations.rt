@@ -111,20 +111,13 @@ fn key_kind(words: &mut Words<'_>) -> Result<Result<KeyKind, Misread>, Misread>
     ensures { Reads (λ x. x) (key_kind words.old) result words.new }
 {
     let place = words.place();
-    let kind = words.word(Expected::Keyword)?;
-    if kind == b"integer".as_slice() {
-        Ok(Ok(KeyKind::Integer))
-    } else if kind == b"ip".as_slice() {
-        Ok(Ok(KeyKind::Ip))
-    } else if kind == b"ipv6".as_slice() {
-        Ok(Ok(KeyKind::Ipv6))
-    } else if kind == b"string".as_slice() {
-        Ok(length(words)?.map(KeyKind::Str))
-    } else if kind == b"binary".as_slice() {
-        Ok(length(words)?.map(KeyKind::Binary))
-    } else {
-        Err(Misread::wrong(place, Expected::Keyword))
+    let Some(kind) = KeyKind::from_name(words.word(Expected::Keyword)?) else {
+        return Err(Misread::wrong(place, Expected::Keyword));
+    };
+    if !kind.takes_length() {
+        return Ok(Ok(kind));
     }
+    Ok(length(words)?.map(|len| kind.with_length(len)))
 }
 
 // The length of keys, or why it is no number.

@@ -13,7 +13,8 @@ use Rattle.agg_types.specs.declared.config.Shape.{Shape}
 use Rattle.agg_config.specs.Written.{column_text, condition_words, hold_words, kind_words}
 use Rattle.agg_config.specs.Written.{store_words, table_name, text_of}
 use Rattle.config_text.specs.Spaced.{filter_line, filter_words, parts_text, push_line, push_words}
-use Rattle.config_text.specs.Spaced.{spaced, stored_words, table_line, table_words}
+use Rattle.config_text.specs.Spaced.{spaced, stored_words, table_end, table_line}
+use Rattle.config_text.specs.Spaced.{table_words}
 
 -- what is joined by a byte is the first, and each other behind that byte
 joined : (c : ℕ) (first : List ℕ) (rest : List (List ℕ))
@@ -51,12 +52,18 @@ push_ended push =
     ∙ ap (λ xs. codes "push" ++ 32 ∷ xs)
     (append_assoc push.name (spaced (hold_words push.hold)) (10 ∷ []))
 
--- the line of a table
-pub table_ended : (shape : Shape) → table_line shape ≡ table_words shape
-table_ended shape =
+-- the line of a table, whatever the words for its kind of keys are
+ended_with : (shape : Shape) (words : List (List ℕ)) → join_with_byte 32 (codes "table"
+    ∷ shape.name ∷ codes "type" ∷ (words ++ codes "size" ∷ decimal shape.size
+    ∷ store_words shape.cols)) ++ 10 ∷ []
+    ≡ codes "table" ++ 32 ∷ (shape.name ++ 32 ∷ (codes "type" ++ (spaced words ++ table_end shape)))
+ended_with shape words =
     ap (λ xs. xs ++ 10 ∷ []) (joined 32 (codes "table") (shape.name ∷ codes "type" ∷
-    (kind_words shape.kind ++ codes "size" ∷ decimal shape.size ∷ store_words shape.cols)))
+    (words ++ codes "size" ∷ decimal shape.size ∷ store_words shape.cols)))
     ∙ simp (flat_map-append, append_assoc)
+
+pub table_ended : (shape : Shape) → table_line shape ≡ table_words shape
+table_ended shape = ended_with shape (kind_words shape.kind)
 
 -- the text of a configuration
 pub whole : (config : Config) → text_of config ≡ parts_text config

@@ -3,7 +3,8 @@
 ghost use Rattle.std.specs.Prelude.{◌≡◌, ◌++◌, [], ◌∷◌, codes, OnOk};
 ghost use Rattle.std.specs.Fmt.{decimal};
 ghost use Rattle.std.specs.List.{flat_map};
-ghost use Rattle.agg_config.specs.Written.{column_text, condition_words, kind_words, store_words};
+ghost use Rattle.agg_config.specs.Written.{column_text, condition_words, kind_words};
+ghost use Rattle.agg_config.specs.Written.{length_words, store_words};
 ghost use Rattle.config_text.specs.Spaced.{column_behind, spaced, stored_words};
 
 use crate::words::{append_figure, append_word, operator_word};
@@ -14,21 +15,17 @@ use key_text::{append_number, append_text};
 pub(crate) fn append_kind(kind: KeyKind, out: &mut Vec<u8>) -> Result<(), NoMemory>
     ensures { OnOk result (out.new.items ≡ out.old.items ++ spaced (kind_words kind)) }
 {
-    match kind {
-        KeyKind::Integer => append_word(b"integer", out),
-        KeyKind::Ip => append_word(b"ip", out),
-        KeyKind::Ipv6 => append_word(b"ipv6", out),
-        KeyKind::Str(len) => append_length(b"string", len, out),
-        KeyKind::Binary(len) => append_length(b"binary", len, out),
-    }
+    append_word(kind.name().as_bytes(), out)?;
+    append_length(kind.given_length(), out)
 }
 
-// Appends a kind that has a length.
-fn append_length(kind: &[u8], len: u64, out: &mut Vec<u8>) -> Result<(), NoMemory>
-    ensures { OnOk result (out.new.items
-        ≡ out.old.items ++ spaced (kind.now ∷ codes "len" ∷ decimal len ∷ [])) }
+// Appends `len` and a length, where there is one.
+fn append_length(length: Option<u64>, out: &mut Vec<u8>) -> Result<(), NoMemory>
+    ensures { OnOk result (out.new.items ≡ out.old.items ++ spaced (length_words length)) }
 {
-    append_word(kind, out)?;
+    let Some(len) = length else {
+        return Ok(());
+    };
     append_word(b"len", out)?;
     append_figure(len, out)
 }
