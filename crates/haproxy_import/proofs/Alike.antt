@@ -1,11 +1,12 @@
 -- What the test of two configurations says.
-use Rattle.std.proofs.Common.{◌≡◌, ℕ, Bool, true, false, ◌&&◌, eqb, if◌then◌else◌, ◌==◌, List, []}
-use Rattle.std.proofs.Common.{◌∷◌, length, Option, Some, refl, sym, ap, ◌∙◌, arith}
+use Rattle.std.proofs.Common.{◌≡◌, ℕ, true, ◌&&◌, ◌==◌, List, []}
+use Rattle.std.proofs.Common.{◌∷◌, length, Some, refl, sym, ap, ◌∙◌, arith}
 use Rattle.std.proofs.lemmas.Bool.{and_parts, eqb-true}
 use Rattle.std.proofs.lemmas.Slice.Eq.{bytes_eq-Decides}
-use Rattle.std.specs.Prelude.{slice_get}
+use Rattle.std.specs.Prelude.{slice_get, unwrap_or}
 use Rattle.std.specs.Str.{bytes_eq}
 use Rattle.agg_types.specs.Col.{all_cols, place}
+use Rattle.agg_types.specs.Kind.{kind_number, kind_numbered, with_length}
 use Rattle.agg_types.specs.declared.column.Col.{Col}
 use Rattle.agg_types.specs.declared.column.Col.TheVariants as cols
 use Rattle.agg_types.specs.declared.config.Config.{Config}
@@ -15,7 +16,7 @@ use Rattle.agg_types.specs.declared.config.KeyKind.TheVariants.{Integer, Ip, Ipv
 use Rattle.agg_types.specs.declared.config.Push.{Push}
 use Rattle.agg_types.specs.declared.config.Rank.{Rank}
 use Rattle.agg_types.specs.declared.config.Shape.{Shape}
-use Rattle.haproxy_import.specs.Same.{is_plain, kind_len, kind_tag, same_cols, same_head}
+use Rattle.haproxy_import.specs.Same.{is_plain, kind_len, same_cols, same_head}
 use Rattle.haproxy_import.specs.Same.{same_kind, same_names, same_parts, same_peers}
 use Rattle.haproxy_import.specs.Same.{same_stored, same_table, same_tables}
 
@@ -38,12 +39,11 @@ col_same a b e =
     sym (at_place a) ∙ (ap (λ i. slice_get all_cols i) e ∙ at_place b) in
     cc
 
+-- the kind of a number, with this length
 kind_of : ℕ → ℕ → KeyKind
-kind_of tag len =
-    if tag == 0 then Integer else if tag == 1 then Ip else if tag == 2 then Ipv6
-    else if tag == 3 then Str len else Binary len
+kind_of number len = with_length (unwrap_or (kind_numbered number) Integer) len
 
-kind_back : (kind : KeyKind) → kind_of (kind_tag kind) (kind_len kind) ≡ kind
+kind_back : (kind : KeyKind) → kind_of (kind_number kind) (kind_len kind) ≡ kind
 unfolding kind_of
 kind_back Integer = refl
 kind_back Ip = refl
@@ -51,10 +51,10 @@ kind_back Ipv6 = refl
 kind_back (Str len) = refl
 kind_back (Binary len) = refl
 
-kind_same : (a b : KeyKind) → kind_tag a ≡ kind_tag b → kind_len a ≡ kind_len b → a ≡ b
-kind_same a b tag len =
-    sym (kind_back a) ∙ (ap (λ t. kind_of t (kind_len a)) tag
-    ∙ (ap (λ n. kind_of (kind_tag b) n) len ∙ kind_back b))
+kind_same : (a b : KeyKind) → kind_number a ≡ kind_number b → kind_len a ≡ kind_len b → a ≡ b
+kind_same a b number len =
+    sym (kind_back a) ∙ (ap (λ n. kind_of n (kind_len a)) number
+    ∙ (ap (λ n. kind_of (kind_number b) n) len ∙ kind_back b))
 
 stored_same : (a b : Col × ℕ) → same_stored a b ≡ true → a ≡ b
 stored_same a b e =
@@ -90,8 +90,8 @@ table_same a b e =
     let two = and_parts (same_head a b && (a.size == b.size)) (same_cols a.cols b.cols) e in
     let one = and_parts (same_head a b) (a.size == b.size) two.0 in
     let head = and_parts (bytes_eq a.name b.name) (same_kind a.kind b.kind) one.0 in
-    let both = and_parts (kind_tag a.kind == kind_tag b.kind) (kind_len a.kind == kind_len b.kind)
-    head.1 in
+    let both = and_parts (kind_number a.kind == kind_number b.kind)
+    (kind_len a.kind == kind_len b.kind) head.1 in
     let name : a.name ≡ b.name = bytes_same a.name b.name head.0 in
     let kind : a.kind ≡ b.kind =
     kind_same a.kind b.kind (eqb-true _ _ both.0) (eqb-true _ _ both.1) in

@@ -1,28 +1,16 @@
 -- Whether two configurations are the same, as a test.
-use Rattle.std.specs.Prelude.{ℕ, Bool, true, false, ◌&&◌, ◌==◌, List, [], ◌∷◌, length}
+use Rattle.std.specs.Prelude.{ℕ, Bool, false, ◌&&◌, ◌==◌, List, [], ◌∷◌, length, unwrap_or}
 use Rattle.std.specs.Str.{bytes_eq}
 use Rattle.agg_types.specs.Col.{place}
+use Rattle.agg_types.specs.Kind.{given_length, kind_number}
 use Rattle.agg_types.specs.declared.column.Col.{Col}
 use Rattle.agg_types.specs.declared.config.Config.{Config}
 use Rattle.agg_types.specs.declared.config.KeyKind.{KeyKind}
-use Rattle.agg_types.specs.declared.config.KeyKind.TheVariants.{Integer, Ip, Ipv6, Str, Binary}
 use Rattle.agg_types.specs.declared.config.Shape.{Shape}
 
--- which kind of keys it is
-abbrev pub kind_tag : KeyKind → ℕ
-kind_tag Integer = 0
-kind_tag Ip = 1
-kind_tag Ipv6 = 2
-kind_tag (Str len) = 3
-kind_tag (Binary len) = 4
-
--- their length, where they have one
+-- the length that a declaration gives a kind; 0 where it gives none
 abbrev pub kind_len : KeyKind → ℕ
-kind_len Integer = 0
-kind_len Ip = 0
-kind_len Ipv6 = 0
-kind_len (Str len) = len
-kind_len (Binary len) = len
+kind_len kind = unwrap_or (given_length kind) 0
 
 abbrev pub same_stored : Col × ℕ → Col × ℕ → Bool
 same_stored one other = (place one.0 == place other.0) && (one.1 == other.1)
@@ -33,7 +21,7 @@ same_cols (one ∷ some) [] = false
 same_cols (one ∷ some) (other ∷ others) = same_stored one other && same_cols some others
 
 abbrev pub same_kind : KeyKind → KeyKind → Bool
-same_kind one other = (kind_tag one == kind_tag other) && (kind_len one == kind_len other)
+same_kind one other = (kind_number one == kind_number other) && (kind_len one == kind_len other)
 
 abbrev pub same_head : Shape → Shape → Bool
 same_head one other = bytes_eq one.name other.name && same_kind one.kind other.kind

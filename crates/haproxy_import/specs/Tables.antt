@@ -9,11 +9,13 @@ use Rattle.std.specs.Result.{result_ok}
 use Rattle.std.specs.Str.{bytes_eq}
 use Rattle.agg_types.specs.Check.{len_fits}
 use Rattle.agg_types.specs.Col.{all_cols, col_name, is_rate}
+use Rattle.agg_types.specs.Kind.{kind_length, kind_named, takes_length, with_length}
 use Rattle.agg_types.specs.Name.{is_name}
 use Rattle.agg_types.specs.declared.column.Col.{Col}
 use Rattle.agg_types.specs.declared.config.KeyKind.{KeyKind}
-use Rattle.agg_types.specs.declared.config.KeyKind.TheVariants.{Integer, Ip, Ipv6, Str, Binary}
 use Rattle.agg_types.specs.declared.config.Shape.{Shape}
+use Rattle.agg_types.specs.declared.kind.KeyLength.{KeyLength}
+use Rattle.agg_types.specs.declared.kind.KeyLength.TheVariants.{Exactly, AtMost}
 use Rattle.line_words.specs.Numbers.{number_of}
 use Rattle.line_words.specs.Words.{parts}
 use Rattle.haproxy_import.specs.Values.{behind_word, ms_of, room_of}
@@ -72,18 +74,21 @@ len_of usual words =
     let word = behind_word (codes "len") words in
     if length word == 0 then Some usual else result_ok (number_of word)
 
--- the kind of keys that a word names
-abbrev pub kind_named : List ℕ → List (List ℕ) → Option KeyKind
-kind_named kind words =
-    if bytes_eq kind (codes "integer") then Some Integer
-    else if bytes_eq kind (codes "ip") then Some Ip
-    else if bytes_eq kind (codes "ipv6") then Some Ipv6
-    else if bytes_eq kind (codes "string") then option_map Str (len_of 31 words)
-    else if bytes_eq kind (codes "binary") then option_map Binary (len_of 32 words)
-    else None
+-- HAProxy's own length of keys: 32 bytes, the last of which ends a string
+abbrev pub usual_len : KeyLength → ℕ
+usual_len (Exactly exact) = 32
+usual_len (AtMost most) = 31
 
+-- a kind, with the length of its keys where a declaration gives it one
+abbrev pub with_len : KeyKind → List (List ℕ) → Option KeyKind
+with_len kind words =
+    if takes_length kind
+    then option_map (with_length kind) (len_of (usual_len (kind_length kind)) words) else Some kind
+
+-- the kind of keys
 abbrev pub kind_of : List (List ℕ) → Option KeyKind
-kind_of words = kind_named (behind_word (codes "type") words) words
+kind_of words =
+    option_and_then (λ kind. with_len kind words) (kind_named (behind_word (codes "type") words))
 
 -- a table of these parts
 abbrev pub shape : List ℕ → List (Col × ℕ) → KeyKind → ℕ → Shape

@@ -1,7 +1,7 @@
 //! Whether two configurations are the same.
 
 ghost use Rattle.std.specs.Prelude.{◌≡◌, ◌&&◌, true};
-ghost use Rattle.haproxy_import.specs.Same.{is_plain, kind_len, kind_tag, same_cols, same_head};
+ghost use Rattle.haproxy_import.specs.Same.{is_plain, kind_len, same_cols, same_head};
 ghost use Rattle.haproxy_import.specs.Same.{same_kind, same_names, same_parts, same_peers};
 ghost use Rattle.haproxy_import.specs.Same.{same_stored, same_table, same_tables};
 
@@ -81,28 +81,13 @@ fn same_head(one: &Shape, other: &Shape) -> bool
 fn same_kind(one: KeyKind, other: KeyKind) -> bool
     ensures { result ≡ same_kind one other }
 {
-    kind_tag(one) == kind_tag(other) && kind_len(one) == kind_len(other)
-}
-
-fn kind_tag(kind: KeyKind) -> u8
-    ensures { result ≡ kind_tag kind }
-{
-    match kind {
-        KeyKind::Integer => 0,
-        KeyKind::Ip => 1,
-        KeyKind::Ipv6 => 2,
-        KeyKind::Str(_) => 3,
-        KeyKind::Binary(_) => 4,
-    }
+    one.number() == other.number() && kind_len(one) == kind_len(other)
 }
 
 fn kind_len(kind: KeyKind) -> u64
     ensures { result ≡ kind_len kind }
 {
-    match kind {
-        KeyKind::Integer | KeyKind::Ip | KeyKind::Ipv6 => 0,
-        KeyKind::Str(len) | KeyKind::Binary(len) => len,
-    }
+    kind.given_length().unwrap_or(0)
 }
 
 fn same_cols(some: &[(Col, u32)], others: &[(Col, u32)]) -> bool

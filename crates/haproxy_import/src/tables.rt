@@ -3,14 +3,12 @@
 ghost use Rattle.std.specs.Prelude.{◌≡◌, ◌++◌, IfOk, OnOk};
 ghost use Rattle.std.specs.List.{list_all};
 ghost use Rattle.line_words.specs.Words.{parts, words};
-ghost use Rattle.agg_types.specs.Check.{len_fits};
 ghost use Rattle.haproxy_import.specs.Tables.{cols_by, cols_of, fits, in_list, inside, is_plain};
-ghost use Rattle.haproxy_import.specs.Tables.{item_of, kind_named, kind_of, len_of, period_behind};
-ghost use Rattle.haproxy_import.specs.Tables.{plain_name, put_col, shape_of};
+ghost use Rattle.haproxy_import.specs.Tables.{item_of, kind_of, len_of, period_behind};
+ghost use Rattle.haproxy_import.specs.Tables.{plain_name, put_col, shape_of, usual_len, with_len};
 
 use crate::values::{ms_of, room_of, value_of, word_of};
-use agg_types::limits::LONGEST_KEY;
-use agg_types::{Col, Items, KeyKind, Name, NoMemory, Shape, is_name};
+use agg_types::{Col, Items, KeyKind, KeyLength, Name, NoMemory, Shape, is_name};
 use line_words::{next_part, next_word, number};
 use std::alloc::Global;
 
@@ -37,26 +35,27 @@ pub(crate) fn shape_of(alloc: Global, name: &[u8], line: &[u8]) -> Result<Option
 fn kind_of(line: &[u8]) -> Option<KeyKind>
     ensures { result ≡ kind_of (words line.now) }
 {
-    kind_named(value_of(line, b"type"), line)
+    with_len(KeyKind::from_name(value_of(line, b"type"))?, line)
 }
 
-// The kind that a word names. Without a length HAProxy keeps 32 bytes, the last of which ends a
-// string.
-fn kind_named(kind: &[u8], line: &[u8]) -> Option<KeyKind>
-    ensures { result ≡ kind_named kind.now (words line.now) }
+// A kind, with the length of its keys where a declaration gives it one.
+fn with_len(kind: KeyKind, line: &[u8]) -> Option<KeyKind>
+    ensures { result ≡ with_len kind (words line.now) }
 {
-    if kind == b"integer".as_slice() {
-        Some(KeyKind::Integer)
-    } else if kind == b"ip".as_slice() {
-        Some(KeyKind::Ip)
-    } else if kind == b"ipv6".as_slice() {
-        Some(KeyKind::Ipv6)
-    } else if kind == b"string".as_slice() {
-        len_of(line, 31).map(KeyKind::Str)
-    } else if kind == b"binary".as_slice() {
-        len_of(line, 32).map(KeyKind::Binary)
-    } else {
-        None
+    if !kind.takes_length() {
+        return Some(kind);
+    }
+    let len = len_of(line, usual_len(kind.length()))?;
+    Some(kind.with_length(len))
+}
+
+// HAProxy's own length of keys: 32 bytes, the last of which ends a string.
+fn usual_len(length: KeyLength) -> u64
+    ensures { result ≡ usual_len length }
+{
+    match length {
+        KeyLength::Exactly(_) => 32,
+        KeyLength::AtMost(_) => 31,
     }
 }
 
@@ -164,16 +163,7 @@ fn inside(rest: &[u8]) -> Option<u32>
 pub(crate) fn fits(shape: &Shape) -> bool
     ensures { result ≡ fits shape.now }
 {
-    plain_name(shape.name.as_slice()) && len_fits(shape.kind)
-}
-
-fn len_fits(kind: KeyKind) -> bool
-    ensures { result ≡ len_fits kind }
-{
-    match kind {
-        KeyKind::Str(len) | KeyKind::Binary(len) => 1 <= len && len <= LONGEST_KEY,
-        KeyKind::Integer | KeyKind::Ip | KeyKind::Ipv6 => true,
-    }
+    plain_name(shape.name.as_slice()) && shape.kind.length_fits()
 }
 
 /// Whether a name has none of the marks that HAProxy's words may have: quotes, escapes, variables.

@@ -50,19 +50,12 @@ fn put_table(alloc: Global, out: &mut Vec<u8>, table: &Shape) -> Result<(), NoMe
 }
 
 fn put_kind(alloc: Global, out: &mut Vec<u8>, kind: KeyKind) -> Result<(), NoMemory> {
-    match kind {
-        KeyKind::Integer => put(out, &[b"integer"]),
-        KeyKind::Ip => put(out, &[b"ip"]),
-        KeyKind::Ipv6 => put(out, &[b"ipv6"]),
-        KeyKind::Str(len) => {
-            put(out, &[b"string len "])?;
-            put_number(alloc, out, len)
-        }
-        KeyKind::Binary(len) => {
-            put(out, &[b"binary len "])?;
-            put_number(alloc, out, len)
-        }
-    }
+    put(out, &[kind.name().as_bytes()])?;
+    let Some(len) = kind.given_length() else {
+        return Ok(());
+    };
+    put(out, &[b" len "])?;
+    put_number(alloc, out, len)
 }
 
 fn put_column(alloc: Global, out: &mut Vec<u8>, col: Col, period: u32) -> Result<(), NoMemory> {
