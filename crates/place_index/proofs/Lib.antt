@@ -8,3 +8,5 @@ mod Apart
 mod Own
 mod Lent
 mod Crowded
+pub mod Sorted
+pub mod Ordered

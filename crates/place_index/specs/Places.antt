@@ -1,7 +1,10 @@
 use Rattle.std.specs.Prelude.{◌≡◌, ◌≢◌, ◌<◌, ◌≤◌, ℕ, zero, suc, List, [], ◌∷◌, Option, Some, None}
 use Rattle.std.specs.Prelude.{◌+◌, slice_index_or, slice_set, refl}
 use Rattle.std.specs.Coded.{Coded, code_by, coded×, coded_ℕ, coded_list, coded_option}
+use Rattle.std.specs.BTreeMap.{insert_entry}
+use Rattle.std.specs.Cmp.Lexicographic.{slice_cmp}
 use Rattle.std.specs.Option.{option_map}
+use Rattle.std.specs.Ordering.{nat_cmp}
 
 -- what an index is to its callers: its places, each empty or a key with its value, and for how
 -- many further keys there is room
@@ -44,6 +47,12 @@ abbrev pub filled : {X : Type 0} → List (Option X) → ℕ
 filled [] = 0
 filled (None ∷ places) = filled places
 filled (Some item ∷ places) = filled places + 1
+
+-- the keys with their values in the order of the keys, whatever their places
+abbrev pub in_order : {V : Type 0} → List (Option (List ℕ × V)) → List (List ℕ × V)
+in_order [] = []
+in_order (None ∷ places) = in_order places
+in_order (Some item ∷ places) = insert_entry (slice_cmp nat_cmp) (in_order places) item.0 item.1
 
 -- no key lies in two places
 abbrev pub AreDistinct : {K V : Type 0} → List (Option (K × V)) → Type 0

@@ -1,12 +1,14 @@
 //! An exact index: keys with values in numbered places. `peer_rows` keeps the rows of a table in
-//! one.
+//! one, `standing_filters` the verdicts of a filter, and `ranked` the bounds of a list.
 //!
 //! Contracts see the list of the places, each empty or a key with its value, so a place's number is
 //! part of the contract, and beside it for how many further keys there is room. `find` answers the
 //! place of a key, or that none has it; no key has two. `insert` fills an empty place, or a new one
 //! behind the last, and answers its number; `remove` empties one; `replace` exchanges the value in
 //! one, and `value_mut` lends it for writing. All other places stay as they are. `count` is the
-//! number of filled places, and `first_from` the step of a walk over them. No order is kept.
+//! number of filled places, and `first_from` the step of a walk over them. No order is kept. A
+//! contract above that sees keys in order takes `in_order`, which says that list of the places;
+//! `proofs/Ordered.antt` says how it changes as they do.
 //!
 //! `reserve` makes room for so many keys, or changes nothing. As many inserts are then answered
 //! `Ok`, whatever memory there is: each takes one from the room, and nothing else takes any.
