@@ -1,6 +1,7 @@
 pub mod Entries
 pub mod Indexed
 pub mod Members
+pub mod Placed
 pub mod Reached
 pub mod Sorting
 pub mod Walking

@@ -29,7 +29,7 @@ use Rattle.fleet_model.specs.Ranking.{in_order, put_in_order, rank_cmp}
 use Rattle.fleet_model.specs.Seats.{is_number}
 use Rattle.fleet_model.specs.Values.{same_key}
 use Rattle.ranked.proofs.Indexed.{entries_kept}
-use Rattle.ranked.specs.Bounds.{AreKept, IsIndexOf, first_ranked, zeros_at}
+use Rattle.ranked.specs.Bounds.{IsByKey, IsIndexOf, first_ranked, zeros_at}
 use Rattle.ranked.specs.Walk.{found, put_all, worth}
 
 abbrev Entries : Type 0
@@ -271,19 +271,19 @@ same_keys kept index indexed q =
 
 -- a walk over an index finds the first keys of the ranking
 pub found_is : (n : ℕ) (living value : List ℕ → ℕ) (index : List (ℕ × List ℕ)) (kept : Entries)
-    → AreKept index kept → IsInOrder (slice_cmp nat_cmp) index → found living value n [] index
-    ≡ first_ranked n living value (keys_of kept)
+    → IsIndexOf index kept → IsByKey kept → IsInOrder (slice_cmp nat_cmp) index
+    → found living value n [] index ≡ first_ranked n living value (keys_of kept)
 unfolding lives
-found_is n living value index kept are ordered =
+found_is n living value index kept indexed by_key ordered =
     let keys = index_keys index in
     let p = lives living in
     ap (λ l. take n (put_all [] l)) (worth_is living value index)
     ∙ ap (take n)
     (same_ranking value (filter p keys) (filter p (keys_of kept))
     (distinct-filter p keys (distinct_index kept index ordered
-    (entries_kept index kept are.indexed)))
+    (entries_kept index kept indexed)))
     (distinct-filter p (keys_of kept) (IsDistinct-from_sorted (slice_cmp nat_cmp)
-    (keys_of kept) are.ordered))
+    (keys_of kept) by_key))
     (λ q. among-filter (slice_cmp nat_cmp) nat_list_cmp_total exact_bytes q p keys
-    ∙ ap (λ b. b && p q) (same_keys kept index are.indexed q)
+    ∙ ap (λ b. b && p q) (same_keys kept index indexed q)
     ∙ sym (among-filter (slice_cmp nat_cmp) nat_list_cmp_total exact_bytes q p (keys_of kept))))

@@ -53,11 +53,6 @@ abbrev pub IsIndexOf : List (ℕ × List ℕ) → List (List ℕ × ℕ) → Typ
 IsIndexOf index bounds = (e : ℕ × List ℕ)
     → has_entry (slice_cmp nat_cmp) index e ≡ is_number (zeros_at bounds e.1) e.0
 
--- what holds of bounds beside their index
-pub record AreKept (index : List (ℕ × List ℕ)) (bounds : List (List ℕ × ℕ)) : Type 0 where
-  pub indexed : IsIndexOf index bounds
-  pub ordered : IsByKey bounds
-
 -- an index has each key once, by its bound, and nothing else
 pub record IsListOf (index : List (ℕ × List ℕ)) (bounds : List (List ℕ × ℕ)) : Type 0 where
   pub exact : IsIndexOf index bounds

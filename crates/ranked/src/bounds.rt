@@ -1,7 +1,9 @@
-ghost use Rattle.std.specs.Prelude.{◌≡◌, ◌≢◌, ◌≤◌, ◌+◌, ◌*◌, [], IfOk, OnOk, OnErr};
-ghost use Rattle.std.specs.Option.{IsSomeAnd};
+ghost use Rattle.std.specs.Prelude.{◌≡◌, ◌≤◌, ◌+◌, ◌*◌, [], Some, IfOk, IfSome, OnErr};
+ghost use Rattle.std.specs.Prelude.{OnOk};
+ghost use Rattle.std.specs.Option.{IsSomeAnd, option_map};
 ghost use Rattle.std.specs.Map.{keys_of};
 ghost use Rattle.agg_types.specs.declared.limits.TheConstants.{LONGEST_RANK};
+ghost use Rattle.place_index.specs.Places.{key_at, in_order, AreDistinct};
 ghost use Rattle.ranked.specs.Bounds.{AreAllBounded, AreOthersKept, IsByKey, IsListOf, bound_at};
 ghost use Rattle.ranked.specs.Bounds.{first_ranked, zeros_at};
 
@@ -10,22 +12,28 @@ use crate::slack::{serves, zeros_for};
 use agg_types::{Key, NoMemory, Rank};
 use crossing::Values;
 use expiry_wheel::{DueIndex, OrderedDue};
+use place_index::{PlaceIndex, Slot};
 use std::alloc::Global;
-use std::collections::BTreeMap;
 use std::marker::Model;
+use std::mem::size_of;
 
 /// A bound on each key's value of one column, from which a ranked list finds its first keys.
 ///
 /// A bound keeps slack, so that a value that moves a little moves nothing here: it is kept while it
 /// holds and isn't above four times of what it bounds. Values only fall by themselves, so a bound
-/// holds as time goes on.
+/// holds as time goes on. A touch finds it by the hash of its key.
+///
+/// Contracts see the list of the keys in order, each with how many leading zeros its bound has.
+/// Nothing keeps that order: a ranked list goes by the bounds.
 pub struct Bounds {
     // By the leading zeros of its bound: each key, the greatest bounds first.
     index: OrderedDue<Key>,
-    // By key: how many leading zeros its bound has.
-    zeros: BTreeMap<Key, u64>,
+    // How many leading zeros the bound of each key has, where the key's hash leads to.
+    zeros: PlaceIndex<Key, u64>,
     alloc: Global,
 }
+
+const _: () = prove!(size_of::<Slot<Key, u64>>() == 32);
 
 // By hand, so that what drops it elsewhere proves nothing of its parts.
 impl Drop for Bounds {
@@ -40,13 +48,14 @@ impl Drop for Bounds {
 
 impl Model for Bounds {
     ghost use Rattle.std.specs.Prelude.{List, ℕ};
-    ghost use Rattle.ranked.specs.Bounds.{AreKept};
+    ghost use Rattle.place_index.specs.Places.{in_order};
+    ghost use Rattle.ranked.specs.Bounds.{IsIndexOf};
 
     ghost Value = { List (List ℕ × ℕ) };
 
-    ghost view = { λ bounds. bounds.zeros.entries };
+    ghost view = { λ bounds. in_order bounds.zeros.places };
 
-    ghost invariant = { λ bounds. AreKept bounds.index bounds.zeros.entries };
+    ghost invariant = { λ bounds. IsIndexOf bounds.index (in_order bounds.zeros.places) };
 }
 
 impl Bounds {
@@ -56,7 +65,7 @@ impl Bounds {
     {
         Bounds {
             index: OrderedDue::new(alloc),
-            zeros: BTreeMap::new(alloc),
+            zeros: PlaceIndex::new(alloc),
             alloc,
         }
     }
@@ -70,16 +79,17 @@ impl Bounds {
         ensures others { OnOk result (AreOthersKept key.now self.old self.new) }
         ensures err { OnErr result (self.new ≡ self.old) }
     {
-        match self.zeros.get(key) {
-            None => self.add(key, zeros_for(bound)),
-            Some(zeros) => {
-                let zeros = *zeros;
-                if serves(zeros, bound) {
-                    return Ok(());
-                }
-                self.replace(key, zeros, zeros_for(bound))
-            }
+        let Some((at, zeros)) = find(&self.zeros, key) else {
+            return self.add(key, zeros_for(bound));
+        };
+        if serves(zeros, bound) {
+            return Ok(());
         }
+        let wanted = zeros_for(bound);
+        self.index.plan(wanted, key.duplicate(self.alloc)?)?;
+        self.index.cancel(zeros, key);
+        self.zeros.replace(at, wanted);
+        Ok(())
     }
 
     /// Takes a key's bound away. Takes no memory.
@@ -87,7 +97,8 @@ impl Bounds {
         ensures gone { bound_at self.new key.now ≡ None }
         ensures others { AreOthersKept key.now self.old self.new }
     {
-        if let Some(zeros) = self.zeros.remove(key) {
+        if let Some((at, zeros)) = find(&self.zeros, key) {
+            self.zeros.remove(at);
             self.index.cancel(zeros, key);
         }
     }
@@ -135,23 +146,20 @@ impl Bounds {
         self.index.plan(zeros, key.duplicate(self.alloc)?)?;
         if let Err(refused) = self.zeros.insert(own, zeros) {
             self.index.cancel(zeros, key);
-            return Err(refused.into());
+            return Err(refused);
         }
         Ok(())
     }
+}
 
-    fn replace(&mut self, key: &Key, old: u64, new: u64) -> Result<(), NoMemory>
-        requires old { zeros_at self.old key.now ≡ Some old }
-        requires other { old ≢ new }
-        ensures kept { OnOk result (zeros_at self.new key.now ≡ Some new) }
-        ensures others { OnOk result (AreOthersKept key.now self.old self.new) }
-        ensures err { OnErr result (self.new ≡ self.old) }
-    {
-        self.index.plan(new, key.duplicate(self.alloc)?)?;
-        self.index.cancel(old, key);
-        if let Some(zeros) = self.zeros.get_mut(key) {
-            *zeros = new;
-        }
-        Ok(())
-    }
+// The place of a key, and how many leading zeros its bound has.
+fn find(zeros: &PlaceIndex<Key, u64>, key: &Key) -> Option<(usize, u64)>
+    ensures own { IfSome result (λ found. key_at zeros.now.places found.0 ≡ Some key.now) }
+    ensures value { option_map (λ found. found.1) result
+        ≡ zeros_at (in_order zeros.now.places) key.now }
+    ensures distinct { AreDistinct zeros.now.places }
+{
+    let at = zeros.find(key)?;
+    let own = zeros.value(at)?;
+    Some((at, *own))
 }
