@@ -4,7 +4,8 @@ use Rattle.std.proofs.Common.{◌∷◌, None, is_some, length, refl, sym, ap, �
 use Rattle.std.proofs.Common.{◌≤◌, ◌||◌, arith, eq-eqb}
 use Rattle.std.specs.Prelude.{filter, map}
 use Rattle.std.specs.BTreeMap.{is_at}
-use Rattle.std.specs.Cmp.Lexicographic.{slice_cmp}
+use Rattle.std.specs.Cmp.{eq_by_cmp_equiv}
+use Rattle.std.specs.Cmp.Lexicographic.{nat_list_cmp_total, slice_cmp}
 use Rattle.std.specs.List.{AllByRecursion, list_any}
 use Rattle.std.specs.Map as maps
 use Rattle.std.specs.Ordering.{nat_cmp}
@@ -26,7 +27,6 @@ use Rattle.peer_rows.specs.Places.{Keys}
 use Rattle.peer_rows.specs.Rows.{in_table}
 use Rattle.peer_rows.specs.Walk.{if_any}
 use Rattle.peer_rows.specs.declared.row.Row.{Row}
-use Rattle.peer_rows.proofs.Ordered.{turned_at}
 use Rattle.book_frame.proofs.Chosen.{same_key-decides}
 use Rattle.book_frame.proofs.Listings.{map-filter}
 use Rattle.standing_filters.specs.Watched.{is_among}
@@ -127,7 +127,8 @@ any_met false (row ∷ own) some = refl
 any_turned : (key : List ℕ) (keys : List (List ℕ))
     → list_any (λ other. same_key other key) keys ≡ list_any (is_at (slice_cmp nat_cmp key)) keys
 any_turned key [] = refl
-any_turned key (other ∷ keys) = λ i. turned_at other key i || any_turned key keys i
+any_turned key (other ∷ keys) = λ i.
+    (eq_by_cmp_equiv nat_list_cmp_total).symm other key i || any_turned key keys i
 
 pub those_of_met : (rows : Rows) (table : ℕ) (cols : List (Col × ℕ)) (conds : List Cond) (t : ℕ)
     (met : Keys) → ((key : List ℕ) → meets cols rows table key t conds

@@ -11,7 +11,7 @@ use Rattle.std.specs.Map.{keys_of, lookup, remove_entry}
 use Rattle.std.specs.Ordering.{is_eq, match_ordering, ordering_reverse}
 use Rattle.std.specs.declared.cmp.Ordering.{Ordering}
 use Rattle.std.specs.declared.cmp.Ordering.TheVariants.{Less, Equal, Greater}
-use Rattle.peer_rows.proofs.Sorted.{equal_itself}
+use Rattle.std.proofs.lemmas.Cmp.{tied_itself}
 
 -- what a filter lets through, a weaker one before it lets through too
 pub filter-filter : {X : Type 0} (p q : X → Bool) → ((x : X) → p x ≡ true → q x ≡ true)
@@ -158,7 +158,7 @@ module _ {K X : Type 0} (C : K → K → Ordering) where
       → AllByRecursion (λ e. lookup (is_at (C e.0)) es ≡ Some e.1) es
   unfolding IsStrictlySortedBy
   all_found o [] s = tt
-  all_found o (e ∷ es) s = (rw (equal_itself o e.0) refl, behind es s.0 (all_found o es s.1))
+  all_found o (e ∷ es) s = (rw (tied_itself o e.0) refl, behind es s.0 (all_found o es s.1))
     where
       behind : (fs : List (K × X)) → AllByRecursion (λ y. C e.0 y ≡ Less) (keys_of fs)
           → AllByRecursion (λ f. lookup (is_at (C f.0)) es ≡ Some f.1) fs

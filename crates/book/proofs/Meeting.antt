@@ -36,7 +36,6 @@ use Rattle.peer_rows.specs.Rows.{RowMap, peers_of}
 use Rattle.peer_rows.specs.Walk.{IsEachKey, if_any}
 use Rattle.peer_rows.specs.declared.row.Row.{Row}
 use Rattle.peer_rows.proofs.Listed.{alike}
-use Rattle.peer_rows.proofs.Ordered.{turned_at}
 use Rattle.book_frame.specs.Lent.{listed_where, shown_row}
 use Rattle.book_frame.proofs.Listings.{map-filter}
 use Rattle.book.specs.Listing.{AreMeeting, ListsMeeting, if_met, rows_meet, summed_up, sums_of}
@@ -114,7 +113,8 @@ module _ (rows : Rows) (table : ℕ) (cols : List (Col × ℕ)) (conds : List Co
       → IsPermutation keys others → AreMeeting rows table cols conds t others
   met_moved keys others met moved =
       let apart : IsDistinct same (maps.keys_of others) =
-      IsDistinct-IsPermutation same (λ x y. turned_at x y) (maps.keys_of keys) (maps.keys_of others)
+      IsDistinct-IsPermutation same (eq_by_cmp_equiv nat_list_cmp_total).symm
+      (maps.keys_of keys) (maps.keys_of others)
       (IsPermutation-map (λ (e : List ℕ × PeerRows). e.0) keys others moved) met.once in
       record {
         once = apart;

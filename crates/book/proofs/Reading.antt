@@ -26,8 +26,7 @@ use Rattle.std.proofs.lemmas.Bool.{and_parts, eqb-true}
 use Rattle.std.proofs.lemmas.Bool.Decides.{nat_tests}
 use Rattle.std.proofs.lemmas.List.Folds.{fold-map}
 use Rattle.std.proofs.lemmas.Map.Lookups.{exact_bytes}
-use Rattle.std.proofs.lemmas.Cmp.{nat_list_cmp_total}
-use Rattle.peer_rows.proofs.Sorted.{equal_itself}
+use Rattle.std.proofs.lemmas.Cmp.{nat_list_cmp_total, tied_itself}
 use Rattle.agg_types.specs.RowKey.{row_key_cmp}
 use Rattle.agg_types.specs.declared.row_key.RowKey.{RowKey}
 use Rattle.agg_types.specs.Col.{all_cols}
@@ -102,7 +101,7 @@ peers_rise table key p q one two less =
     ∙ exact_bytes key q.key (equal_from (slice_cmp nat_cmp key q.key) twos.1) in
     let first : nat_cmp p.table q.table ≡ Equal = grind (arith, nat_tests) in
     let second : slice_cmp nat_cmp p.key q.key ≡ Equal =
-    rw keys (equal_itself nat_list_cmp_total q.key) in
+    rw keys (tied_itself nat_list_cmp_total q.key) in
     rising p.peer q.peer (sym (parts_less (nat_cmp p.table q.table) (slice_cmp nat_cmp p.key q.key)
     (nat_cmp p.peer q.peer) first second) ∙ less)
   where

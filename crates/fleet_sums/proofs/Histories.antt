@@ -21,7 +21,8 @@ use Rattle.std.proofs.lemmas.Map.Keys.{IsDistinct-from_sorted}
 use Rattle.std.proofs.lemmas.Map.Lookups.{exact_bytes, exact_unsigned, exact_pairs}
 use Rattle.std.proofs.lemmas.Bool.{cases_lt, cases_eq}
 use Rattle.peer_rows.specs.declared.row.Held.{Held}
-use Rattle.peer_rows.proofs.Sorted.{equal_itself, sorted-insert_entry, sorted-remove_entry}
+use Rattle.std.proofs.lemmas.Cmp.{tied_itself}
+use Rattle.place_index.proofs.Sorted.{sorted-insert_entry, sorted-remove_entry}
 use Rattle.peer_rows.specs.Counted.{counted_at}
 use Rattle.fleet_sums.specs.Totals.{KeyTotals, no_sums, with_row, with_row_less, without_row}
 use Rattle.fleet_sums.specs.Totals.{totals_by}
@@ -437,7 +438,7 @@ totals_are_sums_lem widths changes fair table key =
 
 -- a row is one of its own table and key
 own_row : (r : SummedRow) → is_row_of r.table r.key r ≡ true
-own_row r = ap is_eq (equal_itself table_key_cmp_total (r.table, r.key))
+own_row r = ap is_eq (tied_itself table_key_cmp_total (r.table, r.key))
 
 -- a column that a row doesn't have counts nothing
 counted_past : (cells : List Held) (col : ℕ) → length cells ≤ col → counted_at cells col ≡ 0

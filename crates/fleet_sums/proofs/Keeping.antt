@@ -14,7 +14,7 @@ use Rattle.std.specs.List.Sorted.{IsStrictlySortedBy}
 use Rattle.std.proofs.lemmas.Map.{keys-set_value}
 use Rattle.std.proofs.lemmas.Bool.Decides.{nat_tests}
 use Rattle.peer_rows.specs.declared.row.Held.{Held}
-use Rattle.peer_rows.proofs.Sorted.{lookup_below, sorted_others}
+use Rattle.place_index.proofs.Sorted.{lookup_below, sorted_others}
 use Rattle.fleet_sums.specs.Totals.{KeyTotals, with_row_less, without_row}
 use Rattle.fleet_sums.specs.Sums.{TableSums, IsTable, sums_of_key}
 

@@ -17,7 +17,8 @@ use Rattle.std.specs.List.Sorted.{IsStrictlySortedBy}
 use Rattle.std.proofs.lemmas.Map.Lookups.{exact_unsigned}
 use Rattle.agg_types.specs.declared.config.Shape.{Shape}
 use Rattle.peer_rows.specs.Spread.{spread}
-use Rattle.peer_rows.proofs.Sorted.{equal_itself, AllAbove}
+use Rattle.std.proofs.lemmas.Cmp.{tied_itself}
+use Rattle.place_index.proofs.Sorted.{AllAbove}
 use Rattle.peer_rows.proofs.Selecting.{PassesOnce}
 use Rattle.peer_rows.proofs.Spreading.{PassesOnce-sorted, lookup-spread, remove_entry-spread}
 use Rattle.peer_rows.proofs.Spreading.{map-filter-spread, insert_entry-spread}
@@ -31,7 +32,7 @@ numbered-set : (ts : List TableSums) (i t n : ℕ) (new : TableSums) → t ≡ n
     → numbered n (set ts i new) ≡ set_value (is_at (nat_cmp t)) (numbered n ts) new.entries
 numbered-set [] i t n new is = refl
 numbered-set (x ∷ ts) zero t n new is = let same : t ≡ n = omega (arith, is) in
-    rw (same, equal_itself nat_cmp_total n) refl
+    rw (same, tied_itself nat_cmp_total n) refl
 numbered-set (x ∷ ts) (suc i) t n new is =
     let above : nat_cmp t n ≡ Greater = sym (nat_cmp_is t n Greater (omega (arith, is))) in
     rw above (ap (λ rest. (n, x.entries) ∷ rest)
@@ -42,7 +43,7 @@ lookup-numbered : (ts : List TableSums) (i t n : ℕ) (table : TableSums) → t 
     → slice_get ts i ≡ Some table → lookup (is_at (nat_cmp t)) (numbered n ts) ≡ Some table.entries
 lookup-numbered [] i t n table is found = cc
 lookup-numbered (x ∷ ts) zero t n table is found = let same : t ≡ n = omega (arith, is) in
-    let first : x ≡ table = cc in rw (same, equal_itself nat_cmp_total n, first) refl
+    let first : x ≡ table = cc in rw (same, tied_itself nat_cmp_total n, first) refl
 lookup-numbered (x ∷ ts) (suc i) t n table is found =
     let above : nat_cmp t n ≡ Greater = sym (nat_cmp_is t n Greater (omega (arith, is))) in
     rw above (lookup-numbered ts i t (n + 1) table (omega (arith, is)) found)

@@ -22,7 +22,7 @@ use Rattle.peer_rows.specs.Ends.{IsEndBy, HasEnded, is_behind}
 use Rattle.peer_rows.specs.Places.{Places}
 use Rattle.peer_rows.specs.declared.ends.Ends.{Ends}
 use Rattle.peer_rows.specs.declared.row.Row.{Row}
-use Rattle.peer_rows.proofs.Sorted.{above_first, lookup-above}
+use Rattle.place_index.proofs.Sorted.{above_first, lookup-above}
 
 abbrev pub PeerRows : Type 0
 PeerRows = List (ℕ × Row)

@@ -21,8 +21,8 @@ use Rattle.std.proofs.lemmas.Map.{none_passes_from_lookup}
 use Rattle.peer_rows.specs.declared.row.Row.{Row}
 use Rattle.peer_rows.specs.Table.{Spot, spot, spot_cmp, same_key, rows_in, rows_of_peer}
 use Rattle.peer_rows.specs.Table.{rows_at_peer, EachPeerOnce, IsKept, TableRows}
-use Rattle.peer_rows.proofs.Ordered.{sorted-in_order}
-use Rattle.peer_rows.proofs.Sorted.{equal_itself}
+use Rattle.place_index.proofs.Ordered.{sorted-in_order}
+use Rattle.std.proofs.lemmas.Cmp.{tied_itself}
 use Rattle.peer_rows.proofs.Selecting.{filter_not-none, filter-none}
 use Rattle.peer_rows.proofs.Spreading.{spread-remove_entry, spread-none, filter_not-spread}
 use Rattle.peer_rows.proofs.Spreading.{map-filter-spread, sorted-spread}
@@ -41,7 +41,7 @@ once_sorted (e ∷ es) once = (once.0.sorted, once_sorted es once.1)
 pub sorted_rows : (es : Keys) → IsStrictlySortedBy (slice_cmp nat_cmp) (keys_of es)
     → EachPeerOnce es → IsStrictlySortedBy spot_cmp (keys_of (rows_in es))
 sorted_rows es s once = sorted-spread spot (slice_cmp nat_cmp) nat_cmp spot_cmp (λ k j p q. refl) es
-    (equal_itself nat_list_cmp_total) s (once_sorted es once)
+    (tied_itself nat_list_cmp_total) s (once_sorted es once)
 
 pub spot_cmp_total : IsTotalOrder spot_cmp
 spot_cmp_total = then_total (on_total (λ (q : Spot). q.0) nat_list_cmp_total)
@@ -335,7 +335,7 @@ pub kept-none : (es : Keys) (counts : List ℕ) (n : ℕ) → es ≡ [] → coun
     → IsKept es counts
 kept-none es counts n none zeros = record {
   ordered = subst (λ (l : Keys). IsStrictlySortedBy (slice_cmp nat_cmp) (keys_of l)) (sym none)
-      (sorted-in_order []);
+      (sorted-in_order {V = List (ℕ × Row)} []);
   once = subst (λ (l : Keys). EachPeerOnce l) (sym none) tt;
   counted = λ p. ap (λ (l : List ℕ). get_or l p 0) zeros ∙ alike_at n p 0
       ∙ ap (λ (l : Keys). rows_of_peer p (rows_in l)) (sym none);

@@ -17,7 +17,8 @@ use Rattle.peer_rows.specs.declared.row.Row.{Row}
 use Rattle.peer_rows.specs.Peers.{ArePeers}
 use Rattle.peer_rows.specs.Spread.{part}
 use Rattle.peer_rows.specs.Table.{spot, spot_cmp, rows_in, rows_of_peer, EachPeerOnce}
-use Rattle.peer_rows.proofs.Sorted.{equal_itself, sorted_one, sorted_others, lookup_below}
+use Rattle.std.proofs.lemmas.Cmp.{tied_itself}
+use Rattle.place_index.proofs.Sorted.{sorted_one, sorted_others, lookup_below}
 use Rattle.peer_rows.proofs.Selecting.{PassesOnce, remove_entry-none, filter-append, filter-none}
 use Rattle.peer_rows.proofs.Spreading.{PassesOnce-sorted, spread-none, lookup-spread}
 use Rattle.peer_rows.proofs.Spreading.{remove_entry-spread, spread-remove_entry}
@@ -101,7 +102,7 @@ module _ (es : Keys) (key : List ℕ) (peer : ℕ) where
           → remove_entry (is_at (nat_cmp peer)) rs ≡ []
       emptied [] e = cc
       emptied (r ∷ []) e = let same : r.0 ≡ peer = cc in
-          rw (same, equal_itself nat_cmp_total peer) refl
+          rw (same, tied_itself nat_cmp_total peer) refl
       emptied (r ∷ q ∷ rs) e = cc
 
 -- ---- each peer once at a key
@@ -310,5 +311,5 @@ pub value_last : (peer : ℕ) (rows : List (ℕ × Row)) → keys_of rows ≡ pe
     (slice_get rows (length rows - 1))
 value_last peer [] e = cc
 value_last peer (r ∷ []) e = let same : r.0 ≡ peer = cc in
-    rw (same, equal_itself nat_cmp_total peer) refl
+    rw (same, tied_itself nat_cmp_total peer) refl
 value_last peer (r ∷ q ∷ rows) e = cc

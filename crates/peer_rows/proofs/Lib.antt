@@ -1,11 +1,9 @@
 pub mod Counting
 pub mod Totals
-pub mod Sorted
 pub mod Selecting
 pub mod Peers
 pub mod Spreading
 pub mod Widths
-pub mod Ordered
 pub mod Listed
 pub mod Keying
 pub mod Using

@@ -17,16 +17,19 @@ use Rattle.std.proofs.lemmas.List.Sorted.{Contains-permutation}
 use Rattle.std.proofs.lemmas.Map.Keys.{IsDistinct-head, IsDistinct-tail}
 use Rattle.std.proofs.lemmas.Map.Keys.{IsDistinct-IsPermutation}
 use Rattle.std.proofs.lemmas.Map.Views.{Contains-from_lookup, lookup-from_Contains}
-use Rattle.place_index.specs.Places.{item_at, AreDistinct, IsAbsent}
+use Rattle.place_index.specs.Places.{item_at, AreDistinct, IsAbsent, in_order}
 use Rattle.peer_rows.specs.declared.row.Row.{Row}
-use Rattle.peer_rows.specs.Places.{Places, Keys, by_place, in_order, one_shown, shown}
-use Rattle.peer_rows.proofs.Sorted.{turned, AllAbove-below}
-use Rattle.peer_rows.proofs.Ordered.{PeerRows, Item, at_key, same_if_at, turned_at}
-use Rattle.peer_rows.proofs.Ordered.{same_keys, found, lookup-in_order, sorted-in_order}
-use Rattle.peer_rows.proofs.Ordered.{distinct_others, apart}
+use Rattle.peer_rows.proofs.InTime.{PeerRows}
+use Rattle.peer_rows.specs.Places.{Places, Keys, by_place, one_shown, shown}
+use Rattle.place_index.proofs.Sorted.{turned, AllAbove-below}
+use Rattle.place_index.proofs.Ordered.{at_key, same_if_at, turned_at, same_keys, found}
+use Rattle.place_index.proofs.Ordered.{lookup-in_order, sorted-in_order, distinct_others, apart}
 
 abbrev pub LentKey : Type 0
 LentKey = Bor (List ℕ) × Bor (List (ℕ × Row))
+
+abbrev Item : Type 0
+Item = List ℕ × PeerRows
 
 -- ---- by place
 abbrev one_listed : Option Item → Keys

@@ -18,22 +18,22 @@ use Rattle.std.specs.Option.{option_map}
 use Rattle.std.specs.Ordering.{match_ordering, nat_cmp}
 use Rattle.std.specs.Prelude.{IsSome, ◌⊎◌, filter, is_some, map, slice_set, unwrap_or}
 use Rattle.std.specs.declared.cmp.Ordering.TheVariants.{Less, Equal, Greater}
-use Rattle.place_index.specs.Places.{AreDistinct, item_at, key_at, revalued, value_at}
+use Rattle.place_index.specs.Places.{AreDistinct, item_at, key_at, revalued, value_at, in_order}
 use Rattle.place_plans.specs.Plans.{is_due}
 use Rattle.peer_rows.specs.Ends.{AreLive, EndFrom, IsFrom, IsInTime, IsPlanned}
 use Rattle.peer_rows.specs.Ends.{HasEnded, IsRowGone, StayLive, any_ends, end_of, is_behind}
 use Rattle.peer_rows.specs.Ends.{ended, lives_at, rows_at}
 use Rattle.peer_rows.specs.Rows.{AreTables, numbered, place, placed}
 use Rattle.peer_rows.specs.Peers.{ArePeers}
-use Rattle.peer_rows.specs.Places.{Keys, Places, in_order}
+use Rattle.peer_rows.specs.Places.{Keys, Places}
 use Rattle.peer_rows.specs.Spread.{part, spread}
 use Rattle.peer_rows.specs.Table.{IsKept, Spot, TableRows, rows_in, spot, spot_cmp}
 use Rattle.peer_rows.specs.declared.row.Row.{Row}
 use Rattle.peer_rows.proofs.InTime.{PeerRows, rows_value}
 use Rattle.peer_rows.proofs.Kept.{counted_some, is_there, kept-take}
-use Rattle.peer_rows.proofs.Ordered.{sorted-in_order}
+use Rattle.place_index.proofs.Ordered.{sorted-in_order}
 use Rattle.peer_rows.proofs.Selecting.{filter-append}
-use Rattle.peer_rows.proofs.Sorted.{sorted-filter}
+use Rattle.place_index.proofs.Sorted.{sorted-filter}
 use Rattle.peer_rows.proofs.Shown.{gone_once-shown, last-shown, once-shown, peers-shown, take-shown}
 
 pub key_of : (places : Places) (at : ℕ) (rows : PeerRows) → value_at places at ≡ Some rows

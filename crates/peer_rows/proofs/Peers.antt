@@ -17,8 +17,8 @@ use Rattle.std.proofs.lemmas.Option.{slice_get-get_or}
 use Rattle.agg_types.specs.declared.no_memory.NoMemory.{NoMemory}
 use Rattle.peer_rows.specs.declared.row.Row.{Row}
 use Rattle.peer_rows.specs.Peers.{IsFound, IsGap, ArePeers}
-use Rattle.peer_rows.proofs.Sorted.{sorted_one, sorted_others, lookup_below, sorted-insert_entry}
-use Rattle.peer_rows.proofs.Sorted.{sorted-remove_entry}
+use Rattle.place_index.proofs.Sorted.{sorted_one, sorted_others, lookup_below, sorted-insert_entry}
+use Rattle.place_index.proofs.Sorted.{sorted-remove_entry}
 
 above : (peer p : ℕ) → p < peer → nat_cmp peer p ≡ Greater
 above peer p less = sym (nat_cmp_is peer p Greater less)

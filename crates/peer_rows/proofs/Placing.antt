@@ -26,8 +26,8 @@ use Rattle.peer_rows.specs.Spread.{spread}
 use Rattle.peer_rows.specs.Table.{Spot, spot_cmp, same_key, rows_of_peer, TableRows}
 use Rattle.peer_rows.specs.Rows.{place, place_of, in_table, of_table_key, of_table_peer, numbered}
 use Rattle.peer_rows.specs.Rows.{placed, AreInOrder, AreTables, RowMap}
-use Rattle.peer_rows.proofs.Sorted.{equal_itself, AllAbove, sorted-insert_entry}
-use Rattle.peer_rows.proofs.Sorted.{sorted-remove_entry}
+use Rattle.std.proofs.lemmas.Cmp.{tied_itself}
+use Rattle.place_index.proofs.Sorted.{AllAbove, sorted-insert_entry, sorted-remove_entry}
 use Rattle.peer_rows.proofs.Selecting.{PassesOnce}
 use Rattle.peer_rows.proofs.Spreading.{PassesOnce-sorted, lookup-spread, remove_entry-spread}
 use Rattle.peer_rows.proofs.Spreading.{filter_not-spread, map-filter-spread, insert_entry-spread}
@@ -37,7 +37,7 @@ pub numbered-set : (ts : List TableRows) (i t n : ℕ) (new : TableRows) → t �
     → numbered n (set ts i new) ≡ set_value (is_at (nat_cmp t)) (numbered n ts) new.entries
 numbered-set [] i t n new is = refl
 numbered-set (x ∷ ts) zero t n new is = let same : t ≡ n = omega (arith, is) in
-    rw (same, equal_itself nat_cmp_total n) refl
+    rw (same, tied_itself nat_cmp_total n) refl
 numbered-set (x ∷ ts) (suc i) t n new is =
     let above : nat_cmp t n ≡ Greater = sym (nat_cmp_is t n Greater (omega (arith, is))) in
     rw above (ap (λ rest. (n, x.entries) ∷ rest)
@@ -48,7 +48,7 @@ pub lookup-numbered : (ts : List TableRows) (i t n : ℕ) (table : TableRows) �
     → slice_get ts i ≡ Some table → lookup (is_at (nat_cmp t)) (numbered n ts) ≡ Some table.entries
 lookup-numbered [] i t n table is found = cc
 lookup-numbered (x ∷ ts) zero t n table is found = let same : t ≡ n = omega (arith, is) in
-    let first : x ≡ table = cc in rw (same, equal_itself nat_cmp_total n, first) refl
+    let first : x ≡ table = cc in rw (same, tied_itself nat_cmp_total n, first) refl
 lookup-numbered (x ∷ ts) (suc i) t n table is found =
     let above : nat_cmp t n ≡ Greater = sym (nat_cmp_is t n Greater (omega (arith, is))) in
     rw above (lookup-numbered ts i t (n + 1) table (omega (arith, is)) found)

@@ -7,18 +7,18 @@ use Rattle.std.specs.Cmp.Lexicographic.{slice_cmp}
 use Rattle.std.specs.Map.{keys_of, lookup, set_value, remove_entry}
 use Rattle.std.specs.BTreeMap.{insert_entry, is_at}
 use Rattle.agg_types.specs.declared.no_memory.NoMemory.{NoMemory}
-use Rattle.place_index.specs.Places.{item_at, key_at, value_at, laid, revalued}
-use Rattle.place_index.specs.Places.{AreDistinct, IsAbsent}
+use Rattle.place_index.specs.Places.{item_at, key_at, value_at, laid, revalued, AreDistinct}
+use Rattle.place_index.specs.Places.{IsAbsent, in_order}
 use Rattle.peer_rows.specs.declared.row.Row.{Row}
 use Rattle.peer_rows.specs.Peers.{ArePeers}
-use Rattle.peer_rows.specs.Places.{Places, Keys, in_order}
+use Rattle.peer_rows.specs.Places.{Places, Keys}
 use Rattle.peer_rows.specs.Table.{spot_cmp, rows_in, EachPeerOnce}
 use Rattle.peer_rows.proofs.Keying.{lookup_held, lookup_not_held, put_held, take_held}
 use Rattle.peer_rows.proofs.Keying.{take_last, put_new}
 use Rattle.peer_rows.proofs.Keying.{once-set_value, once-insert_entry, once-remove_entry}
-use Rattle.peer_rows.proofs.Ordered.{PeerRows, at_key, sorted-in_order, in_order-set}
-use Rattle.peer_rows.proofs.Ordered.{in_order-laid}
-use Rattle.peer_rows.proofs.Ordered.{in_order-gone, lookup-held, lookup-absent, rows_of_item}
+use Rattle.peer_rows.proofs.InTime.{PeerRows}
+use Rattle.place_index.proofs.Ordered.{at_key, sorted-in_order, in_order-set, in_order-laid}
+use Rattle.place_index.proofs.Ordered.{in_order-gone, lookup-held, lookup-absent, value_of_item}
 
 -- the value that a key has already changes nothing
 set_value-held : (test : List ℕ → Bool) (es : Keys) (rows : PeerRows)
@@ -60,7 +60,7 @@ module _ (places : Places) (key : List ℕ) where
     -- the rows of a key are those in its place
     pub value-shown : lookup (at_key key) (in_order places) ≡ value_at places at
     value-shown =
-        let there = rows_of_item (item_at places at) key own in
+        let there = value_of_item (item_at places at) key own in
         lookup-held places at key there.0 d own there.1 ∙ sym there.1
 
     pub gone-shown : in_order (slice_set places at None)

@@ -16,9 +16,10 @@ use Rattle.std.proofs.lemmas.Map.{NonePasses}
 use Rattle.std.proofs.lemmas.Map.Keys.{sorted_head, sorted_tail}
 use Rattle.std.proofs.lemmas.Map.Lookups.{CmpEqualImpliesEq}
 use Rattle.peer_rows.specs.Spread.{part, spread}
-use Rattle.peer_rows.proofs.Sorted.{equal_itself, AllAbove, AllBelow, AllAbove-append}
-use Rattle.peer_rows.proofs.Sorted.{AllAbove-below, lookup-above, insert_entry-above}
-use Rattle.peer_rows.proofs.Sorted.{insert_entry-append_left, insert_entry-append_right}
+use Rattle.std.proofs.lemmas.Cmp.{tied_itself}
+use Rattle.place_index.proofs.Sorted.{AllAbove, AllBelow, AllAbove-append}
+use Rattle.place_index.proofs.Sorted.{AllAbove-below, lookup-above, insert_entry-above}
+use Rattle.place_index.proofs.Sorted.{insert_entry-append_left, insert_entry-append_right}
 use Rattle.peer_rows.proofs.Selecting.{NonePasses-append, lookup-append_left, lookup-append_right}
 use Rattle.peer_rows.proofs.Selecting.{remove_entry-append_left, remove_entry-append_right}
 use Rattle.peer_rows.proofs.Selecting.{filter-none, filter_not-none, filter-append, PassesOnce}
@@ -299,7 +300,7 @@ module _ {K P Q X : Type 0} (pair : K → P → Q) (R : K → K → Ordering) (S
             ≡ insert_entry C (part pair e.0 e.1 ++ spread pair es) (pair k p) x
         here same is = rw (same, ← is)
             (ap (λ rest. rest ++ spread pair es)
-            (insert_entry-part e.0 e.1 p x (equal_itself o e.0))
+            (insert_entry-part e.0 e.1 p x (tied_itself o e.0))
             ∙ sym (insert_entry-append_left C (part pair e.0 e.1) (spread pair es) (pair e.0 p) x
             (spread-above e.0 p es later)))
 

@@ -12,7 +12,8 @@ use Rattle.std.specs.BTreeMap.{insert_entry, is_at}
 use Rattle.std.specs.List.Sorted.{IsStrictlySortedBy}
 use Rattle.peer_rows.specs.Most.{AreAbove, AreMosts, AreRaised, most_at, most_in, most_of_row}
 use Rattle.peer_rows.specs.declared.row.Row.{Row}
-use Rattle.peer_rows.proofs.Sorted.{equal_itself, lookup_below, sorted_others}
+use Rattle.std.proofs.lemmas.Cmp.{tied_itself}
+use Rattle.place_index.proofs.Sorted.{lookup_below, sorted_others}
 
 pub most_cons : (col : ℕ) (r : ℕ × Row) (rows : List (ℕ × Row))
     → most_in col (r ∷ rows) ≡ most_at r.1.cells col + most_in col rows
@@ -79,14 +80,14 @@ most-taken col peer (r ∷ rows) = by (most-taken col peer rows) (nat_cmp peer r
 -- a row that was put is found
 pub put_found : (peer : ℕ) (rows : List (ℕ × Row)) (row : Row)
     → lookup (is_at (nat_cmp peer)) (insert_entry nat_cmp rows peer row) ≡ Some row
-put_found peer [] row = rw (equal_itself nat_cmp_total peer) refl
+put_found peer [] row = rw (tied_itself nat_cmp_total peer) refl
 put_found peer (r ∷ rows) row = by (put_found peer rows row) (nat_cmp peer r.0) refl
   where
     by : lookup (is_at (nat_cmp peer)) (insert_entry nat_cmp rows peer row) ≡ Some row
         → (o : Ordering) → nat_cmp peer r.0 ≡ o
         → lookup (is_at (nat_cmp peer)) (match_ordering o ((peer, row) ∷ r ∷ rows)
         ((r.0, row) ∷ rows) (r ∷ insert_entry nat_cmp rows peer row)) ≡ Some row
-    by more Less is = rw (equal_itself nat_cmp_total peer) refl
+    by more Less is = rw (tied_itself nat_cmp_total peer) refl
     by more Equal is = rw is refl
     by more Greater is = rw is more
 

@@ -11,7 +11,8 @@ use Rattle.peer_rows.specs.declared.row.Row.{Row}
 use Rattle.peer_rows.specs.Spread.{part}
 use Rattle.peer_rows.specs.Peers.{ArePeers}
 use Rattle.peer_rows.specs.Table.{Spot, spot, same_key, rows_in, EachPeerOnce}
-use Rattle.peer_rows.proofs.Sorted.{equal_itself, above_first, sorted_others, AllAbove}
+use Rattle.std.proofs.lemmas.Cmp.{tied_itself}
+use Rattle.place_index.proofs.Sorted.{above_first, sorted_others, AllAbove}
 use Rattle.peer_rows.proofs.Keying.{Keys}
 
 -- a key's own rows are passed over
@@ -20,7 +21,7 @@ dedup_from-part : (k : List ℕ) (rows : List (ℕ × Row)) (rest : List (Spot �
     (map (λ e. e.0.0) rest)
 dedup_from-part k [] rest = refl
 dedup_from-part k (r ∷ rows) rest =
-    rw (equal_itself nat_list_cmp_total k) (dedup_from-part k rows rest)
+    rw (tied_itself nat_list_cmp_total k) (dedup_from-part k rows rest)
 
 -- a key above another is another
 another : (k j : List ℕ) → slice_cmp nat_cmp k j ≡ Less → same_key j k ≡ false

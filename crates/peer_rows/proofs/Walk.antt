@@ -8,15 +8,15 @@ use Rattle.std.specs.List.Sorted.{IsStrictlySortedBy}
 use Rattle.std.specs.Map.{keys_of, lookup}
 use Rattle.std.specs.Ordering.{nat_cmp}
 use Rattle.std.specs.Option.{option_map}
-use Rattle.place_index.specs.Places.{item_at, key_at, value_at, AreDistinct, AreEmpty}
+use Rattle.place_index.specs.Places.{item_at, key_at, value_at, AreDistinct, AreEmpty, in_order}
 use Rattle.peer_rows.specs.declared.row.Row.{Row}
-use Rattle.peer_rows.specs.Places.{Places, Keys, by_place, in_order}
+use Rattle.peer_rows.specs.Places.{Places, Keys, by_place}
 use Rattle.peer_rows.specs.Table.{Spot, EachPeerOnce, rows_in, same_key}
 use Rattle.peer_rows.specs.Walk.{AreKeysOf, IsEachKey, if_any}
 use Rattle.peer_rows.proofs.Kept.{rows_of_key, none_of_key}
 use Rattle.peer_rows.proofs.Keying.{peers-lookup}
 use Rattle.peer_rows.proofs.Listed.{distinct_keys, lookup-by_place}
-use Rattle.peer_rows.proofs.Ordered.{lookup-in_order}
+use Rattle.place_index.proofs.Ordered.{lookup-in_order}
 
 -- the keys as they lie
 pub keys_as_they_lie : (places : Places) → AreDistinct places

@@ -6,9 +6,9 @@ use Rattle.std.specs.List.{AllByRecursion, list_any}
 use Rattle.std.specs.Map.{lookup, remove_entry}
 use Rattle.std.specs.Option.{option_map}
 use Rattle.std.specs.Ordering.{nat_cmp}
-use Rattle.place_index.specs.Places.{key_at, value_at}
+use Rattle.place_index.specs.Places.{key_at, value_at, in_order}
 use Rattle.place_plans.specs.Plans.{plan_at}
-use Rattle.peer_rows.specs.Places.{Places, in_order}
+use Rattle.peer_rows.specs.Places.{Places}
 use Rattle.peer_rows.specs.Table.{TableRows, rows_in, spot_cmp}
 use Rattle.peer_rows.specs.declared.ends.Ends.{Ends}
 use Rattle.peer_rows.specs.declared.row.Row.{Row}

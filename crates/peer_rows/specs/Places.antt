@@ -1,8 +1,5 @@
 use Rattle.std.specs.Prelude.{ℕ, List, [], ◌∷◌, Option, Some, None, map}
 use Rattle.std.specs.Borrow.{Bor}
-use Rattle.std.specs.Ordering.{nat_cmp}
-use Rattle.std.specs.Cmp.Lexicographic.{slice_cmp}
-use Rattle.std.specs.BTreeMap.{insert_entry}
 use Rattle.peer_rows.specs.declared.row.Row.{Row}
 
 -- places, each empty or with a key and its rows
@@ -18,12 +15,6 @@ abbrev pub by_place : Places → Keys
 by_place [] = []
 by_place (None ∷ places) = by_place places
 by_place (Some item ∷ places) = item ∷ by_place places
-
--- the keys with their rows in the order of the keys, whatever their places
-abbrev pub in_order : Places → Keys
-in_order [] = []
-in_order (None ∷ places) = in_order places
-in_order (Some item ∷ places) = insert_entry (slice_cmp nat_cmp) (in_order places) item.0 item.1
 
 -- what a lent key shows with its rows
 abbrev pub one_shown : Bor (List ℕ) × Bor (List (ℕ × Row)) → List ℕ × List (ℕ × Row)

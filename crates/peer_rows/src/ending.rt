@@ -14,7 +14,7 @@ ghost use Rattle.place_plans.specs.Plans.{count_due, plan_at};
 ghost use Rattle.peer_rows.specs.Ends.{ArePlanned, AreLive, HasEnded, IsLeast};
 ghost use Rattle.peer_rows.specs.Ends.{IsLookedAt, OthersStay, StayLive, is_behind, lives_at};
 ghost use Rattle.peer_rows.specs.Ends.{rows_at};
-ghost use Rattle.peer_rows.specs.Places.{in_order};
+ghost use Rattle.place_index.specs.Places.{in_order};
 ghost use Rattle.peer_rows.specs.Table.{IsKept, rows_in};
 
 use crate::ahead::Ahead;

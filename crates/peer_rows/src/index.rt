@@ -4,11 +4,10 @@ ghost use Rattle.std.specs.Prelude.{◌≡◌, ◌≢◌, ◌≤◌, [], Some, N
 ghost use Rattle.std.specs.Prelude.{IfSome, IfNone, OnOk, OnErr, ◌∷◌, slice_set, true, filter};
 ghost use Rattle.std.specs.Map.{keys_of};
 ghost use Rattle.std.specs.Option.{option_copied};
-ghost use Rattle.place_index.specs.Places.{item_at, key_at, value_at, laid, filled};
-ghost use Rattle.place_index.specs.Places.{AreDistinct, AreEmpty, IsAbsent};
+ghost use Rattle.place_index.specs.Places.{item_at, key_at, value_at, laid, filled, AreDistinct};
+ghost use Rattle.place_index.specs.Places.{AreEmpty, IsAbsent, in_order};
 ghost use Rattle.peer_rows.specs.Changed.{IsExchanged, IsPut, IsTaken};
 ghost use Rattle.peer_rows.specs.Ends.{AreElse, ArePlanned, IsEndBy, lives_at, rows_at};
-ghost use Rattle.peer_rows.specs.Places.{in_order};
 ghost use Rattle.peer_rows.specs.Table.{IsKept, rows_in};
 
 use crate::Row;

@@ -11,7 +11,7 @@ ghost use Rattle.std.specs.BTreeMap.{insert_entry, is_at};
 ghost use Rattle.std.specs.List.Sorted.{IsStrictlySortedBy};
 ghost use Rattle.place_index.specs.Places.{item_at, key_at, value_at, AreDistinct, IsAbsent};
 ghost use Rattle.peer_rows.specs.Ends.{lives_at};
-ghost use Rattle.peer_rows.specs.Places.{in_order};
+ghost use Rattle.place_index.specs.Places.{in_order};
 ghost use Rattle.peer_rows.specs.Table.{IsKept};
 ghost use Rattle.peer_rows.specs.Walk.{AreKeysOf};
 
@@ -37,7 +37,7 @@ impl Model for Keyed {
     ghost use Rattle.std.specs.Prelude.{List, ℕ};
     ghost use Rattle.peer_rows.specs.declared.row.Row.{Row};
     ghost use Rattle.peer_rows.specs.Ends.{lives_at};
-    ghost use Rattle.peer_rows.specs.Places.{in_order};
+    ghost use Rattle.place_index.specs.Places.{in_order};
     ghost use Rattle.peer_rows.specs.Table.{IsKept};
 
     ghost Value = { List (List ℕ × List (ℕ × Row)) };

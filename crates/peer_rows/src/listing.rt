@@ -3,8 +3,8 @@ ghost use Rattle.std.specs.Prelude.{◌≡◌, IfOk};
 ghost use Rattle.std.specs.Option.{option_map};
 ghost use Rattle.std.specs.Ordering.{nat_cmp};
 ghost use Rattle.std.specs.Cmp.Lexicographic.{slice_cmp};
-ghost use Rattle.place_index.specs.Places.{item_at};
-ghost use Rattle.peer_rows.specs.Places.{by_place, in_order, one_shown, shown};
+ghost use Rattle.place_index.specs.Places.{item_at, in_order};
+ghost use Rattle.peer_rows.specs.Places.{by_place, one_shown, shown};
 
 use crate::index::Index;
 use crate::key_rows::KeyRows;

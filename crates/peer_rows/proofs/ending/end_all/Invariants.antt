@@ -1,7 +1,7 @@
 use Rattle.std.proofs.Common.{◌≡◌, ◌<◌, ◌≤◌, ℕ, true, length}
 use Rattle.place_plans.specs.Plans.{plan_at}
 use Rattle.peer_rows.specs.Ends.{IsLookedAt, IsPlanned, StayLive, rows_at}
-use Rattle.peer_rows.specs.Places.{in_order}
+use Rattle.place_index.specs.Places.{in_order}
 use Rattle.peer_rows.specs.Table.{IsKept}
 use Rattle.peer_rows.proofs.ending.end_all.Given as goal
 

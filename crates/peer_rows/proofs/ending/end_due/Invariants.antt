@@ -2,7 +2,7 @@ use Rattle.std.proofs.Common.{◌≡◌, ℕ, true, length}
 use Rattle.std.specs.Prelude.{◌⊎◌}
 use Rattle.place_plans.specs.Plans.{count_due, is_due, plan_at}
 use Rattle.peer_rows.specs.Ends.{AreLive, ArePlanned, StayLive, rows_at}
-use Rattle.peer_rows.specs.Places.{in_order}
+use Rattle.place_index.specs.Places.{in_order}
 use Rattle.peer_rows.specs.Table.{IsKept}
 use Rattle.peer_rows.proofs.ending.end_due.Given as goal
 

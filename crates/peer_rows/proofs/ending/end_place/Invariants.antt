@@ -1,6 +1,6 @@
 use Rattle.std.proofs.Common.{◌≡◌, length}
 use Rattle.peer_rows.specs.Ends.{OthersStay, StayLive, rows_at}
-use Rattle.peer_rows.specs.Places.{in_order}
+use Rattle.place_index.specs.Places.{in_order}
 use Rattle.peer_rows.specs.Table.{IsKept}
 use Rattle.peer_rows.proofs.ending.end_place.Given as goal
 

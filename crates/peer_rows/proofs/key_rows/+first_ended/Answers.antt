@@ -5,7 +5,7 @@ use Rattle.std.specs.Map.{keys_of}
 use Rattle.std.specs.Ordering.{nat_cmp}
 use Rattle.peer_rows.specs.Ends.{HasEnded}
 use Rattle.peer_rows.proofs.InTime.{PeerRows, ended_more, first_rest}
-use Rattle.peer_rows.proofs.Sorted.{sorted_others}
+use Rattle.place_index.proofs.Sorted.{sorted_others}
 use Rattle.peer_rows.specs.declared.row.Row.{Row}
 use Rattle.peer_rows.proofs.key_rows.+first_ended.Goals as goal
 

@@ -1,11 +1,10 @@
 use Rattle.std.proofs.Common.{sym, ap}
 use Rattle.std.specs.Prelude.{Option, is_some}
 use Rattle.peer_rows.specs.declared.row.Row.{Row}
-use Rattle.peer_rows.specs.Places.{in_order}
+use Rattle.place_index.specs.Places.{in_order, item_at}
 use Rattle.peer_rows.specs.Table.{EachPeerOnce}
-use Rattle.peer_rows.proofs.Ordered.{sorted-in_order, some_item}
+use Rattle.place_index.proofs.Ordered.{sorted-in_order, some_item}
 use Rattle.peer_rows.proofs.Shown.{no_peer-shown, peers-shown, exchanged-shown, once-shown}
-use Rattle.place_index.specs.Places.{item_at}
 use Rattle.peer_rows.proofs.keyed.Keyed.exchange.Goals as goal
 
 pub exchange-requires : goal.exchange-requires

@@ -1,5 +1,5 @@
 use Rattle.std.proofs.Common.{◌∙◌, sym}
-use Rattle.peer_rows.proofs.Ordered.{sorted-in_order}
+use Rattle.place_index.proofs.Ordered.{sorted-in_order}
 use Rattle.peer_rows.proofs.Shown.{none-shown, value-shown}
 use Rattle.peer_rows.proofs.keyed.Keyed.get.Goals as goal
 

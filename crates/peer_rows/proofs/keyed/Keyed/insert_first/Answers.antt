@@ -1,7 +1,7 @@
 use Rattle.std.proofs.Common.{ap}
-use Rattle.peer_rows.specs.Places.{in_order}
+use Rattle.place_index.specs.Places.{in_order}
 use Rattle.peer_rows.specs.Table.{EachPeerOnce}
-use Rattle.peer_rows.proofs.Ordered.{sorted-in_order}
+use Rattle.place_index.proofs.Ordered.{sorted-in_order}
 use Rattle.peer_rows.proofs.Shown.{none-shown, new-shown, new_once-shown, same_once, on_err}
 use Rattle.peer_rows.proofs.keyed.Keyed.insert_first.Goals as goal
 

@@ -1,5 +1,5 @@
 use Rattle.std.proofs.Common.{sym, ◌∙◌}
-use Rattle.peer_rows.proofs.Ordered.{length-in_order}
+use Rattle.place_index.proofs.Ordered.{length-in_order}
 use Rattle.peer_rows.proofs.keyed.Keyed.len.Goals as goal
 
 pub returns-clause-value : goal.returns-clause-value

@@ -1,10 +1,9 @@
 use Rattle.std.proofs.Common.{sym, ap}
-use Rattle.peer_rows.specs.Places.{in_order}
+use Rattle.place_index.specs.Places.{in_order, item_at}
 use Rattle.peer_rows.specs.Table.{EachPeerOnce}
-use Rattle.peer_rows.proofs.Ordered.{sorted-in_order, some_item}
+use Rattle.place_index.proofs.Ordered.{sorted-in_order, some_item}
 use Rattle.peer_rows.proofs.Shown.{no_peer-shown, new-shown, new_once-shown, same_once, on_err}
 use Rattle.peer_rows.proofs.Shown.{peers-shown, put-shown, refused-shown, once-shown}
-use Rattle.place_index.specs.Places.{item_at}
 use Rattle.peer_rows.proofs.keyed.Keyed.put.Goals as goal
 
 pub put-requires : goal.put-requires

@@ -2,9 +2,8 @@ use Rattle.std.proofs.Common.{sym}
 use Rattle.std.specs.Ordering.{nat_cmp}
 use Rattle.std.specs.Cmp.Lexicographic.{slice_cmp}
 use Rattle.std.specs.BTreeMap.{is_at}
-use Rattle.place_index.specs.Places.{item_at}
-use Rattle.peer_rows.specs.Places.{in_order}
-use Rattle.peer_rows.proofs.Ordered.{sorted-in_order, some_item}
+use Rattle.place_index.specs.Places.{item_at, in_order}
+use Rattle.place_index.proofs.Ordered.{sorted-in_order, some_item}
 use Rattle.peer_rows.proofs.Selecting.{remove_entry-missing}
 use Rattle.peer_rows.proofs.Shown.{none-shown, rows-shown, gone-shown}
 use Rattle.peer_rows.proofs.keyed.Keyed.remove.Goals as goal

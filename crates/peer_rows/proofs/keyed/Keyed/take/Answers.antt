@@ -1,11 +1,10 @@
 use Rattle.std.proofs.Common.{◌≡◌, ◌∙◌, sym, ap, ◌∷◌, [], true, false}
 use Rattle.std.specs.Map.{keys_of}
-use Rattle.place_index.specs.Places.{item_at}
-use Rattle.peer_rows.specs.Places.{in_order}
+use Rattle.place_index.specs.Places.{item_at, in_order}
 use Rattle.peer_rows.specs.Table.{EachPeerOnce}
 use Rattle.peer_rows.proofs.Keying.{take_not_held, value_last}
 use Rattle.peer_rows.proofs.InTime.{PeerRows, rows_value}
-use Rattle.peer_rows.proofs.Ordered.{rows_of_item, sorted-in_order, some_item}
+use Rattle.place_index.proofs.Ordered.{value_of_item, sorted-in_order, some_item}
 use Rattle.peer_rows.proofs.Shown.{none-shown, no_peer-shown, peers-shown, take-shown}
 use Rattle.peer_rows.proofs.Shown.{once-shown, last-shown, gone_once-shown}
 use Rattle.peer_rows.proofs.keyed.Keyed.take.Goals as goal
@@ -38,7 +37,7 @@ take-requires-clause-some c = some_item (item_at c.self.inside.index.places c.in
 
 pub take-requires-clause-others : goal.take-requires-clause-others
 take-requires-clause-others c = λ last.
-    let there = rows_of_item (item_at c.self.inside.index.places c.in_ok-at.at) c.args.key.now
+    let there = value_of_item (item_at c.self.inside.index.places c.in_ok-at.at) c.args.key.now
     c.in_ok-at.ensures.some in
     let yes : c.is_only.result ≡ true =
     (rw there.1 at c.is_only.ensures).1
