@@ -8,6 +8,7 @@ use Rattle.std.proofs.lemmas.Bool.Decides.{nat_tests}
 use Rattle.std.specs.Fmt.{decimal, digits}
 use Rattle.std.specs.List.{flat_map, list_all}
 use Rattle.agg_types.specs.Check.{config_faults, each, filter_faults, rank_faults, table_faults}
+use Rattle.agg_types.specs.Kind.{kind_name}
 use Rattle.agg_types.specs.declared.check.ConfigFault.{ConfigFault}
 use Rattle.agg_types.specs.declared.column.Col.{Col}
 use Rattle.agg_types.specs.declared.config.Cond.{Cond}
@@ -34,7 +35,7 @@ use Rattle.show_clear.specs.Answer.{shape_of, title_text}
 use Rattle.show_clear.specs.AnswerLines.{AreAnswerLines, is_answer_line}
 use Rattle.show_clear.specs.Refusal.{refusal_text}
 use Rattle.show_clear.specs.Tables.{cell_text, cells_text, column_text, counts_text, heading}
-use Rattle.show_clear.specs.Tables.{kind_name, ms_or_never, row_text, sums_text}
+use Rattle.show_clear.specs.Tables.{ms_or_never, row_text, sums_text}
 use Rattle.show_clear.specs.declared.command.Command.{Command}
 use Rattle.show_clear.specs.declared.command.Command.TheVariants.{Ask, Change as Changes}
 use Rattle.show_clear.specs.declared.command.Question.{Question}

@@ -8,6 +8,7 @@ use Rattle.std.specs.Fmt.{decimal}
 use Rattle.std.specs.List.{flat_map, list_all}
 use Rattle.agg_types.specs.Check.{each}
 use Rattle.agg_types.specs.Col.{col_name, is_rate}
+use Rattle.agg_types.specs.Kind.{kind_name}
 use Rattle.agg_types.specs.Name.{is_name, is_printable}
 use Rattle.agg_types.specs.declared.column.Col.{Col}
 use Rattle.agg_types.specs.declared.column.Col.TheVariants as column
@@ -20,7 +21,7 @@ use Rattle.line_words.proofs.TextLines.{is_line_byte, lines_back, printed_bytes}
 use Rattle.line_words.proofs.WordsBack.{both}
 use Rattle.show_clear.specs.AnswerLines.{AreAnswerLines, is_answer_line}
 use Rattle.show_clear.specs.Tables.{cell_text, cells_text, column_text}
-use Rattle.show_clear.specs.Tables.{kind_name, ms_or_never, value_in}
+use Rattle.show_clear.specs.Tables.{ms_or_never, value_in}
 use Rattle.show_clear.proofs.KeyBytes.{Prints, all_of, and_true, decimal_passes}
 use Rattle.show_clear.proofs.KeyBytes.{key_passes, lower_digits}
 

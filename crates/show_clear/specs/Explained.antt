@@ -6,6 +6,7 @@ use Rattle.std.specs.Prelude.{position, Option, None, Some, Result, Ok, Err, is_
 use Rattle.std.specs.Fmt.{decimal}
 use Rattle.std.specs.Str.{bytes_eq}
 use Rattle.agg_types.specs.Col.{col_name}
+use Rattle.agg_types.specs.Kind.{kind_name}
 use Rattle.agg_types.specs.declared.column.Col.{Col}
 use Rattle.agg_types.specs.declared.config.Shape.{Shape}
 use Rattle.agg_types.specs.declared.limits.TheConstants.{LONGEST_COMMAND_LINE, LONGEST_NAME}
@@ -18,7 +19,6 @@ use Rattle.line_words.specs.Words.{words}
 use Rattle.show_clear.specs.Answer.{shape_of}
 use Rattle.show_clear.specs.Parse.{cond_col, without_returns}
 use Rattle.show_clear.specs.Refusal.{fault_name, fault_number}
-use Rattle.show_clear.specs.Tables.{kind_name}
 use Rattle.show_clear.specs.declared.fault.CommandFault.{CommandFault}
 use Rattle.show_clear.specs.declared.fault.CommandFault.TheVariants.{Empty, Unknown, NoTable}
 use Rattle.show_clear.specs.declared.fault.CommandFault.TheVariants.{BadColumn, BadOperator}

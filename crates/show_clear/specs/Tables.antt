@@ -4,20 +4,11 @@ use Rattle.std.specs.Prelude.{if◌then◌else◌}
 use Rattle.std.specs.Fmt.{decimal}
 use Rattle.std.specs.List.{flat_map}
 use Rattle.agg_types.specs.Col.{col_name, is_rate, place}
+use Rattle.agg_types.specs.Kind.{kind_name}
 use Rattle.agg_types.specs.declared.column.Col.{Col}
-use Rattle.agg_types.specs.declared.config.KeyKind.{KeyKind}
-use Rattle.agg_types.specs.declared.config.KeyKind.TheVariants.{Integer, Ip, Ipv6, Str, Binary}
 use Rattle.agg_types.specs.declared.config.Shape.{Shape}
 use Rattle.fleet_model.specs.declared.summed.Summed.{Summed}
 use Rattle.key_text.specs.Printed.{key_text}
-
--- the name of a kind of keys
-abbrev pub kind_name : KeyKind → List ℕ
-kind_name Integer = codes "integer"
-kind_name Ip = codes "ip"
-kind_name Ipv6 = codes "ipv6"
-kind_name (Str len) = codes "string"
-kind_name (Binary len) = codes "binary"
 
 -- the rows that each peer may hold, and the keys that there are
 abbrev pub counts_text : ℕ → ℕ → List ℕ

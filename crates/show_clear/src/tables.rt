@@ -2,8 +2,9 @@
 
 ghost use Rattle.std.specs.Prelude.{◌≡◌, ◌++◌, length, take, OnOk};
 ghost use Rattle.std.specs.List.{flat_map};
+ghost use Rattle.agg_types.specs.Kind.{kind_name};
 ghost use Rattle.show_clear.specs.Tables.{cell_text, cells_text, column_text, counts_text, heading};
-ghost use Rattle.show_clear.specs.Tables.{kind_name, ms_or_never, row_text, sums_text, value_in};
+ghost use Rattle.show_clear.specs.Tables.{ms_or_never, row_text, sums_text, value_in};
 
 use crate::fleet::Summed;
 use crate::pieces::{append_counted, append_labelled};
@@ -35,13 +36,7 @@ fn append_counts(size: u64, used: u64, out: &mut Vec<u8>) -> Result<(), NoMemory
 pub(crate) fn kind_name(kind: KeyKind) -> &'static [u8]
     ensures { result.now ≡ kind_name kind }
 {
-    match kind {
-        KeyKind::Integer => b"integer",
-        KeyKind::Ip => b"ip",
-        KeyKind::Ipv6 => b"ipv6",
-        KeyKind::Str(_) => b"string",
-        KeyKind::Binary(_) => b"binary",
-    }
+    kind.name().as_bytes()
 }
 
 /// Appends the name of a column, that of a rate with its period, behind a label.
