@@ -4,7 +4,7 @@ use Rattle.std.proofs.Common.{Option, None, Some, refl, ap, subst, sym, ◌∙�
 use Rattle.std.proofs.Common.{append-nil}
 use Rattle.std.specs.Prelude.{is_none, slice_get}
 use Rattle.std.specs.List.{list_all}
-use Rattle.agg_types.specs.Check.{all_faults, config_faults, each, filter_faults, hold_fits}
+use Rattle.agg_types.specs.Check.{all_faults, config_faults, each, filter_faults}
 use Rattle.agg_types.specs.Check.{peer_faults, push_faults, rank_faults, table_faults}
 use Rattle.agg_types.specs.Name.{is_name}
 use Rattle.agg_types.specs.declared.check.ConfigFault.{ConfigFault}

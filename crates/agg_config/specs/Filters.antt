@@ -4,16 +4,15 @@ use Rattle.std.specs.Prelude.{Ok}
 use Rattle.agg_types.specs.declared.column.Col.{Col}
 use Rattle.agg_types.specs.declared.config.Cond.{Cond}
 use Rattle.agg_types.specs.declared.config.Op.{Op}
-use Rattle.line_words.specs.Reader.{◌>>=◌, Left, data_column, end, number, operator}
+use Rattle.line_words.specs.Reader.{◌>>=◌, Left, comparison, data_column, end}
 use Rattle.line_words.specs.declared.misread.Misread.{Misread}
 
 -- the condition of the next three words, and what is left behind it; its bound may be no number
 unfoldable pub condition : Left → Result ((Col × Op × Result ℕ Misread) × Left) Misread
 condition left = do
   col ← data_column left
-  op ← operator col.1
-  bound ← number op.1
-  Ok ((col.0, op.0, bound.0), bound.1)
+  said ← comparison col.1
+  Ok ((col.0, said.0.0, said.0.1), said.1)
 
 -- up to this many conditions, to the last word
 unfoldable pub conditions : ℕ → Left → Result (List (Col × Op × Result ℕ Misread)) Misread

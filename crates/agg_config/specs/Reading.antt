@@ -80,6 +80,9 @@ is_number expected.Column = false
 is_number expected.Columns = false
 is_number expected.Condition = false
 is_number expected.Operator = false
+is_number expected.Key = false
+is_number expected.Moment = false
+is_number expected.Hexadecimal = false
 
 abbrev pub cause_of : Misread → LineCause
 cause_of misread = if not misread.is_missing && is_number misread.expected then Number else Syntax

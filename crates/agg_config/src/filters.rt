@@ -33,8 +33,7 @@ fn condition(words: &mut Words<'_>) -> Result<Condition, Misread>
     ensures { Reads (λ x. x) (condition words.old) result words.new }
 {
     let col = words.data_column()?;
-    let op = words.operator()?;
-    let bound = words.number()?;
+    let (op, bound) = words.comparison()?;
     Ok((col, op, bound))
 }
 

@@ -32,6 +32,9 @@ expected_text expected.Column = codes "a column"
 expected_text expected.Columns = codes "columns with commas between, a rate with its period in ms"
 expected_text expected.Condition = codes "data.<column>"
 expected_text expected.Operator = codes "eq, ne, le, ge, lt or gt"
+expected_text expected.Key = codes "a key"
+expected_text expected.Moment = codes "a moment in ms"
+expected_text expected.Hexadecimal = codes "hexadecimal digits, two for each byte"
 
 -- how a line is written that begins with this word
 abbrev pub form_named : List ℕ → List ℕ

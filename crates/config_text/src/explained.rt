@@ -120,6 +120,9 @@ fn expected_text(expected: Expected) -> &'static str
         Expected::Columns => "columns with commas between, a rate with its period in ms",
         Expected::Condition => "data.<column>",
         Expected::Operator => "eq, ne, le, ge, lt or gt",
+        Expected::Key => "a key",
+        Expected::Moment => "a moment in ms",
+        Expected::Hexadecimal => "hexadecimal digits, two for each byte",
     }
 }
 

@@ -1,5 +1,5 @@
 -- Reading a line word by word.
-use Rattle.std.specs.Prelude.{◌≡◌, ℕ, ◌+◌, true, false, List, [], ◌∷◌, codes, take, drop, find}
+use Rattle.std.specs.Prelude.{◌≡◌, ℕ, ◌+◌, Bool, true, false, List, [], ◌∷◌, codes, take, drop, find}
 use Rattle.std.specs.Prelude.{if◌then◌else◌, Option, None, Some, Result, Ok, Err}
 use Rattle.std.specs.Result.{result_ok}
 use Rattle.std.specs.Str.{bytes_eq}
@@ -22,6 +22,11 @@ pub record Left : Type 0 where
 -- a line before its first word is read
 abbrev pub left_of : List ℕ → Left
 left_of line = record { number = 1; words = words line }
+
+-- whether the first of these words is this one
+abbrev pub next_is : List ℕ → List (List ℕ) → Bool
+next_is wanted [] = false
+next_is wanted (first ∷ rest) = bytes_eq first wanted
 
 infixl 10 ◌>>=◌
 -- goes on with what was read; the first fault ends it
@@ -102,6 +107,13 @@ data_column left = do
   found ← word Condition left
   col ← data_column_named left.number found.0
   Ok (col, found.1)
+
+-- what a condition says behind its column: an operator, and a number or why it is none
+abbrev pub comparison : Left → Result ((Op × Result ℕ Misread) × Left) Misread
+comparison left = do
+  op ← operator left
+  bound ← number op.1
+  Ok ((op.0, bound.0), bound.1)
 
 -- a call gives what reading gives, and leaves what that leaves
 abbrev pub Reads : {X Y : Type 0} →

@@ -22,6 +22,12 @@ pub enum Expected {
     Condition,
     /// One of eq, ne, le, ge, lt and gt.
     Operator,
+    /// A key of the table's kind.
+    Key,
+    /// A moment in ms, up to `LAST_MOMENT`.
+    Moment,
+    /// Bytes, each as two hexadecimal digits.
+    Hexadecimal,
 }
 
 /// The first wrong or missing word of a line, and what had to stand there.

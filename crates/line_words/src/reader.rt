@@ -1,8 +1,8 @@
 //! The words of a line, read one after the other.
 
-ghost use Rattle.std.specs.Prelude.{◌≡◌, length, nat_eq};
-ghost use Rattle.line_words.specs.Reader.{Reads, column, data_column, end, keyword, left_of};
-ghost use Rattle.line_words.specs.Reader.{number, operator, word};
+ghost use Rattle.std.specs.Prelude.{◌≡◌, ◌+◌, length, nat_eq, IfOk};
+ghost use Rattle.line_words.specs.Reader.{Reads, column, comparison, data_column, end, keyword};
+ghost use Rattle.line_words.specs.Reader.{left_of, next_is, number, operator, word};
 
 use crate::{Expected, Misread, next_word, number, operator};
 use agg_types::{Col, Op};
@@ -10,6 +10,9 @@ use std::marker::Model;
 
 /// What begins a condition's first word.
 pub const DATA: &[u8] = b"data.";
+
+/// A condition's operator, and its number or why that is none.
+pub type Comparison = (Op, Result<u64, Misread>);
 
 /// What a line has left: its words, and the number of the next of them, from 1.
 ///
@@ -54,9 +57,21 @@ impl<'a> Words<'a> {
         next_word(self.line).is_none()
     }
 
+    /// Whether the next word is this one.
+    pub fn next_is(&self, wanted: &[u8]) -> bool
+        ensures { result ≡ next_is wanted.now self.now.words }
+    {
+        match next_word(self.line) {
+            None => false,
+            Some((found, _)) => found == wanted,
+        }
+    }
+
     /// The next word. Where the line ends before it, `expected` is reported.
     pub fn word(&mut self, expected: Expected) -> Result<&'a [u8], Misread>
-        ensures { Reads (λ found. found.now) (word expected self.old) result self.new }
+        ensures reads { Reads (λ found. found.now) (word expected self.old) result self.new }
+        ensures shorter { IfOk result
+            (λ found. length self.old.words ≡ length self.new.words + 1) }
     {
         match next_word(self.line) {
             None => Err(Misread::missing(self.number, expected)),
@@ -119,8 +134,8 @@ impl<'a> Words<'a> {
         operator(name).ok_or(Misread::wrong(place, Expected::Operator))
     }
 
-    /// The column of a condition, whose first word is `data.` and the column's name. Its operator
-    /// and its number follow.
+    /// The column of a condition, whose first word is `data.` and the column's name. Its comparison
+    /// follows.
     pub fn data_column(&mut self) -> Result<Col, Misread>
         ensures { Reads (λ x. x) (data_column self.old) result self.new }
     {
@@ -130,5 +145,15 @@ impl<'a> Words<'a> {
             None => Err(Misread::wrong(place, Expected::Condition)),
             Some(name) => Col::from_name(name).ok_or(Misread::wrong(place, Expected::Column)),
         }
+    }
+
+    /// What a condition says behind its column: an operator and a number. Who reads it looks first
+    /// whether the column may stand there.
+    pub fn comparison(&mut self) -> Result<Comparison, Misread>
+        ensures { Reads (λ x. x) (comparison self.old) result self.new }
+    {
+        let op = self.operator()?;
+        let bound = self.number()?;
+        Ok((op, bound))
     }
 }
