@@ -5,8 +5,8 @@
 //!
 //! `next_line`, `next_word` and `next_part` give exactly the first line, word and part, and what is
 //! left has exactly the others. `line_at`, `word_at` and `behind_words` find them by their number.
-//! `number` and `operator` answer exactly what a word writes. `Words` reads a line word by word, for
-//! configurations, steps and commands alike. A fault (`Misread`) tells which word is wrong or
+//! `number` and `operator` answer exactly what a word writes. `Words` reads a line word by word,
+//! for configurations, steps and commands alike. A fault (`Misread`) tells which word is wrong or
 //! missing, and what had to stand there.
 #![tactic(auto)]
 

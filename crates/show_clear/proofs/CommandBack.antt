@@ -1,10 +1,10 @@
 -- A command that is written out is read as that command.
-use Rattle.std.proofs.Common.{◌≡◌, ℕ, zero, suc, ◌<◌, ◌≤◌, Bool, true, false, leb}
+use Rattle.std.proofs.Common.{◌≡◌, ℕ, zero, suc, ◌+◌, ◌<◌, ◌≤◌, Bool, true, false, eqb, leb, codes}
 use Rattle.std.proofs.Common.{ltb, ◌&&◌, ◌||◌, not, List, [], ◌∷◌, ◌++◌, length, Option, None, Some}
 use Rattle.std.proofs.Common.{Ok, refl, subst, ◌∙◌, arith}
 use Rattle.std.specs.Prelude.{slice_get, slice_index_or}
 use Rattle.std.specs.Option.{option_map_or}
-use Rattle.std.proofs.lemmas.Bool.{leb-true, ltb-true}
+use Rattle.std.proofs.lemmas.Bool.{leb-true, ltb-true, ne_eqb}
 use Rattle.std.proofs.lemmas.Slice.Eq.{bytes_eq-Decides}
 use Rattle.std.specs.List.{flat_map, list_all, list_any}
 use Rattle.std.specs.Str.{bytes_eq}
@@ -23,13 +23,23 @@ use Rattle.fleet_model.specs.Answers.{filter_of, no_filter}
 use Rattle.fleet_model.specs.Filters.{is_added}
 use Rattle.fleet_model.specs.Ranking.{no_rank, rank_of}
 use Rattle.fleet_model.specs.State.{State}
+use Rattle.key_text.specs.Printed.{key_text}
+use Rattle.key_text.specs.Read.{key_of}
+use Rattle.line_words.specs.Operators.{operator_word}
+use Rattle.line_words.specs.Reader.{Left}
+use Rattle.agg_types.specs.Col.{col_name}
+use Rattle.std.specs.Fmt.{decimal}
 use Rattle.line_words.proofs.Checked.{both_none, faultless, filter_stands, rank_stands}
 use Rattle.line_words.proofs.Checked.{table_fits, table_stands}
-use Rattle.line_words.proofs.NamesBack.{column_back, operator_back}
+use Rattle.line_words.proofs.NamesBack.{data_back, operator_back}
 use Rattle.line_words.proofs.WordsBack.{both, is_word, name_is_word, number_back}
 use Rattle.show_clear.specs.Answer.{no_shape, shape_of}
-use Rattle.show_clear.specs.Parse.{asked, command_of, conds_of, filter_named, rank_named, sel_of}
-use Rattle.show_clear.specs.Parse.{some_conds, table_and_sel, table_named}
+use Rattle.show_clear.specs.Parse.{added as adds, asked, cleared as clears, command_by, command_in}
+use Rattle.show_clear.specs.Parse.{command_of, cond_of, conds_of, dropped as drops, filter_at}
+use Rattle.show_clear.specs.Parse.{filter_on, last_named}
+use Rattle.show_clear.specs.Parse.{named, one_key, rank_at, sel_of, shown as shows}
+use Rattle.show_clear.specs.Parse.{some_conds, stored_column, table_and_sel, table_at, table_shown}
+use Rattle.show_clear.specs.Refused.{fault_alone}
 use Rattle.show_clear.specs.Written.{can_add, can_ask, can_pick, can_select, command_line}
 use Rattle.show_clear.specs.Written.{command_words, condition_words, have_bounds, selector_words}
 use Rattle.show_clear.specs.Written.{table_words}
@@ -43,21 +53,32 @@ use Rattle.show_clear.proofs.CommandWords.{key_back, key_is_word, key_short, lin
 
 -- ---- conditions
 
-conditions_back : (cols : List (Col × ℕ)) (most : ℕ) (conds : List Cond) → length conds ≤ most
-    → list_all (λ cond. stores cols cond.col) conds ≡ true → have_bounds conds ≡ true
-    → conds_of cols most (flat_map condition_words conds) ≡ Ok conds
-conditions_back cols zero [] few stored all = refl
-conditions_back cols zero (cond ∷ conds) few stored all = absurd (omega (arith, few))
-conditions_back cols (suc most) [] few stored all = refl
-conditions_back cols (suc most) (cond ∷ conds) few stored all =
+-- words that are left, the first of which has this number
+abbrev pub ahead : ℕ → List (List ℕ) → Left
+ahead number texts = record { number = number; words = texts }
+
+begun : (first : List ℕ) (more : List (List ℕ)) → eqb (length (first ∷ more)) 0 ≡ false
+begun first more = ne_eqb _ 0 (λ z. omega (arith, z))
+
+conditions_back : (cols : List (Col × ℕ)) (most number : ℕ) (conds : List Cond)
+    → length conds ≤ most → list_all (λ cond. stores cols cond.col) conds ≡ true
+    → have_bounds conds ≡ true
+    → conds_of cols most (ahead number (flat_map condition_words conds)) ≡ Ok conds
+unfolding conds_of cond_of stored_column
+conditions_back cols zero number [] few stored all = refl
+conditions_back cols zero number (cond ∷ conds) few stored all = absurd (omega (arith, few))
+conditions_back cols (suc most) number [] few stored all = refl
+conditions_back cols (suc most) number (cond ∷ conds) few stored all =
     let h = bound_fits cond conds all in
     let s = both (stores cols cond.col) (list_all (λ cond. stores cols cond.col) conds) stored in
     rw (
-      column_back cond.col,
+      begun (codes "data." ++ col_name cond.col) (operator_word cond.op
+          ∷ decimal cond.bound ∷ flat_map condition_words conds),
+      data_back number cond.col,
       s.0,
       operator_back cond.op,
       number_back cond.bound h.0,
-      conditions_back cols most conds (omega (arith, few)) s.1 h.1,
+      conditions_back cols most (number + 1 + 1 + 1) conds (omega (arith, few)) s.1 h.1,
     ) refl
 
 -- what conditions of a table have
@@ -82,21 +103,38 @@ conds_of_table cols conds fit =
 
 -- a selector's words
 record Selects (shape : Shape) (sel : Select) : Type 0 where
-  pub back : sel_of shape (selector_words shape.kind sel) ≡ Ok sel
+  pub back : (number : ℕ) → sel_of shape (ahead number (selector_words shape.kind sel)) ≡ Ok sel
   pub are_words : list_all is_word (selector_words shape.kind sel) ≡ true
   pub short : cost (selector_words shape.kind sel) ≤ 1000
 
-conds_select : (shape : Shape) (conds : List Cond) → CondsFit shape.cols conds
-    → have_bounds conds ≡ true → sel_of shape (flat_map condition_words conds) ≡ Ok (Conds conds)
-conds_select shape [] fit all = absurd (let some = fit.some in omega (arith, some))
-conds_select shape (cond ∷ conds) fit all =
-    rw (conditions_back shape.cols MOST_CONDS (cond ∷ conds) fit.few fit.stored all) refl
+conds_select : (shape : Shape) (number : ℕ) (conds : List Cond) → CondsFit shape.cols conds
+    → have_bounds conds ≡ true
+    → sel_of shape (ahead number (flat_map condition_words conds)) ≡ Ok (Conds conds)
+unfolding sel_of
+conds_select shape number [] fit all = absurd (let some = fit.some in omega (arith, some))
+conds_select shape number (cond ∷ conds) fit all =
+    rw (
+      begun (codes "data." ++ col_name cond.col) (operator_word cond.op
+          ∷ decimal cond.bound ∷ flat_map condition_words conds),
+      conditions_back shape.cols MOST_CONDS number (cond ∷ conds) fit.few fit.stored all,
+    ) refl
+
+key_select : (shape : Shape) (number : ℕ) (key : List ℕ)
+    → key_of shape.kind (key_text shape.kind key) ≡ Some key
+    → sel_of shape (ahead number (codes "key" ∷ key_text shape.kind key ∷ [])) ≡ Ok (One key)
+unfolding sel_of one_key
+key_select shape number key back = rw back refl
+
+none_select : (shape : Shape) (number : ℕ) → sel_of shape (ahead number []) ≡ Ok All
+unfolding sel_of
+none_select shape number = refl
 
 selects : (shape : Shape) (sel : Select) → len_fits shape.kind ≡ true
     → select_fits shape sel ≡ true → can_select sel ≡ true → Selects shape sel
-selects shape All len fits can = record { back = refl; are_words = refl; short = omega arith }
+selects shape All len fits can =
+    record { back = none_select shape; are_words = refl; short = omega arith }
 selects shape (One key) len fits can = record {
-  back = rw (key_back shape.kind key fits can) refl;
+  back = λ number. key_select shape number key (key_back shape.kind key fits can);
   are_words = rw (key_is_word shape.kind key fits can) refl;
   short = omega (arith, key_short shape.kind key len fits);
 }
@@ -104,7 +142,7 @@ selects shape (Conds conds) len fits can =
     let fit = conds_of_table shape.cols conds fits in
     let few = fit.few in
     record {
-      back = conds_select shape conds fit can;
+      back = λ number. conds_select shape number conds fit can;
       are_words = conditions_are_words conds can;
       short = omega (arith, conditions_cost conds, few);
     }
@@ -143,7 +181,7 @@ passing tables table test passes = by (slice_get tables table) refl passes
 -- a table is named
 record TableNamed (state : State) (table : ℕ) (test : Shape → Bool) : Type 0 where
   pub name : is_name (shape_of state table).name ≡ true
-  pub back : table_named state (shape_of state table).name ≡ Ok table
+  pub back : table_at state (shape_of state table).name ≡ Some table
   pub passes : test (shape_of state table) ≡ true
   pub length : len_fits (shape_of state table).kind ≡ true
 
@@ -178,7 +216,7 @@ table_is_named state table test none passes =
 -- the name of a standing filter is that filter's
 record FilterNamed (state : State) (at : ℕ) : Type 0 where
   pub name : is_name (filter_of state at).name ≡ true
-  pub back : filter_named state (filter_of state at).name ≡ Ok at
+  pub back : filter_at state (filter_of state at).name ≡ Some at
 
 filter_is_named : (state : State) (at : ℕ) → config_faults state.config ≡ []
     → ltb at (length state.config.filters) ≡ true → FilterNamed state at
@@ -191,7 +229,7 @@ filter_is_named state at none there =
 -- so is that of a ranked list
 record RankNamed (state : State) (at : ℕ) : Type 0 where
   pub name : is_name (rank_of state at).name ≡ true
-  pub back : rank_named state (rank_of state at).name ≡ Ok at
+  pub back : rank_at state (rank_of state at).name ≡ Some at
 
 rank_is_named : (state : State) (at : ℕ) → config_faults state.config ≡ []
     → ltb at (length state.config.ranks) ≡ true → RankNamed state at
@@ -209,15 +247,22 @@ record Asks (state : State) (command : Command) : Type 0 where
   pub are_words : list_all is_word (command_words state command) ≡ true
   pub short : cost (command_words state command) ≤ LONGEST_COMMAND_LINE
 
+-- the first word tells which command it is
+first_asks : (state : State) (first : List ℕ) (more : List (List ℕ))
+    → asked state (first ∷ more) ≡ fault_alone (command_by state 1 first (ahead 2 more))
+unfolding command_in
+first_asks state first more = rw (begun first more) refl
+
 -- a table's name and a selector
 record Picks (state : State) (table : ℕ) (sel : Select) : Type 0 where
-  pub back : table_and_sel state (shape_of state table).name
-      (selector_words (shape_of state table).kind sel) ≡ Ok (table, sel)
+  pub back : (number : ℕ) → table_and_sel state
+      (ahead number (table_words (shape_of state table) sel)) ≡ Ok (table, sel)
   pub are_words : list_all is_word (table_words (shape_of state table) sel) ≡ true
   pub short : cost (table_words (shape_of state table) sel) ≤ 2000
 
 picks : (state : State) (table : ℕ) (sel : Select) → config_faults state.config ≡ []
     → can_pick state table sel ≡ true → Picks state table sel
+unfolding table_and_sel named
 picks state table sel none can =
     let h = both (at_table state.config.tables table (λ shape. select_fits shape sel))
     (can_select sel) can in
@@ -225,28 +270,36 @@ picks state table sel none can =
     let its = selects (shape_of state table) sel named.length named.passes h.1 in
     let words_short = its.short in
     record {
-      back = rw (named.back, its.back) refl;
+      back = λ number. rw (named.back, its.back (number + 1)) refl;
       are_words = rw (name_is_word (shape_of state table).name named.name, its.are_words) refl;
       short = omega (arith, name_short (shape_of state table).name named.name, words_short);
     }
 
 shown : (state : State) (table : ℕ) (sel : Select) → Picks state table sel
     → Asks state (Ask (Table table sel))
+unfolding shows table_shown
 shown state table sel p = record {
-  back = rw p.back refl;
+  back = first_asks state (codes "show")
+      (codes "table" ∷ table_words (shape_of state table) sel) ∙ rw (
+        begun (shape_of state table).name (selector_words (shape_of state table).kind sel),
+        p.back 3,
+      ) refl;
   are_words = rw p.are_words refl;
   short = let short = p.short in omega (arith, short);
 }
 
 cleared : (state : State) (table : ℕ) (sel : Select) → Picks state table sel
     → Asks state (Changes (Clear table sel))
+unfolding clears
 cleared state table sel p = record {
-  back = rw p.back refl;
+  back = first_asks state (codes "clear")
+      (codes "table" ∷ table_words (shape_of state table) sel) ∙ rw (p.back 3) refl;
   are_words = rw p.are_words refl;
   short = let short = p.short in omega (arith, short);
 }
 
 keys_asked : (state : State) (at : ℕ) → FilterNamed state at → Asks state (Ask (FilterKeys at))
+unfolding command_in shows last_named named
 keys_asked state at h = record {
   back = rw h.back refl;
   are_words = rw (name_is_word (filter_of state at).name h.name) refl;
@@ -254,6 +307,7 @@ keys_asked state at h = record {
 }
 
 next_asked : (state : State) (at : ℕ) → FilterNamed state at → Asks state (Ask (NextChange at))
+unfolding command_in shows last_named named
 next_asked state at h = record {
   back = rw h.back refl;
   are_words = rw (name_is_word (filter_of state at).name h.name) refl;
@@ -261,6 +315,7 @@ next_asked state at h = record {
 }
 
 rank_asked : (state : State) (at : ℕ) → RankNamed state at → Asks state (Ask (Ranking at))
+unfolding command_in shows last_named named
 rank_asked state at h = record {
   back = rw h.back refl;
   are_words = rw (name_is_word (rank_of state at).name h.name) refl;
@@ -268,11 +323,17 @@ rank_asked state at h = record {
 }
 
 -- the conditions of a filter, of which there are some
-added_conds : (cols : List (Col × ℕ)) (conds : List Cond) → CondsFit cols conds
-    → have_bounds conds ≡ true → some_conds cols (flat_map condition_words conds) ≡ Ok conds
-added_conds cols [] fit all = absurd (let some = fit.some in omega (arith, some))
-added_conds cols (cond ∷ conds) fit all =
-    conditions_back cols MOST_CONDS (cond ∷ conds) fit.few fit.stored all
+added_conds : (cols : List (Col × ℕ)) (number : ℕ) (conds : List Cond) → CondsFit cols conds
+    → have_bounds conds ≡ true
+    → some_conds cols (ahead number (flat_map condition_words conds)) ≡ Ok conds
+unfolding some_conds
+added_conds cols number [] fit all = absurd (let some = fit.some in omega (arith, some))
+added_conds cols number (cond ∷ conds) fit all =
+    rw (
+      begun (codes "data." ++ col_name cond.col) (operator_word cond.op
+          ∷ decimal cond.bound ∷ flat_map condition_words conds),
+      conditions_back cols MOST_CONDS number (cond ∷ conds) fit.few fit.stored all,
+    ) refl
 
 not_so : (b : Bool) → not b ≡ true → b ≡ false
 not_so true bad = absurd cc
@@ -280,6 +341,7 @@ not_so false fine = refl
 
 filter_added : (state : State) (filter : Filter) → config_faults state.config ≡ []
     → can_ask state (Changes (AddFilter filter)) ≡ true → Asks state (Changes (AddFilter filter))
+unfolding adds filter_on named
 filter_added state filter none can =
     let on : Shape → Bool = λ shape. conds_fit shape.cols filter.conds in
     let two = both (filter_fits state.config.tables filter && have_bounds filter.conds)
@@ -292,14 +354,16 @@ filter_added state filter none can =
     let shape = shape_of state filter.table in
     let fit = conds_of_table shape.cols filter.conds named.passes in
     let few = fit.few in
+    let other_names = list_any (λ other. bytes_eq other.name filter.name) state.config.filters in
     record {
-      back = rw (
-        fits.0,
-        not_so (list_any (λ other. bytes_eq other.name filter.name) state.config.filters) room.1,
-        room.0,
-        named.back,
-        added_conds shape.cols filter.conds fit one.1,
-      ) refl;
+      back = first_asks state (codes "add") (codes "filter" ∷ filter.name ∷ shape.name
+          ∷ flat_map condition_words filter.conds) ∙ rw (
+            fits.0,
+            not_so other_names room.1,
+            room.0,
+            named.back,
+            added_conds shape.cols 5 filter.conds fit one.1,
+          ) refl;
       are_words = rw (
         name_is_word filter.name fits.0,
         name_is_word shape.name named.name,
@@ -353,6 +417,7 @@ added_there (suc n) (filter ∷ filters) name any =
 
 filter_gone : (state : State) (name : List ℕ) → config_faults state.config ≡ []
     → can_ask state (Changes (DropFilter name)) ≡ true → Asks state (Changes (DropFilter name))
+unfolding command_in drops
 filter_gone state name none can =
     let found = added_there state.configured state.config.filters name can in
     let stands = filter_stands state.config.tables state.config.filters found.at found.filter
@@ -367,6 +432,7 @@ filter_gone state name none can =
 
 asks : (state : State) (command : Command) → config_faults state.config ≡ []
     → can_ask state command ≡ true → Asks state command
+unfolding command_in shows table_shown
 asks state (Ask Tables) none can = record { back = refl; are_words = refl; short = omega arith }
 asks state (Ask (Table table sel)) none can = shown state table sel (picks state table sel none can)
 asks state (Ask (FilterKeys at)) none can = keys_asked state at (filter_is_named state at none can)

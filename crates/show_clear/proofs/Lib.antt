@@ -11,4 +11,6 @@ pub mod PeopleLines
 pub mod TextsBehind
 pub mod CommandWords
 pub mod CommandBack
+pub mod FaultAlone
 pub mod Readers
+pub mod Named

@@ -1,5 +1,5 @@
 -- What is answered to scripts, and to people.
-use Rattle.std.proofs.Common.{◌≡◌, ℕ, List, ◌++◌}
+use Rattle.std.proofs.Common.{ℕ, List}
 use Rattle.fleet_model.specs.State.{State}
 use Rattle.show_clear.specs.Answer.{Answers, IsAnswer}
 use Rattle.show_clear.specs.People.{AnswersPeople, IsPeoplesAnswer}
@@ -7,7 +7,6 @@ use Rattle.show_clear.specs.Readers.{AnswersFor, IsAnswerFor}
 use Rattle.show_clear.specs.declared.answers.Readers.TheVariants.{Scripts, People}
 use Rattle.show_clear.specs.declared.command.Command.{Command}
 use Rattle.show_clear.specs.declared.command.Command.TheVariants.{Ask, Change as Changes}
-use Rattle.show_clear.specs.declared.command.Question.{Question}
 use Rattle.show_clear.specs.declared.command.Question.TheVariants.{Tables, Table, FilterKeys}
 use Rattle.show_clear.specs.declared.command.Question.TheVariants.{Ranking, NextChange}
 

@@ -2,10 +2,11 @@
 -- expected.
 use Rattle.std.specs.Prelude.{ℕ, Bool, true, false, ◌&&◌, ◌||◌, if◌then◌else◌, nat_le, nat_lt}
 use Rattle.std.specs.Prelude.{List, [], ◌∷◌, ◌++◌, codes, drop, length, map, take}
-use Rattle.std.specs.Prelude.{position, Option, None, Some, Result, Ok, Err, is_some}
+use Rattle.std.specs.Prelude.{find, position, Option, None, Some, Result, Ok, Err, is_some}
 use Rattle.std.specs.Fmt.{decimal}
 use Rattle.std.specs.Str.{bytes_eq}
-use Rattle.agg_types.specs.Col.{col_name}
+use Rattle.agg_types.specs.Col.{all_cols, col_name}
+use Rattle.agg_types.specs.Fits.{stores}
 use Rattle.agg_types.specs.Kind.{kind_name}
 use Rattle.agg_types.specs.declared.column.Col.{Col}
 use Rattle.agg_types.specs.declared.config.Shape.{Shape}
@@ -17,7 +18,7 @@ use Rattle.line_words.specs.Numbers.{number_of}
 use Rattle.line_words.specs.Operators.{operator_of}
 use Rattle.line_words.specs.Words.{words}
 use Rattle.show_clear.specs.Answer.{shape_of}
-use Rattle.show_clear.specs.Parse.{cond_col, without_returns}
+use Rattle.show_clear.specs.Parse.{is_data, without_returns}
 use Rattle.show_clear.specs.Refusal.{fault_name, fault_number}
 use Rattle.show_clear.specs.declared.fault.CommandFault.{CommandFault}
 use Rattle.show_clear.specs.declared.fault.CommandFault.TheVariants.{Empty, Unknown, NoTable}
@@ -82,6 +83,16 @@ next_part Column = Operator
 next_part Operator = Value
 next_part Value = Column
 
+-- the column that a condition's first word names
+abbrev pub cond_col : List ℕ → Option Col
+cond_col word =
+    if is_data word then find (λ col. bytes_eq (col_name col) (drop 5 word)) all_cols else None
+
+-- whether a table stores it
+abbrev pub is_stored : List (Col × ℕ) → Option Col → Bool
+is_stored cols None = false
+is_stored cols (Some col) = stores cols col
+
 -- whether something was read
 abbrev pub is_read : {A E : Type 0} → Result A E → Bool
 is_read (Ok x) = true
@@ -89,7 +100,7 @@ is_read (Err fault) = false
 
 -- whether a word may be this part of a condition on a table
 abbrev pub is_right : List (Col × ℕ) → Part → List ℕ → Bool
-is_right cols Column word = is_read (cond_col cols word)
+is_right cols Column word = is_stored cols (cond_col word)
 is_right cols Operator word = is_some (operator_of word)
 is_right cols Value word = is_read (number_of word)
 

@@ -6,6 +6,7 @@ pub mod Parse
 pub mod People
 pub mod Readers
 pub mod Refusal
+pub mod Refused
 pub mod Selected
 pub mod Tables
 pub mod Written

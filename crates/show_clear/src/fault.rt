@@ -2,12 +2,10 @@
 
 ghost use Rattle.std.specs.Prelude.{◌≡◌, ◌++◌, length, take, OnOk, OnErr};
 ghost use Rattle.show_clear.specs.Refusal.{fault_name, fault_number, refusal_text};
-ghost use Rattle.show_clear.specs.declared.fault.CommandFault.TheVariants.{NoMemory as OutOfMemory};
 
 use crate::pieces::{append_counted, append_labelled};
 use agg_types::NoMemory;
 use key_text::append_text;
-use std::alloc::{AllocError, AllocFailed};
 use std::error::Error;
 use std::fmt;
 
@@ -87,30 +85,6 @@ impl fmt::Display for CommandFault {
 }
 
 impl Error for CommandFault {}
-
-impl From<NoMemory> for CommandFault {
-    ghost from_gives = { λ _ fault. fault ≡ OutOfMemory };
-
-    fn from(_refused: NoMemory) -> CommandFault {
-        CommandFault::NoMemory
-    }
-}
-
-impl From<AllocError> for CommandFault {
-    ghost from_gives = { λ _ fault. fault ≡ OutOfMemory };
-
-    fn from(_refused: AllocError) -> CommandFault {
-        CommandFault::NoMemory
-    }
-}
-
-impl<T: Drop> From<AllocFailed<T>> for CommandFault {
-    ghost from_gives = { λ _ fault. fault ≡ OutOfMemory };
-
-    fn from(_refused: AllocFailed<T>) -> CommandFault {
-        CommandFault::NoMemory
-    }
-}
 
 /// Appends the text of a refusal: a line with the fault's number and name. After `NoMemory` the
 /// bytes of `out` are as they were.

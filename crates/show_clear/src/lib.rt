@@ -2,9 +2,10 @@
 //! admin connections.
 //!
 //! `parse` gives the command that a line says, a question or a change, or its first fault from the
-//! left; `answer` and `refusal` append their texts whole, or leave what was there. What lines and
-//! answers say stands in specs/Parse and specs/Answer, as functions of bytes and of the book's
-//! state. People get their texts from `answer_people` and `explain`, by specs/People and
+//! left. `read_command` does the same, and tells which word the line is refused for and what had to
+//! stand there. `answer` and `refusal` append their texts whole, or leave what was there. What
+//! lines and answers say stands in specs/Parse and specs/Answer, as functions of bytes and of the
+//! book's state. People get their texts from `answer_people` and `explain`, by specs/People and
 //! specs/Explained: how far off a filter's next change is, and which word of a refused line is
 //! wrong. No clause says that an allocation fails only where there is no memory; but a line of up
 //! to three words takes none.
@@ -22,13 +23,14 @@ mod lists;
 mod parsing;
 mod pieces;
 mod quoting;
+mod refused;
 mod tables;
 mod unfit;
 mod unnamed;
-mod word;
 
 pub use answers::{answer, answer_people};
 pub use command::{Change, Command, Question};
 pub use explaining::explain;
 pub use fault::{CommandFault, refusal};
-pub use parsing::{parse, without_returns};
+pub use parsing::{parse, read_command, without_returns};
+pub use refused::Refused;

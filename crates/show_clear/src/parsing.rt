@@ -1,26 +1,26 @@
 //! Commands from their lines.
 
-ghost use Rattle.std.specs.Prelude.{◌≡◌, ◌≢◌, ◌<◌, ◌≤◌, length, false, IfOk, Err};
+ghost use Rattle.std.specs.Prelude.{◌≡◌, ◌≢◌, ◌<◌, ◌≤◌, ◌+◌, ◌∷◌, length, false, Err, IfErr, IfOk};
+ghost use Rattle.std.specs.Prelude.{IfSome};
 ghost use Rattle.line_words.specs.Words.{words};
-ghost use Rattle.show_clear.specs.Parse.{Tells, added, added_named, asked, at_end, begins_del};
-ghost use Rattle.show_clear.specs.Parse.{cleared, command_of, dropped, filter_dropped};
-ghost use Rattle.show_clear.specs.Parse.{filter_added, filter_named, filter_on, filter_shown};
-ghost use Rattle.show_clear.specs.Parse.{new_name, next_shown, one_key, rank_named, rank_shown};
-ghost use Rattle.show_clear.specs.Parse.{sel_of, shown, table_and_sel, table_cleared, table_named};
-ghost use Rattle.show_clear.specs.Parse.{table_shown, without_returns};
 ghost use Rattle.show_clear.specs.Answer.{NamesExist};
 ghost use Rattle.show_clear.specs.Change.{ChangeFits};
-ghost use Rattle.show_clear.specs.declared.fault.CommandFault.TheVariants.{NoMemory as Refused};
+ghost use Rattle.show_clear.specs.Parse.{Finds, Says, Takes, TakesMemoryAt, Tells, added};
+ghost use Rattle.show_clear.specs.Parse.{added_named, begins_del, cleared, command_by, command_in};
+ghost use Rattle.show_clear.specs.Parse.{command_of, dropped, filter_at, filter_on, last_named};
+ghost use Rattle.show_clear.specs.Parse.{named, new_name, no_name, one_key, rank_at, reading_of};
+ghost use Rattle.show_clear.specs.Parse.{sel_of, shown, shown_by, table_and_sel, table_at};
+ghost use Rattle.show_clear.specs.Parse.{table_shown, without_returns};
+ghost use Rattle.show_clear.specs.declared.fault.CommandFault.TheVariants.{NoMemory as OutOfMemory};
 
 use crate::answers::shape_of;
 use crate::conditions::{read_conds, read_some_conds};
 use crate::fleet::Book;
-use crate::word::some_word;
-use crate::{Change, Command, CommandFault, Question};
+use crate::{Change, Command, CommandFault, Question, Refused};
 use agg_types::limits::LONGEST_COMMAND_LINE;
 use agg_types::{Filter, KeyKind, MOST_FILTERS, Name, Select, Shape, is_name};
 use key_text::read_key;
-use line_words::next_word;
+use line_words::{Expected, Misread, Words};
 use std::alloc::Global;
 
 /// The command that a line says, over what stands in a book, or the first fault from the left. The
@@ -32,22 +32,37 @@ pub fn parse(alloc: Global, book: &Book, line: &[u8]) -> Result<Command, Command
     ensures fits { IfOk result (ChangeFits book.now) }
 
     // A line of up to three words takes no memory, but for the name of a filter to be dropped.
-    ensures spare { result ≡ Err Refused → begins_del (words (without_returns line.now)) ≡ false
+    ensures spare { result ≡ Err OutOfMemory → begins_del (words (without_returns line.now)) ≡ false
         → 4 ≤ length (words (without_returns line.now)) }
 {
-    parse_line(alloc, book, line)
+    match read_command(alloc, book, line) {
+        Ok(command) => Ok(command),
+        Err(refused) => Err(refused.fault),
+    }
 }
 
-fn parse_line(alloc: Global, book: &Book, line: &[u8]) -> Result<Command, CommandFault>
-    ensures read { Tells (command_of book.now line.now) result }
-    ensures spare { result ≡ Err Refused → begins_del (words (without_returns line.now)) ≡ false
-        → 4 ≤ length (words (without_returns line.now)) }
+/// The same, with the word that a line is refused for.
+pub fn read_command(alloc: Global, book: &Book, line: &[u8]) -> Result<Command, Refused>
+    ensures read { Says (reading_of book.now line.now) result }
+    ensures stands { IfOk result (NamesExist book.now) }
+    ensures fits { IfOk result (ChangeFits book.now) }
+    ensures spare { begins_del (words (without_returns line.now)) ≡ false
+        → TakesMemoryAt 4 (words (without_returns line.now)) result }
+{
+    read_line(alloc, book, line)
+}
+
+fn read_line(alloc: Global, book: &Book, line: &[u8]) -> Result<Command, Refused>
+    ensures read { Says (reading_of book.now line.now) result }
+    ensures spare { begins_del (words (without_returns line.now)) ≡ false
+        → TakesMemoryAt 4 (words (without_returns line.now)) result }
 {
     let line = without_returns(line);
     if line.len() > LONGEST_COMMAND_LINE {
-        return Err(CommandFault::Unknown);
+        return Err(Refused::unplaced(CommandFault::Unknown));
     }
-    parse_words(alloc, book, line)
+    let mut words = Words::of(line);
+    command_in(alloc, book, &mut words)
 }
 
 /// A line without the CRs at its end, which don't count.
@@ -61,274 +76,291 @@ pub fn without_returns(line: &[u8]) -> &[u8]
     left
 }
 
-fn parse_words(alloc: Global, book: &Book, line: &[u8]) -> Result<Command, CommandFault>
-    ensures read { Tells (asked book.now (words line.now)) result }
-    ensures spare { result ≡ Err Refused → begins_del (words line.now) ≡ false
-        → 4 ≤ length (words line.now) }
+#[tactic(auto, unfolding(crate::specs::Parse::command_in))]
+fn command_in(alloc: Global, book: &Book, words: &mut Words<'_>) -> Result<Command, Refused>
+    ensures read { Says (command_in book.now words.old) result }
+    ensures spare { begins_del words.old.words ≡ false → TakesMemoryAt 4 words.old.words result }
 {
-    let Some((word, rest)) = next_word(line) else {
-        return Err(CommandFault::Empty);
-    };
-    match word {
-        b"show" => Ok(Command::Ask(parse_show(alloc, book, rest)?)),
-        b"clear" => Ok(Command::Change(parse_clear(alloc, book, rest)?)),
-        b"add" => Ok(Command::Change(parse_add(alloc, book, rest)?)),
-        b"del" => Ok(Command::Change(parse_del(alloc, book, rest)?)),
-        _ => Err(CommandFault::Unknown),
+    let place = words.place();
+    if words.is_empty() {
+        let at = Misread::missing(place, Expected::Keyword);
+        return Err(Refused::at(CommandFault::Empty, at));
+    }
+    let kind = words.word(Expected::Keyword)?;
+    command_by(alloc, book, place, kind, words)
+}
+
+// By its first word.
+fn command_by(
+    alloc: Global,
+    book: &Book,
+    place: usize,
+    kind: &[u8],
+    words: &mut Words<'_>,
+) -> Result<Command, Refused>
+    ensures read { Says (command_by book.now place kind.now words.old) result }
+    ensures spare { begins_del (kind.now ∷ words.old.words) ≡ false
+        → TakesMemoryAt 3 words.old.words result }
+{
+    if kind == b"show".as_slice() {
+        Ok(Command::Ask(shown(alloc, book, words)?))
+    } else if kind == b"clear".as_slice() {
+        Ok(Command::Change(cleared(alloc, book, words)?))
+    } else if kind == b"add".as_slice() {
+        Ok(Command::Change(added(alloc, book, words)?))
+    } else if kind == b"del".as_slice() {
+        Ok(Command::Change(dropped(alloc, book, words)?))
+    } else {
+        Err(Refused::from(Misread::wrong(place, Expected::Keyword)))
     }
 }
 
 // Behind `show`.
-fn parse_show(alloc: Global, book: &Book, line: &[u8]) -> Result<Question, CommandFault>
-    ensures read { Tells (shown book.now (words line.now)) result }
-    ensures spare { result ≡ Err Refused → 3 ≤ length (words line.now) }
+#[tactic(auto, unfolding(crate::specs::Parse::shown))]
+fn shown(alloc: Global, book: &Book, words: &mut Words<'_>) -> Result<Question, Refused>
+    ensures read { Says (shown book.now words.old) result }
+    ensures spare { TakesMemoryAt 3 words.old.words result }
 {
-    let (word, rest) = some_word(line)?;
-    match word {
-        b"table" => parse_show_table(alloc, book, rest),
-        b"filter" => parse_show_filter(book, rest),
-        b"rank" => parse_show_rank(book, rest),
-        b"next" => parse_show_next(book, rest),
-        _ => Err(CommandFault::Unknown),
+    let place = words.place();
+    let kind = words.word(Expected::Keyword)?;
+    shown_by(alloc, book, place, kind, words)
+}
+
+fn shown_by(
+    alloc: Global,
+    book: &Book,
+    place: usize,
+    kind: &[u8],
+    words: &mut Words<'_>,
+) -> Result<Question, Refused>
+    ensures read { Says (shown_by book.now place kind.now words.old) result }
+    ensures spare { TakesMemoryAt 2 words.old.words result }
+{
+    if kind == b"table".as_slice() {
+        table_shown(alloc, book, words)
+    } else if kind == b"filter".as_slice() {
+        Ok(Question::FilterKeys(filter_named(book, words)?))
+    } else if kind == b"rank".as_slice() {
+        Ok(Question::Ranking(rank_named(book, words)?))
+    } else if kind == b"next".as_slice() {
+        Ok(Question::NextChange(filter_named(book, words)?))
+    } else {
+        Err(Refused::from(Misread::wrong(place, Expected::Keyword)))
     }
+}
+
+// Behind `show table`.
+#[tactic(auto, unfolding(crate::specs::Parse::table_shown))]
+fn table_shown(alloc: Global, book: &Book, words: &mut Words<'_>) -> Result<Question, Refused>
+    ensures read { Says (table_shown book.now words.old) result }
+    ensures spare { TakesMemoryAt 2 words.old.words result }
+{
+    if words.is_empty() {
+        return Ok(Question::Tables);
+    }
+    let (table, sel) = table_and_sel(alloc, book, words)?;
+    Ok(Question::Table { table, sel })
 }
 
 // Behind `clear`.
-fn parse_clear(alloc: Global, book: &Book, line: &[u8]) -> Result<Change, CommandFault>
-    ensures read { Tells (cleared book.now (words line.now)) result }
-    ensures spare { result ≡ Err Refused → 3 ≤ length (words line.now) }
+#[tactic(auto, unfolding(crate::specs::Parse::cleared))]
+fn cleared(alloc: Global, book: &Book, words: &mut Words<'_>) -> Result<Change, Refused>
+    ensures read { Says (cleared book.now words.old) result }
+    ensures spare { TakesMemoryAt 3 words.old.words result }
 {
-    let (word, rest) = some_word(line)?;
-    match word {
-        b"table" => parse_clear_table(alloc, book, rest),
-        _ => Err(CommandFault::Unknown),
-    }
+    words.keyword(b"table")?;
+    let (table, sel) = table_and_sel(alloc, book, words)?;
+    Ok(Change::Clear { table, sel })
 }
 
 // Behind `add`.
-fn parse_add(alloc: Global, book: &Book, line: &[u8]) -> Result<Change, CommandFault>
-    ensures read { Tells (added book.now (words line.now)) result }
-    ensures spare { result ≡ Err Refused → 3 ≤ length (words line.now) }
+#[tactic(auto, unfolding(crate::specs::Parse::added))]
+fn added(alloc: Global, book: &Book, words: &mut Words<'_>) -> Result<Change, Refused>
+    ensures read { Says (added book.now words.old) result }
+    ensures spare { TakesMemoryAt 3 words.old.words result }
 {
-    let (word, rest) = some_word(line)?;
-    match word {
-        b"filter" => parse_add_filter(alloc, book, rest),
-        _ => Err(CommandFault::Unknown),
-    }
+    words.keyword(b"filter")?;
+    let place = words.place();
+    let name = words.word(Expected::Name)?;
+    check_new_name(book, place, name)?;
+    Ok(Change::AddFilter(filter_on(alloc, book, name, words)?))
 }
 
 // Behind `del`.
-fn parse_del(alloc: Global, book: &Book, line: &[u8]) -> Result<Change, CommandFault>
-    ensures { Tells (dropped book.now (words line.now)) result }
+#[tactic(auto, unfolding(crate::specs::Parse::dropped))]
+fn dropped(alloc: Global, book: &Book, words: &mut Words<'_>) -> Result<Change, Refused>
+    ensures { Says (dropped book.now words.old) result }
 {
-    let (word, rest) = some_word(line)?;
-    match word {
-        b"filter" => parse_del_filter(alloc, book, rest),
-        _ => Err(CommandFault::Unknown),
-    }
-}
-
-// The position of a table.
-fn table_named(book: &Book, name: &[u8]) -> Result<usize, CommandFault>
-    ensures read { result ≡ table_named book.now name.now }
-    ensures within { IfOk result (λ table. table < length book.now.config.tables) }
-    ensures spare { result ≢ Err Refused }
-{
-    book.config()
-        .tables
-        .position(name)
-        .ok_or(CommandFault::NoTable)
-}
-
-// The position of a standing filter.
-fn filter_named(book: &Book, name: &[u8]) -> Result<usize, CommandFault>
-    ensures read { result ≡ filter_named book.now name.now }
-    ensures spare { result ≢ Err Refused }
-{
-    book.config()
-        .filters
-        .position(name)
-        .ok_or(CommandFault::NoTable)
-}
-
-// The position of a ranked list.
-fn rank_named(book: &Book, name: &[u8]) -> Result<usize, CommandFault>
-    ensures read { result ≡ rank_named book.now name.now }
-    ensures spare { result ≢ Err Refused }
-{
-    book.config()
-        .ranks
-        .position(name)
-        .ok_or(CommandFault::NoTable)
-}
-
-// No further word may follow.
-fn at_end(line: &[u8]) -> Result<(), CommandFault>
-    ensures read { result ≡ at_end (words line.now) }
-    ensures spare { result ≢ Err Refused }
-{
-    match next_word(line) {
-        None => Ok(()),
-        Some(_) => Err(CommandFault::Unknown),
-    }
+    words.keyword(b"filter")?;
+    let place = words.place();
+    let name = words.word(Expected::Name)?;
+    check_added(book, place, name)?;
+    words.end()?;
+    Ok(Change::DropFilter(Name::copy(alloc, name)?))
 }
 
 // A table by its name and a selector, to the end of the line.
+#[tactic(auto, unfolding(crate::specs::Parse::table_and_sel))]
 fn table_and_sel(
     alloc: Global,
     book: &Book,
-    name: &[u8],
-    line: &[u8],
-) -> Result<(usize, Select), CommandFault>
-    ensures read { Tells (table_and_sel book.now name.now (words line.now)) result }
-    ensures spare { result ≡ Err Refused → 1 ≤ length (words line.now) }
+    words: &mut Words<'_>,
+) -> Result<(usize, Select), Refused>
+    ensures read { Says (table_and_sel book.now words.old) result }
+    ensures spare { TakesMemoryAt 2 words.old.words result }
 {
-    let table = table_named(book, name)?;
-    let sel = selector(alloc, shape_of(book, table), line)?;
+    let table = table_named(book, words)?;
+    let sel = selector(alloc, shape_of(book, table), words)?;
     Ok((table, sel))
 }
 
 // A selector, to the end of the line.
-fn selector(alloc: Global, shape: &Shape, line: &[u8]) -> Result<Select, CommandFault>
-    ensures read { Tells (sel_of shape.now (words line.now)) result }
-    ensures spare { result ≡ Err Refused → 1 ≤ length (words line.now) }
+#[tactic(auto, unfolding(crate::specs::Parse::sel_of))]
+fn selector(alloc: Global, shape: &Shape, words: &mut Words<'_>) -> Result<Select, Refused>
+    ensures read { Says (sel_of shape.now words.old) result }
+    ensures spare { TakesMemoryAt 1 words.old.words result }
 {
-    let Some((word, rest)) = next_word(line) else {
+    if words.is_empty() {
         return Ok(Select::All);
-    };
-    match word {
-        b"key" => one_key(alloc, shape.kind, rest),
-        _ => Ok(Select::Conds(read_conds(alloc, shape, line)?)),
     }
+    if words.next_is(b"key") {
+        return one_key(alloc, shape.kind, words);
+    }
+    Ok(Select::Conds(read_conds(alloc, shape, words)?))
 }
 
-fn one_key(alloc: Global, kind: KeyKind, line: &[u8]) -> Result<Select, CommandFault>
-    ensures { Tells (one_key kind (words line.now)) result }
+#[tactic(auto, unfolding(crate::specs::Parse::one_key))]
+fn one_key(alloc: Global, kind: KeyKind, words: &mut Words<'_>) -> Result<Select, Refused>
+    ensures { Says (one_key kind words.old) result }
 {
-    let (text, rest) = some_word(line)?;
+    words.keyword(b"key")?;
+    let place = words.place();
+    let text = words.word(Expected::Key)?;
     let Some(key) = read_key(alloc, kind, text)? else {
-        return Err(CommandFault::BadKey);
+        let at = Misread::wrong(place, Expected::Key);
+        return Err(Refused::at(CommandFault::BadKey, at));
     };
-    at_end(rest)?;
+    words.end()?;
     Ok(Select::One(key))
 }
 
-// Behind `show table`.
-fn parse_show_table(alloc: Global, book: &Book, line: &[u8]) -> Result<Question, CommandFault>
-    ensures read { Tells (table_shown book.now (words line.now)) result }
-    ensures spare { result ≡ Err Refused → 2 ≤ length (words line.now) }
-{
-    let Some((name, rest)) = next_word(line) else {
-        return Ok(Question::Tables);
-    };
-    let (table, sel) = table_and_sel(alloc, book, name, rest)?;
-    Ok(Question::Table { table, sel })
-}
-
-// Behind `clear table`.
-fn parse_clear_table(alloc: Global, book: &Book, line: &[u8]) -> Result<Change, CommandFault>
-    ensures read { Tells (table_cleared book.now (words line.now)) result }
-    ensures spare { result ≡ Err Refused → 2 ≤ length (words line.now) }
-{
-    let (name, rest) = some_word(line)?;
-    let (table, sel) = table_and_sel(alloc, book, name, rest)?;
-    Ok(Change::Clear { table, sel })
-}
-
-// Behind `show filter`.
-fn parse_show_filter(book: &Book, line: &[u8]) -> Result<Question, CommandFault>
-    ensures read { Tells (filter_shown book.now (words line.now)) result }
-    ensures spare { result ≢ Err Refused }
-{
-    let (name, rest) = some_word(line)?;
-    let filter = filter_named(book, name)?;
-    at_end(rest)?;
-    Ok(Question::FilterKeys(filter))
-}
-
-// Behind `show next`.
-fn parse_show_next(book: &Book, line: &[u8]) -> Result<Question, CommandFault>
-    ensures read { Tells (next_shown book.now (words line.now)) result }
-    ensures spare { result ≢ Err Refused }
-{
-    let (name, rest) = some_word(line)?;
-    let filter = filter_named(book, name)?;
-    at_end(rest)?;
-    Ok(Question::NextChange(filter))
-}
-
-// Behind `show rank`.
-fn parse_show_rank(book: &Book, line: &[u8]) -> Result<Question, CommandFault>
-    ensures read { Tells (rank_shown book.now (words line.now)) result }
-    ensures spare { result ≢ Err Refused }
-{
-    let (name, rest) = some_word(line)?;
-    let rank = rank_named(book, name)?;
-    at_end(rest)?;
-    Ok(Question::Ranking(rank))
-}
-
-// Behind `add filter`.
-fn parse_add_filter(alloc: Global, book: &Book, line: &[u8]) -> Result<Change, CommandFault>
-    ensures read { Tells (filter_added book.now (words line.now)) result }
-    ensures spare { result ≡ Err Refused → 2 ≤ length (words line.now) }
-{
-    let (name, rest) = some_word(line)?;
-    check_new_name(book, name)?;
-    Ok(Change::AddFilter(filter_on(alloc, book, name, rest)?))
-}
-
-// Behind `del filter`.
-fn parse_del_filter(alloc: Global, book: &Book, line: &[u8]) -> Result<Change, CommandFault>
-    ensures { Tells (filter_dropped book.now (words line.now)) result }
-{
-    let (name, rest) = some_word(line)?;
-    check_added(book, name)?;
-    at_end(rest)?;
-    Ok(Change::DropFilter(Name::copy(alloc, name)?))
-}
-
-// Whether an added filter has this name.
-fn check_added(book: &Book, name: &[u8]) -> Result<(), CommandFault>
-    ensures { result ≡ added_named book.now name.now }
-{
-    if book.has_added(name) {
-        Ok(())
-    } else {
-        Err(CommandFault::NoTable)
-    }
-}
-
-// Whether a filter of this name may be added.
-fn check_new_name(book: &Book, name: &[u8]) -> Result<(), CommandFault>
-    ensures read { result ≡ new_name book.now name.now }
-    ensures spare { result ≢ Err Refused }
-{
-    let filters = &book.config().filters;
-    if !is_name(name) {
-        return Err(CommandFault::BadName);
-    }
-    if filters.contains(name) {
-        return Err(CommandFault::Exists);
-    }
-    if filters.len() < MOST_FILTERS {
-        Ok(())
-    } else {
-        Err(CommandFault::Full)
-    }
-}
-
 // The filter of this name, from its table and conditions.
-fn filter_on(alloc: Global, book: &Book, name: &[u8], line: &[u8]) -> Result<Filter, CommandFault>
-    ensures read { Tells (filter_on book.now name.now (words line.now)) result }
-    ensures spare { result ≡ Err Refused → 1 ≤ length (words line.now) }
+#[tactic(auto, unfolding(crate::specs::Parse::filter_on))]
+fn filter_on(
+    alloc: Global,
+    book: &Book,
+    name: &[u8],
+    words: &mut Words<'_>,
+) -> Result<Filter, Refused>
+    ensures read { Says (filter_on book.now name.now words.old) result }
+    ensures spare { TakesMemoryAt 1 words.old.words result }
 {
-    let (word, rest) = some_word(line)?;
-    let table = table_named(book, word)?;
-    let conds = read_some_conds(alloc, shape_of(book, table), rest)?;
+    let table = table_named(book, words)?;
+    let conds = read_some_conds(alloc, shape_of(book, table), words)?;
     Ok(Filter {
         name: Name::copy(alloc, name)?,
         table,
         conds,
     })
+}
+
+// ---- names
+
+// A word of this number is a name that nothing has.
+fn no_name(place: usize) -> Refused
+    ensures { result ≡ no_name place }
+{
+    Refused::at(CommandFault::NoTable, Misread::wrong(place, Expected::Name))
+}
+
+fn table_at(book: &Book, name: &[u8]) -> Option<usize>
+    ensures at { result ≡ table_at book.now name.now }
+    ensures within { IfSome result (λ table. table < length book.now.config.tables) }
+{
+    book.config().tables.position(name)
+}
+
+fn filter_at(book: &Book, name: &[u8]) -> Option<usize>
+    ensures { result ≡ filter_at book.now name.now }
+{
+    book.config().filters.position(name)
+}
+
+fn rank_at(book: &Book, name: &[u8]) -> Option<usize>
+    ensures { result ≡ rank_at book.now name.now }
+{
+    book.config().ranks.position(name)
+}
+
+// The position of a table, by the next word.
+#[tactic(auto, using(crate::proofs::Named::named_lemmas), unfolding(crate::specs::Parse::named))]
+fn table_named(book: &Book, words: &mut Words<'_>) -> Result<usize, Refused>
+    ensures read { Takes (named (table_at book.now) words.old) result words.new }
+    ensures within { IfOk result (λ table. table < length book.now.config.tables) }
+    ensures shorter { IfOk result (λ table. length words.old.words ≡ length words.new.words + 1) }
+{
+    let place = words.place();
+    let name = words.word(Expected::Name)?;
+    match table_at(book, name) {
+        Some(table) => Ok(table),
+        None => Err(no_name(place)),
+    }
+}
+
+// The position of a standing filter, whose name is the last word.
+#[tactic(auto, using(crate::proofs::Named::named_lemmas))]
+fn filter_named(book: &Book, words: &mut Words<'_>) -> Result<usize, Refused>
+    ensures { Finds (last_named (filter_at book.now) words.old) result }
+{
+    let place = words.place();
+    let name = words.word(Expected::Name)?;
+    let Some(filter) = filter_at(book, name) else {
+        return Err(no_name(place));
+    };
+    words.end()?;
+    Ok(filter)
+}
+
+// The position of a ranked list, whose name is the last word.
+#[tactic(auto, using(crate::proofs::Named::named_lemmas))]
+fn rank_named(book: &Book, words: &mut Words<'_>) -> Result<usize, Refused>
+    ensures { Finds (last_named (rank_at book.now) words.old) result }
+{
+    let place = words.place();
+    let name = words.word(Expected::Name)?;
+    let Some(rank) = rank_at(book, name) else {
+        return Err(no_name(place));
+    };
+    words.end()?;
+    Ok(rank)
+}
+
+// Whether an added filter has this name, which is the word of this number.
+fn check_added(book: &Book, place: usize, name: &[u8]) -> Result<(), Refused>
+    ensures read { result ≡ added_named book.now place name.now }
+{
+    if book.has_added(name) {
+        return Ok(());
+    }
+    Err(no_name(place))
+}
+
+// Whether a filter of this name may be added. The name is the word of this number.
+fn check_new_name(book: &Book, place: usize, name: &[u8]) -> Result<(), Refused>
+    ensures read { result ≡ new_name book.now place name.now }
+    ensures spare { IfErr result (λ refused. refused.fault ≢ OutOfMemory) }
+{
+    let filters = &book.config().filters;
+    let at = Misread::wrong(place, Expected::Name);
+    if !is_name(name) {
+        return Err(Refused::at(CommandFault::BadName, at));
+    }
+    if filters.contains(name) {
+        return Err(Refused::at(CommandFault::Exists, at));
+    }
+    if filters.len() < MOST_FILTERS {
+        Ok(())
+    } else {
+        Err(Refused::at(CommandFault::Full, at))
+    }
 }

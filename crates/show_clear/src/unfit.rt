@@ -6,20 +6,19 @@ ghost use Rattle.line_words.specs.Words.{words};
 ghost use Rattle.show_clear.specs.Explained.{adds, bad_name_text, cond_words, exists_text};
 ghost use Rattle.show_clear.specs.Explained.{full_text, is_right, kind_text, next_part, shape_in};
 ghost use Rattle.show_clear.specs.Explained.{stored_text, table_word, too_many_text, words_text};
-ghost use Rattle.show_clear.specs.Explained.{wrong_cond, wrong_word};
+ghost use Rattle.show_clear.specs.Explained.{cond_col, is_stored, wrong_cond, wrong_word};
 ghost use Rattle.show_clear.specs.declared.unfit.Part.TheVariants.{Column};
 ghost use Rattle.show_clear.specs.declared.fault.CommandFault.TheVariants as faults;
 
 use crate::answers::shape_of;
-use crate::conditions::cond_col;
 use crate::fleet::Book;
 use crate::pieces::append_counted;
 use crate::quoting::{append_columns, append_quoted};
 use crate::tables::kind_name;
 use agg_types::limits::LONGEST_NAME;
-use agg_types::{MOST_CONDS, MOST_FILTERS, NoMemory, Shape};
+use agg_types::{Col, MOST_CONDS, MOST_FILTERS, NoMemory, Shape};
 use key_text::append_text;
-use line_words::{behind_words, next_word, number, operator, word_at};
+use line_words::{DATA, behind_words, next_word, number, operator, word_at};
 
 /// What a word of a condition stands for.
 #[derive(Clone, Copy)]
@@ -83,12 +82,25 @@ fn next_part(part: Part) -> Part
     }
 }
 
+// Whether a table stores the column that a condition's first word names.
+fn names_stored(shape: &Shape, word: &[u8]) -> bool
+    ensures { result ≡ is_stored shape.now.cols (cond_col word.now) }
+{
+    let Some(name) = word.strip_prefix(DATA) else {
+        return false;
+    };
+    match Col::from_name(name) {
+        None => false,
+        Some(col) => shape.stores(col),
+    }
+}
+
 // Whether a word may be this part of a condition on a table.
 fn is_right(shape: &Shape, part: Part, word: &[u8]) -> bool
     ensures { result ≡ is_right shape.now.cols part word.now }
 {
     match part {
-        Part::Column => cond_col(shape, word).is_ok(),
+        Part::Column => names_stored(shape, word),
         Part::Operator => operator(word).is_some(),
         Part::Value => number(word).is_ok(),
     }

@@ -1,15 +1,11 @@
-use Rattle.std.proofs.lemmas.Result.{IfOk-weaker}
-use Rattle.show_clear.specs.Answer.{NamesExist}
-use Rattle.show_clear.specs.Change.{ChangeFits}
-use Rattle.show_clear.proofs.Fitting.{IsGood, told_good}
+use Rattle.std.proofs.Common.{Ok, Err}
+use Rattle.show_clear.proofs.FaultAlone.{told_alone}
 use Rattle.show_clear.proofs.parsing.parse.Goals as goal
 
-pub returns-clause-stands : goal.returns-clause-stands
-returns-clause-stands c = IfOk-weaker c.parse_line.result (IsGood c.args.book.now)
-    (NamesExist c.args.book.now) (λ command good. good.stands)
-    (told_good c.args.book.now c.args.line.now c.parse_line.result c.parse_line.ensures.read)
+pub returns-in-Ok-clause-read : goal.returns-in-Ok-clause-read
+returns-in-Ok-clause-read c = told_alone c.args.book.now c.args.line.now
+    (Ok c.in-Ok.command) c.in-Ok.ensures.read
 
-pub returns-clause-fits : goal.returns-clause-fits
-returns-clause-fits c = IfOk-weaker c.parse_line.result (IsGood c.args.book.now)
-    (ChangeFits c.args.book.now) (λ command good. good.fits)
-    (told_good c.args.book.now c.args.line.now c.parse_line.result c.parse_line.ensures.read)
+pub returns-in-Err-clause-read : goal.returns-in-Err-clause-read
+returns-in-Err-clause-read c = told_alone c.args.book.now c.args.line.now
+    (Err c.in-Err.refused) c.in-Err.ensures.read
