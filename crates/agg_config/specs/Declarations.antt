@@ -6,6 +6,7 @@ use Rattle.std.specs.Str.{bytes_eq}
 use Rattle.agg_types.specs.Kind.{kind_named, takes_length, with_length}
 use Rattle.agg_types.specs.declared.column.Col.{Col}
 use Rattle.agg_types.specs.declared.config.KeyKind.{KeyKind}
+use Rattle.agg_types.specs.declared.limits.TheConstants.{MOST_CONDS}
 use Rattle.line_words.specs.Reader.{◌>>=◌, Left, column, end, keyword, left_of, missing, number}
 use Rattle.line_words.specs.Reader.{said_by, word, wrong}
 use Rattle.line_words.specs.Words.{are_comment, words}
@@ -80,7 +81,7 @@ unfoldable pub filter_line : Left → Result Declaration Misread
 filter_line left = do
   name ← word Name left
   table ← word Name name.1
-  conds ← conditions 4 table.1
+  conds ← conditions MOST_CONDS table.1
   some ← (if length conds == 0 then Err (missing table.1.number Condition) else Ok conds)
   known ← read_each known_bound some
   Ok (Filter name.0 table.0 known)

@@ -15,7 +15,7 @@ pub(crate) type Condition = (Col, Op, Result<u64, Misread>);
 
 /// The conditions that end a line, up to four.
 pub(crate) fn conditions(alloc: Global, words: &mut Words<'_>) -> Result<Vec<Condition>, Unread>
-    ensures { Gives (λ conds. conds.items) result (conditions 4 words.old) }
+    ensures { Gives (λ conds. conds.items) result (conditions MOST_CONDS words.old) }
 {
     let mut conds = Vec::new(alloc);
     for _ in 0..MOST_CONDS {
