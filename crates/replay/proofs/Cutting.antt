@@ -10,7 +10,7 @@ use Rattle.std.proofs.Common.{below_more}
 use Rattle.agg_config.specs.Lines.{HasRead}
 use Rattle.agg_config.specs.declared.reader.Reader.{Reader}
 use Rattle.agg_config.proofs.Lines.{IsLineAt, line_found}
-use Rattle.line_words.specs.Words.{words}
+use Rattle.line_words.specs.Reader.{left_of}
 use Rattle.replay.specs.Script.{is_start, opening_of}
 use Rattle.replay.specs.Start.{IsCutAt}
 
@@ -85,7 +85,7 @@ position_none p xs e = ap (λ (n : ℕ). cond (ltb n (length xs)) (Some n) None)
 -- a line `start`
 pub cut_at : (config : Reader) (number : ℕ) (lines left rest : List (List ℕ))
     (line : List ℕ) (opening : Option ℕ) → Looked config number lines left → left ≡ line ∷ rest
-    → is_start line ≡ true → opening ≡ opening_of (words line)
+    → is_start line ≡ true → opening ≡ opening_of (left_of line)
     → IsCutAt lines (position is_start lines) rest
     (record { config = config; number = number; opening = opening })
 cut_at config number lines left rest line opening h is starts says =
@@ -102,7 +102,7 @@ cut_at config number lines left rest line opening h is starts says =
     (record {
       before = subst (λ (ls : List (List ℕ)). HasRead config ls) (sym front) h.read;
       number = h.numbered;
-      opening = says ∙ ap (λ (l : List ℕ). opening_of (words l)) (sym s.at);
+      opening = says ∙ ap (λ (l : List ℕ). opening_of (left_of l)) (sym s.at);
       behind = sym s.behind;
     })
 

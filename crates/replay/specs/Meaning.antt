@@ -1,107 +1,108 @@
 -- What the words of a line behind `start` say.
-use Rattle.std.specs.Prelude.{◌≡◌, ⊤, true, ℕ, nat_lt, if◌then◌else◌, List, [], ◌∷◌, codes}
-use Rattle.std.specs.Prelude.{Option, None, Some, Result, Ok, Err}
+use Rattle.std.specs.Prelude.{◌≡◌, ⊤, true, ℕ, nat_lt, if◌then◌else◌, List, codes, Result, Ok, Err}
 use Rattle.std.specs.Str.{bytes_eq}
 use Rattle.agg_types.specs.declared.config.Config.{Config}
 use Rattle.agg_types.specs.declared.limits.TheConstants.{LAST_MOMENT}
 use Rattle.fleet_core.specs.Possible.{does_fit}
-use Rattle.fleet_core.specs.declared.step.Step.TheVariants.{Connect, Bytes, Lost, Moment, Told}
+use Rattle.fleet_core.specs.declared.step.Step.{Step}
+use Rattle.fleet_core.specs.declared.step.Step.TheVariants as steps
 use Rattle.hex.specs.Hex.{decode_of}
 use Rattle.hex.specs.declared.error.FromHexError.{FromHexError}
-use Rattle.line_words.specs.Numbers.{number_of}
+use Rattle.line_words.specs.Reader.{◌>>=◌, Left, end, number, word, wrong}
 use Rattle.line_words.specs.Words.{are_comment}
-use Rattle.line_words.specs.declared.numbers.NumberFault.{NumberFault}
+use Rattle.line_words.specs.declared.misread.Expected.{Expected}
+use Rattle.line_words.specs.declared.misread.Expected.TheVariants as expected
+use Rattle.line_words.specs.declared.misread.Misread.{Misread}
 use Rattle.replay.specs.declared.steps.Meaning.{Meaning}
-use Rattle.replay.specs.declared.steps.Meaning.TheVariants.{Nothing, Does, BadStep, BadHex, Asks}
-
--- the word where there is but one
-abbrev pub only : List (List ℕ) → Option (List ℕ)
-only [] = None
-only (word ∷ []) = Some word
-only (word ∷ other ∷ words) = None
+use Rattle.replay.specs.declared.steps.Meaning.TheVariants.{Nothing, Does, BadStep, Asks}
 
 -- `connect` stands alone
-abbrev pub connect_of : List (List ℕ) → Meaning
-connect_of [] = Does Connect
-connect_of (word ∷ words) = BadStep
+unfoldable pub connect_in : Left → Result Step Misread
+connect_in left = do
+  none ← end left
+  Ok steps.Connect
 
-abbrev pub lost_by : Result ℕ NumberFault → Meaning
-lost_by (Ok conn) = Does (Lost conn)
-lost_by (Err fault) = BadStep
+-- the number that the last word writes
+unfoldable pub last_number : Left → Result ℕ Misread
+last_number left = do
+  found ← number left
+  n ← found.0
+  none ← end found.1
+  Ok n
 
--- behind `lost` stands the number of a connection
-abbrev pub lost_with : Option (List ℕ) → Meaning
-lost_with None = BadStep
-lost_with (Some word) = lost_by (number_of word)
+-- behind `lost` and `told` is the number of a connection
+unfoldable pub lost_in : Left → Result Step Misread
+lost_in left = last_number left >>= λ conn. Ok (steps.Lost conn)
 
-abbrev pub lost_of : List (List ℕ) → Meaning
-lost_of words = lost_with (only words)
+unfoldable pub told_in : Left → Result Step Misread
+told_in left = last_number left >>= λ conn. Ok (steps.Told conn)
 
-abbrev pub moment_by : Result ℕ NumberFault → Meaning
-moment_by (Ok moment) = if nat_lt LAST_MOMENT moment then BadStep else Does (Moment moment)
-moment_by (Err fault) = BadStep
+-- the moment of at most LAST_MOMENT that the last word says
+unfoldable pub last_moment : Left → Result ℕ Misread
+last_moment left = do
+  moment ← last_number left
+  if nat_lt LAST_MOMENT moment then Err (wrong left.number expected.Moment) else Ok moment
 
--- behind `moment` is a moment of at most LAST_MOMENT
-abbrev pub moment_with : Option (List ℕ) → Meaning
-moment_with None = BadStep
-moment_with (Some word) = moment_by (number_of word)
+-- behind `moment` is one
+unfoldable pub moment_in : Left → Result Step Misread
+moment_in left = last_moment left >>= λ moment. Ok (steps.Moment moment)
 
-abbrev pub moment_of : List (List ℕ) → Meaning
-moment_of words = moment_with (only words)
-
-abbrev pub bytes_by : ℕ → Result (List ℕ) FromHexError → Meaning
-bytes_by conn (Ok bytes) = Does (Bytes conn bytes)
-bytes_by conn (Err fault) = BadHex
+-- the number of a connection, and digits with the number of their word
+unfoldable pub bytes_of : Left → Result (ℕ × ℕ × List ℕ) Misread
+bytes_of left = do
+  found ← number left
+  conn ← found.0
+  digits ← word expected.Hexadecimal found.1
+  none ← end digits.1
+  Ok (conn, found.1.number, digits.0)
 
 -- the bytes that hexadecimal digits of either case write
-abbrev pub hex_of : ℕ → List ℕ → Meaning
-hex_of conn digits = bytes_by conn (decode_of digits)
+abbrev pub bytes_by : ℕ → ℕ → Result (List ℕ) FromHexError → Result Step Misread
+bytes_by conn place (Ok bytes) = Ok (steps.Bytes conn bytes)
+bytes_by conn place (Err fault) = Err (wrong place expected.Hexadecimal)
 
-abbrev pub no_hex_by : Result ℕ NumberFault → Meaning
-no_hex_by (Ok conn) = BadHex
-no_hex_by (Err fault) = BadStep
+abbrev pub hex_of : ℕ → ℕ → List ℕ → Result Step Misread
+hex_of conn place digits = bytes_by conn place (decode_of digits)
 
-abbrev pub hex_by : Result ℕ NumberFault → List ℕ → Meaning
-hex_by (Ok conn) digits = hex_of conn digits
-hex_by (Err fault) digits = BadStep
+-- behind `bytes` stand both
+abbrev pub bytes_in : Left → Result Step Misread
+bytes_in left = bytes_of left >>= λ found. hex_of found.0 found.1 found.2
 
--- behind `bytes` stand the number of a connection and digits
-abbrev pub bytes_of : List (List ℕ) → Meaning
-bytes_of [] = BadStep
-bytes_of (word ∷ []) = no_hex_by (number_of word)
-bytes_of (word ∷ digits ∷ []) = hex_by (number_of word) digits
-bytes_of (word ∷ digits ∷ other ∷ words) = BadStep
-
-abbrev pub told_by : Result ℕ NumberFault → Meaning
-told_by (Ok conn) = Does (Told conn)
-told_by (Err fault) = BadStep
-
--- behind `told` stands the number of a connection
-abbrev pub told_with : Option (List ℕ) → Meaning
-told_with None = BadStep
-told_with (Some word) = told_by (number_of word)
-
-abbrev pub told_of : List (List ℕ) → Meaning
-told_of words = told_with (only words)
+-- the step that is read, or the word that is wrong or missing
+abbrev pub said : Result Step Misread → Meaning
+said (Ok step) = Does step
+said (Err at) = BadStep at
 
 -- by the first word
-abbrev pub meaning_by : List ℕ → List (List ℕ) → Meaning
-meaning_by first words =
-    if bytes_eq first (codes "connect") then connect_of words
-    else if bytes_eq first (codes "bytes") then bytes_of words
-    else if bytes_eq first (codes "lost") then lost_of words
-    else if bytes_eq first (codes "moment") then moment_of words
-    else if bytes_eq first (codes "told") then told_of words
+abbrev pub meaning_by : List ℕ → Left → Meaning
+meaning_by first left =
+    if bytes_eq first (codes "connect") then said (connect_in left)
+    else if bytes_eq first (codes "bytes") then said (bytes_in left)
+    else if bytes_eq first (codes "lost") then said (lost_in left)
+    else if bytes_eq first (codes "moment") then said (moment_in left)
+    else if bytes_eq first (codes "told") then said (told_in left)
     else Asks
 
-abbrev pub meaning_of : List (List ℕ) → Meaning
-meaning_of [] = Nothing
-meaning_of (first ∷ words) = if are_comment (first ∷ words) then Nothing else meaning_by first words
+abbrev pub meaning_with : Result (List ℕ × Left) Misread → Meaning
+meaning_with (Ok first) = meaning_by first.0 first.1
+meaning_with (Err at) = BadStep at
+
+abbrev pub meaning_of : Left → Meaning
+meaning_of left =
+    if are_comment left.words then Nothing else meaning_with (word expected.Keyword left)
+
+-- what is printed of a bad step, by what had to stand in its wrong word's place
+abbrev pub fault_text : Expected → List ℕ
+fault_text expected.Hexadecimal = codes ": hex\n"
+fault_text other = codes ": step\n"
+
+-- a step that fits every configuration
+abbrev pub FitsAlways : Step → Type 0
+FitsAlways step = (config : Config) → does_fit config step ≡ true
 
 -- a step that a line says fits every configuration
 abbrev pub AlwaysFits : Meaning → Type 0
 AlwaysFits Nothing = ⊤
 AlwaysFits (Does step) = (config : Config) → does_fit config step ≡ true
-AlwaysFits BadStep = ⊤
-AlwaysFits BadHex = ⊤
+AlwaysFits (BadStep at) = ⊤
 AlwaysFits Asks = ⊤

@@ -8,7 +8,7 @@ use Rattle.fleet_core.specs.Events.{events_of}
 use Rattle.fleet_core.specs.Represents.{Collected}
 use Rattle.fleet_core.specs.declared.step.Step.{Step}
 use Rattle.fleet_core.specs.declared.step.Step.TheVariants as steps
-use Rattle.line_words.specs.Words.{words}
+use Rattle.line_words.specs.Reader.{left_of}
 use Rattle.show_clear.specs.Answer.{IsAnswerTo}
 use Rattle.show_clear.specs.Parse.{Read, command_of}
 use Rattle.show_clear.specs.Refusal.{refusal_text}
@@ -18,11 +18,11 @@ use Rattle.show_clear.specs.declared.command.Change.{Change}
 use Rattle.show_clear.specs.declared.command.Change.TheVariants.{Clear, AddFilter, DropFilter}
 use Rattle.show_clear.specs.declared.fault.CommandFault.TheVariants as refused
 use Rattle.replay.specs.Given.{Did, Given, step_given}
-use Rattle.replay.specs.Meaning.{meaning_of}
+use Rattle.replay.specs.Meaning.{fault_text, meaning_of}
 use Rattle.replay.specs.declared.ending.Ending.{Ending}
 use Rattle.replay.specs.declared.ending.Ending.TheVariants.{BadScript, Done, Failed}
 use Rattle.replay.specs.declared.steps.Meaning.{Meaning}
-use Rattle.replay.specs.declared.steps.Meaning.TheVariants.{Nothing, Does, BadStep, BadHex, Asks}
+use Rattle.replay.specs.declared.steps.Meaning.TheVariants.{Nothing, Does, BadStep, Asks}
 
 -- the fleet's answers after these steps
 abbrev pub state_after : Config → ℕ → List Step → State
@@ -81,17 +81,15 @@ abbrev pub MeaningGives : Meaning → Config → ℕ → List Step → ℕ → L
 MeaningGives Nothing config opening past number line given = given ≡ printing past []
 MeaningGives (Does step) config opening past number line given =
     given ≡ step_given config opening past step
-MeaningGives BadStep config opening past number line given =
-    given ≡ bad_line past number (codes ": step\n")
-MeaningGives BadHex config opening past number line given =
-    given ≡ bad_line past number (codes ": hex\n")
+MeaningGives (BadStep at) config opening past number line given =
+    given ≡ bad_line past number (fault_text at.expected)
 MeaningGives Asks config opening past number line given =
     AskOrRefusal config opening past (command_of (state_after config opening past) line) given
 
 -- what the line of this number does after these steps
 abbrev pub LineGives : Config → ℕ → List Step → ℕ → List ℕ → Given → Type 0
 LineGives config opening past number line given =
-    MeaningGives (meaning_of (words line)) config opening past number line given
+    MeaningGives (meaning_of (left_of line)) config opening past number line given
 
 -- a line was done by the fleet
 pub record LineDid (Gives : Given → Type 0) (fleet : Collected) (config : Config)

@@ -1,18 +1,18 @@
 -- What a script prints: a configuration, a line `start`, and the lines of a run.
-use Rattle.std.specs.Prelude.{◌≡◌, ◌≢◌, ◌⊎◌, ℕ, ◌+◌, Bool, false, nat_lt, if◌then◌else◌, List}
+use Rattle.std.specs.Prelude.{◌≡◌, ◌≢◌, ◌⊎◌, ℕ, ◌+◌, Bool, false, List}
 use Rattle.std.specs.Prelude.{[], ◌∷◌, ◌++◌, codes, length, take, drop, position, slice_index_or}
-use Rattle.std.specs.Prelude.{Option, None, Some, Result, Ok, Err}
+use Rattle.std.specs.Prelude.{Option, None, Some}
 use Rattle.std.specs.Fmt.{decimal}
+use Rattle.std.specs.Result.{result_ok}
 use Rattle.std.specs.Str.{bytes_eq}
 use Rattle.agg_types.specs.declared.config.Config.{Config}
-use Rattle.agg_types.specs.declared.limits.TheConstants.{LAST_MOMENT}
 use Rattle.agg_config.specs.Reading.{IsFirstFault, Write, fault_line}
 use Rattle.agg_config.specs.declared.causes.LineCause.TheVariants as cause
 use Rattle.agg_config.specs.declared.causes.LineFault.{LineFault}
-use Rattle.line_words.specs.Numbers.{number_of}
+use Rattle.line_words.specs.Reader.{◌>>=◌, Left, left_of, word}
 use Rattle.line_words.specs.Words.{lines_of, words}
-use Rattle.line_words.specs.declared.numbers.NumberFault.{NumberFault}
-use Rattle.replay.specs.Meaning.{only}
+use Rattle.line_words.specs.declared.misread.Expected.TheVariants.{Keyword}
+use Rattle.replay.specs.Meaning.{last_moment}
 use Rattle.replay.specs.Runs.{Prints}
 use Rattle.replay.specs.Writing.{Wrote, WroteFront}
 use Rattle.replay.specs.declared.ending.Ending.{Ending}
@@ -26,18 +26,9 @@ begins_with_start (first ∷ words) = bytes_eq first (codes "start")
 abbrev pub is_start : List ℕ → Bool
 is_start line = begins_with_start (words line)
 
-abbrev pub opening_by : Result ℕ NumberFault → Option ℕ
-opening_by (Ok moment) = if nat_lt LAST_MOMENT moment then None else Some moment
-opening_by (Err fault) = None
-
-abbrev pub opening_with : Option (List ℕ) → Option ℕ
-opening_with None = None
-opening_with (Some word) = opening_by (number_of word)
-
--- the opening moment that these words say, if behind the first is but one of at most LAST_MOMENT
-abbrev pub opening_of : List (List ℕ) → Option ℕ
-opening_of [] = None
-opening_of (first ∷ words) = opening_with (only words)
+-- the opening moment that a line says, if behind its first word is but one of at most LAST_MOMENT
+abbrev pub opening_of : Left → Option ℕ
+opening_of left = result_ok (word Keyword left >>= λ first. last_moment first.1)
 
 -- what is printed, or nothing where an allocation failed before the fleet was open
 abbrev pub OrNothing : (List ℕ → Ending → Type 0) → List ℕ → Ending → Type 0
@@ -71,7 +62,7 @@ OpensAt lines before (Some opening) text ending =
 abbrev pub StartsAt : List (List ℕ) → Option ℕ → List ℕ → Ending → Type 0
 StartsAt lines None text ending = BadStart (length lines + 1) text ending
 StartsAt lines (Some before) text ending =
-    OpensAt lines before (opening_of (words (slice_index_or lines before []))) text ending
+    OpensAt lines before (opening_of (left_of (slice_index_or lines before []))) text ending
 
 -- what a script prints, and how its replay ends: its first line `start` is looked for, then its
 -- configuration is read, then its lines are done

@@ -2,7 +2,7 @@
 use Rattle.std.specs.Prelude.{◌≡◌, ℕ, ◌+◌, List, [], length, take, drop, slice_index_or, Option}
 use Rattle.std.specs.Prelude.{None, Some}
 use Rattle.agg_config.specs.Lines.{HasRead}
-use Rattle.line_words.specs.Words.{words}
+use Rattle.line_words.specs.Reader.{left_of}
 use Rattle.replay.specs.Script.{opening_of}
 use Rattle.replay.specs.declared.start.Start.{Start}
 
@@ -11,7 +11,7 @@ pub record Cuts (lines : List (List ℕ)) (at : ℕ) (rest : List (List ℕ)) (s
     : Type 0 where
   pub before : HasRead start.config (take at lines)
   pub number : start.number ≡ at + 1
-  pub opening : start.opening ≡ opening_of (words (slice_index_or lines at []))
+  pub opening : start.opening ≡ opening_of (left_of (slice_index_or lines at []))
   pub behind : rest ≡ drop (at + 1) lines
 
 -- a script is cut at its first line `start`, or has none

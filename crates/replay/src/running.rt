@@ -9,6 +9,7 @@ ghost use Rattle.agg_types.specs.declared.limits.TheConstants.{LAST_MOMENT};
 ghost use Rattle.fleet_core.specs.declared.step.Step.{Step};
 ghost use Rattle.line_words.specs.Words.{lines_of};
 ghost use Rattle.replay.specs.Given.{IsSettled};
+ghost use Rattle.replay.specs.Meaning.{fault_text};
 ghost use Rattle.replay.specs.Runs.{LineDid, LineGives, Prints};
 ghost use Rattle.replay.specs.Script.{OrNothing};
 ghost use Rattle.replay.specs.Writing.{Wrote, WroteFront};
@@ -22,7 +23,7 @@ use crate::writing::write_text;
 use agg_types::{Config, NoMemory};
 use fleet_core::Fleet;
 use key_text::{append_number, append_text};
-use line_words::next_line;
+use line_words::{Expected, next_line};
 use std::alloc::Global;
 use std::io;
 use std::io::{BufRead, ErrorKind, Write};
@@ -87,9 +88,18 @@ fn do_line(
     match meaning_of(alloc, line)? {
         Meaning::Nothing => Ok(None),
         Meaning::Does(step) => do_step(alloc, fleet, &step, out),
-        Meaning::BadStep => append_bad(number, b": step\n", out),
-        Meaning::BadHex => append_bad(number, b": hex\n", out),
+        Meaning::BadStep(at) => append_bad(number, fault_text(at.expected), out),
         Meaning::Asks => ask(alloc, fleet, line, out),
+    }
+}
+
+// What is printed of a bad step.
+fn fault_text(expected: Expected) -> &'static [u8]
+    ensures { result.now ≡ fault_text expected }
+{
+    match expected {
+        Expected::Hexadecimal => b": hex\n",
+        _ => b": step\n",
     }
 }
 

@@ -3,16 +3,16 @@
 ghost use Rattle.std.specs.Prelude.{◌≡◌, ◌≤◌, ◌^◌, [], List, ℕ, length, position, IfOk, IfSome};
 ghost use Rattle.agg_config.specs.Lines.{HasRead, lines_read};
 ghost use Rattle.agg_types.specs.declared.limits.TheConstants.{LAST_MOMENT};
-ghost use Rattle.line_words.specs.Words.{lines_of, words};
+ghost use Rattle.line_words.specs.Reader.{left_of};
+ghost use Rattle.line_words.specs.Words.{lines_of};
 ghost use Rattle.replay.specs.Script.{is_start, opening_of};
 ghost use Rattle.replay.specs.Source.{OfLines};
 ghost use Rattle.replay.specs.Start.{IsCutAt};
 
-use crate::steps::only;
+use crate::steps::last_moment;
 use crate::streams::{MOST_LINES, take_line};
 use agg_config::Reader;
-use agg_types::LAST_MOMENT;
-use line_words::{next_line, next_word, number};
+use line_words::{Expected, Words, next_line, next_word};
 use std::alloc::Global;
 use std::io;
 use std::io::{BufRead, ErrorKind};
@@ -72,13 +72,10 @@ fn is_start(line: &[u8]) -> bool
 
 // The moment that a line of two words says.
 fn opening_of(line: &[u8]) -> Option<u64>
-    ensures said { result ≡ opening_of (words line.now) }
+    ensures said { result ≡ opening_of (left_of line.now) }
     ensures in_range { IfSome result (λ moment. moment ≤ LAST_MOMENT) }
 {
-    let (_, behind) = next_word(line)?;
-    let word = only(behind)?;
-    match number(word) {
-        Ok(moment) if moment <= LAST_MOMENT => Some(moment),
-        _ => None,
-    }
+    let mut words = Words::of(line);
+    words.word(Expected::Keyword).ok()?;
+    last_moment(&mut words).ok()
 }

@@ -1,7 +1,9 @@
-use Rattle.std.proofs.Common.{[], codes, sym, subst, refl, ◌∙◌, append-nil}
+use Rattle.std.proofs.Common.{ℕ, List, [], sym, ap, subst, refl, ◌∙◌, append-nil}
 use Rattle.replay.specs.Given.{step_given}
+use Rattle.replay.specs.Meaning.{AlwaysFits}
 use Rattle.replay.specs.Runs.{LineGives, MeaningGives, bad_line, printing}
 use Rattle.replay.specs.declared.steps.Meaning.{Meaning}
+use Rattle.replay.specs.declared.steps.Meaning.TheVariants.{Does}
 use Rattle.replay.proofs.Asking.{bad_did, given_too, just_given, printed}
 use Rattle.replay.proofs.running.do_line.Goals as goal
 
@@ -12,6 +14,13 @@ returns-in-Nothing c = λ config opening past settled.
     (subst (λ (m : Meaning). MeaningGives m config opening past c.args.number c.args.line.now
     (printing past [])) (sym c.in-Nothing.is ∙ c.in_ok-meaning_of.ensures.exact) refl)
     settled (sym (append-nil c.args.out.now.items))
+
+-- a step that a line says fits every configuration
+pub do_step-requires : goal.do_step-requires
+do_step-requires c =
+    let fits : AlwaysFits (Does c.in-Does.step) =
+    subst AlwaysFits c.in-Does.is c.in_ok-meaning_of.ensures.fits in
+    record { fits = fits c.args.fleet.now.book.config }
 
 pub returns-in-Does : goal.returns-in-Does
 returns-in-Does c = λ config opening past settled.
@@ -25,23 +34,14 @@ returns-in-Does c = λ config opening past settled.
 
 pub returns-in-BadStep : goal.returns-in-BadStep
 returns-in-BadStep c = λ config opening past settled.
+    let fault = c.fault_text.result.now in
     bad_did c.append_bad.result (LineGives config opening past c.args.number c.args.line.now)
-    c.args.fleet.now config opening past c.args.number (codes ": step\n") c.args.out.now.items
+    c.args.fleet.now config opening past c.args.number fault c.args.out.now.items
     c.append_bad.new.out.items
     (subst (λ (m : Meaning). MeaningGives m config opening past c.args.number c.args.line.now
-    (bad_line past c.args.number (codes ": step\n")))
-    (sym c.in-BadStep.is ∙ c.in_ok-meaning_of.ensures.exact) refl)
+    (bad_line past c.args.number fault)) (sym c.in-BadStep.is ∙ c.in_ok-meaning_of.ensures.exact)
+    (ap (λ (text : List ℕ). bad_line past c.args.number text) c.fault_text.ensures))
     settled c.append_bad.ensures.text c.append_bad.ensures.ended
-
-pub returns-in-BadHex : goal.returns-in-BadHex
-returns-in-BadHex c = λ config opening past settled.
-    bad_did c.append_bad-in-BadHex.result (LineGives config opening past c.args.number
-    c.args.line.now) c.args.fleet.now config opening past c.args.number (codes ": hex\n")
-    c.args.out.now.items c.append_bad-in-BadHex.new.out.items
-    (subst (λ (m : Meaning). MeaningGives m config opening past c.args.number c.args.line.now
-    (bad_line past c.args.number (codes ": hex\n")))
-    (sym c.in-BadHex.is ∙ c.in_ok-meaning_of.ensures.exact) refl)
-    settled c.append_bad-in-BadHex.ensures.text c.append_bad-in-BadHex.ensures.ended
 
 pub returns-in-Asks : goal.returns-in-Asks
 returns-in-Asks c = λ config opening past settled.
