@@ -1,6 +1,6 @@
 //! Why a table that a peer defines is followed, or not.
 
-use agg_types::{Col, Config, KeyKind, LAST_TYPE, Shape};
+use agg_types::{Col, Config, KeyKind, KeyLength, LAST_TYPE, Shape};
 use peers_msg::Definition;
 use std::fmt;
 
@@ -79,31 +79,19 @@ fn differ_by_slash(one: &[u8], other: &[u8]) -> bool {
     one.strip_prefix(b"/") == Some(other) || other.strip_prefix(b"/") == Some(one)
 }
 
-// The type of keys as peers send it, and the length that all of its keys have.
-fn wire_of(kind: KeyKind) -> (u64, Option<u64>) {
-    match kind {
-        KeyKind::Integer => (2, Some(4)),
-        KeyKind::Ip => (4, Some(4)),
-        KeyKind::Ipv6 => (5, Some(16)),
-        KeyKind::Str(_) => (6, None),
-        KeyKind::Binary(len) => (7, Some(len)),
-    }
-}
-
 fn judge_for(shape: &Shape, definition: &Definition) -> Verdict {
-    let (kind, len) = wire_of(shape.kind);
-    if definition.kind != kind {
+    if definition.kind != shape.kind.number() {
         return Verdict::Kind {
             sent: definition.kind,
             here: shape.kind,
         };
     }
-    if let Some(len) = len
-        && definition.len != len
+    if let KeyLength::Exactly(exact) = shape.kind.length()
+        && definition.len != exact
     {
         return Verdict::Length {
             sent: definition.len,
-            here: len,
+            here: exact,
         };
     }
     for col in shape.cols.as_slice() {
@@ -141,13 +129,9 @@ pub struct Because<'a> {
 
 // The type of keys, as HAProxy writes it.
 fn type_name(kind: u64) -> &'static str {
-    match kind {
-        2 => "integer",
-        4 => "ip",
-        5 => "ipv6",
-        6 => "string",
-        7 => "binary",
-        _ => "unknown",
+    match KeyKind::from_number(kind) {
+        None => "unknown",
+        Some(kind) => kind.name(),
     }
 }
 
@@ -175,7 +159,7 @@ impl<'a> fmt::Display for Because<'a> {
                 f.write_str(" is")
             }
             Verdict::Kind { sent, here } => {
-                let (there, here) = (type_name(sent), type_name(wire_of(here).0));
+                let (there, here) = (type_name(sent), here.name());
                 write!(f, "keys of type {there} there, {here} here")
             }
             Verdict::Length { sent, here } => {

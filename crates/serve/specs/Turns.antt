@@ -7,6 +7,7 @@ use Rattle.std.specs.Io.KnownBytes.{Appends}
 use Rattle.agg_types.specs.declared.event.What.{What}
 use Rattle.fleet_model.specs.Named.{keys_named}
 use Rattle.fleet_model.specs.State.{State}
+use Rattle.peers_msg.specs.Kinds as kinds
 use Rattle.peers_msg.specs.declared.message.Message.{Message}
 use Rattle.session_core.specs.declared.cause.SessionCause.{SessionCause}
 use Rattle.session_core.specs.declared.cause.SessionCause.TheVariants as causes
@@ -40,7 +41,7 @@ pub data Turn : Type 0 where
   Say : ℕ → Turn
 
 abbrev pub heartbeat : List ℕ
-heartbeat = 0 ∷ 4 ∷ []
+heartbeat = kinds.control_class ∷ kinds.heartbeat ∷ []
 
 -- the bytes taken in these turns, of which the newest is first
 abbrev pub taken_in : List Turn → List ℕ

@@ -12,6 +12,7 @@ ghost use Rattle.serve.specs.Commands.{HasNoEnd, IsCommandedUntil, IsCommandedWh
 ghost use Rattle.serve.specs.Status.{quits};
 ghost use Rattle.serve.specs.Told.{stored_of};
 ghost use Rattle.serve.specs.Traffic.{Traffic, so_far};
+ghost use Rattle.serve.specs.declared.worker.TheConstants.{MOST_READS};
 
 use crate::answering::{Answered, answer_to};
 use crate::clock::Clock;
@@ -313,7 +314,7 @@ impl<'a, J: Naming, H: Wait + Drop, R: Wait, C: Clock, G: Gate> Context<'a, J, H
             (so_far (S.given link.new.source) (W.contents link.new.writer)) result }
         ensures read { result ≡ Err Cause.Read
             → (S.failed link.old.source < S.failed link.new.source)
-            ⊎ (S.reads link.new.source ≡ 2 ^ 40) }
+            ⊎ (S.reads link.new.source ≡ MOST_READS) }
     {
         let Some(mut buffer) = buffer(self.alloc) else {
             return Err(Cause::Post(refused(self.alloc)));
@@ -357,10 +358,10 @@ impl<'a, J: Naming, H: Wait + Drop, R: Wait, C: Clock, G: Gate> Context<'a, J, H
             (so_far (S.given link.old.source) (W.contents link.old.writer))
             (so_far (S.given link.new.source) (W.contents link.new.writer))) }
 
-        // It ends with Read only where a read failed, or 2^40 were made.
+        // It ends with Read only where a read failed, or `MOST_READS` were made.
         ensures read { IfErr result (λ faulted. faulted.cause ≡ Cause.Read
             → (S.failed link.old.source < S.failed link.new.source)
-            ⊎ (S.reads link.new.source ≡ 2 ^ 40)) }
+            ⊎ (S.reads link.new.source ≡ MOST_READS)) }
     {
         let mut worker = AdminWorker::new(self.alloc, lens, pass);
         let ended = self.run_admin(&mut worker, link, door);

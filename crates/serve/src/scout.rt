@@ -7,6 +7,7 @@
 use crate::gate::{Gate, News, Place};
 use crate::lines::split_line;
 use agg_types::limits::LONGEST_PAYLOAD;
+use peers_msg::kinds::{FIRST_WITH_PAYLOAD, TABLE_CLASS, TABLE_DEFINITION};
 use peers_msg::{Definition, Feed, Message, get_int};
 use std::alloc::Global;
 use std::collections::VecDeque;
@@ -14,11 +15,8 @@ use std::collections::VecDeque;
 /// How many lines a hello has.
 const HELLO_LINES: u8 = 3;
 
-/// The first type of a message that has a payload.
-const FIRST_WITH_PAYLOAD: u8 = 128;
-
 /// The class and the type of a table definition.
-const DEFINITION: (u8, u8) = (10, 130);
+const DEFINITION: (u8, u8) = (TABLE_CLASS, TABLE_DEFINITION);
 
 /// How many definitions wait at most until they are told.
 const MOST_FOUND: usize = 256;

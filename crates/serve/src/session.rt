@@ -1,6 +1,6 @@
 //! One connection of a peer.
 
-ghost use Rattle.std.specs.Prelude.{◌≡◌, ◌<◌, ◌^◌, ◌⊎◌, ℕ, List, IfSome, IfErr, MatchResult};
+ghost use Rattle.std.specs.Prelude.{◌≡◌, ◌<◌, ◌⊎◌, ℕ, List, IfSome, IfErr, MatchResult};
 ghost use Rattle.std.specs.Option.{option_map};
 ghost use Rattle.agg_types.specs.declared.event.What.{What};
 ghost use Rattle.hub.specs.Posts.{Follows, SitsDown};
@@ -10,6 +10,7 @@ ghost use Rattle.serve.specs.Silent.{WasSilent};
 ghost use Rattle.serve.specs.Traffic.{so_far};
 ghost use Rattle.serve.specs.Turns.{PosterTells, IsPosterOf, SeatIsServed, seat_at};
 ghost use Rattle.serve.specs.Working.{IsServedUntil, IsServedWhole};
+ghost use Rattle.serve.specs.declared.worker.TheConstants.{MOST_READS};
 
 use crate::clock::Clock;
 use crate::context::{Context, Link};
@@ -75,14 +76,14 @@ impl<'a, J: Naming, H: Wait + Drop, R: Wait + std::rt::Clock, C: Clock, G: Gate>
             (so_far (S.given link.old.source) (W.contents link.old.writer))
             (so_far (S.given link.new.source) (W.contents link.new.writer))) }
 
-        // It ends for silence only where the clock can give two moments 5,000 ms apart.
+        // It ends for silence only where the clock can give two moments `LONGEST_SILENCE` ms apart.
         ensures silent { IfErr result (λ faulted. faulted.cause
             ≡ Cause.Session SessionCause.TimedOut → WasSilent (C.gives self.now.clock.now)) }
 
-        // It ends with Read only where a read failed, or 2^40 were made.
+        // It ends with Read only where a read failed, or `MOST_READS` were made.
         ensures read { IfErr result (λ faulted. faulted.cause ≡ Cause.Read
             → (S.failed link.old.source < S.failed link.new.source)
-            ⊎ (S.reads link.new.source ≡ 2 ^ 40)) }
+            ⊎ (S.reads link.new.source ≡ MOST_READS)) }
     {
         let mut worker = Worker::new(self.alloc, pass, self.clock.now());
         let ended = self.run_session(&mut worker, link);

@@ -14,15 +14,14 @@ use crate::faults::{AnswerFault, WriteFailed};
 use crate::gate::Gate;
 use crate::writing::send;
 use hub::{Await, Naming, PostFault, Receipt, Ticket};
+use peers_msg::kinds;
+use session_core::BEAT_AFTER;
 use std::io::Write;
 use std::sync::Wait;
 use std::time::Duration;
 
 /// The heartbeat message of the peers protocol.
-pub const HEARTBEAT: [u8; 2] = [0, 4];
-
-/// How long nothing may be sent, in ms, before a heartbeat is.
-const BEAT_AFTER: u64 = 3000;
+pub const HEARTBEAT: [u8; 2] = [kinds::CONTROL_CLASS, kinds::HEARTBEAT];
 
 /// How long a session waits for its list at a time, in ms.
 const WAIT_AT_A_TIME: u64 = 100;

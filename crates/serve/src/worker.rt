@@ -8,6 +8,7 @@ ghost use Rattle.agg_types.specs.declared.event.What.{What};
 ghost use Rattle.hub.specs.History.{Beginning};
 ghost use Rattle.hub.specs.Posts.{Follows, SitsDown};
 ghost use Rattle.hub.specs.Roll.{MayPost};
+ghost use Rattle.serve.specs.declared.worker.TheConstants.{MOST_READS};
 
 use crate::clock::Clock;
 use crate::context::{Context, Link};
@@ -441,7 +442,7 @@ impl<'a, J: Naming, H: Wait + Drop, R: Wait + std::rt::Clock, C: Clock, G: Gate>
             (so_far (S.given link.new.source) (W.contents link.new.writer)) result }
         ensures read { result ≡ Err Cause.Read
             → (S.failed link.old.source < S.failed link.new.source)
-            ⊎ (S.reads link.new.source ≡ 2 ^ 40) }
+            ⊎ (S.reads link.new.source ≡ MOST_READS) }
         ensures heard { IsHeard (C.gives self.now.clock.now) worker.old.session
             → HearsUntil (C.gives self.now.clock.now) worker.new.session result }
     {
