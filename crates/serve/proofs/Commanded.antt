@@ -32,7 +32,7 @@ use Rattle.serve.specs.Commanding.{HasLearned, HasLooked, HasObeyed, HasQuit, Is
 use Rattle.serve.specs.Commanding.{Stops, Works, WorksIf}
 use Rattle.serve.specs.Commanding.{kept_of, reply_of}
 use Rattle.serve.specs.Faults.{cause_of_line}
-use Rattle.serve.specs.Status.{IsStatus, asked_in, quits}
+use Rattle.serve.specs.Status.{IsStatus, asked_in, no_peer, quits}
 use Rattle.serve.specs.Told.{HasTold, IsServed, stored_of}
 use Rattle.serve.specs.Traffic.{Traffic, so_far}
 use Rattle.serve.specs.Turns.{WroteFront}
@@ -48,7 +48,6 @@ use Rattle.serve.specs.declared.served.Served.{Served}
 use Rattle.serve.specs.declared.door.Door.{Door}
 use Rattle.serve.specs.declared.status.Asked.{Asked}
 use Rattle.serve.specs.declared.status.Asked.TheVariants as asks
-use Rattle.show_clear.specs.declared.fault.CommandFault.TheVariants.{NoTable}
 
 -- ---- what may be posted
 
@@ -167,7 +166,7 @@ status_kept door (asks.Status status) book line answer is = is
 status_kept door asks.Config book line answer is = is
 status_kept door asks.Filters book line answer is = is
 status_kept door asks.Ranks book line answer is = is
-status_kept door asks.NoPeer book line answer is = is ∙ kept_tells door book line NoTable
+status_kept door asks.NoPeer book line answer is = is ∙ kept_tells door book line no_peer
 
 -- what a line is answered that asks for this
 replied_to : (door : Door) (asked : Option Asked) (book : State) (line : List ℕ)
@@ -189,12 +188,12 @@ replied_to door None book line change text says =
         answers = is.answers;
       })
       | inr refusal ↦ inr (record {
-        fault = refusal.fault;
+        refused = refusal.refused;
         says = λ other. sym (kept_says book line)
             ∙ refusal.says other;
         none = refusal.none;
         tells = refusal.tells
-            ∙ ap (λ told. told ++ codes "\n") (kept_tells door book line refusal.fault);
+            ∙ ap (λ told. told ++ codes "\n") (kept_tells door book line refusal.refused);
       })
     ]
 

@@ -17,11 +17,12 @@ use Rattle.agg_types.specs.declared.limits.TheConstants.{LONGEST_COMMAND_LINE as
 use Rattle.fleet_model.specs.State.{State}
 use Rattle.show_clear.proofs.Returns.{are_returns, returns_before, returns_behind}
 use Rattle.line_words.specs.Words.{words}
-use Rattle.show_clear.specs.Parse.{asked, command_of, without_returns}
-use Rattle.show_clear.specs.Explained.{long_text, words_text}
+use Rattle.show_clear.specs.Parse.{command_in, reading_of, without_returns}
+use Rattle.show_clear.specs.Explained.{long_text, refused_text}
 use Rattle.show_clear.specs.Refusal.{fault_name, fault_number}
-use Rattle.show_clear.specs.declared.fault.CommandFault.{CommandFault}
+use Rattle.show_clear.specs.Refused.{unplaced}
 use Rattle.show_clear.specs.declared.fault.CommandFault.TheVariants.{Unknown}
+use Rattle.show_clear.specs.declared.refused.Refused.{Refused}
 use Rattle.serve.specs.Commanding.{kept_of, text_byte}
 use Rattle.serve.specs.Status.{asked_by, asked_in, by_words, is_quit, quits, refusal_at}
 use Rattle.serve.specs.declared.door.Door.{Door}
@@ -100,9 +101,10 @@ kept_words {A} long says line = by (text_byte (drop longest line)) refl
         (too_long (take longest line) (drop longest line) full facts.0) in
         rw (kept, whole) refl
 
-pub kept_says : (book : State) (line : List ℕ) → command_of book (kept_of line)
-    ≡ command_of book line
-kept_says book line = kept_words (Err Unknown) (asked book) line
+pub kept_says : (book : State) (line : List ℕ) → reading_of book (kept_of line)
+    ≡ reading_of book line
+kept_says book line = kept_words (Err (unplaced Unknown))
+    (λ ws. command_in book (record { number = 1; words = ws })) line
 
 pub kept_asks : (config : Config) (line : List ℕ) → asked_in config (kept_of line)
     ≡ asked_in config line
@@ -110,13 +112,13 @@ unfolding asked_in
 kept_asks config line = kept_words None (asked_by config) line
 
 -- what is told of a refused line stands in what is kept of it
-pub kept_tells : (door : Door) (book : State) (line : List ℕ) (fault : CommandFault)
-    → refusal_at door book (kept_of line) fault ≡ refusal_at door book line fault
-kept_tells Programs book line fault = refl
-kept_tells People book line fault =
-    ap (λ (told : List ℕ). codes "refused " ++ decimal (fault_number fault) ++ codes " "
-    ++ fault_name fault ++ codes ": " ++ told ++ codes "\n")
-    (kept_words long_text (λ ws. words_text book ws fault) line)
+pub kept_tells : (door : Door) (book : State) (line : List ℕ) (refused : Refused)
+    → refusal_at door book (kept_of line) refused ≡ refusal_at door book line refused
+kept_tells Programs book line refused = refl
+kept_tells People book line refused =
+    ap (λ (told : List ℕ). codes "refused " ++ decimal (fault_number refused.fault) ++ codes " "
+    ++ fault_name refused.fault ++ codes ": " ++ told ++ codes "\n")
+    (kept_words long_text (refused_text book refused) line)
 
 pub kept_quits : (line : List ℕ) → quits (kept_of line) ≡ quits line
 unfolding quits

@@ -11,11 +11,11 @@ use Rattle.fleet_model.specs.Seats.{numbered}
 use Rattle.fleet_model.specs.State.{State}
 use Rattle.show_clear.specs.Answer.{IsAnswer}
 use Rattle.show_clear.specs.Change.{asked_event}
-use Rattle.show_clear.specs.Parse.{command_of}
+use Rattle.show_clear.specs.Parse.{reading_of}
 use Rattle.show_clear.specs.People.{IsPeoplesAnswer}
 use Rattle.show_clear.specs.declared.command.Command.{Command}
-use Rattle.show_clear.specs.declared.fault.CommandFault.{CommandFault}
 use Rattle.show_clear.specs.declared.fault.CommandFault.TheVariants.{NoMemory}
+use Rattle.show_clear.specs.declared.refused.Refused.{Refused}
 use Rattle.hub.specs.History.{Beginning, own}
 use Rattle.hub.specs.Posts.{Follows}
 use Rattle.hub.specs.Views.{IsBookOf}
@@ -56,7 +56,7 @@ pub record IsObeyed (door : Door) (book : State) (line : List ℕ) (change : Opt
     (text : List ℕ)
     : Type 0 where
   pub command : Command
-  pub says : command_of book line ≡ Ok command
+  pub says : reading_of book line ≡ Ok command
   pub asks : change ≡ asked_event command
   pub answers : AnswersWith door book command text
 
@@ -65,10 +65,10 @@ pub record IsObeyed (door : Door) (book : State) (line : List ℕ) (change : Opt
 pub record IsRefusedLine (door : Door) (book : State) (line : List ℕ) (change : Option What)
     (text : List ℕ)
     : Type 0 where
-  pub fault : CommandFault
-  pub says : fault ≢ NoMemory → command_of book line ≡ Err fault
+  pub refused : Refused
+  pub says : refused.fault ≢ NoMemory → reading_of book line ≡ Err refused
   pub none : change ≡ None
-  pub tells : text ≡ refusal_at door book line fault ++ codes "\n"
+  pub tells : text ≡ refusal_at door book line refused ++ codes "\n"
 
 -- a line that asks for no command on the book asks for no change: the text is the answer to what it
 -- asks for, and an empty line

@@ -7,12 +7,15 @@ use Rattle.agg_types.specs.declared.config.Config.{Config}
 use Rattle.agg_types.specs.declared.limits.TheConstants.{LONGEST_COMMAND_LINE}
 use Rattle.config_text.specs.Spaced.{filter_lines, rank_lines}
 use Rattle.fleet_model.specs.State.{State}
+use Rattle.line_words.specs.Reader.{wrong}
 use Rattle.line_words.specs.Words.{words}
+use Rattle.line_words.specs.declared.misread.Expected.TheVariants.{Name}
 use Rattle.show_clear.specs.Explained.{explained_refusal}
 use Rattle.show_clear.specs.Parse.{without_returns}
 use Rattle.show_clear.specs.Refusal.{refusal_text}
-use Rattle.show_clear.specs.declared.fault.CommandFault.{CommandFault}
+use Rattle.show_clear.specs.Refused.{refused_at}
 use Rattle.show_clear.specs.declared.fault.CommandFault.TheVariants.{NoTable}
+use Rattle.show_clear.specs.declared.refused.Refused.{Refused}
 use Rattle.serve.specs.declared.door.Door.{Door}
 use Rattle.serve.specs.declared.door.Door.TheVariants.{Programs, People}
 use Rattle.serve.specs.declared.status.Asked.{Asked}
@@ -78,9 +81,13 @@ unfoldable pub quits : List ℕ → Bool
 quits line = by_words false is_quit line
 
 -- the refusal of a line: people are told which word is wrong, and what was expected
-abbrev pub refusal_at : Door → State → List ℕ → CommandFault → List ℕ
-refusal_at Programs book line fault = refusal_text fault
-refusal_at People book line fault = explained_refusal book line fault
+abbrev pub refusal_at : Door → State → List ℕ → Refused → List ℕ
+refusal_at Programs book line refused = refusal_text refused.fault
+refusal_at People book line refused = explained_refusal book line refused
+
+-- the third word names no peer
+abbrev pub no_peer : Refused
+no_peer = refused_at NoTable (wrong 3 Name)
 
 -- The answer to what is asked for. What a gate tells no clause says.
 abbrev pub IsStatus : Door → State → List ℕ → Asked → List ℕ → Type 0
@@ -88,4 +95,4 @@ IsStatus door book line (asks.Status status) answer = Unit {0}
 IsStatus door book line asks.Config answer = answer ≡ text_of book.config
 IsStatus door book line asks.Filters answer = answer ≡ filter_lines book.config
 IsStatus door book line asks.Ranks answer = answer ≡ rank_lines book.config
-IsStatus door book line asks.NoPeer answer = answer ≡ refusal_at door book line NoTable
+IsStatus door book line asks.NoPeer answer = answer ≡ refusal_at door book line no_peer

@@ -4,7 +4,7 @@ ghost use Rattle.std.specs.Prelude.{◌≡◌, ◌++◌, codes, None, IfOk, IfSo
 ghost use Rattle.agg_types.specs.declared.config.Config.{Config};
 ghost use Rattle.hub.specs.Roll.{MayPost};
 ghost use Rattle.serve.specs.Commands.{AnswersAt, AnswersWith, IsTold, Replies, RepliesTo};
-ghost use Rattle.serve.specs.Status.{IsStatus, refusal_at};
+ghost use Rattle.serve.specs.Status.{IsStatus, no_peer, refusal_at};
 ghost use Rattle.show_clear.specs.Answer.{NamesExist};
 ghost use Rattle.show_clear.specs.Change.{asked_event};
 
@@ -14,7 +14,10 @@ use crate::status::{Asked, asked_in};
 use agg_types::{NoMemory, What};
 use book::Book;
 use config_text::{append_config, append_filters, append_ranks};
-use show_clear::{Command, CommandFault, answer, answer_people, explain, parse, refusal};
+use line_words::{Expected, Misread};
+use show_clear::{
+    Command, CommandFault, Refused, answer, answer_people, explain, read_command, refusal,
+};
 use std::alloc::Global;
 
 /// What a line is answered, with an empty line behind it, and the change that it asks for.
@@ -46,16 +49,16 @@ fn append_refusal(
     alloc: Global,
     book: &Book,
     line: &[u8],
-    fault: CommandFault,
+    refused: Refused,
     door: Door,
     out: &mut Vec<u8>,
 ) -> Result<(), NoMemory>
     ensures { OnOk result
-        (out.new.items ≡ out.old.items ++ refusal_at door book.now line.now fault) }
+        (out.new.items ≡ out.old.items ++ refusal_at door book.now line.now refused) }
 {
     match door {
-        Door::Programs => refusal(&fault, out),
-        Door::People => explain(alloc, book, line, &fault, out),
+        Door::Programs => refusal(&refused.fault, out),
+        Door::People => explain(alloc, book, line, &refused, out),
     }
 }
 
@@ -79,15 +82,15 @@ fn refused_line(
     alloc: Global,
     book: &Book,
     line: &[u8],
-    fault: CommandFault,
+    refused: Refused,
     door: Door,
 ) -> Result<Answered, NoMemory>
     ensures change { IfOk result (λ a. a.change ≡ None) }
     ensures text { IfOk result
-        (λ a. a.text.items ≡ refusal_at door book.now line.now fault ++ codes "\n") }
+        (λ a. a.text.items ≡ refusal_at door book.now line.now refused ++ codes "\n") }
 {
     let mut text = Vec::new(alloc);
-    append_refusal(alloc, book, line, fault, door, &mut text)?;
+    append_refusal(alloc, book, line, refused, door, &mut text)?;
     text.push(b'\n')?;
     Ok(Answered { change: None, text })
 }
@@ -104,10 +107,17 @@ fn answer_to_command(
     ensures fits { (config : Config) → config.tables ≡ book.now.config.tables
         → IfOk result (λ a. IfSome a.change (MayPost config)) }
 {
-    match parse(alloc, book, line) {
+    match read_command(alloc, book, line) {
         Ok(command) => obeyed(alloc, book, command, door),
-        Err(fault) => refused_line(alloc, book, line, fault, door),
+        Err(refused) => refused_line(alloc, book, line, refused, door),
     }
+}
+
+// The third word names no peer.
+fn no_peer() -> Refused
+    ensures { result ≡ no_peer }
+{
+    Refused::at(CommandFault::NoTable, Misread::wrong(3, Expected::Name))
 }
 
 /// The answer to what is asked for beside commands.
@@ -127,9 +137,7 @@ fn status_text<G: Gate>(
         Asked::Config => append_config(book.config(), &mut text)?,
         Asked::Filters => append_filters(book.config(), &mut text)?,
         Asked::Ranks => append_ranks(book.config(), &mut text)?,
-        Asked::NoPeer => {
-            append_refusal(alloc, book, line, CommandFault::NoTable, door, &mut text)?
-        }
+        Asked::NoPeer => { append_refusal(alloc, book, line, no_peer(), door, &mut text)? }
     }
     Ok(text)
 }

@@ -32,7 +32,7 @@ use Rattle.show_clear.specs.Explained.{no_filter_named, no_name, no_peer_named, 
 use Rattle.show_clear.specs.Explained.{is_begun, no_table, not_added, printed, quoted, shape_in}
 use Rattle.show_clear.specs.Explained.{unknown_text}
 use Rattle.show_clear.specs.Explained.{show_form, stored_text, words_text}
-use Rattle.show_clear.specs.Explained.{wrong_cond}
+use Rattle.show_clear.specs.Explained.{refused_text, word_refused}
 use Rattle.show_clear.specs.Parse.{without_returns}
 use Rattle.show_clear.specs.People.{IsPeoplesAnswer, TellsPeople, change_ahead, distance_text}
 use Rattle.show_clear.specs.Refusal.{fault_name, fault_number}
@@ -45,6 +45,7 @@ use Rattle.show_clear.specs.declared.command.Question.TheVariants.{Ranking, Next
 use Rattle.show_clear.specs.declared.fault.CommandFault.{CommandFault}
 use Rattle.show_clear.specs.declared.fault.CommandFault.TheVariants as faults
 use Rattle.show_clear.specs.declared.quoting.TheConstants.{MOST_QUOTED}
+use Rattle.show_clear.specs.declared.refused.Refused.{Refused}
 use Rattle.show_clear.proofs.AnswerLines.{NamesStay, command_lines, names_of, question_lines}
 use Rattle.show_clear.proofs.AnswerLines.{title_stays}
 use Rattle.show_clear.proofs.AnswerPieces.{HasLines, answer_lines, at_end, behind, col_stays}
@@ -228,21 +229,21 @@ rank_stays state name names =
     (names_stay (codes "; ranked lists are: ") (map (λ rank. rank.name) state.config.ranks) refl
     (all_named (λ rank. rank.name) state.config.ranks names.ranks))
 
-name_stays : (state : State) (ws : List (List ℕ)) → NamesStay state → Fine (no_name state ws)
-name_stays state ws names =
-    let third = word_at 3 ws in
+name_stays : (state : State) (ws : List (List ℕ)) (name : List ℕ) → NamesStay state
+    → Fine (no_name state ws name)
+name_stays state ws name names =
     either (bytes_eq (word_at 1 ws) (codes "add"))
-    (fine (no_table state (word_at 4 ws)) (table_stays state (word_at 4 ws) names))
-    (either (bytes_eq (word_at 1 ws) (codes "del")) (fine (not_added third)
-    (around (codes "no filter ") third (codes " was added; those of the configuration stay") refl
+    (fine (no_table state name) (table_stays state name names))
+    (either (bytes_eq (word_at 1 ws) (codes "del")) (fine (not_added name)
+    (around (codes "no filter ") name (codes " was added; those of the configuration stay") refl
     refl))
     (either (bytes_eq (word_at 2 ws) (codes "table"))
-    (fine (no_table state third) (table_stays state third names))
+    (fine (no_table state name) (table_stays state name names))
     (either (bytes_eq (word_at 2 ws) (codes "rank"))
-    (fine (no_rank_named state third) (rank_stays state third names))
-    (either (bytes_eq (word_at 2 ws) (codes "peers")) (fine (no_peer_named third)
-    (around (codes "no peer ") third (codes " is configured; see show peers") refl refl))
-    (fine (no_filter_named state third) (filter_stays state third names))))))
+    (fine (no_rank_named state name) (rank_stays state name names))
+    (either (bytes_eq (word_at 2 ws) (codes "peers")) (fine (no_peer_named name)
+    (around (codes "no peer ") name (codes " is configured; see show peers") refl refl))
+    (fine (no_filter_named state name) (filter_stays state name names))))))
 
 stored_stays : (shape : Option Shape) → list_all is_line_byte (stored_text shape) ≡ true
 stored_stays None = refl
@@ -255,43 +256,43 @@ kinds_stay (Some shape) = kind_stays shape.kind
 
 -- ---- explanations
 
-words_stay : (state : State) (ws : List (List ℕ)) (fault : CommandFault) → NamesStay state
-    → list_all is_line_byte (words_text state ws fault) ≡ true
-words_stay state ws faults.Empty names = refl
-words_stay state ws faults.Unknown names =
+words_stay : (state : State) (ws : List (List ℕ)) (wrong : List ℕ) (fault : CommandFault)
+    → NamesStay state → list_all is_line_byte (words_text state ws wrong fault) ≡ true
+words_stay state ws wrong faults.Empty names = refl
+words_stay state ws wrong faults.Unknown names =
     missed_stays (word_at 1 ws) (word_at 2 ws) (form_of (word_at 1 ws) (word_at 2 ws))
     (form_stays (word_at 1 ws) (word_at 2 ws)).all
-words_stay state ws faults.NoTable names = (name_stays state ws names).all
-words_stay state ws faults.BadColumn names =
-    labelled (quoted (wrong_cond (shape_in state ws) ws)
+words_stay state ws wrong faults.NoTable names = (name_stays state ws wrong names).all
+words_stay state ws wrong faults.BadColumn names =
+    labelled (quoted wrong
     ++ codes " names no column that the table stores; it stores: ")
     (stored_text (shape_in state ws))
-    (ahead_of (wrong_cond (shape_in state ws) ws)
+    (ahead_of wrong
     (codes " names no column that the table stores; it stores: ") refl)
     (stored_stays (shape_in state ws))
-words_stay state ws faults.BadOperator names =
-    ahead_of (wrong_cond (shape_in state ws) ws)
+words_stay state ws wrong faults.BadOperator names =
+    ahead_of wrong
     (codes " stands where one of eq, ne, lt, le, gt, ge is expected") refl
-words_stay state ws faults.BadValue names =
-    ahead_of (wrong_cond (shape_in state ws) ws)
+words_stay state ws wrong faults.BadValue names =
+    ahead_of wrong
     (codes " stands where 1 to 20 digits are expected, up to 18446744073709551615") refl
-words_stay state ws faults.BadKey names =
-    labelled (quoted (word_at 5 ws) ++ codes " is no key of type ") (kind_text (shape_in state ws))
-    (ahead_of (word_at 5 ws) (codes " is no key of type ") refl) (kinds_stay (shape_in state ws))
-words_stay state ws faults.TooMany names =
+words_stay state ws wrong faults.BadKey names =
+    labelled (quoted wrong ++ codes " is no key of type ") (kind_text (shape_in state ws))
+    (ahead_of wrong (codes " is no key of type ") refl) (kinds_stay (shape_in state ws))
+words_stay state ws wrong faults.TooMany names =
     labelled (codes "there may be " ++ decimal MOST_CONDS) (codes " conditions")
     (labelled (codes "there may be ") (decimal MOST_CONDS) refl (number_stays MOST_CONDS)) refl
-words_stay state ws faults.NoMemory names = refl
-words_stay state ws faults.BadName names =
-    labelled (quoted (word_at 3 ws) ++ codes " can't name a filter: a name has 1 to "
+words_stay state ws wrong faults.NoMemory names = refl
+words_stay state ws wrong faults.BadName names =
+    labelled (quoted wrong ++ codes " can't name a filter: a name has 1 to "
     ++ decimal LONGEST_NAME) (codes " bytes, each of 33 to 126")
-    (labelled (quoted (word_at 3 ws) ++ codes " can't name a filter: a name has 1 to ")
+    (labelled (quoted wrong ++ codes " can't name a filter: a name has 1 to ")
     (decimal LONGEST_NAME)
-    (ahead_of (word_at 3 ws) (codes " can't name a filter: a name has 1 to ") refl)
+    (ahead_of wrong (codes " can't name a filter: a name has 1 to ") refl)
     (number_stays LONGEST_NAME)) refl
-words_stay state ws faults.Exists names =
-    around (codes "a filter ") (word_at 3 ws) (codes " exists already") refl refl
-words_stay state ws faults.Full names =
+words_stay state ws wrong faults.Exists names =
+    around (codes "a filter ") wrong (codes " exists already") refl refl
+words_stay state ws wrong faults.Full names =
     labelled (codes "there may be " ++ decimal MOST_FILTERS)
     (codes " filters; del filter <filter> takes away one that was added")
     (labelled (codes "there may be ") (decimal MOST_FILTERS) refl (number_stays MOST_FILTERS)) refl
@@ -302,13 +303,14 @@ long_stays any =
     (labelled (codes "the line has more than ") (decimal LONGEST_COMMAND_LINE) refl
     (number_stays LONGEST_COMMAND_LINE)) refl
 
-explanation_stays : (state : State) (line : List ℕ) (fault : CommandFault) → NamesStay state
-    → Fine (explanation state line fault)
-explanation_stays state line fault names =
+explanation_stays : (state : State) (line : List ℕ) (refused : Refused) → NamesStay state
+    → Fine (explanation state line refused)
+explanation_stays state line refused names =
     let ws = words (without_returns line) in
     either (nat_lt LONGEST_COMMAND_LINE (length (without_returns line)))
     (fine long_text (long_stays refl))
-    (fine (words_text state ws fault) (words_stay state ws fault names))
+    (fine (refused_text state refused ws)
+    (words_stay state ws (word_refused refused.at ws) refused.fault names))
 
 fault_stays : (fault : CommandFault) → list_all is_line_byte (fault_name fault) ≡ true
 fault_stays faults.Empty = refl
@@ -328,12 +330,13 @@ one_refusal rest all =
     (lines_back (line ∷ []) (and_true (list_all is_line_byte line) true all refl))
     ∙ ap (λ b. b ∷ []) (and_false (not (length line == 0))))
 
-pub lines_explained : (state : State) (line : List ℕ) (fault : CommandFault)
+pub lines_explained : (state : State) (line : List ℕ) (refused : Refused)
     → config_faults state.config ≡ []
-    → map is_answer_line (lines_of (explained_refusal state line fault)) ≡ false ∷ []
-lines_explained state line fault none =
+    → map is_answer_line (lines_of (explained_refusal state line refused)) ≡ false ∷ []
+lines_explained state line refused none =
+    let fault = refused.fault in
     let number = decimal (fault_number fault) in
-    let told = explanation state line fault in
+    let told = explanation state line refused in
     one_refusal (number ++ codes " " ++ fault_name fault ++ codes ": " ++ told)
     (labelled (codes "refused " ++ number ++ codes " " ++ fault_name fault ++ codes ": ") told
     (labelled (codes "refused " ++ number ++ codes " " ++ fault_name fault) (codes ": ")
@@ -341,7 +344,7 @@ lines_explained state line fault none =
     (labelled (codes "refused " ++ number) (codes " ")
     (labelled (codes "refused ") number refl (number_stays (fault_number fault))) refl)
     (fault_stays fault)) refl)
-    (explanation_stays state line fault (names_of state none)).all)
+    (explanation_stays state line refused (names_of state none)).all)
 
 -- ---- answers
 

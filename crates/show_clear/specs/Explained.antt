@@ -1,24 +1,21 @@
 -- What people are told of a refused line beside its fault: the word that is wrong, and what was
 -- expected.
-use Rattle.std.specs.Prelude.{ℕ, Bool, true, false, ◌&&◌, ◌||◌, if◌then◌else◌, nat_le, nat_lt}
-use Rattle.std.specs.Prelude.{List, [], ◌∷◌, ◌++◌, codes, drop, length, map, take}
-use Rattle.std.specs.Prelude.{find, position, Option, None, Some, Result, Ok, Err, is_some}
+use Rattle.std.specs.Prelude.{ℕ, Bool, ◌&&◌, ◌||◌, if◌then◌else◌, nat_le, nat_lt}
+use Rattle.std.specs.Prelude.{List, [], ◌∷◌, ◌++◌, codes, length, map, take}
+use Rattle.std.specs.Prelude.{position, Option, None, Some}
 use Rattle.std.specs.Fmt.{decimal}
 use Rattle.std.specs.Str.{bytes_eq}
-use Rattle.agg_types.specs.Col.{all_cols, col_name}
-use Rattle.agg_types.specs.Fits.{stores}
+use Rattle.agg_types.specs.Col.{col_name}
 use Rattle.agg_types.specs.Kind.{kind_name}
-use Rattle.agg_types.specs.declared.column.Col.{Col}
 use Rattle.agg_types.specs.declared.config.Shape.{Shape}
 use Rattle.agg_types.specs.declared.limits.TheConstants.{LONGEST_COMMAND_LINE, LONGEST_NAME}
 use Rattle.agg_types.specs.declared.limits.TheConstants.{MOST_CONDS, MOST_FILTERS}
 use Rattle.fleet_model.specs.State.{State}
 use Rattle.line_words.specs.Numbered.{word_at}
-use Rattle.line_words.specs.Numbers.{number_of}
-use Rattle.line_words.specs.Operators.{operator_of}
 use Rattle.line_words.specs.Words.{words}
+use Rattle.line_words.specs.declared.misread.Misread.{Misread}
 use Rattle.show_clear.specs.Answer.{shape_of}
-use Rattle.show_clear.specs.Parse.{is_data, without_returns}
+use Rattle.show_clear.specs.Parse.{without_returns}
 use Rattle.show_clear.specs.Refusal.{fault_name, fault_number}
 use Rattle.show_clear.specs.declared.fault.CommandFault.{CommandFault}
 use Rattle.show_clear.specs.declared.fault.CommandFault.TheVariants.{Empty, Unknown, NoTable}
@@ -26,9 +23,8 @@ use Rattle.show_clear.specs.declared.fault.CommandFault.TheVariants.{BadColumn, 
 use Rattle.show_clear.specs.declared.fault.CommandFault.TheVariants.{BadValue, BadKey, TooMany}
 use Rattle.show_clear.specs.declared.fault.CommandFault.TheVariants.{NoMemory, BadName, Exists}
 use Rattle.show_clear.specs.declared.fault.CommandFault.TheVariants.{Full}
-use Rattle.show_clear.specs.declared.unfit.Part.{Part}
-use Rattle.show_clear.specs.declared.unfit.Part.TheVariants.{Column, Operator, Value}
 use Rattle.show_clear.specs.declared.quoting.TheConstants.{MOST_QUOTED}
+use Rattle.show_clear.specs.declared.refused.Refused.{Refused}
 
 -- ---- pieces
 
@@ -60,10 +56,6 @@ adds words = bytes_eq (word_at 1 words) (codes "add")
 abbrev pub table_word : List (List ℕ) → List ℕ
 table_word words = if adds words then word_at 4 words else word_at 3 words
 
--- the words behind that: conditions, if there are any
-abbrev pub cond_words : List (List ℕ) → List (List ℕ)
-cond_words words = if adds words then drop 4 words else drop 3 words
-
 -- a table at a position, if there is one
 abbrev pub shape_at : State → Option ℕ → Option Shape
 shape_at state None = None
@@ -75,46 +67,10 @@ shape_in state words =
     shape_at state
     (position (λ shape. bytes_eq shape.name (table_word words)) state.config.tables)
 
--- ---- the first wrong word of conditions
-
--- what follows a part of a condition
-abbrev pub next_part : Part → Part
-next_part Column = Operator
-next_part Operator = Value
-next_part Value = Column
-
--- the column that a condition's first word names
-abbrev pub cond_col : List ℕ → Option Col
-cond_col word =
-    if is_data word then find (λ col. bytes_eq (col_name col) (drop 5 word)) all_cols else None
-
--- whether a table stores it
-abbrev pub is_stored : List (Col × ℕ) → Option Col → Bool
-is_stored cols None = false
-is_stored cols (Some col) = stores cols col
-
--- whether something was read
-abbrev pub is_read : {A E : Type 0} → Result A E → Bool
-is_read (Ok x) = true
-is_read (Err fault) = false
-
--- whether a word may be this part of a condition on a table
-abbrev pub is_right : List (Col × ℕ) → Part → List ℕ → Bool
-is_right cols Column word = is_stored cols (cond_col word)
-is_right cols Operator word = is_some (operator_of word)
-is_right cols Value word = is_read (number_of word)
-
--- the first word that may not be the part that it stands for, the first of them for this one;
--- empty where there is none
-abbrev pub wrong_word : List (Col × ℕ) → Part → List (List ℕ) → List ℕ
-wrong_word cols part [] = []
-wrong_word cols part (word ∷ words) =
-    if is_right cols part word then wrong_word cols (next_part part) words else word
-
--- the first wrong word of the conditions on a table
-abbrev pub wrong_cond : Option Shape → List (List ℕ) → List ℕ
-wrong_cond None words = []
-wrong_cond (Some shape) words = wrong_word shape.cols Column (cond_words words)
+-- the word that a line is refused for; empty where there is none
+abbrev pub word_refused : Option Misread → List (List ℕ) → List ℕ
+word_refused None words = []
+word_refused (Some at) words = word_at at.word words
 
 -- ---- what was expected
 
@@ -230,11 +186,11 @@ not_shown state what name =
     else no_filter_named state name
 
 -- the name that nothing has, and the names that there are
-abbrev pub no_name : State → List (List ℕ) → List ℕ
-no_name state words =
-    if bytes_eq (word_at 1 words) (codes "add") then no_table state (word_at 4 words)
-    else if bytes_eq (word_at 1 words) (codes "del") then not_added (word_at 3 words)
-    else not_shown state (word_at 2 words) (word_at 3 words)
+abbrev pub no_name : State → List (List ℕ) → List ℕ → List ℕ
+no_name state words name =
+    if bytes_eq (word_at 1 words) (codes "add") then no_table state name
+    else if bytes_eq (word_at 1 words) (codes "del") then not_added name
+    else not_shown state (word_at 2 words) name
 
 -- the names of the columns that a table stores
 abbrev pub stored_text : Option Shape → List ℕ
@@ -263,41 +219,45 @@ full_text =
 
 -- ---- the explanation
 
-abbrev pub words_text : State → List (List ℕ) → CommandFault → List ℕ
-words_text state words Empty = codes "the line has no word; see help"
-words_text state words Unknown =
+-- what is told of the words of a line and of the one that it is refused for
+abbrev pub words_text : State → List (List ℕ) → List ℕ → CommandFault → List ℕ
+words_text state words wrong Empty = codes "the line has no word; see help"
+words_text state words wrong Unknown =
     form_text (word_at 1 words) (word_at 2 words) (form_of (word_at 1 words) (word_at 2 words))
-words_text state words NoTable = no_name state words
-words_text state words BadColumn =
-    quoted (wrong_cond (shape_in state words) words)
-    ++ codes " names no column that the table stores; it stores: "
+words_text state words wrong NoTable = no_name state words wrong
+words_text state words wrong BadColumn =
+    quoted wrong ++ codes " names no column that the table stores; it stores: "
     ++ stored_text (shape_in state words)
-words_text state words BadOperator =
-    quoted (wrong_cond (shape_in state words) words)
-    ++ codes " stands where one of eq, ne, lt, le, gt, ge is expected"
-words_text state words BadValue =
-    quoted (wrong_cond (shape_in state words) words)
+words_text state words wrong BadOperator =
+    quoted wrong ++ codes " stands where one of eq, ne, lt, le, gt, ge is expected"
+words_text state words wrong BadValue =
+    quoted wrong
     ++ codes " stands where 1 to 20 digits are expected, up to 18446744073709551615"
-words_text state words BadKey =
-    quoted (word_at 5 words) ++ codes " is no key of type " ++ kind_text (shape_in state words)
-words_text state words TooMany = too_many_text
-words_text state words NoMemory = codes "out of memory"
-words_text state words BadName = bad_name_text (word_at 3 words)
-words_text state words Exists = exists_text (word_at 3 words)
-words_text state words Full = full_text
+words_text state words wrong BadKey =
+    quoted wrong ++ codes " is no key of type " ++ kind_text (shape_in state words)
+words_text state words wrong TooMany = too_many_text
+words_text state words wrong NoMemory = codes "out of memory"
+words_text state words wrong BadName = bad_name_text wrong
+words_text state words wrong Exists = exists_text wrong
+words_text state words wrong Full = full_text
+
+-- the same, by what the line is refused for
+abbrev pub refused_text : State → Refused → List (List ℕ) → List ℕ
+refused_text state refused words =
+    words_text state words (word_refused refused.at words) refused.fault
 
 -- a line that is too long
 abbrev pub long_text : List ℕ
 long_text = codes "the line has more than " ++ decimal LONGEST_COMMAND_LINE ++ codes " bytes"
 
--- what is told of a line that was refused for a fault
-abbrev pub explanation : State → List ℕ → CommandFault → List ℕ
-explanation state line fault =
+-- what is told of a refused line
+abbrev pub explanation : State → List ℕ → Refused → List ℕ
+explanation state line refused =
     if nat_lt LONGEST_COMMAND_LINE (length (without_returns line))
-    then long_text else words_text state (words (without_returns line)) fault
+    then long_text else refused_text state refused (words (without_returns line))
 
 -- a refusal's line with that behind it
-abbrev pub explained_refusal : State → List ℕ → CommandFault → List ℕ
-explained_refusal state line fault =
-    codes "refused " ++ decimal (fault_number fault) ++ codes " " ++ fault_name fault
-    ++ codes ": " ++ explanation state line fault ++ codes "\n"
+abbrev pub explained_refusal : State → List ℕ → Refused → List ℕ
+explained_refusal state line refused =
+    codes "refused " ++ decimal (fault_number refused.fault) ++ codes " "
+    ++ fault_name refused.fault ++ codes ": " ++ explanation state line refused ++ codes "\n"

@@ -21,6 +21,7 @@ ghost use Rattle.show_clear.specs.Selected.{key_row, taken_keys};
 ghost use Rattle.show_clear.specs.Written.{can_ask, command_line};
 ghost use Rattle.show_clear.specs.declared.command.Command.{Command};
 ghost use Rattle.show_clear.specs.declared.fault.CommandFault.{CommandFault};
+ghost use Rattle.show_clear.specs.declared.refused.Refused.{Refused};
 
 /// Conditions hold of the row that is shown of a key where a clear judges that the key meets them.
 /// So a table is shown by conditions as the rows of exactly the keys that a clear by them takes.
@@ -48,9 +49,9 @@ pub fn answers_are_no_refusals()
         → AreAnswerLines text }
     ensures refusals { (fault : CommandFault)
         → map is_answer_line (lines_of (refusal_text fault)) ≡ false ∷ [] }
-    ensures explained { (state : State) (line : List ℕ) (fault : CommandFault)
+    ensures explained { (state : State) (line : List ℕ) (refused : Refused)
         → config_faults state.config ≡ []
-        → map is_answer_line (lines_of (explained_refusal state line fault)) ≡ false ∷ [] }
+        → map is_answer_line (lines_of (explained_refusal state line refused)) ≡ false ∷ [] }
 {}
 
 /// A command written out is read as that command, for each kind of question and change. Where what

@@ -12,16 +12,22 @@ use key_text::append_text;
 use line_words::word_at;
 
 /// Appends which name of a line nothing has.
-pub(crate) fn append_no_name(book: &Book, line: &[u8], out: &mut Vec<u8>) -> Result<(), NoMemory>
-    ensures { OnOk result (out.new.items ≡ out.old.items ++ no_name book.now (words line.now)) }
+pub(crate) fn append_no_name(
+    book: &Book,
+    line: &[u8],
+    name: &[u8],
+    out: &mut Vec<u8>,
+) -> Result<(), NoMemory>
+    ensures { OnOk result
+        (out.new.items ≡ out.old.items ++ no_name book.now (words line.now) name.now) }
 {
     let first = word_at(line, 1);
     if first == b"add".as_slice() {
-        append_no_table(book, word_at(line, 4), out)
+        append_no_table(book, name, out)
     } else if first == b"del".as_slice() {
-        append_not_added(word_at(line, 3), out)
+        append_not_added(name, out)
     } else {
-        append_not_shown(book, word_at(line, 2), word_at(line, 3), out)
+        append_not_shown(book, word_at(line, 2), name, out)
     }
 }
 

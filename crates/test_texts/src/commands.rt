@@ -94,9 +94,9 @@ fn ask(
     out: &mut Vec<u8>,
 ) -> Result<bool> {
     match again::parsed(alloc, book, line) {
-        Err(fault) => {
-            again::refused(&fault, before, out)?;
-            again::explained(alloc, book, line, &fault, out)?;
+        Err(refused) => {
+            again::refused(&refused.fault, before, out)?;
+            again::explained(alloc, book, line, &refused, out)?;
             Ok(false)
         }
         Ok(command) => {

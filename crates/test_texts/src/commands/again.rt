@@ -9,16 +9,17 @@ ghost use Rattle.show_clear.specs.Answer.{NamesExist};
 use agg_types::What;
 use anyhow::{Result, ensure};
 use book::Book;
-use show_clear::{Command, CommandFault, answer, answer_people, explain, parse, refusal};
+use show_clear::{
+    Command, CommandFault, Refused, answer, answer_people, explain, read_command, refusal,
+};
 use std::alloc::Global;
 
-/// What a line asks for, or its first fault, which isn't out of memory unless two allocations
-/// failed.
-pub fn parsed(alloc: Global, book: &Book, line: &[u8]) -> Result<Command, CommandFault>
+/// What a line asks for, or why it is refused: not for memory, unless two allocations failed.
+pub fn parsed(alloc: Global, book: &Book, line: &[u8]) -> Result<Command, Refused>
     ensures { IfOk result (NamesExist book.now) }
 {
-    match parse(alloc, book, line) {
-        Err(CommandFault::NoMemory) => parse(alloc, book, line),
+    match read_command(alloc, book, line) {
+        Err(refused) if refused.fault == CommandFault::NoMemory => read_command(alloc, book, line),
         read => read,
     }
 }
@@ -54,13 +55,13 @@ pub fn explained(
     alloc: Global,
     book: &Book,
     line: &[u8],
-    fault: &CommandFault,
+    refused: &Refused,
     out: &mut Vec<u8>,
 ) -> Result<()> {
     let before = out.len();
-    if explain(alloc, book, line, fault, out).is_err() {
+    if explain(alloc, book, line, refused, out).is_err() {
         ensure!(out.len() == before, "a refused explanation left something");
-        explain(alloc, book, line, fault, out)?;
+        explain(alloc, book, line, refused, out)?;
     }
     Ok(())
 }
