@@ -20,7 +20,7 @@ pub entries-more : (cells more : List Cell) (entries : List Entry)
     → AreWithin (length cells) entries
     → map (entry_what (cells ++ more)) entries ≡ map (entry_what cells) entries
 entries-more cells more [] within = refl
-entries-more cells more (Put count table peer start key life ∷ entries) within =
+entries-more cells more (Put count table peer start life key ∷ entries) within =
     let begins : start ≤ length cells = omega (arith, within.0) in
     let ends : count ≤ length (drop start cells) =
     omega (arith, within.0, length-drop start cells) in
@@ -35,7 +35,7 @@ entries-more cells more (Other what ∷ entries) within =
 pub AreWithin-more : (len more : ℕ) (entries : List Entry) → len ≤ more → AreWithin len entries
     → AreWithin more entries
 AreWithin-more len more [] fewer within = tt
-AreWithin-more len more (Put count table peer start key life ∷ entries) fewer within =
+AreWithin-more len more (Put count table peer start life key ∷ entries) fewer within =
     (omega (arith, within.0, fewer), AreWithin-more len more entries fewer within.1)
 AreWithin-more len more (Other what ∷ entries) fewer within =
     AreWithin-more len more entries fewer within
@@ -43,7 +43,7 @@ AreWithin-more len more (Other what ∷ entries) fewer within =
 pub AreWithin-append : (len : ℕ) (entries others : List Entry) → AreWithin len entries
     → AreWithin len others → AreWithin len (entries ++ others)
 AreWithin-append len [] others within last = last
-AreWithin-append len (Put count table peer start key life ∷ entries) others within last =
+AreWithin-append len (Put count table peer start life key ∷ entries) others within last =
     (within.0, AreWithin-append len entries others within.1 last)
 AreWithin-append len (Other what ∷ entries) others within last =
     AreWithin-append len entries others within last
@@ -63,7 +63,7 @@ entries-put cells later more entries all entry seen what is are within view says
 -- what it says
 pub put-says : (before cells : List Cell) (count table peer start word : ℕ) (key : List ℕ)
     (life : Option ℕ) → count ≡ length cells → start ≡ length before → life_of word ≡ life
-    → entry_what (before ++ cells) (Put count table peer start key word)
+    → entry_what (before ++ cells) (Put count table peer start word key)
     ≡ whats.Put peer table key life cells
 put-says before cells count table peer start word key life counts begins lives =
     rw (counts, begins, lives, drop-append_seam before cells, take-length cells) refl

@@ -1,19 +1,23 @@
 //! An event of a batch, as the batch keeps it.
-ghost use Rattle.std.specs.Prelude.{◌≡◌, ◌≢◌, ℕ, ◌+◌, ◌-◌, ◌^◌, ◌≤◌, List, [], ◌∷◌, ◌++◌};
+ghost use Rattle.std.specs.Prelude.{◌≡◌, ℕ, ◌+◌, ◌≤◌, List, [], ◌∷◌, ◌++◌};
 ghost use Rattle.std.specs.Prelude.{drop, length, take};
-ghost use Rattle.std.specs.Prelude.{IsTrue, Some, false};
-ghost use Rattle.agg_types.specs.Whats.{AreWithin, FitsEntry, as_what, entry_what, life_of};
+ghost use Rattle.std.specs.Prelude.{IsTrue};
+ghost use Rattle.agg_types.specs.Whats.{AreWithin, FitsEntry, FitsLife, as_what, entry_what};
+ghost use Rattle.agg_types.specs.Whats.{life_of};
 ghost use Rattle.agg_types.specs.declared.event.Cell.{Cell as CellValue};
 ghost use Rattle.agg_types.specs.declared.event.What.TheVariants.{Put};
 
 use crate::{Cell, Key, LentWhat, What};
 use std::mem::size_of;
 
-/// The life that stands for none.
-const ENDLESS: u64 = u64::MAX;
+/// The life that stands for none. No longer one fits an entry.
+const ENDLESS: u32 = u32::MAX;
 
-/// The largest position and the largest place of an update's cells that fit an entry.
+/// The largest position of a peer and the largest place of an update's cells that fit an entry.
 const LARGEST: usize = u32::MAX as usize;
+
+/// The largest position of a table that fits one.
+const LAST_TABLE: usize = u16::MAX as usize;
 
 /// The largest number of cells that fits one.
 const MOST: usize = u8::MAX as usize;
@@ -23,17 +27,17 @@ pub(crate) enum Entry {
     /// A peer's row. Its cells lie among the batch's, from a place on.
     Put {
         count: u8,
-        table: u32,
+        table: u16,
         peer: u32,
         start: u32,
+        life: u32,
         key: Key,
-        life: u64,
     },
     /// What happens seldom, or is too large for the form above.
     Other(Box<What>),
 }
 
-const _: () = prove!(size_of::<Entry>() == 48);
+const _: () = prove!(size_of::<Entry>() == 40);
 
 // By hand, so that what drops it elsewhere proves nothing of its parts.
 impl Drop for Entry {
@@ -44,8 +48,8 @@ impl Drop for Entry {
                 table: _,
                 peer: _,
                 start: _,
-                key: _,
                 life: _,
+                key: _,
             } => {}
             Entry::Other(_) => {}
         }
@@ -71,11 +75,11 @@ impl Entry {
     {
         Entry::Put {
             count: count as u8,
-            table: table as u32,
+            table: table as u16,
             peer: peer as u32,
             start: start as u32,
-            key,
             life: life_word(life),
+            key,
         }
     }
 
@@ -90,8 +94,8 @@ impl Entry {
                 table,
                 peer,
                 start,
-                key,
                 life,
+                key,
             } => LentWhat::Put {
                 peer: *peer as usize,
                 table: *table as usize,
@@ -133,35 +137,39 @@ fn first(cells: &[Cell], count: usize) -> &[Cell]
 pub(crate) fn fits(peer: usize, table: usize, start: usize, count: usize, life: Option<u64>) -> bool
     ensures { IsTrue result → FitsEntry peer table start count life }
 {
-    peer <= LARGEST && table <= LARGEST && start <= LARGEST && count <= MOST && !is_endless(life)
+    peer <= LARGEST && table <= LAST_TABLE && start <= LARGEST && count <= MOST && life_fits(life)
 }
 
-// Whether a life is the one whose number stands for none.
+// Whether a life fits an entry.
 #[inline]
-fn is_endless(life: Option<u64>) -> bool
-    ensures { result ≡ false → life ≢ Some (2 ^ 64 - 1) }
+fn life_fits(life: Option<u64>) -> bool
+    ensures { IsTrue result → FitsLife life }
 {
     match life {
-        Some(ms) => ms == ENDLESS,
-        None => false,
+        Some(ms) => ms < u64::from(ENDLESS),
+        None => true,
     }
 }
 
 #[inline]
-fn life_from(life: u64) -> Option<u64>
+fn life_from(life: u32) -> Option<u64>
     ensures { result ≡ life_of life }
 {
-    if life == ENDLESS { None } else { Some(life) }
+    if life == ENDLESS {
+        None
+    } else {
+        Some(u64::from(life))
+    }
 }
 
 // The number that stands for a life.
 #[inline]
-fn life_word(life: Option<u64>) -> u64
-    requires { life ≢ Some (2 ^ 64 - 1) }
+fn life_word(life: Option<u64>) -> u32
+    requires { FitsLife life }
     ensures { life_of result ≡ life }
 {
     match life {
-        Some(ms) => ms,
+        Some(ms) => ms as u32,
         None => ENDLESS,
     }
 }

@@ -1,6 +1,6 @@
 //! What a seat posts as one.
 ghost use Rattle.std.specs.Prelude.{◌≡◌, ◌==◌, ◌<◌, ◌+◌, ◌^◌, [], ◌∷◌, ◌++◌, drop, length};
-ghost use Rattle.std.specs.Prelude.{slice_get, IfOk, OnErr, OnOk, Some};
+ghost use Rattle.std.specs.Prelude.{slice_get, IfOk, OnErr, OnOk, Some, vec_capacity, vec_len};
 ghost use Rattle.std.specs.Option.{option_map};
 ghost use Rattle.agg_types.specs.declared.event.What.TheVariants.{Put};
 ghost use Rattle.agg_types.specs.Whats.{as_what};
@@ -16,6 +16,9 @@ const EACH: usize = 3;
 
 /// For how many cells it takes room at once, at most.
 const AT_ONCE: usize = 1 << 12;
+
+/// So many cells are laid sooner one by one than as a block.
+const FEW: usize = 8;
 
 /// What happens at a seat, one event after the other. Contracts see the list of its `What`s.
 ///
@@ -162,8 +165,8 @@ impl Whats {
                 cells,
             });
         }
-        self.entries.reserve(1)?;
-        self.cells.extend_from_slice(cells)?;
+        make_room(&mut self.entries)?;
+        lay(&mut self.cells, cells)?;
         let entry = Entry::put(peer, table, key, life, start, cells.len());
         self.entries.push_reserved(entry);
         Ok(())
@@ -176,6 +179,33 @@ impl Whats {
         self.entries.clear();
         self.cells.clear();
     }
+}
+
+// Room for one more. Where there is some already, as behind `reserve`, that takes one test.
+#[inline]
+fn make_room(entries: &mut Vec<Entry>) -> Result<(), NoMemory>
+    ensures items { entries.new.items ≡ entries.old.items }
+    ensures room { OnOk result (vec_len entries.new < vec_capacity entries.new) }
+{
+    if entries.len() < entries.capacity() {
+        return Ok(());
+    }
+    Ok(entries.reserve(1)?)
+}
+
+// Lays cells behind the others. Few are laid one by one where they have room.
+#[inline]
+fn lay(all: &mut Vec<Cell>, cells: &[Cell]) -> Result<(), NoMemory>
+    ensures ok { OnOk result (all.new.items ≡ all.old.items ++ cells.now) }
+    ensures err { OnErr result (all.new.items ≡ all.old.items) }
+{
+    if cells.len() > FEW || cells.len() > all.capacity() - all.len() {
+        return Ok(all.extend_from_slice(cells)?);
+    }
+    for cell in cells {
+        all.push_reserved(*cell);
+    }
+    Ok(())
 }
 
 // How many there are, and no more.
