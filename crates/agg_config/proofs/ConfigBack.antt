@@ -18,7 +18,8 @@ use Rattle.line_words.proofs.Checked.{peer_named, rank_fits, table_fits, table_s
 use Rattle.line_words.proofs.WordsBack.{both}
 use Rattle.line_words.specs.Words.{lines_of}
 use Rattle.agg_config.specs.Reading.{Write, declaring, is_me, opening, table_at}
-use Rattle.agg_config.specs.Written.{filter_of, have_bounds, is_valid, is_valid_table, rank_of}
+use Rattle.line_words.specs.Conditions.{have_bounds}
+use Rattle.agg_config.specs.Written.{filter_of, is_valid, is_valid_table, rank_of}
 use Rattle.agg_config.specs.Written.{table_name, text_of}
 use Rattle.agg_config.specs.declared.declarations.Declaration.{Declaration}
 use Rattle.agg_config.specs.declared.declarations.Declaration.TheVariants.{Me, Peer, Push, Table}

@@ -26,13 +26,15 @@ use Rattle.agg_config.specs.Declarations.{line_declaration, me_line, peer_line, 
 use Rattle.agg_config.specs.Declarations.{rank_line, shape, table_line}
 use Rattle.agg_config.specs.Filters.{condition, conditions, known_bound}
 use Rattle.agg_config.specs.ReadResults.{read_each}
-use Rattle.agg_config.specs.Written.{condition_words, declaration_line, have_bounds, is_valid}
+use Rattle.line_words.specs.Conditions.{condition_words, have_bounds}
+use Rattle.agg_config.specs.Written.{declaration_line, is_valid}
 use Rattle.agg_config.specs.Written.{is_valid_table, words_of}
 use Rattle.agg_config.specs.declared.declarations.Declaration.{Declaration}
 use Rattle.agg_config.specs.declared.declarations.Declaration.TheVariants.{Me, Peer, Table, Filter}
 use Rattle.agg_config.specs.declared.declarations.Declaration.TheVariants.{Rank, Push}
 use Rattle.agg_config.proofs.ColumnsBack.{in_order_same, periods_back, store_are_words}
 use Rattle.agg_config.proofs.ColumnsBack.{stored_back}
+use Rattle.line_words.proofs.ConditionsBack.{bound_fits, conditions_are_words}
 use Rattle.line_words.proofs.NamesBack.{column_back, column_is_word, data_back, data_is_word}
 use Rattle.line_words.proofs.NamesBack.{operator_back, operator_is_word}
 use Rattle.line_words.proofs.WordsBack.{both, is_word, name_is_word, number_back, number_is_word}
@@ -111,12 +113,6 @@ push_words name (Some ms) is fits =
 abbrev as_read : Cond → Col × Op × Result ℕ Misread
 as_read cond = (cond.col, cond.op, Ok cond.bound)
 
-bound_fits : (cond : Cond) (conds : List Cond) → have_bounds (cond ∷ conds) ≡ true
-    → (cond.bound < 2 ^ 64) × (have_bounds conds ≡ true)
-bound_fits cond conds all =
-    let h = both (ltb cond.bound (2 ^ 64)) (have_bounds conds) all in
-    (ltb-true cond.bound (2 ^ 64) h.0, h.1)
-
 some_words : (first : List ℕ) (more : List (List ℕ)) → eqb (length (first ∷ more)) 0 ≡ false
 some_words first more = ne_eqb _ 0 (λ z. omega (arith, z))
 
@@ -143,18 +139,6 @@ bounds_back : (conds : List Cond) → read_each known_bound (map as_read conds) 
 bounds_back [] = refl
 bounds_back (cond ∷ conds) = rw (bounds_back conds) refl
 
-condition_list : (conds : List Cond) → have_bounds conds ≡ true
-    → list_all is_word (flat_map condition_words conds) ≡ true
-condition_list [] all = refl
-condition_list (cond ∷ conds) all =
-    let h = bound_fits cond conds all in
-    rw (
-      data_is_word cond.col,
-      operator_is_word cond.op,
-      number_is_word cond.bound h.0,
-      condition_list conds h.1,
-    ) refl
-
 some_conditions : (conds : List Cond) → 1 ≤ length conds
     → eqb (length (map as_read conds)) 0 ≡ false
 some_conditions [] some = absurd (omega (arith, some))
@@ -172,7 +156,7 @@ filter_words : (name table : List ℕ) (conds : List Cond) → is_name name ≡ 
     → is_name table ≡ true → have_bounds conds ≡ true
     → list_all is_word (words_of (Filter name table conds)) ≡ true
 filter_words name table conds is_one is_its all =
-    rw (name_is_word name is_one, name_is_word table is_its, condition_list conds all) refl
+    rw (name_is_word name is_one, name_is_word table is_its, conditions_are_words conds all) refl
 
 -- ---- tables
 

@@ -1,5 +1,5 @@
 -- A configuration written out: a line for each thing that it declares.
-use Rattle.std.specs.Prelude.{ℕ, ◌^◌, Bool, ◌&&◌, if◌then◌else◌, nat_lt, List, [], ◌∷◌, ◌++◌}
+use Rattle.std.specs.Prelude.{ℕ, Bool, ◌&&◌, if◌then◌else◌, List, [], ◌∷◌, ◌++◌}
 use Rattle.std.specs.Prelude.{length, map, slice_get, codes, Option, None, Some}
 use Rattle.std.specs.Fmt.{decimal}
 use Rattle.std.specs.List.{flat_map, join_with_byte, list_all}
@@ -9,14 +9,13 @@ use Rattle.agg_types.specs.Col.{col_id, col_name, is_rate}
 use Rattle.agg_types.specs.Kind.{given_length, kind_name}
 use Rattle.agg_types.specs.Name.{is_name}
 use Rattle.agg_types.specs.declared.column.Col.{Col}
-use Rattle.agg_types.specs.declared.config.Cond.{Cond}
 use Rattle.agg_types.specs.declared.config.Config.{Config}
 use Rattle.agg_types.specs.declared.config.Filter as Filters
 use Rattle.agg_types.specs.declared.config.Rank as Ranks
 use Rattle.agg_types.specs.declared.config.KeyKind.{KeyKind}
 use Rattle.agg_types.specs.declared.config.Shape.{Shape}
 use Rattle.agg_types.specs.declared.limits.TheConstants.{LARGEST_SIZE, LONGEST_RANK, MOST_CONDS}
-use Rattle.line_words.specs.Operators.{operator_word}
+use Rattle.line_words.specs.Conditions.{condition_words, have_bounds}
 use Rattle.agg_config.specs.declared.declarations.Declaration.{Declaration}
 use Rattle.agg_config.specs.declared.declarations.Declaration.TheVariants.{Me, Peer, Table, Filter}
 use Rattle.agg_config.specs.declared.declarations.Declaration.TheVariants.{Rank, Push}
@@ -40,11 +39,6 @@ abbrev pub store_words : List (Col × ℕ) → List (List ℕ)
 store_words [] = []
 store_words (first ∷ rest) =
     codes "store" ∷ join_with_byte 44 (map column_text (first ∷ rest)) ∷ []
-
--- a condition: `data.<col> <op> <value>`
-abbrev pub condition_words : Cond → List (List ℕ)
-condition_words cond =
-    (codes "data." ++ col_name cond.col) ∷ operator_word cond.op ∷ decimal cond.bound ∷ []
 
 -- `hold` and its ms, where there is a hold
 abbrev pub hold_words : Option ℕ → List (List ℕ)
@@ -70,10 +64,6 @@ abbrev pub is_valid_table : Shape → Bool
 is_valid_table shape = is_name shape.name && len_fits shape.kind
     && is_within shape.size LARGEST_SIZE && list_all period_fits shape.cols
     && ascends (map (λ col. col_id col.0) shape.cols)
-
--- the bound of each condition has 64 bits
-abbrev pub have_bounds : List Cond → Bool
-have_bounds conds = list_all (λ cond. nat_lt cond.bound (2 ^ 64)) conds
 
 -- whether a declaration's names and numbers are such as they may be
 abbrev pub is_valid : Declaration → Bool

@@ -9,7 +9,8 @@ ghost use Rattle.line_words.specs.Words.{lines_of};
 ghost use Rattle.agg_config.specs.Columns.{in_order, of_column};
 ghost use Rattle.agg_config.specs.Declarations.{declared};
 ghost use Rattle.agg_config.specs.Reading.{Write};
-ghost use Rattle.agg_config.specs.Written.{declaration_line, have_bounds, is_valid, text_of};
+ghost use Rattle.agg_config.specs.Written.{declaration_line, is_valid, text_of};
+ghost use Rattle.line_words.specs.Conditions.{have_bounds};
 ghost use Rattle.agg_config.specs.declared.declarations.Declaration.{Declaration};
 
 use agg_types::Col;

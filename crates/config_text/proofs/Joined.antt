@@ -10,7 +10,8 @@ use Rattle.agg_types.specs.declared.config.Config.{Config}
 use Rattle.agg_types.specs.declared.config.Filter.{Filter}
 use Rattle.agg_types.specs.declared.config.Push.{Push}
 use Rattle.agg_types.specs.declared.config.Shape.{Shape}
-use Rattle.agg_config.specs.Written.{column_text, condition_words, hold_words, kind_words}
+use Rattle.line_words.specs.Conditions.{condition_words}
+use Rattle.agg_config.specs.Written.{column_text, hold_words, kind_words}
 use Rattle.agg_config.specs.Written.{store_words, table_name, text_of}
 use Rattle.config_text.specs.Spaced.{filter_line, filter_words, parts_text, push_line, push_words}
 use Rattle.config_text.specs.Spaced.{spaced, stored_words, table_end, table_line}

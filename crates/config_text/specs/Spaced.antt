@@ -8,7 +8,8 @@ use Rattle.agg_types.specs.declared.config.Filter.{Filter}
 use Rattle.agg_types.specs.declared.config.Push.{Push}
 use Rattle.agg_types.specs.declared.config.Rank.{Rank}
 use Rattle.agg_types.specs.declared.config.Shape.{Shape}
-use Rattle.agg_config.specs.Written.{column_text, condition_words, declaration_line, filter_of}
+use Rattle.line_words.specs.Conditions.{condition_words}
+use Rattle.agg_config.specs.Written.{column_text, declaration_line, filter_of}
 use Rattle.agg_config.specs.Written.{hold_words, kind_words, rank_of, store_words}
 
 -- words, each behind a space

@@ -3,7 +3,8 @@
 ghost use Rattle.std.specs.Prelude.{◌≡◌, ◌++◌, [], ◌∷◌, codes, OnOk};
 ghost use Rattle.std.specs.Fmt.{decimal};
 ghost use Rattle.std.specs.List.{flat_map};
-ghost use Rattle.agg_config.specs.Written.{column_text, condition_words, kind_words};
+ghost use Rattle.agg_config.specs.Written.{column_text, kind_words};
+ghost use Rattle.line_words.specs.Conditions.{condition_words};
 ghost use Rattle.agg_config.specs.Written.{length_words, store_words};
 ghost use Rattle.config_text.specs.Spaced.{column_behind, spaced, stored_words};
 

@@ -4,3 +4,4 @@ pub mod Splitting
 pub mod TextLines
 pub mod NamesBack
 pub mod WordsBack
+pub mod ConditionsBack

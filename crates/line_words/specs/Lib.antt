@@ -1,3 +1,4 @@
+pub mod Conditions
 pub mod Numbered
 pub mod Numbers
 pub mod Operators

@@ -41,14 +41,16 @@ use Rattle.show_clear.specs.Parse.{named, one_key, rank_at, sel_of, shown as sho
 use Rattle.show_clear.specs.Parse.{some_conds, stored_column, table_and_sel, table_at, table_shown}
 use Rattle.show_clear.specs.Refused.{fault_alone}
 use Rattle.show_clear.specs.Written.{can_add, can_ask, can_pick, can_select, command_line}
-use Rattle.show_clear.specs.Written.{command_words, condition_words, have_bounds, selector_words}
+use Rattle.line_words.specs.Conditions.{condition_words, have_bounds}
+use Rattle.show_clear.specs.Written.{command_words, selector_words}
 use Rattle.show_clear.specs.Written.{table_words}
 use Rattle.show_clear.specs.declared.command.Change.TheVariants.{Clear, AddFilter, DropFilter}
 use Rattle.show_clear.specs.declared.command.Command.{Command}
 use Rattle.show_clear.specs.declared.command.Command.TheVariants.{Ask, Change as Changes}
 use Rattle.show_clear.specs.declared.command.Question.TheVariants.{Tables, Table, FilterKeys}
 use Rattle.show_clear.specs.declared.command.Question.TheVariants.{Ranking, NextChange}
-use Rattle.show_clear.proofs.CommandWords.{bound_fits, conditions_are_words, conditions_cost, cost}
+use Rattle.line_words.proofs.ConditionsBack.{bound_fits, conditions_are_words}
+use Rattle.show_clear.proofs.CommandWords.{conditions_cost, cost}
 use Rattle.show_clear.proofs.CommandWords.{key_back, key_is_word, key_short, line_asks, name_short}
 
 -- ---- conditions

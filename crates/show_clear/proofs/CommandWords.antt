@@ -35,7 +35,8 @@ use Rattle.line_words.proofs.WordsBack.{both, differs, is_word, join_some}
 use Rattle.line_words.proofs.WordsBack.{number_is_word, some_byte, words_back}
 use Rattle.show_clear.specs.Parse.{asked, command_of, without_returns}
 use Rattle.show_clear.specs.declared.fault.CommandFault.TheVariants.{Unknown}
-use Rattle.show_clear.specs.Written.{can_name, condition_words, have_bounds}
+use Rattle.line_words.specs.Conditions.{condition_words}
+use Rattle.show_clear.specs.Written.{can_name}
 use Rattle.show_clear.proofs.KeyBytes.{Prints, and_true, decimal_some, key_passes, lower_digits}
 
 -- ---- how long words are
@@ -265,26 +266,6 @@ pub key_back : (kind : KeyKind) (key : List ℕ) → key_fits kind key ≡ true 
     → key_of kind (key_text kind key) ≡ Some key
 key_back kind key fits can =
     printed_back kind key fits (each_byte key (names_key key can).bytes)
-
--- ---- the words of conditions
-
-pub bound_fits : (cond : Cond) (conds : List Cond) → have_bounds (cond ∷ conds) ≡ true
-    → (cond.bound < 2 ^ 64) × (have_bounds conds ≡ true)
-bound_fits cond conds all =
-    let h = both (ltb cond.bound (2 ^ 64)) (have_bounds conds) all in
-    (ltb-true cond.bound (2 ^ 64) h.0, h.1)
-
-pub conditions_are_words : (conds : List Cond) → have_bounds conds ≡ true
-    → list_all is_word (flat_map condition_words conds) ≡ true
-conditions_are_words [] all = refl
-conditions_are_words (cond ∷ conds) all =
-    let h = bound_fits cond conds all in
-    rw (
-      data_is_word cond.col,
-      operator_is_word cond.op,
-      number_is_word cond.bound h.0,
-      conditions_are_words conds h.1,
-    ) refl
 
 -- ---- a line of words
 

@@ -1,12 +1,9 @@
 -- A command written out: the words of its line.
 use Rattle.std.specs.Prelude.{ℕ, ◌^◌, Bool, true, ◌&&◌, not, nat_le, nat_lt, List, [], ◌∷◌, ◌++◌}
 use Rattle.std.specs.Prelude.{codes, length}
-use Rattle.std.specs.Fmt.{decimal}
 use Rattle.std.specs.List.{flat_map, join_with_byte, list_all, list_any}
 use Rattle.std.specs.Str.{bytes_eq}
-use Rattle.agg_types.specs.Col.{col_name}
 use Rattle.agg_types.specs.Fits.{at_table, filter_fits, select_fits}
-use Rattle.agg_types.specs.declared.config.Cond.{Cond}
 use Rattle.agg_types.specs.declared.config.KeyKind.{KeyKind}
 use Rattle.agg_types.specs.declared.config.Shape.{Shape}
 use Rattle.agg_types.specs.declared.event.Select.{Select}
@@ -17,7 +14,7 @@ use Rattle.fleet_model.specs.Filters.{is_added}
 use Rattle.fleet_model.specs.Ranking.{rank_of}
 use Rattle.fleet_model.specs.State.{State}
 use Rattle.key_text.specs.Printed.{key_text}
-use Rattle.line_words.specs.Operators.{operator_word}
+use Rattle.line_words.specs.Conditions.{condition_words, have_bounds}
 use Rattle.show_clear.specs.Answer.{shape_of}
 use Rattle.show_clear.specs.declared.command.Change.{Change}
 use Rattle.show_clear.specs.declared.command.Change.TheVariants.{Clear, AddFilter, DropFilter}
@@ -26,11 +23,6 @@ use Rattle.show_clear.specs.declared.command.Command.TheVariants.{Ask, Change as
 use Rattle.show_clear.specs.declared.command.Question.{Question}
 use Rattle.show_clear.specs.declared.command.Question.TheVariants.{Tables, Table, FilterKeys}
 use Rattle.show_clear.specs.declared.command.Question.TheVariants.{Ranking, NextChange}
-
--- a condition: `data.<col> <op> <value>`
-abbrev pub condition_words : Cond → List (List ℕ)
-condition_words cond =
-    (codes "data." ++ col_name cond.col) ∷ operator_word cond.op ∷ decimal cond.bound ∷ []
 
 -- a selector: nothing for all keys, `key` and a key, or conditions
 abbrev pub selector_words : KeyKind → Select → List (List ℕ)
@@ -66,10 +58,6 @@ command_words state (Changes change) = change_words state change
 -- the line: its words, with one space between them
 abbrev pub command_line : State → Command → List ℕ
 command_line state command = join_with_byte 32 (command_words state command)
-
--- the bound of each condition has 64 bits
-abbrev pub have_bounds : List Cond → Bool
-have_bounds conds = list_all (λ cond. nat_lt cond.bound (2 ^ 64)) conds
 
 -- a key that can be a word: it has some bytes, of 8 bits each
 abbrev pub can_name : List ℕ → Bool

@@ -1,6 +1,6 @@
 use Rattle.std.proofs.Common.{◌≡◌, ◌++◌, drop}
 use Rattle.std.specs.List.{flat_map}
-use Rattle.agg_config.specs.Written.{condition_words}
+use Rattle.line_words.specs.Conditions.{condition_words}
 use Rattle.config_text.specs.Spaced.{spaced}
 use Rattle.config_text.proofs.tables.append_conditions.Given as goal
 
