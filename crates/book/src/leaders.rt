@@ -42,10 +42,12 @@ pub fn lead(
         (arrival_of tables.now at.entry.table t life cells.now)) t leaders.new) }
 {
     let cols = cols_of(tables, at.table);
+    // Bounds take keys and let them go as rows do, so a key mostly lies in the same place in both.
+    let place = at.spot.map(Spot::place);
     for (list, rank) in ranks.iter().enumerate() {
         if rank.table == at.table {
             let bound = rows.worth_with(cols, rank.col, t, at, cells);
-            leaders.touch(list, at.key, bound)?;
+            leaders.touch(list, place, at.key, bound)?;
         }
     }
     Ok(())

@@ -14,4 +14,9 @@ impl Spot {
             slot: u32::try_from(at).unwrap_or(u32::MAX),
         }
     }
+
+    /// The number of the place.
+    pub fn place(self) -> usize {
+        self.slot as usize
+    }
 }

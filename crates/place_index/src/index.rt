@@ -1,5 +1,5 @@
-ghost use Rattle.std.specs.Prelude.{◌≡◌, ◌≤◌, ◌<◌, ◌+◌, ◌-◌, ◌^◌, [], Some, None, length, IfOk};
-ghost use Rattle.std.specs.Prelude.{IsOk, OnOk, OnErr, IfSome, IfNone, IsSome, slice_set};
+ghost use Rattle.std.specs.Prelude.{◌≡◌, ◌≢◌, ◌≤◌, ◌<◌, ◌+◌, ◌-◌, ◌^◌, [], Some, None, length, IfOk};
+ghost use Rattle.std.specs.Prelude.{IsOk, OnOk, OnErr, IfSome, IfNone, IsSome, IsTrue, IsFalse, slice_set};
 ghost use Rattle.std.specs.Option.{option_copied};
 ghost use Rattle.place_index.specs.Places.{item_at, key_at, value_at, laid, revalued, filled};
 ghost use Rattle.place_index.specs.Slots.{held};
@@ -97,6 +97,30 @@ impl<K: IndexKey, V: PlaceValue> PlaceIndex<K, V> {
         ensures distinct { AreDistinct self.now.places }
     {
         look(&self.slots, &self.reach, key)
+    }
+
+    /// What `find` answers, whatever the hint: a place where the key may lie. One that is right
+    /// saves the search.
+    #[inline]
+    pub fn find_near(&self, hint: Option<usize>, key: &K) -> Option<usize>
+        ensures some { IfSome result (λ at. key_at self.now.places at ≡ Some key.now) }
+        ensures none { IfNone result (IsAbsent self.now.places key.now) }
+        ensures distinct { AreDistinct self.now.places }
+    {
+        match hint {
+            Some(at) if self.is_in(at, key) => Some(at),
+            _ => self.find(key),
+        }
+    }
+
+    /// Whether a key lies in a place.
+    #[inline]
+    pub fn is_in(&self, at: usize, key: &K) -> bool
+        ensures yes { IsTrue result → key_at self.now.places at ≡ Some key.now }
+        ensures no { IsFalse result → key_at self.now.places at ≢ Some key.now }
+        ensures distinct { AreDistinct self.now.places }
+    {
+        self.slots.is_of(at, key)
     }
 
     /// Where a key is looked for, by its hash alone: reads no memory but the key's.

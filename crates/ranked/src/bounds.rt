@@ -79,7 +79,26 @@ impl Bounds {
         ensures others { OnOk result (AreOthersKept key.now self.old self.new) }
         ensures err { OnErr result (self.new ≡ self.old) }
     {
-        let Some((at, zeros)) = find(&self.zeros, key) else {
+        self.touch_near(None, key, bound)
+    }
+
+    /// What `touch` does and answers, whatever the hint: the number of a place. Bounds that took
+    /// the same keys, and let them go, in the same order as another index have each key in the
+    /// place that it has there, and then no key is searched.
+    pub fn touch_near(
+        &mut self,
+        hint: Option<usize>,
+        key: &Key,
+        bound: u128,
+    ) -> Result<(), NoMemory>
+        ensures holds { OnOk result
+            (IsSomeAnd (bound_at self.new key.now) (λ kept. bound ≤ kept)) }
+        ensures near { OnOk result
+            (IsSomeAnd (bound_at self.new key.now) (λ kept. kept ≤ 4 * bound + 3)) }
+        ensures others { OnOk result (AreOthersKept key.now self.old self.new) }
+        ensures err { OnErr result (self.new ≡ self.old) }
+    {
+        let Some((at, zeros)) = find(&self.zeros, hint, key) else {
             return self.add(key, zeros_for(bound));
         };
         if serves(zeros, bound) {
@@ -97,7 +116,7 @@ impl Bounds {
         ensures gone { bound_at self.new key.now ≡ None }
         ensures others { AreOthersKept key.now self.old self.new }
     {
-        if let Some((at, zeros)) = find(&self.zeros, key) {
+        if let Some((at, zeros)) = find(&self.zeros, None, key) {
             self.zeros.remove(at);
             self.index.cancel(zeros, key);
         }
@@ -152,14 +171,14 @@ impl Bounds {
     }
 }
 
-// The place of a key, and how many leading zeros its bound has.
-fn find(zeros: &PlaceIndex<Key, u64>, key: &Key) -> Option<(usize, u64)>
+// The place of a key, which a hint may say, and how many leading zeros its bound has.
+fn find(zeros: &PlaceIndex<Key, u64>, hint: Option<usize>, key: &Key) -> Option<(usize, u64)>
     ensures own { IfSome result (λ found. key_at zeros.now.places found.0 ≡ Some key.now) }
     ensures value { option_map (λ found. found.1) result
         ≡ zeros_at (in_order zeros.now.places) key.now }
     ensures distinct { AreDistinct zeros.now.places }
 {
-    let at = zeros.find(key)?;
+    let at = zeros.find_near(hint, key)?;
     let own = zeros.value(at)?;
     Some((at, *own))
 }

@@ -40,8 +40,14 @@ impl Leaders {
     }
 
     /// Sees to it that a key's bound in a list is at least this. After `NoMemory` nothing has
-    /// changed.
-    pub fn touch(&mut self, list: usize, key: &Key, bound: u128) -> Result<(), NoMemory>
+    /// changed. The hint says in which place the key may lie, as `Bounds::touch_near` takes it.
+    pub fn touch(
+        &mut self,
+        list: usize,
+        hint: Option<usize>,
+        key: &Key,
+        bound: u128,
+    ) -> Result<(), NoMemory>
         requires { list < length self.old }
         ensures holds { OnOk result (IsBounded (bounds_of self.new list) key.now bound) }
         ensures near { OnOk result (IsSomeAnd (bound_at (bounds_of self.new list) key.now)
@@ -49,7 +55,7 @@ impl Leaders {
         ensures others { IsOneKeyOf list key.now self.old self.new }
         ensures err { OnErr result (self.new ≡ self.old) }
     {
-        self.lists[list].touch(key, bound)
+        self.lists[list].touch_near(hint, key, bound)
     }
 
     /// Takes a key's bound in a list away. Takes no memory.

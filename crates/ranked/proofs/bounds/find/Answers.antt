@@ -9,4 +9,4 @@ returns-in_err-at-clause-value c = rw c.from_residual.ensures
 pub returns-clause-value : goal.returns-clause-value
 returns-clause-value c =
     sym (lookup-held c.args.zeros.now.places c.in_ok-at.at c.args.key.now c.in_ok-own.own.now
-    c.find.ensures.distinct c.in_ok-at.ensures.some (sym c.in_ok-own.ensures))
+    c.find_near.ensures.distinct c.in_ok-at.ensures.some (sym c.in_ok-own.ensures))

@@ -9,7 +9,7 @@ use Rattle.ranked.specs.Walk.{bound_of}
 use Rattle.ranked.proofs.Indexed.{Becomes, moved_indexed}
 use Rattle.ranked.proofs.Placed.{becomes_others, becomes_own, placed-revalued}
 use Rattle.ranked.proofs.Zeros.{unserved}
-use Rattle.ranked.proofs.bounds.Bounds.touch.Goals as goal
+use Rattle.ranked.proofs.bounds.Bounds.touch_near.Goals as goal
 
 -- the key's bound is the one that is wanted
 moved : (c : goal.After-replace) → Becomes (in_order c.self.inside.zeros.places)
