@@ -26,7 +26,7 @@ import time
 import urllib.parse
 
 from check_with_haproxy import Report
-from peers_protocol import DEFINE, UPDATE, put_int
+from peers_protocol import DEFINE, HEARTBEAT, UPDATE, put_int
 from proxies import COLLECTOR, Collector, free_ports
 
 KEYS = 3000
@@ -41,7 +41,6 @@ filter {ODD_FILTER} /t data.gpc0 ge 100
 filter none empty data.gpc0 gt 0
 rank top /t gpc0 10
 """
-HEARTBEAT = bytes([0, 4])
 HELLO = f"HAProxyS 2.1\nagg\n{ODD_PEER} 1 1\n".encode()
 
 

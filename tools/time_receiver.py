@@ -15,7 +15,8 @@ last update. With `--collector` or `--haproxy` it starts that program as the rec
 how much resident memory a key took; `--threads` is HAProxy's `nbthread`. `--random` draws the keys of the
 updates instead, the same in every run. `--senders 4` pushes as four peers at once, each with the same keys, and
 prints what all of them bring. `--peers 64` pushes as 64 peers with the same keys that one sender feeds in turn, 16 KB
-at a time, so that the sender takes one processor however many they are. The bytes are prepared before the clock starts.
+at a time, so that the sender takes one processor however many they are. The bytes are prepared before the clock starts,
+and how fast the sender brings them to a socket that only reads them is printed first.
 
 `--filter few` lets the collector keep a filter on a rate that one key in a thousand meets, `--filter all` one that
 every key meets and whose change moves with each update; `--rank` lets it keep a ranked list of ten. With `--push` the
@@ -40,7 +41,7 @@ import tempfile
 import time
 
 from ask import ask, ask_proxy
-from peers_protocol import ACK, DEFINE, INCREMENTAL, UPDATE, messages, put_int
+from peers_protocol import ACK, DEFINE, HEARTBEAT, INCREMENTAL, UPDATE, messages, put_int
 
 SCATTER = 2147483647
 
@@ -158,6 +159,12 @@ class InTurn:
     def __init__(self, address, senders, receiver):
         self.peers = [Peer(address, sender, receiver) for sender in senders]
 
+    def beat(self, left, length):
+        """Sends a heartbeat for each peer that has sent all its bytes: others are pushed for longer than one may be silent."""
+        for peer in self.peers:
+            if left.get(peer.socket.fileno(), (peer, length))[1] == length:
+                peer.socket.send(HEARTBEAT)
+
     def push(self, data, last):
         """Sends all peers' bytes, and waits for their acknowledgements of `last`; the seconds that it took."""
         view = memoryview(data)
@@ -167,9 +174,12 @@ class InTurn:
             peer.socket.setblocking(False)
             left[peer.socket.fileno()] = [peer, 0]
             poll.register(peer.socket, select.EPOLLIN | select.EPOLLOUT)
-        start = time.perf_counter()
+        start = beaten = time.perf_counter()
         while left:
             ready = poll.poll(20)
+            if time.perf_counter() - beaten > 1:
+                beaten = time.perf_counter()
+                self.beat(left, len(view))
             if not ready:
                 sys.exit(f"nothing for 20 s: {len(left)} of {len(self.peers)} peers aren't acknowledged")
             for number, events in ready:
@@ -182,6 +192,29 @@ class InTurn:
                     poll.unregister(number)
                     del left[number]
         return time.perf_counter() - start
+
+
+def drain(listener):
+    """Takes one connection, and reads and throws away all that comes by it."""
+    connection = listener.accept()[0]
+    while connection.recv(TURN):
+        pass
+    connection.sendall(b".")
+
+
+def limit(data):
+    """The seconds that the bytes take into a connection that only reads them: what a sender here can bring at most."""
+    with socket.create_server(("127.0.0.1", 0)) as listener:
+        reader = multiprocessing.Process(target=drain, args=(listener,))
+        reader.start()
+        with socket.create_connection(listener.getsockname()) as connection:
+            start = time.perf_counter()
+            connection.sendall(data)
+            connection.shutdown(socket.SHUT_WR)
+            connection.recv(1)
+            took = time.perf_counter() - start
+        reader.join()
+    return took
 
 
 def resident(pid):
@@ -321,6 +354,9 @@ def measure_asked(options, asked, turns, told):
 
 def measure(address, options, pid, asked=None):
     data = streams(options)
+    took = limit(data[1])
+    print(f"the sender alone, into a sink: {options.updates / took / 1e6:.1f} million updates a second, "
+          f"{len(data[1]) / took / 1e6:.0f} MB a second")
     before = resident(pid) if pid else 0
     senders = names(options)
     pushers = [senders] if options.peers else senders
