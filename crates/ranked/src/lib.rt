@@ -1,9 +1,10 @@
 //! Ranked lists, found by bounds on the values of keys.
 //!
 //! Books list the first keys of a table by a column. `Bounds` keeps for each key a bound that its
-//! value doesn't exceed, found by the key's hash, and an index of the bounds with the greatest
-//! first. `Ranked` takes entries from the front until its best key stands before all that are left,
-//! and then gives it. Values only fall by themselves, so bounds hold as time goes on.
+//! value doesn't exceed, found in the place that a hint names or by the key's hash, and an index of
+//! the bounds with the greatest first. `Ranked` takes entries from the front until its best key
+//! stands before all that are left, and then gives it. Values only fall by themselves, so bounds
+//! hold as time goes on.
 //!
 //! A bound is 2^k - 1 for the least such number that holds, and is kept while it holds and isn't
 //! above four times of what it bounds. So a count that grows moves its entry each time it doubles,
