@@ -1,6 +1,6 @@
 //! Messages, one after the other.
 
-ghost use Rattle.std.specs.Prelude.{◌≡◌, ◌+◌, ◌≤◌, ℕ, List, length, take, drop, IfOk};
+ghost use Rattle.std.specs.Prelude.{◌≡◌, ◌+◌, ◌≤◌, ℕ, List, [], length, take, drop, IfOk};
 ghost use Rattle.std.specs.Prelude.{box_value};
 ghost use Rattle.agg_types.specs.declared.limits.TheConstants.{LONGEST_PAYLOAD};
 ghost use Rattle.peers_msg.specs.Lent.{entry_message, define_of, GivesEntry};
@@ -205,20 +205,31 @@ fn expected(bytes: usize) -> usize {
     (bytes / FEW_BYTES).min(MOST_EXPECTED)
 }
 
-/// A copy of bytes, with room for a short piece behind them.
-fn with_room(alloc: Global, bytes: &[u8]) -> Result<BytesMut, NoMemory>
+/// A copy of bytes, with room for a short piece behind them, in a block that is empty.
+fn with_room(room: BytesMut, bytes: &[u8]) -> Result<BytesMut, NoMemory>
+    requires { room.items ≡ [] }
     ensures { IfOk result (λ copied. copied.items ≡ bytes.now) }
 {
-    let mut copied = BytesMut::with_capacity(alloc, bytes.len().saturating_add(SHORT_PIECE))?;
+    let mut copied = room;
+    copied.reserve(bytes.len().saturating_add(SHORT_PIECE))?;
     copied.extend_from_slice(bytes)?;
     Ok(copied)
 }
 
-/// Reads all whole messages. Takes no time for a message's payload that isn't whole.
-pub(crate) fn decode(alloc: Global, bytes: BytesMut) -> Result<Given, NoMemory>
+/// Reads all whole messages. Takes no time for a message's payload that isn't whole. The messages
+/// and the bytes behind them lie in these blocks where they have room, which are empty.
+pub(crate) fn decode(
+    alloc: Global,
+    bytes: BytesMut,
+    list: Vec<Entry>,
+    room: BytesMut,
+) -> Result<Given, NoMemory>
+    requires list { list.items ≡ [] }
+    requires room { room.items ≡ [] }
     ensures { IfOk result (λ given. given ≡ reading_of bytes.items) }
 {
-    let mut entries = Vec::with_capacity(alloc, expected(bytes.len()))?;
+    let mut entries = list;
+    entries.reserve(expected(bytes.len()))?;
     let mut at = 0;
     loop {
         match entry_at(alloc, bytes.as_slice(), at) {
@@ -227,7 +238,7 @@ pub(crate) fn decode(alloc: Global, bytes: BytesMut) -> Result<Given, NoMemory>
                 at = next;
             }
             Ok(None) => {
-                let rest = with_room(alloc, &bytes.as_slice()[at..])?;
+                let rest = with_room(room, &bytes.as_slice()[at..])?;
                 return Ok(Given::whole(bytes, Items::from_vec(entries), rest));
             }
             Err(cause) => match cause {

@@ -6,7 +6,8 @@ ghost use Rattle.agg_types.specs.declared.limits.TheConstants.{LONGEST_PAYLOAD};
 
 use crate::decoding::decode;
 use crate::framing::{Head, head_of};
-use crate::given::Given;
+use crate::given::{Given, Parts};
+use crate::room::Room;
 use crate::{Message, WireCause, WireFault};
 use agg_types::{Items, NoMemory};
 use bytes::BytesMut;
@@ -23,6 +24,8 @@ pub struct Feed {
     /// The kept bytes.
     kept: BytesMut,
     fault: Option<WireCause>,
+    /// Room for the next piece; nothing that contracts see.
+    room: Room,
     alloc: Global,
 }
 
@@ -52,6 +55,7 @@ impl Feed {
         Feed {
             kept: BytesMut::new(alloc),
             fault: None,
+            room: Room::new(alloc),
             alloc,
         }
     }
@@ -110,17 +114,25 @@ impl Feed {
         if let Head::Short = head_of(self.kept.as_slice()) {
             return Ok(None);
         }
-        let all = take_out(self.alloc, &mut self.kept, len)?;
-        Ok(Some(decode(self.alloc, all)?))
+        let all = take_out(&mut self.kept, len, self.room.take_front())?;
+        let entries = self.room.take_entries();
+        let rest = self.room.take_rest();
+        Ok(Some(decode(self.alloc, all, entries, rest)?))
     }
 
     /// Takes what was read. Takes no memory.
     pub fn commit(&mut self, given: Given)
         ensures after { self.new ≡ decoder_of given }
     {
-        let (fault, rest) = given.into_parts();
-        self.kept = rest;
+        let Parts {
+            fault,
+            rest,
+            bytes,
+            entries,
+        } = given.into_parts();
+        let front = mem::replace(&mut self.kept, rest);
         self.fault = fault;
+        self.room.put_back(front, bytes, entries);
     }
 
     /// Reads a piece and takes it.
@@ -172,14 +184,16 @@ impl Feed {
     }
 }
 
-/// Takes all bytes out, and leaves the first `len`, after `NoMemory` too.
-fn take_out(alloc: Global, kept: &mut BytesMut, len: usize) -> Result<BytesMut, NoMemory>
-    requires { len ≤ length kept.old.items }
+/// Takes all bytes out, and leaves the first `len` in another block, after `NoMemory` in this one.
+fn take_out(kept: &mut BytesMut, len: usize, room: BytesMut) -> Result<BytesMut, NoMemory>
+    requires front { len ≤ length kept.old.items }
+    requires none { room.items ≡ [] }
     ensures all { IfOk result (λ all. all.items ≡ kept.old.items) }
     ensures left { kept.new.items ≡ take len kept.old.items }
 {
-    match BytesMut::copy_from_slice(alloc, &kept.as_slice()[..len]) {
-        Ok(front) => Ok(mem::replace(kept, front)),
+    let mut front = room;
+    match front.extend_from_slice(&kept.as_slice()[..len]) {
+        Ok(()) => Ok(mem::replace(kept, front)),
         Err(_) => {
             kept.truncate(len);
             Err(NoMemory)

@@ -26,6 +26,15 @@ pub struct Given {
     rest: BytesMut,
 }
 
+/// The parts of what a piece gave.
+#[derive(Drop)]
+pub(crate) struct Parts {
+    pub(crate) fault: Option<WireCause>,
+    pub(crate) rest: BytesMut,
+    pub(crate) bytes: BytesMut,
+    pub(crate) entries: Vec<Entry>,
+}
+
 impl Model for Given {
     ghost use Rattle.peers_msg.specs.Message.{Reading};
     ghost use Rattle.std.specs.Prelude.{map};
@@ -115,14 +124,24 @@ impl Given {
         self.fault
     }
 
-    /// The fault behind the messages, and the bytes that are kept.
-    pub(crate) fn into_parts(self) -> (Option<WireCause>, BytesMut)
-        ensures fault { result.0 ≡ self.fault }
-        ensures rest { result.1.items ≡ self.rest }
+    /// The fault behind the messages, the bytes that are kept, and what is done with.
+    pub(crate) fn into_parts(self) -> Parts
+        ensures fault { result.fault ≡ self.fault }
+        ensures rest { result.rest.items ≡ self.rest }
         ensures kept { IsKept self.rest self.fault }
     {
-        let Given { fault, rest, .. } = self;
-        (fault, rest)
+        let Given {
+            bytes,
+            entries,
+            fault,
+            rest,
+        } = self;
+        Parts {
+            fault,
+            rest,
+            bytes,
+            entries: entries.into_vec(),
+        }
     }
 }
 

@@ -23,6 +23,7 @@ pub mod kinds;
 pub mod laws;
 mod message;
 mod payload;
+mod room;
 mod writing;
 
 pub use entry::LentMessage;
