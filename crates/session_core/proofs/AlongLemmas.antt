@@ -16,7 +16,7 @@ use Rattle.session_core.specs.declared.plan.Source.{Source}
 use Rattle.session_core.specs.declared.plan.Source.TheVariants as sources
 use Rattle.session_core.specs.Plan.{count_in, rate_in, cell_from, numbers_at, AreCells}
 use Rattle.session_core.specs.Straight.{is_straight}
-use Rattle.session_core.specs.Along.{cell_at, cells_along, rate_at}
+use Rattle.session_core.specs.Along.{cell_at, cells_along, count_at, rate_at}
 
 -- ---- the cells of columns, one behind the other
 
@@ -277,3 +277,22 @@ small_rate_front (x ∷ y ∷ z ∷ rest) elapsed cur prev cell three is_a is_b 
     small_rate x y z rest low_a low_b low_c
     ∙ ap (λ (one : Cell). Some (one, rest)) (sym (rw (is_a, is_b, is_c) at is))
     ∙ ap (λ (after : List ℕ). Some (cell, after)) (sym (take_rest (x ∷ y ∷ z ∷ rest) 3))
+
+pub small_count : (wide : Bool) (count : ℕ) (rest : List ℕ) → count < 240
+    → count_at wide (count ∷ rest) ≡ Some (cells.Count count, rest)
+small_count true count rest low =
+    let same : count % 2 ^ 64 ≡ count = omega arith in
+    rw (small_number count rest low, same) refl
+small_count false count rest low =
+    let same : count % 2 ^ 32 ≡ count = omega arith in
+    rw (small_number count rest low, same) refl
+
+pub small_count_front : (wide : Bool) (bytes : List ℕ) (count : ℕ) (cell : Cell)
+    → 1 ≤ length bytes → count ≡ get_or bytes 0 0 → count < 240 → cell ≡ cells.Count count
+    → count_at wide bytes ≡ Some (cell, take (length bytes - 1) (drop 1 bytes))
+small_count_front wide [] count cell one is_first low is = absurd (omega arith)
+small_count_front wide (x ∷ rest) count cell one is_first low is =
+    let small : x < 240 = omega (arith, is_first, low) in
+    small_count wide x rest small
+    ∙ ap (λ (found : Cell). Some (found, rest)) (sym (rw is_first at is))
+    ∙ ap (λ (after : List ℕ). Some (cell, after)) (sym (take_rest (x ∷ rest) 1))

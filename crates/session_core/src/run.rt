@@ -12,6 +12,9 @@ use agg_types::{Declared, NoMemory, Shape, Whats};
 use peers_msg::{Given, Message, write_message};
 use std::alloc::Global;
 
+/// How many bytes most acknowledgements have at most: room for them is made at once.
+const ACK_BYTES: usize = 16;
+
 /// What the messages do, up to the first that ends the session; its cause is returned. The facts
 /// and replies are added to those that are there.
 pub(crate) fn run(
@@ -63,6 +66,7 @@ fn write_ack(entry: &Entry, out: &mut Vec<u8>) -> Result<(), NoMemory>
     if !entry.updated {
         return Ok(());
     }
+    out.reserve(ACK_BYTES)?;
     let ack = Message::Acked {
         id: entry.id,
         last: entry.last,

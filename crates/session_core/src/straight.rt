@@ -1,11 +1,11 @@
 //! The cells of an update in one pass over its bytes, where its integers are those of its columns
 //! in order.
 
-ghost use Rattle.std.specs.Prelude.{◌≡◌, IfSome, length, Some};
+ghost use Rattle.std.specs.Prelude.{◌≡◌, Bool, IfSome, length, Some};
 ghost use Rattle.std.specs.Option.{option_map};
 ghost use Rattle.session_core.specs.Plan.{AreCells};
 ghost use Rattle.session_core.specs.Straight.{is_straight};
-ghost use Rattle.session_core.specs.Along.{cell_at, cells_along, rate_at};
+ghost use Rattle.session_core.specs.Along.{cell_at, cells_along, count_at, rate_at};
 
 use crate::plan::{Source, count_in, rate};
 use crate::values::{elapsed_of, low_word, number_at};
@@ -57,15 +57,36 @@ fn cell_at(source: Source, bytes: &[u8]) -> Option<(Cell, &[u8])>
 {
     match source {
         Source::Blank(cell) => Some((cell, bytes)),
-        Source::Count { wide, .. } => {
-            let (count, rest) = number_at(bytes)?;
-            Some((count_in(&[count], wide), rest))
-        }
+        Source::Count { wide, .. } => match small_count_at(bytes) {
+            Some(found) => Some(found),
+            None => count_at(wide, bytes),
+        },
         Source::Rate { .. } => match small_rate_at(bytes) {
             Some(found) => Some(found),
             None => rate_at(bytes),
         },
     }
+}
+
+/// A count of one byte, as those of most updates, and the bytes after it.
+#[inline]
+fn small_count_at(bytes: &[u8]) -> Option<(Cell, &[u8])>
+    ensures { (wide : Bool) → IfSome result (λ x. count_at wide bytes.now ≡ Some (x.0, x.1.now)) }
+{
+    match bytes {
+        [count, rest @ ..] if *count < FIRST_OF_LONG => {
+            Some((Cell::Count(u64::from(*count)), rest))
+        }
+        _ => None,
+    }
+}
+
+/// A count, and the bytes after it.
+fn count_at(wide: bool, bytes: &[u8]) -> Option<(Cell, &[u8])>
+    ensures { option_map (λ x. (x.0, x.1.now)) result ≡ count_at wide bytes.now }
+{
+    let (count, rest) = number_at(bytes)?;
+    Some((count_in(&[count], wide), rest))
 }
 
 /// A rate whose integers have one byte each, as those of most updates, and the bytes after it.

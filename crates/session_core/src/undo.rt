@@ -30,6 +30,19 @@ pub(crate) fn note(changes: &mut Vec<Change>, at: usize, entry: &Entry) -> Resul
     if is_noted(changes.as_slice(), at) {
         return Ok(());
     }
+    note_first(changes, at, entry)
+}
+
+/// Notes what stands at a place. Apart, so that a run of updates makes no room for it.
+#[cold]
+#[inline(never)]
+fn note_first(changes: &mut Vec<Change>, at: usize, entry: &Entry) -> Result<(), NoMemory>
+    ensures ok { OnOk result ((entries : List Entry) (next : Entry)
+        → slice_get entries at ≡ Some entry.now
+        → undone changes.new.items (slice_set entries at next)
+        ≡ undone changes.old.items entries) }
+    ensures err { OnErr result (changes.new.items ≡ changes.old.items) }
+{
     changes.push(Change::Replaced(at, *entry))?;
     Ok(())
 }

@@ -1,5 +1,5 @@
 use Rattle.session_core.proofs.UndoLemmas.{noted_new}
-use Rattle.session_core.proofs.undo.note.Goals as goal
+use Rattle.session_core.proofs.undo.note_first.Goals as goal
 
 pub returns-clause-ok : goal.returns-clause-ok
 returns-clause-ok c = λ entries next is. rw c.in_ok-push.ensures.items
