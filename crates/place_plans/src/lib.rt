@@ -4,7 +4,7 @@
 //! Contracts see the list of the places, each with its planned moment or none; a place beyond the
 //! last has none. `plan` gives a place a moment in the stead of the one before, `cancel` takes it,
 //! and `take_due` takes one that has come, if there is any. All other places keep theirs, so no
-//! plan is left behind. `due` lends places that come next, and nothing is promised of them.
+//! plan is left behind. `next_at` is the least planned moment. `due` lends places that come next, and nothing is promised of them.
 //! `count` is the number of places that have one. `NoMemory` comes where an allocation failed, or
 //! where a place or a moment has too many for a `u32`, and changes nothing.
 //!

@@ -107,6 +107,16 @@ impl PlacePlans {
         self.count -= 1;
     }
 
+    /// The least moment that is planned; none where no place has a plan.
+    pub fn next_at(&self) -> Option<u64>
+        ensures some { IfSome result (λ at. (place : ℕ) × (plan_at self.now place ≡ Some at)) }
+        ensures least { IfSome result
+            (λ at. (place u : ℕ) → plan_at self.now place ≡ Some u → at ≤ u) }
+        ensures none { IfNone result ((place : ℕ) → plan_at self.now place ≡ None) }
+    {
+        next_planned(&self.links, &self.buckets)
+    }
+
     /// Places that `take_due` answers next, from the last of these on. Nothing is promised of them.
     ///
     /// Who looks at several places asks for these first, so that the waits for memory overlap.
@@ -140,6 +150,21 @@ fn first_due(links: &Links, buckets: &Buckets, t: u64) -> Option<usize>
         Some((at, place)) if at <= t => Some(place as usize),
         _ => None,
     }
+}
+
+// The least moment that is planned.
+fn next_planned(links: &Links, buckets: &Buckets) -> Option<u64>
+    requires { IsLinked (links_of links.now) buckets.now }
+    ensures some { IfSome result
+        (λ at. (place : ℕ) × (plan_at (moments_of (links_of links.now)) place ≡ Some at)) }
+    ensures least { IfSome result (λ at. (place u : ℕ)
+        → plan_at (moments_of (links_of links.now)) place ≡ Some u → at ≤ u) }
+    ensures none { IfNone result
+        ((place : ℕ) → plan_at (moments_of (links_of links.now)) place ≡ None) }
+{
+    let _places = links.len();
+    let (at, _place) = buckets.first()?;
+    Some(at)
 }
 
 // Takes the stand of a place out of its bucket. The place that gets it is told.

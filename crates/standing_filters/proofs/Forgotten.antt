@@ -1,7 +1,7 @@
 -- Keys that one filter forgets, one after the other.
 use Rattle.std.proofs.Common.{◌≡◌, ◌==◌, ◌&&◌, ◌||◌, ℕ, Bool, true, false, cond, List, [], ◌∷◌}
-use Rattle.std.proofs.Common.{refl, sym, ap, ◌∙◌, subst}
-use Rattle.standing_filters.specs.Plans.{Becomes, IsWatch, Watching, view_of_watch}
+use Rattle.std.proofs.Common.{refl, sym, ap, ◌∙◌}
+use Rattle.standing_filters.specs.Plans.{Becomes, Watching, kept_by, view_of_watch}
 use Rattle.standing_filters.specs.Turns.{same_key}
 use Rattle.standing_filters.specs.Verdicts.{out}
 use Rattle.standing_filters.specs.Watched.{IsForgotten, is_among, verdict_at}
@@ -39,13 +39,13 @@ left_less key rest before after becomes q =
 -- a filter of the keys' table, and one of another
 pub forgotten_here : (table : ℕ) (is_gone : List ℕ → Bool) (old new : Watching)
     → (old.filter.table == table) ≡ true → new.filter ≡ old.filter
-    → ((key : List ℕ) → verdict_at new.kept key
-    ≡ cond (is_gone key) out (verdict_at old.kept key))
+    → ((key : List ℕ) → verdict_at (kept_by new) key
+    ≡ cond (is_gone key) out (verdict_at (kept_by old) key))
     → IsForgotten table is_gone (view_of_watch old) (view_of_watch new)
 forgotten_here table is_gone old new of same kept = record {
   filter = same;
   kept = λ key. kept key
-      ∙ sym (ap (λ b. cond (b && is_gone key) out (verdict_at old.kept key)) of);
+      ∙ sym (ap (λ b. cond (b && is_gone key) out (verdict_at (kept_by old) key)) of);
 }
 
 pub forgotten_elsewhere : (table : ℕ) (is_gone : List ℕ → Bool) (w : Watching)
@@ -53,11 +53,5 @@ pub forgotten_elsewhere : (table : ℕ) (is_gone : List ℕ → Bool) (w : Watch
     → IsForgotten table is_gone (view_of_watch w) (view_of_watch w)
 forgotten_elsewhere table is_gone w apart = record {
   filter = refl;
-  kept = λ key. sym (ap (λ b. cond (b && is_gone key) out (verdict_at w.kept key)) apart);
+  kept = λ key. sym (ap (λ b. cond (b && is_gone key) out (verdict_at (kept_by w) key)) apart);
 }
-
--- a filter that holds no key
-pub watch_empty : (old new : Watching) → IsWatch old → new ≡ record old { kept = []; due = [] }
-    → IsWatch new
-watch_empty old new watch same = subst IsWatch (sym same)
-    (record { few = watch.few; planned = λ e. refl })

@@ -6,7 +6,6 @@ use Rattle.std.specs.Prelude.{◌≢◌, ◌⊎◌}
 use Rattle.std.proofs.lemmas.Bool.{cases_Bool, cases_eq, cases_lt, eqb-true, false≢true}
 use Rattle.std.proofs.lemmas.Bool.{true≢false}
 use Rattle.std.proofs.lemmas.Cmp.{nat_list_cmp_total, tied_itself}
-use Rattle.std.proofs.lemmas.Map.Lookups.{exact_bytes}
 use Rattle.std.specs.BTreeMap.{is_at}
 use Rattle.std.specs.Cmp.Lexicographic.{slice_cmp}
 use Rattle.std.specs.List.{list_all}
@@ -22,7 +21,6 @@ use Rattle.standing_filters.specs.Turns.{has_come, is_due, same_key}
 use Rattle.standing_filters.specs.Verdicts.{Foretells, IsVerdict, holds_at, out}
 use Rattle.standing_filters.specs.Watched.{is_among, verdict_at}
 use Rattle.standing_filters.specs.declared.judging.Verdict.{Verdict}
-use Rattle.expiry_wheel.proofs.Members.{equal_from}
 use Rattle.standing_filters.proofs.Told.{dead_never, never_lives, told_same}
 use Rattle.standing_filters.proofs.Walking.{key_itself, not_come, one_key}
 
@@ -97,7 +95,7 @@ touch_keeps_verdicts before after living lives table key now old new same verdic
     by : old.filter.table ≡ table → (b : Bool) → is_at (slice_cmp nat_cmp key) q ≡ b
         → IsVerdict after lives old.filter now q (verdict_at new.kept q)
     by of true is = subst (λ k. IsVerdict after lives old.filter now k (verdict_at new.kept k))
-        (exact_bytes key q (equal_from _ is)) (touch.judged of)
+        (one_key key q is) (touch.judged of)
     by of false is =
         let other : q ≢ key = λ e. false≢true (sym is ∙ ap (λ k. is_at (slice_cmp nat_cmp key) k) e
         ∙ ap is_eq (tied_itself nat_list_cmp_total key)) in

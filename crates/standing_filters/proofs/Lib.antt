@@ -1,13 +1,13 @@
 pub mod Said
 pub mod HeldKeys
 pub mod Lawful
-pub mod Members
 pub mod Planning
+pub mod Changes
 pub mod Told
 pub mod Touched
-pub mod Ahead
+pub mod OneByOne
 pub mod Walking
 pub mod Removed
 pub mod Placing
-pub mod Laid
 pub mod Forgotten
+pub mod Settling

@@ -1,417 +1,257 @@
 -- Verdicts in places, as one comes, goes or becomes another.
 use Rattle.std.proofs.Common.{◌≡◌, ℕ, zero, suc, ◌≤◌, Bool, true, false, cond, List, [], ◌∷◌, length}
 use Rattle.std.proofs.Common.{Option, Some, None, refl, sym, ap, ◌∙◌, subst, inl, inr}
-use Rattle.std.specs.Prelude.{◌≢◌, map, slice_set, unwrap_or}
+use Rattle.std.specs.Prelude.{◌≢◌, IsSome, map, slice_set, unwrap_or}
 use Rattle.std.specs.Option.{option_map}
 use Rattle.std.proofs.lemmas.Bool.{cases_eq, false≢true}
 use Rattle.std.proofs.lemmas.List.{get_or-set_other}
-use Rattle.std.proofs.lemmas.Cmp.{nat_list_cmp_total, tied_itself}
-use Rattle.std.proofs.lemmas.Map.{none_passes_from_lookup}
-use Rattle.std.proofs.lemmas.Map.Lookups.{exact_bytes}
 use Rattle.std.proofs.lemmas.Option.{none-some, same_Some}
-use Rattle.std.specs.BTreeMap.{insert_entry, is_at}
 use Rattle.std.specs.Cmp.Lexicographic.{slice_cmp}
-use Rattle.std.specs.List.{AllByRecursion}
-use Rattle.std.specs.Map.{keys_of, lookup, remove_entry}
-use Rattle.std.specs.Ordering.{is_eq, match_ordering, nat_cmp}
-use Rattle.std.specs.declared.cmp.Ordering.{Ordering}
-use Rattle.std.specs.declared.cmp.Ordering.TheVariants.{Less, Equal, Greater}
-use Rattle.place_index.specs.Places.{item_at, key_at, value_at, laid, revalued, IsAbsent}
+use Rattle.std.specs.List.Sorted.{IsStrictlySortedBy}
+use Rattle.std.specs.Map.{keys_of, lookup}
+use Rattle.std.specs.Ordering.{nat_cmp}
+use Rattle.place_index.specs.Places.{item_at, key_at, value_at, in_order, laid, revalued}
+use Rattle.place_index.specs.Places.{AreDistinct, IsAbsent}
 use Rattle.place_index.proofs.Leading.{emptied_same, key_at-revalued, laid_other, laid_same}
-use Rattle.standing_filters.specs.Placed.{ArePlaced, PlacedKeys, VerdictPlaces, place_of}
-use Rattle.standing_filters.specs.Placed.{verdict_in, verdicts_in}
+use Rattle.place_index.proofs.Ordered.{at_key, is_itself, lookup-absent, lookup-held, same_if_at}
+use Rattle.place_index.proofs.Ordered.{same_keys, sorted-in_order, value_of_item}
+use Rattle.standing_filters.specs.Placed.{AreAlike, AreAlikeBut, ArePlaced, IsSetAt, PlacedKeys}
+use Rattle.standing_filters.specs.Placed.{VerdictPlaces, place_of, verdict_in, verdicts_in}
 use Rattle.standing_filters.specs.Plans.{Becomes, kept_at}
 use Rattle.standing_filters.specs.Verdicts.{out}
 use Rattle.standing_filters.specs.declared.judging.Verdict.{Verdict}
-use Rattle.standing_filters.proofs.Planning.{same_key}
 
--- whether a key is another
-abbrev at_key : List ℕ → List ℕ → Bool
-at_key key q = is_at (slice_cmp nat_cmp key) q
+abbrev Item : Type 0
+Item = Option (List ℕ × Verdict)
 
-itself : (key : List ℕ) → at_key key key ≡ true
-itself key = ap is_eq (tied_itself nat_list_cmp_total key)
+-- the key of what lies in a place
+abbrev pub key_of : Item → Option (List ℕ)
+key_of item = option_map (λ (x : List ℕ × Verdict). x.0) item
 
--- ---- entries with something else beside each key
-module _ {X Y : Type 0} (f : X → Y) where
-  abbrev beside : List (List ℕ × X) → List (List ℕ × Y)
-  beside es = map (λ e. (e.0, f e.1)) es
+-- ---- what lies in a place
+pub item_from : (item : Item) (key : List ℕ) (verdict : Verdict) → key_of item ≡ Some key
+    → option_map (λ (x : List ℕ × Verdict). x.1) item ≡ Some verdict → item ≡ Some (key, verdict)
+item_from None key verdict own value = cc
+item_from (Some x) key verdict own value =
+    let k = same_Some x.0 key own in
+    let v = same_Some x.1 verdict value in
+    λ i. Some (k i, v i)
 
-  lookup-beside : (test : List ℕ → Bool) (es : List (List ℕ × X))
-      → lookup test (beside es) ≡ option_map f (lookup test es)
-  lookup-beside test [] = refl
-  lookup-beside test (e ∷ es) = by (lookup-beside test es) (test e.0)
-    where
-      by : lookup test (beside es) ≡ option_map f (lookup test es) → (b : Bool)
-          → cond b (Some (f e.1)) (lookup test (beside es))
-          ≡ option_map f (cond b (Some e.1) (lookup test es))
-      by more true = refl
-      by more false = more
+pub item_there : (item : Item) (key : List ℕ) → key_of item ≡ Some key → IsSome item
+item_there None key own = cc
+item_there (Some x) key own = refl
 
-  keys_of-beside : (es : List (List ℕ × X)) → keys_of (beside es) ≡ keys_of es
-  keys_of-beside [] = refl
-  keys_of-beside (e ∷ es) = ap (λ keys. e.0 ∷ keys) (keys_of-beside es)
+-- what was laid down in a place
+pub set_itself : (places : VerdictPlaces) (at : ℕ) (item : Item)
+    → IsSetAt at places (slice_set places at item)
+set_itself [] zero item = refl
+set_itself [] (suc at) item = refl
+set_itself (x ∷ places) zero item = refl
+set_itself (x ∷ places) (suc at) item = ap (λ (l : VerdictPlaces). x ∷ l) (set_itself places at item)
 
-  beside-insert_entry : (es : List (List ℕ × X)) (key : List ℕ) (x : X)
-      → beside (insert_entry (slice_cmp nat_cmp) es key x)
-      ≡ insert_entry (slice_cmp nat_cmp) (beside es) key (f x)
-  beside-insert_entry [] key x = refl
-  beside-insert_entry (e ∷ es) key x =
-      by (beside-insert_entry es key x) (slice_cmp nat_cmp key e.0)
-    where
-      by : beside (insert_entry (slice_cmp nat_cmp) es key x)
-          ≡ insert_entry (slice_cmp nat_cmp) (beside es) key (f x) → (o : Ordering)
-          → beside (match_ordering o ((key, x) ∷ e ∷ es) ((e.0, x) ∷ es)
-          (e ∷ insert_entry (slice_cmp nat_cmp) es key x))
-          ≡ match_ordering o ((key, f x) ∷ (e.0, f e.1) ∷ beside es) ((e.0, f x) ∷ beside es)
-          ((e.0, f e.1) ∷ insert_entry (slice_cmp nat_cmp) (beside es) key (f x))
-      by more Less = refl
-      by more Equal = refl
-      by more Greater = ap (λ rest. (e.0, f e.1) ∷ rest) more
+pub others_set : (at : ℕ) (old new : VerdictPlaces) → IsSetAt at old new → AreAlikeBut at old new
+others_set at old new set p other =
+    ap (λ (l : VerdictPlaces). item_at l p) set
+    ∙ get_or-set_other old at p (item_at new at) None other
 
-  beside-remove_entry : (test : List ℕ → Bool) (es : List (List ℕ × X))
-      → beside (remove_entry test es) ≡ remove_entry test (beside es)
-  beside-remove_entry test [] = refl
-  beside-remove_entry test (e ∷ es) = by (beside-remove_entry test es) (test e.0)
-    where
-      by : beside (remove_entry test es) ≡ remove_entry test (beside es) → (b : Bool)
-          → beside (cond b es (e ∷ remove_entry test es))
-          ≡ cond b (beside es) ((e.0, f e.1) ∷ remove_entry test (beside es))
-      by more true = refl
-      by more false = ap (λ rest. (e.0, f e.1) ∷ rest) more
+pub value_revalued : (places : VerdictPlaces) (at : ℕ) (verdict : Verdict)
+    → IsSome (item_at places at) → verdict_in (revalued places at verdict) at ≡ verdict
+value_revalued [] zero verdict there = cc
+value_revalued [] (suc at) verdict there = cc
+value_revalued (None ∷ places) zero verdict there = cc
+value_revalued (Some x ∷ places) zero verdict there = refl
+value_revalued (x ∷ places) (suc at) verdict there = value_revalued places at verdict there
 
--- ---- what holds of each entry
-module _ {X : Type 0} (P : List ℕ × X → Type 0) where
-  all-insert_entry : (es : List (List ℕ × X)) (key : List ℕ) (x : X) → AllByRecursion P es
-      → P (key, x) → AllByRecursion P (insert_entry (slice_cmp nat_cmp) es key x)
-  all-insert_entry [] key x all here = (here, tt)
-  all-insert_entry (e ∷ es) key x all here =
-      by (all-insert_entry es key x all.1 here) (slice_cmp nat_cmp key e.0) refl
-    where
-      by : AllByRecursion P (insert_entry (slice_cmp nat_cmp) es key x) → (o : Ordering)
-          → slice_cmp nat_cmp key e.0 ≡ o
-          → AllByRecursion P (match_ordering o ((key, x) ∷ e ∷ es) ((e.0, x) ∷ es)
-          (e ∷ insert_entry (slice_cmp nat_cmp) es key x))
-      by more Less is = (here, all)
-      by more Equal is = (subst (λ k. P (k, x)) (exact_bytes key e.0 is) here, all.1)
-      by more Greater is = (all.0, more)
+-- ---- the same in each place
+tail_alike : (x y : Item) (old new : VerdictPlaces) → AreAlike (x ∷ old) (y ∷ new)
+    → AreAlike old new
+tail_alike x y old new same = λ p. same (suc p)
 
-  all-remove_entry : (test : List ℕ → Bool) (es : List (List ℕ × X)) → AllByRecursion P es
-      → AllByRecursion P (remove_entry test es)
-  all-remove_entry test [] all = tt
-  all-remove_entry test (e ∷ es) all = by (all-remove_entry test es all.1) (test e.0)
-    where
-      by : AllByRecursion P (remove_entry test es) → (b : Bool)
-          → AllByRecursion P (cond b es (e ∷ remove_entry test es))
-      by more true = all.1
-      by more false = (all.0, more)
+nothing_in : (places : VerdictPlaces) → ((p : ℕ) → item_at places p ≡ None) → in_order places ≡ []
+nothing_in [] none = refl
+nothing_in (None ∷ places) none = nothing_in places (λ p. none (suc p))
+nothing_in (Some x ∷ places) none = absurd (none-some x (sym (none zero)))
 
-all_both : {X : Type 0} (P Q R : X → Type 0) → ((x : X) → P x → Q x → R x) → (xs : List X)
-    → AllByRecursion P xs → AllByRecursion Q xs → AllByRecursion R xs
-all_both P Q R both [] p q = tt
-all_both P Q R both (x ∷ xs) p q = (both x p.0 q.0, all_both P Q R both xs p.1 q.1)
-
--- nothing is taken out where nothing is found
-pub nothing_out : {X : Type 0} (test : List ℕ → Bool) (es : List (List ℕ × X))
-    → lookup test es ≡ None → remove_entry test es ≡ es
-nothing_out test [] none = refl
-nothing_out test (e ∷ es) none = by (nothing_out test es) (test e.0) none
+pub alike_order : (old new : VerdictPlaces) → AreAlike old new → in_order new ≡ in_order old
+alike_order [] new same = nothing_in new same
+alike_order (x ∷ old) [] same = sym (nothing_in (x ∷ old) (λ p. sym (same p)))
+alike_order (x ∷ old) (y ∷ new) same = by x y (same zero) (alike_order old new (λ p. same (suc p)))
   where
-    by : (lookup test es ≡ None → remove_entry test es ≡ es) → (b : Bool)
-        → cond b (Some e.1) (lookup test es) ≡ None
-        → cond b es (e ∷ remove_entry test es) ≡ e ∷ es
-    by more true none = absurd (none-some e.1 (sym none))
-    by more false none = ap (λ rest. e ∷ rest) (more none)
+    by : (x y : Item) → y ≡ x → in_order new ≡ in_order old
+        → in_order (y ∷ new) ≡ in_order (x ∷ old)
+    by x y is rest = ap (λ (z : Item). in_order (z ∷ new)) is ∙ from x rest
+      where
+        from : (z : Item) → in_order new ≡ in_order old → in_order (z ∷ new) ≡ in_order (z ∷ old)
+        from None rest = rest
+        from (Some z) rest = ap (λ es. Rattle.std.specs.BTreeMap.insert_entry (slice_cmp nat_cmp) es
+            z.0 z.1) rest
 
--- ---- what is found of a key
-pub kept_in : (places : VerdictPlaces) (order : PlacedKeys) (key : List ℕ)
+-- ---- the ordered list of the places
+pub distinct_placed : (places : VerdictPlaces) (order : PlacedKeys) → ArePlaced places order
+    → AreDistinct places
+distinct_placed places order are = λ p q key one other.
+    same_Some p q (sym (are.all key p one) ∙ are.all key q other)
+
+kept_in : (places : VerdictPlaces) (order : PlacedKeys) (key : List ℕ)
     → kept_at (verdicts_in places order) key ≡ option_map (verdict_in places) (place_of order key)
-kept_in places order key = lookup-beside (verdict_in places) (at_key key) order
-
-pub keys_in : (places : VerdictPlaces) (order : PlacedKeys)
-    → keys_of (verdicts_in places order) ≡ keys_of order
-keys_in places order = keys_of-beside (verdict_in places) order
-
--- keys lie in their places
-abbrev AreThere : VerdictPlaces → PlacedKeys → Type 0
-AreThere places order = AllByRecursion (λ e. key_at places e.1 ≡ Some e.0) order
-
-placed_at : (places : VerdictPlaces) (order : PlacedKeys) (key : List ℕ) (at : ℕ)
-    → AreThere places order → place_of order key ≡ Some at → key_at places at ≡ Some key
-placed_at places [] key at there is = absurd (none-some at is)
-placed_at places (e ∷ order) key at there is =
-    by (at_key key e.0) refl is (placed_at places order key at there.1)
+kept_in places [] key = refl
+kept_in places (e ∷ order) key = by (kept_in places order key) (at_key key e.0)
   where
-    by : (b : Bool) → at_key key e.0 ≡ b → cond b (Some e.1) (place_of order key) ≡ Some at
-        → (place_of order key ≡ Some at → key_at places at ≡ Some key)
-        → key_at places at ≡ Some key
-    by true here is later =
-        ap (λ p. key_at places p) (sym (same_Some e.1 at is)) ∙ there.0
-        ∙ ap Some (sym (same_key key e.0 here))
-    by false other is later = later is
+    by : kept_at (verdicts_in places order) key
+        ≡ option_map (verdict_in places) (place_of order key) → (b : Bool)
+        → cond b (Some (verdict_in places e.1)) (kept_at (verdicts_in places order) key)
+        ≡ option_map (verdict_in places) (cond b (Some e.1) (place_of order key))
+    by more true = refl
+    by more false = more
 
-module _ (places : VerdictPlaces) (order : PlacedKeys) (key : List ℕ)
-    (are : ArePlaced places order) where
-  pub kept_found : (at : ℕ) (verdict : Verdict) → key_at places at ≡ Some key
-      → value_at places at ≡ Some verdict → Some verdict ≡ kept_at (verdicts_in places order) key
-  kept_found at verdict own value =
-      sym (kept_in places order key
-      ∙ ap (λ o. option_map (verdict_in places) o) (are.all key at own)
-      ∙ ap (λ (v : Option Verdict). Some (unwrap_or v out)) value)
+keys_in : (places : VerdictPlaces) (order : PlacedKeys)
+    → keys_of (verdicts_in places order) ≡ keys_of order
+keys_in places [] = refl
+keys_in places (e ∷ order) = ap (λ keys. e.0 ∷ keys) (keys_in places order)
 
-  pub kept_absent : IsAbsent places key → kept_at (verdicts_in places order) key ≡ None
-  kept_absent absent = kept_in places order key
-      ∙ ap (λ o. option_map (verdict_in places) o) (none (place_of order key) refl)
-    where
-      none : (found : Option ℕ) → place_of order key ≡ found → found ≡ None
-      none None is = refl
-      none (Some at) is = absurd (absent at (placed_at places order key at are.there is))
+-- it says the verdicts in the order of the keys
+pub listed_order : (places : VerdictPlaces) (order : PlacedKeys) → ArePlaced places order
+    → IsStrictlySortedBy (slice_cmp nat_cmp) (keys_of order)
+    → verdicts_in places order ≡ in_order places
+listed_order places order are sorted =
+    same_keys (verdicts_in places order) (in_order places)
+    (subst (λ keys. IsStrictlySortedBy (slice_cmp nat_cmp) keys) (sym (keys_in places order)) sorted)
+    (sorted-in_order places) (λ q. kept_in places order q ∙ by q (place_of order q) refl)
+  where
+    by : (q : List ℕ) (o : Option ℕ) → place_of order q ≡ o
+        → option_map (verdict_in places) o ≡ lookup (at_key q) (in_order places)
+    by q None is = sym (lookup-absent places q (λ at own. none-some at (sym is ∙ are.all q at own)))
+    by q (Some at) is =
+        let own = are.there q at is in
+        let value = value_of_item (item_at places at) q own in
+        ap (λ (v : Option Verdict). Some (unwrap_or v out)) value.1
+        ∙ sym (lookup-held places at q value.0 (distinct_placed places order are) own value.1)
 
-  pub absent_unkept : kept_at (verdicts_in places order) key ≡ None → IsAbsent places key
-  absent_unkept unkept = λ at own. none-some (verdict_in places at) (sym unkept
-      ∙ kept_in places order key ∙ ap (λ o. option_map (verdict_in places) o) (are.all key at own))
-
-  pub no_place : kept_at (verdicts_in places order) key ≡ None → place_of order key ≡ None
-  no_place unkept = by (place_of order key) (sym (kept_in places order key) ∙ unkept)
-    where
-      by : (found : Option ℕ) → option_map (verdict_in places) found ≡ None → found ≡ None
-      by None is = refl
-      by (Some at) is = absurd (none-some (verdict_in places at) (sym is))
+-- ---- what is found of a key becomes another
+pub becomes_found : (key : List ℕ) (now : Option Verdict) (old new : List (List ℕ × Verdict))
+    → ((q : List ℕ) → lookup (at_key q) new ≡ cond (at_key key q) now (lookup (at_key q) old))
+    → Becomes key (unwrap_or now out) old new
+becomes_found key now old new found = λ q. ap (λ o. unwrap_or o out) (found q)
+    ∙ by (at_key key q) (lookup (at_key q) old)
+  where
+    by : (b : Bool) (was : Option Verdict) → unwrap_or (cond b now was) out
+        ≡ cond b (unwrap_or now out) (unwrap_or was out)
+    by true was = refl
+    by false was = refl
 
 -- ---- as one place changes
+pub placed_alike : (old new : VerdictPlaces) (order : PlacedKeys) → AreAlike old new
+    → ArePlaced old order → ArePlaced new order
+placed_alike old new order same are = record {
+  there = λ key at is. ap key_of (same at) ∙ are.there key at is;
+  all = λ key at own. are.all key at (ap key_of (sym (same at)) ∙ own);
+}
 
--- each place but one is what it was
-abbrev AllElse : ℕ → VerdictPlaces → VerdictPlaces → Type 0
-AllElse at old new = (p : ℕ) → p ≢ at → item_at new p ≡ item_at old p
+pub placed_revalued : (old : VerdictPlaces) (order : PlacedKeys) (at : ℕ) (verdict : Verdict)
+    → ArePlaced old order → ArePlaced (revalued old at verdict) order
+placed_revalued old order at verdict are = record {
+  there = λ key p is. key_at-revalued old at verdict p ∙ are.there key p is;
+  all = λ key p own. are.all key p (sym (key_at-revalued old at verdict p) ∙ own);
+}
 
--- none of the keys lies there
-abbrev AreElsewhere : ℕ → PlacedKeys → Type 0
-AreElsewhere at order = AllByRecursion (λ e. e.1 ≢ at) order
+-- an empty place is emptied
+pub emptied_none : (old : VerdictPlaces) (at : ℕ) → item_at old at ≡ None
+    → AreAlike old (slice_set old at None)
+emptied_none old at empty = λ p. elim (cases_eq p at) [
+  | inl same ↦ ap (λ q. item_at (slice_set old at None) q) same ∙ emptied_same old at
+      ∙ sym empty ∙ ap (λ q. item_at old q) (sym same)
+  | inr other ↦ get_or-set_other old at p None None other
+]
 
-module _ (old new : VerdictPlaces) (at : ℕ) (same : AllElse at old new) where
-  key-same : (p : ℕ) → p ≢ at → key_at new p ≡ key_at old p
-  key-same p other = ap (λ i. option_map (λ (x : List ℕ × Verdict). x.0) i) (same p other)
-
-  verdict-same : (p : ℕ) → p ≢ at → verdict_in new p ≡ verdict_in old p
-  verdict-same p other =
-      ap (λ i. unwrap_or (option_map (λ (x : List ℕ × Verdict). x.1) i) out) (same p other)
-
-  verdicts-same : (order : PlacedKeys) → AreElsewhere at order
-      → verdicts_in new order ≡ verdicts_in old order
-  verdicts-same [] other = refl
-  verdicts-same (e ∷ order) other =
-      ap (λ v. (e.0, v) ∷ verdicts_in new order) (verdict-same e.1 other.0)
-      ∙ ap (λ rest. (e.0, verdict_in old e.1) ∷ rest) (verdicts-same order other.1)
-
-  there-same : (order : PlacedKeys) → AreElsewhere at order → AreThere old order
-      → AreThere new order
-  there-same order other there =
-      all_both (λ e. e.1 ≢ at) (λ e. key_at old e.1 ≡ Some e.0) (λ e. key_at new e.1 ≡ Some e.0)
-      (λ e apart own. key-same e.1 apart ∙ own) order other there
-
-  -- the verdict on one key is another, where its place is the one that changes
-  becomes_by : (order after : PlacedKeys) (key : List ℕ) (verdict : Verdict) (now : Option ℕ)
-      → ((q : List ℕ) → place_of after q ≡ cond (at_key key q) now (place_of order q))
-      → unwrap_or (option_map (verdict_in new) now) out ≡ verdict
-      → ((q : List ℕ) (p : ℕ) → at_key key q ≡ false → place_of order q ≡ Some p → p ≢ at)
-      → Becomes key verdict (verdicts_in old order) (verdicts_in new after)
-  becomes_by order after key verdict now found here apart =
-      λ q. ap (λ o. unwrap_or o out) (kept_in new after q
-      ∙ ap (λ o. option_map (verdict_in new) o) (found q))
-      ∙ by q (at_key key q) refl
-      ∙ ap (λ o. cond (at_key key q) verdict (unwrap_or o out)) (sym (kept_in old order q))
-    where
-      there : (q : List ℕ) → at_key key q ≡ false → (o : Option ℕ) → place_of order q ≡ o
-          → unwrap_or (option_map (verdict_in new) o) out
-          ≡ unwrap_or (option_map (verdict_in old) o) out
-      there q other None is = refl
-      there q other (Some p) is = verdict-same p (apart q p other is)
-
-      by : (q : List ℕ) (b : Bool) → at_key key q ≡ b
-          → unwrap_or (option_map (verdict_in new) (cond b now (place_of order q))) out
-          ≡ cond b verdict (unwrap_or (option_map (verdict_in old) (place_of order q)) out)
-      by q true is = here
-      by q false is = there q is (place_of order q) refl
-
--- a place that is emptied has no key
-emptied-apart : (places : VerdictPlaces) (at p : ℕ) (key : List ℕ)
-    → key_at (slice_set places at None) p ≡ Some key → p ≢ at
-emptied-apart places at p key own same =
-    none-some key (sym (ap (λ i. option_map (λ (x : List ℕ × Verdict). x.0) i)
-    (emptied_same places at)) ∙ ap (λ q. key_at (slice_set places at None) q) (sym same) ∙ own)
-
-emptied-else : (places : VerdictPlaces) (at : ℕ) → AllElse at places (slice_set places at None)
-emptied-else places at = λ p other. get_or-set_other places at p None None other
-
--- ---- a verdict comes under a key that had none
+-- an empty place is filled
 module _ (old : VerdictPlaces) (order : PlacedKeys) (at : ℕ) (key : List ℕ) (verdict : Verdict)
-    (are : ArePlaced old order) (empty : item_at old at ≡ None) (within : at ≤ length old) where
+    (empty : item_at old at ≡ None) (within : at ≤ length old) where
   abbrev with_it : VerdictPlaces
   with_it = laid old at (Some (key, verdict))
 
-  laid-else : AllElse at old with_it
-  laid-else = λ p other. laid_other old at p (Some (key, verdict)) None within other
+  pub laid_here : item_at with_it at ≡ Some (key, verdict)
+  laid_here = laid_same old at (Some (key, verdict)) None within
 
-  laid-there : item_at with_it at ≡ Some (key, verdict)
-  laid-there = laid_same old at (Some (key, verdict)) None within
+  pub laid_else : AreAlikeBut at old with_it
+  laid_else = λ p other. laid_other old at p (Some (key, verdict)) None within other
 
-  key-there : key_at with_it at ≡ Some key
-  key-there = ap (λ i. option_map (λ (x : List ℕ × Verdict). x.0) i) laid-there
+  -- and emptied again
+  pub laid_back : AreAlike old (slice_set with_it at None)
+  laid_back = λ p. elim (cases_eq p at) [
+    | inl same ↦ ap (λ q. item_at (slice_set with_it at None) q) same ∙ emptied_same with_it at
+        ∙ sym empty ∙ ap (λ q. item_at old q) (sym same)
+    | inr other ↦ get_or-set_other with_it at p None None other ∙ laid_else p other
+  ]
 
   no_key : (q : List ℕ) → key_at old at ≡ Some q → ⊥
-  no_key q own =
-      none-some q (sym (ap (λ i. option_map (λ (x : List ℕ × Verdict). x.0) i) empty) ∙ own)
+  no_key q own = none-some q (sym (ap key_of empty) ∙ own)
 
-  elsewhere : AreElsewhere at order
-  elsewhere =
-      all_both (λ e. key_at old e.1 ≡ Some e.0) (λ e. key_at old e.1 ≡ Some e.0) (λ e. e.1 ≢ at)
-      (λ e own again same. no_key e.0 (ap (λ p. key_at old p) (sym same) ∙ own)) order
-      are.there are.there
-
-  pub entered : verdicts_in with_it (insert_entry (slice_cmp nat_cmp) order key at)
-      ≡ insert_entry (slice_cmp nat_cmp) (verdicts_in old order) key verdict
-  entered =
-      beside-insert_entry (verdict_in with_it) order key at
-      ∙ ap (λ es. insert_entry (slice_cmp nat_cmp) es key (verdict_in with_it at))
-      (verdicts-same old with_it at laid-else order elsewhere)
-      ∙ ap (λ i. insert_entry (slice_cmp nat_cmp) (verdicts_in old order) key
-      (unwrap_or (option_map (λ (x : List ℕ × Verdict). x.1) i) out)) laid-there
-
-  module _ (after : PlacedKeys)
+  module _ (are : ArePlaced old order) (absent : IsAbsent old key) (after : PlacedKeys)
       (found : (q : List ℕ) → place_of after q ≡ cond (at_key key q) (Some at) (place_of order q))
     where
-      pub entered-becomes : Becomes key verdict (verdicts_in old order) (verdicts_in with_it after)
-      entered-becomes = becomes_by old with_it at laid-else order after key verdict (Some at) found
-          (ap (λ i. unwrap_or (option_map (λ (x : List ℕ × Verdict). x.1) i) out) laid-there)
-          (λ q p other is same. no_key q (ap (λ r. key_at old r) (sym same)
-          ∙ placed_at old order q p are.there is))
-
-      pub entered-placed : place_of order key ≡ None
-          → after ≡ insert_entry (slice_cmp nat_cmp) order key at → ArePlaced with_it after
-      entered-placed none is =
-          record {
-            there = subst (λ (es : PlacedKeys). AreThere with_it es) (sym is)
-                (all-insert_entry (λ e. key_at with_it e.1 ≡ Some e.0) order key at
-                (there-same old with_it at laid-else order elsewhere are.there) key-there);
-            all = λ k p own. elim (cases_eq p at) [
-              | inl same ↦
-                  let here : key ≡ k = same_Some key k (sym key-there
-                  ∙ ap (λ q. key_at with_it q) (sym same) ∙ own) in
-                  found k ∙ ap (λ q. cond (at_key key q) (Some at) (place_of order k)) (sym here)
-                  ∙ ap (λ (b : Bool). cond b (Some at) (place_of order k)) (itself key)
-                  ∙ ap Some (sym same)
-              | inr other ↦
-                  let was : place_of order k ≡ Some p =
-                  are.all k p (sym (key-same old with_it at laid-else p other) ∙ own) in
-                  found k ∙ stays k p was (at_key key k) refl
-            ];
-          }
+      pub placed_laid : ArePlaced with_it after
+      placed_laid = record {
+        there = λ k p is. there k p (at_key key k) refl (sym (found k) ∙ is);
+        all = λ k p own. elim (cases_eq p at) [
+          | inl same ↦
+              let here : key ≡ k = same_Some key k (sym (ap key_of laid_here)
+              ∙ ap (λ q. key_at with_it q) (sym same) ∙ own) in
+              found k ∙ ap (λ q. cond (at_key key q) (Some at) (place_of order k)) (sym here)
+              ∙ ap (λ (b : Bool). cond b (Some at) (place_of order k)) (is_itself key)
+              ∙ ap Some (sym same)
+          | inr other ↦
+              let was : key_at old p ≡ Some k = sym (ap key_of (laid_else p other)) ∙ own in
+              found k ∙ stays k p was (are.all k p was) (at_key key k) refl
+        ];
+      }
         where
-          stays : (k : List ℕ) (p : ℕ) → place_of order k ≡ Some p → (b : Bool) → at_key key k ≡ b
-              → cond b (Some at) (place_of order k) ≡ Some p
-          stays k p was true same = absurd (none-some p (sym none
-              ∙ ap (λ q. place_of order q) (same_key key k same) ∙ was))
-          stays k p was false other = was
+          there : (k : List ℕ) (p : ℕ) (b : Bool) → at_key key k ≡ b
+              → cond b (Some at) (place_of order k) ≡ Some p → key_at with_it p ≡ Some k
+          there k p true same is =
+              ap (λ q. key_at with_it q) (sym (same_Some at p is)) ∙ ap key_of laid_here
+              ∙ ap Some (same_if_at key k same)
+          there k p false apart is =
+              let own = are.there k p is in
+              ap key_of (laid_else p (λ same. no_key k (ap (λ q. key_at old q) (sym same) ∙ own)))
+              ∙ own
 
-  -- and goes again at once
-  abbrev back : VerdictPlaces
-  back = slice_set with_it at None
+          stays : (k : List ℕ) (p : ℕ) → key_at old p ≡ Some k → place_of order k ≡ Some p
+              → (b : Bool) → at_key key k ≡ b → cond b (Some at) (place_of order k) ≡ Some p
+          stays k p own was true same =
+              absurd (absent p (own ∙ ap Some (sym (same_if_at key k same))))
+          stays k p own was false apart = was
 
-  back-else : AllElse at old back
-  back-else = λ p other. emptied-else with_it at p other ∙ laid-else p other
-
-  pub refused : verdicts_in back order ≡ verdicts_in old order
-  refused = verdicts-same old back at back-else order elsewhere
-
-  pub refused-placed : ArePlaced back order
-  refused-placed = record {
-    there = there-same old back at back-else order elsewhere are.there;
-    all = λ k p own. are.all k p (sym (key-same old back at back-else p
-        (emptied-apart with_it at p k own)) ∙ own);
-  }
-
--- ---- a verdict whose key and place are known
+-- a place is emptied
 module _ (old : VerdictPlaces) (order : PlacedKeys) (at : ℕ) (key : List ℕ)
-    (are : ArePlaced old order) (own : key_at old at ≡ Some key) where
-  its_alone : (q : List ℕ) (p : ℕ) → at_key key q ≡ false → place_of order q ≡ Some p → p ≢ at
-  its_alone q p other is same = false≢true (sym other
-      ∙ ap (λ k. at_key key k) (same_Some q key (sym (placed_at old order q p are.there is)
-      ∙ ap (λ r. key_at old r) same ∙ own)) ∙ itself key)
+    (are : ArePlaced old order) (own : key_at old at ≡ Some key) (after : PlacedKeys)
+    (found : (q : List ℕ) → place_of after q ≡ cond (at_key key q) None (place_of order q)) where
+  emptied_else : AreAlikeBut at old (slice_set old at None)
+  emptied_else = λ p other. get_or-set_other old at p None None other
 
-  -- it goes with its key
-  module _ (after : PlacedKeys) (gone : after ≡ remove_entry (at_key key) order)
-      (found : (q : List ℕ) → place_of after q ≡ cond (at_key key q) None (place_of order q)) where
-    abbrev without_it : VerdictPlaces
-    without_it = slice_set old at None
-
-    still-there : AreThere old after
-    still-there = subst (λ (es : PlacedKeys). AreThere old es) (sym gone)
-        (all-remove_entry (λ e. key_at old e.1 ≡ Some e.0) (at_key key) order are.there)
-
-    others : AreElsewhere at after
-    others =
-        all_both (λ e. at_key key e.0 ≡ false) (λ e. key_at old e.1 ≡ Some e.0) (λ e. e.1 ≢ at)
-        (λ e apart there same.
-        let here : key ≡ e.0 = same_Some key e.0 (sym own ∙ ap (λ p. key_at old p) (sym same)
-        ∙ there) in
-        false≢true (sym apart ∙ ap (λ k. at_key key k) (sym here) ∙ itself key)) after
-        (none_passes_from_lookup (at_key key) after (found key
-        ∙ ap (λ (b : Bool). cond b None (place_of order key)) (itself key))) still-there
-
-    pub left : verdicts_in without_it after ≡ remove_entry (at_key key) (verdicts_in old order)
-    left = verdicts-same old without_it at (emptied-else old at) after others
-        ∙ ap (λ es. verdicts_in old es) gone
-        ∙ beside-remove_entry (verdict_in old) (at_key key) order
-
-    pub left-becomes : Becomes key out (verdicts_in old order) (verdicts_in without_it after)
-    left-becomes = becomes_by old without_it at (emptied-else old at) order after key out None found
-        refl its_alone
-
-    pub left-placed : ArePlaced without_it after
-    left-placed = record {
-      there = there-same old without_it at (emptied-else old at) after others still-there;
-      all = λ k p held.
-          let apart : p ≢ at = emptied-apart old at p k held in
+  pub placed_emptied : ArePlaced (slice_set old at None) after
+  placed_emptied = record {
+    there = λ k p is. there k p (at_key key k) refl (sym (found k) ∙ is);
+    all = λ k p held. elim (cases_eq p at) [
+      | inl same ↦ absurd (none-some k (sym (ap key_of (emptied_same old at))
+          ∙ ap (λ q. key_at (slice_set old at None) q) (sym same) ∙ held))
+      | inr other ↦
           let was : place_of order k ≡ Some p =
-          are.all k p (sym (key-same old without_it at (emptied-else old at) p apart) ∙ held) in
-          found k ∙ stays k p apart was (at_key key k) refl;
-    }
-      where
-        stays : (k : List ℕ) (p : ℕ) → p ≢ at → place_of order k ≡ Some p → (b : Bool)
-            → at_key key k ≡ b → cond b None (place_of order k) ≡ Some p
-        stays k p apart was true same = absurd (apart (same_Some p at (sym was
-            ∙ ap (λ q. place_of order q) (sym (same_key key k same)) ∙ are.all key at own)))
-        stays k p apart was false other = was
+          are.all k p (sym (ap key_of (emptied_else p other)) ∙ held) in
+          found k ∙ stays k p other was (at_key key k) refl
+    ];
+  }
+    where
+      there : (k : List ℕ) (p : ℕ) (b : Bool) → at_key key k ≡ b
+          → cond b None (place_of order k) ≡ Some p → key_at (slice_set old at None) p ≡ Some k
+      there k p true same is = absurd (none-some p is)
+      there k p false apart is =
+          let held = are.there k p is in
+          ap key_of (emptied_else p (λ same. false≢true (sym apart
+          ∙ ap (λ q. at_key key q) (same_Some k key (sym held ∙ ap (λ q. key_at old q) same ∙ own))
+          ∙ is_itself key))) ∙ held
 
-  -- it becomes another
-  module _ (verdict : Verdict) where
-    abbrev changed : VerdictPlaces
-    changed = revalued old at verdict
-
-    pub changed-placed : ArePlaced changed order
-    changed-placed = record {
-      there = all_both (λ e. key_at old e.1 ≡ Some e.0) (λ e. key_at old e.1 ≡ Some e.0)
-          (λ e. key_at changed e.1 ≡ Some e.0)
-          (λ e held again. key_at-revalued old at verdict e.1 ∙ held) order are.there are.there;
-      all = λ k p held. are.all k p (sym (key_at-revalued old at verdict p) ∙ held);
-    }
-
-    pub changed-becomes : Becomes key verdict (verdicts_in old order) (verdicts_in changed order)
-    changed-becomes = becomes_by old changed at
-        (λ p apart. get_or-set_other old at p
-        (option_map (λ (i : List ℕ × Verdict). (i.0, verdict)) (item_at old at)) None apart)
-        order order key verdict (Some at) (λ q. found q (at_key key q) refl)
-        (ap (λ v. unwrap_or v out) (value_at-revalued old at own)) its_alone
-      where
-        value_at-revalued : (places : VerdictPlaces) (p : ℕ) → key_at places p ≡ Some key
-            → value_at (revalued places p verdict) p ≡ Some verdict
-        value_at-revalued [] zero held = absurd (none-some key held)
-        value_at-revalued [] (suc p) held = absurd (none-some key held)
-        value_at-revalued (None ∷ places) zero held = absurd (none-some key held)
-        value_at-revalued (Some i ∷ places) zero held = refl
-        value_at-revalued (x ∷ places) (suc p) held = value_at-revalued places p held
-
-        found : (q : List ℕ) (b : Bool) → at_key key q ≡ b
-            → place_of order q ≡ cond b (Some at) (place_of order q)
-        found q true is = ap (λ k. place_of order k) (sym (same_key key q is)) ∙ are.all key at own
-        found q false is = refl
+      stays : (k : List ℕ) (p : ℕ) → p ≢ at → place_of order k ≡ Some p → (b : Bool)
+          → at_key key k ≡ b → cond b None (place_of order k) ≡ Some p
+      stays k p apart was true same = absurd (apart (same_Some p at (sym was
+          ∙ ap (λ q. place_of order q) (sym (same_if_at key k same)) ∙ are.all key at own)))
+      stays k p apart was false other = was

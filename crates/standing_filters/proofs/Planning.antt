@@ -1,241 +1,262 @@
--- An index of planned changes, as one key's verdict becomes another.
-use Rattle.std.proofs.Common.{◌≡◌, ℕ, eqb, Bool, true, false, cond, not, ◌&&◌, ◌||◌, ◌==◌, List}
-use Rattle.std.proofs.Common.{Option, Some, None, refl, sym, ap, ◌∙◌}
-use Rattle.std.specs.Prelude.{◌≢◌, unwrap_or, is_some}
-use Rattle.std.proofs.lemmas.Bool.{eq-eqb, eqb-true, false≢true}
-use Rattle.std.proofs.lemmas.Cmp.{nat_list_cmp_total}
-use Rattle.std.proofs.lemmas.Map.Lookups.{exact_bytes}
-use Rattle.std.specs.BTreeMap.{insert_entry, is_at}
-use Rattle.std.specs.Cmp.Lexicographic.{slice_cmp}
-use Rattle.std.specs.Option.{option_eq}
-use Rattle.std.specs.Ordering.{nat_cmp}
-use Rattle.expiry_wheel.specs.Entries.{IsInOrder, with_entry, without_entry}
-use Rattle.standing_filters.specs.Plans.{Becomes, IsPlanOf, IsPlanned, IsUnplanned, change_of}
-use Rattle.standing_filters.specs.Plans.{has_plan, is_moment, kept_at, with_room, without_key}
+-- Plans of places, as the verdict in one of them changes, and what they say of keys.
+use Rattle.std.proofs.Common.{◌≡◌, ℕ, zero, suc, ◌+◌, ◌<◌, ◌≤◌, Bool, true, false, cond, List, []}
+use Rattle.std.proofs.Common.{◌∷◌, Option, Some, None, length, refl, sym, ap, ◌∙◌, subst, inl, inr}
+use Rattle.std.proofs.Common.{◌⊎◌, arith, min}
+use Rattle.std.specs.Prelude.{IfNone, unwrap_or}
+use Rattle.std.specs.Option.{option_map}
+use Rattle.std.specs.Map.{lookup}
+use Rattle.std.proofs.lemmas.Bool.{cases_eq, cases_lt}
+use Rattle.std.proofs.lemmas.List.{get_or_past}
+use Rattle.std.proofs.lemmas.Option.{none-some, same_Some}
+use Rattle.agg_types.specs.declared.limits.TheConstants.{MOST_CONDS}
+use Rattle.place_index.specs.Places.{item_at, key_at, in_order, AreDistinct}
+use Rattle.place_index.proofs.Ordered.{at_key, found, lookup-held, lookup-in_order, same_if_at}
+use Rattle.place_index.proofs.Ordered.{value_of_item}
+use Rattle.place_plans.specs.Plans.{plan_at}
+use Rattle.standing_filters.specs.Placed.{AreAlike, AreAlikeBut, VerdictPlaces, change_in}
+use Rattle.standing_filters.specs.Placed.{earlier_of, verdict_in}
+use Rattle.standing_filters.specs.Plans.{ArePlanned, IsFirstOf, IsPlanned, IsWatch, IsWatchBut}
+use Rattle.standing_filters.specs.Plans.{Planning, Watching}
+use Rattle.standing_filters.specs.Turns.{has_come, is_due}
 use Rattle.standing_filters.specs.Verdicts.{out}
-use Rattle.standing_filters.specs.Watched.{verdict_at}
+use Rattle.standing_filters.specs.Watched.{IsFirstChange, verdict_at}
 use Rattle.standing_filters.specs.declared.judging.Verdict.{Verdict}
-use Rattle.expiry_wheel.proofs.Members.{equal_from}
-use Rattle.standing_filters.proofs.Members.{has-with, has-without, out-put}
 
-abbrev KeyVerdicts : Type 0
-KeyVerdicts = List (List ℕ × Verdict)
+-- ---- what holds of a filter
+pub watch_but : (at : ℕ) (w : Watching) → IsWatch w → IsWatchBut at w
+watch_but at w watch = record {
+  few = watch.few;
+  distinct = watch.distinct;
+  planned = λ known p other. watch.planned known p;
+}
 
-abbrev Index : Type 0
-Index = List (ℕ × List ℕ)
+-- the verdict of what lies in a place
+abbrev pub verdict_of : Option (List ℕ × Verdict) → Verdict
+verdict_of item = unwrap_or (option_map (λ (x : List ℕ × Verdict). x.1) item) out
 
-pub is_that : (moment : Option ℕ) (t : ℕ) → is_moment moment t ≡ true → moment ≡ Some t
-is_that None t is = cc
-is_that (Some m) t is = ap Some (sym (eqb-true t m is))
+-- the change of what lies in a place
+abbrev pub change_of : Option (List ℕ × Verdict) → Option ℕ
+change_of item = (unwrap_or (option_map (λ (x : List ℕ × Verdict). x.1) item) out).next
 
--- ---- one entry comes or goes
+-- the key of what lies in a place
+abbrev key_of : Option (List ℕ × Verdict) → Option (List ℕ)
+key_of item = option_map (λ (x : List ℕ × Verdict). x.0) item
 
-put_tells : (s p b h : Bool) → (p ≡ true → b ≡ false) → ((p && s) || h) ≡ (h || (s && (p && not b)))
-put_tells true true b true apart = refl
-put_tells true true b false apart = rw (apart refl) refl
-put_tells true false b true apart = refl
-put_tells true false b false apart = refl
-put_tells false true b true apart = refl
-put_tells false true b false apart = refl
-put_tells false false b true apart = refl
-put_tells false false b false apart = refl
+pub watch_again : (at : ℕ) (old new : Watching) → IsWatchBut at old → new.filter ≡ old.filter
+    → AreDistinct new.places → AreAlikeBut at old.places new.places
+    → (new.plans.lost ≡ false → IsPlanned at (change_in new.places at) old.plans new.plans)
+    → IsWatch new
+watch_again at old new watch same distinct others planned = record {
+  few = subst (λ f. length f.conds ≤ MOST_CONDS) (sym same) watch.few;
+  distinct = distinct;
+  planned = λ known p. let told = planned known in elim (cases_eq p at) [
+    | inl here ↦ ap (λ q. plan_at new.plans.moments q) here ∙ told.here
+        ∙ ap (λ q. change_in new.places q) (sym here)
+    | inr other ↦ told.others p other ∙ watch.planned told.known p other
+        ∙ ap change_of (sym (others p other))
+  ];
+}
 
-cut_tells : (s p b h : Bool) → (p ≡ true → b ≡ false)
-    → (h && not (p && s)) ≡ (h && not (s && (p && not b)))
-cut_tells true true b h apart = rw (apart refl) refl
-cut_tells true false b h apart = refl
-cut_tells false true b h apart = refl
-cut_tells false false b h apart = refl
+pub watch_planned : (old new : Watching) → IsWatch old → new.filter ≡ old.filter
+    → new.places ≡ old.places → ArePlanned new.places new.plans → IsWatch new
+watch_planned old new watch same places planned = record {
+  few = subst (λ f. length f.conds ≤ MOST_CONDS) (sym same) watch.few;
+  distinct = subst (λ (l : VerdictPlaces). AreDistinct l) (sym places) watch.distinct;
+  planned = planned;
+}
 
-not_that : (other : Option ℕ) (at t : ℕ) → other ≢ Some at → (t == at) ≡ true
-    → is_moment other t ≡ false
-not_that other at t differ is = by (is_moment other t) refl
+pub watch_alike : (old new : Watching) → IsWatch old → new.filter ≡ old.filter
+    → AreAlike old.places new.places → new.plans ≡ old.plans → IsWatch new
+watch_alike old new watch same alike plans = record {
+  few = subst (λ f. length f.conds ≤ MOST_CONDS) (sym same) watch.few;
+  distinct = λ p q key one other. watch.distinct p q key (ap key_of (sym (alike p)) ∙ one)
+      (ap key_of (sym (alike q)) ∙ other);
+  planned = subst (λ (plans : Planning). ArePlanned new.places plans) (sym plans)
+      (λ known p. watch.planned known p ∙ sym (ap change_of (alike p)));
+}
+
+-- ---- keys and their places
+place_found : (places : VerdictPlaces) (key : List ℕ) (v : Verdict) → found places key ≡ Some v
+    → (p : ℕ) × (item_at places p ≡ Some (key, v))
+place_found [] key v is = cc
+place_found (None ∷ places) key v is =
+    let rest = place_found places key v is in (suc rest.0, rest.1)
+place_found (Some x ∷ places) key v is =
+    by (at_key x.0 key) refl is (place_found places key v)
   where
-    by : (b : Bool) → is_moment other t ≡ b → b ≡ false
-    by true same = absurd (differ (is_that other t same ∙ ap Some (eqb-true t at is)))
-    by false same = refl
+    by : (b : Bool) → at_key x.0 key ≡ b → cond b (Some x.1) (found places key) ≡ Some v
+        → (found places key ≡ Some v → (p : ℕ) × (item_at places p ≡ Some (key, v)))
+        → (p : ℕ) × (item_at (Some x ∷ places) p ≡ Some (key, v))
+    by true same is more =
+        let k = same_if_at x.0 key same in
+        let value = same_Some x.1 v is in
+        (zero, λ i. Some (k i, value i))
+    by false apart is more = let rest = more is in (suc rest.0, rest.1)
 
-pub planned_is : (due : Index) (key : List ℕ) (before : Option ℕ) (at : ℕ) → before ≢ Some at
-    → IsPlanned key before (Some at) due (with_entry (slice_cmp nat_cmp) due (at, key))
-planned_is due key before at differ e =
-    has-with due e at key ∙ put_tells (is_at (slice_cmp nat_cmp key) e.1) (e.0 == at)
-    (is_moment before e.0) (has_plan due e) (not_that before at e.0 differ)
-
-pub unplanned_is : (due : Index) (key : List ℕ) (at : ℕ) (stays : Option ℕ)
-    → IsInOrder (slice_cmp nat_cmp) due → stays ≢ Some at
-    → IsUnplanned key (Some at) stays due (without_entry (slice_cmp nat_cmp) due (at, key))
-unplanned_is due key at stays ordered differ e =
-    has-without due e at key ordered ∙ cut_tells (is_at (slice_cmp nat_cmp key) e.1) (e.0 == at)
-    (is_moment stays e.0) (has_plan due e) (not_that stays at e.0 differ)
-
--- ---- a verdict becomes another
-
-pub same_key : (key q : List ℕ) → is_at (slice_cmp nat_cmp key) q ≡ true → key ≡ q
-same_key key q same = exact_bytes key q (equal_from _ same)
-
-change_at : (kept : KeyVerdicts) (key : List ℕ) → (verdict_at kept key).next ≡ change_of
-    (kept_at kept key)
-change_at kept key = by (kept_at kept key)
+-- what holds of `out` and of the verdict in the key's place holds of the verdict on it
+pub in_place : (places : VerdictPlaces) (key : List ℕ) (P : Verdict → Type 0) → P out
+    → ((p : ℕ) → key_at places p ≡ Some key → P (verdict_in places p))
+    → P (verdict_at (in_order places) key)
+in_place places key P none each =
+    subst (λ (o : Option Verdict). P (unwrap_or o out)) (sym (lookup-in_order places key))
+    (by (found places key) refl)
   where
-    by : (found : Option Verdict) → (unwrap_or found out).next ≡ change_of found
-    by None = refl
-    by (Some verdict) = refl
+    by : (o : Option Verdict) → found places key ≡ o → P (unwrap_or o out)
+    by None is = none
+    by (Some v) is =
+        let there = place_found places key v is in
+        subst P (ap (λ (i : Option (List ℕ × Verdict)).
+        unwrap_or (option_map (λ (x : List ℕ × Verdict). x.1) i) out) there.1)
+        (each there.0 (ap (option_map (λ (x : List ℕ × Verdict). x.0)) there.1))
 
-change_here : (kept : KeyVerdicts) (key q : List ℕ) → is_at (slice_cmp nat_cmp key) q ≡ true
-    → (verdict_at kept q).next ≡ change_of (kept_at kept key)
-change_here kept key q same = ap (λ k. (verdict_at kept k).next) (sym (same_key key q same))
-    ∙ change_at kept key
+pub verdict_here : (places : VerdictPlaces) (p : ℕ) (key : List ℕ) → AreDistinct places
+    → key_at places p ≡ Some key → verdict_at (in_order places) key ≡ verdict_in places p
+verdict_here places p key distinct own =
+    let value = value_of_item (item_at places p) key own in
+    ap (λ o. unwrap_or o out) (lookup-held places p key value.0 distinct own value.1)
+    ∙ ap (λ o. unwrap_or o out) (sym value.1)
 
-turned : (s x y h : Bool) → (s ≡ true → h ≡ y)
-    → ((h || (s && (x && not y))) && not (s && (y && not x))) ≡ cond s x h
-turned true x y h is = rw (is refl) (by x y)
+-- a place whose verdict changes has a key
+pub key_in : (places : VerdictPlaces) (p u : ℕ) → change_in places p ≡ Some u
+    → (key : List ℕ) × (key_at places p ≡ Some key)
+key_in places p u is = by (item_at places p) is
   where
-    by : (x y : Bool) → ((y || (x && not y)) && not (y && not x)) ≡ x
-    by true true = refl
-    by true false = refl
-    by false true = refl
-    by false false = refl
-turned false x y h is = by h
+    by : (i : Option (List ℕ × Verdict)) → change_of i ≡ Some u
+        → (key : List ℕ) × (option_map (λ (x : List ℕ × Verdict). x.0) i ≡ Some key)
+    by None is = absurd (none-some u is)
+    by (Some x) is = (x.0, refl)
+
+-- where no verdict in a place changes up to t, no verdict on a key does
+pub quiet_places : (t : ℕ) (places : VerdictPlaces)
+    → ((p : ℕ) → is_due t (verdict_in places p) ≡ false)
+    → (key : List ℕ) → is_due t (verdict_at (in_order places) key) ≡ false
+quiet_places t places none key =
+    in_place places key (λ v. is_due t v ≡ false) refl (λ p own. none p)
+
+-- ---- the first change
+never : (o : Option ℕ) → ((u : ℕ) → o ≡ Some u → ⊥) → o ≡ None
+never None h = refl
+never (Some u) h = absurd (h u refl)
+
+pub first_is : (places : VerdictPlaces) (first : Option ℕ) → AreDistinct places
+    → IsFirstOf (change_in places) first → IsFirstChange (in_order places) first
+first_is places None distinct none = λ key.
+    in_place places key (λ v. v.next ≡ None) refl (λ p own. none p)
+first_is places (Some t) distinct first =
+    let own = key_in places first.0.0 t first.0.1 in (
+      (
+        own.0,
+        ap (λ (v : Verdict). v.next) (verdict_here places first.0.0 own.0 distinct own.1)
+            ∙ first.0.1,
+      ),
+      λ key u. in_place places key (λ v. v.next ≡ Some u → t ≤ u)
+          (λ is. absurd (none-some u is)) (λ p own is. first.1 p u is),
+    )
+
+-- the first of other moments that are the same
+pub first_same : (one other : ℕ → Option ℕ) (first : Option ℕ) → ((p : ℕ) → one p ≡ other p)
+    → IsFirstOf one first → IsFirstOf other first
+first_same one other None same none = λ p. sym (same p) ∙ none p
+first_same one other (Some t) same first = (
+  (first.0.0, sym (same first.0.0) ∙ first.0.1),
+  λ p u is. first.1 p u (same p ∙ is),
+)
+
+-- ---- the first of moments, one by one
+
+-- the least of the moments of the places below a number, or none where none has one
+abbrev pub IsFirstBelow : (ℕ → Option ℕ) → ℕ → Option ℕ → Type 0
+IsFirstBelow moment n None = (p : ℕ) → p < n → moment p ≡ None
+IsFirstBelow moment n (Some t) = ((p : ℕ) × (moment p ≡ Some t))
+    × ((p u : ℕ) → p < n → moment p ≡ Some u → t ≤ u)
+
+pub first_none : (moment : ℕ → Option ℕ) → IsFirstBelow moment 0 None
+first_none moment = λ p below. absurd (omega arith)
+
+module _ (moment : ℕ → Option ℕ) (n : ℕ) where
+  -- what holds below a number and there
+  up_to : (P : ℕ → Type 0) → ((p : ℕ) → p < n → P p) → P n → (p : ℕ) → p < n + 1 → P p
+  up_to P all here p below = elim (cases_eq p n) [
+    | inl same ↦ subst P (sym same) here
+    | inr other ↦ all p (omega arith)
+  ]
+
+  pub first_step : (first : Option ℕ) → IsFirstBelow moment n first
+      → IsFirstBelow moment (n + 1) (earlier_of first (moment n))
+  first_step None none = by (moment n) refl
+    where
+      by : (o : Option ℕ) → moment n ≡ o → IsFirstBelow moment (n + 1) (earlier_of None o)
+      by None is = up_to (λ p. moment p ≡ None) none is
+      by (Some t) is = (
+        (n, is),
+        λ p u below. up_to (λ q. moment q ≡ Some u → t ≤ u)
+            (λ q under held. absurd (none-some u (sym (none q under) ∙ held)))
+            (λ held. let same : t ≡ u = same_Some t u (sym is ∙ held) in omega arith) p below,
+      )
+  first_step (Some s) least = by (moment n) refl
+    where
+      by : (o : Option ℕ) → moment n ≡ o → IsFirstBelow moment (n + 1) (earlier_of (Some s) o)
+      by None is = (
+        least.0,
+        λ p u below. up_to (λ q. moment q ≡ Some u → s ≤ u) (λ q under held. least.1 q u under held)
+            (λ held. absurd (none-some u (sym is ∙ held))) p below,
+      )
+      by (Some t) is = (
+        which t is (cases_lt t s),
+        λ p u below. up_to (λ q. moment q ≡ Some u → min s t ≤ u)
+            (λ q under held. let most = least.1 q u under held in omega arith)
+            (λ held. let same : t ≡ u = same_Some t u (sym is ∙ held) in omega arith) p below,
+      )
+        where
+          which : (t : ℕ) → moment n ≡ Some t → (t < s) ⊎ (s ≤ t)
+              → (p : ℕ) × (moment p ≡ Some (min s t))
+          which t is (inl before) =
+              let one : t ≡ min s t = omega arith in (n, is ∙ ap Some one)
+          which t is (inr since) =
+              let one : s ≡ min s t = omega arith in (least.0.0, least.0.1 ∙ ap Some one)
+
+  pub first_all : (first : Option ℕ) → IsFirstBelow moment n first
+      → ((p : ℕ) → n ≤ p → moment p ≡ None) → IsFirstOf moment first
+  first_all None none past = λ p. elim (cases_lt p n) [
+    | inl below ↦ none p below
+    | inr behind ↦ past p behind
+  ]
+  first_all (Some t) least past = (
+    least.0,
+    λ p u held. elim (cases_lt p n) [
+      | inl below ↦ least.1 p u below held
+      | inr behind ↦ absurd (none-some u (sym (past p behind) ∙ held))
+    ],
+  )
+
+-- there is nothing behind the last place
+pub no_change : (places : VerdictPlaces) (p : ℕ) → length places ≤ p → change_in places p ≡ None
+no_change places p past = ap change_of (get_or_past places p None past)
+
+-- where no plan has come, no verdict changes
+pub none_come : (t : ℕ) (taken : Option ℕ) (w inside : Watching) (new : Planning) → IsWatch w
+    → inside ≡ w → IfNone taken (new ≡ inside.plans)
+    → IfNone taken (inside.plans.lost ≡ false
+    → (p : ℕ) → has_come t (plan_at inside.plans.moments p) ≡ false)
+    → IfNone taken (new.lost ≡ false → (p : ℕ) → is_due t (verdict_in inside.places p) ≡ false)
+none_come t (Some at) w inside new watch view same none = tt
+none_come t None w inside new watch view same none = λ known p.
+    let lost : inside.plans.lost ≡ false = ap (λ (p : Planning). p.lost) (sym same) ∙ known in
+    let its : IsWatch inside = subst IsWatch (sym view) watch in
+    ap (has_come t) (sym (its.planned lost p)) ∙ none lost p
+
+-- all places below a number have their plans, and those behind have no verdict
+pub watch_all : (old new : Watching) (n : ℕ) → IsWatch old → new.filter ≡ old.filter
+    → new.places ≡ old.places → length old.places ≤ n
+    → (new.plans.lost ≡ false → (p : ℕ) → p < n
+    → plan_at new.plans.moments p ≡ change_in old.places p)
+    → (new.plans.lost ≡ false → (p : ℕ) → n ≤ p → plan_at new.plans.moments p ≡ None)
+    → IsWatch new
+watch_all old new n watch same places within planned others =
+    watch_planned old new watch same places (λ known p. each known p (cases_lt p n)
+    ∙ ap (λ (l : VerdictPlaces). change_in l p) (sym places))
   where
-    by : (h : Bool) → ((h || false) && true) ≡ h
-    by true = refl
-    by false = refl
-
-become : (key : List ℕ) (verdict : Verdict) (kept new : KeyVerdicts) → Becomes key verdict kept new
-    → (e : ℕ × List ℕ) → is_moment (verdict_at new e.1).next e.0
-    ≡ cond (is_at (slice_cmp nat_cmp key) e.1) (is_moment verdict.next e.0)
-    (is_moment (verdict_at kept e.1).next e.0)
-become key verdict kept new becomes e = ap (λ v. is_moment v.next e.0) (becomes e.1)
-    ∙ by (is_at (slice_cmp nat_cmp key) e.1)
-  where
-    by : (b : Bool) → is_moment (cond b verdict (verdict_at kept e.1)).next e.0
-        ≡ cond b (is_moment verdict.next e.0) (is_moment (verdict_at kept e.1).next e.0)
-    by true = refl
-    by false = refl
-
-pub committed : (due planned after : Index) (kept new : KeyVerdicts) (key : List ℕ)
-    (verdict : Verdict) (old : Option ℕ) → IsPlanOf kept due → old ≡ change_of (kept_at kept key)
-    → IsPlanned key old verdict.next due planned → IsUnplanned key old verdict.next planned after
-    → Becomes key verdict kept new → IsPlanOf new after
-committed due planned after kept new key verdict old exact is plan unplan becomes e =
-    let s = is_at (slice_cmp nat_cmp key) e.1 in
-    let x = is_moment verdict.next e.0 in
-    let y = is_moment old e.0 in
-    let h = is_moment (verdict_at kept e.1).next e.0 in
-    unplan e
-    ∙ ap (λ b. b && not (s && (y && not x))) (plan e)
-    ∙ ap (λ b. (b || (s && (x && not y))) && not (s && (y && not x))) (exact e)
-    ∙ turned s x y h (λ here. ap (λ m. is_moment m e.0) (change_here kept key e.1 here ∙ sym is))
-    ∙ sym (become key verdict kept new becomes e)
-
--- a verdict on a key that had none: nothing is cancelled
-pub entered : (due after : Index) (kept new : KeyVerdicts) (key : List ℕ) (verdict : Verdict)
-    → IsPlanOf kept due → kept_at kept key ≡ None → IsPlanned key None verdict.next due after
-    → Becomes key verdict kept new → IsPlanOf new after
-entered due after kept new key verdict exact none plan becomes =
-    committed due after after kept new key verdict None exact (sym (ap change_of none)) plan
-    (λ e. never (has_plan after e) (is_at (slice_cmp nat_cmp key) e.1)) becomes
-  where
-    never : (h s : Bool) → h ≡ (h && not (s && false))
-    never true true = refl
-    never true false = refl
-    never false s = refl
-
-cut : (s y h : Bool) → (s ≡ true → h ≡ y) → (h && not (s && (y && not false))) ≡ cond s false h
-cut true y h is = rw (is refl) (by y)
-  where
-    by : (y : Bool) → (y && not (y && true)) ≡ false
-    by true = refl
-    by false = refl
-cut false y h is = by h
-  where
-    by : (h : Bool) → (h && true) ≡ h
-    by true = refl
-    by false = refl
-
-pub forgotten : (due after : Index) (kept new : KeyVerdicts) (key : List ℕ) → IsPlanOf kept due
-    → IsUnplanned key (change_of (kept_at kept key)) None due after → Becomes key out kept new
-    → IsPlanOf new after
-forgotten due after kept new key exact unplan becomes e =
-    let s = is_at (slice_cmp nat_cmp key) e.1 in
-    let y = is_moment (change_of (kept_at kept key)) e.0 in
-    let h = is_moment (verdict_at kept e.1).next e.0 in
-    unplan e
-    ∙ ap (λ b. b && not (s && (y && not false))) (exact e)
-    ∙ cut s y h (λ here. ap (λ m. is_moment m e.0) (change_here kept key e.1 here))
-    ∙ sym (become key out kept new becomes e)
-
-back : (s x y h : Bool) → (s ≡ true → h ≡ y)
-    → ((h || (s && (x && not y))) && not (s && (x && not y))) ≡ h
-back true x y h is = rw (is refl) (by x y)
-  where
-    by : (x y : Bool) → ((y || (x && not y)) && not (x && not y)) ≡ y
-    by true true = refl
-    by true false = refl
-    by false true = refl
-    by false false = refl
-back false x y h is = by h
-  where
-    by : (h : Bool) → ((h || false) && true) ≡ h
-    by true = refl
-    by false = refl
-
-pub backed_out : (due planned after : Index) (kept : KeyVerdicts) (key : List ℕ) (verdict : Verdict)
-    (old : Option ℕ) → IsPlanOf kept due → old ≡ change_of (kept_at kept key)
-    → IsPlanned key old verdict.next due planned → IsUnplanned key verdict.next old planned after
-    → IsPlanOf kept after
-backed_out due planned after kept key verdict old exact is plan unplan e =
-    let s = is_at (slice_cmp nat_cmp key) e.1 in
-    let x = is_moment verdict.next e.0 in
-    let y = is_moment old e.0 in
-    let h = is_moment (verdict_at kept e.1).next e.0 in
-    unplan e
-    ∙ ap (λ b. b && not (s && (x && not y))) (plan e)
-    ∙ ap (λ b. (b || (s && (x && not y))) && not (s && (x && not y))) (exact e)
-    ∙ back s x y h (λ here. ap (λ m. is_moment m e.0) (change_here kept key e.1 here ∙ sym is))
-
--- ---- room for a verdict
-
--- a key on which no verdict is kept is out already
-pub becomes_none : (kept : KeyVerdicts) (key : List ℕ) → kept_at kept key ≡ None
-    → Becomes key out kept kept
-becomes_none kept key none = λ q. by q (is_at (slice_cmp nat_cmp key) q) refl
-  where
-    by : (q : List ℕ) (b : Bool) → is_at (slice_cmp nat_cmp key) q ≡ b
-        → verdict_at kept q ≡ cond b out (verdict_at kept q)
-    by q true same = ap (λ k. verdict_at kept k) (sym (same_key key q same))
-        ∙ ap (λ found. unwrap_or found out) none
-    by q false other = refl
-
-pub room_same : (kept new : KeyVerdicts) (key : List ℕ) → kept_at kept key ≡ None
-    → Becomes key out kept new → (q : List ℕ) → verdict_at new q ≡ verdict_at kept q
-room_same kept new key none becomes q = becomes q ∙ sym (becomes_none kept key none q)
-
-pub none_there : (found : Option Verdict) → is_some found ≡ false → found ≡ None
-none_there None h = refl
-none_there (Some v) h = cc
-
--- the room is given back
-pub room_back : (kept : KeyVerdicts) (key : List ℕ) → kept_at kept key ≡ None
-    → without_key key (with_room key kept) ≡ kept
-room_back kept key none =
-    ap (λ found. without_key key (cond (is_some found) kept
-    (insert_entry (slice_cmp nat_cmp) kept key out))) none
-    ∙ out-put nat_list_cmp_total key out kept none
-
-pub room_restored : (kept : KeyVerdicts) (key : List ℕ) (found : Option Verdict) → found
-    ≡ kept_at kept key
-    → cond (is_some found) (with_room key kept) (without_key key (with_room key kept)) ≡ kept
-room_restored kept key None is = room_back kept key (sym is)
-room_restored kept key (Some v) is =
-    ap (λ found. cond (is_some found) kept (insert_entry (slice_cmp nat_cmp) kept key out)) (sym is)
-
--- two moments that a test tells apart
-pub told_apart : (one : Option ℕ) (at : ℕ) → false ≡ option_eq eqb one (Some at) → one ≢ Some at
-told_apart one at told same = false≢true (told ∙ ap (λ o. option_eq eqb o (Some at)) same
-    ∙ eq-eqb at at refl)
-
-pub told_apart_by : (other : Option ℕ) (at : ℕ) → false ≡ option_eq eqb (Some at) other
-    → other ≢ Some at
-told_apart_by other at told same = false≢true (told ∙ ap (λ o. option_eq eqb (Some at) o) same
-    ∙ eq-eqb at at refl)
+    each : new.plans.lost ≡ false → (p : ℕ) → (p < n) ⊎ (n ≤ p)
+        → plan_at new.plans.moments p ≡ change_in old.places p
+    each known p (inl below) = planned known p below
+    each known p (inr past) = others known p past ∙ sym (no_change old.places p (omega arith))

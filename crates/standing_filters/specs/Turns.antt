@@ -1,16 +1,13 @@
--- What standing filters are as the clock goes on, and what is planned on the way.
-use Rattle.std.specs.Prelude.{◌≡◌, ℕ, ◌+◌, ◌*◌, ◌≤◌, Bool, true, false, ◌&&◌, ◌||◌, nat_le}
-use Rattle.std.specs.Prelude.{if◌then◌else◌, List, [], ◌∷◌, Option, None, Some, length}
-use Rattle.std.specs.Prelude.{map, sum_by}
+-- What standing filters are as the clock goes on.
+use Rattle.std.specs.Prelude.{◌≡◌, ℕ, ◌+◌, ◌*◌, ◌≤◌, Bool, true, false, nat_le, List, Option}
+use Rattle.std.specs.Prelude.{None, Some, length, sum_by}
 use Rattle.std.specs.BTreeMap.{is_at}
 use Rattle.std.specs.Cmp.Lexicographic.{slice_cmp}
-use Rattle.std.specs.List.{AllByRecursion, AllZip, IsDistinct, list_any}
+use Rattle.std.specs.List.{AllByRecursion, AllZip, IsDistinct}
 use Rattle.std.specs.Ordering.{nat_cmp}
 use Rattle.agg_types.specs.declared.column.Col.{Col}
-use Rattle.standing_filters.specs.Plans.{has_plan, is_moment}
 use Rattle.standing_filters.specs.Verdicts.{IsVerdict}
 use Rattle.standing_filters.specs.Watched.{Watched, verdict_at}
-use Rattle.standing_filters.specs.declared.coming.Judged.{Judged}
 use Rattle.standing_filters.specs.declared.judging.Verdict.{Verdict}
 
 abbrev pub same_key : List ℕ → List ℕ → Bool
@@ -60,41 +57,3 @@ pub record AreReadFor (t : ℕ) (filters : List Watched) (before after : ℕ) : 
   pub keys : List (List (List ℕ))
   pub due : AllZip (λ w ks. AreDue t w ks) filters keys
   pub few : after ≤ before + 505 * sum_by (λ ks. length ks) keys
-
--- ---- keys that were judged
-
--- a judged key at the moment at which its verdict was to change
-abbrev pub planned_at : Judged → ℕ × List ℕ
-planned_at judged = (judged.at, judged.key)
-
-abbrev pub keys_judged : List Judged → List (List ℕ)
-keys_judged judged = map (λ j. j.key) judged
-
--- the kept verdict on each of them changes at that moment
-abbrev pub ArePlans : List (List ℕ × Verdict) → List Judged → Type 0
-ArePlans kept judged = AllByRecursion (λ j. (verdict_at kept j.key).next ≡ Some j.at) judged
-
--- Keys that were judged at t, each once: those whose verdict was to change up to then.
-pub record AreJudged (summed : ℕ → List ℕ → Col → ℕ → ℕ) (living : ℕ → List ℕ → ℕ → ℕ) (t : ℕ)
-    (w : Watched) (judged : List Judged) : Type 0 where
-  pub verdicts : AllByRecursion (λ j. IsVerdict summed living w.filter t j.key j.verdict) judged
-  pub come : AllByRecursion (λ j. j.at ≤ t) judged
-  pub plans : ArePlans w.kept judged
-  pub apart : IsDistinct same_key (keys_judged judged)
-  pub complete : (key : List ℕ) → is_due t (verdict_at w.kept key) ≡ true
-      → list_any (same_key key) (keys_judged judged) ≡ true
-
--- the verdict on a key once those of judged keys are kept
-abbrev pub verdict_after : List Judged → List (List ℕ × Verdict) → List ℕ → Verdict
-verdict_after [] kept key = verdict_at kept key
-verdict_after (j ∷ judged) kept key =
-    if same_key j.key key then j.verdict else verdict_after judged kept key
-
--- whether an entry is a judged key at the moment at which its verdict changes next
-abbrev pub is_next_of : List Judged → ℕ × List ℕ → Bool
-is_next_of judged e = list_any (λ j. same_key j.key e.1 && is_moment j.verdict.next e.0) judged
-
--- an index has each key at its change, and judged keys at their next ones too
-abbrev pub IsAhead : List (List ℕ × Verdict) → List Judged → List (ℕ × List ℕ) → Type 0
-IsAhead kept judged due = (e : ℕ × List ℕ) → has_plan due e
-    ≡ (is_moment (verdict_at kept e.1).next e.0 || is_next_of judged e)

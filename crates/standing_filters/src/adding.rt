@@ -45,7 +45,7 @@ impl Adding {
         ensures { IfOk result (λ adding. adding ≡ unheld filter.now) }
     {
         Ok(Adding {
-            watch: Watch::new(alloc, filter.duplicate(alloc)?)?,
+            watch: Watch::new(alloc, filter.duplicate(alloc)?),
         })
     }
 

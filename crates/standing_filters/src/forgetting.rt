@@ -3,7 +3,7 @@
 ghost use Rattle.std.specs.Prelude.{◌≡◌, ◌+◌, ◌<◌, ◌^◌, ℕ, List, true, false, length, map};
 ghost use Rattle.std.specs.Prelude.{if◌then◌else◌};
 ghost use Rattle.standing_filters.specs.Flips.{TellsAt, TellsFrom, holding};
-ghost use Rattle.standing_filters.specs.Plans.{AreWatches, IsWatch, view_of_watch};
+ghost use Rattle.standing_filters.specs.Plans.{AreWatches, IsWatch, kept_by, view_of_watch};
 ghost use Rattle.standing_filters.specs.Verdicts.{out};
 ghost use Rattle.standing_filters.specs.Watched.{AreForgotten, is_among, verdict_at};
 
@@ -44,11 +44,11 @@ fn forget_keys(watch: &mut Watch, at: usize, keys: &[Key], flips: &mut Flips)
     requires watch { IsWatch watch.old }
     ensures stay { IsWatch watch.new }
     ensures filter { watch.new.filter ≡ watch.old.filter }
-    ensures kept { (key : List ℕ) → verdict_at watch.new.kept key
-        ≡ (if is_among keys.now key then out else verdict_at watch.old.kept key) }
+    ensures kept { (key : List ℕ) → verdict_at (kept_by watch.new) key
+        ≡ (if is_among keys.now key then out else verdict_at (kept_by watch.old) key) }
     ensures flips { flips.new.lost ≡ false → TellsAt at
-        (λ key. (verdict_at watch.old.kept key).holds)
-        (λ key. (verdict_at watch.new.kept key).holds) flips.old flips.new }
+        (λ key. (verdict_at (kept_by watch.old) key).holds)
+        (λ key. (verdict_at (kept_by watch.new) key).holds) flips.old flips.new }
 {
     for key in keys {
         let held = watch.forget(key);

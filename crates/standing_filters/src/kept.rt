@@ -1,23 +1,23 @@
 //! The verdicts on the keys of one filter, each found by its key's hash.
 
-ghost use Rattle.std.specs.Prelude.{ℕ, List, ◌≡◌, []};
-ghost use Rattle.std.specs.Prelude.{is_some, IfNone, IfOk, IfSome, IsSome, MatchBool, None, Some};
-ghost use Rattle.std.specs.Prelude.{OnErr, OnOk};
-ghost use Rattle.std.specs.BTreeMap.{insert_entry};
+ghost use Rattle.std.specs.Prelude.{ℕ, List, ◌≡◌, [], length, slice_set};
+ghost use Rattle.std.specs.Prelude.{IfOk, IfSome, None, OnErr, OnOk, Some};
 ghost use Rattle.std.specs.Cmp.Lexicographic.{slice_cmp};
 ghost use Rattle.std.specs.List.Sorted.{IsStrictlySortedBy};
 ghost use Rattle.std.specs.Map.{keys_of};
+ghost use Rattle.std.specs.Option.{option_copied, option_map};
 ghost use Rattle.std.specs.Ordering.{nat_cmp};
-ghost use Rattle.place_index.specs.Places.{key_at, value_at, IsAbsent};
-ghost use Rattle.standing_filters.specs.Plans.{Becomes, IsPlanOf, kept_at, without_key};
+ghost use Rattle.place_index.specs.Places.{item_at, key_at, value_at, in_order, revalued};
+ghost use Rattle.place_index.specs.Places.{AreDistinct};
+ghost use Rattle.standing_filters.specs.Placed.{AreAlike, AreAlikeBut, change_in, earlier_of};
+ghost use Rattle.standing_filters.specs.Plans.{Becomes, IsFirstOf, changes_of, kept_at};
 ghost use Rattle.standing_filters.specs.Verdicts.{out};
 ghost use Rattle.standing_filters.specs.Watched.{keys_held};
 
 use crate::judging::Verdict;
 use crate::keys::Keys;
-use crate::plans::move_plan;
+use crate::planned::{Planned, change_at};
 use agg_types::{Key, NoMemory};
-use expiry_wheel::Wheel;
 use place_index::{PlaceIndex, PlaceValue};
 use std::alloc::Global;
 use std::collections::BTreeMap;
@@ -28,7 +28,7 @@ use std::marker::Model;
 /// A verdict lies in a place that its key's hash leads to, and another takes its place there. Only
 /// where a key comes or goes is the order of the keys searched too.
 ///
-/// Contracts see the list of the keys in order, each with its verdict.
+/// Contracts see the list of the places.
 #[derive(Drop)]
 pub(crate) struct KeptVerdicts {
     verdicts: PlaceIndex<Key, Verdict>,
@@ -38,13 +38,11 @@ pub(crate) struct KeptVerdicts {
 }
 
 impl Model for KeptVerdicts {
-    ghost use Rattle.std.specs.Prelude.{List, ℕ};
-    ghost use Rattle.standing_filters.specs.Placed.{ArePlaced, verdicts_in};
-    ghost use Rattle.standing_filters.specs.declared.judging.Verdict.{Verdict};
+    ghost use Rattle.standing_filters.specs.Placed.{ArePlaced, VerdictPlaces};
 
-    ghost Value = { List (List ℕ × Verdict) };
+    ghost Value = { VerdictPlaces };
 
-    ghost view = { λ k. verdicts_in k.verdicts.places k.order.entries };
+    ghost view = { λ k. k.verdicts.places };
 
     ghost invariant = { λ k. ArePlaced k.verdicts.places k.order.entries };
 }
@@ -63,28 +61,82 @@ impl KeptVerdicts {
 
     /// The keys that are held, in order.
     pub(crate) fn keys(&self) -> Keys<'_>
-        ensures held { result ≡ keys_held self.now }
-        ensures ordered { IsStrictlySortedBy (slice_cmp nat_cmp) (keys_of self.now) }
+        ensures held { result ≡ keys_held (in_order self.now) }
+        ensures ordered { IsStrictlySortedBy (slice_cmp nat_cmp) (keys_of (in_order self.now)) }
     {
         Keys::new(self.order.iter(), &self.verdicts)
     }
 
-    /// The verdict on a key.
-    pub(crate) fn get(&self, key: &Key) -> Option<Verdict>
-        ensures { result ≡ kept_at self.now key.now }
+    /// The keys whose verdicts change, in order, each with the moment.
+    pub(crate) fn planned(&self) -> Planned<'_>
+        ensures all { result ≡ changes_of (in_order self.now) }
+        ensures ordered { IsStrictlySortedBy (slice_cmp nat_cmp) (keys_of (in_order self.now)) }
     {
-        let (_, verdict) = find(&self.verdicts, key)?;
-        Some(verdict)
+        Planned::new(self.order.iter(), &self.verdicts)
     }
 
-    /// Puts a verdict in on a key that has none. After `NoMemory` nothing has changed.
-    pub(crate) fn insert(&mut self, key: &Key, verdict: Verdict) -> Result<(), NoMemory>
-        requires { kept_at self.old key.now ≡ None }
-        ensures ok { OnOk result
-            (self.new ≡ insert_entry (slice_cmp nat_cmp) self.old key.now verdict) }
-        ensures there { OnOk result (kept_at self.new key.now ≡ Some verdict) }
-        ensures becomes { OnOk result (Becomes key.now verdict self.old self.new) }
-        ensures err { OnErr result (self.new ≡ self.old) }
+    /// How many places there are, empty ones among them.
+    pub(crate) fn places(&self) -> usize
+        ensures { result ≡ length self.now }
+    {
+        self.verdicts.places()
+    }
+
+    /// The key in a place.
+    pub(crate) fn key(&self, at: usize) -> Option<&Key>
+        ensures { option_copied result ≡ key_at self.now at }
+    {
+        self.verdicts.key(at)
+    }
+
+    /// The verdict in a place.
+    pub(crate) fn verdict(&self, at: usize) -> Option<Verdict>
+        ensures { result ≡ value_at self.now at }
+    {
+        self.verdicts.value(at).copied()
+    }
+
+    /// When the verdict in a place changes.
+    pub(crate) fn change_at(&self, at: usize) -> Option<u64>
+        ensures { result ≡ change_in self.now at }
+    {
+        change_at(&self.verdicts, at)
+    }
+
+    /// The first moment at which a verdict changes, by a walk over all places.
+    pub(crate) fn first_change(&self) -> Option<u64>
+        ensures { IsFirstOf (change_in self.now) result }
+    {
+        let mut first = None;
+        for at in 0..self.places() {
+            first = earlier(first, self.change_at(at));
+        }
+        first
+    }
+
+    /// The place of a key, and the verdict there.
+    pub(crate) fn find(&self, key: &Key) -> Option<(usize, Verdict)>
+        ensures own { IfSome result (λ found. item_at self.now found.0
+            ≡ Some (key.now, found.1)) }
+        ensures kept { option_map (λ found. found.1) result
+            ≡ kept_at (in_order self.now) key.now }
+    {
+        let at = self.verdicts.find(key)?;
+        let verdict = self.verdicts.value(at)?;
+        Some((at, *verdict))
+    }
+
+    /// Puts a verdict in on a key that has none, and answers its place. After `NoMemory` nothing
+    /// has changed.
+    pub(crate) fn insert(&mut self, key: &Key, verdict: Verdict) -> Result<usize, NoMemory>
+        requires { kept_at (in_order self.old) key.now ≡ None }
+        ensures own { IfOk result (λ at. item_at self.new at ≡ Some (key.now, verdict)) }
+        ensures empty { IfOk result (λ at. item_at self.old at ≡ None) }
+        ensures others { IfOk result (λ at. AreAlikeBut at self.old self.new) }
+        ensures distinct { OnOk result (AreDistinct self.new) }
+        ensures becomes { OnOk result
+            (Becomes key.now verdict (in_order self.old) (in_order self.new)) }
+        ensures err { OnErr result (AreAlike self.old self.new) }
     {
         let listed = key.duplicate(self.alloc)?;
         let own = key.duplicate(self.alloc)?;
@@ -93,31 +145,30 @@ impl KeptVerdicts {
             self.verdicts.remove(at);
             return Err(NoMemory);
         }
-        Ok(())
+        Ok(at)
     }
 
-    /// Puts a verdict on a key in the stead of another, which comes back. Changes nothing where
-    /// there is none.
-    pub(crate) fn exchange(&mut self, key: &Key, verdict: Verdict) -> Option<Verdict>
-        ensures value { result ≡ kept_at self.old key.now }
-        ensures becomes { IsSome result → Becomes key.now verdict self.old self.new }
-        ensures none { IfNone result (self.new ≡ self.old) }
+    /// Puts a verdict in the stead of the one in a place, if that isn't empty.
+    pub(crate) fn replace(&mut self, at: usize, verdict: Verdict)
+        ensures after { self.new ≡ revalued self.old at verdict }
+        ensures distinct { AreDistinct self.new }
+        ensures becomes { (key : List ℕ) → key_at self.old at ≡ Some key
+            → Becomes key verdict (in_order self.old) (in_order self.new) }
     {
-        let (at, old) = find(&self.verdicts, key)?;
         self.verdicts.replace(at, verdict);
-        Some(old)
     }
 
-    /// Takes the verdict on a key out.
-    pub(crate) fn remove(&mut self, key: &Key) -> Option<Verdict>
-        ensures value { result ≡ kept_at self.old key.now }
-        ensures after { self.new ≡ without_key key.now self.old }
-        ensures becomes { Becomes key.now out self.old self.new }
+    /// Takes the verdict in a place out.
+    pub(crate) fn remove(&mut self, at: usize)
+        ensures after { self.new ≡ slice_set self.old at None }
+        ensures distinct { AreDistinct self.new }
+        ensures becomes { (key : List ℕ) → key_at self.old at ≡ Some key
+            → Becomes key out (in_order self.old) (in_order self.new) }
     {
-        let (at, verdict) = find(&self.verdicts, key)?;
-        self.order.remove(key);
-        self.verdicts.remove(at);
-        Some(verdict)
+        let Some((key, _verdict)) = self.verdicts.remove(at) else {
+            return;
+        };
+        self.order.remove(&key);
     }
 
     /// Takes all verdicts out. Takes no memory.
@@ -126,45 +177,17 @@ impl KeptVerdicts {
     {
         *self = KeptVerdicts::new(self.alloc);
     }
-
-    /// Puts a verdict on a key in the stead of another, which comes back, and moves its planned
-    /// change. Changes nothing where there is none, nor after `NoMemory`. One search of the keys.
-    pub(crate) fn replace(
-        &mut self,
-        due: &mut Wheel<Key>,
-        key: &Key,
-        verdict: Verdict,
-    ) -> Result<Option<Verdict>, NoMemory>
-        requires { IsPlanOf self.old due.old }
-        ensures found { IfOk result (λ old. old ≡ kept_at self.old key.now) }
-        ensures kept { IfOk result (λ old. MatchBool (is_some old)
-            (Becomes key.now verdict self.old self.new)
-            ((self.new ≡ self.old) × (due.new ≡ due.old))) }
-        ensures planned { OnOk result (IsPlanOf self.new due.new) }
-        ensures kept_err { OnErr result (self.new ≡ self.old) }
-        ensures due_err { OnErr result (due.new ≡ due.old) }
-    {
-        let Some((at, old)) = find(&self.verdicts, key) else {
-            return Ok(None);
-        };
-        if old != verdict {
-            move_plan(self.alloc, due, key, old.next, verdict.next)?;
-            self.verdicts.replace(at, verdict);
-        }
-        Ok(Some(old))
-    }
 }
 
-// The place of a key, and the verdict there.
-fn find(verdicts: &PlaceIndex<Key, Verdict>, key: &Key) -> Option<(usize, Verdict)>
-    ensures own { IfSome result (λ found. key_at verdicts.now.places found.0 ≡ Some key.now) }
-    ensures value { IfSome result (λ found. value_at verdicts.now.places found.0
-        ≡ Some found.1) }
-    ensures none { IfNone result (IsAbsent verdicts.now.places key.now) }
+// The earlier of two moments, where there are any.
+fn earlier(one: Option<u64>, other: Option<u64>) -> Option<u64>
+    ensures { result ≡ earlier_of one other }
 {
-    let at = verdicts.find(key)?;
-    let verdict = verdicts.value(at)?;
-    Some((at, *verdict))
+    match (one, other) {
+        (Some(one), Some(other)) => Some(one.min(other)),
+        (Some(one), None) => Some(one),
+        (None, other) => other,
+    }
 }
 
 // In an empty place the number stands where a verdict's next change does.

@@ -13,10 +13,10 @@
 //! verdicts at its moment and leaves all others. `moment` gives each key whose change has come its
 //! verdict then, however many changes were passed. `add` adds a last filter, which has judged the
 //! keys one by one before (`begin`, `Adding`). Each changes nothing where it runs out of memory;
-//! `remove`, which takes a filter away, needs none. Nor do `forget` and `clear_table`, after which
-//! no filter of a table holds keys that have no row any more; they read no value. `keys` lends the
-//! keys whose verdict is that they are held, `planned` the moments at which verdicts change, each
-//! with its key, and `next_change` is the least of them.
+//! `moment` never does, and `remove`, which takes a filter away, needs none. Nor do `forget` and
+//! `clear_table`, after which no filter of a table holds keys that have no row any more; they read
+//! no value. `keys` lends the keys whose verdict is that they are held, `planned` those whose
+//! verdicts change, each with that moment, and `next_change` is the least of these.
 //!
 //! `Flips` take down which keys come into sets and which leave them, as `touch`, `moment` and
 //! `forget` change verdicts. Of a filter and a key the last flip says whether it is held, and where
@@ -26,20 +26,24 @@
 //! `fails_for_good` says of a condition that the most which values are ever worth settles it, for who
 //! lists keys by conditions too.
 //!
-//! Two things are meant for speed, and no clause says them. A key which can't come into a set again
+//! Three things are meant for speed, and no clause says them. A key which can't come into a set again
 //! is known by one value of each condition, or by none where the values tell the most that a key is
 //! ever worth. Where a filter is the last of its table, a verdict is searched for once. It is found
-//! by its key's hash, so that keys in order are searched only where a verdict comes or goes.
+//! by its key's hash, so that keys in order are searched only where a verdict comes or goes. And
+//! the place in which a verdict lies has its next change planned, without a search and without a
+//! copy of the key. Where memory for a plan is refused all plans of that filter are lost, and no
+//! call fails: the verdicts say themselves when they change, and a walk over them finds it until a
+//! moment at which a change has come plans them anew.
 #![tactic(auto)]
 
 mod adding;
-mod coming;
 mod flips;
 mod forgetting;
 mod judging;
 mod kept;
 mod keys;
 pub mod laws;
+mod planned;
 mod plans;
 mod standing;
 mod touching;
@@ -50,4 +54,5 @@ pub use adding::Adding;
 pub use flips::{Flip, Flips};
 pub use judging::{Verdict, fails_for_good, judge};
 pub use keys::Keys;
+pub use planned::Planned;
 pub use standing::Standing;

@@ -9,7 +9,6 @@ ghost use Rattle.std.specs.Cmp.Lexicographic.{slice_cmp};
 ghost use Rattle.std.specs.Ordering.{nat_cmp};
 ghost use Rattle.agg_types.specs.declared.limits.TheConstants.{MOST_CONDS};
 ghost use Rattle.crossing.specs.First.{IsFlatSoon};
-ghost use Rattle.expiry_wheel.specs.Entries.{IsInOrder};
 ghost use Rattle.standing_filters.specs.Flips.{TellsIfKnown, holding};
 ghost use Rattle.standing_filters.specs.Plans.{IsPlanOf};
 ghost use Rattle.standing_filters.specs.Turns.{AreReadFor, AreTurned, IsQuiet};
@@ -21,12 +20,12 @@ use crate::adding::Adding;
 use crate::flips::Flips;
 use crate::forgetting::{clear_each, forget_each};
 use crate::keys::Keys;
+use crate::planned::Planned;
 use crate::touching::touch_each;
 use crate::turning::turn_each;
 use crate::watch::Watch;
 use agg_types::{Config, Filter, Key, NoMemory};
 use crossing::{Meter, Values};
-use expiry_wheel::{Entries, Wheel};
 use std::alloc::Global;
 use std::marker::Model;
 
@@ -129,7 +128,8 @@ impl Standing {
         ensures flips { OnOk result (TellsIfKnown (holding self.old.filters)
             (holding self.new.filters) flips.old flips.new) }
     {
-        turn_each(self.watches.as_mut_slice(), 0, values, t, meter, flips)
+        turn_each(self.watches.as_mut_slice(), 0, values, t, meter, flips);
+        Ok(())
     }
 
     /// Keys of a table have no row any more: no filter of the table holds one of them, nor will by
@@ -201,11 +201,11 @@ impl Standing {
     }
 
     /// The planned changes of a filter: when, in ms, if only the clock goes on, it comes to hold a
-    /// key or no longer holds one, by moment, then by key.
-    pub fn planned(&self, filter: usize) -> Entries<'_, Key, Wheel<Key>>
+    /// key or no longer holds one, in the order of the keys.
+    pub fn planned(&self, filter: usize) -> Planned<'_>
         requires { filter < length self.now.filters }
         ensures exact { IsPlanOf (verdicts_of self.now filter) result }
-        ensures ordered { IsInOrder (slice_cmp nat_cmp) result }
+        ensures ordered { IsStrictlySortedBy (slice_cmp nat_cmp) (map (λ e. e.1) result) }
     {
         self.watches[filter].planned()
     }

@@ -58,13 +58,13 @@ pub(crate) fn touch_each<V: Values>(
         flips.note(at, key, held, verdict.holds);
         return Ok(());
     }
-    let old = first.prepare(key, verdict)?;
+    let room = first.prepare(key)?;
     if let Err(refused) = touch_each(rest, at + 1, table, key, values, now, meter, flips) {
-        first.back_out(key, old, verdict);
+        first.back_out(room);
         return Err(refused);
     }
-    first.commit(key, old, verdict);
-    flips.note(at, key, held_by(old), verdict.holds);
+    first.commit(room, verdict);
+    flips.note(at, key, held_by(room.old), verdict.holds);
     Ok(())
 }
 

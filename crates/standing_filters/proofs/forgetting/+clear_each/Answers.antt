@@ -1,7 +1,9 @@
 use Rattle.std.proofs.Common.{List, ◌∷◌, true, map, sym, ap, ◌∙◌, subst}
-use Rattle.standing_filters.specs.Plans.{AreWatches, Watching, view_of_watch}
+use Rattle.place_index.specs.Places.{in_order}
+use Rattle.standing_filters.specs.Placed.{VerdictPlaces}
+use Rattle.standing_filters.specs.Plans.{Watching, view_of_watch}
 use Rattle.standing_filters.specs.Watched.{AreForgotten, verdict_at}
-use Rattle.standing_filters.proofs.Forgotten.{forgotten_elsewhere, forgotten_here, watch_empty}
+use Rattle.standing_filters.proofs.Forgotten.{forgotten_elsewhere, forgotten_here}
 use Rattle.standing_filters.proofs.forgetting.+clear_each.Goals as goal
 
 pub returns-then-not-is_of-clause-forgotten : goal.returns-then-not-is_of-clause-forgotten
@@ -24,14 +26,7 @@ returns-clause-forgotten t c =
     (sym c.in-Some.ensures.cases.0) (
       forgotten_here c.args.table (λ key. true) first made
           (sym c.is_of.ensures ∙ c.if-not-is_of.false)
-          (ap (λ (w : Watching). w.filter) c.clear.ensures)
-          (λ key. ap (λ (w : Watching). verdict_at w.kept key) c.clear.ensures),
+          c.clear.ensures.filter
+          (λ key. ap (λ (l : VerdictPlaces). verdict_at (in_order l) key) c.clear.ensures.places),
       c.clear_each.ensures.forgotten,
     )
-
-pub returns-clause-stay : goal.returns-clause-stay
-returns-clause-stay t c =
-    let first = c.in-Some.first.now in
-    let all = subst (λ (l : List Watching). AreWatches l) c.in-Some.ensures.cases.0
-    c.requires.watches in
-    (watch_empty first c.clear.new.self all.0 c.clear.ensures, c.clear_each.ensures.stay)

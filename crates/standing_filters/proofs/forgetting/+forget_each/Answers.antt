@@ -1,6 +1,6 @@
 use Rattle.std.proofs.Common.{◌+◌, List, ◌∷◌, map, sym, ◌∙◌, subst}
 use Rattle.standing_filters.specs.Flips.{TellsFrom, holding}
-use Rattle.standing_filters.specs.Plans.{Watching, view_of_watch}
+use Rattle.standing_filters.specs.Plans.{Watching, kept_by, view_of_watch}
 use Rattle.standing_filters.specs.Watched.{AreForgotten, is_among, verdict_at}
 use Rattle.standing_filters.proofs.Forgotten.{forgotten_elsewhere, forgotten_here}
 use Rattle.standing_filters.proofs.Said.{at_none, from_first, from_none}
@@ -45,7 +45,7 @@ returns-then-not-is_of-clause-flips t c = λ known.
     (from_first c.args.at (view_of_watch first) (view_of_watch first)
     (map view_of_watch c.in-Some.rest.now) (map view_of_watch c.forget_each.new.watches)
     c.args.flips.now last last (c.forget_each.ensures.flips known)
-    (at_none c.args.at (λ key. (verdict_at first.kept key).holds) last known))
+    (at_none c.args.at (λ key. (verdict_at (kept_by first) key).holds) last known))
 
 pub returns-clause-flips : goal.returns-clause-flips
 returns-clause-flips t c = λ known.

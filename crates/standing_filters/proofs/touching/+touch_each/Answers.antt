@@ -3,19 +3,15 @@ use Rattle.std.specs.Prelude.{unwrap_or}
 use Rattle.std.proofs.lemmas.Bool.{eqb-true}
 use Rattle.std.proofs.lemmas.Result.{on_ok_weaker}
 use Rattle.standing_filters.specs.Flips.{TellsFrom, holding}
-use Rattle.standing_filters.specs.Plans.{AreWatches, Becomes, IsWatch, Watching, view_of_watch}
+use Rattle.standing_filters.specs.Plans.{Becomes, Watching, kept_by, view_of_watch}
 use Rattle.standing_filters.specs.Verdicts.{IsVerdict, out}
 use Rattle.standing_filters.specs.Watched.{AreTouched, Watched, verdict_at}
 use Rattle.standing_filters.specs.declared.judging.Verdict.{Verdict}
 use Rattle.standing_filters.proofs.Said.{at_none, from_first, from_none, noted_becomes}
-use Rattle.standing_filters.proofs.Touched.{becomes_after, kept_restored, others_untouched}
-use Rattle.standing_filters.proofs.Touched.{view_stays, touched}
-use Rattle.standing_filters.proofs.Touched.{watch_backed_out, watch_committed, watch_forgotten}
+use Rattle.standing_filters.proofs.Placing.{key_of}
+use Rattle.standing_filters.proofs.Touched.{becomes_after, others_untouched, room_back, touched}
+use Rattle.standing_filters.proofs.Touched.{view_stays}
 use Rattle.standing_filters.proofs.touching.+touch_each.Goals as goal
-
-first_watch : (watches : List Watching) (first : Watching) (rest : List Watching)
-    → watches ≡ first ∷ rest → AreWatches watches → IsWatch first
-first_watch watches first rest is all = (subst (λ l. AreWatches l) is all).0
 
 both : (first : Watched) (rest olds : List Watched) (watches : List Watching) (old : Watching)
     (others : List Watching) → watches ≡ old ∷ others → first ≡ view_of_watch old → rest
@@ -42,16 +38,6 @@ returns-then-not-is_any_of-clause-ok g t c =
           (sym c.is_any_of.ensures ∙ c.if-not-is_any_of.true),
     )
 
-pub returns-then-is_out-clause-stay : goal.returns-then-is_out-clause-stay
-returns-then-is_out-clause-stay g t c =
-    let first = c.in-Some.first.now in (
-      watch_forgotten c.args.key.now first c.forget-held.new.self
-          (first_watch c.args.watches.now first c.in-Some.rest.now c.in-Some.ensures.cases.0
-          c.requires.watches) c.forget-held.ensures.filter c.forget-held.ensures.kept
-          c.forget-held.ensures.due,
-      c.in_ok-touch_each.ensures.stay,
-    )
-
 pub returns-then-is_out-clause-ok : goal.returns-then-is_out-clause-ok
 returns-then-is_out-clause-ok g t c =
     let summed = g.V.Values.summed c.args.values.now in
@@ -70,46 +56,17 @@ returns-then-is_out-clause-ok g t c =
       c.in_ok-touch_each.ensures.ok,
     )
 
-pub returns-in-Err-clause-stay : goal.returns-in-Err-clause-stay
-returns-in-Err-clause-stay g t c =
-    let first = c.in-Some.first.now in
-    let prepared = c.prepare.new.self in
-    let kept = kept_restored c.args.key.now c.in_ok-old.old first prepared c.back_out.new.self
-    c.in_ok-old.ensures.found c.in_ok-old.ensures.room c.back_out.ensures.kept in (
-      watch_backed_out c.args.key.now c.judge-verdict.result c.in_ok-old.old first prepared
-          c.back_out.new.self (first_watch c.args.watches.now first c.in-Some.rest.now
-          c.in-Some.ensures.cases.0 c.requires.watches) (c.back_out.ensures.filter
-          ∙ c.in_ok-old.ensures.filter) kept c.in_ok-old.ensures.found c.in_ok-old.ensures.planned
-          c.back_out.ensures.due,
-      c.in-Err.ensures.stay,
-    )
-
 pub returns-in-Err-clause-err : goal.returns-in-Err-clause-err
 returns-in-Err-clause-err g t c =
     let first = c.in-Some.first.now in
-    let prepared = c.prepare.new.self in
-    let kept = kept_restored c.args.key.now c.in_ok-old.old first prepared c.back_out.new.self
-    c.in_ok-old.ensures.found c.in_ok-old.ensures.room c.back_out.ensures.kept in
+    let kept = room_back c.in_ok-room.room first c.prepare.new.self c.back_out.new.self
+    c.in_ok-room.ensures.back c.back_out.ensures.back in
     both (view_of_watch c.back_out.new.self) (map view_of_watch c.touch_each-2.new.watches)
     (map view_of_watch c.in-Some.rest.now) c.args.watches.now first c.in-Some.rest.now
     c.in-Some.ensures.cases.0 (view_stays first c.back_out.new.self (c.back_out.ensures.filter
-    ∙ c.in_ok-old.ensures.filter) kept) c.in-Err.ensures.err
+    ∙ c.in_ok-room.ensures.filter) kept) c.in-Err.ensures.err
 
-pub returns-clause-stay : goal.returns-clause-stay
-returns-clause-stay g t c =
-    let first = c.in-Some.first.now in
-    let prepared = c.prepare.new.self in
-    let becomes = becomes_after c.args.key.now c.judge-verdict.result first.kept prepared.kept
-    c.commit.new.self.kept c.in_ok-old.ensures.same
-    (c.commit.ensures.kept c.in_ok-old.ensures.there) in (
-      watch_committed c.args.key.now c.judge-verdict.result c.in_ok-old.old first prepared
-          c.commit.new.self (first_watch c.args.watches.now first c.in-Some.rest.now
-          c.in-Some.ensures.cases.0 c.requires.watches) (c.commit.ensures.filter
-          ∙ c.in_ok-old.ensures.filter) c.in_ok-old.ensures.found c.in_ok-old.ensures.planned
-          c.commit.ensures.due becomes,
-      c.in_default-touch_each.ensures.stay,
-    )
-
+-- the verdict in the room that was made
 pub returns-clause-ok : goal.returns-clause-ok
 returns-clause-ok g t c =
     let summed = g.V.Values.summed c.args.values.now in
@@ -118,14 +75,14 @@ returns-clause-ok g t c =
     let prepared = c.prepare.new.self in
     let of = eqb-true first.filter.table c.args.table (sym c.is_of.ensures
     ∙ c.if-not-is_of.false) in
-    let becomes = becomes_after c.args.key.now c.judge-verdict.result first.kept prepared.kept
-    c.commit.new.self.kept c.in_ok-old.ensures.same
-    (c.commit.ensures.kept c.in_ok-old.ensures.there) in
+    let becomes = becomes_after c.args.key.now c.judge-verdict.result (kept_by first) (kept_by prepared)
+    (kept_by c.commit.new.self) c.in_ok-room.ensures.same
+    (c.commit.ensures.becomes c.args.key.now (ap key_of c.in_ok-room.ensures.own)) in
     subst (λ (l : List Watching). AreTouched summed living c.args.table c.args.key.now c.args.now
     (map view_of_watch l) (view_of_watch c.commit.new.self ∷ map view_of_watch
     c.touch_each-2.new.watches)) (sym c.in-Some.ensures.cases.0) (
       touched summed living c.args.table c.args.key.now c.args.now first c.commit.new.self
-          c.judge-verdict.result of (c.commit.ensures.filter ∙ c.in_ok-old.ensures.filter)
+          c.judge-verdict.result of (c.commit.ensures.filter ∙ c.in_ok-room.ensures.filter)
           c.judge-verdict.ensures.verdict becomes,
       c.in_default-touch_each.ensures.ok,
     )
@@ -146,7 +103,7 @@ returns-then-not-is_of-clause-flips g t c =
     (from_first c.args.at (view_of_watch first) (view_of_watch first)
     (map view_of_watch c.in-Some.rest.now) (map view_of_watch c.touch_each.new.watches)
     c.args.flips.now last last (told known)
-    (at_none c.args.at (λ key. (verdict_at first.kept key).holds) last known)))
+    (at_none c.args.at (λ key. (verdict_at (kept_by first) key).holds) last known)))
     c.touch_each.ensures.flips
 
 pub returns-then-not-is_any_of-clause-flips : goal.returns-then-not-is_any_of-clause-flips
@@ -162,8 +119,8 @@ returns-then-not-is_any_of-clause-flips g t c = λ known.
     (from_first c.args.at (view_of_watch first) (view_of_watch made)
     (map view_of_watch c.in-Some.rest.now) (map view_of_watch c.in-Some.rest.now) before before
     last (from_none (c.args.at + 1) (map view_of_watch c.in-Some.rest.now) before noted.known)
-    (noted_becomes c.args.at c.args.key.now c.judge-verdict.result c.in_ok-held.held first.kept
-    made.kept before last noted c.in_ok-held.ensures.was c.in_ok-held.ensures.kept))
+    (noted_becomes c.args.at c.args.key.now c.judge-verdict.result c.in_ok-held.held (kept_by first)
+    (kept_by made) before last noted c.in_ok-held.ensures.was c.in_ok-held.ensures.kept))
 
 pub returns-then-is_out-clause-flips : goal.returns-then-is_out-clause-flips
 returns-then-is_out-clause-flips g t c = λ known.
@@ -179,9 +136,9 @@ returns-then-is_out-clause-flips g t c = λ known.
     (from_first c.args.at (view_of_watch first) (view_of_watch made)
     (map view_of_watch c.in-Some.rest.now) (map view_of_watch touched.watches) c.args.flips.now
     touched.flips last (c.in_ok-touch_each.ensures.flips noted.known)
-    (noted_becomes c.args.at c.args.key.now c.judge-verdict.result c.forget-held.result first.kept
-    made.kept touched.flips last noted c.forget-held.ensures.was
-    (subst (λ (v : Verdict). Becomes c.args.key.now v first.kept made.kept) (sym verdict_is)
+    (noted_becomes c.args.at c.args.key.now c.judge-verdict.result c.forget-held.result (kept_by first)
+    (kept_by made) touched.flips last noted c.forget-held.ensures.was
+    (subst (λ (v : Verdict). Becomes c.args.key.now v (kept_by first) (kept_by made)) (sym verdict_is)
     c.forget-held.ensures.kept)))
 
 pub returns-clause-flips : goal.returns-clause-flips
@@ -192,16 +149,17 @@ returns-clause-flips g t c = λ known.
     let touched = c.touch_each-2.new in
     let noted = c.note-2.ensures known in
     let last = c.note-2.new.self in
-    let becomes = becomes_after c.args.key.now c.judge-verdict.result first.kept prepared.kept
-    made.kept c.in_ok-old.ensures.same (c.commit.ensures.kept c.in_ok-old.ensures.there) in
-    let was : c.held_by.result ≡ (verdict_at first.kept c.args.key.now).holds =
+    let becomes = becomes_after c.args.key.now c.judge-verdict.result (kept_by first) (kept_by prepared)
+    (kept_by made) c.in_ok-room.ensures.same
+    (c.commit.ensures.becomes c.args.key.now (ap key_of c.in_ok-room.ensures.own)) in
+    let was : c.held_by.result ≡ (verdict_at (kept_by first) c.args.key.now).holds =
     c.held_by.ensures
-    ∙ ap (λ (o : Option Verdict). (unwrap_or o out).holds) c.in_ok-old.ensures.found in
+    ∙ ap (λ (o : Option Verdict). (unwrap_or o out).holds) c.in_ok-room.ensures.found in
     subst (λ (l : List Watching). TellsFrom c.args.at (holding (map view_of_watch l))
     (holding (view_of_watch made ∷ map view_of_watch touched.watches)) c.args.flips.now last)
     (sym c.in-Some.ensures.cases.0)
     (from_first c.args.at (view_of_watch first) (view_of_watch made)
     (map view_of_watch c.in-Some.rest.now) (map view_of_watch touched.watches) c.args.flips.now
     touched.flips last (c.in_default-touch_each.ensures.flips noted.known)
-    (noted_becomes c.args.at c.args.key.now c.judge-verdict.result c.held_by.result first.kept
-    made.kept touched.flips last noted was becomes))
+    (noted_becomes c.args.at c.args.key.now c.judge-verdict.result c.held_by.result (kept_by first)
+    (kept_by made) touched.flips last noted was becomes))

@@ -1,70 +1,52 @@
-use Rattle.std.proofs.Common.{List, ℕ, sym, ap, subst, ◌∙◌}
-use Rattle.std.specs.BTreeMap.{is_at}
-use Rattle.std.specs.Cmp.Lexicographic.{slice_cmp}
-use Rattle.std.specs.Ordering.{nat_cmp}
-use Rattle.standing_filters.specs.Placed.{ArePlaced, VerdictPlaces, verdicts_in}
-use Rattle.standing_filters.specs.Plans.{Becomes, without_key}
+use Rattle.std.proofs.Common.{List, ℕ, Some, ap, sym, subst, ◌∙◌}
+use Rattle.std.specs.Prelude.{None, slice_set}
+use Rattle.place_index.specs.Places.{in_order, key_at}
+use Rattle.place_index.proofs.Ordered.{lookup-emptied}
+use Rattle.standing_filters.specs.Placed.{ArePlaced, VerdictPlaces}
+use Rattle.standing_filters.specs.Plans.{Becomes}
 use Rattle.standing_filters.specs.Verdicts.{out}
-use Rattle.standing_filters.specs.declared.judging.Verdict.{Verdict}
-use Rattle.standing_filters.proofs.Placing.{kept_absent, kept_found, left, left-becomes}
-use Rattle.standing_filters.proofs.Placing.{left-placed, nothing_out}
-use Rattle.standing_filters.proofs.Planning.{becomes_none}
+use Rattle.standing_filters.proofs.Placing.{becomes_found, distinct_placed, emptied_none, key_of}
+use Rattle.standing_filters.proofs.Placing.{placed_alike, placed_emptied}
 use Rattle.standing_filters.proofs.kept.KeptVerdicts.remove.Goals as goal
-
-pub returns-in_err-at-clause-value : goal.returns-in_err-at-clause-value
-returns-in_err-at-clause-value c = rw (c.from_residual.ensures, ← c.self.view_is)
-    (sym (kept_absent c.self.inside.verdicts.places c.self.inside.order.entries c.args.key.now
-    c.self.invariant c.in_err-at.ensures.none))
-
-pub returns-in_err-at-clause-after : goal.returns-in_err-at-clause-after
-returns-in_err-at-clause-after c = rw (← c.self.view_is)
-    (sym (nothing_out (is_at (slice_cmp nat_cmp c.args.key.now))
-    (verdicts_in c.self.inside.verdicts.places c.self.inside.order.entries)
-    (kept_absent c.self.inside.verdicts.places c.self.inside.order.entries c.args.key.now
-    c.self.invariant c.in_err-at.ensures.none)))
-
-pub returns-in_err-at-clause-becomes : goal.returns-in_err-at-clause-becomes
-returns-in_err-at-clause-becomes c =
-    subst (λ (kept : List (List ℕ × Verdict)). Becomes c.args.key.now out kept kept) c.self.view_is
-    (becomes_none (verdicts_in c.self.inside.verdicts.places c.self.inside.order.entries)
-    c.args.key.now
-    (kept_absent c.self.inside.verdicts.places c.self.inside.order.entries c.args.key.now
-    c.self.invariant c.in_err-at.ensures.none))
 
 pub invariant_of-self : goal.invariant_of-self
 invariant_of-self c =
-    let after = c.remove.new.self.entries in
-    subst (λ (places : VerdictPlaces). ArePlaced places after) (sym c.remove-2.ensures.after)
-    (left-placed c.self.inside.verdicts.places c.self.inside.order.entries c.in_ok-at.at
-    c.args.key.now c.self.invariant c.in_ok-at.ensures.own after c.remove.ensures.entries
-    c.remove.ensures.updates.0)
-
-pub returns-clause-value : goal.returns-clause-value
-returns-clause-value c = rw (← c.self.view_is)
-    (kept_found c.self.inside.verdicts.places c.self.inside.order.entries c.args.key.now
-    c.self.invariant c.in_ok-at.at c.in_ok-at.verdict c.in_ok-at.ensures.own
-    c.in_ok-at.ensures.value)
-
-pub returns-clause-after : goal.returns-clause-after
-returns-clause-after c =
-    let key = c.args.key.now in
-    let after = c.remove.new.self.entries in
-    ap (λ (places : VerdictPlaces). verdicts_in places after) c.remove-2.ensures.after
-    ∙ left c.self.inside.verdicts.places c.self.inside.order.entries c.in_ok-at.at key
-    c.self.invariant c.in_ok-at.ensures.own after c.remove.ensures.entries
-    c.remove.ensures.updates.0
-    ∙ ap (λ (kept : List (List ℕ × Verdict)). without_key key kept) c.self.view_is
-
-pub returns-clause-becomes : goal.returns-clause-becomes
-returns-clause-becomes c =
-    let key = c.args.key.now in
     let old = c.self.inside.verdicts.places in
     let order = c.self.inside.order.entries in
-    let after = c.remove.new.self.entries in
-    let made = c.remove-2.new.self.places in
-    subst (λ (kept : List (List ℕ × Verdict)). Becomes key out kept (verdicts_in made after))
-    c.self.view_is
-    (subst (λ (places : VerdictPlaces). Becomes key out (verdicts_in old order)
-    (verdicts_in places after)) (sym c.remove-2.ensures.after)
-    (left-becomes old order c.in_ok-at.at key c.self.invariant c.in_ok-at.ensures.own after
-    c.remove.ensures.entries c.remove.ensures.updates.0))
+    subst (λ (l : VerdictPlaces). ArePlaced l order) (sym c.remove.ensures.after)
+    (placed_alike old (slice_set old c.args.at None) order
+    (emptied_none old c.args.at (sym c.in_default.ensures.value)) c.self.invariant)
+
+pub invariant_of-self-2 : goal.invariant_of-self-2
+invariant_of-self-2 c =
+    let old = c.self.inside.verdicts.places in
+    let after = c.remove-2.new.self.entries in
+    subst (λ (l : VerdictPlaces). ArePlaced l after) (sym c.remove.ensures.after)
+    (placed_emptied old c.self.inside.order.entries c.args.at c.in-Some.key c.self.invariant
+    (ap key_of (sym c.in-Some.ensures.value)) after c.remove-2.ensures.updates.0)
+
+pub returns-in_default-clause-distinct : goal.returns-in_default-clause-distinct
+returns-in_default-clause-distinct c =
+    distinct_placed c.remove.new.self.places c.self.inside.order.entries
+    (subst (λ (l : VerdictPlaces). ArePlaced l c.self.inside.order.entries)
+    (sym c.remove.ensures.after)
+    (placed_alike c.self.inside.verdicts.places
+    (slice_set c.self.inside.verdicts.places c.args.at None) c.self.inside.order.entries
+    (emptied_none c.self.inside.verdicts.places c.args.at (sym c.in_default.ensures.value))
+    c.self.invariant))
+
+pub returns-clause-distinct : goal.returns-clause-distinct
+returns-clause-distinct c =
+    distinct_placed c.remove.new.self.places c.remove-2.new.self.entries (invariant_of-self-2 c)
+
+pub returns-clause-becomes : goal.returns-clause-becomes
+returns-clause-becomes c = λ key own.
+    let old = c.self.inside.verdicts.places in
+    let held = ap (λ (l : VerdictPlaces). key_at l c.args.at) c.self.view_is ∙ own in
+    subst (λ (l : VerdictPlaces). Becomes key out (in_order l)
+    (in_order c.remove.new.self.places)) c.self.view_is
+    (subst (λ (l : VerdictPlaces). Becomes key out (in_order old) (in_order l))
+    (sym c.remove.ensures.after)
+    (becomes_found key None (in_order old) (in_order (slice_set old c.args.at None))
+    (lookup-emptied old c.args.at key
+    (distinct_placed old c.self.inside.order.entries c.self.invariant) held)))

@@ -1,7 +1,6 @@
 use Rattle.std.proofs.Common.{◌≡◌, ◌++◌, ◌∙◌, ℕ, List, drop, length, map, take, sym, ap, subst}
 use Rattle.std.proofs.Common.{arith}
 use Rattle.std.proofs.lemmas.List.{take-append-le, take_all}
-use Rattle.std.proofs.lemmas.Result.{on_ok_weaker}
 use Rattle.standing_filters.specs.Flips.{TellsIfKnown, holding}
 use Rattle.standing_filters.specs.Plans.{Watching, view_of_watch}
 use Rattle.standing_filters.specs.Watched.{AllWatched, Watched}
@@ -24,10 +23,9 @@ returns-clause-flips g c =
     let old : map view_of_watch watches ≡ c.args.self.now.filters =
     ap (map view_of_watch) c.as_mut_slice.ensures.value
     ∙ ap (λ (s : AllWatched). s.filters) c.self.view_is in
-    on_ok_weaker c.turn_each.result (λ told.
     subst (λ (l : List Watching). TellsIfKnown (holding c.args.self.now.filters)
     (holding (map view_of_watch l)) before last) (sym same)
     (subst (λ (l : List Watched). TellsIfKnown (holding l) (holding (map view_of_watch done))
     before last) old
     (λ known. from_all (map view_of_watch watches) (map view_of_watch done) before last
-    (told known)))) c.turn_each.ensures.flips
+    (c.turn_each.ensures.flips known)))

@@ -1,19 +1,22 @@
-use Rattle.std.proofs.Common.{ap, ◌∙◌}
-use Rattle.std.proofs.lemmas.Cmp.{nat_list_cmp_total}
-use Rattle.standing_filters.specs.Plans.{Watching, without_key}
-use Rattle.standing_filters.proofs.Members.{out-put}
+use Rattle.std.proofs.Common.{Result, Ok, Err, OnErr, refl}
+use Rattle.standing_filters.proofs.Settling.{alike_view}
 use Rattle.standing_filters.proofs.watch.Watch.enter.Goals as goal
 
-pub returns-in-Err-clause-err : goal.returns-in-Err-clause-err
-returns-in-Err-clause-err c =
-    let key = c.args.key.now in
-    let old = c.args.self.now in
-    c.take_out.ensures
-    ∙ ap (λ (w : Watching). record {
-      filter = w.filter;
-      kept = without_key key w.kept;
-      due =
-          w.due;
-    }) (c.in-Err.ensures.err ∙ c.in_ok-insert.ensures.ok)
-    ∙ ap (λ kept. record { filter = old.filter; kept = kept; due = old.due })
-    (out-put nat_list_cmp_total key c.args.verdict old.kept c.requires.none)
+-- what holds anyway holds after an error
+anyway : {T E X : Type 0} (r : Result T E) → X → OnErr r X
+anyway (Ok v) x = tt
+anyway (Err e) x = x
+
+pub returns-in_err-at-clause-err : goal.returns-in_err-at-clause-err
+returns-in_err-at-clause-err c = anyway c.from_residual.result
+    (alike_view 0 c.args.self.now
+    (record {
+      filter = c.self.inside.filter;
+      places = c.self.inside.kept;
+      plans = c.self.inside.plans;
+    })
+    (record {
+      filter = c.self.inside.filter;
+      places = c.insert.new.self;
+      plans = c.self.inside.plans;
+    }) c.self.view_is refl c.in_err-at.ensures.err)

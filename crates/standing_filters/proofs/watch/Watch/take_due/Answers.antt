@@ -1,0 +1,14 @@
+use Rattle.std.proofs.Common.{◌≡◌, ℕ, false, ap, subst, sym, ◌∙◌}
+use Rattle.std.specs.Prelude.{IfNone}
+use Rattle.place_plans.specs.Plans.{plan_at}
+use Rattle.standing_filters.specs.Placed.{verdict_in}
+use Rattle.standing_filters.specs.Plans.{Planning, Watching}
+use Rattle.standing_filters.specs.Turns.{has_come, is_due}
+use Rattle.standing_filters.proofs.Planning.{none_come}
+use Rattle.standing_filters.proofs.watch.Watch.take_due.Goals as goal
+
+pub returns-clause-none : goal.returns-clause-none
+returns-clause-none c =
+    none_come c.args.t c.take_due.result c.args.self.now
+    (record { filter = c.self.inside.filter; places = c.self.inside.kept; plans = c.self.inside.plans })
+    c.take_due.new.self c.requires c.self.view_is c.take_due.ensures.same c.take_due.ensures.none

@@ -1,0 +1,70 @@
+ghost use Rattle.std.specs.Prelude.{◌≡◌, length};
+ghost use Rattle.std.specs.Iterator.{at_most};
+ghost use Rattle.std.specs.Map.Iter.{TakesFirst};
+ghost use Rattle.standing_filters.specs.Placed.{change_in, verdicts_in};
+ghost use Rattle.standing_filters.specs.Plans.{changes_of, lent_change};
+
+use crate::judging::Verdict;
+use agg_types::Key;
+use place_index::PlaceIndex;
+use std::collections::btree_map::Iter;
+use std::marker::Model;
+
+/// Lends the keys on which a standing filter's verdict changes, in order, each with that moment.
+/// Takes no memory.
+///
+/// Contracts see the list of what it has left.
+#[derive(Drop)]
+pub struct Planned<'a> {
+    // The place of each key's verdict.
+    order: Iter<'a, Key, usize>,
+    verdicts: &'a PlaceIndex<Key, Verdict>,
+}
+
+impl<'a> Model for Planned<'a> {
+    ghost use Rattle.std.specs.Prelude.{List, ℕ};
+    ghost use Rattle.standing_filters.specs.Placed.{verdicts_in};
+    ghost use Rattle.standing_filters.specs.Plans.{changes_of};
+
+    ghost Value = { List (ℕ × List ℕ) };
+
+    ghost view = { λ left. changes_of (verdicts_in left.verdicts.now.places left.order) };
+}
+
+impl<'a> Planned<'a> {
+    pub(crate) fn new(
+        order: Iter<'a, Key, usize>,
+        verdicts: &'a PlaceIndex<Key, Verdict>,
+    ) -> Planned<'a>
+        ensures { result ≡ changes_of (verdicts_in verdicts.entry.now.places order.entry) }
+    {
+        Planned { order, verdicts }
+    }
+}
+
+impl<'a> Iterator for Planned<'a> {
+    type Item = (u64, &'a Key);
+
+    ghost next_gives = { TakesFirst lent_change };
+
+    ghost remaining = { λ left. at_most (length left) };
+
+    fn next(&mut self) -> Option<(u64, &'a Key)> {
+        while let Some((key, at)) = self.order.next() {
+            if let Some(moment) = change_at(self.verdicts, *at) {
+                return Some((moment, key));
+            }
+        }
+        None
+    }
+}
+
+/// When the verdict in a place changes.
+pub(crate) fn change_at(verdicts: &PlaceIndex<Key, Verdict>, at: usize) -> Option<u64>
+    ensures { result ≡ change_in verdicts.now.places at }
+{
+    match verdicts.value(at) {
+        Some(verdict) => verdict.next,
+        None => None,
+    }
+}
