@@ -1,5 +1,5 @@
 -- Keys that one filter forgets, one after the other.
-use Rattle.std.proofs.Common.{◌≡◌, ◌==◌, ◌&&◌, ◌||◌, ℕ, Bool, true, false, cond, List, [], ◌∷◌}
+use Rattle.std.proofs.Common.{◌≡◌, ◌==◌, ◌&&◌, ◌||◌, ℕ, Bool, true, false, cond, List, ◌∷◌}
 use Rattle.std.proofs.Common.{refl, sym, ap, ◌∙◌}
 use Rattle.standing_filters.specs.Plans.{Becomes, Watching, kept_by, view_of_watch}
 use Rattle.standing_filters.specs.Turns.{same_key}

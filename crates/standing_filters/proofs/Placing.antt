@@ -1,7 +1,7 @@
 -- Verdicts in places, as one comes, goes or becomes another.
 use Rattle.std.proofs.Common.{◌≡◌, ℕ, zero, suc, ◌≤◌, Bool, true, false, cond, List, [], ◌∷◌, length}
 use Rattle.std.proofs.Common.{Option, Some, None, refl, sym, ap, ◌∙◌, subst, inl, inr}
-use Rattle.std.specs.Prelude.{◌≢◌, IsSome, map, slice_set, unwrap_or}
+use Rattle.std.specs.Prelude.{◌≢◌, IsSome, slice_set, unwrap_or}
 use Rattle.std.specs.Option.{option_map}
 use Rattle.std.proofs.lemmas.Bool.{cases_eq, false≢true}
 use Rattle.std.proofs.lemmas.List.{get_or-set_other}
@@ -10,7 +10,7 @@ use Rattle.std.specs.Cmp.Lexicographic.{slice_cmp}
 use Rattle.std.specs.List.Sorted.{IsStrictlySortedBy}
 use Rattle.std.specs.Map.{keys_of, lookup}
 use Rattle.std.specs.Ordering.{nat_cmp}
-use Rattle.place_index.specs.Places.{item_at, key_at, value_at, in_order, laid, revalued}
+use Rattle.place_index.specs.Places.{item_at, key_at, in_order, laid, revalued}
 use Rattle.place_index.specs.Places.{AreDistinct, IsAbsent}
 use Rattle.place_index.proofs.Leading.{emptied_same, key_at-revalued, laid_other, laid_same}
 use Rattle.place_index.proofs.Ordered.{at_key, is_itself, lookup-absent, lookup-held, same_if_at}

@@ -4,7 +4,6 @@ use Rattle.std.proofs.Common.{◌∷◌, Option, Some, None, length, refl, sym, 
 use Rattle.std.proofs.Common.{◌⊎◌, arith, min}
 use Rattle.std.specs.Prelude.{IfNone, unwrap_or}
 use Rattle.std.specs.Option.{option_map}
-use Rattle.std.specs.Map.{lookup}
 use Rattle.std.proofs.lemmas.Bool.{cases_eq, cases_lt}
 use Rattle.std.proofs.lemmas.List.{get_or_past}
 use Rattle.std.proofs.lemmas.Option.{none-some, same_Some}

@@ -1,15 +1,15 @@
 -- A filter as the verdict in one place comes, goes or becomes another, and its plan with it.
 use Rattle.std.proofs.Common.{◌≡◌, ℕ, false, List, Option, Some, None, sym, ap, ◌∙◌, subst}
 use Rattle.std.specs.Prelude.{IsSome, slice_set}
-use Rattle.place_index.specs.Places.{in_order, item_at, key_at, revalued, AreDistinct}
+use Rattle.place_index.specs.Places.{item_at, revalued, AreDistinct}
 use Rattle.place_index.proofs.Leading.{emptied_same}
-use Rattle.standing_filters.specs.Placed.{AreAlike, AreAlikeBut, IsSetAt, VerdictPlaces, change_in}
+use Rattle.standing_filters.specs.Placed.{AreAlike, AreAlikeBut, IsSetAt, VerdictPlaces}
 use Rattle.standing_filters.specs.Placed.{verdict_in}
-use Rattle.standing_filters.specs.Plans.{Becomes, IsPlanned, IsWatch, IsWatchBut, Watching}
-use Rattle.standing_filters.specs.Plans.{kept_by, view_of_watch}
+use Rattle.standing_filters.specs.Plans.{IsPlanned, IsWatch, IsWatchBut, Watching}
+use Rattle.standing_filters.specs.Plans.{view_of_watch}
 use Rattle.standing_filters.specs.Verdicts.{out}
 use Rattle.standing_filters.specs.declared.judging.Verdict.{Verdict}
-use Rattle.standing_filters.proofs.Placing.{alike_order, item_from, others_set, set_itself}
+use Rattle.standing_filters.proofs.Placing.{alike_order, others_set, set_itself}
 use Rattle.standing_filters.proofs.Placing.{value_revalued}
 use Rattle.standing_filters.proofs.Planning.{change_of, verdict_of, watch_again, watch_alike}
 use Rattle.standing_filters.proofs.Planning.{watch_but}

@@ -1,13 +1,13 @@
 -- What a touch of one filter makes of it.
 use Rattle.std.proofs.Common.{◌≡◌, ◌≢◌, ◌==◌, ◌||◌, ℕ, Bool, true, false, cond, List, [], ◌∷◌}
-use Rattle.std.proofs.Common.{Option, None, Some, length}
-use Rattle.std.proofs.Common.{is_some, refl, sym, ap, ◌∙◌, subst, ◌≤◌, Result, Ok, Err, OnErr}
+use Rattle.std.proofs.Common.{None, Some}
+use Rattle.std.proofs.Common.{is_some, refl, sym, ap, ◌∙◌, subst}
 use Rattle.std.specs.Prelude.{MatchBool, map, slice_set, unwrap_or}
 use Rattle.std.specs.List.{list_any}
 use Rattle.std.proofs.lemmas.Bool.{eq-eqb, false≢true}
 use Rattle.std.specs.BTreeMap.{is_at}
 use Rattle.std.specs.Cmp.Lexicographic.{slice_cmp}
-use Rattle.std.specs.Ordering.{is_eq, nat_cmp}
+use Rattle.std.specs.Ordering.{nat_cmp}
 use Rattle.agg_types.specs.declared.column.Col.{Col}
 use Rattle.standing_filters.specs.Placed.{AreAlike, VerdictPlaces}
 use Rattle.standing_filters.specs.Plans.{Becomes, Watching, kept_at, kept_by, view_of_watch}

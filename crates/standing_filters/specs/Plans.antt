@@ -12,7 +12,6 @@ use Rattle.agg_types.specs.declared.limits.TheConstants.{MOST_CONDS}
 use Rattle.place_index.specs.Places.{AreDistinct, in_order}
 use Rattle.place_plans.specs.Plans.{plan_at}
 use Rattle.standing_filters.specs.Placed.{VerdictPlaces, change_in}
-use Rattle.standing_filters.specs.Verdicts.{out}
 use Rattle.standing_filters.specs.Watched.{Watched, verdict_at}
 use Rattle.standing_filters.specs.declared.judging.Verdict.{Verdict}
 

@@ -1,4 +1,4 @@
-use Rattle.std.proofs.Common.{◌+◌, List, ◌∷◌, map, sym, subst}
+use Rattle.std.proofs.Common.{List, ◌∷◌, map, sym, subst}
 use Rattle.standing_filters.specs.Flips.{TellsFrom, holding}
 use Rattle.standing_filters.specs.Plans.{Watching, view_of_watch}
 use Rattle.standing_filters.proofs.Said.{from_first, from_none}

@@ -1,6 +1,4 @@
 use Rattle.std.proofs.Common.{sym, ap, ◌∙◌}
-use Rattle.std.specs.Prelude.{None}
-use Rattle.std.specs.Option.{option_map}
 use Rattle.place_index.specs.Places.{in_order}
 use Rattle.place_index.proofs.Ordered.{lookup-absent, lookup-held}
 use Rattle.standing_filters.specs.Placed.{VerdictPlaces}

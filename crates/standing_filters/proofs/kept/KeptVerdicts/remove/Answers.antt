@@ -1,4 +1,4 @@
-use Rattle.std.proofs.Common.{List, ℕ, Some, ap, sym, subst, ◌∙◌}
+use Rattle.std.proofs.Common.{ap, sym, subst, ◌∙◌}
 use Rattle.std.specs.Prelude.{None, slice_set}
 use Rattle.place_index.specs.Places.{in_order, key_at}
 use Rattle.place_index.proofs.Ordered.{lookup-emptied}

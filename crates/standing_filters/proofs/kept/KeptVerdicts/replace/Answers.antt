@@ -1,5 +1,5 @@
-use Rattle.std.proofs.Common.{List, ℕ, Some, ap, sym, subst, ◌∙◌}
-use Rattle.place_index.specs.Places.{AreDistinct, in_order, key_at, revalued}
+use Rattle.std.proofs.Common.{Some, ap, sym, subst, ◌∙◌}
+use Rattle.place_index.specs.Places.{in_order, key_at, revalued}
 use Rattle.place_index.proofs.Ordered.{lookup-revalued}
 use Rattle.standing_filters.specs.Placed.{ArePlaced, VerdictPlaces}
 use Rattle.standing_filters.specs.Plans.{Becomes}

@@ -1,4 +1,4 @@
-use Rattle.std.proofs.Common.{◌≡◌, None, ap, sym, ◌∙◌}
+use Rattle.std.proofs.Common.{ap, sym, ◌∙◌}
 use Rattle.standing_filters.specs.Plans.{Watching, kept_at, kept_by}
 use Rattle.standing_filters.proofs.Touched.{becomes_none}
 use Rattle.standing_filters.proofs.watch.Watch.forget.Goals as goal

@@ -1,4 +1,3 @@
-use Rattle.std.proofs.Common.{ap, sym, ◌∙◌}
 use Rattle.place_index.proofs.Ordered.{sorted-in_order}
 use Rattle.standing_filters.proofs.HeldKeys.{held_exact, held_ordered}
 use Rattle.standing_filters.specs.Plans.{kept_by}

@@ -1,7 +1,7 @@
 use Rattle.std.proofs.Common.{ap, subst, sym, ◌∙◌}
 use Rattle.place_plans.specs.Plans.{plan_at}
 use Rattle.standing_filters.specs.Placed.{change_in}
-use Rattle.standing_filters.specs.Plans.{IsFirstOf, Planning, Watching}
+use Rattle.standing_filters.specs.Plans.{IsFirstOf, Watching}
 use Rattle.standing_filters.proofs.Planning.{first_is, first_same}
 use Rattle.standing_filters.proofs.watch.Watch.next_change.Goals as goal
 

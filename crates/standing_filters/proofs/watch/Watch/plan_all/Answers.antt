@@ -1,9 +1,6 @@
-use Rattle.std.proofs.Common.{◌≡◌, ℕ, ◌≤◌, ap, sym, ◌∙◌, arith, inl, inr}
-use Rattle.std.proofs.lemmas.Bool.{cases_lt}
-use Rattle.place_plans.specs.Plans.{plan_at}
-use Rattle.standing_filters.specs.Placed.{VerdictPlaces, change_in}
+use Rattle.std.proofs.Common.{ap, arith}
 use Rattle.standing_filters.specs.Plans.{Watching}
-use Rattle.standing_filters.proofs.Planning.{no_change, watch_all, watch_planned}
+use Rattle.standing_filters.proofs.Planning.{watch_all}
 use Rattle.standing_filters.proofs.watch.Watch.plan_all.Goals as goal
 
 pub returns-clause-stay : goal.returns-clause-stay

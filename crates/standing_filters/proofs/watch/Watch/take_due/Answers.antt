@@ -1,9 +1,3 @@
-use Rattle.std.proofs.Common.{◌≡◌, ℕ, false, ap, subst, sym, ◌∙◌}
-use Rattle.std.specs.Prelude.{IfNone}
-use Rattle.place_plans.specs.Plans.{plan_at}
-use Rattle.standing_filters.specs.Placed.{verdict_in}
-use Rattle.standing_filters.specs.Plans.{Planning, Watching}
-use Rattle.standing_filters.specs.Turns.{has_come, is_due}
 use Rattle.standing_filters.proofs.Planning.{none_come}
 use Rattle.standing_filters.proofs.watch.Watch.take_due.Goals as goal
 

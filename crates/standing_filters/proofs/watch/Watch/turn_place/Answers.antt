@@ -1,8 +1,7 @@
-use Rattle.std.proofs.Common.{◌≡◌, ℕ, List, Some, Option, refl, ap, sym, subst, ◌∙◌}
+use Rattle.std.proofs.Common.{◌≡◌, Some, Option, refl, ap, sym, subst, ◌∙◌}
 use Rattle.std.specs.Prelude.{unwrap_or}
 use Rattle.std.proofs.lemmas.Option.{same_Some}
 use Rattle.place_index.specs.Places.{key_at}
-use Rattle.standing_filters.specs.Flips.{IsNoted}
 use Rattle.standing_filters.specs.Placed.{verdict_in}
 use Rattle.standing_filters.specs.Plans.{Watching, kept_by}
 use Rattle.standing_filters.specs.Verdicts.{IsVerdict, out}
