@@ -1,4 +1,5 @@
-use Rattle.std.specs.Prelude.{ℕ, zero, suc, ◌+◌, ◌*◌, ◌/◌, ◌%◌, ◌^◌, List, [], ◌∷◌, ◌++◌}
+use Rattle.std.specs.Prelude.{◌≡◌, ℕ, zero, suc, ◌+◌, ◌*◌, ◌/◌, ◌%◌, ◌^◌, ◌≤◌, List, [], ◌∷◌}
+use Rattle.std.specs.Prelude.{◌++◌}
 use Rattle.std.specs.Prelude.{slice_index as word}
 use Rattle.period_rate.specs.Words.{rate_of}
 use Rattle.peer_rows.specs.declared.few.Kind.{Kind}
@@ -50,3 +51,9 @@ cells_of zero kinds words = []
 cells_of (suc len) kinds words =
     cells_of len (kinds / 4) words
     ++ cell_at (kind_of (kinds % 4)) words (total_width len (kinds / 4)) ∷ []
+
+-- so many cells take so many words, of which there are seven
+pub record AreLaid (len used kinds : ℕ) : Type 0 where
+  pub width : used ≡ total_width len kinds
+  pub least : len ≤ used
+  pub most : used ≤ 7

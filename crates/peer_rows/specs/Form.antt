@@ -1,5 +1,4 @@
 use Rattle.std.specs.Prelude.{List, map}
-use Rattle.peer_rows.specs.Few.{cells_of}
 use Rattle.peer_rows.specs.Packed.{held_of}
 use Rattle.peer_rows.specs.declared.row.Held.{Held}
 use Rattle.peer_rows.specs.declared.row.Form.{Form}
@@ -7,5 +6,5 @@ use Rattle.peer_rows.specs.declared.row.Form.TheVariants.{Few, Many}
 
 -- the cells, which lie in the value itself or in a block
 abbrev pub cells_in : Form → List Held
-cells_in (Few len kinds words) = cells_of len kinds words
+cells_in (Few cells) = cells
 cells_in (Many cells) = map held_of cells.items

@@ -1,6 +1,6 @@
 //! Cells in words of 32 bits that lie in the row itself, one cell behind the other.
 ghost use Rattle.std.specs.Prelude.{◌≡◌, ◌+◌, ◌*◌, ◌<◌, ◌≤◌, ◌%◌, ℕ, [], ◌∷◌, ◌++◌, length};
-ghost use Rattle.std.specs.Prelude.{slice_get, slice_index, IfNone, IfSome, IsSome};
+ghost use Rattle.std.specs.Prelude.{slice_get, slice_index, if◌then◌else◌};
 ghost use Rattle.peer_rows.specs.Few.{cell_at, cells_of, kind_of, total_width, width};
 ghost use Rattle.peer_rows.specs.Most.{most_at, most_of};
 
@@ -8,6 +8,7 @@ use crate::Held;
 use crate::narrow::{narrowed, widened};
 use crate::packed::{Packed, halves, whole};
 use period_rate::Rate;
+use std::marker::Model;
 
 /// How many words there are: as many as two narrow rates and a small count take, or a wide rate and
 /// two small counts.
@@ -105,84 +106,124 @@ pub(crate) fn most(len: u8, kinds: u16, words: &Words, col: usize) -> u64
     most(before, kinds / 4, words, col)
 }
 
-/// Lays a cell's words behind those of others, if there is room for them. Answers the number whose
-/// digits are the kinds then.
-#[inline(always)]
-pub(crate) fn push(len: u8, kinds: u16, words: &mut Words, held: &Held) -> Option<u16>
-    ensures some { IfSome result (λ later. cells_of (len + 1) later words.new
-        ≡ cells_of len kinds words.old ++ held.now ∷ []) }
-    ensures few { IsSome result → len < 7 }
-    ensures none { IfNone result (words.new ≡ words.old) }
-{
-    let used = total(len, kinds);
-    match held {
-        Held::Count(count) => push_count(len, kinds, used, words, *count),
-        Held::Rate(rate) => push_rate(len, kinds, used, words, rate),
-    }
-}
-
-// Lays a rate, in three words if it fits there.
-#[inline(always)]
-fn push_rate(len: u8, kinds: u16, used: usize, words: &mut Words, rate: &Rate) -> Option<u16>
-    requires used { used ≡ total_width len kinds }
-    requires least { len ≤ used }
-    ensures some { IfSome result (λ later. cells_of (len + 1) later words.new
-        ≡ cells_of len kinds words.old ++ Held.Rate rate.now ∷ []) }
-    ensures few { IsSome result → len < 7 }
-    ensures none { IfNone result (words.new ≡ words.old) }
-{
-    let wide = rate.to_words();
-    match narrowed(&wide) {
-        Some(narrow) => push_words(len, kinds, used, words, Kind::Narrow, &narrow),
-        None => push_words(len, kinds, used, words, Kind::Rated, &wide),
-    }
-}
-
-// Lays a count, in one word if it fits there.
-#[inline(always)]
-fn push_count(len: u8, kinds: u16, used: usize, words: &mut Words, count: u64) -> Option<u16>
-    requires used { used ≡ total_width len kinds }
-    requires least { len ≤ used }
-    ensures some { IfSome result (λ later. cells_of (len + 1) later words.new
-        ≡ cells_of len kinds words.old ++ Held.Count count ∷ []) }
-    ensures few { IsSome result → len < 7 }
-    ensures none { IfNone result (words.new ≡ words.old) }
-{
-    let [low, high] = halves(count);
-    if high == 0 {
-        push_words(len, kinds, used, words, Kind::Small, &[low])
-    } else {
-        push_words(len, kinds, used, words, Kind::Large, &[low, high])
-    }
-}
-
-// Lays these words of a cell.
-#[inline(always)]
-fn push_words(
+/// A few cells as they are laid, one behind the other. Contracts see the list of them.
+///
+/// How many words they take stands beside them, so that laying one more sums nothing up.
+#[derive(Debug, Drop)]
+pub(crate) struct Few {
     len: u8,
+    used: u8,
+    // The digits that say the cells' kinds.
     kinds: u16,
-    used: usize,
-    words: &mut Words,
-    kind: Kind,
-    own: &[u32],
-) -> Option<u16>
-    requires used { used ≡ total_width len kinds }
-    requires least { len ≤ used }
-    requires words { length own.now ≡ width kind }
-    requires few { (0 < length own.now) × (length own.now ≤ 7) }
-    ensures some { IfSome result (λ later. cells_of (len + 1) later words.new
-        ≡ cells_of len kinds words.old ++ cell_at kind own.now 0 ∷ []) }
-    ensures few { IsSome result → len < 7 }
-    ensures none { IfNone result (words.new ≡ words.old) }
-{
-    if WORDS.saturating_sub(own.len()) < used {
-        return None;
+    words: Words,
+}
+
+impl Model for Few {
+    ghost use Rattle.std.specs.Prelude.{List};
+    ghost use Rattle.peer_rows.specs.declared.row.Held.{Held};
+    ghost use Rattle.peer_rows.specs.Few.{AreLaid, cells_of};
+
+    ghost Value = { List Held };
+
+    ghost view = { λ few. cells_of few.len few.kinds few.words };
+
+    ghost invariant = { λ few. AreLaid few.len few.used few.kinds };
+}
+
+impl Few {
+    /// No cells.
+    #[inline(always)]
+    pub(crate) fn none() -> Few
+        ensures { result ≡ [] }
+    {
+        Few {
+            len: 0,
+            used: 0,
+            kinds: 0,
+            words: [0; WORDS],
+        }
     }
-    let Some(before) = kinds.checked_mul(4) else {
-        return None;
-    };
-    write(words, used, own);
-    Some(before + kind.digit())
+
+    /// Adds a cell behind the others, if there is room for its words.
+    #[inline(always)]
+    pub(crate) fn push(&mut self, held: &Held) -> bool
+        ensures { self.new ≡ (if result then self.old ++ held.now ∷ [] else self.old) }
+    {
+        match held {
+            Held::Count(count) => self.push_count(*count),
+            Held::Rate(rate) => self.push_rate(rate),
+        }
+    }
+
+    // Adds a rate, in three words if it fits there.
+    #[inline(always)]
+    fn push_rate(&mut self, rate: &Rate) -> bool
+        ensures { self.new ≡ (if result then self.old ++ Held.Rate rate.now ∷ [] else self.old) }
+    {
+        let wide = rate.to_words();
+        match narrowed(&wide) {
+            Some(narrow) => self.push_words(Kind::Narrow, &narrow),
+            None => self.push_words(Kind::Rated, &wide),
+        }
+    }
+
+    // Adds a count, in one word if it fits there.
+    #[inline(always)]
+    fn push_count(&mut self, count: u64) -> bool
+        ensures { self.new ≡ (if result then self.old ++ Held.Count count ∷ [] else self.old) }
+    {
+        let [low, high] = halves(count);
+        if high == 0 {
+            self.push_words(Kind::Small, &[low])
+        } else {
+            self.push_words(Kind::Large, &[low, high])
+        }
+    }
+
+    // Adds a cell of these words.
+    #[inline(always)]
+    fn push_words(&mut self, kind: Kind, own: &[u32]) -> bool
+        requires words { length own.now ≡ width kind }
+        ensures { self.new ≡ (if result then self.old ++ cell_at kind own.now 0 ∷ []
+            else self.old) }
+    {
+        let used = self.used as usize;
+        if used + own.len() > WORDS {
+            return false;
+        }
+        let Some(before) = self.kinds.checked_mul(4) else {
+            return false;
+        };
+        write(&mut self.words, used, own);
+        self.kinds = before + kind.digit();
+        self.len += 1;
+        self.used += own.len() as u8;
+        true
+    }
+
+    /// The cell of a column, if there is one.
+    pub(crate) fn get(&self, col: usize) -> Option<Held>
+        ensures { result ≡ slice_get self.now col }
+    {
+        get(self.len, self.kinds, &self.words, col)
+    }
+
+    /// How many cells there are.
+    #[inline]
+    pub(crate) fn len(&self) -> usize
+        ensures { result ≡ length self.now }
+    {
+        count(self.len, self.kinds, &self.words)
+    }
+
+    /// How many cells there are, the digits of their kinds, and their words.
+    #[inline(always)]
+    pub(crate) fn laid(&self) -> (u8, u16, &Words)
+        ensures cells { cells_of result.0 result.1 result.2.now ≡ self.now }
+        ensures few { result.0 < 8 }
+    {
+        (self.len, self.kinds, &self.words)
+    }
 }
 
 // How many words cells take, whose kinds are the digits of a number.

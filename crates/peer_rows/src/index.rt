@@ -73,7 +73,7 @@ impl Index {
     }
 
     /// The place of a key. No key has two.
-    #[inline]
+    #[inline(never)]
     pub(crate) fn find(&self, key: &Key) -> Option<usize>
         ensures some { IfSome result (λ at. key_at self.now.places at ≡ Some key.now) }
         ensures none { IfNone result (IsAbsent self.now.places key.now) }
@@ -179,6 +179,7 @@ impl Index {
     }
 
     /// Exchanges a peer's row in a place for this one, if there is one.
+    #[inline(always)]
     pub(crate) fn exchange(&mut self, at: usize, peer: usize, row: &mut Row) -> bool
         requires { IsSome (item_at self.old.places at) }
         ensures { IsExchanged peer row.old row.new result at self.old.places self.new.places }
@@ -243,6 +244,7 @@ fn ends_by(first: Option<u64>, other: Option<u64>) -> bool
 }
 
 // Sees to it that a place is looked at by the least end of its rows.
+#[inline(never)]
 fn settle(keys: &KeyPlaces, ends: &mut Ends, at: usize, now: u64)
     requires { AreElse at keys.now.places ends.old }
     ensures { ArePlanned keys.now.places ends.new }

@@ -107,6 +107,7 @@ impl KeyRows {
     }
 
     /// Exchanges a peer's row for this one, if it holds one.
+    #[inline(always)]
     pub(crate) fn exchange(&mut self, peer: usize, row: &mut Row) -> bool
         ensures found { result ≡ is_some (lookup (is_at (nat_cmp peer)) self.old) }
         ensures rows { MatchBool result (self.new ≡ insert_entry nat_cmp self.old peer row.old)
@@ -292,6 +293,7 @@ fn put_summed(
 
 // Exchanges the row of a peer for another, if it is there, and keeps up the most that the rows are
 // worth together.
+#[inline(never)]
 fn exchange_summed(rows: &mut Vec<PeerRow>, mosts: &mut Mosts, peer: usize, row: &mut Row) -> bool
     requires are { ArePeers rows.old.items }
     requires summed { AreMosts mosts.old rows.old.items }
@@ -360,6 +362,7 @@ fn make_room(rows: &mut Vec<PeerRow>, most: usize) -> Result<(), NoMemory>
 }
 
 // Exchanges a row, if it is the peer's.
+#[inline(always)]
 fn exchange_one(own: u32, held: &mut Row, peer: usize, row: &mut Row) -> bool
     ensures found { result ≡ (own == peer) }
     ensures rows { MatchBool result (held.new ≡ row.old) (held.new ≡ held.old) }

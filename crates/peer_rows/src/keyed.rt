@@ -149,6 +149,7 @@ impl Keyed {
     }
 
     /// Exchanges the row of a peer and key for this one, if there is one.
+    #[inline(always)]
     pub(crate) fn exchange(
         &mut self,
         hint: Option<Spot>,
@@ -270,6 +271,7 @@ impl Keyed {
 }
 
 // Whether a key lies in a place.
+#[inline(always)]
 fn is_of(index: &Index, at: usize, key: &Key) -> bool
     ensures { IsTrue result → key_at index.now.places at ≡ Some key.now }
 {
@@ -280,6 +282,7 @@ fn is_of(index: &Index, at: usize, key: &Key) -> bool
 }
 
 // The place that a hint says, if the rows of the key lie there.
+#[inline(always)]
 fn hinted(index: &Index, hint: Option<Spot>, key: &Key) -> Option<usize>
     ensures { IfSome result (λ at. key_at index.now.places at ≡ Some key.now) }
 {
@@ -292,6 +295,7 @@ fn hinted(index: &Index, hint: Option<Spot>, key: &Key) -> Option<usize>
 }
 
 // The place in which the rows of a key lie.
+#[inline(always)]
 fn find(index: &Index, hint: Option<Spot>, key: &Key) -> Option<usize>
     ensures some { IfSome result (λ at. key_at index.now.places at ≡ Some key.now) }
     ensures none { IfNone result (IsAbsent index.now.places key.now) }

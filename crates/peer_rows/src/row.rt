@@ -9,7 +9,7 @@ ghost use Rattle.peer_rows.specs.Laid.{life_in, moment_of, row_in, stored};
 ghost use Rattle.peer_rows.specs.Most.{most_at, most_of};
 ghost use Rattle.peer_rows.specs.Packed.{held_of};
 
-use crate::few::{self, WORDS, Words};
+use crate::few::{self, Few, WORDS, Words};
 use crate::packed::{Packed, WORD, whole};
 use agg_types::NoMemory;
 use period_rate::Rate;
@@ -67,51 +67,10 @@ impl Drop for RowCells {
     }
 }
 
-const _: () = prove!(size_of::<RowCells>() == 32);
-
 #[derive(Debug, Drop)]
 enum Form {
-    // How many cells there are, the digits that say their kinds, and their words.
-    Few { len: u8, kinds: u16, words: Words },
+    Few(Few),
     Many(Vec<Packed>),
-}
-
-impl Form {
-    // No cells.
-    fn none() -> Form
-        ensures { cells_in result ≡ [] }
-    {
-        Form::Few {
-            len: 0,
-            kinds: 0,
-            words: [0; WORDS],
-        }
-    }
-
-    // Adds a cell to few ones, if it fits beside them.
-    #[inline(always)]
-    fn push(&mut self, held: &Held) -> bool
-        ensures { cells_in self.new ≡ (if result then cells_in self.old ++ held.now ∷ []
-            else cells_in self.old) }
-    {
-        let Form::Few { len, kinds, .. } = &*self else {
-            return false;
-        };
-        let (before, digits) = (*len, *kinds);
-        let Form::Few { words, .. } = &mut *self else {
-            return false;
-        };
-        let Some(later) = few::push(before, digits, words, held) else {
-            return false;
-        };
-        if let Form::Few { kinds, .. } = &mut *self {
-            *kinds = later;
-        }
-        if let Form::Few { len, .. } = &mut *self {
-            *len = before + 1;
-        }
-        true
-    }
 }
 
 impl Model for RowCells {
@@ -131,7 +90,7 @@ impl RowCells {
         ensures { IfOk result (λ cells. cells ≡ []) }
     {
         let form = if cells <= FEW {
-            Form::none()
+            Form::Few(Few::none())
         } else {
             Form::Many(Vec::with_capacity(alloc, cells)?)
         };
@@ -144,11 +103,13 @@ impl RowCells {
         ensures ok { OnOk result (self.new ≡ self.old ++ held ∷ []) }
         ensures err { OnErr result (self.new ≡ self.old) }
     {
-        if let Form::Many(cells) = &mut self.form {
-            return Ok(cells.push(Packed::new(&held))?);
-        }
-        if self.form.push(&held) {
-            return Ok(());
+        match &mut self.form {
+            Form::Few(few) => {
+                if few.push(&held) {
+                    return Ok(());
+                }
+            }
+            Form::Many(cells) => return Ok(cells.push(Packed::new(&held))?),
         }
         self.part(held)
     }
@@ -182,7 +143,7 @@ impl RowCells {
         ensures { result ≡ slice_get self.now col }
     {
         match &self.form {
-            Form::Few { len, kinds, words } => few::get(*len, *kinds, words, col),
+            Form::Few(few) => few.get(col),
             Form::Many(cells) => Some(cells.get(col)?.held()),
         }
     }
@@ -192,7 +153,7 @@ impl RowCells {
         ensures { result ≡ length self.now }
     {
         match &self.form {
-            Form::Few { len, kinds, words } => few::count(*len, *kinds, words),
+            Form::Few(few) => few.len(),
             Form::Many(cells) => cells.len(),
         }
     }
@@ -440,17 +401,18 @@ fn moment(head: u8, low: u32) -> u64
 fn lay(cells: &RowCells, arrived: u64, life: Option<u32>) -> Option<Laid>
     ensures { IfSome result (λ laid. row_in laid ≡ stored cells.now arrived life) }
 {
-    let Form::Few { len, kinds, words } = &cells.form else {
+    let Form::Few(few) = &cells.form else {
         return None;
     };
     let high = arrived / WORD;
-    if *len >= LENS || high >= HIGHS {
+    if high >= HIGHS {
         return None;
     }
     let life = life_word(life)?;
+    let (len, kinds, words) = few.laid();
     Some(Laid::Few {
-        head: *len + LENS * high as u8,
-        kinds: *kinds,
+        head: len + LENS * high as u8,
+        kinds,
         words: *words,
         low: (arrived % WORD) as u32,
         life,
@@ -489,7 +451,7 @@ fn packed(mut cells: RowCells) -> Result<Vec<Packed>, NoMemory>
     ensures { IfOk result (λ block. map held_of block.items ≡ cells) }
 {
     let alloc = cells.alloc;
-    match mem::replace(&mut cells.form, Form::none()) {
+    match mem::replace(&mut cells.form, Form::Few(Few::none())) {
         Form::Many(block) => Ok(block),
         few => spread(alloc, &RowCells { form: few, alloc }),
     }

@@ -301,6 +301,7 @@ impl Rows {
 
     /// Exchanges the row of a peer, table and key for this one, if there is one, whatever the hint.
     /// Takes no memory.
+    #[inline(always)]
     pub fn exchange_at(
         &mut self,
         hint: Option<Spot>,

@@ -148,6 +148,7 @@ impl Table {
     }
 
     /// Exchanges the row of a peer and key for this one, if there is one.
+    #[inline(always)]
     pub(crate) fn exchange(
         &mut self,
         hint: Option<Spot>,
