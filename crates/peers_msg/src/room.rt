@@ -1,5 +1,5 @@
 //! Blocks that a feed keeps from piece to piece, so that a short piece takes none of its own, and
-//! none is cleared anew.
+//! no block is cleared anew while pieces are alike.
 
 ghost use Rattle.std.specs.Prelude.{◌≡◌, []};
 
@@ -8,8 +8,11 @@ use bytes::BytesMut;
 use std::alloc::Global;
 use std::mem;
 
-/// How many bytes a block has at most that is kept.
+/// How many bytes a block has at most that is kept whatever lay in it.
 const MOST_BYTES: usize = 4096;
+
+/// How many bytes one has at most that is kept because much of it was used.
+const MOST_USED: usize = 1 << 16;
 
 /// For how many messages a list has room at most that is kept.
 const MOST_ENTRIES: usize = 128;
@@ -56,18 +59,25 @@ impl Room {
         entries
     }
 
-    /// Keeps blocks that are done with. Large ones go.
+    /// Keeps blocks that are done with. Large ones go, but those of which a quarter was used: the
+    /// next piece is likely as long.
     pub(crate) fn put_back(&mut self, front: BytesMut, bytes: BytesMut, entries: Vec<Entry>) {
-        if front.capacity() <= MOST_BYTES {
+        if is_kept(&front) {
             self.front = front;
         }
-        if bytes.capacity() <= MOST_BYTES {
+        if is_kept(&bytes) {
             self.rest = bytes;
         }
         if entries.capacity() <= MOST_ENTRIES {
             self.entries = entries;
         }
     }
+}
+
+/// Whether a block is kept.
+fn is_kept(block: &BytesMut) -> bool {
+    let room = block.capacity();
+    room <= MOST_BYTES || (room <= MOST_USED && block.len() >= room / 4)
 }
 
 /// Takes a block out, emptied.
