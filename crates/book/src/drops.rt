@@ -35,6 +35,7 @@ impl Drops {
     }
 
     // One more update was dropped.
+    #[inline(never)]
     fn count_one(&mut self, what: LentWhat<'_>) {
         match what {
             LentWhat::Put { peer, table, .. } => self.count(table, peer),

@@ -55,6 +55,7 @@ pub fn lead(
 
 /// Puts a row that arrives at a moment, in ms, with bounds that hold before and after, and answers
 /// where the rows of its key lay, if that was seen.
+#[inline(always)]
 pub fn put_led(
     rows: &mut Store,
     leaders: &mut Leaders,
@@ -85,6 +86,7 @@ pub fn put_led(
 }
 
 // The same of a table that has a ranked list.
+#[inline(never)]
 fn put_ranked(
     rows: &mut Store,
     leaders: &mut Leaders,

@@ -41,6 +41,7 @@ impl Lookahead {
     /// before the next. The steps are: where a key is looked for, a first look there, where its
     /// rows may lie, by that or by its hint, a look whether they do, and one at the peer's row.
     /// Looks for none where the table has few rows.
+    #[inline(never)]
     pub(crate) fn look(
         &mut self,
         machine: &Machine,

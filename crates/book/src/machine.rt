@@ -267,6 +267,7 @@ pub(crate) fn clear(
 
 /// Puts a row, if its seat is the session in force and there is room, and answers whether there was
 /// none.
+#[inline(always)]
 pub(crate) fn put(
     rows: &mut Store,
     leaders: &mut Leaders,

@@ -1,6 +1,6 @@
 //! Rows that are put and taken away.
 
-ghost use Rattle.std.specs.Prelude.{◌≡◌, ◌<◌, ◌≤◌, ◌++◌, map};
+ghost use Rattle.std.specs.Prelude.{◌≡◌, ◌<◌, ◌≤◌, [], ◌∷◌, ◌++◌, map};
 ghost use Rattle.std.specs.Prelude.{IfOk, OnOk, OnErr};
 ghost use Rattle.std.specs.BTreeMap.{insert_entry, is_at};
 ghost use Rattle.std.specs.Map.{remove_entry};
@@ -21,6 +21,7 @@ use std::alloc::Global;
 use std::mem;
 
 /// A row that arrives at a moment, in ms.
+#[inline(always)]
 pub fn new_row(
     alloc: Global,
     t: u64,
@@ -39,6 +40,7 @@ pub fn new_row(
 }
 
 // A life in 32 bits.
+#[inline(always)]
 fn short(life: Option<u64>) -> Option<u32>
     requires { IsShort life }
     ensures { result ≡ life }
@@ -50,38 +52,44 @@ fn short(life: Option<u64>) -> Option<u32>
 }
 
 // Puts cells that arrive at a moment behind others.
+#[inline(always)]
 fn hold(held: &mut RowCells, t: u64, cols: &[(Col, u32)], cells: &[Cell]) -> Result<(), NoMemory>
     requires { t ≤ LAST_MOMENT }
     ensures { OnOk result (map (cell_of t) held.new
         ≡ map (cell_of t) held.old ++ normalized_cells cols.now cells.now) }
 {
-    match cols {
-        [] => Ok(()),
-        [col, cols @ ..] => match cells {
-            [] => Ok(()),
-            [cell, cells @ ..] => {
-                held.push(hold_cell(t, col.1, *cell))?;
-                hold(held, t, cols, cells)
-            }
-        },
+    let mut cols_left = cols;
+    let mut cells_left = cells;
+    'cells: while let [col, cols_behind @ ..] = cols_left {
+        let [cell, cells_behind @ ..] = cells_left else {
+            break;
+        };
+        hold_one(held, t, col.1, *cell)?;
+        cols_left = cols_behind;
+        cells_left = cells_behind;
     }
+    Ok(())
 }
 
-// A cell that arrives at a moment.
-fn hold_cell(t: u64, period: u32, cell: Cell) -> Held
+// Puts a cell that arrives at a moment behind others. Each kind is pushed by itself, so that what
+// it is isn't asked again.
+#[inline(always)]
+fn hold_one(held: &mut RowCells, t: u64, period: u32, cell: Cell) -> Result<(), NoMemory>
     requires { t ≤ LAST_MOMENT }
-    ensures { cell_of t result ≡ normalized_cell period cell }
+    ensures { OnOk result (map (cell_of t) held.new
+        ≡ map (cell_of t) held.old ++ normalized_cell period cell ∷ []) }
 {
     match cell {
-        Cell::Count(count) => Held::Count(count),
+        Cell::Count(count) => held.push(Held::Count(count)),
         Cell::Rate { elapsed, cur, prev } => {
             let kept = elapsed.min(2 * u64::from(period) + 1);
-            Held::Rate(Rate::arrive(period, kept, cur, prev, t))
+            held.push(Held::Rate(Rate::arrive(period, kept, cur, prev, t)))
         }
     }
 }
 
 // Puts a row at a place: one that stands there is exchanged for it. Answers the place's hint.
+#[inline(always)]
 fn put_row(rows: &mut Rows, size: Size, at: At<'_>, row: &mut Row) -> Result<Option<Spot>, NoMemory>
     requires rows { AreRows size.peers size.tables rows.old }
     requires inside { IsInside size.peers size.tables (place_at at) }
@@ -101,6 +109,7 @@ fn put_row(rows: &mut Rows, size: Size, at: At<'_>, row: &mut Row) -> Result<Opt
 /// Puts a row that has arrived, in the place of the one that stood there; another row is left where
 /// it was taken. A key whose spot isn't known is searched once, whether it has rows or not. Answers
 /// where its rows lay, if it had any.
+#[inline(always)]
 pub fn set_row(
     rows: &mut Rows,
     size: Size,
@@ -130,6 +139,7 @@ pub fn set_row(
 }
 
 /// Takes the row at a place away.
+#[inline(never)]
 pub fn drop_row(rows: &mut Rows, size: Size, at: At<'_>)
     requires rows { AreRows size.peers size.tables rows.old }
     requires inside { IsInside size.peers size.tables (place_at at) }

@@ -148,6 +148,7 @@ impl Machine {
     }
 
     /// The table of an update of a peer, if an event is lent as one, and fits.
+    #[inline(always)]
     fn table_of(&self, peer: usize, what: LentWhat<'_>) -> Option<usize>
         ensures update { IfSome result
             (λ _. IsUpdateOf self.now.config peer (as_what what.entry)) }
@@ -179,6 +180,7 @@ impl Machine {
 
     // The row of an update of a turn, of a table on which this stands, whatever the hint; its seat
     // isn't counted up. Nothing has changed after NoMemory.
+    #[inline(always)]
     fn put_lent(
         &mut self,
         turn: Turn,
@@ -230,6 +232,7 @@ pub(crate) fn note(hints: &mut Vec<Option<Spot>>, place: usize, spot: Option<Spo
 }
 
 // Takes an update of a turn: its row is put and its key judged. Nothing has changed after NoMemory.
+#[inline(always)]
 fn take_one(
     machine: &mut Machine,
     verdicts: &mut Verdicts,

@@ -80,6 +80,7 @@ impl Store {
 
     /// Where the rows of a key may lie, for the calls that take an `At`: what the hint says. Where
     /// there is none, they are searched for if they are read before one is put.
+    #[inline(always)]
     pub(crate) fn spot_for(
         &self,
         hint: Option<Spot>,
@@ -152,6 +153,7 @@ impl Store {
     /// Puts a row that arrives at a moment, in ms, in the place of the one that stood there, and
     /// answers where the rows of its key lay, if that was seen. One whose life is over takes the
     /// row away.
+    #[inline(always)]
     #[tactic(auto, unfolding(fleet_model::specs::Machine::with_row))]
     pub(crate) fn put(
         &mut self,
@@ -233,6 +235,7 @@ impl Store {
     }
 
     /// How many rows a peer holds of a table, in constant time.
+    #[inline(always)]
     pub(crate) fn held(&self, table: usize, peer: usize) -> usize
         requires table_in { table < self.now.tables }
         requires peer_in { peer < self.now.peers }
@@ -243,6 +246,7 @@ impl Store {
     }
 
     /// Whether there is a row at a place.
+    #[inline(never)]
     fn has_row(&self, at: At<'_>) -> bool
         requires { IsInside self.now.peers self.now.tables (place_at at) }
         ensures { result ≡ list_any (λ row. same_place (place_at at.entry) row.0) self.now.rows }
@@ -255,6 +259,7 @@ impl Store {
     /// Whether a peer may put a row at a place: it holds one there, or fewer of the table than its
     /// size.
     #[tactic(auto, unfolding(fleet_model::specs::Rows::has_room))]
+    #[inline(always)]
     pub(crate) fn has_room(&self, tables: &[Shape], at: At<'_>) -> bool
         requires { IsInside self.now.peers self.now.tables (place_at at) }
         ensures exact { result ≡ has_room tables.now self.now.rows (place_at at.entry) }

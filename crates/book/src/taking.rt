@@ -138,6 +138,7 @@ impl Machine {
 
     // The row of an update, whatever the hint; its seat isn't counted up. Nothing has changed after
     // NoMemory.
+    #[inline(always)]
     #[tactic(auto, unfolding(crate::specs::Dropped::lacks_room, fleet_model::specs::Machine::happened, fleet_model::specs::Machine::with_put))]
     pub(crate) fn put_row(
         &mut self,
