@@ -1,6 +1,7 @@
 -- Rows that are looked at in time.
 use Rattle.std.proofs.Common.{◌≡◌, ◌≢◌, ℕ, zero, suc, ◌<◌, ◌≤◌, Bool, true, false, ◌||◌, cond, List}
 use Rattle.std.proofs.Common.{[], ◌∷◌, length, Option, Some, None, Ordering, refl, ap, sym, ◌∙◌}
+use Rattle.std.proofs.Common.{Result, Ok, Err}
 use Rattle.std.proofs.Common.{subst, arith, inl, inr, ◌-◌, take, drop}
 use Rattle.std.proofs.lemmas.Bool.{cases_eq, cases_lt, leb-true, lt-ltb, ltb-true}
 use Rattle.std.proofs.lemmas.Bool.{true≢false, false≢true}
@@ -12,7 +13,9 @@ use Rattle.std.specs.List.Sorted.{IsStrictlySortedBy}
 use Rattle.std.specs.Map.{keys_of, lookup}
 use Rattle.std.specs.Option.{option_map}
 use Rattle.std.specs.Ordering.{match_ordering, nat_cmp, is_eq}
-use Rattle.std.specs.Prelude.{MatchBool, is_some, min, unwrap_or, slice_set, slice_index_or}
+use Rattle.std.specs.Prelude.{MatchBool, OnOk, OnErr, is_some, min, unwrap_or, slice_set}
+use Rattle.std.specs.Prelude.{slice_index_or}
+use Rattle.agg_types.specs.declared.no_memory.NoMemory.{NoMemory}
 use Rattle.std.specs.declared.cmp.Ordering.TheVariants.{Less, Equal, Greater}
 use Rattle.place_index.specs.Places.{item_at, laid, revalued, value_at}
 use Rattle.place_plans.specs.Plans.{is_due, plan_at}
@@ -178,6 +181,22 @@ planned_longer missed rows plan peer old new a b was found ends later within = r
         let own : m ≤ b = omega arith in
         end_put rows peer new m from (subst (IsFrom m) (sym later) own)
 
+-- a row more that ends no earlier than is planned
+planned_joined : (missed : Bool) (rows : PeerRows) (plan : Option ℕ) (peer : ℕ) (new : Row)
+    (end : Option ℕ) → IsPlanned missed rows plan → end_of new ≡ end → IsEndBy plan end
+    → IsPlanned missed (insert_entry nat_cmp rows peer new) plan
+planned_joined missed rows None peer new end was ends by = absurd by
+planned_joined missed rows (Some m) peer new None was ends by = absurd by
+planned_joined missed rows (Some m) peer new (Some b) was ends within = record {
+  none = λ n. absurd (true≢false (sym (any_put rows peer new b ends) ∙ n));
+  in_time = λ kept some. end_put rows peer new m (from kept (any_ends rows) refl)
+      (subst (IsFrom m) (sym ends) within);
+}
+  where
+    from : missed ≡ false → (b : Bool) → any_ends rows ≡ b → EndFrom m rows
+    from kept true is = was.in_time kept is
+    from kept false is = end_nowhere rows m is
+
 -- ---- places
 pub within_value : (places : Places) (at : ℕ) (rows : PeerRows) → value_at places at ≡ Some rows
     → at < length places
@@ -323,6 +342,36 @@ exchanged_planned places at rows later peer new back found ends was value after 
         (longer held (end_of back) (end_of new) refl refl by)
     own false same back = subst (λ rs. IsPlanned ends.missed rs (plan_at ends.plans at)) (sym same)
         before
+
+-- a row was put that ends no earlier than its place is looked at, or an allocation failed
+pub put_planned : (places : Places) (at : ℕ) (rows later : PeerRows) (peer : ℕ) (new : Row)
+    (result : Result (Option Row) NoMemory) (ends : Ends) → ArePlanned places ends
+    → value_at places at ≡ Some rows
+    → OnOk result (later ≡ insert_entry nat_cmp rows peer new) → OnErr result (later ≡ rows)
+    → IsEndBy (plan_at ends.plans at) (end_of new) → ArePlanned (revalued places at later) ends
+put_planned places at rows later peer new result ends was value ok err by = λ p.
+    elim (cases_eq p at) [
+      | inl e ↦ subst (λ q. IsPlanned ends.missed (rows_at (revalued places at later) q)
+          (plan_at ends.plans q)) (sym e)
+          (subst (λ rs. IsPlanned ends.missed rs (plan_at ends.plans at))
+          (sym (rows_changed places at rows later value)) (own result ok err))
+      | inr other ↦ planned_still ends.missed ends.missed (rows_at places p)
+          (rows_at (revalued places at later) p) (plan_at ends.plans p) (plan_at ends.plans p)
+          (λ e. e) (rows_changed_else places at later p other) refl (was p)
+    ]
+  where
+    before : IsPlanned ends.missed rows (plan_at ends.plans at)
+    before = subst (λ rs. IsPlanned ends.missed rs (plan_at ends.plans at))
+        (rows_value places at rows value) (was at)
+
+    own : (result : Result (Option Row) NoMemory)
+        → OnOk result (later ≡ insert_entry nat_cmp rows peer new)
+        → OnErr result (later ≡ rows) → IsPlanned ends.missed later (plan_at ends.plans at)
+    own (Ok old) put same = subst (λ rs. IsPlanned ends.missed rs (plan_at ends.plans at)) (sym put)
+        (planned_joined ends.missed rows (plan_at ends.plans at) peer new (end_of new) before refl
+        by)
+    own (Err fault) put same =
+        subst (λ rs. IsPlanned ends.missed rs (plan_at ends.plans at)) (sym same) before
 
 -- ---- parts of a slice
 take_all : {X : Type 0} (xs : List X) → take (length xs) xs ≡ xs

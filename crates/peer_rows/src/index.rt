@@ -171,9 +171,14 @@ impl Index {
         ensures { IsPut peer row result at self.old.places self.new.places }
     {
         let now = row.arrived();
+        let in_time = ends_by(self.ends.plans.at(at), row.end());
         let most = self.peers;
         let rows = self.keys.value_mut(at);
         let old = rows.put(peer, row, most);
+        if in_time {
+            // (the other rows needn't be asked: they may be many)
+            return old;
+        }
         settle(&self.keys, &mut self.ends, at, now);
         old
     }

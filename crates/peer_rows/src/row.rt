@@ -1,10 +1,9 @@
 ghost use Rattle.std.specs.Prelude.{◌≡◌, ◌+◌, ◌/◌, ◌≤◌, [], ◌∷◌, ◌++◌, length, map};
-ghost use Rattle.std.specs.Prelude.{slice_get, IfOk, IfSome, OnOk, OnErr, if◌then◌else◌};
+ghost use Rattle.std.specs.Prelude.{slice_get, IfOk, IfSome, OnOk, OnErr};
 ghost use Rattle.std.specs.Option.{option_map};
 ghost use Rattle.agg_types.specs.declared.limits.TheConstants.{LAST_MOMENT};
 ghost use Rattle.peer_rows.specs.Counted.{counted, counted_at};
 ghost use Rattle.peer_rows.specs.Ends.{end_of, lives_at};
-ghost use Rattle.peer_rows.specs.Form.{cells_in};
 ghost use Rattle.peer_rows.specs.Laid.{life_in, moment_of, row_in, stored};
 ghost use Rattle.peer_rows.specs.Most.{most_at, most_of};
 ghost use Rattle.peer_rows.specs.Packed.{held_of};
