@@ -1,23 +1,19 @@
-//! What configurations declare, or their first faulty lines.
+//! What configurations declare, or their first faulty lines and what explains them.
 
 use agg_config::{LineCause, LineFault};
-use agg_types::{Col, Cond, Config, Filter, KeyKind, Name, Push, Rank, Shape};
+use agg_types::{Col, Cond, Config, Filter, KeyKind, Name, NoMemory, Push, Rank, Shape};
+use config_text::append_explanation;
 use std::alloc::Global;
 use std::io;
 use std::io::Write;
 
-/// Prints behind a title what a configuration declares, or its first faulty line.
+/// Prints behind a title what a configuration declares, or its first faulty line with what explains
+/// it.
 pub fn print<W: Write>(alloc: Global, text: &[u8], out: &mut W) -> io::Result<()> {
     out.write_all(b": ")?;
     match read(alloc, text) {
         Ok(config) => print_config(&config, out),
-        Err(
-            LineFault {
-                line,
-                cause,
-                place: _,
-            },
-        ) => writeln!(out, "config line {line}: {cause}"),
+        Err(fault) => print_fault(alloc, text, fault, out),
     }
 }
 
@@ -34,6 +30,36 @@ fn read(alloc: Global, text: &[u8]) -> Result<Config, LineFault> {
         ) => agg_config::read(alloc, text),
         read => read,
     }
+}
+
+// Prints a faulty line as programs are told of it, and then as people are.
+fn print_fault<W: Write>(
+    alloc: Global,
+    text: &[u8],
+    fault: LineFault,
+    out: &mut W,
+) -> io::Result<()> {
+    let line = fault.line;
+    let cause = fault.cause;
+    writeln!(out, "config line {line}: {cause}")?;
+    match explained(alloc, text, fault) {
+        Ok(explanation) => out.write_all(explanation.as_slice()),
+        Err(NoMemory) => writeln!(out, "out of memory"),
+    }
+}
+
+// What explains a fault, made once more where an allocation failed.
+fn explained(alloc: Global, text: &[u8], fault: LineFault) -> Result<Vec<u8>, NoMemory> {
+    match explanation(alloc, text, fault) {
+        Err(NoMemory) => explanation(alloc, text, fault),
+        explained => explained,
+    }
+}
+
+fn explanation(alloc: Global, text: &[u8], fault: LineFault) -> Result<Vec<u8>, NoMemory> {
+    let mut out = Vec::new(alloc);
+    append_explanation(text, fault, &mut out)?;
+    Ok(out)
 }
 
 fn print_config<W: Write>(config: &Config, out: &mut W) -> io::Result<()> {
