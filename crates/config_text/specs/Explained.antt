@@ -1,13 +1,15 @@
 -- What is told of the faults of a configuration beside their names.
-use Rattle.std.specs.Prelude.{ℕ, ◌-◌, if◌then◌else◌, List, [], ◌++◌, codes}
-use Rattle.std.specs.Prelude.{Option, None, Some}
+use Rattle.std.specs.Prelude.{ℕ, ◌-◌, Bool, false, ◌&&◌, if◌then◌else◌, ◌==◌, List, [], ◌++◌}
+use Rattle.std.specs.Prelude.{codes, Option, None, Some}
 use Rattle.std.specs.Fmt.{decimal}
 use Rattle.std.specs.List.{flat_map}
 use Rattle.std.specs.Str.{bytes_eq}
+use Rattle.agg_types.specs.Kind.{kind_named, takes_length}
 use Rattle.agg_types.specs.declared.check.ConfigFault.{ConfigFault}
 use Rattle.agg_types.specs.declared.check.ConfigFault.TheVariants.{Duplicate, TooMany, UnknownTable}
 use Rattle.agg_types.specs.declared.check.ConfigFault.TheVariants.{UnknownColumn, BadPeriod}
 use Rattle.agg_types.specs.declared.check.ConfigFault.TheVariants.{BadSize, BadName, UnknownFilter}
+use Rattle.agg_types.specs.declared.config.KeyKind.{KeyKind}
 use Rattle.agg_types.specs.declared.limits.TheConstants.{HOLD_END, LARGEST_SIZE, LONGEST_KEY}
 use Rattle.agg_types.specs.declared.limits.TheConstants.{LONGEST_NAME, LONGEST_RANK, MOST_FILTERS}
 use Rattle.agg_types.specs.declared.limits.TheConstants.{MOST_PEERS, MOST_PUSHES, MOST_RANKS}
@@ -36,6 +38,23 @@ expected_text expected.Key = codes "a key"
 expected_text expected.Moment = codes "a moment in ms"
 expected_text expected.Hexadecimal = codes "hexadecimal digits, two for each byte"
 
+-- whether a table's line has to give this kind of keys a length
+abbrev pub has_length : Option KeyKind → Bool
+has_length None = false
+has_length (Some kind) = takes_length kind
+
+-- whether these are the words of a table whose keys have a length: their kind is the fourth word
+unfoldable pub wants_length : List (List ℕ) → Bool
+wants_length words =
+    if bytes_eq (word_at 1 words) (codes "table") then has_length (kind_named (word_at 4 words))
+    else false
+
+-- what had to stand in a place of a line of these words: `len` behind such a kind
+unfoldable pub place_text : Misread → List (List ℕ) → List ℕ
+place_text misread words =
+    if (misread.word == 5) && wants_length words then codes "len"
+    else expected_text misread.expected
+
 -- how a line is written that begins with this word
 abbrev pub form_named : List ℕ → List ℕ
 form_named kind =
@@ -49,6 +68,13 @@ form_named kind =
     else if bytes_eq kind (codes "push") then codes "push <filter> hold <ms>"
     else codes "name, peer, table, filter, rank or push first"
 
+-- how a line of these words is written
+unfoldable pub form_of : List (List ℕ) → List ℕ
+form_of words =
+    if wants_length words
+    then codes "table <name> type string|binary len <n> size <rows> store <column>,<rate>(<ms>)"
+    else form_named (word_at 1 words)
+
 -- a word as it is told: its bytes but spaces and what doesn't print, in quotes
 abbrev pub quoted : List ℕ → List ℕ
 quoted word = codes " \"" ++ flat_map escaped word ++ codes "\""
@@ -59,16 +85,15 @@ found_text misread words =
     if misread.is_missing then codes " is missing" else quoted (word_at misread.word words)
 
 -- what had to stand there, and how such a line is written
-abbrev pub wanted_text : Expected → List (List ℕ) → List ℕ
-wanted_text expected words =
-    codes ": expected " ++ expected_text expected ++ codes "; write: "
-    ++ form_named (word_at 1 words)
+abbrev pub wanted_text : Misread → List (List ℕ) → List ℕ
+wanted_text misread words =
+    codes ": expected " ++ place_text misread words ++ codes "; write: " ++ form_of words
 
 -- the word that is wrong or missing, and what was wanted
 abbrev pub misread_text : Misread → List (List ℕ) → List ℕ
 misread_text misread words =
     codes ", word " ++ decimal misread.word ++ found_text misread words
-    ++ wanted_text misread.expected words
+    ++ wanted_text misread words
 
 -- what goes against the lines before
 abbrev pub check_text : ConfigFault → List ℕ

@@ -4,9 +4,9 @@ ghost use Rattle.std.specs.Prelude.{◌≡◌, ◌++◌, OnOk};
 ghost use Rattle.std.specs.Fmt.{decimal};
 ghost use Rattle.line_words.specs.Words.{lines_of, words};
 ghost use Rattle.config_text.specs.Explained.{cause_text, check_text, expected_text, explanation};
-ghost use Rattle.config_text.specs.Explained.{explanations, form_named, found_text};
-ghost use Rattle.config_text.specs.Explained.{line_explanation, misread_text, quoted, reason_text};
-ghost use Rattle.config_text.specs.Explained.{wanted_text};
+ghost use Rattle.config_text.specs.Explained.{explanations, form_named, form_of, found_text};
+ghost use Rattle.config_text.specs.Explained.{line_explanation, misread_text, place_text};
+ghost use Rattle.config_text.specs.Explained.{quoted, reason_text, wanted_text, wants_length};
 ghost use Rattle.agg_types.specs.declared.check.ConfigFault.TheVariants.{TooMany, BadPeriod};
 ghost use Rattle.agg_types.specs.declared.check.ConfigFault.TheVariants.{BadSize, BadName};
 
@@ -23,6 +23,11 @@ use line_words::{Expected, Misread, line_at, word_at};
 const LAST_PERIOD: u64 = PERIOD_END as u64 - 1;
 
 const LAST_HOLD: u64 = HOLD_END - 1;
+
+/// Where the kind of keys stands in a table's line, and what gives it a length: words, from 1.
+const KIND_PLACE: usize = 4;
+
+const LENGTH_PLACE: usize = 5;
 
 /// Appends what explains the faults of a text's lines, a line for each, with its LF.
 pub fn append_explanations(
@@ -76,7 +81,7 @@ fn append_misread(misread: Misread, line: &[u8], out: &mut Vec<u8>) -> Result<()
 {
     append_counted(b", word ", misread.word as u64, out)?;
     append_found(misread, line, out)?;
-    append_wanted(misread.expected, line, out)
+    append_wanted(misread, line, out)
 }
 
 fn append_found(misread: Misread, line: &[u8], out: &mut Vec<u8>) -> Result<(), NoMemory>
@@ -90,14 +95,14 @@ fn append_found(misread: Misread, line: &[u8], out: &mut Vec<u8>) -> Result<(), 
     }
 }
 
-fn append_wanted(expected: Expected, line: &[u8], out: &mut Vec<u8>) -> Result<(), NoMemory>
+fn append_wanted(misread: Misread, line: &[u8], out: &mut Vec<u8>) -> Result<(), NoMemory>
     ensures { OnOk result
-        (out.new.items ≡ out.old.items ++ wanted_text expected (words line.now)) }
+        (out.new.items ≡ out.old.items ++ wanted_text misread (words line.now)) }
 {
     append_text(b": expected ", out)?;
-    append_text(expected_text(expected).as_bytes(), out)?;
+    append_text(place_text(misread, line).as_bytes(), out)?;
     append_text(b"; write: ", out)?;
-    append_text(form_named(word_at(line, 1)).as_bytes(), out)
+    append_text(form_of(line).as_bytes(), out)
 }
 
 fn append_quoted(word: &[u8], out: &mut Vec<u8>) -> Result<(), NoMemory>
@@ -106,6 +111,31 @@ fn append_quoted(word: &[u8], out: &mut Vec<u8>) -> Result<(), NoMemory>
     append_text(b" \"", out)?;
     append_key(KeyKind::Str(0), word, out)?;
     append_text(b"\"", out)
+}
+
+#[tactic(auto, unfolding(crate::specs::Explained::place_text))]
+fn place_text(misread: Misread, line: &[u8]) -> &'static str
+    ensures { result.now ≡ place_text misread (words line.now) }
+{
+    if misread.word == LENGTH_PLACE && wants_length(line) {
+        "len"
+    } else {
+        expected_text(misread.expected)
+    }
+}
+
+// Whether a line declares a table whose keys have a length.
+#[tactic(auto, unfolding(crate::specs::Explained::wants_length))]
+fn wants_length(line: &[u8]) -> bool
+    ensures { result ≡ wants_length (words line.now) }
+{
+    if word_at(line, 1) != b"table".as_slice() {
+        return false;
+    }
+    match KeyKind::from_name(word_at(line, KIND_PLACE)) {
+        None => false,
+        Some(kind) => kind.takes_length(),
+    }
 }
 
 fn expected_text(expected: Expected) -> &'static str
@@ -123,6 +153,17 @@ fn expected_text(expected: Expected) -> &'static str
         Expected::Key => "a key",
         Expected::Moment => "a moment in ms",
         Expected::Hexadecimal => "hexadecimal digits, two for each byte",
+    }
+}
+
+#[tactic(auto, unfolding(crate::specs::Explained::form_of))]
+fn form_of(line: &[u8]) -> &'static str
+    ensures { result.now ≡ form_of (words line.now) }
+{
+    if wants_length(line) {
+        "table <name> type string|binary len <n> size <rows> store <column>,<rate>(<ms>)"
+    } else {
+        form_named(word_at(line, 1))
     }
 }
 
