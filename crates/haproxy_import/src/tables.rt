@@ -99,8 +99,8 @@ fn put_col(col: Col, line: &[u8], cols: &mut Items<(Col, u32)>) -> Result<(), No
     }
 }
 
-// The period that a line stores a column with, 0 for a count; none where it doesn't store it.
-fn period_behind(col: Col, line: &[u8]) -> Option<u32>
+/// The period that a line stores a column with, 0 for a count; none where it doesn't store it.
+pub(crate) fn period_behind(col: Col, line: &[u8]) -> Option<u32>
     ensures { result ≡ period_behind col (words line.now) }
 {
     let mut left = line;
@@ -134,9 +134,9 @@ fn in_list(col: Col, list: &[u8]) -> Option<u32>
     }
 }
 
-// The period of an item, if it names this column: a count by its name alone, a rate with its
-// period in parentheses.
-fn item_of(col: Col, item: &[u8]) -> Option<u32>
+/// The period of an item, if it names this column: a count by its name alone, a rate with its
+/// period in parentheses.
+pub(crate) fn item_of(col: Col, item: &[u8]) -> Option<u32>
     ensures { result ≡ item_of col item.now }
 {
     let rest = item.strip_prefix(col.name().as_bytes())?;
