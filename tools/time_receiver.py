@@ -246,17 +246,22 @@ def start_haproxy(program, threads, folder, senders=("lb1",)):
 
 
 def start_collector(program, senders, folder, more=""):
-    """Starts the collector as the receiver; its process, its peers' address and what asks it."""
+    """Starts the collector as the receiver of these senders; its process, its peers' address and what asks it."""
+    peers = "\n".join(f"peer {name}" for name in senders)
+    return listen(program, folder, COLLECTOR_CONFIG.format(peers=peers, more=more))
+
+
+def listen(program, folder, text):
+    """Starts the collector with a configuration; its process, its peers' address and what asks it."""
     probes = [socket.create_server(("127.0.0.1", 0)) for _ in range(2)]
     peers, admin = [probe.getsockname() for probe in probes]
     for probe in probes:
         probe.close()
-    names = "\n".join(f"peer {name}" for name in senders)
     config = pathlib.Path(folder) / "collector.conf"
-    config.write_text(COLLECTOR_CONFIG.format(peers=names, more=more))
-    with open(config, "rb") as text:
+    config.write_text(text)
+    with open(config, "rb") as lines:
         words = [program, "listen", "--peers", "%s:%d" % peers, "--admin", "%s:%d" % admin]
-        process = subprocess.Popen(words, stdin=text, stdout=subprocess.PIPE, stderr=subprocess.DEVNULL)
+        process = subprocess.Popen(words, stdin=lines, stdout=subprocess.PIPE, stderr=subprocess.DEVNULL)
     if process.stdout.readline() != b"listening\n":
         sys.exit("the collector doesn't listen")
     return process, peers, lambda question: ask(admin, question, timeout=60)
