@@ -729,6 +729,8 @@ def main():
     words = argparse.ArgumentParser(description=__doc__, formatter_class=argparse.RawDescriptionHelpFormatter)
     words.add_argument("--collector", default=COLLECTOR, help="the program that is checked")
     options = words.parse_args()
+    # A shell that starts this in the background lets it ignore SIGINT, and so would the collectors that it starts.
+    signal.signal(signal.SIGINT, signal.default_int_handler)
     resource.setrlimit(resource.RLIMIT_NOFILE, (4096, resource.getrlimit(resource.RLIMIT_NOFILE)[1]))
     report = Report()
     collector = Collector(options.collector, *free_ports(2))
