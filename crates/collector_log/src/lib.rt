@@ -2,9 +2,9 @@
 //!
 //! `listening` gives `Notes` to the workers of `serve`, which tell it who came and went, what was
 //! posted and which tables were defined. It writes what is worth a line into the `Journal`, and
-//! counts on the `Board` what `show info`, `show peers` and `show tables` answer. `Watch` looks at
-//! the book for full tables, and `CollectorFacts` is what the HTTP door shows. Nothing here is
-//! promised but that it is safe. What the lines of the log say, test_program prints.
+//! counts on the `Board` what `show info`, `show peers` and `show peers <peer>` answer. `Watch`
+//! looks at the book for full tables, and `CollectorFacts` is what the HTTP door shows. Nothing
+//! here is promised but that it is safe. What the lines of the log say, test_program prints.
 #![tactic(auto)]
 
 mod board;
