@@ -216,9 +216,9 @@ fn write_time<W: fmt::Write>(seconds: u64, f: &mut fmt::Formatter<W>) -> fmt::Re
     write!(f, "{seconds}")
 }
 
-// A value, quoted where that is needed.
+/// A value, quoted where that is needed.
 #[derive(Clone, Copy)]
-struct Value<'a>(&'a [u8]);
+pub(crate) struct Value<'a>(pub &'a [u8]);
 
 impl<'a> Value<'a> {
     fn is_plain(&self) -> bool {

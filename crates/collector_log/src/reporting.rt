@@ -1,9 +1,10 @@
-//! The answers to what operators ask of the collector itself.
+//! The answers to what operators ask of the collector itself. Names are quoted as in the log.
 
 ghost use Rattle.std.specs.Prelude.{◌<◌, length};
 
 use crate::board::Board;
 use crate::judging::{Because, Verdict};
+use crate::log::Value;
 use crate::memory::Memory;
 use agg_types::{Config, NoMemory};
 use book::Book;
@@ -152,7 +153,7 @@ impl<'a> fmt::Display for PeerLine<'a> {
             now,
         } = *self;
         let since = now.saturating_sub(peer.since.unwrap_or(0));
-        let name = name.escape_ascii();
+        let name = Value(name);
         write!(f, "peer={name} state={}", state_of(&peer))?;
         write!(f, " from={} since_ms={since}", From(peer.address))?;
         let last = Known(peer.last_update.map(|moment| now.saturating_sub(moment)));
@@ -194,7 +195,7 @@ struct TableLine<'a>(Because<'a>);
 impl<'a> fmt::Display for TableLine<'a> {
     fn fmt<W: fmt::Write>(&self, f: &mut fmt::Formatter<W>) -> fmt::Result {
         let because = self.0;
-        let name = because.name.escape_ascii();
+        let name = Value(because.name);
         match because.verdict {
             Verdict::Followed => write!(f, "table={name} state=followed"),
             Verdict::Pushed => write!(f, "table={name} state=pushed"),

@@ -13,8 +13,8 @@ use std::net::{Ipv4Addr, Ipv6Addr, SocketAddr, SocketAddrV4, SocketAddrV6};
 use std::sync::Wait;
 use std::time::{Clock, Instant};
 
-/// Two peers, so that a line with the other's name shows, and two tables.
-const CONFIGURATION: &[u8] = b"name agg\npeer lb1\npeer lb2\n\
+/// Three peers, so that a line with another's name shows, and one name is quoted; and two tables.
+const CONFIGURATION: &[u8] = b"name agg\npeer lb1\npeer lb2\npeer a=b\n\
 table clients type ip size 100 store gpc0,http_req_rate(10000)\n\
 table names type binary len 8 size 100 store gpc0\n\
 filter hot clients data.gpc0 ge 1\npush hot\n";
@@ -133,7 +133,7 @@ pub fn show<R: Print + Wait + Copy + AllocGlobal>(rt: &R) -> io::Result<()> {
     let Ok(config) = agg_config::read(rt.alloc(), CONFIGURATION) else {
         return println!(rt; "no configuration");
     };
-    let Ok(board) = Board::new(rt.alloc(), 2) else {
+    let Ok(board) = Board::new(rt.alloc(), 3) else {
         return println!(rt; "no board");
     };
     let journal = Journal::new(rt.alloc());

@@ -17,8 +17,9 @@ const SESSION: Place = Place::Session(Some(1));
 
 /// Definitions of tables: two that fit, of which one has another period; a name with a slash, and
 /// one that nobody knows. Then the same, and one that fits, with types above 18; keys of another
-/// type, and of another length; a pushed filter's. What fits comes twice.
-const DEFINITIONS: [&[u8]; 11] = [
+/// type, and of another length; a pushed filter's. What fits comes twice. Last come two names that
+/// are quoted.
+const DEFINITIONS: [&[u8]; 13] = [
     b"\x0a\x82\x11\x01\x07clients\x04\x04\xf4\x31\x00\x0a\xf0\x62",
     b"\x0a\x82\x11\x01\x07clients\x04\x04\xf4\x31\x00\x0a\xf0\x62",
     b"\x0a\x82\x0b\x02\x05names\x07\x08\x04\x00",
@@ -30,6 +31,8 @@ const DEFINITIONS: [&[u8]; 11] = [
     b"\x0a\x82\x0b\x05\x05names\x06\x08\x04\x00",
     b"\x0a\x82\x0b\x06\x05names\x07\x10\x04\x00",
     b"\x0a\x82\x09\x07\x03hot\x04\x04\x04\x00",
+    b"\x0a\x82\x0b\x08\x05a b=c\x04\x04\x04\x00",
+    b"\x0a\x82\x0a\x09\x04d\"\n\xff\x04\x04\x04\x00",
 ];
 
 /// Tells of what the first peer defines.
