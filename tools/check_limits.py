@@ -13,8 +13,8 @@ WORDS = {"four": 4, "fifth": 5}
 
 # what is told of a limit, a document, and a pattern whose group is the number
 PLACES = [
-    ("MOST_PEERS", "README.md", r"peers; seated connections at once \| (\d+);"),
-    ("MOST_SEATS", "README.md", r"peers; seated connections at once \| \d+; (\d+)"),
+    ("MOST_PEERS", "README.md", r"peers; seats \| (\d+);"),
+    ("MOST_SEATS", "README.md", r"peers; seats \| \d+; (\d+)"),
     ("MOST_TABLES", "README.md", r"ranked lists, pushed filters \| (\d+),"),
     ("MOST_FILTERS", "README.md", r"ranked lists, pushed filters \| \d+, (\d+),"),
     ("MOST_RANKS", "README.md", r"ranked lists, pushed filters \| \d+, \d+, (\d+)"),
@@ -67,7 +67,7 @@ PLACES = [
     ("MOST_PEERS", "docs/OPERATIONS.md", r"(\d+) peers may be configured"),
     ("MOST_PEERS", "docs/OPERATIONS.md", r"More than (\d+) proxies"),
     ("MOST_PEERS", "docs/OPERATIONS.md", r"One collector takes (\d+) names"),
-    ("MOST_SEATS", "docs/OPERATIONS.md", r"and (\d+) connections may hold a seat"),
+    ("MOST_SEATS", "docs/OPERATIONS.md", r"There are (\d+) seats"),
     ("MOST_SEATS", "docs/OPERATIONS.md", r"all (\d+) seats (?:are|were) taken"),
     ("MOST_CONDS", "docs/COMMANDS.md", r"all of the one to (\w+) conditions hold"),
     ("MOST_CONDS", "docs/HTTP.md", r"up to (\w+) conditions"),
