@@ -16,3 +16,4 @@ pub mod PlanNowLemmas
 pub mod UndoLemmas
 pub mod AskingLemmas
 pub mod AlongLemmas
+pub mod PutLemmas

@@ -12,17 +12,8 @@ use Rattle.session_core.specs.Meaning.{Meaning, Nothing, Confirm, Partial, Fact,
 use Rattle.session_core.specs.declared.track.Heard.{Heard}
 use Rattle.session_core.specs.declared.track.Heard.TheVariants as heard
 use Rattle.session_core.specs.Tracked.{Tracked, Step, step_of, IsStep}
-use Rattle.session_core.specs.Run.{Run, Ran, run, run_step, run_on, behind, resync_confirm}
+use Rattle.session_core.specs.Run.{GoesOn, Run, Ran, run, run_step, run_on, behind, resync_confirm}
 use Rattle.session_core.specs.Run.{resync_partial}
-
--- What is there, and what the messages that are left give behind it, is what all of them give
--- behind what was there.
-pub record GoesOn (old_facts facts : List What) (old_replies replies : List ℕ) (left all : Run)
-    : Type 0 where
-  pub facts_are : facts ++ left.facts ≡ old_facts ++ all.facts
-  pub replies_are : replies ++ left.replies ≡ old_replies ++ all.replies
-  pub track_is : left.track ≡ all.track
-  pub end_is : left.end ≡ all.end
 
 -- where no message stands, there are none behind
 pub got_none : (messages : List Message) (i : ℕ) → None ≡ slice_get messages i

@@ -17,3 +17,4 @@ pub mod Talk
 pub mod TalkAnswers
 pub mod Undo
 pub mod Asking
+pub mod Puts

@@ -68,3 +68,12 @@ abbrev pub Ran : Option Ending → Tracked → List What → List What → List 
 Ran end track old_facts new_facts old_replies new_replies run =
     (end ≡ run.end) × (track ≡ run.track) × (new_facts ≡ old_facts ++ run.facts)
     × (new_replies ≡ old_replies ++ run.replies)
+
+-- what is there, and what the messages that are left give behind it, is what all of them give
+-- behind what was there.
+pub record GoesOn (old_facts facts : List What) (old_replies replies : List ℕ) (left all : Run)
+    : Type 0 where
+  pub facts_are : facts ++ left.facts ≡ old_facts ++ all.facts
+  pub replies_are : replies ++ left.replies ≡ old_replies ++ all.replies
+  pub track_is : left.track ≡ all.track
+  pub end_is : left.end ≡ all.end

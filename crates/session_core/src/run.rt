@@ -34,7 +34,10 @@ pub(crate) fn run(
 {
     // The plan of the table in force, if one was made.
     let mut plan = track.plan_now(tables);
-    for at in 0..given.len() {
+    // Updates are taken many at once, where they can be; what stands between such runs, one by one.
+    let count = given.len();
+    let mut at = track.put_updates(alloc, tables, peer, &mut plan, given, 0, facts, changes)?;
+    while at < count {
         let Some(message) = given.get(at) else {
             break;
         };
@@ -44,6 +47,8 @@ pub(crate) fn run(
             Heard::Partial => write_message(&Message::Partial, replies)?,
             Heard::End(cause) => return Ok(Some(cause)),
         }
+        let next = at + 1;
+        at = track.put_updates(alloc, tables, peer, &mut plan, given, next, facts, changes)?;
     }
     track.keep(plan);
     Ok(None)

@@ -1,27 +1,29 @@
 //! What a session keeps of its sender's tables, and what a message does to it.
 
-ghost use Rattle.std.specs.Prelude.{◌≡◌, ◌≤◌, List, [], length, IfOk, IfSome, OnOk, true};
+ghost use Rattle.std.specs.Prelude.{◌≡◌, ◌≤◌, List, [], drop, length, IfOk, IfSome, OnOk, true};
 ghost use Rattle.std.specs.Option.{option_map};
 ghost use Rattle.agg_types.specs.declared.event.What.{What};
 ghost use Rattle.peers_msg.specs.Lent.{as_message};
 ghost use Rattle.session_core.specs.Meaning.{AddsFact};
 ghost use Rattle.session_core.specs.Plan.{AreCells, IsPlan, IsPlanOf, IsPlanNow, cells_read};
 ghost use Rattle.session_core.specs.Plan.{followed_now};
-ghost use Rattle.session_core.specs.Run.{settled};
+ghost use Rattle.session_core.specs.Run.{GoesOn, run, settled};
 ghost use Rattle.session_core.specs.Values.{cells_of, sents_at};
 ghost use Rattle.session_core.specs.Undo.{undone, LeadBack};
-ghost use Rattle.session_core.specs.Tracked.{is_key_of, followed_at, followed_of, put_of, id_after};
+ghost use Rattle.session_core.specs.Tracked.{followed_of, put_of, id_after};
 ghost use Rattle.session_core.specs.Tracked.{place, entry_of, IsStep, defined, switched};
 ghost use Rattle.session_core.specs.Tracked.{updated_under, step_of};
 
 use crate::cached_plan::{CachedPlan, take_plan};
 use crate::cause::End;
+use crate::followed::followed_of;
+use crate::puts::put_updates;
 use crate::run::clear_updated;
 use crate::undo::{Change, note, take_back};
-use crate::values::{TYPES, key_at, life_of, periods_of};
+use crate::values::{TYPES, id_after, key_at, key_of, life_of};
 use agg_types::limits::MOST_FOLLOWED;
-use agg_types::{Cell, Col, Declared, Key, KeyKind, KeyLength, NoMemory, Shape, Whats};
-use peers_msg::{Definition, LentMessage, WireCause};
+use agg_types::{Cell, Col, Declared, NoMemory, Shape, Whats};
+use peers_msg::{Definition, Given, LentMessage, WireCause};
 use std::alloc::Global;
 
 /// The most plans that are kept for tables that aren't in force.
@@ -81,42 +83,6 @@ impl std::marker::Model for Track {
     ghost view = { λ track. record { entries = track.entries.items; current = track.current } };
 }
 
-fn is_key_of(kind: KeyKind, sent: u64, len: u64) -> bool
-    ensures { result ≡ is_key_of kind sent len }
-{
-    sent == kind.number()
-        && match kind.length() {
-            KeyLength::Exactly(exact) => len == exact,
-            KeyLength::AtMost(_) => true,
-        }
-}
-
-/// What is kept of a definition, if it is followed: its table's name is configured, and its key is
-/// that table's.
-#[tactic(auto, unfolding(crate::specs::Tracked::followed_of))]
-fn followed_of(tables: &Declared<Shape>, definition: &Definition) -> Option<Followed>
-    ensures { result ≡ followed_of tables.now definition.now }
-{
-    let table = tables.position(definition.name.as_slice())?;
-    let shape = tables.get(table)?;
-    followed_at(table, definition, shape)
-}
-
-#[tactic(auto, unfolding(crate::specs::Tracked::followed_at))]
-fn followed_at(table: usize, definition: &Definition, shape: &Shape) -> Option<Followed>
-    ensures { result ≡ followed_at table definition.now shape.now }
-{
-    if !is_key_of(shape.kind, definition.kind, definition.len) {
-        return None;
-    }
-    Some(Followed {
-        table,
-        bits: definition.bits,
-        expiry: definition.expiry,
-        periods: periods_of(definition.periods.as_slice()),
-    })
-}
-
 /// Adds the row that an update gives to the facts; false where its key or a value is cut or too
 /// large. It is read along the plan of its table, which is made where there is none.
 #[inline]
@@ -149,17 +115,6 @@ fn tell_put(
     let life = life_of(followed.expiry, life);
     facts.push_put(peer, followed.table, key, life, cells_read(plan))?;
     Ok(true)
-}
-
-/// The key of these bytes. Those of an address, as most keys are, need no copy of unknown length.
-#[inline]
-fn key_of(alloc: Global, bytes: &[u8]) -> Result<Key, NoMemory>
-    ensures { IfOk result (λ key. key ≡ bytes.now) }
-{
-    match bytes {
-        [a, b, c, d] => Key::copy(alloc, &[*a, *b, *c, *d]),
-        _ => Key::copy(alloc, bytes),
-    }
 }
 
 /// Reads the cells of an update's values along the plan, which is made where there is none; false
@@ -196,16 +151,6 @@ fn cells_read(plan: &Option<CachedPlan>) -> &[Cell]
     match plan {
         Some(plan) => plan.cells(),
         None => &[],
-    }
-}
-
-#[inline]
-fn id_after(last: u32, id: Option<u32>) -> u32
-    ensures { result ≡ id_after last id }
-{
-    match id {
-        Some(id) => id,
-        None => last.wrapping_add(1),
     }
 }
 
@@ -355,6 +300,55 @@ impl Track {
         }
     }
 
+    /// Takes the updates from a place on, as long as they are rows under the id in force along a
+    /// plan that was made: the place of the first message that isn't taken.
+    pub(crate) fn put_updates(
+        &mut self,
+        alloc: Global,
+        tables: &Declared<Shape>,
+        peer: usize,
+        plan: &mut Option<CachedPlan>,
+        given: &Given,
+        from: usize,
+        facts: &mut Whats,
+        changes: &mut Vec<Change>,
+    ) -> Result<usize, NoMemory>
+        requires { IfSome plan.old (IsPlanNow tables.now self.old) }
+        ensures undo { LeadBack changes.old.items self.old.entries
+            changes.new.items self.new.entries }
+        ensures goes_on { IfOk result (λ next. GoesOn facts.old facts.new [] []
+            (run tables.now peer self.new (drop next given.now.messages))
+            (run tables.now peer self.old (drop from given.now.messages))) }
+        ensures planned { OnOk result (IfSome plan.new (IsPlanNow tables.now self.new)) }
+        ensures forward { IfOk result (λ next. from ≤ next) }
+    {
+        let Some(plan) = plan else {
+            return Ok(from);
+        };
+        let Some(at) = self.current else {
+            return Ok(from);
+        };
+        let Some(entry) = self.entries.get(at) else {
+            return Ok(from);
+        };
+        let Some(followed) = &entry.followed else {
+            return Ok(from);
+        };
+        let Some(shape) = tables.get(followed.table) else {
+            return Ok(from);
+        };
+        let last = entry.last;
+        let (next, last) = put_updates(
+            alloc, peer, followed, shape, plan, given, from, last, facts,
+        )?;
+        if next == from {
+            return Ok(from);
+        }
+        note(changes, at, entry)?;
+        note_last(&mut self.entries[at], last);
+        Ok(next)
+    }
+
     /// A definition is in force, with its plan if that is kept. Apart, as is what follows, so that
     /// an update makes no room for what happens here.
     #[inline(never)]
@@ -483,6 +477,14 @@ impl Track {
         note_update(&mut self.entries[at], id);
         Ok(Heard::Nothing)
     }
+}
+
+/// Keeps the id of the last update, and that it came in this piece.
+fn note_last(entry: &mut Entry, last: u32)
+    ensures { entry.new ≡ record entry.old { last = last; updated = true } }
+{
+    entry.last = last;
+    entry.updated = true;
 }
 
 /// Keeps an update's id, and that it came in this piece.

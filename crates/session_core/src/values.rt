@@ -3,11 +3,14 @@
 ghost use Rattle.std.specs.Prelude.{◌≡◌, ◌<◌, ◌^◌, ◌%◌, IfOk, map, if◌then◌else◌};
 ghost use Rattle.std.specs.Option.{option_map};
 ghost use Rattle.peers_msg.specs.Payload.{number_at, string_at};
-ghost use Rattle.session_core.specs.Values.{bytes_at, text_at, key_at, has_type, is_rate_type};
+ghost use Rattle.session_core.specs.Values.{bytes_at, text_at, key_at, key_of_length, has_type};
+ghost use Rattle.session_core.specs.Values.{is_rate_type};
 ghost use Rattle.session_core.specs.Values.{periods_of, elapsed_of, life_of};
+ghost use Rattle.session_core.specs.Tracked.{id_after};
 
-use agg_types::{Col, KeyKind, KeyLength, LAST_TYPE};
+use agg_types::{Col, Key, KeyKind, KeyLength, LAST_TYPE, NoMemory};
 use peers_msg::get_int;
+use std::alloc::Global;
 
 /// How many data types come before those that are trailing bytes.
 pub(crate) const TYPES: usize = LAST_TYPE as usize + 1;
@@ -32,7 +35,15 @@ pub(crate) enum Sent {
 pub(crate) fn key_at(kind: KeyKind, bytes: &[u8]) -> Option<(&[u8], &[u8])>
     ensures { option_map (λ x. (x.0.now, x.1.now)) result ≡ key_at kind bytes.now }
 {
-    match kind.length() {
+    key_of_length(kind.length(), bytes)
+}
+
+/// The key of this length at the front, and the bytes after it; `None` where it is cut.
+#[inline]
+pub(crate) fn key_of_length(length: KeyLength, bytes: &[u8]) -> Option<(&[u8], &[u8])>
+    ensures { option_map (λ x. (x.0.now, x.1.now)) result ≡ key_of_length length bytes.now }
+{
+    match length {
         KeyLength::Exactly(exact) => bytes_at(exact, bytes),
         KeyLength::AtMost(most) => text_at(most, bytes),
     }
@@ -112,6 +123,27 @@ pub(crate) fn elapsed_of(elapsed: u64) -> u64
         0
     } else {
         elapsed
+    }
+}
+
+/// The key of these bytes. Those of an address, as most keys are, need no copy of unknown length.
+#[inline]
+pub(crate) fn key_of(alloc: Global, bytes: &[u8]) -> Result<Key, NoMemory>
+    ensures { IfOk result (λ key. key ≡ bytes.now) }
+{
+    match bytes {
+        [a, b, c, d] => Key::copy(alloc, &[*a, *b, *c, *d]),
+        _ => Key::copy(alloc, bytes),
+    }
+}
+
+#[inline]
+pub(crate) fn id_after(last: u32, id: Option<u32>) -> u32
+    ensures { result ≡ id_after last id }
+{
+    match id {
+        Some(id) => id,
+        None => last.wrapping_add(1),
     }
 }
 
