@@ -147,3 +147,49 @@ cut_at first rest i so_far at_place high h le =
     let o : leb (2 ^ 64) (first * 1 + value_from 1 (tail_front rest)) ≡ false =
     lt-leb _ _ (omega (arith, a.0, h.fits)) in
     rw (b, o, a.1) refl
+
+-- ---- integers of two and of three bytes
+
+two_bytes : (first second : ℕ) (rest : List ℕ) → 240 ≤ first → first < 256 → second < 128
+    → integer_at (first ∷ second ∷ rest) ≡ Ok (Some (first + 16 * second, 2))
+unfolding integer_at
+two_bytes first second rest high byte low =
+    let a : ltb first 240 ≡ false = le-ltb first 240 high in
+    let b : ltb second 128 ≡ true = lt-ltb second 128 low in
+    let same : first * 1 + (second * 16 + 0) ≡ first + 16 * second = omega arith in
+    let fits : leb (2 ^ 64) (first + 16 * second) ≡ false =
+    lt-leb (2 ^ 64) (first + 16 * second) (omega arith) in
+    rw (a, b, same, fits) refl
+
+three_bytes : (first second third : ℕ) (rest : List ℕ) → 240 ≤ first → first < 256
+    → 128 ≤ second → second < 256 → third < 128
+    → integer_at (first ∷ second ∷ third ∷ rest)
+    ≡ Ok (Some (first + 16 * second + 2048 * third, 3))
+unfolding integer_at
+three_bytes first second third rest high byte more other low =
+    let a : ltb first 240 ≡ false = le-ltb first 240 high in
+    let b : ltb second 128 ≡ false = le-ltb second 128 more in
+    let d : ltb third 128 ≡ true = lt-ltb third 128 low in
+    let same : first * 1 + (second * 16 + (third * 2048 + 0))
+    ≡ first + 16 * second + 2048 * third = omega arith in
+    let fits : leb (2 ^ 64) (first + 16 * second + 2048 * third) ≡ false =
+    lt-leb (2 ^ 64) (first + 16 * second + 2048 * third) (omega arith) in
+    rw (a, b, d, same, fits) refl
+
+pub two_front : (first second : ℕ) (rest : List ℕ) → 240 ≤ first → first < 256
+    → 1 ≤ length rest → second ≡ get_or rest 0 0 → second < 128
+    → integer_at (first ∷ rest) ≡ Ok (Some (first + 16 * second, 2))
+two_front first second [] high byte one is low = absurd (omega arith)
+two_front first second (b ∷ rest) high byte one is low =
+    rw is (two_bytes first b rest high byte (omega (arith, is, low)))
+
+pub three_front : (first second third : ℕ) (rest : List ℕ) → 240 ≤ first → first < 256
+    → 2 ≤ length rest → second ≡ get_or rest 0 0 → third ≡ get_or rest 1 0 → 128 ≤ second
+    → second < 256 → third < 128
+    → integer_at (first ∷ rest) ≡ Ok (Some (first + 16 * second + 2048 * third, 3))
+three_front first second third [] high byte two is_b is_c more other low = absurd (omega arith)
+three_front first second third (b ∷ []) high byte two is_b is_c more other low =
+    absurd (omega arith)
+three_front first second third (b ∷ d ∷ rest) high byte two is_b is_c more other low =
+    rw (is_b, is_c) (three_bytes first b d rest high byte (omega (arith, is_b, more))
+    (omega (arith, is_b, other)) (omega (arith, is_c, low)))

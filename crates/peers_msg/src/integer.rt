@@ -46,9 +46,30 @@ pub(crate) fn read_int(bytes: &[u8]) -> Result<Option<(u64, usize)>, IntTooLarge
             if *first < 240 {
                 Ok(Some((u64::from(*first), 1)))
             } else {
-                get_long_int(*first, rest)
+                get_more(*first, rest)
             }
         }
+    }
+}
+
+/// Reads an integer of two bytes or more, of which `first` is the first. Those of two or three, up
+/// to 264,431, take no loop.
+#[inline]
+fn get_more(first: u8, rest: &[u8]) -> Result<Option<(u64, usize)>, IntTooLarge>
+    requires { 240 ≤ first }
+    ensures exact { result ≡ integer_at (first ∷ rest.now) }
+    ensures within { IfOk result
+        (λ found. IfSome found (λ x. (0 < x.1) × (x.1 ≤ length rest.now + 1))) }
+{
+    match rest {
+        [second, ..] if *second < 128 => {
+            Ok(Some((u64::from(first) + 16 * u64::from(*second), 2)))
+        }
+        [second, third, ..] if *third < 128 => {
+            let low = u64::from(first) + 16 * u64::from(*second);
+            Ok(Some((low + 2048 * u64::from(*third), 3)))
+        }
+        _ => get_long_int(first, rest),
     }
 }
 
