@@ -13,6 +13,12 @@ use crate::kinds::*;
 use crate::{Definition, Message};
 use agg_types::NoMemory;
 
+/// The least number whose spelling takes more than one byte.
+const FIRST_OF_LONG: u64 = 240;
+
+/// How many bytes the payload of an acknowledgement has whose id takes one.
+const SHORT_ACKED: u8 = 5;
+
 /// Appends the one spelling of a message. After `NoMemory` the bytes of `out` are as they were.
 ///
 /// The message is of a known kind, and its payload no longer than the longest.
@@ -122,8 +128,22 @@ fn append_switch(id: u64, out: &mut Vec<u8>) -> Result<(), NoMemory>
     append_framed(TABLE_SWITCH, payload.as_slice(), out)
 }
 
-/// Appends an acknowledgement.
+/// Appends an acknowledgement. Where its id takes one byte, as nearly all do, no payload is laid
+/// out before.
 fn append_acked(id: u64, last: u32, out: &mut Vec<u8>) -> Result<(), NoMemory>
+    ensures ok { OnOk result (out.new.items ≡ out.old.items
+        ++ table_spelling acknowledgement (integer_spelling id ++ to_be_bytes w32 last)) }
+    ensures begins { take (length out.old.items) out.new.items ≡ out.old.items }
+{
+    if id < FIRST_OF_LONG {
+        out.extend_from_slice(&[TABLE_CLASS, ACKNOWLEDGEMENT, SHORT_ACKED, id as u8])?;
+        return Ok(out.extend_from_slice(&last.to_be_bytes())?);
+    }
+    append_long_acked(id, last, out)
+}
+
+/// Appends an acknowledgement of any id.
+fn append_long_acked(id: u64, last: u32, out: &mut Vec<u8>) -> Result<(), NoMemory>
     ensures ok { OnOk result (out.new.items ≡ out.old.items
         ++ table_spelling acknowledgement (integer_spelling id ++ to_be_bytes w32 last)) }
     ensures begins { take (length out.old.items) out.new.items ≡ out.old.items }
