@@ -2,12 +2,13 @@
 use Rattle.std.proofs.Common.{◌≡◌, ℕ, zero, suc, ◌+◌, ◌-◌, ◌<◌, ◌≤◌, Bool, List, [], ◌∷◌, ◌++◌}
 use Rattle.std.proofs.Common.{length, take, drop, map, Option, Some, None, refl, sym, ap, ◌∙◌, arith}
 use Rattle.std.proofs.Common.{append_assoc, length-append, get_or, true, false, ltb, ◌*◌, ◌%◌, ◌^◌}
-use Rattle.std.proofs.Common.{eqb, ◌&&◌}
+use Rattle.std.proofs.Common.{eqb, ◌&&◌, Ok}
 use Rattle.std.proofs.lemmas.Bool.{lt-ltb, lt-leb, eqb-true, false≢true}
 use Rattle.std.specs.Prelude.{leb}
 use Rattle.std.proofs.lemmas.List.{drop_at, drop_more, drop_all, take_rest}
 use Rattle.std.specs.Option.{option_map}
 use Rattle.peers_msg.specs.Payload.{◌>>=◌, number_at}
+use Rattle.peers_msg.proofs.Integers.{two_front, three_front}
 use Rattle.peers_msg.specs.Numeral.{integer_at}
 use Rattle.agg_types.specs.declared.event.Cell.{Cell}
 use Rattle.agg_types.specs.declared.event.Cell.TheVariants as cells
@@ -261,22 +262,19 @@ small_rate elapsed cur prev rest a b c =
       n,
     ) refl
 
-pub small_rate_front : (bytes : List ℕ) (elapsed cur prev : ℕ) (cell : Cell) → 3 ≤ length bytes
+pub small_rate_front : (bytes : List ℕ) (elapsed cur prev : ℕ) → 3 ≤ length bytes
     → elapsed ≡ get_or bytes 0 0 → cur ≡ get_or bytes 1 0 → prev ≡ get_or bytes 2 0
-    → elapsed < 240 → cur < 240 → prev < 240 → cell ≡ cells.Rate elapsed cur prev
-    → rate_at bytes ≡ Some (cell, take (length bytes - 3) (drop 3 bytes))
-small_rate_front [] elapsed cur prev cell three is_a is_b is_c a b c is = absurd (omega arith)
-small_rate_front (x ∷ []) elapsed cur prev cell three is_a is_b is_c a b c is =
+    → elapsed < 240 → cur < 240 → prev < 240
+    → rate_at bytes ≡ Some (cells.Rate elapsed cur prev, drop 3 bytes)
+small_rate_front [] elapsed cur prev three is_a is_b is_c a b c = absurd (omega arith)
+small_rate_front (x ∷ []) elapsed cur prev three is_a is_b is_c a b c = absurd (omega arith)
+small_rate_front (x ∷ y ∷ []) elapsed cur prev three is_a is_b is_c a b c =
     absurd (omega arith)
-small_rate_front (x ∷ y ∷ []) elapsed cur prev cell three is_a is_b is_c a b c is =
-    absurd (omega arith)
-small_rate_front (x ∷ y ∷ z ∷ rest) elapsed cur prev cell three is_a is_b is_c a b c is =
+small_rate_front (x ∷ y ∷ z ∷ rest) elapsed cur prev three is_a is_b is_c a b c =
     let low_a : x < 240 = omega (arith, is_a, a) in
     let low_b : y < 240 = omega (arith, is_b, b) in
     let low_c : z < 240 = omega (arith, is_c, c) in
-    small_rate x y z rest low_a low_b low_c
-    ∙ ap (λ (one : Cell). Some (one, rest)) (sym (rw (is_a, is_b, is_c) at is))
-    ∙ ap (λ (after : List ℕ). Some (cell, after)) (sym (take_rest (x ∷ y ∷ z ∷ rest) 3))
+    rw (is_a, is_b, is_c) (small_rate x y z rest low_a low_b low_c)
 
 pub small_count : (wide : Bool) (count : ℕ) (rest : List ℕ) → count < 240
     → count_at wide (count ∷ rest) ≡ Some (cells.Count count, rest)
@@ -287,12 +285,48 @@ small_count false count rest low =
     let same : count % 2 ^ 32 ≡ count = omega arith in
     rw (small_number count rest low, same) refl
 
-pub small_count_front : (wide : Bool) (bytes : List ℕ) (count : ℕ) (cell : Cell)
-    → 1 ≤ length bytes → count ≡ get_or bytes 0 0 → count < 240 → cell ≡ cells.Count count
-    → count_at wide bytes ≡ Some (cell, take (length bytes - 1) (drop 1 bytes))
-small_count_front wide [] count cell one is_first low is = absurd (omega arith)
-small_count_front wide (x ∷ rest) count cell one is_first low is =
-    let small : x < 240 = omega (arith, is_first, low) in
-    small_count wide x rest small
-    ∙ ap (λ (found : Cell). Some (found, rest)) (sym (rw is_first at is))
-    ∙ ap (λ (after : List ℕ). Some (cell, after)) (sym (take_rest (x ∷ rest) 1))
+pub one_byte_front : (wide : Bool) (bytes : List ℕ) (count : ℕ) → 1 ≤ length bytes
+    → count ≡ get_or bytes 0 0 → count < 240
+    → count_at wide bytes ≡ Some (cells.Count count, drop 1 bytes)
+one_byte_front wide [] count one is low = absurd (omega arith)
+one_byte_front wide (x ∷ rest) count one is low =
+    let small : x < 240 = omega (arith, is, low) in
+    rw is (small_count wide x rest small)
+
+-- ---- counts of two and of three bytes
+
+found_count : (wide : Bool) (bytes : List ℕ) (count len : ℕ) → count < 2 ^ 32
+    → integer_at bytes ≡ Ok (Some (count, len))
+    → count_at wide bytes ≡ Some (cells.Count count, drop len bytes)
+unfolding number_at
+found_count true bytes count len low is =
+    let same : count % 2 ^ 64 ≡ count = omega arith in
+    rw (is, same) refl
+found_count false bytes count len low is =
+    let same : count % 2 ^ 32 ≡ count = omega arith in
+    rw (is, same) refl
+
+pub two_byte_front : (wide : Bool) (bytes : List ℕ) (first second : ℕ) → 2 ≤ length bytes
+    → first ≡ get_or bytes 0 0 → second ≡ get_or bytes 1 0 → 240 ≤ first → first < 256
+    → second < 128
+    → count_at wide bytes ≡ Some (cells.Count (first + 16 * second), drop 2 bytes)
+two_byte_front wide [] first second two is_a is_b high byte low = absurd (omega arith)
+two_byte_front wide (x ∷ rest) first second two is_a is_b high byte low =
+    let high_x : 240 ≤ x = omega (arith, is_a, high) in
+    let byte_x : x < 256 = omega (arith, is_a, byte) in
+    rw is_a (found_count wide (x ∷ rest) (x + 16 * second) 2 (omega arith)
+    (two_front x second rest high_x byte_x (omega arith) is_b low))
+
+pub three_byte_front : (wide : Bool) (bytes : List ℕ) (first second third : ℕ)
+    → 3 ≤ length bytes → first ≡ get_or bytes 0 0 → second ≡ get_or bytes 1 0
+    → third ≡ get_or bytes 2 0 → 240 ≤ first → first < 256 → 128 ≤ second → second < 256
+    → third < 128 → count_at wide bytes
+    ≡ Some (cells.Count (first + 16 * second + 2048 * third), drop 3 bytes)
+three_byte_front wide [] first second third three is_a is_b is_c high byte more other low =
+    absurd (omega arith)
+three_byte_front wide (x ∷ rest) first second third three is_a is_b is_c high byte more other
+    low =
+    let high_x : 240 ≤ x = omega (arith, is_a, high) in
+    let byte_x : x < 256 = omega (arith, is_a, byte) in
+    rw is_a (found_count wide (x ∷ rest) (x + 16 * second + 2048 * third) 3 (omega arith)
+    (three_front x second third rest high_x byte_x (omega arith) is_b is_c more other low))

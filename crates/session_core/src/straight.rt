@@ -1,18 +1,23 @@
 //! The cells of an update in one pass over its bytes, where its integers are those of its columns
 //! in order.
 
-ghost use Rattle.std.specs.Prelude.{◌≡◌, Bool, IfSome, length, Some};
+ghost use Rattle.std.specs.Prelude.{◌≡◌, ◌≤◌, Bool, IfSome, drop, length, Some};
+ghost use Rattle.peers_msg.specs.Payload.{number_at};
 ghost use Rattle.std.specs.Option.{option_map};
 ghost use Rattle.session_core.specs.Plan.{AreCells};
 ghost use Rattle.session_core.specs.Straight.{is_straight};
 ghost use Rattle.session_core.specs.Along.{cell_at, cells_along, count_at, rate_at};
 
 use crate::plan::{Source, count_in, rate};
-use crate::values::{elapsed_of, low_word, number_at};
+use crate::values::{elapsed_of, low_word};
 use agg_types::Cell;
+use peers_msg::get_int;
 
 /// The least first byte of an integer of more than one byte.
 const FIRST_OF_LONG: u8 = 240;
+
+/// The last byte of such an integer is below this.
+const LAST_BELOW: u8 = 128;
 
 /// Whether the integers of these columns stand one column's behind another's, from this place up
 /// to that one.
@@ -41,76 +46,149 @@ pub(crate) fn read_straight(sources: &[Source], bytes: &[u8], cells: &mut [Cell]
 {
     let mut rest = bytes;
     for (at, source) in sources.iter().enumerate() {
-        let Some((cell, after)) = cell_at(*source, rest) else {
+        let Some(taken) = read_cell(source, rest, &mut cells[at]) else {
             return false;
         };
-        cells[at] = cell;
-        rest = after;
+        rest = &rest[taken..];
     }
     true
 }
 
-/// The cell of the column whose integers are at the front, and the bytes after them.
-#[inline]
-fn cell_at(source: Source, bytes: &[u8]) -> Option<(Cell, &[u8])>
-    ensures { option_map (λ x. (x.0, x.1.now)) result ≡ cell_at source bytes.now }
+/// Reads the cell of the column whose integers are at the front: how many bytes they take. What is
+/// rare is apart and gives one number, so that most cells make no room for it.
+#[inline(always)]
+fn read_cell(source: &Source, bytes: &[u8], cell: &mut Cell) -> Option<usize>
+    ensures exact { option_map (λ taken. (cell.new, drop taken bytes.now)) result
+        ≡ cell_at source.now bytes.now }
+    ensures within { IfSome result (λ taken. taken ≤ length bytes.now) }
 {
     match source {
-        Source::Blank(cell) => Some((cell, bytes)),
-        Source::Count { wide, .. } => match small_count_at(bytes) {
-            Some(found) => Some(found),
-            None => count_at(wide, bytes),
-        },
-        Source::Rate { .. } => match small_rate_at(bytes) {
-            Some(found) => Some(found),
-            None => rate_at(bytes),
-        },
+        Source::Blank(blank) => {
+            *cell = *blank;
+            Some(0)
+        }
+        Source::Count { wide, .. } => {
+            if let Some((count, taken)) = short_count_at(bytes) {
+                set_count(cell, count);
+                return Some(taken);
+            }
+            read_count(*wide, bytes, cell)
+        }
+        Source::Rate { .. } => {
+            if let Some((elapsed, cur, prev)) = small_rate_at(bytes) {
+                set_rate(cell, u64::from(elapsed), u32::from(cur), u32::from(prev));
+                return Some(3);
+            }
+            read_rate(bytes, cell)
+        }
     }
 }
 
-/// A count of one byte, as those of most updates, and the bytes after it.
-#[inline]
-fn small_count_at(bytes: &[u8]) -> Option<(Cell, &[u8])>
-    ensures { (wide : Bool) → IfSome result (λ x. count_at wide bytes.now ≡ Some (x.0, x.1.now)) }
+/// Puts a count into a cell. Where one was, as in all updates of a table but the first, only its
+/// number is written.
+#[inline(always)]
+fn set_count(cell: &mut Cell, count: u64)
+    ensures { cell.new ≡ Cell.Count count }
+{
+    if let Cell::Count(old) = cell {
+        *old = count;
+        return;
+    }
+    *cell = Cell::Count(count);
+}
+
+/// Puts a rate into a cell, in the same way.
+#[inline(always)]
+fn set_rate(cell: &mut Cell, elapsed: u64, cur: u32, prev: u32)
+    ensures { cell.new ≡ Cell.Rate elapsed cur prev }
+{
+    if let Cell::Rate {
+        elapsed: old_elapsed,
+        cur: old_cur,
+        prev: old_prev,
+    } = cell
+    {
+        *old_elapsed = elapsed;
+        *old_cur = cur;
+        *old_prev = prev;
+        return;
+    }
+    *cell = rate(elapsed, cur, prev);
+}
+
+/// A count of one to three bytes, as those of most updates, and how many it has.
+#[inline(always)]
+fn short_count_at(bytes: &[u8]) -> Option<(u64, usize)>
+    ensures exact { (wide : Bool) → IfSome result (λ x. count_at wide bytes.now
+        ≡ Some (Cell.Count x.0, drop x.1 bytes.now)) }
+    ensures within { IfSome result (λ x. x.1 ≤ length bytes.now) }
 {
     match bytes {
-        [count, rest @ ..] if *count < FIRST_OF_LONG => {
-            Some((Cell::Count(u64::from(*count)), rest))
+        [count, ..] if *count < FIRST_OF_LONG => Some((u64::from(*count), 1)),
+        [first, second, ..] if *second < LAST_BELOW => {
+            Some((u64::from(*first) + 16 * u64::from(*second), 2))
+        }
+        [first, second, third, ..] if *third < LAST_BELOW => {
+            let low = u64::from(*first) + 16 * u64::from(*second);
+            Some((low + 2048 * u64::from(*third), 3))
         }
         _ => None,
     }
 }
 
-/// A count, and the bytes after it.
-fn count_at(wide: bool, bytes: &[u8]) -> Option<(Cell, &[u8])>
-    ensures { option_map (λ x. (x.0, x.1.now)) result ≡ count_at wide bytes.now }
+/// Reads a count: how many bytes it takes.
+#[inline(never)]
+fn read_count(wide: bool, bytes: &[u8], cell: &mut Cell) -> Option<usize>
+    ensures exact { option_map (λ taken. (cell.new, drop taken bytes.now)) result
+        ≡ count_at wide bytes.now }
+    ensures within { IfSome result (λ taken. taken ≤ length bytes.now) }
 {
-    let (count, rest) = number_at(bytes)?;
-    Some((count_in(&[count], wide), rest))
+    let (count, taken) = number_within(bytes)?;
+    *cell = count_in(&[count], wide);
+    Some(taken)
 }
 
-/// A rate whose integers have one byte each, as those of most updates, and the bytes after it.
-#[inline]
-fn small_rate_at(bytes: &[u8]) -> Option<(Cell, &[u8])>
-    ensures { IfSome result (λ x. rate_at bytes.now ≡ Some (x.0, x.1.now)) }
+/// A rate whose integers have one byte each, as those of many updates.
+#[inline(always)]
+fn small_rate_at(bytes: &[u8]) -> Option<(u8, u8, u8)>
+    ensures exact { IfSome result (λ x. rate_at bytes.now
+        ≡ Some (Cell.Rate x.0 x.1 x.2, drop 3 bytes.now)) }
+    ensures within { IfSome result (λ x. 3 ≤ length bytes.now) }
 {
     match bytes {
-        [elapsed, cur, prev, rest @ ..]
+        [elapsed, cur, prev, ..]
             if *elapsed < FIRST_OF_LONG && *cur < FIRST_OF_LONG && *prev < FIRST_OF_LONG => {
-            let cell = rate(u64::from(*elapsed), u32::from(*cur), u32::from(*prev));
-            Some((cell, rest))
+            Some((*elapsed, *cur, *prev))
         }
         _ => None,
     }
 }
 
-/// A rate, and the bytes after it.
-fn rate_at(bytes: &[u8]) -> Option<(Cell, &[u8])>
-    ensures { option_map (λ x. (x.0, x.1.now)) result ≡ rate_at bytes.now }
+/// Reads a rate: how many bytes it takes.
+#[inline(never)]
+fn read_rate(bytes: &[u8], cell: &mut Cell) -> Option<usize>
+    ensures exact { option_map (λ taken. (cell.new, drop taken bytes.now)) result
+        ≡ rate_at bytes.now }
+    ensures within { IfSome result (λ taken. taken ≤ length bytes.now) }
 {
-    let (elapsed, rest) = number_at(bytes)?;
-    let (cur, rest) = number_at(rest)?;
-    let (prev, rest) = number_at(rest)?;
-    let cell = rate(elapsed_of(elapsed), low_word(cur), low_word(prev));
-    Some((cell, rest))
+    let (elapsed, first) = number_within(bytes)?;
+    let rest = &bytes[first..];
+    let (cur, second) = number_within(rest)?;
+    let rest = &rest[second..];
+    let (prev, third) = number_within(rest)?;
+    *cell = rate(elapsed_of(elapsed), low_word(cur), low_word(prev));
+    Some(first + second + third)
+}
+
+/// The integer at the front, and how many bytes it takes.
+#[inline]
+#[tactic(auto, unfolding(peers_msg::specs::Payload::number_at))]
+fn number_within(bytes: &[u8]) -> Option<(u64, usize)>
+    ensures exact { option_map (λ x. (x.0, drop x.1 bytes.now)) result ≡ number_at bytes.now }
+    ensures within { IfSome result (λ x. x.1 ≤ length bytes.now) }
+{
+    match get_int(bytes) {
+        Ok(Some((number, len))) => Some((number, len)),
+        Ok(None) | Err(_) => None,
+    }
 }

@@ -1,9 +1,10 @@
-use Rattle.std.proofs.Common.{arith}
+use Rattle.std.proofs.Common.{get_or, refl, arith}
 use Rattle.session_core.proofs.AlongLemmas.{small_rate_front}
 use Rattle.session_core.proofs.straight.small_rate_at.Goals as goal
 
-pub returns-in-len3-up : goal.returns-in-len3-up
-returns-in-len3-up c =
-    small_rate_front c.args.bytes.now c.from.result c.from-in-len3-up.result
-    c.from-in-len3-up-2.result c.rate-cell.result (omega arith) (omega arith) (omega arith)
-    (omega arith) (omega arith) (omega arith) (omega arith) c.rate-cell.ensures
+pub returns-in-len3-up-clause-exact : goal.returns-in-len3-up-clause-exact
+returns-in-len3-up-clause-exact c =
+    small_rate_front c.args.bytes.now (get_or c.args.bytes.now 0 0)
+    (get_or c.args.bytes.now 1 0) (get_or c.args.bytes.now 2 0) (omega arith) refl refl refl
+    c.if-elapsed-lt-FIRST_OF_LONG.true c.if-cur-lt-FIRST_OF_LONG.true
+    c.if-prev-lt-FIRST_OF_LONG.true
