@@ -1,17 +1,19 @@
-//! Updates of one table, one behind the other: what they have in common is looked up once.
+//! The rows that updates give. What updates of one table have in common, that stand one behind the
+//! other, is looked up once.
 
-ghost use Rattle.std.specs.Prelude.{◌≡◌, ◌≤◌, ◌==◌, IfOk};
+ghost use Rattle.std.specs.Prelude.{◌≡◌, ◌≤◌, ◌==◌, IfOk, IfSome, OnOk};
 ghost use Rattle.std.specs.Option.{option_map};
 ghost use Rattle.agg_types.specs.Kind.{kind_length};
 ghost use Rattle.session_core.specs.Meaning.{AddsFact};
-ghost use Rattle.session_core.specs.Plan.{AreCells, IsPlan};
+ghost use Rattle.session_core.specs.Plan.{AreCells, IsPlan, IsPlanOf, cells_read};
 ghost use Rattle.session_core.specs.Puts.{PutsGoOn, put_in};
+ghost use Rattle.session_core.specs.Tracked.{put_of};
 ghost use Rattle.session_core.specs.Values.{cells_of, sents_at};
 
 use crate::cached_plan::CachedPlan;
 use crate::track::Followed;
-use crate::values::{id_after, key_of, key_of_length, life_of};
-use agg_types::{Col, KeyLength, NoMemory, Shape, Whats};
+use crate::values::{id_after, key_at, key_of, key_of_length, life_of};
+use agg_types::{Cell, Col, Declared, KeyLength, NoMemory, Shape, Whats};
 use peers_msg::{Given, LentMessage};
 use std::alloc::Global;
 
@@ -106,4 +108,75 @@ fn read_cells(
     ensures planned { IsPlan followed.now.bits followed.now.periods cols.now plan.new }
 {
     plan.read(values)
+}
+
+/// Adds the row that an update gives to the facts; false where its key or a value is cut or too
+/// large. It is read along the plan of its table, which is made where there is none.
+#[inline]
+#[tactic(auto, unfolding(crate::specs::Tracked::put_of))]
+pub(crate) fn tell_put(
+    alloc: Global,
+    tables: &Declared<Shape>,
+    peer: usize,
+    followed: &Followed,
+    plan: &mut Option<CachedPlan>,
+    life: Option<u32>,
+    bytes: &[u8],
+    facts: &mut Whats,
+) -> Result<bool, NoMemory>
+    requires { IfSome plan.old (IsPlanOf tables.now followed.now) }
+    ensures put { IfOk result (λ told. AddsFact told facts.old facts.new
+        (put_of tables.now peer followed.now life bytes.now)) }
+    ensures planned { OnOk result (IfSome plan.new (IsPlanOf tables.now followed.now)) }
+{
+    let Some(shape) = tables.get(followed.table) else {
+        return Ok(false);
+    };
+    let Some((key, values)) = key_at(shape.kind, bytes) else {
+        return Ok(false);
+    };
+    if !read_planned(alloc, followed, shape.cols.as_slice(), plan, values)? {
+        return Ok(false);
+    }
+    let key = key_of(alloc, key)?;
+    let life = life_of(followed.expiry, life);
+    facts.push_put(peer, followed.table, key, life, cells_read(plan))?;
+    Ok(true)
+}
+
+/// Reads the cells of an update's values along the plan, which is made where there is none; false
+/// where a value is cut or too large.
+#[inline]
+fn read_planned(
+    alloc: Global,
+    followed: &Followed,
+    cols: &[(Col, u32)],
+    plan: &mut Option<CachedPlan>,
+    values: &[u8],
+) -> Result<bool, NoMemory>
+    requires { IfSome plan.old (IsPlan followed.now.bits followed.now.periods cols.now) }
+    ensures cells { IfOk result (λ whole. AreCells whole (cells_read plan.new)
+        (option_map (λ sents. cells_of sents followed.now.periods cols.now)
+        (sents_at followed.now.bits values.now))) }
+    ensures planned { OnOk result
+        (IfSome plan.new (IsPlan followed.now.bits followed.now.periods cols.now)) }
+{
+    if let Some(plan) = plan {
+        return Ok(plan.read(values));
+    }
+    let mut made = CachedPlan::new(alloc, followed.bits, &followed.periods, cols)?;
+    let whole = made.read(values);
+    *plan = Some(made);
+    Ok(whole)
+}
+
+/// The cells that were read last along a plan.
+#[inline]
+fn cells_read(plan: &Option<CachedPlan>) -> &[Cell]
+    ensures { result.now ≡ cells_read plan.now }
+{
+    match plan {
+        Some(plan) => plan.cells(),
+        None => &[],
+    }
 }

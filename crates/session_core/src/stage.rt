@@ -251,7 +251,7 @@ fn answer(
     facts.reserve(given.len())?;
     let mut out = replies;
     let current = dialogue.track.current();
-    let mut changes = Vec::new(alloc);
+    let mut changes = dialogue.track.take_room();
     match say(
         alloc,
         tables,
@@ -264,6 +264,7 @@ fn answer(
     ) {
         Ok((end, split)) => {
             dialogue.track.clear_updated();
+            dialogue.track.keep_room(changes);
             dialogue.feed.commit(given);
             Ok(Outcome {
                 batch: Batch::new(facts, out, split),

@@ -4,30 +4,31 @@ ghost use Rattle.std.specs.Prelude.{◌≡◌, ◌≤◌, List, [], drop, length
 ghost use Rattle.std.specs.Option.{option_map};
 ghost use Rattle.agg_types.specs.declared.event.What.{What};
 ghost use Rattle.peers_msg.specs.Lent.{as_message};
-ghost use Rattle.session_core.specs.Meaning.{AddsFact};
-ghost use Rattle.session_core.specs.Plan.{AreCells, IsPlan, IsPlanOf, IsPlanNow, cells_read};
-ghost use Rattle.session_core.specs.Plan.{followed_now};
+ghost use Rattle.session_core.specs.Plan.{IsPlanNow, followed_now};
 ghost use Rattle.session_core.specs.Run.{GoesOn, run, settled};
-ghost use Rattle.session_core.specs.Values.{cells_of, sents_at};
 ghost use Rattle.session_core.specs.Undo.{undone, LeadBack};
-ghost use Rattle.session_core.specs.Tracked.{followed_of, put_of, id_after};
+ghost use Rattle.session_core.specs.Tracked.{followed_of, id_after};
 ghost use Rattle.session_core.specs.Tracked.{place, entry_of, IsStep, defined, switched};
 ghost use Rattle.session_core.specs.Tracked.{updated_under, step_of};
 
 use crate::cached_plan::{CachedPlan, take_plan};
 use crate::cause::End;
 use crate::followed::followed_of;
-use crate::puts::put_updates;
+use crate::puts::{put_updates, tell_put};
 use crate::run::clear_updated;
 use crate::undo::{Change, note, take_back};
-use crate::values::{TYPES, id_after, key_at, key_of, life_of};
+use crate::values::{TYPES, id_after};
 use agg_types::limits::MOST_FOLLOWED;
-use agg_types::{Cell, Col, Declared, NoMemory, Shape, Whats};
+use agg_types::{Declared, NoMemory, Shape, Whats};
 use peers_msg::{Definition, Given, LentMessage, WireCause};
 use std::alloc::Global;
+use std::mem;
 
 /// The most plans that are kept for tables that aren't in force.
 const MOST_PLANS: usize = 16;
+
+/// For how many changes room is kept at most.
+const MOST_CHANGES: usize = 4;
 
 /// What is kept of a definition that is followed.
 #[derive(Clone, Copy, Debug)]
@@ -73,6 +74,8 @@ pub(crate) struct Track {
     current: Option<usize>,
     /// Plans that were made; which of them are kept is nothing that contracts see.
     plans: Vec<CachedPlan>,
+    /// Room for the changes of the next piece; nothing that contracts see either.
+    room: Vec<Change>,
 }
 
 impl std::marker::Model for Track {
@@ -81,77 +84,6 @@ impl std::marker::Model for Track {
     ghost Value = { Tracked };
 
     ghost view = { λ track. record { entries = track.entries.items; current = track.current } };
-}
-
-/// Adds the row that an update gives to the facts; false where its key or a value is cut or too
-/// large. It is read along the plan of its table, which is made where there is none.
-#[inline]
-#[tactic(auto, unfolding(crate::specs::Tracked::put_of))]
-fn tell_put(
-    alloc: Global,
-    tables: &Declared<Shape>,
-    peer: usize,
-    followed: &Followed,
-    plan: &mut Option<CachedPlan>,
-    life: Option<u32>,
-    bytes: &[u8],
-    facts: &mut Whats,
-) -> Result<bool, NoMemory>
-    requires { IfSome plan.old (IsPlanOf tables.now followed.now) }
-    ensures put { IfOk result (λ told. AddsFact told facts.old facts.new
-        (put_of tables.now peer followed.now life bytes.now)) }
-    ensures planned { OnOk result (IfSome plan.new (IsPlanOf tables.now followed.now)) }
-{
-    let Some(shape) = tables.get(followed.table) else {
-        return Ok(false);
-    };
-    let Some((key, values)) = key_at(shape.kind, bytes) else {
-        return Ok(false);
-    };
-    if !read_planned(alloc, followed, shape.cols.as_slice(), plan, values)? {
-        return Ok(false);
-    }
-    let key = key_of(alloc, key)?;
-    let life = life_of(followed.expiry, life);
-    facts.push_put(peer, followed.table, key, life, cells_read(plan))?;
-    Ok(true)
-}
-
-/// Reads the cells of an update's values along the plan, which is made where there is none; false
-/// where a value is cut or too large.
-#[inline]
-fn read_planned(
-    alloc: Global,
-    followed: &Followed,
-    cols: &[(Col, u32)],
-    plan: &mut Option<CachedPlan>,
-    values: &[u8],
-) -> Result<bool, NoMemory>
-    requires { IfSome plan.old (IsPlan followed.now.bits followed.now.periods cols.now) }
-    ensures cells { IfOk result (λ whole. AreCells whole (cells_read plan.new)
-        (option_map (λ sents. cells_of sents followed.now.periods cols.now)
-        (sents_at followed.now.bits values.now))) }
-    ensures planned { OnOk result
-        (IfSome plan.new (IsPlan followed.now.bits followed.now.periods cols.now)) }
-{
-    if let Some(plan) = plan {
-        return Ok(plan.read(values));
-    }
-    let mut made = CachedPlan::new(alloc, followed.bits, &followed.periods, cols)?;
-    let whole = made.read(values);
-    *plan = Some(made);
-    Ok(whole)
-}
-
-/// The cells that were read last along a plan.
-#[inline]
-fn cells_read(plan: &Option<CachedPlan>) -> &[Cell]
-    ensures { result.now ≡ cells_read plan.now }
-{
-    match plan {
-        Some(plan) => plan.cells(),
-        None => &[],
-    }
 }
 
 /// How many entries have a smaller id: the place of this one.
@@ -196,6 +128,27 @@ impl Track {
             entries: Vec::new(alloc),
             current: None,
             plans: Vec::new(alloc),
+            room: Vec::new(alloc),
+        }
+    }
+
+    /// Takes out the room for the changes of a piece. Takes no memory.
+    pub(crate) fn take_room(&mut self) -> Vec<Change>
+        ensures none { result.items ≡ [] }
+        ensures same { self.new ≡ self.old }
+    {
+        let alloc = *self.room.allocator();
+        let mut room = mem::replace(&mut self.room, Vec::new(alloc));
+        room.clear();
+        room
+    }
+
+    /// Keeps the room of changes that are done with, unless there were many.
+    pub(crate) fn keep_room(&mut self, changes: Vec<Change>)
+        ensures { self.new ≡ self.old }
+    {
+        if changes.capacity() <= MOST_CHANGES {
+            self.room = changes;
         }
     }
 

@@ -1,5 +1,5 @@
 use Rattle.session_core.proofs.PlanLemmas.{planned_cells}
-use Rattle.session_core.proofs.track.read_planned.Goals as goal
+use Rattle.session_core.proofs.puts.read_planned.Goals as goal
 
 pub returns-in-Some-clause-cells : goal.returns-in-Some-clause-cells
 returns-in-Some-clause-cells c =
