@@ -1,8 +1,8 @@
 -- Updates of one table, one behind the other.
 use Rattle.std.proofs.Common.{◌≡◌, ℕ, ◌+◌, ◌≤◌, ◌<◌, Bool, true, false, List, [], length, drop}
-use Rattle.std.proofs.Common.{Option, Some, refl, sym, ap, subst, ◌∙◌, arith, inl, inr}
+use Rattle.std.proofs.Common.{Option, None, Some, refl, sym, ap, subst, ◌∙◌, arith, inl, inr}
 use Rattle.std.proofs.Common.{get_or-set_same}
-use Rattle.std.specs.Prelude.{slice_get, slice_set, eqb, ◌++◌}
+use Rattle.std.specs.Prelude.{IfSome, slice_get, slice_set, eqb, ◌++◌}
 use Rattle.std.proofs.lemmas.Bool.{eqb-true}
 use Rattle.std.proofs.lemmas.Bool.Decides.{eqb_tells}
 use Rattle.std.proofs.lemmas.List.{length-set, set-set}
@@ -16,7 +16,7 @@ use Rattle.session_core.specs.declared.track.Followed.{Followed}
 use Rattle.session_core.specs.declared.track.Heard.TheVariants as heard
 use Rattle.session_core.specs.declared.decode_plan.DecodePlan.{DecodePlan}
 use Rattle.session_core.specs.Meaning.{AddsFact}
-use Rattle.session_core.specs.Plan.{IsPlan, IsPlanOf, followed_now}
+use Rattle.session_core.specs.Plan.{IsPlan, IsPlanNow, IsPlanOf, followed_now}
 use Rattle.session_core.specs.Puts.{IsInForce, PutsGoOn, after_puts, put_in}
 use Rattle.session_core.specs.Run.{GoesOn, Run, run}
 use Rattle.session_core.specs.Tracked.{Tracked, IsStep, id_after, put_of, step_of, updated_under}
@@ -178,6 +178,14 @@ pub plan_of_force : (tables : List Shape) (t : Tracked) (at : ℕ) (entry : Entr
 plan_of_force tables t at entry followed shape last plan is h =
     λ other e. subst (λ (s : Shape). IsPlan followed.bits followed.periods s.cols plan)
     (some_same (sym is.has_shape ∙ e)) h
+
+pub plan_in_force : (plan : Option DecodePlan) (tables : List Shape) (t : Tracked) (at : ℕ)
+    (entry : Entry) (followed : Followed) (shape : Shape) (last : ℕ)
+    → IsInForce tables t at entry followed shape last → IfSome plan (IsPlanNow tables t)
+    → IfSome plan (IsPlan followed.bits followed.periods shape.cols)
+plan_in_force None tables t at entry followed shape last is h = tt
+plan_in_force (Some plan) tables t at entry followed shape last is h =
+    h followed (now_of_force tables t at entry followed shape last is) shape is.has_shape
 
 pub none_put : (peer : ℕ) (followed : Followed) (shape : Shape) (from last : ℕ)
     (old facts : List What) (list : List Message) (next newest : ℕ) (tables : List Shape)

@@ -13,7 +13,7 @@ ghost use Rattle.session_core.specs.Values.{cells_of, sents_at};
 use crate::cached_plan::CachedPlan;
 use crate::track::Followed;
 use crate::values::{id_after, key_at, key_of, key_of_length, life_of};
-use agg_types::{Cell, Col, Declared, KeyLength, NoMemory, Shape, Whats};
+use agg_types::{Cell, Cells, Col, Declared, KeyLength, NoMemory, Shape, What, Whats};
 use peers_msg::{Given, LentMessage};
 use std::alloc::Global;
 
@@ -110,9 +110,27 @@ fn read_cells(
     plan.read(values)
 }
 
-/// Adds the row that an update gives to the facts; false where its key or a value is cut or too
-/// large. It is read along the plan of its table, which is made where there is none.
-#[inline]
+/// Makes the plan of a definition, where there is none.
+pub(crate) fn make_plan(
+    alloc: Global,
+    followed: &Followed,
+    cols: &[(Col, u32)],
+    plan: &mut Option<CachedPlan>,
+) -> Result<(), NoMemory>
+    requires { IfSome plan.old (IsPlan followed.now.bits followed.now.periods cols.now) }
+    ensures { OnOk result
+        (IfSome plan.new (IsPlan followed.now.bits followed.now.periods cols.now)) }
+{
+    if plan.is_none() {
+        let made = CachedPlan::new(alloc, followed.bits, &followed.periods, cols)?;
+        *plan = Some(made);
+    }
+    Ok(())
+}
+
+/// Adds the row that an update alone gives to the facts; false where its key or a value is cut or
+/// too large. Runs have taken all that can be read, so this finds one that can't, and needs no
+/// speed. Without a second call of `push_put`, the one of the run is laid into it.
 #[tactic(auto, unfolding(crate::specs::Tracked::put_of))]
 pub(crate) fn tell_put(
     alloc: Global,
@@ -138,9 +156,14 @@ pub(crate) fn tell_put(
     if !read_planned(alloc, followed, shape.cols.as_slice(), plan, values)? {
         return Ok(false);
     }
-    let key = key_of(alloc, key)?;
-    let life = life_of(followed.expiry, life);
-    facts.push_put(peer, followed.table, key, life, cells_read(plan))?;
+    let what = What::Put {
+        peer,
+        table: followed.table,
+        key: key_of(alloc, key)?,
+        life: life_of(followed.expiry, life),
+        cells: Cells::copy(alloc, cells_read(plan))?,
+    };
+    facts.push(what)?;
     Ok(true)
 }
 

@@ -14,7 +14,7 @@ ghost use Rattle.session_core.specs.Tracked.{updated_under, step_of};
 use crate::cached_plan::{CachedPlan, take_plan};
 use crate::cause::End;
 use crate::followed::followed_of;
-use crate::puts::{put_updates, tell_put};
+use crate::puts::{make_plan, put_updates, tell_put};
 use crate::run::clear_updated;
 use crate::undo::{Change, note, take_back};
 use crate::values::{TYPES, id_after};
@@ -253,8 +253,8 @@ impl Track {
         }
     }
 
-    /// Takes the updates from a place on, as long as they are rows under the id in force along a
-    /// plan that was made: the place of the first message that isn't taken.
+    /// Takes the updates from a place on, as long as they are rows under the id in force: the place
+    /// of the first message that isn't taken.
     pub(crate) fn put_updates(
         &mut self,
         alloc: Global,
@@ -275,7 +275,7 @@ impl Track {
         ensures planned { OnOk result (IfSome plan.new (IsPlanNow tables.now self.new)) }
         ensures forward { IfOk result (λ next. from ≤ next) }
     {
-        let Some(plan) = plan else {
+        let Some(LentMessage::Update { .. }) = given.get(from) else {
             return Ok(from);
         };
         let Some(at) = self.current else {
@@ -288,6 +288,10 @@ impl Track {
             return Ok(from);
         };
         let Some(shape) = tables.get(followed.table) else {
+            return Ok(from);
+        };
+        make_plan(alloc, followed, shape.cols.as_slice(), plan)?;
+        let Some(plan) = plan else {
             return Ok(from);
         };
         let last = entry.last;
@@ -393,8 +397,9 @@ impl Track {
         };
     }
 
-    /// An update under the id in force.
-    #[inline]
+    /// An update under the id in force that no run has taken, as it can't be read.
+    #[cold]
+    #[inline(never)]
     fn update(
         &mut self,
         alloc: Global,
