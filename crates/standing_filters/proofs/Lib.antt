@@ -9,5 +9,6 @@ pub mod OneByOne
 pub mod Walking
 pub mod Removed
 pub mod Placing
+pub mod Marking
 pub mod Forgotten
 pub mod Settling

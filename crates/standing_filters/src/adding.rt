@@ -73,7 +73,7 @@ impl Adding {
         if verdict.is_out() {
             return Ok(());
         }
-        self.watch.change(key, verdict)?;
+        self.watch.change(None, key, verdict)?;
         Ok(())
     }
 

@@ -51,7 +51,7 @@ fn forget_keys(watch: &mut Watch, at: usize, keys: &[Key], flips: &mut Flips)
         (λ key. (verdict_at (kept_by watch.new) key).holds) flips.old flips.new }
 {
     for key in keys {
-        let held = watch.forget(key);
+        let held = watch.forget(None, key);
         flips.note(at, key, held, false);
     }
 }

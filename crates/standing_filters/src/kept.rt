@@ -16,9 +16,10 @@ ghost use Rattle.standing_filters.specs.Watched.{keys_held};
 
 use crate::judging::Verdict;
 use crate::keys::Keys;
+use crate::marked::MarkedVerdicts;
 use crate::planned::{Planned, change_at};
 use agg_types::{Key, NoMemory};
-use place_index::{PlaceIndex, PlaceValue};
+use place_index::PlaceValue;
 use std::alloc::Global;
 use std::collections::BTreeMap;
 use std::marker::Model;
@@ -31,7 +32,7 @@ use std::marker::Model;
 /// Contracts see the list of the places.
 #[derive(Drop)]
 pub(crate) struct KeptVerdicts {
-    verdicts: PlaceIndex<Key, Verdict>,
+    verdicts: MarkedVerdicts,
     // The place of each key's verdict.
     order: BTreeMap<Key, usize>,
     alloc: Global,
@@ -53,7 +54,7 @@ impl KeptVerdicts {
         ensures { result ≡ [] }
     {
         KeptVerdicts {
-            verdicts: PlaceIndex::new(alloc),
+            verdicts: MarkedVerdicts::new(alloc),
             order: BTreeMap::new(alloc),
             alloc,
         }
@@ -114,14 +115,16 @@ impl KeptVerdicts {
         first
     }
 
-    /// The place of a key, and the verdict there.
-    pub(crate) fn find(&self, key: &Key) -> Option<(usize, Verdict)>
+    /// The place of a key, and the verdict there. A hint names a place where the key may lie: one
+    /// that is right saves the search, and no answer depends on it.
+    #[inline]
+    pub(crate) fn find_near(&self, hint: Option<usize>, key: &Key) -> Option<(usize, Verdict)>
         ensures own { IfSome result (λ found. item_at self.now found.0
             ≡ Some (key.now, found.1)) }
         ensures kept { option_map (λ found. found.1) result
             ≡ kept_at (in_order self.now) key.now }
     {
-        let at = self.verdicts.find(key)?;
+        let at = self.verdicts.find_near(hint, key)?;
         let verdict = self.verdicts.value(at)?;
         Some((at, *verdict))
     }

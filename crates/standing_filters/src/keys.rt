@@ -4,9 +4,8 @@ ghost use Rattle.std.specs.Map.Iter.{TakesFirst, deref};
 ghost use Rattle.standing_filters.specs.Placed.{verdict_in, verdicts_in};
 ghost use Rattle.standing_filters.specs.Watched.{keys_held};
 
-use crate::judging::Verdict;
+use crate::marked::MarkedVerdicts;
 use agg_types::Key;
-use place_index::PlaceIndex;
 use std::collections::btree_map::Iter;
 use std::marker::Model;
 
@@ -17,7 +16,7 @@ use std::marker::Model;
 pub struct Keys<'a> {
     // The place of each key's verdict.
     order: Iter<'a, Key, usize>,
-    verdicts: &'a PlaceIndex<Key, Verdict>,
+    verdicts: &'a MarkedVerdicts,
 }
 
 impl<'a> Model for Keys<'a> {
@@ -31,10 +30,7 @@ impl<'a> Model for Keys<'a> {
 }
 
 impl<'a> Keys<'a> {
-    pub(crate) fn new(
-        order: Iter<'a, Key, usize>,
-        verdicts: &'a PlaceIndex<Key, Verdict>,
-    ) -> Keys<'a>
+    pub(crate) fn new(order: Iter<'a, Key, usize>, verdicts: &'a MarkedVerdicts) -> Keys<'a>
         ensures { result ≡ keys_held (verdicts_in verdicts.entry.now.places order.entry) }
     {
         Keys { order, verdicts }
@@ -59,7 +55,7 @@ impl<'a> Iterator for Keys<'a> {
 }
 
 // Whether the verdict in a place says that its key is held.
-fn is_held(verdicts: &PlaceIndex<Key, Verdict>, at: usize) -> bool
+fn is_held(verdicts: &MarkedVerdicts, at: usize) -> bool
     ensures { result ≡ (verdict_in verdicts.now.places at).holds }
 {
     match verdicts.value(at) {

@@ -4,9 +4,8 @@ ghost use Rattle.std.specs.Map.Iter.{TakesFirst};
 ghost use Rattle.standing_filters.specs.Placed.{change_in, verdicts_in};
 ghost use Rattle.standing_filters.specs.Plans.{changes_of, lent_change};
 
-use crate::judging::Verdict;
+use crate::marked::MarkedVerdicts;
 use agg_types::Key;
-use place_index::PlaceIndex;
 use std::collections::btree_map::Iter;
 use std::marker::Model;
 
@@ -18,7 +17,7 @@ use std::marker::Model;
 pub struct Planned<'a> {
     // The place of each key's verdict.
     order: Iter<'a, Key, usize>,
-    verdicts: &'a PlaceIndex<Key, Verdict>,
+    verdicts: &'a MarkedVerdicts,
 }
 
 impl<'a> Model for Planned<'a> {
@@ -32,10 +31,7 @@ impl<'a> Model for Planned<'a> {
 }
 
 impl<'a> Planned<'a> {
-    pub(crate) fn new(
-        order: Iter<'a, Key, usize>,
-        verdicts: &'a PlaceIndex<Key, Verdict>,
-    ) -> Planned<'a>
+    pub(crate) fn new(order: Iter<'a, Key, usize>, verdicts: &'a MarkedVerdicts) -> Planned<'a>
         ensures { result ≡ changes_of (verdicts_in verdicts.entry.now.places order.entry) }
     {
         Planned { order, verdicts }
@@ -60,7 +56,7 @@ impl<'a> Iterator for Planned<'a> {
 }
 
 /// When the verdict in a place changes.
-pub(crate) fn change_at(verdicts: &PlaceIndex<Key, Verdict>, at: usize) -> Option<u64>
+pub(crate) fn change_at(verdicts: &MarkedVerdicts, at: usize) -> Option<u64>
     ensures { result ≡ change_in verdicts.now.places at }
 {
     match verdicts.value(at) {

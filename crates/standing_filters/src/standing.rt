@@ -100,8 +100,33 @@ impl Standing {
         ensures flips { OnOk result (TellsIfKnown (holding self.old.filters)
             (holding self.new.filters) flips.old flips.new) }
     {
+        self.touch_near(None, table, key, values, now, meter, flips)
+    }
+
+    /// What `touch` does and answers, whatever the hint: a place where the verdict on the key may
+    /// lie, of each filter. One that is right saves the search. Where keys come in the order in
+    /// which the rows of keys come, that is the place of the rows.
+    pub fn touch_near<V: Values>(
+        &mut self,
+        hint: Option<usize>,
+        table: usize,
+        key: &Key,
+        values: &V,
+        now: u64,
+        meter: &mut Meter,
+        flips: &mut Flips,
+    ) -> Result<(), NoMemory>
+        ensures ok { OnOk result (AreTouched (V.summed values.now) (V.living values.now) table
+            key.now now self.old.filters self.new.filters) }
+        ensures err { OnErr result (self.new ≡ self.old) }
+        ensures dead { V.living values.now table key.now now ≡ 0 → IsOk result }
+        ensures counted { IsFlatSoon now (V.flat values.now table key.now)
+            → meter.new.evals ≤ meter.old.evals + 505 * filters_of table self.old.filters }
+        ensures flips { OnOk result (TellsIfKnown (holding self.old.filters)
+            (holding self.new.filters) flips.old flips.new) }
+    {
         let watches = self.watches.as_mut_slice();
-        touch_each(watches, 0, table, key, values, now, meter, flips)
+        touch_each(watches, 0, hint, table, key, values, now, meter, flips)
     }
 
     /// The clock goes on to a moment, in ms: judges each key whose verdict changes up to then, by

@@ -15,10 +15,12 @@ use crossing::{Meter, Values};
 
 /// Judges a key by each filter of its table at a moment, and notes where it comes into a set or
 /// leaves it. The first filter stands at a place. After `NoMemory` no verdict has changed. A key
-/// that has no live row takes no memory but for flips.
+/// that has no live row takes no memory but for flips. A hint says in which place of each filter's
+/// verdicts that on the key may lie; no answer depends on it.
 pub(crate) fn touch_each<V: Values>(
     watches: &mut [Watch],
     at: usize,
+    hint: Option<usize>,
     table: usize,
     key: &Key,
     values: &V,
@@ -44,22 +46,22 @@ pub(crate) fn touch_each<V: Values>(
         return Ok(());
     };
     if !first.is_of(table) {
-        return touch_each(rest, at + 1, table, key, values, now, meter, flips);
+        return touch_each(rest, at + 1, hint, table, key, values, now, meter, flips);
     }
     let verdict = first.judge(key, values, now, meter);
     if !is_any_of(rest, table) {
-        let held = first.change(key, verdict)?;
+        let held = first.change(hint, key, verdict)?;
         flips.note(at, key, held, verdict.holds);
         return Ok(());
     }
     if verdict.is_out() {
-        touch_each(rest, at + 1, table, key, values, now, meter, flips)?;
-        let held = first.forget(key);
+        touch_each(rest, at + 1, hint, table, key, values, now, meter, flips)?;
+        let held = first.forget(hint, key);
         flips.note(at, key, held, verdict.holds);
         return Ok(());
     }
-    let room = first.prepare(key)?;
-    if let Err(refused) = touch_each(rest, at + 1, table, key, values, now, meter, flips) {
+    let room = first.prepare(hint, key)?;
+    if let Err(refused) = touch_each(rest, at + 1, hint, table, key, values, now, meter, flips) {
         first.back_out(room);
         return Err(refused);
     }

@@ -129,8 +129,9 @@ impl Watch {
         judge(&self.filter, key, values, now, meter)
     }
 
-    /// Makes room for a verdict on a key. After `NoMemory` nothing has changed.
-    pub(crate) fn prepare(&mut self, key: &Key) -> Result<Room, NoMemory>
+    /// Makes room for a verdict on a key. After `NoMemory` nothing has changed. No answer depends
+    /// on the hint.
+    pub(crate) fn prepare(&mut self, hint: Option<usize>, key: &Key) -> Result<Room, NoMemory>
         requires { IsWatch self.old }
         ensures filter { self.new.filter ≡ self.old.filter }
         ensures stay { IsWatch self.new }
@@ -144,7 +145,7 @@ impl Watch {
             (AreAlike self.old.places (slice_set self.new.places room.at None))) }
         ensures err { OnErr result (view_of_watch self.new ≡ view_of_watch self.old) }
     {
-        if let Some((at, old)) = self.kept.find(key) {
+        if let Some((at, old)) = self.kept.find_near(hint, key) {
             return Ok(Room { at, old: Some(old) });
         }
         let at = self.enter(key, OUT)?;
@@ -178,8 +179,13 @@ impl Watch {
 
     /// Keeps a verdict on a key, and plans its change. Answers whether the key was held before.
     /// After `NoMemory` nothing has changed; `OUT` is never refused. No search of the keys in
-    /// order, where one is kept already.
-    pub(crate) fn change(&mut self, key: &Key, verdict: Verdict) -> Result<bool, NoMemory>
+    /// order, where one is kept already. No answer depends on the hint.
+    pub(crate) fn change(
+        &mut self,
+        hint: Option<usize>,
+        key: &Key,
+        verdict: Verdict,
+    ) -> Result<bool, NoMemory>
         requires { IsWatch self.old }
         ensures filter { self.new.filter ≡ self.old.filter }
         ensures stay { IsWatch self.new }
@@ -190,9 +196,9 @@ impl Watch {
         ensures out { verdict ≡ out → IsOk result }
     {
         if verdict.is_out() {
-            return Ok(self.forget(key));
+            return Ok(self.forget(hint, key));
         }
-        let Some((at, old)) = self.kept.find(key) else {
+        let Some((at, old)) = self.kept.find_near(hint, key) else {
             self.enter(key, verdict)?;
             return Ok(false);
         };
@@ -203,15 +209,16 @@ impl Watch {
         Ok(old.holds)
     }
 
-    /// Keeps no verdict on a key, so that it is `OUT`. Answers whether it was held before.
-    pub(crate) fn forget(&mut self, key: &Key) -> bool
+    /// Keeps no verdict on a key, so that it is `OUT`. Answers whether it was held before. No
+    /// answer depends on the hint.
+    pub(crate) fn forget(&mut self, hint: Option<usize>, key: &Key) -> bool
         requires { IsWatch self.old }
         ensures filter { self.new.filter ≡ self.old.filter }
         ensures stay { IsWatch self.new }
         ensures was { result ≡ (verdict_at (kept_by self.old) key.now).holds }
         ensures kept { Becomes key.now out (kept_by self.old) (kept_by self.new) }
     {
-        let Some((at, old)) = self.kept.find(key) else {
+        let Some((at, old)) = self.kept.find_near(hint, key) else {
             return false;
         };
         self.take_out(at);

@@ -3,7 +3,8 @@ use Rattle.place_index.specs.Places.{in_order}
 use Rattle.place_index.proofs.Ordered.{lookup-absent, lookup-held}
 use Rattle.standing_filters.specs.Placed.{VerdictPlaces}
 use Rattle.standing_filters.specs.Plans.{kept_at}
-use Rattle.standing_filters.proofs.kept.KeptVerdicts.find.Goals as goal
+use Rattle.standing_filters.proofs.Placing.{distinct_placed}
+use Rattle.standing_filters.proofs.kept.KeptVerdicts.find_near.Goals as goal
 
 pub returns-in_err-at-clause-kept : goal.returns-in_err-at-clause-kept
 returns-in_err-at-clause-kept c = rw c.from_residual.ensures
@@ -13,6 +14,8 @@ returns-in_err-at-clause-kept c = rw c.from_residual.ensures
 pub returns-clause-kept : goal.returns-clause-kept
 returns-clause-kept c =
     sym (lookup-held c.self.inside.verdicts.places c.in_ok-at.at c.args.key.now
-    c.in_ok-verdict.verdict.now c.in_ok-at.ensures.distinct c.in_ok-at.ensures.some
+    c.in_ok-verdict.verdict.now
+    (distinct_placed c.self.inside.verdicts.places c.self.inside.order.entries c.self.invariant)
+    c.in_ok-at.ensures.some
     (sym c.in_ok-verdict.ensures))
     ∙ ap (λ (l : VerdictPlaces). kept_at (in_order l) c.args.key.now) c.self.view_is

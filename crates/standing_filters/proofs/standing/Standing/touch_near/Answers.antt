@@ -6,7 +6,7 @@ use Rattle.standing_filters.specs.Flips.{TellsIfKnown, holding}
 use Rattle.standing_filters.specs.Plans.{Watching, view_of_watch}
 use Rattle.standing_filters.specs.Watched.{AllWatched, Watched}
 use Rattle.standing_filters.proofs.Said.{from_all}
-use Rattle.standing_filters.proofs.standing.Standing.touch.Goals as goal
+use Rattle.standing_filters.proofs.standing.Standing.touch_near.Goals as goal
 
 pub returns-clause-flips : goal.returns-clause-flips
 returns-clause-flips g c =

@@ -1,0 +1,187 @@
+//! Verdicts in numbered places. Of most keys that have none that is known without a search.
+
+ghost use Rattle.std.specs.Prelude.{◌≡◌, ◌≤◌, ℕ, List, [], length, slice_set, Some, None, IfOk};
+ghost use Rattle.std.specs.Prelude.{IfSome, IfNone, OnErr, true};
+ghost use Rattle.std.specs.Option.{option_copied};
+ghost use Rattle.place_index.specs.Places.{item_at, key_at, value_at, laid, revalued};
+ghost use Rattle.place_index.specs.Places.{IsAbsent};
+ghost use Rattle.place_index.specs.Hash.{hash_of_bytes};
+ghost use Rattle.standing_filters.specs.Marked.{is_marked};
+
+use crate::judging::Verdict;
+use crate::marks::Marks;
+use agg_types::{Key, NoMemory};
+use place_index::{IndexKey, PlaceIndex};
+use std::alloc::Global;
+use std::marker::Model;
+
+/// Up to how many places the marks are made anew from time to time: with more keys most hashes are
+/// marked.
+const FEW: usize = 4096;
+
+/// Verdicts on keys in numbered places, where the keys' hashes are marked: most filters hold few
+/// keys, and most keys that come have no verdict.
+///
+/// Contracts see the list of the places.
+#[derive(Drop)]
+pub(crate) struct MarkedVerdicts {
+    verdicts: PlaceIndex<Key, Verdict>,
+    marks: Marks,
+    // How many verdicts were taken out since the marks were made: so many marks may be needless.
+    gone: usize,
+}
+
+impl Model for MarkedVerdicts {
+    ghost use Rattle.standing_filters.specs.Marked.{AreMarked, Marking};
+
+    ghost Value = { Marking };
+
+    ghost view = { λ m. record { places = m.verdicts.places } };
+
+    ghost invariant = { λ m. AreMarked m.marks m.verdicts.places };
+}
+
+impl MarkedVerdicts {
+    /// No verdicts. Takes no memory.
+    pub(crate) fn new(alloc: Global) -> MarkedVerdicts
+        ensures { result.places ≡ [] }
+    {
+        MarkedVerdicts {
+            verdicts: PlaceIndex::new(alloc),
+            marks: Marks::new(),
+            gone: 0,
+        }
+    }
+
+    /// How many places there are, empty ones among them.
+    #[inline]
+    pub(crate) fn places(&self) -> usize
+        ensures { result ≡ length self.now.places }
+    {
+        self.verdicts.places()
+    }
+
+    /// The key in a place.
+    #[inline]
+    pub(crate) fn key(&self, at: usize) -> Option<&Key>
+        ensures { option_copied result ≡ key_at self.now.places at }
+    {
+        self.verdicts.key(at)
+    }
+
+    /// The verdict in a place.
+    #[inline]
+    pub(crate) fn value(&self, at: usize) -> Option<&Verdict>
+        ensures { option_copied result ≡ value_at self.now.places at }
+    {
+        self.verdicts.value(at)
+    }
+
+    /// The place of a key. No key has two. A hint names a place where the key may lie: one that is
+    /// right saves the search, and no answer depends on it. A key whose hash isn't marked isn't
+    /// looked for.
+    #[inline]
+    pub(crate) fn find_near(&self, hint: Option<usize>, key: &Key) -> Option<usize>
+        ensures some { IfSome result (λ at. key_at self.now.places at ≡ Some key.now) }
+        ensures none { IfNone result (IsAbsent self.now.places key.now) }
+    {
+        match hint {
+            Some(at) if self.verdicts.is_in(at, key) => Some(at),
+            _ => self.find(key),
+        }
+    }
+
+    // The place of a key.
+    #[inline]
+    fn find(&self, key: &Key) -> Option<usize>
+        ensures some { IfSome result (λ at. key_at self.now.places at ≡ Some key.now) }
+        ensures none { IfNone result (IsAbsent self.now.places key.now) }
+    {
+        if !self.marks.has(key.hash_of()) {
+            return None;
+        }
+        self.verdicts.find(key)
+    }
+
+    /// Lays a key that has no place down, and answers its place. After `NoMemory` nothing has
+    /// changed.
+    pub(crate) fn insert(&mut self, key: Key, verdict: Verdict) -> Result<usize, NoMemory>
+        requires { IsAbsent self.old.places key }
+        ensures bound { IfOk result (λ at. at ≤ length self.old.places) }
+        ensures empty { IfOk result (λ at. item_at self.old.places at ≡ None) }
+        ensures ok { IfOk result
+            (λ at. self.new.places ≡ laid self.old.places at (Some (key, verdict))) }
+        ensures err { OnErr result (self.new ≡ self.old) }
+    {
+        self.marks.mark(key.hash_of());
+        let at = self.verdicts.insert(key, verdict)?;
+        Ok(at)
+    }
+
+    /// Puts a verdict in the stead of the one in a place, if that isn't empty.
+    #[inline]
+    pub(crate) fn replace(&mut self, at: usize, verdict: Verdict)
+        ensures after { self.new.places ≡ revalued self.old.places at verdict }
+    {
+        self.verdicts.replace(at, verdict);
+    }
+
+    /// Empties a place, and answers what lay there.
+    pub(crate) fn remove(&mut self, at: usize) -> Option<(Key, Verdict)>
+        ensures value { result ≡ item_at self.old.places at }
+        ensures after { self.new.places ≡ slice_set self.old.places at None }
+    {
+        let item = self.take(at);
+        if self.is_stale() {
+            self.renew();
+        }
+        item
+    }
+
+    // The same, where the marks stay as they are.
+    fn take(&mut self, at: usize) -> Option<(Key, Verdict)>
+        ensures value { result ≡ item_at self.old.places at }
+        ensures after { self.new.places ≡ slice_set self.old.places at None }
+    {
+        self.gone = self.gone.saturating_add(1);
+        self.verdicts.remove(at)
+    }
+
+    // Whether many marks are needless, and few places have to be looked at to make them anew.
+    fn is_stale(&self) -> bool {
+        self.verdicts.places() <= FEW && self.gone > self.verdicts.places()
+    }
+
+    // Makes the marks anew.
+    fn renew(&mut self)
+        ensures { self.new.places ≡ self.old.places }
+    {
+        self.gone = 0;
+        self.marks = marks_of(&self.verdicts);
+    }
+}
+
+// Marks of the keys in places.
+fn marks_of(verdicts: &PlaceIndex<Key, Verdict>) -> Marks
+    ensures { (at : ℕ) (key : List ℕ) → key_at verdicts.now.places at ≡ Some key
+        → is_marked result (hash_of_bytes key) ≡ true }
+{
+    let mut marks = Marks::new();
+    for at in 0..verdicts.places() {
+        mark_in(&mut marks, verdicts, at);
+    }
+    marks
+}
+
+// Marks the hash of the key in a place, if there is one.
+fn mark_in(marks: &mut Marks, verdicts: &PlaceIndex<Key, Verdict>, at: usize)
+    ensures this { (key : List ℕ) → key_at verdicts.now.places at ≡ Some key
+        → is_marked marks.new (hash_of_bytes key) ≡ true }
+    ensures others { (hash : ℕ) → is_marked marks.old hash ≡ true
+        → is_marked marks.new hash ≡ true }
+{
+    let Some(key) = verdicts.key(at) else {
+        return;
+    };
+    marks.mark(key.hash_of());
+}
