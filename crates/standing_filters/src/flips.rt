@@ -97,6 +97,7 @@ impl Flips {
 
     /// A filter holds a key now or not, and did before or not. Where that is the same nothing is
     /// noted. Where an allocation fails they are lost.
+    #[inline(always)]
     pub fn note(&mut self, filter: usize, key: &Key, before: bool, now: bool)
         ensures { self.new.lost ≡ false
             → IsNoted filter key.now before now self.old self.new }
@@ -110,6 +111,8 @@ impl Flips {
     }
 
     // Puts a flip behind the others; false where an allocation failed.
+    #[cold]
+    #[inline(never)]
     fn push(&mut self, filter: usize, key: &Key, is_in: bool) -> bool
         ensures lost { self.new.lost ≡ self.old.lost }
         ensures added { IsTrue result → self.new.flips ≡ self.old.flips

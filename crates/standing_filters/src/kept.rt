@@ -117,7 +117,7 @@ impl KeptVerdicts {
 
     /// The place of a key, and the verdict there. A hint names a place where the key may lie: one
     /// that is right saves the search, and no answer depends on it.
-    #[inline]
+    #[inline(always)]
     pub(crate) fn find_near(&self, hint: Option<usize>, key: &Key) -> Option<(usize, Verdict)>
         ensures own { IfSome result (λ found. item_at self.now found.0
             ≡ Some (key.now, found.1)) }

@@ -153,6 +153,8 @@ impl MarkedVerdicts {
     }
 
     // Makes the marks anew.
+    #[cold]
+    #[inline(never)]
     fn renew(&mut self)
         ensures { self.new.places ≡ self.old.places }
     {

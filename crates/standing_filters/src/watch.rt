@@ -75,6 +75,7 @@ impl Watch {
     }
 
     /// Whether the filter is one of a table.
+    #[inline]
     pub(crate) fn is_of(&self, table: usize) -> bool
         ensures { result ≡ (self.now.filter.table == table) }
     {
@@ -112,6 +113,7 @@ impl Watch {
     }
 
     /// Judges a key by its values at a moment.
+    #[inline(always)]
     pub(crate) fn judge<V: Values>(
         &self,
         key: &Key,
@@ -180,6 +182,7 @@ impl Watch {
     /// Keeps a verdict on a key, and plans its change. Answers whether the key was held before.
     /// After `NoMemory` nothing has changed; `OUT` is never refused. No search of the keys in
     /// order, where one is kept already. No answer depends on the hint.
+    #[inline(always)]
     pub(crate) fn change(
         &mut self,
         hint: Option<usize>,
@@ -211,6 +214,7 @@ impl Watch {
 
     /// Keeps no verdict on a key, so that it is `OUT`. Answers whether it was held before. No
     /// answer depends on the hint.
+    #[inline(always)]
     pub(crate) fn forget(&mut self, hint: Option<usize>, key: &Key) -> bool
         requires { IsWatch self.old }
         ensures filter { self.new.filter ≡ self.old.filter }
