@@ -16,12 +16,11 @@ use Rattle.std.proofs.lemmas.Map.Entries.{lookup_from_place}
 use Rattle.std.proofs.lemmas.Map.Keys.{IsDistinct-head, IsDistinct-tail}
 use Rattle.std.proofs.lemmas.Map.Made.{is_some-lookup, length-le_from_is_member}
 use Rattle.agg_types.specs.declared.config.Filter.{Filter}
-use Rattle.crossing.specs.First.{IsFlatSoon}
 use Rattle.fleet_model.specs.Answers.{keys_of}
 use Rattle.fleet_model.specs.Keys.{AreLiveAt, Rows, has_live, key_rows}
 use Rattle.fleet_model.specs.Sound.{IsSound}
 use Rattle.fleet_model.specs.State.{State}
-use Rattle.fleet_model.specs.Values.{cols_of, live_keys}
+use Rattle.fleet_model.specs.Values.{live_keys}
 use Rattle.fleet_model.proofs.KeyRows.{live-rows}
 use Rattle.fleet_model.proofs.Sets.{live_keys-exact}
 use Rattle.peer_rows.specs.Places.{Keys}
@@ -33,11 +32,10 @@ use Rattle.standing_filters.specs.Watched.{IsTouched, Watched, is_among, unheld,
 use Rattle.standing_filters.proofs.Walking.{key_itself}
 use Rattle.book.specs.Ahead.{AreAhead}
 use Rattle.book.specs.Flatness.{living_falls}
-use Rattle.book.specs.Foreseen.{flat_within, living_within}
+use Rattle.book.specs.Foreseen.{living_within}
 use Rattle.book.specs.Verdicts.{IsJudged, living_in, sums_in}
 use Rattle.book.specs.Shown.{of_peer}
 use Rattle.book.specs.Store.{IsEachKeyOf}
-use Rattle.book.proofs.FewReads.{flat_soon}
 use Rattle.book.proofs.Meeting.{any_of, each_place, live_rows}
 
 abbrev PeerRows : Type 0
@@ -117,26 +115,6 @@ ahead_more law state table e walk old new of ahead touched = record {
 pub none_ahead : (state : State) (table : ℕ) (w : Watched) → AreAhead state table [] w
     → IsJudged state w
 none_ahead state table w ahead = λ key. ahead.verdicts.judged key refl
-
--- ---- one key by its rows
-pub one_touched : (state values : State) (now own table : ℕ) (key : List ℕ) (old new : Watched)
-    → now ≡ state.moment → values ≡ state → own ≡ table
-    → IsTouched (sums_in values) (living_in values) own key now old new
-    → IsTouched (sums_in state) (living_in state) table key state.moment old new
-one_touched state values now own table key old new moment is here touched =
-    subst (λ (n : ℕ). IsTouched (sums_in state) (living_in state) n key state.moment old new) here
-    (subst (λ (t : ℕ). IsTouched (sums_in state) (living_in state) own key t old new) moment
-    (subst (λ (s : State). IsTouched (sums_in s) (living_in s) own key now old new) is touched))
-
-pub one_soon : (state values : State) (now own : ℕ) (key : List ℕ) → IsSound state
-    → now ≡ state.moment → values ≡ state
-    → IsFlatSoon now (flat_within (cols_of values.config.tables own)
-    (key_rows values.rows own key))
-one_soon state values now own key sound moment is =
-    subst (λ (s : State). IsFlatSoon now (flat_within (cols_of s.config.tables own)
-    (key_rows s.rows own key))) (sym is)
-    (subst (λ (t : ℕ). IsFlatSoon t (flat_within (cols_of state.config.tables own)
-    (key_rows state.rows own key))) (sym moment) (flat_soon state own key sound))
 
 -- ---- how many keys a walk has
 some_live : (t : ℕ) (shown : PeerRows → Rows) (o : Option PeerRows) (own : Rows)

@@ -133,24 +133,13 @@ quiet_verdicts state later ws sound held still =
     (sym held.filters) still) held.judged
 
 -- ---- what calls of kept verdicts read
-pub touched_few : (state later values : State) (now table : ℕ) (key : List ℕ)
-    (standing : Option AllWatched) (kept : AllWatched) (before read : ℕ) → IsSound later
-    → AreHeld state standing → standing ≡ Some kept → now ≡ later.moment → values ≡ later
-    → (IsFlatSoon now (flat_within (cols_of values.config.tables table)
-    (key_rows values.rows table key)) → read ≤ before + 505 * filters_of table kept.filters)
+pub touched_few : (state : State) (soon : Type 0) (table : ℕ) (standing : Option AllWatched)
+    (kept : AllWatched) (before read : ℕ) → AreHeld state standing → standing ≡ Some kept → soon
+    → (soon → read ≤ before + 505 * filters_of table kept.filters)
     → read ≤ before + 505 * filters_at state table
-touched_few state later values now table key standing kept before read sound held is moment same
-    counted =
-    let there : IsFlatSoon later.moment (flat_within (cols_of values.config.tables table)
-    (key_rows values.rows table key)) =
-    subst (λ (s : State). IsFlatSoon later.moment (flat_within (cols_of s.config.tables table)
-    (key_rows s.rows table key))) (sym same) (flat_soon later table key sound) in
-    let soon : IsFlatSoon now (flat_within (cols_of values.config.tables table)
-    (key_rows values.rows table key)) =
-    subst (λ (t : ℕ). IsFlatSoon t (flat_within (cols_of values.config.tables table)
-    (key_rows values.rows table key))) (sym moment) there in
+touched_few state soon table standing kept before read held is so counted =
     subst (λ (n : ℕ). read ≤ before + 505 * n)
-    (filters_count state table kept.filters (subst (AreHeld state) is held)) (counted soon)
+    (filters_count state table kept.filters (subst (AreHeld state) is held)) (counted so)
 
 pub turned_few : (state later : State) (now : ℕ) (standing : Option AllWatched)
     (kept : AllWatched) (before read : ℕ) → IsSound state → IsSound later

@@ -18,4 +18,5 @@ pub mod Columns
 pub mod Heads
 pub mod Meeting
 pub mod Ahead
+pub mod OneKeyed
 pub mod Clearing

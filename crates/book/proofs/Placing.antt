@@ -37,6 +37,10 @@ placed_worth None since arrived cells = 0
 placed_worth (Some place) since arrived cells =
     held_worth place.1 since arrived (slice_get cells place.0)
 
+-- a column's position and its period, behind some others
+abbrev pub behind : ℕ → Option (ℕ × ℕ) → Option (ℕ × ℕ)
+behind before found = option_map (λ (place : ℕ × ℕ). (before + place.0, place.1)) found
+
 get_none : (i : ℕ) → slice_get {X = Held} [] i ≡ None
 get_none i = refl
 

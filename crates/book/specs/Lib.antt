@@ -1,6 +1,7 @@
 pub mod Shown
 pub mod Planned
 pub mod Store
+pub mod OneKey
 pub mod Placed
 pub mod Due
 pub mod Foreseen

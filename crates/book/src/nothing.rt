@@ -1,6 +1,7 @@
 //! When the rows of a key come to nothing in a column, told by one pass over them.
 
 ghost use Rattle.std.specs.Prelude.{◌≡◌, ◌<◌, ◌≤◌, ◌^◌, ℕ, List, length, IfSome, Some, nat_lt};
+ghost use Rattle.std.specs.Prelude.{slice_get};
 ghost use Rattle.agg_types.specs.declared.column.Col.{Col as ColName};
 ghost use Rattle.crossing.specs.First.{IsDropAt};
 ghost use Rattle.period_rate.specs.Rate.{elapsed_at};
@@ -12,7 +13,7 @@ ghost use Rattle.book.specs.Shown.{as_arrival, rows_worth};
 ghost use Rattle.book.specs.Store.{AreFound};
 
 use crate::likely::Falling;
-use crate::values::{found_in, row_worth};
+use crate::values::{found_in, held_worth};
 use agg_types::Col;
 use peer_rows::{Held, OfKey, Row};
 use period_rate::Rate;
@@ -42,22 +43,23 @@ fn nothing_from(rows: &OfKey<'_>, cols: &[(Col, u32)], col: Col, from: u64) -> O
     requires { length rows.now < 2 ^ 64 }
     ensures { IfSome result (IsDropAt from (λ t. rows_worth cols.now col t rows.now) 1) }
 {
-    let found = found_in(cols, col);
-    let (place, period) = found?;
+    let (place, period) = found_in(cols, col)?;
     let (known, at) = last_of(rows.duplicate(), place, period)?;
-    let last = known?;
-    if at <= from || row_worth(found, at - 1, last) < 1 {
+    let (last, held) = known?;
+    if at <= from || held_worth(period, at - 1, last, held) < 1 {
         return None;
     }
     Some(at)
 }
 
-// Of rows of one key one that is worth something until a moment, as is likely, and that moment:
-// from then on none is worth anything.
-fn last_of<'a>(rows: OfKey<'a>, place: usize, period: u32) -> Option<(Option<&'a Row>, u64)>
+// Of rows of one key one that is worth something until a moment, as is likely, with what it holds
+// in that place, and that moment: from then on none is worth anything.
+fn last_of<'a>(rows: OfKey<'a>, place: usize, period: u32) -> Option<(Option<(&'a Row, Held)>, u64)>
     ensures one { (cols : List (ColName × ℕ)) (col : ColName) (t : ℕ) → IfSome result
-        (λ last. IfSome last.0 (λ row. row_worth cols col t (as_arrival row.now)
+        (λ last. IfSome last.0 (λ own. row_worth cols col t (as_arrival own.0.now)
         ≤ rows_worth cols col t rows.entry)) }
+    ensures held { IfSome result (λ last. IfSome last.0
+        (λ own. slice_get own.0.now.cells place ≡ Some own.1)) }
     ensures over { (cols : List (ColName × ℕ)) (col : ColName) (t : ℕ)
         → found_in cols col ≡ Some (place, period) → IfSome result
         (λ last. last.1 ≤ t → rows_worth cols col t rows.entry ≡ 0) }
@@ -65,15 +67,15 @@ fn last_of<'a>(rows: OfKey<'a>, place: usize, period: u32) -> Option<(Option<&'a
     let mut last = None;
     let mut latest = 0u64;
     for (_, row) in rows {
-        let (over, falling) = over_from(place, period, row)?;
+        let (over, falling, held) = over_from(place, period, row)?;
         if over > latest {
             let at = falling.below_from(period, 1).max(latest);
-            if row_worth(Some((place, period)), at, row) > 0 {
+            if held_worth(period, at, row, held) > 0 {
                 return None;
             }
             if at > latest {
                 latest = at;
-                last = Some(row);
+                last = Some((row, held));
             }
         }
     }
@@ -81,9 +83,10 @@ fn last_of<'a>(rows: OfKey<'a>, place: usize, period: u32) -> Option<(Option<&'a
 }
 
 // From when on a row is surely worth nothing, if it holds a rate in that place: it has ended, or
-// the rate's two periods are over. With the rate as it falls until then.
-fn over_from(place: usize, period: u32, row: &Row) -> Option<(u64, Falling)>
-    ensures { (cols : List (ColName × ℕ)) (col : ColName) (t : ℕ)
+// the rate's two periods are over. With the rate as it falls until then, and as the row holds it.
+fn over_from(place: usize, period: u32, row: &Row) -> Option<(u64, Falling, Held)>
+    ensures held { IfSome result (λ over. slice_get row.now.cells place ≡ Some over.2) }
+    ensures over { (cols : List (ColName × ℕ)) (col : ColName) (t : ℕ)
         → found_in cols col ≡ Some (place, period) → IfSome result
         (λ over. over.0 ≤ t → row_worth cols col t (as_arrival row.now) ≡ 0) }
 {
@@ -92,9 +95,10 @@ fn over_from(place: usize, period: u32, row: &Row) -> Option<(u64, Falling)>
             let elapsed = elapsed_at(rate, row.arrived());
             let both = 2 * u64::from(period) + 1;
             let over = row.arrived().checked_add(both)?.saturating_sub(elapsed);
+            let held = Held::Rate(rate);
             match end_of(row) {
-                None => Some((over, falling(rate, over, u64::MAX))),
-                Some(end) => Some((over.min(end), falling(rate, over, end))),
+                None => Some((over, falling(rate, over, u64::MAX), held)),
+                Some(end) => Some((over.min(end), falling(rate, over, end), held)),
             }
         }
         _ => None,

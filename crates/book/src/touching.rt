@@ -99,8 +99,9 @@ impl Verdicts {
             return;
         };
         let values = OneKey::new(machine, spot, table, key);
+        let hint = spot.map(Spot::place);
         if standing
-            .touch(table, key, &values, machine.moment, meter, flips)
+            .touch_near(hint, table, key, &values, machine.moment, meter, flips)
             .is_err()
         {
             self.standing = None;

@@ -1,7 +1,7 @@
 //! The values of a key, by adding up over its rows.
 
 ghost use Rattle.std.specs.Prelude.{◌≡◌, ◌+◌, ◌-◌, ◌*◌, ◌<◌, ◌≤◌, ◌^◌, ℕ, List, length, nat_lt};
-ghost use Rattle.std.specs.Prelude.{IfSome};
+ghost use Rattle.std.specs.Prelude.{IfSome, Some, slice_get};
 ghost use Rattle.std.specs.List.{list_all, position, position_or_len};
 ghost use Rattle.agg_types.specs.Col.{same_col};
 ghost use Rattle.agg_types.specs.Op.{op_holds};
@@ -43,18 +43,13 @@ pub fn found_in(cols: &[(Col, u32)], col: Col) -> Option<(usize, u32)>
     ensures place { result ≡ found_in cols.now col }
     ensures inside { IfSome result (λ place. place.0 < length cols.now) }
 {
-    match cols {
-        [] => None,
-        [stored, cols @ ..] => {
-            if stored.0.id() == col.id() {
-                return Some((0, stored.1));
-            }
-            match found_in(cols, col) {
-                None => None,
-                Some((place, period)) => Some((place + 1, period)),
-            }
+    for place in 0..cols.len() {
+        let (stored, period) = cols[place];
+        if stored.id() == col.id() {
+            return Some((place, period));
         }
     }
+    None
 }
 
 /// What the cell of a column is worth as it arrives.
@@ -101,6 +96,18 @@ pub fn row_worth(found: Option<(usize, u32)>, t: u64, row: &Row) -> u64
             Some(held) => cell_worth(period, row.arrived(), t.saturating_sub(row.arrived()), held),
         },
     }
+}
+
+/// The same of a row by the cell that it holds there, for a column that is stored.
+pub fn held_worth(period: u32, t: u64, row: &Row, held: Held) -> u64
+    ensures { (cols : List (ColName × ℕ)) (col : ColName) (place : ℕ)
+        → found_in cols col ≡ Some (place, period) → slice_get row.now.cells place ≡ Some held
+        → result ≡ row_worth cols col t (as_arrival row.now) }
+{
+    if !is_live(t, row) {
+        return 0;
+    }
+    cell_worth(period, row.arrived(), t.saturating_sub(row.arrived()), held)
 }
 
 /// What rows of one key sum up to in a column at a moment.

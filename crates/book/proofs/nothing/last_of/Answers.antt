@@ -1,4 +1,4 @@
-use Rattle.std.proofs.Common.{rules, ◌≡◌, ◌∷◌, sym, arith}
+use Rattle.std.proofs.Common.{rules, ◌≡◌, ◌∷◌, arith}
 use Rattle.book.proofs.Placing.{row_falls, rows_split}
 use Rattle.book.proofs.nothing.last_of.Goals as goal
 
@@ -18,8 +18,9 @@ loop-row-preserved-then-at-latest c =
         rows_split cols col t _ _ _ split,
         c.loop-row.invariant.among cols col t,
       );
+      held = c.in_ok-over.ensures.held;
       over = λ cols col t place later.
-          let own = c.row_worth.ensures cols col (sym place) in
+          let own = c.held_worth.ensures cols col c.args.place place c.in_ok-over.ensures.held in
           let falls = row_falls cols col c.max-at.result t row later in
           let before = c.loop-row.invariant.over cols col t place (omega arith) in
           omega (arith, rows_split cols col t _ _ _ split, own, falls, before);
@@ -37,8 +38,9 @@ loop-row-preserved-else-at-latest c =
         c.loop-row.invariant.among cols col t,
       );
       last = λ cols col t. c.loop-row.invariant.last cols col t;
+      held = c.loop-row.invariant.held;
       over = λ cols col t place later.
-          let own = c.row_worth.ensures cols col (sym place) in
+          let own = c.held_worth.ensures cols col c.args.place place c.in_ok-over.ensures.held in
           let falls = row_falls cols col c.max-at.result t row (omega arith) in
           let before = c.loop-row.invariant.over cols col t place later in
           omega (arith, rows_split cols col t _ _ _ split, own, falls, before);

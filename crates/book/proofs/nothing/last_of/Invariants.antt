@@ -1,4 +1,5 @@
 use Rattle.std.proofs.Common.{◌≡◌, ℕ, ◌≤◌, List, IfSome, Some}
+use Rattle.std.specs.Prelude.{slice_get}
 use Rattle.agg_types.specs.declared.column.Col.{Col}
 use Rattle.fleet_model.specs.Keys.{row_worth}
 use Rattle.book.specs.Placed.{found_in}
@@ -10,7 +11,8 @@ invariant-loop-row l = record {
   among : (cols : List (Col × ℕ)) (col : Col) (t : ℕ) → rows_worth cols col t l.row-iterator
       ≤ rows_worth cols col t l.fn.rows;
   last : (cols : List (Col × ℕ)) (col : Col) (t : ℕ) → IfSome l.last
-      (λ row. row_worth cols col t (as_arrival row.now) ≤ rows_worth cols col t l.fn.rows);
+      (λ own. row_worth cols col t (as_arrival own.0.now) ≤ rows_worth cols col t l.fn.rows);
+  held : IfSome l.last (λ own. slice_get own.0.now.cells l.fn.place ≡ Some own.1);
   over : (cols : List (Col × ℕ)) (col : Col) (t : ℕ)
       → found_in cols col ≡ Some (l.fn.place, l.fn.period) → l.latest ≤ t
       → rows_worth cols col t l.fn.rows ≡ rows_worth cols col t l.row-iterator;

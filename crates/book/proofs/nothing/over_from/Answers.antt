@@ -10,15 +10,15 @@ use Rattle.book.specs.Shown.{as_arrival}
 use Rattle.book.proofs.Placing.{ended_row, rate_over}
 use Rattle.book.proofs.nothing.over_from.Goals as goal
 
-pub returns-in-None : goal.returns-in-None
-returns-in-None c = λ cols col t place over.
+pub returns-in-None-clause-over : goal.returns-in-None-clause-over
+returns-in-None-clause-over c = λ cols col t place over.
     let holds : Some (Rate c.in-Some-Rate.rate) ≡ slice_get c.args.row.now.cells c.args.place =
     search rules in
     rate_over cols col t c.args.place c.args.period c.args.row.now c.in-Some-Rate.rate place holds
     (omega arith)
 
-pub returns-in-Some : goal.returns-in-Some
-returns-in-Some c = λ cols col t place over.
+pub returns-in-Some-clause-over : goal.returns-in-Some-clause-over
+returns-in-Some-clause-over c = λ cols col t place over.
     let row = c.args.row.now in
     let holds : Some (Rate c.in-Some-Rate.rate) ≡ slice_get row.cells c.args.place = search rules in
     let end : is_live t (as_arrival row) ≡ nat_lt t c.in-Some.end = search rules in

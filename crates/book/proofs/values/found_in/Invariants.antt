@@ -1,5 +1,8 @@
-use Rattle.std.proofs.Common.{length}
-use Rattle.book.proofs.values.+found_in.Given as goal
+use Rattle.std.proofs.Common.{◌≡◌, drop}
+use Rattle.book.specs.Placed.{found_in}
+use Rattle.book.proofs.Placing.{behind}
+use Rattle.book.proofs.values.found_in.Given as goal
 
-abbrev pub decreases-found_in : goal.decreases-found_in
-decreases-found_in l = length l.cols.now
+abbrev pub invariant-loop-place : goal.invariant-loop-place
+invariant-loop-place l =
+    found_in l.cols l.col ≡ behind l.place (found_in (drop l.place l.cols) l.col)

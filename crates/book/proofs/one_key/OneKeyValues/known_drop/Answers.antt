@@ -1,23 +1,30 @@
-use Rattle.std.proofs.Common.{◌≡◌, ℕ, List, IfSome, ap, subst, ◌∙◌, rules}
+use Rattle.std.proofs.Common.{◌≡◌, ℕ, List, IfSome, subst, rules}
 use Rattle.agg_types.specs.declared.column.Col.{Col}
-use Rattle.agg_types.specs.declared.config.Shape.{Shape}
 use Rattle.crossing.specs.First.{IsDropAt}
 use Rattle.fleet_model.specs.Keys.{key_rows}
-use Rattle.fleet_model.specs.State.{State}
 use Rattle.fleet_model.specs.Values.{cols_of}
 use Rattle.book.specs.Foreseen.{worth_within}
+use Rattle.book.specs.OneKey.{KeyOf}
 use Rattle.book.specs.Store.{AreFound}
+use Rattle.book.proofs.OneKeyed.{cols_are, found_rows}
 use Rattle.book.proofs.one_key.OneKeyValues.known_drop.Goals as goal
 
 pub returns : goal.returns
 returns c =
-    let rows = c.args.self.now.rows in
-    let table = c.args.table in
-    let key = c.args.key.now in
-    let found : AreFound rows table key c.as_ref.result = search rules in
-    let same : c.cols_of-cols.result.now ≡ cols_of c.args.self.now.config.tables table =
-    c.cols_of-cols.ensures ∙ ap (λ (tables : List Shape). cols_of tables table) c.as_slice.ensures
-    ∙ ap (λ (s : State). cols_of s.config.tables table) (c.machine.view_is ∙ c.self.view_is) in
+    let of : KeyOf = c.args.self.now in
+    let rows = of.state.rows in
+    let found : AreFound rows of.table of.key c.as_ref.result =
+    found_rows (record {
+      state = c.self.inside.machine.now;
+      table = c.self.inside.table;
+      key = c.self.inside.key.now;
+    }) of c.self.inside.rows c.as_ref.result c.self.view_is (search rules) c.self.invariant.0 in
+    let same : c.self.inside.cols.now ≡ cols_of of.state.config.tables of.table =
+    cols_are (record {
+      state = c.self.inside.machine.now;
+      table = c.self.inside.table;
+      key = c.self.inside.key.now;
+    }) of c.self.inside.cols.now c.self.view_is c.self.invariant.2 in
     subst (λ (cols : List (Col × ℕ)). IfSome c.found_drop.result (IsDropAt c.args.from
-    (worth_within cols (key_rows rows table key) c.args.col) c.args.bound)) same
-    (c.found_drop.ensures rows table key found)
+    (worth_within cols (key_rows rows of.table of.key) c.args.col) c.args.bound)) same
+    (c.found_drop.ensures rows of.table of.key found)
