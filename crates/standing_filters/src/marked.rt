@@ -15,9 +15,11 @@ use place_index::{IndexKey, PlaceIndex};
 use std::alloc::Global;
 use std::marker::Model;
 
-/// Up to how many places the marks are made anew from time to time: with more keys most hashes are
-/// marked.
+/// With more verdicts than that most hashes are marked, and no mark is looked at.
 const FEW: usize = 4096;
+
+/// Up to how many places the marks are made anew from time to time, which takes a look at each.
+const SHORT_WALK: usize = 65536;
 
 /// Verdicts on keys in numbered places, where the keys' hashes are marked: most filters hold few
 /// keys, and most keys that come have no verdict.
@@ -78,8 +80,8 @@ impl MarkedVerdicts {
     }
 
     /// The place of a key. No key has two. A hint names a place where the key may lie: one that is
-    /// right saves the search, and no answer depends on it. A key whose hash isn't marked isn't
-    /// looked for.
+    /// right saves the search, and no answer depends on it. Of a few keys one whose hash isn't
+    /// marked isn't looked for.
     #[inline]
     pub(crate) fn find_near(&self, hint: Option<usize>, key: &Key) -> Option<usize>
         ensures some { IfSome result (λ at. key_at self.now.places at ≡ Some key.now) }
@@ -97,7 +99,7 @@ impl MarkedVerdicts {
         ensures some { IfSome result (λ at. key_at self.now.places at ≡ Some key.now) }
         ensures none { IfNone result (IsAbsent self.now.places key.now) }
     {
-        if !self.marks.has(key.hash_of()) {
+        if self.verdicts.count() <= FEW && !self.marks.has(key.hash_of()) {
             return None;
         }
         self.verdicts.find(key)
@@ -149,7 +151,7 @@ impl MarkedVerdicts {
 
     // Whether many marks are needless, and few places have to be looked at to make them anew.
     fn is_stale(&self) -> bool {
-        self.verdicts.places() <= FEW && self.gone > self.verdicts.places()
+        self.verdicts.places() <= SHORT_WALK && self.gone > self.verdicts.places()
     }
 
     // Makes the marks anew.
