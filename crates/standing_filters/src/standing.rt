@@ -39,6 +39,10 @@ pub struct Standing {
 
 // By hand, so that what drops it elsewhere proves nothing of its parts.
 impl Drop for Standing {
+    // The marks of filters are long: who gives the verdicts up on the way of an update keeps a short
+    // frame.
+    #[cold]
+    #[inline(never)]
     fn drop(self) {
         let Standing {
             watches: _,
