@@ -3,7 +3,7 @@ use Rattle.std.proofs.Common.{◌≡◌, ◌≢◌, ℕ, zero, suc, ◌+◌, ◌
 use Rattle.std.proofs.Common.{◌&&◌, List, [], ◌∷◌, length, refl, sym, ◌∙◌, ap, subst, arith, get_or}
 use Rattle.std.proofs.Common.{◌^◌, replicate, set, get_or-set_same, get_or-set_other, ⊎_elim}
 use Rattle.std.specs.Option.{is_some}
-use Rattle.std.specs.Prelude.{Result, Ok, Err, IfOk}
+use Rattle.std.specs.Prelude.{Result, Ok, Err, IfOk, IfSome, IsSome}
 use Rattle.std.specs.Prelude.{Option, Some, None, IfNone, MatchBool, not, filter, map, ◌==◌}
 use Rattle.std.specs.declared.cmp.Ordering.{Ordering}
 use Rattle.std.specs.declared.cmp.Ordering.TheVariants.{Less, Equal, Greater}
@@ -359,3 +359,23 @@ pub first_then : {A E : Type 0} {P Q : Type 0} (r : Result (Option A) E) → (P 
     → IfOk r (λ held. IfNone held P) → IfOk r (λ held. IfNone held Q)
 first_then (Ok held) f p = none_then held f p
 first_then (Err e) f p = p
+
+pub some_then : {A : Type 0} {P Q : Type 0} (held : Option A) → (P → Q) → IfSome held (λ _. P)
+    → IfSome held (λ _. Q)
+some_then None f p = tt
+some_then (Some a) f p = f p
+
+pub found_then : {A E : Type 0} {P Q : Type 0} (r : Result (Option A) E) → (P → Q)
+    → IfOk r (λ held. IfSome held (λ _. P)) → IfOk r (λ held. IfSome held (λ _. Q))
+found_then (Ok held) f p = some_then held f p
+found_then (Err e) f p = p
+
+-- a key that is there is listed
+pub some_listed : (es : Keys) (key : List ℕ) → IsStrictlySortedBy (slice_cmp nat_cmp) (keys_of es)
+    → EachPeerOnce es → IsSome (lookup (is_at (slice_cmp nat_cmp key)) es)
+    → filter (λ e. same_key key e.0.0) (rows_in es) ≢ []
+some_listed es key s once some none = let wrong = rw (none_in_keys es key s once none) at some in cc
+
+pub map_some : {A B : Type 0} (f : A → B) (xs : List A) → xs ≢ [] → map f xs ≢ []
+map_some f [] some none = some refl
+map_some f (x ∷ xs) some none = cc

@@ -1,8 +1,8 @@
 -- What becomes of a table's rows where the rows of one key change.
-use Rattle.std.proofs.Common.{◌≡◌, ℕ, ◌+◌, ◌-◌, ◌≤◌, Bool, true, false, cond, ◌&&◌, List, [], ◌∷◌}
+use Rattle.std.proofs.Common.{◌≡◌, ℕ, ◌+◌, ◌≤◌, Bool, true, false, cond, ◌&&◌, List, [], ◌∷◌}
 use Rattle.std.proofs.Common.{length, refl, sym, ◌∙◌, ap, subst, arith, length-append}
-use Rattle.std.specs.Prelude.{Some, None, filter, ◌==◌, slice_get}
-use Rattle.std.specs.Option.{option_and_then, option_map}
+use Rattle.std.specs.Prelude.{Some, None, filter, ◌==◌}
+use Rattle.std.specs.Option.{option_and_then}
 use Rattle.std.specs.declared.cmp.Ordering.{Ordering}
 use Rattle.std.specs.declared.cmp.Ordering.TheVariants.{Less, Equal, Greater}
 use Rattle.std.specs.Ordering.{match_ordering, ordering_then, is_eq, nat_cmp}
@@ -304,12 +304,3 @@ module _ {Q : Type 0} (C : Q → Q → Ordering) (counts : Q → Bool) where
       by more true passes is = first (counts e.0) (filter (λ f. counts f.0) es) (alike e.0 passes)
       by more false fails is = later (counts e.0) (filter (λ f. counts f.0) (remove_entry test es))
           (filter (λ f. counts f.0) es) (cond b 1 0) (more is)
-
--- the one row of a key is its last
-pub value_last : (peer : ℕ) (rows : List (ℕ × Row)) → keys_of rows ≡ peer ∷ []
-    → lookup (is_at (nat_cmp peer)) rows ≡ option_map (λ (last : ℕ × Row). last.1)
-    (slice_get rows (length rows - 1))
-value_last peer [] e = cc
-value_last peer (r ∷ []) e = let same : r.0 ≡ peer = cc in
-    rw (same, tied_itself nat_cmp_total peer) refl
-value_last peer (r ∷ q ∷ rows) e = cc

@@ -2,6 +2,7 @@ pub mod Counting
 pub mod Totals
 pub mod Selecting
 pub mod Peers
+pub mod Paging
 pub mod Spreading
 pub mod Widths
 pub mod Listed

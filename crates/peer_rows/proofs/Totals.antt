@@ -1,12 +1,12 @@
 -- The most that the rows of a key are worth, as rows come and go.
-use Rattle.std.proofs.Common.{◌≡◌, ◌≢◌, ℕ, ◌+◌, ◌≤◌, List, [], ◌∷◌, length, cond}
-use Rattle.std.proofs.Common.{Bool, true, false, refl, sym, ap, subst, arith}
+use Rattle.std.proofs.Common.{◌≡◌, ℕ, ◌+◌, ◌≤◌, List, [], ◌∷◌, length, cond}
+use Rattle.std.proofs.Common.{Bool, true, false, refl, sym, subst, arith}
 use Rattle.std.specs.Prelude.{Some, None, MatchBool, slice_index}
 use Rattle.std.proofs.lemmas.List.Sums.{sum_by-cons}
 use Rattle.std.specs.declared.cmp.Ordering.{Ordering}
 use Rattle.std.specs.declared.cmp.Ordering.TheVariants.{Less, Equal, Greater}
 use Rattle.std.specs.Ordering.{match_ordering, is_eq, nat_cmp}
-use Rattle.std.specs.Cmp.{nat_cmp_total, ranked}
+use Rattle.std.specs.Cmp.{nat_cmp_total}
 use Rattle.std.specs.Map.{keys_of, lookup, remove_entry}
 use Rattle.std.specs.BTreeMap.{insert_entry, is_at}
 use Rattle.std.specs.List.Sorted.{IsStrictlySortedBy}
@@ -140,44 +140,6 @@ module _ (peer : ℕ) (mosts mid new : List ℕ) (rows after : List (ℕ × Row)
       let down = lowered col within in
       let taken = most-taken col peer rows in
       omega (arith, start, down, taken))
-
--- the rows of two peers, in either order
-module _ (none one two : List ℕ) (a b : Row) where
-  pub mosts-two : AreMosts none [] → length one ≤ length none
-      → AreRaised (Some a) none one (length one) → length two ≤ length one
-      → AreRaised (Some b) one two (length two)
-      → (p q : ℕ) → AreMosts two ((p, a) ∷ (q, b) ∷ [])
-  mosts-two are fewer raised less again p q = λ col within.
-      let start = are col (omega (arith, fewer, less, within)) in
-      let up = raised col (omega (arith, less, within)) in
-      let more = again col within in
-      omega (arith, start, up, more, most_cons col (p, a) ((q, b) ∷ []), most_cons col (q, b) [])
-
-  pub mosts-two_turned : AreMosts none [] → length one ≤ length none
-      → AreRaised (Some a) none one (length one) → length two ≤ length one
-      → AreRaised (Some b) one two (length two)
-      → (p q : ℕ) → AreMosts two ((p, b) ∷ (q, a) ∷ [])
-  mosts-two_turned are fewer raised less again p q = λ col within.
-      let start = are col (omega (arith, fewer, less, within)) in
-      let up = raised col (omega (arith, less, within)) in
-      let more = again col within in
-      omega (arith, start, up, more, most_cons col (p, b) ((q, a) ∷ []), most_cons col (q, a) [])
-
--- the row of a second peer was put beside the one of the first
-pub mosts-second : (mosts : List ℕ) (own peer : ℕ) (held row : Row) (after : List (ℕ × Row))
-    → ((p q : ℕ) → AreMosts mosts ((p, held) ∷ (q, row) ∷ []))
-    → ((p q : ℕ) → AreMosts mosts ((p, row) ∷ (q, held) ∷ []))
-    → own ∷ [] ≢ peer ∷ [] → after ≡ insert_entry nat_cmp ((own, held) ∷ []) peer row
-    → AreMosts mosts after
-mosts-second mosts own peer held row after both turned apart is =
-    subst (AreMosts mosts) (sym is) (by (nat_cmp peer own) refl)
-  where
-    by : (o : Ordering) → nat_cmp peer own ≡ o
-        → AreMosts mosts (match_ordering o ((peer, row) ∷ (own, held) ∷ []) ((own, row) ∷ [])
-        ((own, held) ∷ (peer, row) ∷ []))
-    by Less e = turned peer own
-    by Equal e = absurd (apart (ap (λ p. p ∷ []) (sym (ranked peer own Equal (sym e)))))
-    by Greater e = both own peer
 
 -- ---- what is above the rows of a key is above some of them
 pub above_all : (mosts : List ℕ) (rows : List (ℕ × Row)) → AreMosts mosts rows → AreAbove mosts rows

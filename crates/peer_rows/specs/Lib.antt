@@ -4,6 +4,7 @@ pub mod Form
 pub mod Listing
 pub mod Most
 pub mod Packed
+pub mod Pages
 pub mod Peers
 pub mod Spread
 pub mod Table

@@ -5,22 +5,28 @@ use Rattle.std.specs.List.Sorted.{IsStrictlySortedBy}
 use Rattle.peer_rows.specs.Most.{AreMosts}
 use Rattle.peer_rows.specs.declared.row.Row.{Row}
 use Rattle.peer_rows.specs.declared.key_rows.Peers.{Peers}
-use Rattle.peer_rows.specs.declared.key_rows.Peers.TheVariants.{One, Many}
+use Rattle.peer_rows.specs.declared.key_rows.Peers.TheVariants.{One, Few, Many, Paged}
 
 -- the rows, each with the peer that holds it
 abbrev pub held_by : Peers → List (ℕ × Row)
 held_by (One peer row) = (peer, row) ∷ []
-held_by (Many rows mosts) = rows.items
+held_by (Few rows) = rows
+held_by (Many rows mosts) = rows
+held_by (Paged rows mosts) = rows
 
 -- a single row that lies in the value itself
 abbrev pub IsOne : Peers → Type 0
 IsOne (One peer row) = Unit {0}
+IsOne (Few rows) = ⊥
 IsOne (Many rows mosts) = ⊥
+IsOne (Paged rows mosts) = ⊥
 
--- where several rows lie side by side, the most that they are worth together is kept with them
+-- where the most that rows are worth together is kept with them, it is their sum
 abbrev pub AreSummed : Peers → Type 0
 AreSummed (One peer row) = Unit {0}
-AreSummed (Many rows mosts) = AreMosts mosts rows.items
+AreSummed (Few rows) = Unit {0}
+AreSummed (Many rows mosts) = AreMosts mosts rows
+AreSummed (Paged rows mosts) = AreMosts mosts rows
 
 -- the rows of a key: at least one, by peer, each peer once
 pub record ArePeers (rows : List (ℕ × Row)) : Type 0 where

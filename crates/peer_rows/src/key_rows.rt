@@ -1,32 +1,33 @@
-ghost use Rattle.std.specs.Prelude.{◌≡◌, ◌≢◌, ◌-◌, List, [], ◌∷◌, length, slice_get};
+//! The rows of one key, in the form that fits how many there are.
+ghost use Rattle.std.specs.Prelude.{◌≡◌, ◌≢◌, List, [], ◌∷◌, length};
 ghost use Rattle.std.specs.Prelude.{◌==◌, IsTrue, ◌↔◌, IsOk, IsSome, IfOk, OnOk, OnErr};
-ghost use Rattle.std.specs.Prelude.{MatchBool, MatchResult, Some, is_some, IfSome, IfNone, ℕ, true};
-ghost use Rattle.std.specs.Option.{option_copied, option_map};
+ghost use Rattle.std.specs.Prelude.{MatchBool, Some, is_some, IfSome, IfNone, ℕ, true};
+ghost use Rattle.std.specs.Option.{option_copied};
 ghost use Rattle.std.specs.Ordering.{nat_cmp};
 ghost use Rattle.std.specs.Map.{keys_of, lookup, remove_entry};
 ghost use Rattle.std.specs.BTreeMap.{insert_entry, is_at};
-ghost use Rattle.std.specs.List.Sorted.{IsStrictlySortedBy};
-ghost use Rattle.peer_rows.specs.Ends.{AreLive, HasEnded, IsLeast, is_behind, sooner};
-ghost use Rattle.peer_rows.specs.Most.{AreMosts};
-ghost use Rattle.peer_rows.specs.Peers.{IsFound, IsGap, IsOne, ArePeers, AreSummed, held_by};
+ghost use Rattle.peer_rows.specs.Ends.{AreLive, HasEnded, IsLeast, is_behind};
+ghost use Rattle.peer_rows.specs.Peers.{IsOne, ArePeers, AreSummed, held_by};
 
 use crate::mosts::Mosts;
+use crate::of_key::{first_ended, is_only, least_end};
+use crate::page::{PAGE, Page, PeerRow};
+use crate::pages::Pages;
 use crate::{OfKey, Row};
 use agg_types::NoMemory;
 use std::alloc::Global;
 use std::marker::Model;
 use std::mem;
 
-/// A row with the peer that holds it.
-pub(crate) type PeerRow = (usize, Row);
-
 const _: () = prove!(size_of::<KeyRows>() == 48);
 
-const _: () = prove!(size_of::<PeerRow>() == 48);
+/// So many rows are summed up when they are asked for: no sums of them are kept.
+pub(crate) const FEW: usize = 4;
 
 /// The rows of one key: at least one, each with the peer that holds it, by peer.
 ///
-/// A single row lies in the value itself and takes no memory beside it; several lie side by side.
+/// A single row lies in the value itself and takes no memory beside it; several lie side by side,
+/// and many in pages.
 #[derive(Drop)]
 pub(crate) struct KeyRows {
     peers: Peers,
@@ -37,15 +38,16 @@ pub(crate) struct KeyRows {
 enum Peers {
     // In this order the peer lies beside the tag.
     One(u32, Row),
+    Few(Page),
     // Beside them stands the most that they are worth together.
-    Many(Vec<PeerRow>, Mosts),
+    Many(Page, Mosts),
+    Paged(Pages, Mosts),
 }
 
 impl Model for KeyRows {
     ghost use Rattle.std.specs.Prelude.{List, ℕ};
     ghost use Rattle.peer_rows.specs.declared.row.Row.{Row};
-    ghost use Rattle.std.specs.List.Sorted.{IsStrictlySortedBy};
-    ghost use Rattle.peer_rows.specs.Ends.{AreLive, HasEnded, IsLeast, is_behind, sooner};
+    ghost use Rattle.peer_rows.specs.Ends.{AreLive, HasEnded, IsLeast, is_behind};
     ghost use Rattle.peer_rows.specs.Peers.{held_by, ArePeers, AreSummed};
 
     ghost Value = { List (ℕ × Row) };
@@ -78,7 +80,9 @@ impl KeyRows {
                     None
                 }
             }
-            Peers::Many(rows, _) => row_among(rows, peer),
+            Peers::Few(page) => page.get(peer),
+            Peers::Many(page, _) => page.get(peer),
+            Peers::Paged(pages, _) => pages.get(peer),
         }
     }
 
@@ -96,14 +100,9 @@ impl KeyRows {
         ensures err { OnErr result (self.new ≡ self.old) }
         ensures are { ArePeers self.new }
     {
-        match &mut self.peers {
-            Peers::One(own, held) if *own as usize == peer => Ok(Some(mem::replace(held, row))),
-            Peers::One(_, _) => {
-                put_second(self.alloc, &mut self.peers, (peer, row))?;
-                Ok(None)
-            }
-            Peers::Many(rows, mosts) => put_summed(rows, mosts, peer, row, most),
-        }
+        let old = put_into(self.alloc, &mut self.peers, peer, row, most)?;
+        grow(self.alloc, &mut self.peers, most);
+        Ok(old)
     }
 
     /// Exchanges a peer's row for this one, if it holds one.
@@ -118,20 +117,18 @@ impl KeyRows {
     {
         match &mut self.peers {
             Peers::One(own, held) => exchange_one(*own, held, peer, row),
-            Peers::Many(rows, mosts) => exchange_summed(rows, mosts, peer, row),
+            _ => exchange_among(&mut self.peers, peer, row),
         }
     }
 
-    /// Looks at where a peer's row may lie among several, so that it is near when it is put: at the
-    /// peer's own number, or at the last. Whether a row was found there that came at any moment but
-    /// the last that there is, so always.
+    /// Looks at where a peer's row may lie among several, so that it is near when it is put. So
+    /// always.
     pub(crate) fn touch(&self, peer: usize) -> bool {
         match &self.peers {
             Peers::One(_, _) => true,
-            Peers::Many(rows, _) => match rows.get(peer).or(rows.last()) {
-                None => true,
-                Some((own, row)) => *own != usize::MAX && row.arrived() != u64::MAX,
-            },
+            Peers::Few(page) => page.touch(peer),
+            Peers::Many(page, _) => page.touch(peer),
+            Peers::Paged(pages, _) => pages.touch(peer),
         }
     }
 
@@ -141,7 +138,7 @@ impl KeyRows {
     {
         match &self.peers {
             Peers::One(own, _) => *own as usize == peer,
-            Peers::Many(rows, _) => is_only(rows, peer),
+            _ => is_only(self.iter(), peer),
         }
     }
 
@@ -152,23 +149,25 @@ impl KeyRows {
         ensures after { self.new ≡ remove_entry (is_at (nat_cmp peer)) self.old }
         ensures are { ArePeers self.new }
     {
-        let Peers::Many(rows, mosts) = &mut self.peers else {
-            return None;
-        };
-        take_summed(rows, mosts, peer)
+        take_from(&mut self.peers, peer)
     }
 
-    /// Gives the last row back, and drops the others.
-    pub(crate) fn into_last(self) -> Option<Row>
-        ensures { result ≡ option_map (λ last. last.1) (slice_get self (length self - 1)) }
+    /// Gives a peer's row back, and drops the others.
+    pub(crate) fn into_row(self, peer: usize) -> Option<Row>
+        ensures { result ≡ lookup (is_at (nat_cmp peer)) self }
     {
         let KeyRows { peers, .. } = self;
         match peers {
-            Peers::One(_, row) => Some(row),
-            Peers::Many(mut rows, _) => {
-                let (_, row) = rows.pop()?;
-                Some(row)
+            Peers::One(own, row) => {
+                if own as usize == peer {
+                    Some(row)
+                } else {
+                    None
+                }
             }
+            Peers::Few(mut page) => page.take(peer),
+            Peers::Many(mut page, _) => page.take(peer),
+            Peers::Paged(mut pages, _) => pages.take(peer),
         }
     }
 
@@ -179,7 +178,7 @@ impl KeyRows {
     {
         match &self.peers {
             Peers::One(_, row) => row.end(),
-            Peers::Many(rows, _) => least_end(rows),
+            _ => least_end(self.iter()),
         }
     }
 
@@ -196,7 +195,7 @@ impl KeyRows {
                     Some(*own as usize)
                 }
             }
-            Peers::Many(rows, _) => first_ended(rows, t),
+            _ => first_ended(self.iter(), t),
         }
     }
 
@@ -213,7 +212,7 @@ impl KeyRows {
                     Some(*own as usize)
                 }
             }
-            Peers::Many(_, _) => None,
+            _ => None,
         }
     }
 
@@ -221,10 +220,7 @@ impl KeyRows {
     pub(crate) fn len(&self) -> usize
         ensures { result ≡ length self.now }
     {
-        match &self.peers {
-            Peers::One(_, _) => 1,
-            Peers::Many(rows, _) => rows.len(),
-        }
+        self.iter().len()
     }
 
     /// The rows with their peers, by peer.
@@ -234,7 +230,49 @@ impl KeyRows {
     {
         match &self.peers {
             Peers::One(peer, row) => OfKey::one(*peer as usize, row),
-            Peers::Many(rows, mosts) => OfKey::new(rows, mosts.as_slice()),
+            Peers::Few(page) => OfKey::new(page.as_slice(), &[]),
+            Peers::Many(page, mosts) => OfKey::new(page.as_slice(), mosts.as_slice()),
+            Peers::Paged(pages, mosts) => pages.iter(mosts.as_slice()),
+        }
+    }
+}
+
+// Puts a peer's row in the place of an older one, which comes back, and keeps up the most that the
+// rows are worth together.
+fn put_into(
+    alloc: Global,
+    peers: &mut Peers,
+    peer: usize,
+    row: Row,
+    most: usize,
+) -> Result<Option<Row>, NoMemory>
+    requires are { ArePeers (held_by peers.old) }
+    requires summed { AreSummed peers.old }
+    ensures ok { OnOk result
+        (held_by peers.new ≡ insert_entry nat_cmp (held_by peers.old) peer row) }
+    ensures old { IfOk result (λ old. old ≡ lookup (is_at (nat_cmp peer)) (held_by peers.old)) }
+    ensures held { IsSome (lookup (is_at (nat_cmp peer)) (held_by peers.old)) → IsOk result }
+    ensures err { OnErr result (held_by peers.new ≡ held_by peers.old) }
+    ensures summed { AreSummed peers.new }
+{
+    match peers {
+        Peers::One(own, held) if *own as usize == peer => Ok(Some(mem::replace(held, row))),
+        Peers::One(_, _) => {
+            put_second(alloc, peers, (peer, row))?;
+            Ok(None)
+        }
+        Peers::Few(page) => page.put(peer, row, most),
+        Peers::Many(page, mosts) => {
+            let old = page.put(peer, row, most)?;
+            mosts.add(page.get(peer));
+            mosts.take_off(old.as_ref());
+            Ok(old)
+        }
+        Peers::Paged(pages, mosts) => {
+            let old = pages.put(peer, row)?;
+            mosts.add(pages.get(peer));
+            mosts.take_off(old.as_ref());
+            Ok(old)
         }
     }
 }
@@ -249,10 +287,6 @@ fn put_second(alloc: Global, peers: &mut Peers, new: PeerRow) -> Result<(), NoMe
     ensures summed { OnOk result (AreSummed peers.new) }
 {
     let mut rows = Vec::with_capacity(alloc, 2)?;
-    let Peers::One(_, held) = &*peers else {
-        unreachable!();
-    };
-    let mosts = Mosts::of_two(alloc, held, &new.1)?;
     let nothing = Peers::One(0, Row::blank());
     let Peers::One(own, held) = mem::replace(peers, nothing) else {
         unreachable!();
@@ -265,100 +299,64 @@ fn put_second(alloc: Global, peers: &mut Peers, new: PeerRow) -> Result<(), NoMe
     };
     let _ = rows.push(first);
     let _ = rows.push(second);
-    *peers = Peers::Many(rows, mosts);
+    *peers = Peers::Few(Page { rows });
     Ok(())
 }
 
-// Puts a row among those of several peers, and keeps up the most that they are worth together.
-fn put_summed(
-    rows: &mut Vec<PeerRow>,
-    mosts: &mut Mosts,
-    peer: usize,
-    row: Row,
-    most: usize,
-) -> Result<Option<Row>, NoMemory>
-    requires are { ArePeers rows.old.items }
-    requires summed { AreMosts mosts.old rows.old.items }
-    ensures ok { OnOk result (rows.new.items ≡ insert_entry nat_cmp rows.old.items peer row) }
-    ensures old { IfOk result (λ old. old ≡ lookup (is_at (nat_cmp peer)) rows.old.items) }
-    ensures held { IsSome (lookup (is_at (nat_cmp peer)) rows.old.items) → IsOk result }
-    ensures err { OnErr result (rows.new.items ≡ rows.old.items) }
-    ensures summed { AreMosts mosts.new rows.new.items }
+// Gives rows the form that so many want, where there is memory for it, and where there will be at
+// most so many.
+fn grow(alloc: Global, peers: &mut Peers, most: usize)
+    requires are { ArePeers (held_by peers.old) }
+    requires summed { AreSummed peers.old }
+    ensures rows { held_by peers.new ≡ held_by peers.old }
+    ensures summed { AreSummed peers.new }
 {
-    let old = put_among(rows, peer, row, most)?;
-    mosts.add(row_among(rows.as_slice(), peer));
-    mosts.take_off(old.as_ref());
-    Ok(old)
-}
-
-// Exchanges the row of a peer for another, if it is there, and keeps up the most that the rows are
-// worth together.
-#[inline(never)]
-fn exchange_summed(rows: &mut Vec<PeerRow>, mosts: &mut Mosts, peer: usize, row: &mut Row) -> bool
-    requires are { ArePeers rows.old.items }
-    requires summed { AreMosts mosts.old rows.old.items }
-    ensures found { result ≡ is_some (lookup (is_at (nat_cmp peer)) rows.old.items) }
-    ensures rows { MatchBool result
-        (rows.new.items ≡ insert_entry nat_cmp rows.old.items peer row.old)
-        (rows.new.items ≡ rows.old.items) }
-    ensures row { MatchBool result
-        (lookup (is_at (nat_cmp peer)) rows.old.items ≡ Some row.new) (row.new ≡ row.old) }
-    ensures summed { AreMosts mosts.new rows.new.items }
-{
-    mosts.add(Some(row));
-    let found = exchange_among(rows, peer, row);
-    mosts.take_off(Some(row));
-    found
-}
-
-// Takes the row of a peer out, and off the most that the rows are worth together.
-fn take_summed(rows: &mut Vec<PeerRow>, mosts: &mut Mosts, peer: usize) -> Option<Row>
-    requires are { ArePeers rows.old.items }
-    requires summed { AreMosts mosts.old rows.old.items }
-    ensures value { result ≡ lookup (is_at (nat_cmp peer)) rows.old.items }
-    ensures after { rows.new.items ≡ remove_entry (is_at (nat_cmp peer)) rows.old.items }
-    ensures summed { AreMosts mosts.new rows.new.items }
-{
-    let row = take_among(rows, peer);
-    mosts.take_off(row.as_ref());
-    row
-}
-
-// Puts a row among those of several peers.
-fn put_among(
-    rows: &mut Vec<PeerRow>,
-    peer: usize,
-    row: Row,
-    most: usize,
-) -> Result<Option<Row>, NoMemory>
-    requires { ArePeers rows.old.items }
-    ensures ok { OnOk result (rows.new.items ≡ insert_entry nat_cmp rows.old.items peer row) }
-    ensures old { IfOk result (λ old. old ≡ lookup (is_at (nat_cmp peer)) rows.old.items) }
-    ensures held { IsSome (lookup (is_at (nat_cmp peer)) rows.old.items) → IsOk result }
-    ensures err { OnErr result (rows.new.items ≡ rows.old.items) }
-{
-    match find(rows.as_slice(), peer) {
-        Ok(at) => Ok(Some(mem::replace(&mut rows[at].1, row))),
-        Err(at) => {
-            make_room(rows, most)?;
-            rows.insert(at, (peer, row))?;
-            Ok(None)
-        }
+    match peers {
+        Peers::Few(page) if page.len() > FEW => sum_up(alloc, peers),
+        Peers::Many(page, _) if page.len() >= PAGE && most > PAGE => lay_in_pages(alloc, peers),
+        _ => {}
     }
 }
 
-// Makes room for one row more: for all that may come once half of them are there, else for half as
-// many again. So rows are moved seldom, and where each peer holds the key no room stays unused.
-fn make_room(rows: &mut Vec<PeerRow>, most: usize) -> Result<(), NoMemory>
-    ensures { rows.new.items ≡ rows.old.items }
+// Sums rows up that were few, if there is memory for their sums.
+fn sum_up(alloc: Global, peers: &mut Peers)
+    requires summed { AreSummed peers.old }
+    ensures rows { held_by peers.new ≡ held_by peers.old }
+    ensures summed { AreSummed peers.new }
 {
-    let len = rows.len();
-    if len < rows.capacity() {
-        return Ok(());
-    }
-    let left = most.saturating_sub(len);
-    let more = if left <= len { left } else { len / 2 };
-    Ok(rows.reserve_exact(more.max(1))?)
+    let Peers::Few(page) = &*peers else {
+        return;
+    };
+    let Ok(mosts) = Mosts::of(alloc, page.as_slice()) else {
+        return;
+    };
+    let nothing = Peers::One(0, Row::blank());
+    let Peers::Few(page) = mem::replace(peers, nothing) else {
+        unreachable!();
+    };
+    *peers = Peers::Many(page, mosts);
+}
+
+// Makes of rows that lie side by side a first page, if there is memory for the list of pages.
+fn lay_in_pages(alloc: Global, peers: &mut Peers)
+    requires are { ArePeers (held_by peers.old) }
+    requires summed { AreSummed peers.old }
+    ensures rows { held_by peers.new ≡ held_by peers.old }
+    ensures summed { AreSummed peers.new }
+{
+    let Peers::Many(page, _) = &*peers else {
+        return;
+    };
+    let len = page.len();
+    let Ok(mut pages) = Vec::with_capacity(alloc, 2) else {
+        return;
+    };
+    let nothing = Peers::One(0, Row::blank());
+    let Peers::Many(page, mosts) = mem::replace(peers, nothing) else {
+        unreachable!();
+    };
+    let _ = pages.push(page);
+    *peers = Peers::Paged(Pages { pages, len }, mosts);
 }
 
 // Exchanges a row, if it is the peer's.
@@ -375,124 +373,60 @@ fn exchange_one(own: u32, held: &mut Row, peer: usize, row: &mut Row) -> bool
     true
 }
 
-// Exchanges the row of a peer for another, if it is there.
-fn exchange_among(rows: &mut Vec<PeerRow>, peer: usize, row: &mut Row) -> bool
-    requires { ArePeers rows.old.items }
-    ensures found { result ≡ is_some (lookup (is_at (nat_cmp peer)) rows.old.items) }
+// Exchanges a peer's row for this one, if it is there, and keeps up the most that the rows are worth
+// together.
+#[inline(never)]
+fn exchange_among(peers: &mut Peers, peer: usize, row: &mut Row) -> bool
+    requires are { ArePeers (held_by peers.old) }
+    requires summed { AreSummed peers.old }
+    ensures found { result ≡ is_some (lookup (is_at (nat_cmp peer)) (held_by peers.old)) }
     ensures rows { MatchBool result
-        (rows.new.items ≡ insert_entry nat_cmp rows.old.items peer row.old)
-        (rows.new.items ≡ rows.old.items) }
+        (held_by peers.new ≡ insert_entry nat_cmp (held_by peers.old) peer row.old)
+        (held_by peers.new ≡ held_by peers.old) }
     ensures row { MatchBool result
-        (lookup (is_at (nat_cmp peer)) rows.old.items ≡ Some row.new) (row.new ≡ row.old) }
+        (lookup (is_at (nat_cmp peer)) (held_by peers.old) ≡ Some row.new) (row.new ≡ row.old) }
+    ensures summed { AreSummed peers.new }
 {
-    match find(rows.as_slice(), peer) {
-        Ok(at) => {
-            mem::swap(&mut rows[at].1, row);
-            true
+    match peers {
+        Peers::One(own, held) => exchange_one(*own, held, peer, row),
+        Peers::Few(page) => page.exchange(peer, row),
+        Peers::Many(page, mosts) => {
+            mosts.add(Some(row));
+            let found = page.exchange(peer, row);
+            mosts.take_off(Some(row));
+            found
         }
-        Err(_) => false,
+        Peers::Paged(pages, mosts) => {
+            mosts.add(Some(row));
+            let found = pages.exchange(peer, row);
+            mosts.take_off(Some(row));
+            found
+        }
     }
 }
 
-// Takes the row of a peer out.
-fn take_among(rows: &mut Vec<PeerRow>, peer: usize) -> Option<Row>
-    requires { ArePeers rows.old.items }
-    ensures value { result ≡ lookup (is_at (nat_cmp peer)) rows.old.items }
-    ensures after { rows.new.items ≡ remove_entry (is_at (nat_cmp peer)) rows.old.items }
+// Takes a peer's row out, and off the most that the rows are worth together. One row alone stays.
+fn take_from(peers: &mut Peers, peer: usize) -> Option<Row>
+    requires are { ArePeers (held_by peers.old) }
+    requires several { keys_of (held_by peers.old) ≢ peer ∷ [] }
+    requires summed { AreSummed peers.old }
+    ensures value { result ≡ lookup (is_at (nat_cmp peer)) (held_by peers.old) }
+    ensures after { held_by peers.new
+        ≡ remove_entry (is_at (nat_cmp peer)) (held_by peers.old) }
+    ensures summed { AreSummed peers.new }
 {
-    match find(rows.as_slice(), peer) {
-        Ok(at) => Some(rows.remove(at).1),
-        Err(_) => None,
-    }
-}
-
-// The row of a peer among those of several.
-fn row_among(rows: &[PeerRow], peer: usize) -> Option<&Row>
-    requires { ArePeers rows.now }
-    ensures { option_copied result ≡ lookup (is_at (nat_cmp peer)) rows.now }
-{
-    match find(rows, peer) {
-        Ok(at) => Some(&rows[at].1),
-        Err(_) => None,
-    }
-}
-
-// Whether a peer's row is the only one of several.
-fn is_only(rows: &[PeerRow], peer: usize) -> bool
-    ensures { IsTrue result ↔ (keys_of rows.now ≡ peer ∷ []) }
-{
-    matches!(rows, [only] if only.0 == peer)
-}
-
-// Where the row of a peer stands among rows by peer, or else where it would stand. Where all peers
-// hold the key, that is at its own number, and where those who don't come before it, by so many
-// sooner.
-fn find(rows: &[PeerRow], peer: usize) -> Result<usize, usize>
-    requires { IsStrictlySortedBy nat_cmp (keys_of rows.now) }
-    ensures { MatchResult result (IsFound peer rows.now) (IsGap peer rows.now) }
-{
-    if stands_at(rows, peer, peer) {
-        return Ok(peer);
-    }
-    let near = peer.saturating_sub(absent(rows));
-    if stands_at(rows, near, peer) {
-        return Ok(near);
-    }
-    rows.binary_search_by_key(&peer, |held| held.0)
-}
-
-// Whether the row of a peer stands at a place.
-fn stands_at(rows: &[PeerRow], at: usize, peer: usize) -> bool
-    requires { IsStrictlySortedBy nat_cmp (keys_of rows.now) }
-    ensures { IsTrue result → IsFound peer rows.now at }
-{
-    at < rows.len() && rows[at].0 == peer
-}
-
-// How many peers before that of the last row have none.
-fn absent(rows: &[PeerRow]) -> usize {
-    match rows.last() {
-        None => 0,
-        Some(last) => last.0.saturating_sub(rows.len().saturating_sub(1)),
-    }
-}
-
-// When the first of some rows ends, if one does.
-fn least_end(rows: &[PeerRow]) -> Option<u64>
-    ensures least { IsLeast rows.now result }
-    ensures behind { (t : ℕ) → AreLive t rows.now → is_behind t result ≡ true }
-{
-    match rows {
-        [] => None,
-        [first, others @ ..] => sooner(first.1.end(), least_end(others)),
-    }
-}
-
-// The sooner of two moments, where there are both, and else the one that there is.
-fn sooner(a: Option<u64>, b: Option<u64>) -> Option<u64>
-    ensures { result ≡ sooner a b }
-{
-    match (a, b) {
-        (Some(first), Some(other)) => Some(first.min(other)),
-        (Some(first), None) => Some(first),
-        (None, other) => other,
-    }
-}
-
-// The first peer whose row has ended at a moment.
-fn first_ended(rows: &[PeerRow], t: u64) -> Option<usize>
-    ensures some { IsStrictlySortedBy nat_cmp (keys_of rows.now)
-        → IfSome result (HasEnded t rows.now) }
-    ensures none { IfNone result (AreLive t rows.now) }
-{
-    match rows {
-        [] => None,
-        [first, others @ ..] => {
-            if first.1.is_live(t) {
-                first_ended(others, t)
-            } else {
-                Some(first.0)
-            }
+    match peers {
+        Peers::One(_, _) => None,
+        Peers::Few(page) => page.take(peer),
+        Peers::Many(page, mosts) => {
+            let row = page.take(peer);
+            mosts.take_off(row.as_ref());
+            row
+        }
+        Peers::Paged(pages, mosts) => {
+            let row = pages.take(peer);
+            mosts.take_off(row.as_ref());
+            row
         }
     }
 }

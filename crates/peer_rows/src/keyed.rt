@@ -185,6 +185,8 @@ impl Keyed {
         requires { EachPeerOnce self.old }
         ensures new { IfOk result (λ held. IfNone held
             (lookup (is_at (slice_cmp nat_cmp key.now)) self.old ≡ None)) }
+        ensures held { IfOk result (λ held. IfSome held
+            (λ _. IsSome (lookup (is_at (slice_cmp nat_cmp key.now)) self.old))) }
         ensures ok { IfOk result (λ held. MatchOption held (rows_in self.new
             ≡ insert_entry spot_cmp (rows_in self.old) (key.now, peer) row.old)
             (λ _. (self.new ≡ self.old) × (row.new ≡ row.old))) }
@@ -211,7 +213,7 @@ impl Keyed {
         let at = find(&self.index, hint, key)?;
         if is_only(&self.index, at, peer) {
             let rows = taken(&mut self.index, at);
-            rows.into_last()
+            rows.into_row(peer)
         } else {
             self.index.take(at, peer)
         }

@@ -38,6 +38,8 @@ mod mosts;
 mod narrow;
 mod of_key;
 mod packed;
+mod page;
+mod pages;
 mod row;
 mod rows;
 mod spot;

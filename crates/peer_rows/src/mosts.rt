@@ -3,11 +3,12 @@
 //! It is kept up as rows come and go, so that who asks whether a key can meet a bound at all reads
 //! one number, however many peers hold the key.
 
-ghost use Rattle.std.specs.Prelude.{◌≡◌, ◌≤◌, ℕ, [], ◌∷◌, length, IfOk, IsTrue};
+ghost use Rattle.std.specs.Prelude.{◌≡◌, ◌≤◌, ℕ, [], length, IfOk, IfSome, IsTrue};
 ghost use Rattle.std.specs.Option.{option_copied};
-ghost use Rattle.peer_rows.specs.Most.{AreAdded, AreMosts, AreRaised};
+ghost use Rattle.peer_rows.specs.Most.{AreAdded, AreMosts, AreRaised, most_in};
 
 use crate::Row;
+use crate::page::PeerRow;
 use agg_types::NoMemory;
 use std::alloc::Global;
 use std::marker::Model;
@@ -17,7 +18,7 @@ use std::marker::Model;
 /// row.
 #[derive(Drop)]
 pub(crate) struct Mosts {
-    sums: Box<Vec<u128>>,
+    sums: Box<Vec<u64>>,
 }
 
 const _: () = prove!(size_of::<Mosts>() == 8);
@@ -36,25 +37,37 @@ impl Mosts {
         ensures { IfOk result (λ mosts. AreMosts mosts []) }
     {
         Ok(Mosts {
-            sums: Box::new(alloc, vec![in alloc; 0u128; columns]?)?,
+            sums: Box::new(alloc, vec![in alloc; 0u64; columns]?)?,
         })
     }
 
-    /// Those of two rows, for the columns of the second.
-    pub(crate) fn of_two(alloc: Global, first: &Row, second: &Row) -> Result<Mosts, NoMemory>
-        ensures both { IfOk result (λ mosts. (p q : ℕ)
-            → AreMosts mosts ((p, first.now) ∷ (q, second.now) ∷ [])) }
-        ensures turned { IfOk result (λ mosts. (p q : ℕ)
-            → AreMosts mosts ((p, second.now) ∷ (q, first.now) ∷ [])) }
+    /// Those of some rows, for the columns of the last.
+    pub(crate) fn of(alloc: Global, rows: &[PeerRow]) -> Result<Mosts, NoMemory>
+        ensures { IfOk result (λ mosts. AreMosts mosts rows.now) }
     {
-        let mut mosts = Mosts::none(alloc, second.width())?;
-        mosts.add(Some(first));
-        mosts.add(Some(second));
-        Ok(mosts)
+        let columns = match rows.last() {
+            Some((_, row)) => row.width(),
+            None => 0,
+        };
+        Mosts::of_columns(alloc, rows, columns)
+    }
+
+    // Those of some rows, for so many columns.
+    fn of_columns(alloc: Global, rows: &[PeerRow], columns: usize) -> Result<Mosts, NoMemory>
+        ensures { IfOk result (λ mosts. AreMosts mosts rows.now) }
+    {
+        match rows {
+            [] => Mosts::none(alloc, columns),
+            [first, others @ ..] => {
+                let mut mosts = Mosts::of_columns(alloc, others, columns)?;
+                mosts.add(Some(&first.1));
+                Ok(mosts)
+            }
+        }
     }
 
     /// The sums, by column.
-    pub(crate) fn as_slice(&self) -> &[u128]
+    pub(crate) fn as_slice(&self) -> &[u64]
         ensures { result.now ≡ self.now }
     {
         self.sums.as_slice()
@@ -85,14 +98,27 @@ impl Mosts {
     }
 }
 
+/// The most that a few rows are worth together in a column, by a walk over them. None says that it
+/// doesn't fit in 128 bits.
+pub(crate) fn most_among(rows: &[PeerRow], col: usize) -> Option<u128>
+    ensures { IfSome result (λ most. most_in col rows.now ≤ most) }
+{
+    match rows {
+        [] => Some(0),
+        [first, others @ ..] => {
+            most_among(others, col)?.checked_add(u128::from(first.1.most(col)))
+        }
+    }
+}
+
 // Adds the most that each cell is worth to its column's sum, if all fit.
-fn add_each(sums: &mut [u128], row: &Row) -> bool
+fn add_each(sums: &mut [u64], row: &Row) -> bool
     ensures columns { length sums.new ≡ length sums.old }
     ensures sums { IsTrue result
         → AreAdded row.now.cells sums.old sums.new (length sums.new) }
 {
     for col in 0..sums.len() {
-        let Some(sum) = sums[col].checked_add(u128::from(row.most(col))) else {
+        let Some(sum) = sums[col].checked_add(row.most(col)) else {
             return false;
         };
         sums[col] = sum;
@@ -101,13 +127,13 @@ fn add_each(sums: &mut [u128], row: &Row) -> bool
 }
 
 // Takes the most that each cell is worth off its column's sum, if it is in there.
-fn take_each(sums: &mut [u128], row: &Row) -> bool
+fn take_each(sums: &mut [u64], row: &Row) -> bool
     ensures columns { length sums.new ≡ length sums.old }
     ensures sums { IsTrue result
         → AreAdded row.now.cells sums.new sums.old (length sums.new) }
 {
     for col in 0..sums.len() {
-        let Some(sum) = sums[col].checked_sub(u128::from(row.most(col))) else {
+        let Some(sum) = sums[col].checked_sub(row.most(col)) else {
             return false;
         };
         sums[col] = sum;

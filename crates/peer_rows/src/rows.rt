@@ -1,5 +1,5 @@
-ghost use Rattle.std.specs.Prelude.{◌≡◌, ◌<◌, [], length, count_by, IsOk, IsSome, IfNone, IfOk};
-ghost use Rattle.std.specs.Prelude.{OnOk, OnErr, Some, MatchBool, MatchOption, is_some};
+ghost use Rattle.std.specs.Prelude.{◌≡◌, ◌≢◌, ◌<◌, [], length, count_by, IsOk, IsSome, IfNone};
+ghost use Rattle.std.specs.Prelude.{IfOk, IfSome, OnOk, OnErr, Some, MatchBool, MatchOption, is_some};
 ghost use Rattle.std.specs.Prelude.{if◌then◌else◌, map};
 ghost use Rattle.std.specs.Option.{option_copied};
 ghost use Rattle.peer_rows.specs.Ends.{ended};
@@ -334,6 +334,8 @@ impl Rows {
         requires peer_in { peer < self.old.peers }
         requires table_in { table < self.old.tables }
         ensures new { IfOk result (λ held. IfNone held (peers_of self.old table key.now ≡ [])) }
+        ensures held { IfOk result
+            (λ held. IfSome held (λ _. peers_of self.old table key.now ≢ [])) }
         ensures ok { IfOk result (λ held. MatchOption held
             (self.new ≡ with_row self.old peer table key.now row.old)
             (λ _. (self.new ≡ self.old) × (row.new ≡ row.old))) }

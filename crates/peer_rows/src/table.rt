@@ -1,5 +1,5 @@
-ghost use Rattle.std.specs.Prelude.{◌≡◌, ◌+◌, ◌<◌, ◌≤◌, ℕ, [], length, filter, not, map};
-ghost use Rattle.std.specs.Prelude.{slice_index, IsOk, IsSome, IfNone, IfOk, OnOk, OnErr, Some};
+ghost use Rattle.std.specs.Prelude.{◌≡◌, ◌≢◌, ◌+◌, ◌<◌, ◌≤◌, ℕ, [], length, filter, not, map};
+ghost use Rattle.std.specs.Prelude.{slice_index, IsOk, IsSome, IfNone, IfSome, IfOk, OnOk, OnErr, Some};
 ghost use Rattle.std.specs.Prelude.{replicate};
 ghost use Rattle.std.specs.Prelude.{MatchBool, MatchOption, is_some, if◌then◌else◌};
 ghost use Rattle.std.specs.Option.{option_copied};
@@ -181,6 +181,8 @@ impl Table {
         requires { peer < self.old.peers }
         ensures new { IfOk result (λ held. IfNone held
             (filter (λ e. same_key key.now e.0.0) self.old.entries ≡ [])) }
+        ensures held { IfOk result (λ held. IfSome held
+            (λ _. filter (λ e. same_key key.now e.0.0) self.old.entries ≢ [])) }
         ensures ok { IfOk result (λ held. MatchOption held (self.new ≡ record self.old
             { entries = insert_entry spot_cmp self.old.entries (key.now, peer) row.old })
             (λ _. (self.new ≡ self.old) × (row.new ≡ row.old))) }

@@ -1,8 +1,11 @@
-use Rattle.std.proofs.Common.{ap}
-use Rattle.place_index.specs.Places.{in_order}
+use Rattle.std.proofs.Common.{◌∙◌, ap, refl, sym, subst, Option, List, ℕ}
+use Rattle.std.specs.Prelude.{IsSome}
+use Rattle.peer_rows.specs.declared.row.Row.{Row}
+use Rattle.place_index.specs.Places.{in_order, item_at}
 use Rattle.peer_rows.specs.Table.{EachPeerOnce}
-use Rattle.place_index.proofs.Ordered.{sorted-in_order}
+use Rattle.place_index.proofs.Ordered.{sorted-in_order, value_of_item}
 use Rattle.peer_rows.proofs.Shown.{none-shown, new-shown, new_once-shown, same_once, on_err}
+use Rattle.peer_rows.proofs.Shown.{value-shown}
 use Rattle.peer_rows.proofs.keyed.Keyed.insert_first.Goals as goal
 
 pub returns-in_err-insert_new-clause-err : goal.returns-in_err-insert_new-clause-err
@@ -43,3 +46,11 @@ returns-in_default-clause-ordered c = sorted-in_order c.insert_new.new.index.pla
 pub returns-clause-ordered : goal.returns-clause-ordered
 returns-clause-ordered c =
     rw (← c.self.view_is) (sorted-in_order c.self.inside.index.places)
+
+pub returns-clause-held : goal.returns-clause-held
+returns-clause-held c =
+    let places = c.self.inside.index.places in
+    let there = value_of_item (item_at places c.in-Some.at) c.args.key.now c.in-Some.ensures.some in
+    rw (← c.self.view_is) (subst (λ (rows : Option (List (ℕ × Row))). IsSome rows)
+    (sym (value-shown places c.args.key.now c.in-Some.ensures.distinct c.in-Some.at
+    c.in-Some.ensures.some ∙ there.1)) refl)

@@ -2,7 +2,7 @@ use Rattle.std.proofs.Common.{◌≡◌, ◌∙◌, sym, ap, ◌∷◌, [], true
 use Rattle.std.specs.Map.{keys_of}
 use Rattle.place_index.specs.Places.{item_at, in_order}
 use Rattle.peer_rows.specs.Table.{EachPeerOnce}
-use Rattle.peer_rows.proofs.Keying.{take_not_held, value_last}
+use Rattle.peer_rows.proofs.Keying.{take_not_held}
 use Rattle.peer_rows.proofs.InTime.{PeerRows, rows_value}
 use Rattle.place_index.proofs.Ordered.{value_of_item, sorted-in_order, some_item}
 use Rattle.peer_rows.proofs.Shown.{none-shown, no_peer-shown, peers-shown, take-shown}
@@ -48,10 +48,7 @@ take-requires-clause-others c = λ last.
 
 pub returns-then-is_only-clause-value : goal.returns-then-is_only-clause-value
 returns-then-is_only-clause-value c =
-    let only : keys_of c.taken-rows.result ≡ c.args.peer ∷ [] =
-    (rw c.taken-rows.ensures.value at c.is_only.ensures).0 c.if-is_only.true in
-    rw (← c.self.view_is) (c.into_last.ensures
-    ∙ sym (value_last c.args.peer c.taken-rows.result only)
+    rw (← c.self.view_is) (c.into_row.ensures
     ∙ sym (peers-shown c.self.inside.index.places c.args.key.now c.in_ok-at.ensures.distinct
     c.in_ok-at.at c.in_ok-at.ensures.some c.taken-rows.result c.taken-rows.ensures.value
     c.args.peer))

@@ -2,7 +2,7 @@ use Rattle.std.proofs.Common.{◌≡◌, length, ◌<◌, arith}
 use Rattle.std.specs.Prelude.{None}
 use Rattle.peer_rows.proofs.Keying.{lookup_not_held}
 use Rattle.peer_rows.proofs.Kept.{kept-put_new, is_nothing, get_or_in, none_of_key, none_then}
-use Rattle.peer_rows.proofs.Kept.{few_after}
+use Rattle.peer_rows.proofs.Kept.{few_after, some_listed, some_then}
 use Rattle.peer_rows.proofs.table.Table.insert_first.Goals as goal
 
 pub overflow_add-index_mut : goal.overflow_add-index_mut
@@ -36,3 +36,9 @@ pub returns-then-is_none-clause-new : goal.returns-then-is_none-clause-new
 returns-then-is_none-clause-new c =
     rw (← c.self.view_is) (none_then c.in_ok-held.held
     (none_of_key c.self.inside.keys c.args.key.now) c.in_ok-held.ensures.new)
+
+pub returns-else-is_none-clause-held : goal.returns-else-is_none-clause-held
+returns-else-is_none-clause-held c =
+    rw (← c.self.view_is) (some_then c.in_ok-held.held
+    (some_listed c.self.inside.keys c.args.key.now c.self.invariant.ordered c.self.invariant.once)
+    c.in_ok-held.ensures.held)
