@@ -2,7 +2,7 @@
 //!
 //! Places: finds, inserts and removes keys, also keys whose hashes choose one window and far more
 //! than one window holds; exchanges values, and lays keys into room that was made for them. Rows:
-//! puts, replaces, takes and clears the rows of two peers, and works rows into sums. Rates, at the
+//! puts, replaces, takes and clears the rows of two peers and of a hundred, and works rows into sums. Rates, at the
 //! moments at which they change, and both kinds of due index on the same entries.
 //!
 //! It shows what no contract says: that these calls succeed while there is memory. Where places or
@@ -12,6 +12,7 @@ mod crowded;
 mod due;
 mod growth;
 mod laying;
+mod pages;
 mod places;
 mod rates;
 mod rooms;
@@ -27,6 +28,7 @@ pub fn run(rt: &HostRuntime) -> Result<()> {
     growth::run(rt)?;
     rooms::run(rt)?;
     rows::run(rt)?;
+    pages::run(rt)?;
     sums::run(rt)?;
     rates::run(rt)?;
     due::run(rt, rt.alloc())
