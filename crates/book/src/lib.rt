@@ -5,13 +5,14 @@
 //! compared with. Inside, rows lie by table, key and peer in `peer_rows`, which looks at them
 //! before they end. For each ranked list bounds are kept on the values of its table's keys, and for
 //! each standing filter verdicts on them (`standing_filters`). An update is a search and a row
-//! replaced, and its key is judged by the filters of its table. Where several proxies hold the key,
-//! the most that its rows are ever worth lies with them. A filter that the key can't meet by that,
-//! and a list's bound, read no row. Whether a key meets a bound is asked of no more rows than it
-//! takes (`values`), and when its rows come to nothing one pass over them tells (`nothing`). A
-//! moment looks at what is due and no more: rows that end, and verdicts that change. A filter's
-//! keys and its next change are read off its verdicts, and a list looks at the keys of which a
-//! bound isn't below what it gives. Users are the fleet, the hub and the commands.
+//! replaced, and its key is judged by the filters of its table. Where more than four proxies hold
+//! the key, the most that its rows are ever worth lies with them, and of fewer a look at their rows
+//! tells it. For a filter that the key can't meet by that, and for a list's bound, no value is
+//! worked out. Whether a key meets a bound is asked of no more rows than it takes (`values`), and
+//! when its rows come to nothing one pass over them tells (`nothing`). A moment looks at what is
+//! due and no more: rows that end, and verdicts that change. A filter's keys and its next change
+//! are read off its verdicts, and a list looks at the keys of which a bound isn't below what it
+//! gives. Users are the fleet, the hub and the commands.
 //!
 //! No event fails for want of a verdict's memory. Verdicts are given up where memory for them is
 //! refused, all at once; from then on a filter's keys and its next change are found by judging each

@@ -262,8 +262,8 @@ pub fn found_meets(rows: Option<&OfKey<'_>>, cols: &[(Col, u32)], t: u64, conds:
     conds.iter().all(|cond| found_holds(rows, cols, t, cond))
 }
 
-// Whether a condition holds of what the rows of the key that were found sum up to. No row is read
-// where the most that they are ever worth is at hand and fails it.
+// Whether a condition holds of what the rows of the key that were found sum up to. No value is
+// worked out where the most that they are ever worth is at hand and fails it.
 fn found_holds(rows: Option<&OfKey<'_>>, cols: &[(Col, u32)], t: u64, cond: &Cond) -> bool
     requires { IfSome rows (λ rows. length rows.now < 2 ^ 64) }
     ensures { result ≡ op_holds cond.now.op

@@ -5,8 +5,8 @@
 //! rows as they end. Standing filters plan by this crate when a key comes into their set or leaves
 //! it; ranked lists take its `Values`. `Falls` is one such value, `Values` gives those of all keys,
 //! and `Of` is one key's of them. Who keeps at hand the most that a key is ever worth tells it by
-//! `Values::most`, so that no row is read where that settles what is asked. Whether a value is
-//! below a bound is asked for by `is_below`, so that who adds it up may stop where that is sure.
+//! `Values::most`, so that no value is read where that settles what is asked. Whether one is below
+//! a bound is asked for by `is_below`, so that who adds it up may stop where that is sure.
 //! Who can tell at once when a value falls below a bound does so by `known_drop`, and is held to
 //! it. Who can tell when that is likely says so by `likely`. The value is then mostly looked at
 //! twice there, in place of halving the time up to the moment from which it stays.

@@ -29,8 +29,7 @@ pub trait Values {
         self.value(table, key, col, t) < bound
     }
 
-    /// The most that a key is worth in a column at any moment, where that is known without a look
-    /// at its rows.
+    /// The most that a key is worth in a column at any moment, where that is at hand.
     fn most(&self, table: usize, key: &Key, col: Col) -> Option<u128>
         ensures { IfSome result (λ most. (t : ℕ) → summed self.now table key.now col t ≤ most) }
     {

@@ -21,7 +21,8 @@ use std::mem;
 
 const _: () = prove!(size_of::<KeyRows>() == 48);
 
-/// So many rows are summed up when they are asked for: no sums of them are kept.
+/// Up to so many rows are looked at as their most is asked for. Sums of so few are kept only where
+/// there were more once.
 pub(crate) const FEW: usize = 4;
 
 /// The rows of one key: at least one, each with the peer that holds it, by peer.

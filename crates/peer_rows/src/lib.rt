@@ -18,7 +18,8 @@
 //! whose rows none ends has no plan, so none is left behind.
 //!
 //! No clause says how long a call takes. A look-up is at most one search of a table's keys, `count`
-//! and `used` take constant time, and a row that replaces another takes no memory but for its plan.
+//! and `used` take constant time. A row that replaces another takes no memory but for its plan, and
+//! for sums or pages for which it was refused before.
 //! Of a `Spot` or a `Trace` clauses say only that no answer depends on it. Which keys `end_rows`
 //! answers none says: those of which no row is left, as far as there was memory to tell them.
 #![tactic(auto)]

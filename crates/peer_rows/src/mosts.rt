@@ -1,7 +1,7 @@
 //! The most that the rows of a key are worth together, column by column.
 //!
-//! It is kept up as rows come and go, so that who asks whether a key can meet a bound at all reads
-//! one number, however many peers hold the key.
+//! Of more than a few rows it is kept up as rows come and go, so that who asks whether a key can
+//! meet a bound at all reads one number, however many these are.
 
 ghost use Rattle.std.specs.Prelude.{◌≡◌, ◌≤◌, ℕ, [], length, IfOk, IfSome, IsTrue};
 ghost use Rattle.std.specs.Option.{option_copied};

@@ -19,7 +19,7 @@ pub(crate) type PeerRow = (usize, Row);
 
 const _: () = prove!(size_of::<PeerRow>() == 48);
 
-/// How many rows lie side by side at most, where they can be parted.
+/// With so many rows the last page is parted as a further row comes.
 pub(crate) const PAGE: usize = 32;
 
 /// Rows of one key that lie side by side, by peer. Contracts see the list of them.
@@ -98,8 +98,8 @@ impl Page {
         take_among(&mut self.rows, peer)
     }
 
-    /// Takes the rows of peers from a number on out into a page of their own, which has room for all
-    /// that it may get. None says that memory for it was refused.
+    /// Takes the rows of peers from a number on out into a page of their own, with room for as many
+    /// as a page has where there is memory for that. None says that memory for them was refused.
     pub(crate) fn part(&mut self, end: usize) -> Option<Page>
         requires { AreByPeer self.old }
         ensures none { IfNone result (self.new ≡ self.old) }
@@ -132,11 +132,10 @@ impl Page {
         Ok(())
     }
 
-    /// Looks at where a peer's row may lie, so that it is near when it is put: at the peer's own
-    /// number, or at the last. Whether a row was found there that came at any moment but the last
-    /// that there is, so always.
-    pub(crate) fn touch(&self, peer: usize) -> bool {
-        match self.rows.get(peer).or(self.rows.last()) {
+    /// Looks at where a row may lie, so that it is near when it is put: at a number, or at the last.
+    /// Whether a row was found there that came at any moment but the last that there is, so always.
+    pub(crate) fn touch(&self, number: usize) -> bool {
+        match self.rows.get(number).or(self.rows.last()) {
             None => true,
             Some((own, row)) => *own != usize::MAX && row.arrived() != u64::MAX,
         }

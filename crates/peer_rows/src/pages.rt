@@ -87,7 +87,7 @@ impl Pages {
     /// Looks at where a peer's row may lie, so that it is near when it is put. So always.
     pub(crate) fn touch(&self, peer: usize) -> bool {
         let at = page_of(self.pages.as_slice(), peer);
-        self.pages[at].touch(peer)
+        self.pages[at].touch(peer % PAGE)
     }
 
     /// The rows with their peers, by peer, with the most that they are worth together.

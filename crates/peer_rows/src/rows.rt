@@ -112,7 +112,7 @@ impl Rows {
 
     /// Puts a row in the place of the row that stood there, which comes back.
     ///
-    /// Takes no memory where there was one. After `NoMemory` no row has changed.
+    /// Where there was one it is never refused. After `NoMemory` no row has changed.
     pub fn put(
         &mut self,
         peer: usize,

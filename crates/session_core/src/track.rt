@@ -397,7 +397,8 @@ impl Track {
         };
     }
 
-    /// An update under the id in force that no run has taken, as it can't be read.
+    /// An update that no run has taken: it can't be read, or no table that is followed is in force,
+    /// and then it says nothing.
     #[cold]
     #[inline(never)]
     fn update(

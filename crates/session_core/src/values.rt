@@ -126,7 +126,7 @@ pub(crate) fn elapsed_of(elapsed: u64) -> u64
     }
 }
 
-/// The key of these bytes. Those of an address, as most keys are, need no copy of unknown length.
+/// The key of these bytes. Four, as an IPv4 address has, need no copy of unknown length.
 #[inline]
 pub(crate) fn key_of(alloc: Global, bytes: &[u8]) -> Result<Key, NoMemory>
     ensures { IfOk result (λ key. key ≡ bytes.now) }

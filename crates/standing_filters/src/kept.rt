@@ -1,4 +1,4 @@
-//! The verdicts on the keys of one filter, each found by its key's hash.
+//! The verdicts on the keys of one filter, each found by a hint or by its key's hash.
 
 ghost use Rattle.std.specs.Prelude.{ℕ, List, ◌≡◌, [], length, slice_set};
 ghost use Rattle.std.specs.Prelude.{IfOk, IfSome, None, OnErr, OnOk, Some};

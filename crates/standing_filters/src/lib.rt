@@ -30,9 +30,9 @@
 //! again is known by one value of each condition, or by none where the values tell the most that a
 //! key is ever worth. Where a filter is the last of its table, a verdict is searched for once. It
 //! is found in the place that `touch_near` is told, if it lies there, and else by its key's hash,
-//! so that keys in order are searched only where a verdict comes or goes. While few keys have
-//! verdicts the hashes of these are marked, and most other keys are known by a look at one mark.
-//! And the place in which a verdict lies has its next change planned, without a search and without
+//! so that keys in order are searched only where a verdict comes or goes. The hashes of keys with
+//! verdicts are marked: while these are few, most other keys are known by a look at one mark. And
+//! the place in which a verdict lies has its next change planned, without a search and without
 //! a copy of the key. Where memory for a plan is refused all plans of that filter are lost, and no
 //! call fails: the verdicts say themselves when they change, and a walk over them finds it until a
 //! moment at which a change has come plans them anew.

@@ -80,8 +80,8 @@ impl MarkedVerdicts {
     }
 
     /// The place of a key. No key has two. A hint names a place where the key may lie: one that is
-    /// right saves the search, and no answer depends on it. Of a few keys one whose hash isn't
-    /// marked isn't looked for.
+    /// right saves the search, and no answer depends on it. While few keys have verdicts, one whose
+    /// hash isn't marked isn't looked for.
     #[inline]
     pub(crate) fn find_near(&self, hint: Option<usize>, key: &Key) -> Option<usize>
         ensures some { IfSome result (λ at. key_at self.now.places at ≡ Some key.now) }

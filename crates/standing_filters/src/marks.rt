@@ -8,7 +8,8 @@ use std::marker::Model;
 /// How many marks there are: with 400 keys an unmarked hash is met nine times out of ten.
 const MARKS: usize = 4096;
 
-/// Marks of hashes, by what is left of them: a hash is marked once one was that leaves the same.
+/// Marks of hashes, one for each remainder by their number: a hash is marked once one was that
+/// leaves the same.
 #[derive(Drop)]
 pub(crate) struct Marks {
     marks: [bool; MARKS],
