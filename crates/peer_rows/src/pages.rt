@@ -15,8 +15,8 @@ use agg_types::NoMemory;
 use std::marker::Model;
 
 /// Rows by peer, in pages: each has the rows of 32 peers, but the last one has those of all others.
-/// A last page that is full is parted before a further row comes, where there is memory for that.
-/// Contracts see the list of the rows.
+/// A last page that is full is parted before a further row comes to it, where there is memory for
+/// that. Contracts see the list of the rows.
 #[derive(Drop)]
 pub(crate) struct Pages {
     pub(crate) pages: Vec<Page>,
@@ -107,7 +107,7 @@ impl Pages {
         let Some(len) = self.len.checked_add(1) else {
             return Err(NoMemory);
         };
-        part_last(&mut self.pages);
+        part_last(&mut self.pages, peer);
         let at = page_of(self.pages.as_slice(), peer);
         self.pages[at].insert(peer, row)?;
         self.len = len;
@@ -125,8 +125,8 @@ fn page_of(pages: &[Page], peer: usize) -> usize
     (peer / PAGE).min(last)
 }
 
-// Parts the last page where it is full, and there is memory for one more.
-fn part_last(pages: &mut Vec<Page>)
+// Parts the last page where a peer's row comes to it, it is full, and there is memory for one more.
+fn part_last(pages: &mut Vec<Page>, peer: usize)
     requires { ArePages 0 pages.old.items }
     ensures are { ArePages 0 pages.new.items }
     ensures rows { joined pages.new.items ≡ joined pages.old.items }
@@ -135,7 +135,7 @@ fn part_last(pages: &mut Vec<Page>)
         return;
     };
     match pages.last() {
-        Some(last) if last.len() >= PAGE => {}
+        Some(last) if last.len() >= PAGE && peer / PAGE + 1 >= pages.len() => {}
         _ => return,
     }
     if pages.reserve(1).is_err() {
