@@ -16,6 +16,7 @@ mod answers;
 mod deeds;
 mod drawn;
 mod fleet;
+mod many_peers;
 mod plain;
 mod plain_fleet;
 mod runs;
@@ -171,6 +172,24 @@ fn falling(rt: &impl Print, alloc: Global) -> Result<()> {
     end(rt, alloc, "falling", NEAR, &mut pair)
 }
 
+/// Eighty peers with the same few keys.
+fn of_eighty(rt: &impl Print, alloc: Global) -> Result<()> {
+    let fleet = many_peers::fleet(alloc)?;
+    let mut pair = Pair::of(alloc, fleet.as_bytes(), true)?;
+    pair.happen(alloc, Deed::Sit(0))?;
+    for peer in 0..many_peers::PEERS {
+        pair.happen(alloc, Deed::Sit(peer + 1))?;
+        pair.happen(alloc, Deed::Open(peer + 1, peer as usize))?;
+    }
+    for number in 0..many_peers::DEEDS {
+        pair.happen(alloc, many_peers::deed(number, pair.moment()))?;
+        if number % 5 == 0 {
+            pair.compare(alloc)?;
+        }
+    }
+    end(rt, alloc, "many peers", NEAR, &mut pair)
+}
+
 /// Makes the runs of which each allocation fails in turn.
 pub fn run_again(rt: &impl Print, alloc: Global) -> Result<()> {
     play(rt, alloc, "reconnect", SELDOM, worked::RECONNECT)?;
@@ -189,6 +208,7 @@ fn all_runs(rt: &impl Print, alloc: Global) -> Result<()> {
     draw(rt, alloc, "drawn, far", FAR)?;
     tell_sets(rt, alloc)?;
     falling(rt, alloc)?;
+    of_eighty(rt, alloc)?;
     crowd(rt, alloc)
 }
 
