@@ -45,7 +45,7 @@ pub fn deed(number: u64, moment: u64) -> Deed {
 
 // A row of one of two keys, which mostly stays.
 fn put(number: u64) -> Deed {
-    let peer = number * 37 % PEERS;
+    let peer = number % PEERS * 37 % PEERS;
     let life = match number % 7 {
         4 => Some(60),
         5 => Some(9),
@@ -57,7 +57,7 @@ fn put(number: u64) -> Deed {
         table: usize::from(number % 10 == 9),
         key: (number % 2) as u16,
         life,
-        count: (number * 7 % 60) as u32,
+        count: (number % 60 * 7 % 60) as u32,
     };
     Deed::Put(peer + 1, row)
 }

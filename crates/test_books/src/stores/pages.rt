@@ -60,6 +60,11 @@ impl Fleet {
         Ok(self.rows.exchange_at(None, peer, 0, &self.key, &mut row))
     }
 
+    // Clears the key, and says how many rows it had.
+    fn clear(&mut self) -> usize {
+        self.rows.clear_key(0, &self.key)
+    }
+
     // Says how many rows there are, what they count, and what they are worth at most.
     fn tell(&self, rt: &HostRuntime, what: &str) -> Result<()> {
         let rows = self.rows.of_key(0, &self.key);
@@ -95,13 +100,13 @@ fn fill(rt: &HostRuntime, fleet: &mut Fleet) -> Result<()> {
 
 // Each third peer's row is exchanged, and each fifth's put anew.
 fn change(rt: &HostRuntime, fleet: &mut Fleet) -> Result<()> {
-    let mut changed = 0;
+    let mut changed = 0u32;
     for peer in 0..PEERS {
         if peer % 3 == 0 && fleet.exchange(peer, 1_000)? {
-            changed += 1;
+            changed = changed.saturating_add(1);
         }
         if peer % 5 == 0 && fleet.put(peer, 2_001)? {
-            changed += 1;
+            changed = changed.saturating_add(1);
         }
     }
     println!(rt; "{changed} rows changed")?;
@@ -110,11 +115,11 @@ fn change(rt: &HostRuntime, fleet: &mut Fleet) -> Result<()> {
 
 // Each seventh peer's row is taken out, twice.
 fn thin(rt: &HostRuntime, fleet: &mut Fleet) -> Result<()> {
-    let mut taken = 0;
+    let mut taken = 0u32;
     for number in 0..2 * PEERS {
         let peer = number % PEERS;
         if peer % 7 == 0 && fleet.rows.take(peer, 0, &fleet.key).is_some() {
-            taken += 1;
+            taken = taken.saturating_add(1);
         }
     }
     println!(rt; "{taken} rows taken")?;
@@ -132,6 +137,6 @@ pub fn run(rt: &HostRuntime) -> Result<()> {
         println!(rt; "at {moment}")?;
         fleet.tell(rt, "live")?;
     }
-    println!(rt; "{} rows cleared", fleet.rows.clear_key(0, &fleet.key))?;
+    println!(rt; "{} rows cleared", fleet.clear())?;
     fleet.tell(rt, "cleared")
 }
