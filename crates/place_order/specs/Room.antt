@@ -1,0 +1,6 @@
+use Rattle.std.specs.Prelude.{◌+◌, ℕ, length}
+use Rattle.place_index.specs.Segments.{Roomy}
+
+-- for how many items a list has memory
+abbrev pub space_in : {X : Type 0} → Roomy X → ℕ
+space_in list = length list.items + list.room
