@@ -1,9 +1,10 @@
-ghost use Rattle.std.specs.Prelude.{◌≡◌, [], IfOk};
+ghost use Rattle.std.specs.Prelude.{◌≡◌, [], IfOk, IsOk, MatchOption, false, true};
 ghost use Rattle.std.proofs.Common.{rules};
 ghost use Rattle.std.specs.Cmp.{partial_order_from_own_ties};
 ghost use Rattle.std.specs.Cmp.Rules.{comparing};
 ghost use Rattle.std.specs.Cmp.Lexicographic.{slice_cmp};
 ghost use Rattle.std.specs.Ordering.{nat_cmp, as_partial_cmp, eq_by_cmp};
+ghost use Rattle.agg_types.specs.Key.{is_short};
 
 use crate::short_key::{SHORT, ShortKey};
 use crate::{Items, NoMemory};
@@ -55,20 +56,47 @@ impl Key {
         }
     }
 
-    /// A key of these bytes.
+    /// A key of these bytes. `NoMemory`, where the block of a longer one was refused.
     pub fn copy(alloc: Global, bytes: &[u8]) -> Result<Key, NoMemory>
-        ensures { IfOk result (λ key. key ≡ bytes.now) }
+        ensures key { IfOk result (λ key. key ≡ bytes.now) }
+        ensures short { is_short bytes.now ≡ true → IsOk result }
     {
         Ok(Key {
             form: Form::copy(alloc, bytes)?,
         })
     }
 
-    /// An equal key.
+    /// An equal key. `NoMemory`, where the block of a longer one was refused.
     pub fn duplicate(&self, alloc: Global) -> Result<Key, NoMemory>
-        ensures { IfOk result (λ key. key ≡ self.now) }
+        ensures key { IfOk result (λ key. key ≡ self.now) }
+        ensures short { is_short self.now ≡ true → IsOk result }
     {
-        Key::copy(alloc, self.as_slice())
+        match self.short_copy() {
+            Some(key) => Ok(key),
+            None => Key::copy(alloc, self.as_slice()),
+        }
+    }
+
+    /// An equal key, if it takes no memory: where this one has up to 16 bytes.
+    #[inline]
+    pub fn short_copy(&self) -> Option<Key>
+        ensures { MatchOption result (is_short self.now ≡ false) (λ key. key ≡ self.now) }
+    {
+        let short = match &self.form {
+            Form::Short(key) => key.duplicate(),
+            Form::Long(bytes) => ShortKey::of(bytes.as_slice())?,
+        };
+        Some(Key {
+            form: Form::Short(short),
+        })
+    }
+
+    /// Whether a copy of the key takes no memory: it has up to 16 bytes.
+    #[inline]
+    pub fn is_short(&self) -> bool
+        ensures { result ≡ is_short self.now }
+    {
+        self.as_slice().len() <= SHORT
     }
 
     /// The key's bytes.
@@ -87,10 +115,11 @@ impl Form {
     ghost use Rattle.agg_types.specs.Key.{form_bytes};
 
     fn copy(alloc: Global, bytes: &[u8]) -> Result<Form, NoMemory>
-        ensures { IfOk result (λ form. form_bytes form ≡ bytes.now) }
+        ensures bytes { IfOk result (λ form. form_bytes form ≡ bytes.now) }
+        ensures short { is_short bytes.now ≡ true → IsOk result }
     {
-        if bytes.len() <= SHORT {
-            return Ok(Form::Short(ShortKey::copy(bytes)));
+        if let Some(short) = ShortKey::of(bytes) {
+            return Ok(Form::Short(short));
         }
         Ok(Form::Long(Box::new(alloc, Items::copy(alloc, bytes)?)?))
     }

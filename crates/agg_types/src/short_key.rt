@@ -1,6 +1,7 @@
-ghost use Rattle.std.specs.Prelude.{◌≡◌, ◌/◌, ◌^◌, ◌≤◌, length};
+ghost use Rattle.std.specs.Prelude.{◌≡◌, ◌/◌, ◌^◌, ◌≤◌, MatchOption, false, length};
 ghost use Rattle.std.specs.Cmp.Lexicographic.{slice_cmp};
 ghost use Rattle.std.specs.Ordering.{nat_cmp, ordering_then, eq_by_cmp};
+ghost use Rattle.agg_types.specs.Key.{is_short};
 
 use std::cmp::Ordering;
 use std::marker::Model;
@@ -40,6 +41,28 @@ impl ShortKey {
         ShortKey {
             len: bytes.len() as u8,
             bytes: padded,
+        }
+    }
+
+    /// A key of these bytes, if they are at most 16.
+    #[inline]
+    pub(crate) fn of(bytes: &[u8]) -> Option<ShortKey>
+        ensures { MatchOption result (is_short bytes.now ≡ false) (λ key. key ≡ bytes.now) }
+    {
+        if bytes.len() <= SHORT {
+            return Some(ShortKey::copy(bytes));
+        }
+        None
+    }
+
+    /// An equal key.
+    #[inline]
+    pub(crate) fn duplicate(&self) -> ShortKey
+        ensures { result ≡ self.now }
+    {
+        ShortKey {
+            len: self.len,
+            bytes: self.bytes,
         }
     }
 

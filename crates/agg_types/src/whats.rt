@@ -141,7 +141,7 @@ impl Whats {
     }
 
     /// Adds an update behind the others. After NoMemory the list is as it was.
-    #[inline]
+    #[inline(always)]
     pub fn push_put(
         &mut self,
         peer: usize,

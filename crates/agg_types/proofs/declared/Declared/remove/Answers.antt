@@ -1,4 +1,4 @@
-use Rattle.std.proofs.Common.{◌∙◌, None, ap, ap₂, cond, is_some, List, Option, remove, sym, ℕ}
+use Rattle.std.proofs.Common.{◌∙◌, None, ap, ap₂, cond, is_some, sym}
 use Rattle.std.specs.Str.{bytes_eq}
 use Rattle.agg_types.specs.Naming.{place_of}
 use Rattle.agg_types.proofs.Removing.{first-remove}

@@ -39,7 +39,7 @@ pub invariant_of-self-2 : goal.invariant_of-self-2
 invariant_of-self-2 c =
     table-insert c.self.inside.width c.self.inside.keys.entries c.args.key.now c.self.invariant
     c.insert.new.self.entries c.add-2.new.self
-    (rw (c.get_mut.follows.holds-at-none, c.in_ok-duplicate.ensures)
+    (rw (c.get_mut.follows.holds-at-none, c.in_ok-duplicate.ensures.key)
     at c.in_ok-insert.ensures.entries)
     (rw (c.add-2.ensures, length-totals_by, c.in_ok-sums.ensures)
     (length-replicate c.self.inside.width 0))

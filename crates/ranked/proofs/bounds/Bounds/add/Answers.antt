@@ -11,7 +11,7 @@ use Rattle.ranked.proofs.bounds.Bounds.add.Goals as goal
 pub insert-requires : goal.insert-requires
 insert-requires c =
     let places = c.self.inside.zeros.places in
-    subst (λ (key : List ℕ). IsAbsent places key) (sym c.in_ok-own.ensures)
+    subst (λ (key : List ℕ). IsAbsent places key) (sym c.in_ok-own.ensures.key)
     (absent-lookup places c.args.key.now (rw (← c.self.view_is) at c.requires.new))
 
 -- the key's bound is the one that was laid down
@@ -20,7 +20,7 @@ added : (c : goal.In_default) → Becomes (in_order c.self.inside.zeros.places)
 added c =
     let places = c.self.inside.zeros.places in
     placed-laid places c.insert.new.self.places c.in_default.field-0 c.args.key.now c.in_ok-own.own
-    c.args.zeros c.in_ok-own.ensures
+    c.args.zeros c.in_ok-own.ensures.key
     (absent-lookup places c.args.key.now (rw (← c.self.view_is) at c.requires.new))
     c.in_default.ensures.empty c.in_default.ensures.ok
 
@@ -30,7 +30,7 @@ invariant_of-self-in-Err c =
     let key = c.args.key.now in
     let planned : c.plan.new.self ≡ with_entry (slice_cmp nat_cmp) index (c.args.zeros, key) =
     c.in_ok-plan.ensures.ok ∙ ap (λ k. with_entry (slice_cmp nat_cmp) index (c.args.zeros, k))
-    c.in_ok-duplicate.ensures in
+    c.in_ok-duplicate.ensures.key in
     rw (c.in-Err.ensures.err, c.cancel.ensures.removed)
     (back_indexed index c.plan.new.self (in_order c.self.inside.zeros.places) key c.args.zeros
     c.self.invariant (rw (← c.self.view_is) at c.requires.new) planned c.cancel.ensures.ordered)
@@ -41,7 +41,7 @@ invariant_of-self-in_default c =
     let key = c.args.key.now in
     let planned : c.plan.new.self ≡ with_entry (slice_cmp nat_cmp) index (c.args.zeros, key) =
     c.in_ok-plan.ensures.ok ∙ ap (λ k. with_entry (slice_cmp nat_cmp) index (c.args.zeros, k))
-    c.in_ok-duplicate.ensures in
+    c.in_ok-duplicate.ensures.key in
     rw planned
     (put_indexed index (in_order c.self.inside.zeros.places) (in_order c.insert.new.self.places)
     key c.args.zeros c.self.invariant (rw (← c.self.view_is) at c.requires.new) (added c))

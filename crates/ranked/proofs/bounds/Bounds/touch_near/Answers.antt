@@ -25,7 +25,7 @@ invariant_of-self-2 c =
     let wanted = c.zeros_for-wanted.result in
     let planned : c.plan.new.self ≡ with_entry (slice_cmp nat_cmp) index (wanted, key) =
     c.in_ok-plan.ensures.ok ∙ ap (λ k. with_entry (slice_cmp nat_cmp) index (wanted, k))
-    c.in_ok-duplicate.ensures in
+    c.in_ok-duplicate.ensures.key in
     let other : c.in-Some.zeros ≢ wanted = unserved c.in-Some.zeros wanted c.args.bound
     (sym c.serves.ensures ∙ c.if-serves.false) c.zeros_for-wanted.ensures.holds
     c.zeros_for-wanted.ensures.near in
