@@ -1,8 +1,7 @@
 -- What lies in places, as the slots change.
-use Rattle.std.proofs.Common.{◌≡◌, ℕ, zero, suc, ◌+◌, ◌<◌, ◌≤◌, List, [], ◌∷◌, ◌++◌, length, map}
-use Rattle.std.proofs.Common.{Some, None, Option, Bool, true, false, ◌&&◌, not, if◌then◌else◌}
-use Rattle.std.proofs.Common.{refl, ap, sym, ◌∙◌, subst, arith, slice_get, Ordering, inl, inr}
-use Rattle.std.proofs.lemmas.Bool.{cases_eq, eqb-true, eq-eqb}
+use Rattle.std.proofs.Common.{◌≡◌, ℕ, zero, suc, ◌+◌, ◌<◌, List, [], ◌∷◌, ◌++◌, length, map}
+use Rattle.std.proofs.Common.{Some, None, Option, Bool, true, false, if◌then◌else◌}
+use Rattle.std.proofs.Common.{refl, ap, sym, ◌∙◌, arith, slice_get, Ordering}
 use Rattle.std.proofs.lemmas.List.{set-get_or, length-map}
 use Rattle.std.proofs.lemmas.List.FromFn.{length-enumerate_from}
 use Rattle.std.proofs.lemmas.Option.{none-some, same_Some}
@@ -13,8 +12,8 @@ use Rattle.std.specs.Option.{option_copied, option_map}
 use Rattle.std.specs.Ordering.{is_eq}
 use Rattle.std.specs.Prelude.{◌≢◌, slice_set, is_some}
 use Rattle.std.specs.declared.cmp.Ordering.TheVariants.{Less, Equal, Greater}
-use Rattle.place_index.specs.Places.{item_at, key_at, value_at, laid, revalued, IsAbsent}
-use Rattle.place_index.specs.Slots.{is_own, is_empty_at, held_in, held}
+use Rattle.place_index.specs.Places.{item_at, key_at, laid}
+use Rattle.place_index.specs.Slots.{is_empty_at, held_in, held}
 use Rattle.place_index.specs.declared.slots.Slot.{Slot}
 use Rattle.place_index.specs.declared.slots.Slots.{Slots}
 

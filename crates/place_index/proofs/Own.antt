@@ -1,13 +1,13 @@
 -- What lies in places as one is filled or emptied, whether the blank key has a place or not.
 use Rattle.std.proofs.Common.{◌≡◌, ℕ, ◌+◌, ◌<◌, List, ◌∷◌, [], ◌++◌, length, slice_get}
 use Rattle.std.proofs.Common.{Some, None, Option, Bool, true, false, ◌&&◌, not, if◌then◌else◌}
-use Rattle.std.proofs.Common.{refl, ap, sym, ◌∙◌, subst, arith}
+use Rattle.std.proofs.Common.{refl, ap, sym, ◌∙◌, arith}
 use Rattle.std.proofs.lemmas.Bool.{ne_eqb, eq-eqb, eqb-true}
 use Rattle.std.specs.Option.{option_map}
 use Rattle.std.specs.Prelude.{slice_set, ◌==◌}
 use Rattle.place_index.proofs.Held.{AreElsewhere, held_from, length-held, read_item, item_of}
 use Rattle.place_index.proofs.Held.{set_from, push_from, laid-set}
-use Rattle.place_index.specs.Places.{item_at, key_at, laid, IsAbsent}
+use Rattle.place_index.specs.Places.{item_at, laid, IsAbsent}
 use Rattle.place_index.specs.Slots.{is_own, held_in, held}
 use Rattle.place_index.specs.declared.slots.Slot.{Slot}
 use Rattle.place_index.specs.declared.slots.Slots.{Slots}

@@ -1,5 +1,6 @@
-ghost use Rattle.std.specs.Prelude.{◌≡◌, ◌≢◌, ◌≤◌, ◌<◌, ◌+◌, ◌-◌, ◌^◌, [], Some, None, length, IfOk};
-ghost use Rattle.std.specs.Prelude.{IsOk, OnOk, OnErr, IfSome, IfNone, IsSome, IsTrue, IsFalse, slice_set};
+ghost use Rattle.std.specs.Prelude.{◌≡◌, ◌≢◌, ◌≤◌, ◌<◌, ◌+◌, ◌-◌, ◌^◌, [], Some, None};
+ghost use Rattle.std.specs.Prelude.{IfOk, IsOk, OnOk, OnErr, IfSome, IfNone, IsSome, IsTrue};
+ghost use Rattle.std.specs.Prelude.{IsFalse, length, slice_set};
 ghost use Rattle.std.specs.Option.{option_copied};
 ghost use Rattle.place_index.specs.Places.{item_at, key_at, value_at, laid, revalued, filled};
 ghost use Rattle.place_index.specs.Slots.{held};

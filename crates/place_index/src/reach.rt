@@ -1,6 +1,6 @@
 //! How a key's place is found.
 ghost use Rattle.std.specs.Prelude.{◌≡◌, ◌≢◌, ◌<◌, ◌≤◌, ◌+◌, ℕ, Some, slice_get, IfSome, IfNone};
-ghost use Rattle.std.specs.Prelude.{IsTrue, IsOk, OnOk};
+ghost use Rattle.std.specs.Prelude.{[], IfOk, IsTrue, IsOk, OnOk};
 ghost use Rattle.std.specs.Vec.{vec_len, vec_capacity};
 ghost use Rattle.place_index.specs.Crowd.{IsCrowded};
 ghost use Rattle.place_index.specs.Loose.{IsLoose};
@@ -94,6 +94,13 @@ impl<K: IndexKey> Reach<K> {
         ensures spare { spare self.old ≤ spare self.new }
         ensures held { keys ≤ spare self.old → IsOk result }
     {
+        if keys <= self.loose.capacity() - self.loose.len() {
+            return Ok(());
+        }
+        if self.loose.is_empty() {
+            self.loose = anew(&self.loose, keys)?;
+            return Ok(());
+        }
         self.loose.reserve(keys)?;
         Ok(())
     }
@@ -256,6 +263,18 @@ fn forget<K: IndexKey>(crowd: &mut Crowd<K>, key: &K, cleared: bool)
         return;
     }
     crowd.remove(key);
+}
+
+// Memory for so many in place of an empty list's, and for twice as many as that has room for: it
+// isn't copied, so what was never written takes none of the machine's.
+fn anew(loose: &Vec<usize>, keys: usize) -> Result<Vec<usize>, NoMemory>
+    ensures empty { IfOk result (λ more. more.items ≡ []) }
+    ensures room { IfOk result (λ more. keys ≤ vec_capacity more) }
+    ensures more { IfOk result (λ more. vec_capacity loose.now ≤ vec_capacity more) }
+{
+    let alloc = *loose.allocator();
+    let room = keys.max(loose.capacity().saturating_mul(2));
+    Ok(Vec::with_capacity(alloc, room)?)
 }
 
 // Takes a place out of some.

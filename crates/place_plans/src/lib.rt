@@ -4,9 +4,10 @@
 //! Contracts see the list of the places, each with its planned moment or none; a place beyond the
 //! last has none. `plan` gives a place a moment in the stead of the one before, `cancel` takes it,
 //! and `take_due` takes one that has come, if there is any. All other places keep theirs, so no
-//! plan is left behind. `next_at` is the least planned moment. `due` lends places that come next, and nothing is promised of them.
-//! `count` is the number of places that have one. `NoMemory` comes where an allocation failed, or
-//! where a place or a moment has too many for a `u32`, and changes nothing.
+//! plan is left behind. `next_at` is the least planned moment. `due` lends places that come next,
+//! and nothing is promised of them. `count` is the number of places that have one. `NoMemory` comes
+//! where an allocation failed, or where a place or a moment has too many for a `u32`, and changes
+//! nothing.
 //!
 //! Places lie in buckets, one for each planned moment, in no order. A place knows its moment and
 //! where it stands in that bucket, so it leaves it without a search among its fellows: the last one
