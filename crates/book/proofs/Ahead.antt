@@ -6,7 +6,7 @@ use Rattle.std.specs.Prelude.{map}
 use Rattle.std.specs.BTreeMap.{is_at}
 use Rattle.std.specs.Cmp.{eq_by_cmp_equiv}
 use Rattle.std.specs.Cmp.Lexicographic.{slice_cmp, nat_list_cmp_total}
-use Rattle.std.specs.List.{AllByRecursion, list_any}
+use Rattle.std.specs.List.{AllByRecursion, IsDistinct, list_any}
 use Rattle.std.specs.Map as maps
 use Rattle.std.specs.Option.{option_map}
 use Rattle.std.specs.Ordering.{eq_by_cmp, nat_cmp}
@@ -33,7 +33,7 @@ use Rattle.standing_filters.proofs.Walking.{key_itself}
 use Rattle.book.specs.Ahead.{AreAhead}
 use Rattle.book.specs.Flatness.{living_falls}
 use Rattle.book.specs.Foreseen.{living_within}
-use Rattle.book.specs.Verdicts.{IsJudged, living_in, sums_in}
+use Rattle.book.specs.Verdicts.{AreAll, AreJudged, IsJudged, living_in, sums_in}
 use Rattle.book.specs.Shown.{of_peer}
 use Rattle.book.specs.Store.{IsEachKeyOf}
 use Rattle.book.proofs.Meeting.{any_of, each_place, live_rows}
@@ -115,6 +115,30 @@ ahead_more law state table e walk old new of ahead touched = record {
 pub none_ahead : (state : State) (table : ℕ) (w : Watched) → AreAhead state table [] w
     → IsJudged state w
 none_ahead state table w ahead = λ key. ahead.verdicts.judged key refl
+
+-- ---- no key has a row
+none_judged : AddingBegins → (state : State) → state.rows ≡ [] → (filters : List Filter)
+    → AreJudged state (map unheld filters)
+unfolding IsDistinct
+none_judged law state empty [] = tt
+none_judged law state empty (filtering ∷ filters) = (
+  none_ahead state filtering.table (unheld filtering) (begun law state filtering []
+      (subst (λ (rows : Rows). IsEachKeyOf rows filtering.table []) (sym empty)
+      (record { once = tt; exact = λ key. refl }))),
+  none_judged law state empty filters,
+)
+
+filters_unheld : (filters : List Filter)
+    → map (λ (w : Watched). w.filter) (map unheld filters) ≡ filters
+filters_unheld [] = refl
+filters_unheld (filtering ∷ filters) = ap (λ fs. filtering ∷ fs) (filters_unheld filters)
+
+pub all_unheld : AddingBegins → (state : State) (ws : List Watched) → state.rows ≡ []
+    → ws ≡ map unheld state.config.filters → AreAll state ws
+all_unheld law state ws empty is = subst (AreAll state) (sym is) (record {
+  filters = filters_unheld state.config.filters;
+  judged = none_judged law state empty state.config.filters;
+})
 
 -- ---- how many keys a walk has
 some_live : (t : ℕ) (shown : PeerRows → Rows) (o : Option PeerRows) (own : Rows)

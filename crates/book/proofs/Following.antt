@@ -1,11 +1,10 @@
 -- What each event leaves of what kept verdicts rest on.
 use Rattle.std.proofs.Common.{◌≡◌, ◌≢◌, ⊎_elim, inl, inr, ℕ, ◌≤◌, Bool, true, false, cond}
-use Rattle.std.proofs.Common.{not, ◌&&◌, ◌==◌, List, [], ◌∷◌, ◌++◌, length, take, max, refl, sym}
+use Rattle.std.proofs.Common.{not, ◌&&◌, ◌==◌, List, [], max, refl, sym}
 use Rattle.std.proofs.Common.{ap, ◌∙◌, subst, arith}
 use Rattle.std.specs.List.{filter}
 use Rattle.std.specs.Prelude.{◌⊎◌}
 use Rattle.std.proofs.lemmas.Bool.{eqb-true}
-use Rattle.std.proofs.lemmas.List.{take-append-le, take_all}
 use Rattle.agg_types.specs.declared.config.Filter.{Filter}
 use Rattle.agg_types.specs.declared.event.Event.{Event}
 use Rattle.agg_types.specs.declared.event.Select.{Select}
@@ -13,7 +12,6 @@ use Rattle.agg_types.specs.declared.event.What.{What}
 use Rattle.agg_types.specs.declared.event.What.TheVariants.{Sit, Open, Put, Clear, AddFilter}
 use Rattle.agg_types.specs.declared.event.What.TheVariants.{DropFilter, Moment, Leave}
 use Rattle.agg_types.specs.declared.row_key.RowKey.{RowKey}
-use Rattle.fleet_model.specs.Filters.{is_new}
 use Rattle.fleet_model.specs.Keys.{AreInOrder, Rows, holds, key_rows}
 use Rattle.fleet_model.specs.Machine.{after, counts_now, happened, session_of, with_put, with_row}
 use Rattle.fleet_model.specs.Rows.{arrival_of, clears_at, has_room}
@@ -24,41 +22,8 @@ use Rattle.fleet_model.specs.Values.{cols_of, same_key, selects}
 use Rattle.fleet_model.specs.declared.arrival.Arrival.{Arrival}
 use Rattle.fleet_model.proofs.KeyChanges.{holds-stays}
 use Rattle.fleet_model.proofs.KeyRows.{clear-each, put-others}
-use Rattle.book.specs.Gone.{AreGone, is_gone, without_keys}
-use Rattle.book.specs.Verdicts.{ChangesKey, ChangesTable, Follows}
-use Rattle.book.specs.declared.gone.Gone.TheVariants.{Nothing}
+use Rattle.book.specs.Verdicts.{ChangesTable, Follows}
 use Rattle.book_frame.proofs.Chosen.{same_key-decides}
-
--- ---- nothing happened
-no_key : (table : ℕ) (key : List ℕ) (state : State) → ChangesKey table key state state
-no_key table key state = record { config = refl; moment = refl; others = λ t other apart. refl }
-
-no_table : (table : ℕ) (state : State) → ChangesTable table state state
-no_table table state = record { config = refl; moment = refl; others = λ t other apart. refl }
-
-nothing : (what : What) (state : State) → Follows what state state
-nothing Sit state = record { config = refl; moment = refl; rows = refl }
-nothing (Open peer) state = record { config = refl; moment = refl; rows = refl }
-nothing (Put peer table key life cells) state = no_key table key state
-nothing (Clear table sel) state = no_table table state
-nothing (AddFilter filtering) state = record {
-  tables = refl;
-  moment = refl;
-  rows = refl;
-  filters = take_all (length state.config.filters) state.config.filters (omega arith);
-}
-nothing (DropFilter name) state = record {
-  tables = refl;
-  moment = refl;
-  rows = refl;
-  filters = inr refl;
-}
-nothing (Moment told) state = record {
-  config = refl;
-  up = omega arith;
-  holds = λ filtering key t since. refl;
-}
-nothing Leave state = record { config = refl; moment = refl; rows = refl }
 
 -- ---- what an event does
 and_none : (b : Bool) → b && false ≡ false
@@ -103,13 +68,6 @@ cleared_apart gone rows table t other apart =
     clear-each gone rows table t other
     ∙ ap (λ b. cond b [] (key_rows rows t other)) (other_table t table (gone other) apart)
 
-first_stay : (new : Bool) (filters : List Filter) (added : Filter)
-    → take (length filters) (cond new (filters ++ added ∷ []) filters) ≡ filters
-first_stay true filters added =
-    take-append-le (length filters) filters (added ∷ []) (omega arith)
-    ∙ take_all (length filters) filters (omega arith)
-first_stay false filters added = take_all (length filters) filters (omega arith)
-
 cleared : (state : State) (e : Event) (table : ℕ) (sel : Select)
     → ChangesTable table state (happened state e (Clear table sel))
 unfolding happened clears_at
@@ -148,17 +106,17 @@ done state e (AddFilter filtering) sound is counts = record {
   tables = refl;
   moment = refl;
   rows = refl;
-  filters = first_stay (is_new state.config.filters filtering) state.config.filters filtering;
+  filters = refl;
 }
 done state e (DropFilter name) sound is counts = record {
   tables = refl;
   moment = refl;
   rows = refl;
-  filters = inl refl;
+  filters = refl;
 }
 done state e (Moment told) sound is counts = record {
   config = refl;
-  up = omega arith;
+  moment = refl;
   holds = λ filtering key t since. foreseen filtering key t since;
 }
   where
@@ -170,28 +128,12 @@ done state e (Moment told) sound is counts = record {
         (holds-stays state e told is filtering key t (omega arith) (omega arith))
 done state e Leave sound is counts = record { config = refl; moment = refl; rows = refl }
 
-pub follows : (state : State) (e : Event) → IsSound state → Follows e.what state (after state e)
+-- one that doesn't count leaves all as it is
+pub uncounted : (state : State) (e : Event) → counts_now state e ≡ false → after state e ≡ state
 unfolding after
-follows state e sound = by (counts_now state e) refl
-  where
-    by : (b : Bool) → counts_now state e ≡ b
-        → Follows e.what state (cond b (happened state e e.what) state)
-    by true counts = done state e e.what sound refl counts
-    by false uncounted = nothing e.what state
+uncounted state e none = ap (λ b. cond b (happened state e e.what) state) none
 
--- ---- an event that doesn't count
-none_taken : (table : ℕ) (rows : Rows) → rows ≡ without_keys table (λ key. false) rows
-none_taken table [] = refl
-none_taken table (row ∷ rows) =
-    rw (and_none (row.0.table == table)) (ap (λ rs. row ∷ rs) (none_taken table rows))
-
--- takes no key
-pub none_gone : (what : What) (rows : Rows) → AreGone what (is_gone Nothing) rows rows
-none_gone Sit rows = tt
-none_gone (Open peer) rows = tt
-none_gone (Put peer table key life cells) rows = tt
-none_gone (Clear table sel) rows = none_taken table rows
-none_gone (AddFilter filtering) rows = tt
-none_gone (DropFilter name) rows = tt
-none_gone (Moment told) rows = tt
-none_gone Leave rows = tt
+pub follows : (state : State) (e : Event) → IsSound state → counts_now state e ≡ true
+    → Follows e.what state (after state e)
+follows state e sound counts = subst (Follows e.what state)
+    (sym (counted_is state e e.what refl counts)) (done state e e.what sound refl counts)

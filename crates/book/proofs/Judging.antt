@@ -1,12 +1,9 @@
 -- Kept verdicts: they stay right as events are followed, and say what the filters' sets are.
 use Rattle.std.proofs.Common.{◌≡◌, ℕ, ◌+◌, ◌≤◌, ◌<◌, false, nat_lt, List}
-use Rattle.std.proofs.Common.{[], ◌∷◌, ◌++◌, length, get_or, take, map, Option, None, Some}
-use Rattle.std.proofs.Common.{refl, sym, ap, ◌∙◌, subst, arith, Ok, Err}
-use Rattle.std.specs.Prelude.{Result, OnOk}
-use Rattle.std.specs.Result.{is_err}
-use Rattle.std.proofs.lemmas.List.{get_or-map, get_or_past, length-map, map-append, take_all}
+use Rattle.std.proofs.Common.{[], ◌∷◌, length, get_or, map, Option, None, Some}
+use Rattle.std.proofs.Common.{refl, sym, ap, ◌∙◌, subst, arith}
+use Rattle.std.proofs.lemmas.List.{get_or-map, get_or_past, length-map}
 use Rattle.std.proofs.lemmas.Bool.Decides.{nat_tests}
-use Rattle.std.proofs.lemmas.List.{take_more}
 use Rattle.std.proofs.lemmas.List.Elements.{All-from_recursion}
 use Rattle.std.proofs.lemmas.Bool.{false≢true}
 use Rattle.std.proofs.Common.{Bool, true, cond, ◌&&◌, ◌||◌, ◌==◌, eq-eqb}
@@ -19,7 +16,6 @@ use Rattle.standing_filters.specs.declared.judging.Verdict.{Verdict}
 use Rattle.agg_types.specs.declared.config.Config.{Config}
 use Rattle.agg_types.specs.declared.config.Filter.{Filter}
 use Rattle.agg_types.specs.declared.config.Shape.{Shape}
-use Rattle.book.proofs.Lists.{all-append}
 use Rattle.fleet_model.specs.Answers.{filter_of, no_filter, set_at}
 use Rattle.fleet_model.specs.Keys.{AreKeysOf, Rows, holds, key_rows}
 use Rattle.fleet_model.specs.Next.{IsNextChange}
@@ -44,8 +40,8 @@ use Rattle.crossing.specs.First.{IsFirstFrom}
 use Rattle.book.specs.Flips.{held_in}
 use Rattle.book.specs.Foreseen.{living_within, worth_within}
 use Rattle.book.specs.Gone.{without_keys}
-use Rattle.book.specs.Verdicts.{AreAll, AreFirst, AreHeld, AreJudged, ChangesKey, ChangesTable}
-use Rattle.book.specs.Verdicts.{GoesOn, HasMore, IsJudged, IsOneMore, Stays, living_in, sums_in}
+use Rattle.book.specs.Verdicts.{AreAll, AreJudged, ChangesKey, ChangesTable}
+use Rattle.book.specs.Verdicts.{GoesOn, IsJudged, Stays, living_in, sums_in}
 use Rattle.book.proofs.Foresight.{bool_same, holds_within}
 
 -- what is read of a key is what a filter says of it
@@ -75,7 +71,7 @@ pub all_judged : (P Q : Watched → Type 0) → ((w : Watched) → P w → Q w) 
 all_judged P Q h [] all = tt
 all_judged P Q h (w ∷ ws) all = (h w all.0, all_judged P Q h ws all.1)
 
-stays_held : (state later : State) (ws : List Watched) → Stays state later → AreAll state ws
+pub stays_held : (state later : State) (ws : List Watched) → Stays state later → AreAll state ws
     → AreAll later ws
 stays_held state later ws stays held = record {
   filters = held.filters ∙ ap (λ (c : Config). c.filters) (sym stays.config);
@@ -83,12 +79,6 @@ stays_held state later ws stays held = record {
       (still_judged state later (ap (λ (c : Config). c.tables) stays.config) stays.rows
       stays.moment) ws held.judged;
 }
-
-pub stays_kept : (state later : State) (standing : Option AllWatched) → Stays state later
-    → AreHeld state standing → AreHeld later standing
-stays_kept state later None stays held = tt
-stays_kept state later (Some watched) stays held =
-    stays_held state later watched.filters stays held
 
 -- ---- the rows of another table have
 told_by : List (Col × ℕ) → Rows → List Cond → ℕ → Verdict → Type 0
@@ -131,7 +121,7 @@ all_elsewhere state later table changes (w ∷ ws) none judged =
       rest none,
     )
 
-elsewhere_held : (state later : State) (table : ℕ) (ws : List Watched)
+pub elsewhere_held : (state later : State) (table : ℕ) (ws : List Watched)
     → ChangesTable table state later
     → list_any (λ (f : Filter). f.table == table) later.config.filters ≡ false
     → AreAll state ws → AreAll later ws
@@ -145,20 +135,7 @@ elsewhere_held state later table ws changes none held =
           ∙ ap (list_any (λ (f : Filter). f.table == table)) filters ∙ none) held.judged;
     }
 
-pub elsewhere_kept : (state later : State) (table : ℕ) (standing : Option AllWatched)
-    → ChangesTable table state later
-    → list_any (λ (f : Filter). f.table == table) later.config.filters ≡ false
-    → AreHeld state standing → AreHeld later standing
-elsewhere_kept state later table None changes none held = tt
-elsewhere_kept state later table (Some watched) changes none held =
-    elsewhere_held state later table watched.filters changes none held
-
 -- ---- the rows of one key have
--- what a call promises where it wasn't refused
-pub from_ok : {T E P : Type 0} (result : Result T E) → is_err result ≡ false → OnOk result P → P
-from_ok (Ok u) not ok = ok
-from_ok (Err e) not ok = cc
-
 pub touched_held : TouchKeepsVerdicts → (state later : State) (table : ℕ) (key : List ℕ)
     (old new : List Watched) → ChangesKey table key state later
     → AreTouched (sums_in later) (living_in later) table key later.moment old new
@@ -270,11 +247,11 @@ none_forgotten table (w ∷ ws) = (
     kept false v = refl
 
 -- ---- the clock has gone on
-pub turned_held : MomentKeepsVerdicts → (state later : State) (old new : List Watched)
-    → IsSound state → IsSound later → GoesOn state later
+pub turned_held : MomentKeepsVerdicts → (told : ℕ) (state later : State) (old new : List Watched)
+    → IsSound state → IsSound later → GoesOn told state later
     → AreTurned (sums_in later) (living_in later) later.moment old new → AreAll state old
     → AreAll later new
-turned_held law state later old new sound still goes turned held = record {
+turned_held law told state later old new sound still goes turned held = record {
   filters = same_filters old new turned ∙ held.filters
       ∙ ap (λ (c : Config). c.filters) (sym goes.config);
   judged = each old new turned held.judged;
@@ -297,45 +274,12 @@ turned_held law state later old new sound still goes turned held = record {
     each (a ∷ old) [] turned judged = absurd turned
     each (a ∷ old) (b ∷ new) turned judged = (
       law (sums_in state) (sums_in later) (living_in state) (living_in later) state.moment
-          later.moment a b goes.up
+          later.moment a b (let moment = goes.moment in omega arith)
           (λ key s since. holds_in later a.filter key s still ∙ goes.holds a.filter key s since
           ∙ sym (holds_in state a.filter key s sound))
           judged.0 turned.0,
       each old new turned.1 judged.1,
     )
-
--- ---- a filter is added
-pub first_more : (state : State) (position : ℕ) (filtering : Filter) (old new : List Watched)
-    → position < length state.config.filters → filtering ≡ filter_of state position
-    → AreFirst state position old → IsOneMore state filtering old new
-    → AreFirst state (position + 1) new
-first_more state position filtering old new inside is first more = record {
-  filters = ap (map (λ (w : Watched). w.filter)) more.behind
-      ∙ map-append (λ (w : Watched). w.filter) old (more.added ∷ [])
-      ∙ (λ i. first.filters i ++ (more.filter ∙ is) i ∷ [])
-      ∙ sym (take_more state.config.filters position no_filter inside);
-  judged = subst (AreJudged state) (sym more.behind)
-      (all-append (IsJudged state) old (more.added ∷ []) first.judged (more.judged, tt));
-}
-
-pub first_all : (state : State) (count : ℕ) (ws : List Watched)
-    → length state.config.filters ≤ count → AreFirst state count ws → AreAll state ws
-first_all state count ws whole first = record {
-  filters = first.filters ∙ take_all count state.config.filters whole;
-  judged = first.judged;
-}
-
-pub more_first : (state later : State) (ws : List Watched) → HasMore state later → AreAll state ws
-    → AreFirst later (length ws) ws
-more_first state later ws more held =
-    let count : length ws ≡ length state.config.filters =
-    sym (length-map ws (λ (w : Watched). w.filter)) ∙ ap length held.filters in
-    record {
-      filters = held.filters ∙ sym more.filters
-          ∙ ap (λ n. take n later.config.filters) (sym count);
-      judged = all_judged (IsJudged state) (IsJudged later)
-          (still_judged state later more.tables more.rows more.moment) ws held.judged;
-    }
 
 -- ---- what the verdicts of one filter say
 pub count_held : (state : State) (watched : AllWatched) (position : ℕ)
@@ -390,7 +334,7 @@ unfolding watch_at
 kept_holds state ws sound held filter key = by (nat_lt filter (length state.config.filters)) refl
   where
     watched : AllWatched
-    watched = record { filters = ws }
+    watched = record { filters = ws; ready = None; copied = None }
 
     by : (b : Bool) → nat_lt filter (length state.config.filters) ≡ b
         → b && holds state (filter_of state filter) key state.moment ≡ holding ws filter key

@@ -11,6 +11,7 @@ pub mod Leading
 pub mod FirstKeys
 pub mod Judging
 pub mod Dropped
+pub mod Prepared
 pub mod Updates
 pub mod Following
 pub mod FewReads

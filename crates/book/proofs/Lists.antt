@@ -13,23 +13,6 @@ use Rattle.std.specs.declared.cmp.Ordering.{Ordering}
 use Rattle.std.specs.declared.cmp.Ordering.TheVariants.{Less, Equal, Greater}
 use Rattle.std.proofs.lemmas.Cmp.{tied_itself}
 
--- what a filter lets through, a weaker one before it lets through too
-pub filter-filter : {X : Type 0} (p q : X → Bool) → ((x : X) → p x ≡ true → q x ≡ true)
-    → (xs : List X) → filter p (filter q xs) ≡ filter p xs
-filter-filter p q weaker [] = refl
-filter-filter p q weaker (x ∷ xs) = by (q x) refl (filter-filter p q weaker xs)
-  where
-    by : (b : Bool) → q x ≡ b → filter p (filter q xs) ≡ filter p xs
-        → filter p (cond b (x ∷ filter q xs) (filter q xs))
-        ≡ cond (p x) (x ∷ filter p xs) (filter p xs)
-    by true is more = ap (λ ys. cond (p x) (x ∷ ys) ys) more
-    by false is more = more ∙ passed (p x) refl is
-      where
-        passed : (b : Bool) → p x ≡ b → q x ≡ false
-            → filter p xs ≡ cond b (x ∷ filter p xs) (filter p xs)
-        passed true ok off = let on : q x ≡ true = weaker x ok in cc
-        passed false ok off = refl
-
 pub all-append : {X : Type 0} (P : X → Type 0) (xs ys : List X) → AllByRecursion P xs
     → AllByRecursion P ys → AllByRecursion P (xs ++ ys)
 all-append P [] ys front back = back
@@ -50,12 +33,6 @@ pub all-map : {X : Type 0} (P Q : X → Type 0) → ((x : X) → P x → Q x) �
     → AllByRecursion P xs → AllByRecursion Q xs
 all-map P Q gives [] all = tt
 all-map P Q gives (x ∷ xs) all = (gives x all.0, all-map P Q gives xs all.1)
-
-pub all-both : {X : Type 0} (P Q R : X → Type 0) → ((x : X) → P x → Q x → R x) → (xs : List X)
-    → AllByRecursion P xs → AllByRecursion Q xs → AllByRecursion R xs
-all-both P Q R gives [] all each = tt
-all-both P Q R gives (x ∷ xs) all each =
-    (gives x all.0 each.0, all-both P Q R gives xs all.1 each.1)
 
 -- a filter that lets all through
 pub filter-all : {X : Type 0} (p : X → Bool) (xs : List X) → AllByRecursion (λ x. p x ≡ true) xs

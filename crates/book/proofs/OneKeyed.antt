@@ -15,23 +15,23 @@ use Rattle.book.specs.Store.{AreFound, AreRowsOf}
 use Rattle.book.specs.Verdicts.{living_in, sums_in}
 use Rattle.book.proofs.FewReads.{flat_soon}
 
--- the rows that were found are those of the key
-pub found_rows : (inside seen : KeyOf) (kept : Option (List (ℕ × Row)))
-    (lent : Option (Bor (List (ℕ × Row)))) → inside ≡ seen
+-- the rows that were found are those of the key, and the columns those of its table
+pub record IsReadOf (of : KeyOf) (lent : Option (Bor (List (ℕ × Row)))) (cols : List (Col × ℕ))
+    : Type 0 where
+  pub found : AreFound of.state.rows of.table of.key lent
+  pub same : cols ≡ cols_of of.state.config.tables of.table
+
+pub read_of : (inside seen : KeyOf) (kept : Option (List (ℕ × Row)))
+    (lent : Option (Bor (List (ℕ × Row)))) (cols : List (Col × ℕ)) → inside ≡ seen
     → option_map (λ (l : Bor (List (ℕ × Row))). l.now) lent ≡ kept
     → AreRowsOf inside.state.rows inside.table inside.key kept
-    → AreFound seen.state.rows seen.table seen.key lent
-found_rows inside seen kept lent is same rows =
-    subst (λ (v : KeyOf). AreFound v.state.rows v.table v.key lent) is
-    (subst (λ (o : Option (List (ℕ × Row))).
-    AreRowsOf inside.state.rows inside.table inside.key o) (sym same) rows)
-
--- and the columns those of its table
-pub cols_are : (inside seen : KeyOf) (cols : List (Col × ℕ)) → inside ≡ seen
-    → cols ≡ cols_of inside.state.config.tables inside.table
-    → cols ≡ cols_of seen.state.config.tables seen.table
-cols_are inside seen cols is own =
-    own ∙ ap (λ (v : KeyOf). cols_of v.state.config.tables v.table) is
+    → cols ≡ cols_of inside.state.config.tables inside.table → IsReadOf seen lent cols
+read_of inside seen kept lent cols is same rows own = record {
+  found = subst (λ (v : KeyOf). AreFound v.state.rows v.table v.key lent) is
+      (subst (λ (o : Option (List (ℕ × Row))).
+      AreRowsOf inside.state.rows inside.table inside.key o) (sym same) rows);
+  same = own ∙ ap (λ (v : KeyOf). cols_of v.state.config.tables v.table) is;
+}
 
 -- what is judged by the values of the key is judged by those of the state
 pub one_touches : (state : State) (table : ℕ) (key : List ℕ) (of : KeyOf) (now : ℕ)

@@ -1,18 +1,17 @@
 -- What rows that are read stand for.
-use Rattle.std.proofs.Common.{◌≡◌, ℕ, suc, ◌^◌, ◌-◌, ◌||◌, not, max, min, nat_lt, is_some}
+use Rattle.std.proofs.Common.{◌≡◌, ℕ, suc, ◌||◌, not, is_some}
 use Rattle.std.proofs.Common.{◌+◌, ◌<◌, ◌≤◌, ◌==◌, Bool, true, false, cond, ◌&&◌, List, []}
 use Rattle.std.proofs.Common.{◌∷◌, Option, None, Some, length, refl, sym, ap, ◌∙◌, arith}
 use Rattle.std.specs.Prelude.{filter, map, sum_by}
 use Rattle.std.specs.Cmp.Lexicographic.{slice_cmp}
 use Rattle.std.specs.BTreeMap.{is_at}
 use Rattle.std.specs.Borrow.{Bor}
-use Rattle.std.specs.List.{AllByRecursion, dedup, fold, list_all, list_any}
-use Rattle.std.specs.Option.{MatchOption, option_copied, option_map}
+use Rattle.std.specs.List.{AllByRecursion, dedup, fold, list_any}
+use Rattle.std.specs.Option.{option_copied, option_map}
 use Rattle.fleet_model.specs.Answers.{left_of, longer, sum_up, tally}
 use Rattle.fleet_model.specs.declared.summed.Summed.{Summed}
 use Rattle.agg_types.specs.declared.column.Col.{Col}
 use Rattle.fleet_model.specs.Moments.{is_live}
-use Rattle.fleet_model.specs.Next.{flat_moment}
 use Rattle.peer_rows.specs.Table.{Spot}
 use Rattle.book_frame.proofs.Listings.{map-filter}
 use Rattle.fleet_model.proofs.Entries.{equal_from}
@@ -30,15 +29,13 @@ use Rattle.std.proofs.lemmas.Cmp.{nat_list_cmp_total, tied_itself}
 use Rattle.agg_types.specs.RowKey.{row_key_cmp}
 use Rattle.agg_types.specs.declared.row_key.RowKey.{RowKey}
 use Rattle.agg_types.specs.Col.{all_cols}
-use Rattle.agg_types.specs.Op.{op_holds}
-use Rattle.agg_types.specs.declared.config.Cond.{Cond}
-use Rattle.fleet_model.specs.Keys.{key_rows, meet_at, row_worth, worth_of}
+use Rattle.fleet_model.specs.Keys.{key_rows, row_worth, worth_of}
 use Rattle.fleet_model.specs.Values.{live_keys, same_key, same_place}
 use Rattle.fleet_model.specs.declared.arrival.Arrival.{Arrival}
 use Rattle.peer_rows.specs.Rows.{RowMap, in_table, of_table_key, peers_of}
 use Rattle.peer_rows.specs.declared.row.Row.{Row}
 use Rattle.book.specs.Planned.{AreRows, IsInside}
-use Rattle.book.specs.Shown.{arrivals, as_arrival, of_peer, of_spot, found_worth, rows_worth}
+use Rattle.book.specs.Shown.{arrivals, as_arrival, of_peer, of_spot, rows_worth}
 use Rattle.book.specs.Shown.{view_of_row}
 use Rattle.book.proofs.Lists.{all-filter, all-map, same_filters, sorted-filter}
 
@@ -348,64 +345,6 @@ found_shown place (e ∷ es) = by (same_place place e.0) (found_shown place es)
     by true more = refl
     by false more = more
 
--- ---- the tables one after the other
-pub none_before : (rows : List Shown) → filter (λ row. nat_lt row.0.table 0) rows ≡ []
-none_before [] = refl
-none_before (row ∷ rows) =
-    let no : nat_lt row.0.table 0 ≡ false = grind (arith, nat_tests) in
-    rw no (none_before rows)
-
-pub all_before : (k : ℕ) (rows : List Shown) → AllByRecursion (λ row. row.0.table < k) rows
-    → filter (λ row. nat_lt row.0.table k) rows ≡ rows
-all_before k [] below = refl
-all_before k (row ∷ rows) below =
-    let here : row.0.table < k = below.0 in
-    let yes : nat_lt row.0.table k ≡ true = grind (arith, nat_tests) in
-    rw yes (ap (λ more. row ∷ more) (all_before k rows below.1))
-
-pub all_inside : (peers tables k : ℕ) (es : List Entry) → tables ≤ k
-    → AllByRecursion (λ e. IsInside peers tables e.0) es
-    → AllByRecursion (λ row. row.0.table < k) (arrivals es)
-all_inside peers tables k [] upto inside = tt
-all_inside peers tables k (e ∷ es) upto inside = let here : e.0.table < tables = inside.0.1 in
-    (omega arith, all_inside peers tables k es upto inside.1)
-
-flat_split : (longest k : ℕ) (rows : List Shown)
-    → flat_moment longest (filter (λ row. nat_lt row.0.table (k + 1)) rows)
-    ≡ max (flat_moment longest (filter (λ row. nat_lt row.0.table k) rows))
-    (flat_moment longest (filter (λ row. row.0.table == k) rows))
-flat_split longest k [] = refl
-flat_split longest k (row ∷ rows) = by (nat_lt row.0.table k) (row.0.table == k) refl refl
-    (flat_split longest k rows)
-  where
-    by : (a b : Bool) → nat_lt row.0.table k ≡ a → (row.0.table == k) ≡ b
-        → flat_moment longest (filter (λ row. nat_lt row.0.table (k + 1)) rows)
-        ≡ max (flat_moment longest (filter (λ row. nat_lt row.0.table k) rows))
-        (flat_moment longest (filter (λ row. row.0.table == k) rows))
-        → flat_moment longest (filter (λ row. nat_lt row.0.table (k + 1)) (row ∷ rows))
-        ≡ max (flat_moment longest (cond a (row ∷ filter (λ row. nat_lt row.0.table k) rows)
-        (filter (λ row. nat_lt row.0.table k) rows)))
-        (flat_moment longest (cond b (row ∷ filter (λ row. row.0.table == k) rows)
-        (filter (λ row. row.0.table == k) rows)))
-    by true b less same more =
-        let apart : b ≡ false = grind (arith, nat_tests) in
-        let next : nat_lt row.0.table (k + 1) ≡ true = grind (arith, nat_tests) in
-        rw (next, apart) (omega (arith, more))
-    by false true less same more =
-        let next : nat_lt row.0.table (k + 1) ≡ true = grind (arith, nat_tests) in
-        rw next (omega (arith, more))
-    by false false less same more =
-        let next : nat_lt row.0.table (k + 1) ≡ false = grind (arith, nat_tests) in
-        rw next more
-
-pub flat_joined : (longest k flat own most : ℕ) (rows : List Shown)
-    → flat ≡ min (flat_moment longest (filter (λ row. nat_lt row.0.table k) rows)) (2 ^ 64 - 1)
-    → own ≡ min (flat_moment longest (filter (λ row. row.0.table == k) rows)) (2 ^ 64 - 1)
-    → most ≡ max flat own → most ≡ min
-    (flat_moment longest (filter (λ row. nat_lt row.0.table (k + 1)) rows)) (2 ^ 64 - 1)
-flat_joined longest k flat own most rows before here is =
-    omega (arith, flat_split longest k rows)
-
 pub summed_from : (peers : ℕ) (left : Option ℕ) (values worths : List ℕ) (t : ℕ) (rows : List Shown)
     (found : Option (ℕ × Option ℕ)) → found ≡ tally t rows → found ≡ Some (peers, left)
     → values ≡ worths → Some (record { peers = peers; left = left; values = values })
@@ -476,31 +415,3 @@ pub worths_shown : (table : ℕ) (key : List ℕ) (cols : List (Col × ℕ)) (t 
 worths_shown table key cols t rows own is =
     λ i. map (λ col. (worth_shown table key cols col t rows
     ∙ ap (λ own. worth_of cols own col t) is) i) all_cols
-
-found_shown_worth : (table : ℕ) (key : List ℕ) (cols : List (Col × ℕ)) (col : Col) (t : ℕ)
-    (found : Option (Bor (List (ℕ × Row)))) (rows : Option (List (ℕ × Row))) (own : List Shown)
-    → option_copied found ≡ rows → MatchOption rows (own ≡ []) (λ rows. map (of_peer table key) rows
-    ≡ own) → found_worth cols col t found ≡ worth_of cols own col t
-found_shown_worth table key cols col t None None own same is =
-    ap (λ rows. worth_of cols rows col t) (sym is)
-found_shown_worth table key cols col t None (Some rows) own same is = cc
-found_shown_worth table key cols col t (Some found) None own same is = cc
-found_shown_worth table key cols col t (Some found) (Some rows) own same is =
-    let first : found.now ≡ rows = cc in
-    ap (rows_worth cols col t) first ∙ worth_shown table key cols col t rows
-    ∙ ap (λ rows. worth_of cols rows col t) is
-
--- what is found meets conditions where the key's rows do
-pub found_shown_meets : (table : ℕ) (key : List ℕ) (cols : List (Col × ℕ)) (conds : List Cond)
-    (t : ℕ) (found : Option (Bor (List (ℕ × Row)))) (rows : Option (List (ℕ × Row)))
-    (own : List Shown) → option_copied found ≡ rows
-    → MatchOption rows (own ≡ []) (λ rows. map (of_peer table key) rows ≡ own)
-    → list_all (λ cond. op_holds cond.op (found_worth cols cond.col t found) cond.bound) conds
-    ≡ meet_at cols own conds t
-found_shown_meets table key cols conds t found rows own same is =
-    λ i. list_all (λ cond. op_holds cond.op (found_shown_worth table key cols cond.col t found rows
-    own same is i) cond.bound) conds
-
-pub nil_of : {X : Type 0} (xs : List X) → length xs ≡ 0 → xs ≡ []
-nil_of [] none = refl
-nil_of (x ∷ xs) none = absurd (omega arith)

@@ -2,7 +2,7 @@
 use Rattle.std.proofs.Common.{◌≡◌, ◌==◌, ◌&&◌, ◌++◌, ◌<◌, ℕ, zero, suc, Bool}
 use Rattle.std.proofs.Common.{true, false, List, [], ◌∷◌, Option, None, Some, fold, get_or}
 use Rattle.std.proofs.Common.{length, nat_lt}
-use Rattle.std.proofs.Common.{refl, sym, ap, ◌∙◌, arith, append-nil, append_assoc, ⊎_elim, inl, inr}
+use Rattle.std.proofs.Common.{refl, sym, ap, ◌∙◌, arith, append-nil, ⊎_elim, inl, inr}
 use Rattle.std.specs.Prelude.{◌⊎◌, unwrap_or}
 use Rattle.std.specs.List.{list_any}
 use Rattle.std.proofs.lemmas.List.Sums.{fold-append}
@@ -142,31 +142,6 @@ pub if_known_then : (s : State) (es1 es2 : List Event) (x y z : Flipped)
 if_known_then s es1 es2 x y z first second = λ known.
     let later = second known in
     tells_all_then s es1 es2 x y z (first later.known) later
-
--- what is told from a start is told from a later one
-pub tells_all_from : (s : State) (es1 es2 : List Event) (x y : Flipped)
-    → TellsAll s (es1 ++ es2) x y → TellsAll (fold after s es1) es2 x y
-tells_all_from s es1 es2 x y told = record {
-  more = told.more;
-  known = told.known;
-  added = told.added;
-  filters = λ some others is.
-      ap (λ (t : State). t.config.filters) (sym (fold-append after s es1 some))
-      ∙ told.filters (es1 ++ some) others (behind some others is)
-      ∙ sym (told.filters es1 es2 refl);
-  said = λ filter key is_in is.
-      ap (λ t. held_in t filter key) (sym (fold-append after s es1 es2))
-      ∙ told.said filter key is_in is;
-  unsaid = λ filter key none some others is.
-      ap (λ t. held_in t filter key) (sym (fold-append after s es1 some))
-      ∙ told.unsaid filter key none (es1 ++ some) others (behind some others is)
-      ∙ sym (told.unsaid filter key none es1 es2 refl);
-}
-  where
-    behind : (some others : List Event) → es2 ≡ some ++ others
-        → es1 ++ es2 ≡ (es1 ++ some) ++ others
-    behind some others is = ap (λ l. es1 ++ l) is
-        ∙ sym (append_assoc es1 some others)
 
 -- ---- one event
 said_is : (o : Option Bool) (before is_in : Bool) → o ≡ Some is_in

@@ -23,14 +23,13 @@ use Rattle.agg_types.specs.Whats.{as_what}
 use Rattle.fleet_model.proofs.Entries.{equal_from, lookup-insert, same_lookups, sorted-insert}
 use Rattle.fleet_model.proofs.Every.{ordered-insert, sorted_from}
 use Rattle.fleet_model.proofs.Sound.{sound_after}
-use Rattle.fleet_model.specs.Keys.{Rows}
 use Rattle.fleet_model.specs.Machine.{after, counts_now, event_of, happened, number_of, with_put}
 use Rattle.fleet_model.specs.Seats.{is_number, numbered}
 use Rattle.fleet_model.specs.Sound.{IsSound}
 use Rattle.fleet_model.specs.State.{State}
 use Rattle.standing_filters.specs.Watched.{AllWatched}
 use Rattle.book.proofs.Following.{follows}
-use Rattle.book.specs.Verdicts.{AreHeld, ChangesTable, Follows, IsBook}
+use Rattle.book.specs.Verdicts.{ChangesTable, Follows, IsBook}
 use Rattle.book.specs.Runs.{IsLentInto, IsPartApplied, IsPutOf, IsTurn, IsUpdateOf, counted_to}
 use Rattle.book.specs.Runs.{left_at, with_update}
 
@@ -113,16 +112,11 @@ sound_counted s seat n h = record {
   rows = h.rows;
 }
 
-held_counted : (s : State) (seat n : ℕ) (standing : Option AllWatched) → AreHeld s standing
-    → AreHeld (counted_to s seat n) standing
-held_counted s seat n None h = tt
-held_counted s seat n (Some w) h = record { filters = h.filters; judged = h.judged }
-
-pub book_counted : (s : State) (seat n : ℕ) (standing : Option AllWatched) → IsBook s standing
+pub book_counted : (s : State) (seat n : ℕ) (standing : AllWatched) → IsBook s standing
     → IsBook (counted_to s seat n) standing
 book_counted s seat n standing h = record {
   sound = sound_counted s seat n h.sound;
-  held = held_counted s seat n standing h.held;
+  held = record { filters = h.held.filters; judged = h.held.judged };
 }
 
 -- a seat's number may be counted to what it is
@@ -139,21 +133,33 @@ counted_next : (n : ℕ) (due : Option ℕ) → due ≡ Some n → n < NUMBERS_E
 counted_next n due is small = rw is (grind (arith, nat_tests))
 
 -- it counts, and is the row and one more event of its seat
+update_counts : (s : State) (seat n peer : ℕ) (what : What) → IsUpdateOf s.config peer what
+    → n < NUMBERS_END → counts_now (counted_to s seat n) (event_of seat n what) ≡ true
+unfolding counts_now
+update_counts s seat n peer Sit update small = absurd update.put
+update_counts s seat n peer (Open other) update small = absurd update.put
+update_counts s seat n peer (Put other table key life cells) update small =
+    let next : is_number (number_of (counted_to s seat n) seat) n && nat_lt n NUMBERS_END ≡ true =
+    counted_next n (number_of (counted_to s seat n) seat) (number_counted s seat n) small in
+    ap (λ b. b && (is_number (number_of (counted_to s seat n) seat) n
+    && nat_lt n NUMBERS_END)) update.fits ∙ next
+update_counts s seat n peer (Clear table sel) update small = absurd update.put
+update_counts s seat n peer (AddFilter filter) update small = absurd update.put
+update_counts s seat n peer (DropFilter name) update small = absurd update.put
+update_counts s seat n peer (Moment moment) update small = absurd update.put
+update_counts s seat n peer Leave update small = absurd update.put
+
 pub update_after : (s : State) (seat n peer : ℕ) (what : What) → IsSound s
     → IsUpdateOf s.config peer what → n < NUMBERS_END
     → after (counted_to s seat n) (event_of seat n what)
     ≡ counted_to (with_update s seat what) seat (n + 1)
-unfolding after counts_now happened with_put
+unfolding after happened with_put
 update_after s seat n peer Sit sound update small = absurd update.put
 update_after s seat n peer (Open other) sound update small = absurd update.put
 update_after s seat n peer (Put other table key life cells) sound update small =
     let what : What = Put other table key life cells in
-    let next : is_number (number_of (counted_to s seat n) seat) n && nat_lt n NUMBERS_END ≡ true =
-    counted_next n (number_of (counted_to s seat n) seat) (number_counted s seat n) small in
     ap (λ b. cond b (happened (counted_to s seat n) (event_of seat n what) what)
-    (counted_to s seat n))
-    (ap (λ b. b && (is_number (number_of (counted_to s seat n) seat) n
-    && nat_lt n NUMBERS_END)) update.fits ∙ next)
+    (counted_to s seat n)) (update_counts s seat n peer what update small)
     ∙ ap (λ (seats : Numbers). record (with_update s seat what) { seats = seats })
     (last_stays s.seats seat n (n + 1) (sorted_from nat_cmp s.seats sound.ordered.seats))
 update_after s seat n peer (Clear table sel) sound update small = absurd update.put
@@ -209,7 +215,8 @@ pub follows_update : (s : State) (seat peer : ℕ) (what : What) → IsSound s
 follows_update s seat peer what sound update =
     put_moved peer what s (with_update s seat what) seat 0 1 update.put
     (subst (Follows what (counted_to s seat 0)) (first_after s seat peer what sound update)
-    (follows (counted_to s seat 0) (event_of seat 0 what) (sound_counted s seat 0 sound)))
+    (follows (counted_to s seat 0) (event_of seat 0 what) (sound_counted s seat 0 sound)
+    (update_counts s seat 0 peer what update (omega arith))))
 
 -- an update of a table changes no other's rows
 pub update_changes : (table : ℕ) (what : LentWhat) (state later : State) → IsLentInto table what
@@ -259,15 +266,6 @@ part_on seat first from at to whats old state new before then = record {
   applied = then.applied ∙ ap (λ (s : State). fold after s then.part) before.applied
       ∙ sym (fold-append after old before.part then.part);
 }
-
--- what is left brings the state to where all of it brings it
-pub part_brings : (seat first from to : ℕ) (whats : List What) (old new : State)
-    → IsPartApplied seat first whats from to old new
-    → fold after new (left_at seat first whats to) ≡ fold after old (left_at seat first whats from)
-part_brings seat first from to whats old new is =
-    ap (λ (s : State). fold after s (left_at seat first whats to)) is.applied
-    ∙ sym (fold-append after old is.part (left_at seat first whats to))
-    ∙ ap (fold after old) (sym is.whole)
 
 -- an update more of a state whose seat isn't counted up
 pub update_more : (seat first from to peer : ℕ) (whats : List What) (what : What)

@@ -3,7 +3,7 @@ use Rattle.agg_types.specs.declared.event.What.{What}
 use Rattle.agg_types.specs.declared.event.What.TheVariants.{Sit, Open, Put, Clear, AddFilter}
 use Rattle.agg_types.specs.declared.event.What.TheVariants.{DropFilter, Moment, Leave}
 use Rattle.agg_types.specs.declared.config.Config.{Config}
-use Rattle.agg_types.specs.declared.limits.TheConstants.{LAST_MOMENT}
+use Rattle.agg_types.specs.declared.limits.TheConstants.{LAST_MOMENT, MOST_CONDS}
 use Rattle.book.specs.Planned.{IsShort}
 
 -- a row of these peers and tables, whose life has 32 bits
@@ -12,13 +12,13 @@ pub record IsPlaced (config : Config) (peer table : ℕ) (life : Option ℕ) : T
   pub table_in : table < length config.tables
   pub short : IsShort life
 
--- a Put is of peers and tables that there are, and a moment is small
+-- a Put is of peers and tables that there are, a filter has few conditions, and a moment is small
 abbrev pub FitsPlace : Config → What → Type 0
 FitsPlace config Sit = Unit {0}
 FitsPlace config (Open peer) = Unit {0}
 FitsPlace config (Put peer table key life cells) = IsPlaced config peer table life
 FitsPlace config (Clear table sel) = Unit {0}
-FitsPlace config (AddFilter filter) = Unit {0}
+FitsPlace config (AddFilter filter) = length filter.conds ≤ MOST_CONDS
 FitsPlace config (DropFilter name) = Unit {0}
 FitsPlace config (Moment moment) = moment ≤ LAST_MOMENT
 FitsPlace config Leave = Unit {0}

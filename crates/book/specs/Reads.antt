@@ -1,27 +1,23 @@
--- How many values of keys an event may read for the standing filters, where their verdicts are
--- kept.
+-- How many values of keys an event may read for the standing filters.
 use Rattle.std.specs.Prelude.{◌≡◌, ◌≢◌, ℕ, ◌+◌, ◌*◌, ◌<◌, ◌≤◌, List, count_by}
-use Rattle.std.specs.Prelude.{drop, length, max, sum_by, true, ◌==◌}
+use Rattle.std.specs.Prelude.{drop, length, max, sum_by, ◌==◌}
 use Rattle.std.specs.List.{AllByRecursion, AllZip, IsDistinct}
 use Rattle.agg_types.specs.declared.config.Filter.{Filter}
-use Rattle.agg_types.specs.declared.event.Select.{Select}
-use Rattle.agg_types.specs.declared.event.Select.TheVariants.{All, One, Conds}
 use Rattle.agg_types.specs.declared.event.What.{What}
 use Rattle.agg_types.specs.declared.event.What.TheVariants.{Sit, Open, Put, Clear, AddFilter}
 use Rattle.agg_types.specs.declared.event.What.TheVariants.{DropFilter, Moment, Leave}
 use Rattle.fleet_model.specs.Answers.{keys_of}
 use Rattle.fleet_model.specs.Changes.{NoKeyChangesBefore}
 use Rattle.fleet_model.specs.Keys.{holds}
-use Rattle.fleet_model.specs.Moments.{is_live}
 use Rattle.fleet_model.specs.State.{State}
 use Rattle.fleet_model.specs.Values.{same_key}
+use Rattle.book.specs.Verdicts.{with_filter}
 
 -- ---- a quiet event
--- up to t no row ends, and no filter comes to hold a key or no longer does
-pub record IsQuietUntil (state : State) (t : ℕ) : Type 0 where
-  pub rows : AllByRecursion (λ row. is_live t row.1 ≡ true) state.rows
-  pub sets : AllByRecursion (λ filtering. NoKeyChangesBefore state filtering (t + 1))
-      state.config.filters
+-- up to t no filter comes to hold a key, and none no longer does
+abbrev pub IsQuietUntil : State → ℕ → Type 0
+IsQuietUntil state t =
+    AllByRecursion (λ filtering. NoKeyChangesBefore state filtering (t + 1)) state.config.filters
 
 -- whether an event says nothing of rows, and no filter is added
 abbrev pub IsQuietTo : State → What → Type 0
@@ -75,19 +71,14 @@ IsFewFor state later (DropFilter name) read = read ≡ 0
 IsFewFor state later (Moment moment) read = IsForDue state later.moment read
 IsFewFor state later Leave read = read ≡ 0
 
--- whether a clear may make all verdicts anew
-abbrev pub MayRenewBy : Select → Type 0
-MayRenewBy All = Unit {0}
-MayRenewBy (One key) = ⊥
-MayRenewBy (Conds conds) = Unit {0}
-
--- whether an event may make all verdicts anew
-abbrev pub MayRenew : What → Type 0
-MayRenew Sit = ⊥
-MayRenew (Open peer) = ⊥
-MayRenew (Put peer table key life cells) = ⊥
-MayRenew (Clear table sel) = MayRenewBy sel
-MayRenew (AddFilter filtering) = Unit {0}
-MayRenew (DropFilter name) = ⊥
-MayRenew (Moment moment) = Unit {0}
-MayRenew Leave = ⊥
+-- what was read before an event is applied: it is for a filter that the event adds
+abbrev pub IsFewBefore : State → What → ℕ → Type 0
+IsFewBefore state Sit read = read ≡ 0
+IsFewBefore state (Open peer) read = read ≡ 0
+IsFewBefore state (Put peer table key life cells) read = read ≡ 0
+IsFewBefore state (Clear table sel) read = read ≡ 0
+IsFewBefore state (AddFilter filtering) read =
+    read ≤ 505 * pairs_from (with_filter state filtering) (length state.config.filters)
+IsFewBefore state (DropFilter name) read = read ≡ 0
+IsFewBefore state (Moment moment) read = read ≡ 0
+IsFewBefore state Leave read = read ≡ 0

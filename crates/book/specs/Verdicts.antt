@@ -1,23 +1,23 @@
 -- Kept verdicts of a book's standing filters, and what an event leaves of what they rest on.
-use Rattle.std.specs.Prelude.{◌≡◌, ◌≢◌, ◌⊎◌, ℕ, zero, suc, ◌+◌, ◌-◌, ◌^◌, ◌≤◌, ◌++◌, ◌∷◌, List}
-use Rattle.std.specs.Prelude.{◌<◌, [], Option, IfSome, length, map, min, remove, take}
+use Rattle.std.specs.Prelude.{◌≡◌, ◌≢◌, ◌⊎◌, ℕ, ◌≤◌, ◌++◌, ◌∷◌, ◌<◌, List, []}
+use Rattle.std.specs.Prelude.{Option, IfSome, length, map, max, remove, true}
 use Rattle.std.specs.Option.{option_map_or}
 use Rattle.std.specs.List.{AllByRecursion}
 use Rattle.agg_types.specs.declared.column.Col.{Col}
+use Rattle.agg_types.specs.declared.config.Config.{Config}
 use Rattle.agg_types.specs.declared.config.Filter.{Filter}
 use Rattle.agg_types.specs.declared.event.What.{What}
 use Rattle.agg_types.specs.declared.event.What.TheVariants.{Sit, Open, Put, Clear, AddFilter}
 use Rattle.agg_types.specs.declared.event.What.TheVariants.{DropFilter, Moment, Leave}
-use Rattle.fleet_model.specs.Changes.{NoKeyChangesBefore}
-use Rattle.fleet_model.specs.Filters.{dropped}
-use Rattle.fleet_model.specs.Keys.{Rows, holds, key_rows}
+use Rattle.fleet_model.specs.Filters.{dropped, filters_after}
+use Rattle.fleet_model.specs.Keys.{holds, key_rows}
 use Rattle.fleet_model.specs.Sound.{IsSound}
 use Rattle.fleet_model.specs.State.{State}
 use Rattle.fleet_model.specs.Values.{cols_of}
 use Rattle.standing_filters.specs.Laws.{AreVerdicts}
-use Rattle.standing_filters.specs.Watched.{AllWatched, Watched}
+use Rattle.standing_filters.specs.Watched.{AllWatched, IsReady, Watched}
 use Rattle.book.specs.Foreseen.{living_within, worth_within}
-use Rattle.book.specs.Store.{row_keys}
+use Rattle.book.specs.Uses.{has_filter}
 
 -- what the keys of a state sum up to, and how many of their rows live, as the clock goes on
 abbrev pub sums_in : State → ℕ → List ℕ → Col → ℕ → ℕ
@@ -34,15 +34,14 @@ IsJudged state watched = AreVerdicts (sums_in state) (living_in state) state.mom
 abbrev pub AreJudged : State → List Watched → Type 0
 AreJudged state watched = AllByRecursion (IsJudged state) watched
 
--- these are the verdicts of a state's first filters
-pub record AreFirst (state : State) (count : ℕ) (watched : List Watched) : Type 0 where
-  pub filters : map (λ w. w.filter) watched ≡ take count state.config.filters
-  pub judged : AreJudged state watched
-
--- and of all of them
+-- these are the verdicts of a state's filters
 pub record AreAll (state : State) (watched : List Watched) : Type 0 where
   pub filters : map (λ w. w.filter) watched ≡ state.config.filters
   pub judged : AreJudged state watched
+
+-- so a book keeps them
+abbrev pub AreHeld : State → AllWatched → Type 0
+AreHeld state standing = AreAll state standing.filters
 
 -- one filter more stands behind the others, with its verdicts
 pub record IsOneMore (state : State) (filtering : Filter) (old new : List Watched) : Type 0 where
@@ -51,14 +50,45 @@ pub record IsOneMore (state : State) (filtering : Filter) (old new : List Watche
   pub judged : IsJudged state added
   pub behind : new ≡ old ++ added ∷ []
 
--- verdicts may be given up; where they are kept, they are those of all filters
-abbrev pub AreHeld : State → Option AllWatched → Type 0
-AreHeld state standing = IfSome standing (λ s. AreAll state s.filters)
-
 -- what holds of a book between calls
-pub record IsBook (state : State) (standing : Option AllWatched) : Type 0 where
+pub record IsBook (state : State) (standing : AllWatched) : Type 0 where
   pub sound : IsSound state
   pub held : AreHeld state standing
+
+-- ---- what is made ready before an event
+-- a state with a filter, if it is taken
+abbrev pub with_filter : State → Filter → State
+with_filter state filtering =
+    record state {
+      config =
+          record state.config {
+            filters =
+                filters_after state.configured state.config.filters (AddFilter filtering);
+          };
+    }
+
+-- the verdicts that an event finds: those of the filter that it adds are among them
+abbrev pub AreHeldFor : What → State → AllWatched → Type 0
+AreHeldFor Sit state standing = AreHeld state standing
+AreHeldFor (Open peer) state standing = AreHeld state standing
+AreHeldFor (Put peer table key life cells) state standing = AreHeld state standing
+AreHeldFor (Clear table sel) state standing = AreHeld state standing
+AreHeldFor (AddFilter filtering) state standing = AreHeld (with_filter state filtering) standing
+AreHeldFor (DropFilter name) state standing = AreHeld state standing
+AreHeldFor (Moment moment) state standing = AreHeld state standing
+AreHeldFor Leave state standing = AreHeld state standing
+
+-- the key of an update has room for its judgement, where a filter is of its table
+abbrev pub HasRoomFor : What → Config → AllWatched → Type 0
+HasRoomFor Sit config standing = Unit {0}
+HasRoomFor (Open peer) config standing = Unit {0}
+HasRoomFor (Put peer table key life cells) config standing =
+    has_filter config table ≡ true → IsReady table key standing
+HasRoomFor (Clear table sel) config standing = Unit {0}
+HasRoomFor (AddFilter filtering) config standing = Unit {0}
+HasRoomFor (DropFilter name) config standing = Unit {0}
+HasRoomFor (Moment moment) config standing = Unit {0}
+HasRoomFor Leave config standing = Unit {0}
 
 -- ---- what an event leaves
 -- nothing that verdicts rest on has changed
@@ -81,27 +111,26 @@ pub record ChangesTable (table : ℕ) (state later : State) : Type 0 where
   pub others : (t : ℕ) (other : List ℕ) → t ≢ table
       → key_rows later.rows t other ≡ key_rows state.rows t other
 
--- nothing but the moment, and what was foreseen from it on
-pub record GoesOn (state later : State) : Type 0 where
+-- nothing but the moment, which was told, and what was foreseen stays from it on
+pub record GoesOn (told : ℕ) (state later : State) : Type 0 where
   pub config : later.config ≡ state.config
-  pub up : state.moment ≤ later.moment
+  pub moment : later.moment ≡ max state.moment told
   pub holds : (filtering : Filter) (key : List ℕ) (t : ℕ) → later.moment ≤ t
       → holds later filtering key t ≡ holds state filtering key t
 
--- nothing but filters that stand behind the others
-pub record HasMore (state later : State) : Type 0 where
+-- nothing but a filter, which stands behind the others if it is taken
+pub record HasMore (filtering : Filter) (state later : State) : Type 0 where
   pub tables : later.config.tables ≡ state.config.tables
   pub moment : later.moment ≡ state.moment
   pub rows : later.rows ≡ state.rows
-  pub filters : take (length state.config.filters) later.config.filters ≡ state.config.filters
+  pub filters : later.config.filters ≡ (with_filter state filtering).config.filters
 
 -- nothing but an added filter of a name, which is gone
 pub record HasFewer (name : List ℕ) (state later : State) : Type 0 where
   pub tables : later.config.tables ≡ state.config.tables
   pub moment : later.moment ≡ state.moment
   pub rows : later.rows ≡ state.rows
-  pub filters : (later.config.filters ≡ dropped state.configured name state.config.filters)
-      ⊎ (later.config.filters ≡ state.config.filters)
+  pub filters : later.config.filters ≡ dropped state.configured name state.config.filters
 
 -- the place of the added filter of a name
 pub record IsAddedPlace (state : State) (name : List ℕ) (place : Option ℕ) : Type 0 where
@@ -126,30 +155,7 @@ Follows Sit state later = Stays state later
 Follows (Open peer) state later = Stays state later
 Follows (Put peer table key life cells) state later = ChangesKey table key state later
 Follows (Clear table sel) state later = ChangesTable table state later
-Follows (AddFilter filtering) state later = HasMore state later
+Follows (AddFilter filtering) state later = HasMore filtering state later
 Follows (DropFilter name) state later = HasFewer name state later
-Follows (Moment moment) state later = GoesOn state later
+Follows (Moment told) state later = GoesOn told state later
 Follows Leave state later = Stays state later
-
--- ---- what is read for them
--- nothing changes by the clock up to a later state
-abbrev pub AreStill : State → State → Type 0
-AreStill state later =
-    AllByRecursion (λ filtering. NoKeyChangesBefore state filtering (later.moment + 1))
-    state.config.filters
-
--- an event on whose way nothing changes
-abbrev pub IsCalm : State → State → What → Type 0
-IsCalm state later Sit = Unit {0}
-IsCalm state later (Open peer) = Unit {0}
-IsCalm state later (Put peer table key life cells) = ⊥
-IsCalm state later (Clear table sel) = ⊥
-IsCalm state later (AddFilter filtering) = ⊥
-IsCalm state later (DropFilter name) = Unit {0}
-IsCalm state later (Moment moment) = AreStill state later
-IsCalm state later Leave = Unit {0}
-
--- how many keys of so many tables have rows, as 64 bits count
-abbrev pub keys_in : Rows → ℕ → ℕ
-keys_in rows zero = 0
-keys_in rows (suc tables) = min (keys_in rows tables + length (row_keys rows tables)) (2 ^ 64 - 1)

@@ -33,7 +33,7 @@ pub(crate) fn judged(
         + 505 * length (keys_of machine.now filter.now.table) }
 {
     standing_filters::laws::adding_begins();
-    let mut adding = standing.begin(filter)?;
+    let mut adding = standing.begin(filter, machine.used(filter.table))?;
     match machine.rows.each_key(filter.table) {
         None => Ok(adding),
         Some(walk) => {

@@ -1,4 +1,4 @@
-ghost use Rattle.std.specs.Prelude.{◌≡◌, ◌*◌, ◌<◌, ◌≤◌, ℕ, List, map, length, nat_lt, true};
+ghost use Rattle.std.specs.Prelude.{◌≡◌, ◌<◌, ◌≤◌, ℕ, List, map, length, nat_lt};
 ghost use Rattle.std.specs.Prelude.{false, [], ◌∷◌, ◌++◌, IfOk, IsOk, OnOk, OnErr};
 ghost use Rattle.agg_types.specs.Check.{config_faults};
 ghost use Rattle.agg_types.specs.declared.config.Config.{Config};
@@ -16,25 +16,22 @@ ghost use Rattle.fleet_model.specs.Sound.{IsSound};
 ghost use Rattle.fleet_model.specs.State.{IsStateOf};
 ghost use Rattle.book.specs.Dropped.{is_dropped};
 ghost use Rattle.book.specs.Flips.{TellsAllIfKnown};
-ghost use Rattle.book.specs.Foreseen.{IsFirstOf};
-ghost use Rattle.book.specs.Reads.{IsFewFor, IsQuietTo, MayRenew, pairs_from};
+ghost use Rattle.book.specs.Reads.{IsFewFor, IsQuietTo};
 ghost use Rattle.book_frame.specs.Lent.{listed_where, shown_row};
 
 use crate::drops::Drops;
-use crate::foreseen::first_change;
 use crate::listing::BookRows;
 use crate::machine::Machine;
 use crate::queries;
 use crate::ranking::Ranked;
-use crate::sets::keys_held;
-use crate::verdicts::{Verdicts, held_keys};
+use crate::verdicts::Verdicts;
 use agg_types::{Cond, Config, Event, Key, LentWhat, NoMemory};
 use book_frame::seats;
 use book_frame::seats::has_free_seat;
-use book_frame::standing::{added_at, cols_of, filter_at};
+use book_frame::standing::added_at;
 use fleet_model::Summed;
 use peer_rows::Spot;
-use standing_filters::Flips;
+use standing_filters::{Flips, Keys};
 use std::alloc::Global;
 use std::marker::Model;
 
@@ -50,8 +47,20 @@ pub struct Taken {
     pub dropped: bool,
     /// How many values of keys were read for the standing filters.
     pub read: u64,
-    /// Whether all verdicts were made anew, which had been given up as an allocation failed.
-    pub anew: bool,
+}
+
+impl Taken {
+    /// No row was seen, nothing was dropped, and nothing was read.
+    pub(crate) fn unseen() -> Taken
+        ensures dropped { result.dropped ≡ false }
+        ensures read { result.read ≡ 0 }
+    {
+        Taken {
+            spot: None,
+            dropped: false,
+            read: 0,
+        }
+    }
 }
 
 /// The state of a fleet, one event at a time.
@@ -102,7 +111,7 @@ impl Book {
         fleet_model::laws::nothing_happened();
         fleet_model::laws::states_are_sound();
         let machine = Machine::new(alloc, config, moment)?;
-        let verdicts = Verdicts::new(&machine);
+        let verdicts = Verdicts::new(&machine)?;
         let drops = Drops::new(alloc, machine.rows.size)?;
         Ok(Book {
             machine,
@@ -156,9 +165,9 @@ impl Book {
     }
 
     /// What `step` does, whatever the hint at where the rows of a Put's key lie, and how much was
-    /// read for it. A moment up to which no row ends and no filter's set changes reads nothing, nor
-    /// does a clear where verdicts are kept. Any other event reads at most 505 values for each pair
-    /// of a filter and a key that it concerns.
+    /// read for it. A moment up to which no filter's set changes reads nothing, nor does a clear.
+    /// Any other event reads at most 505 values for each pair of a filter and a key that it
+    /// concerns.
     pub fn step_at(&mut self, event: &Event, hint: Option<Spot>) -> Result<Taken, NoMemory>
         ensures ok { OnOk result (self.new ≡ after self.old event.now) }
         ensures stands { OnOk result ((config : Config) (opening : ℕ) (events : List Event)
@@ -168,12 +177,8 @@ impl Book {
         ensures err { OnErr result (self.new ≡ self.old) }
         ensures leaving { event.now.what ≡ Leave → IsOk result }
         ensures uncounted { counts_now self.old event.now ≡ false → IsOk result }
-        ensures quiet { IfOk result (λ taken. IsQuietTo self.old event.now.what
-            → (taken.read ≡ 0) × (taken.anew ≡ false)) }
-        ensures few { IfOk result (λ taken. taken.anew ≡ false
-            → IsFewFor self.old self.new event.now.what taken.read) }
-        ensures anew { IfOk result (λ taken. taken.anew ≡ true
-            → MayRenew event.now.what × (taken.read ≤ 505 * pairs_from self.new 0)) }
+        ensures quiet { IfOk result (λ taken. IsQuietTo self.old event.now.what → taken.read ≡ 0) }
+        ensures few { IfOk result (λ taken. IsFewFor self.old self.new event.now.what taken.read) }
         ensures sound { IsSound self.new }
     {
         fleet_model::laws::state_after_one_more();
@@ -292,33 +297,12 @@ impl Book {
         self.machine.meeting(alloc, table, conds)
     }
 
-    /// The keys that a standing filter holds, in order, by the verdicts that are kept; where these
-    /// were given up because an allocation failed, each key of its table is judged.
-    pub fn filter_keys(&self, alloc: Global, filter: usize) -> Result<Vec<&Key>, NoMemory>
+    /// The keys that a standing filter holds, in order. Takes no memory.
+    pub fn filter_keys(&self, filter: usize) -> Keys<'_>
         requires { filter < length self.now.config.filters }
-        ensures { IfOk result
-            (λ keys. map (λ key. key.now) keys.items
-            ≡ set_at self.now (filter_of self.now filter) self.now.moment) }
+        ensures { result ≡ set_at self.now (filter_of self.now filter) self.now.moment }
     {
-        match &self.verdicts.standing {
-            None => self.filter_keys_at(alloc, filter, self.moment()),
-            Some(standing) => held_keys(alloc, standing, filter),
-        }
-    }
-
-    // The keys that a standing filter holds at a moment, in ms, if only the clock goes on until
-    // then.
-    #[tactic(auto, unfolding(fleet_model::specs::Answers::set_at))]
-    fn filter_keys_at(&self, alloc: Global, filter: usize, t: u64) -> Result<Vec<&Key>, NoMemory>
-        requires { filter < length self.now.config.filters }
-        ensures { IfOk result
-            (λ keys. map (λ key. key.now) keys.items
-            ≡ set_at self.now (filter_of self.now filter) t) }
-    {
-        let machine = &self.machine;
-        let standing = filter_at(machine.config.filters.as_slice(), filter);
-        let cols = cols_of(machine.config.tables.as_slice(), standing.table);
-        keys_held(alloc, &machine.rows, cols, standing, t)
+        self.verdicts.standing.keys(filter)
     }
 
     /// The ranked list at a position of the configuration, found by bounds on the values of keys.
@@ -330,48 +314,12 @@ impl Book {
     }
 
     /// The first moment above the book's, in ms, at which a filter holds other keys than now, if
-    /// only the clock goes on; none where it always holds the same. It is that of the first verdict
-    /// that changes; where verdicts were given up because an allocation failed, each key of its
-    /// table is judged once.
-    pub fn next_change(&self, alloc: Global, filter: usize) -> Result<Option<u64>, NoMemory>
+    /// only the clock goes on; none where it always holds the same. Takes no memory.
+    pub fn next_change(&self, filter: usize) -> Option<u64>
         requires { filter < length self.now.config.filters }
-        ensures { IfOk result (IsNextChange self.now (filter_of self.now filter)) }
+        ensures { IsNextChange self.now (filter_of self.now filter) result }
     {
         standing_filters::laws::first_change_is_the_sets();
-        match &self.verdicts.standing {
-            None => self.walk_to_change(alloc, filter),
-            Some(standing) => Ok(standing.next_change(filter)),
-        }
-    }
-
-    // The next change of a filter, for which each key of its table is judged once.
-    fn walk_to_change(&self, alloc: Global, filter: usize) -> Result<Option<u64>, NoMemory>
-        requires { filter < length self.now.config.filters }
-        ensures { IfOk result (IsNextChange self.now (filter_of self.now filter)) }
-    {
-        fleet_model::laws::keys_are_exact();
-        let table = self.table_of(filter);
-        let keys = self.keys(alloc, table)?;
-        Ok(self.first_change(filter, keys.as_slice()))
-    }
-
-    // The table of a filter.
-    fn table_of(&self, filter: usize) -> usize
-        requires { filter < length self.now.config.filters }
-        ensures table { result ≡ (filter_of self.now filter).table }
-        ensures sound { IsSound self.now }
-    {
-        self.machine.filter_at(filter).table
-    }
-
-    // The first moment above the book's at which a filter holds one of these keys that it doesn't
-    // now, or the other way round; none where it never does.
-    fn first_change(&self, filter: usize, keys: &[&Key]) -> Option<u64>
-        requires { filter < length self.now.config.filters }
-        ensures { IsFirstOf self.now (filter_of self.now filter) keys.now result }
-    {
-        fleet_model::laws::sets_are_flat_in_time();
-        let standing = self.machine.filter_at(filter);
-        first_change(&self.machine, standing, keys)
+        self.verdicts.standing.next_change(filter)
     }
 }

@@ -1,13 +1,11 @@
-//! When a filter's set changes by the clock alone: when the first of its keys comes or goes.
+//! The values of keys as the clock goes on.
 
-ghost use Rattle.std.specs.Prelude.{◌≡◌, ◌≤◌, ◌<◌, ◌^◌, ◌-◌, ℕ, List, length, map, min};
+ghost use Rattle.std.specs.Prelude.{◌≡◌, ◌<◌, ◌^◌, ◌-◌, ℕ, List, length, map, min};
 ghost use Rattle.std.specs.Prelude.{IfSome, nat_lt};
-ghost use Rattle.agg_types.specs.declared.limits.TheConstants.{MOST_CONDS};
 ghost use Rattle.fleet_model.specs.Keys.{Rows, key_rows, worth_of};
-ghost use Rattle.fleet_model.specs.Changes.{IsKeyChange};
-ghost use Rattle.fleet_model.specs.Next.{flat_moment, table_flat_from};
+ghost use Rattle.fleet_model.specs.Next.{flat_moment};
 ghost use Rattle.fleet_model.specs.Values.{cols_of};
-ghost use Rattle.book.specs.Foreseen.{IsFirstOf, earlier, flat_within, living_of};
+ghost use Rattle.book.specs.Foreseen.{flat_within, living_of};
 ghost use Rattle.book.specs.Shown.{as_arrival, of_peer};
 ghost use Rattle.book.specs.Store.{AreFound};
 
@@ -17,11 +15,10 @@ use crate::next::flat_from;
 use crate::row::is_live;
 use crate::store::Store;
 use crate::values::value;
-use agg_types::{Col, Filter, Key};
+use agg_types::{Col, Key};
 use book_frame::standing::{cols_of, longest_period};
-use crossing::{Meter, Values};
+use crossing::Values;
 use peer_rows::OfKey;
-use standing_filters::judge;
 
 /// The values of keys as the clock goes on, in ms.
 impl Values for Machine {
@@ -201,40 +198,4 @@ fn rows_flat(rows: OfKey<'_>, longest: u32) -> u64
         flat = flat.max(flat_from(longest, row));
     }
     flat
-}
-
-/// The first moment above the machine's, in ms, at which a filter holds one of these keys that it
-/// doesn't now, or the other way round; none where it never does.
-pub(crate) fn first_change(machine: &Machine, standing: &Filter, keys: &[&Key]) -> Option<u64>
-    requires few { length standing.now.conds ≤ MOST_CONDS }
-    requires flat { table_flat_from machine.now standing.now.table < 2 ^ 64 }
-    ensures { IsFirstOf machine.now standing.now keys.now result }
-{
-    let mut next = None;
-    for key in keys {
-        next = earlier(next, key_change(machine, standing, *key));
-    }
-    next
-}
-
-// The first moment at which a filter holds a key that it doesn't now, or the other way round.
-fn key_change(machine: &Machine, standing: &Filter, key: &Key) -> Option<u64>
-    requires few { length standing.now.conds ≤ MOST_CONDS }
-    requires flat { table_flat_from machine.now standing.now.table < 2 ^ 64 }
-    ensures { IsKeyChange machine.now standing.now key.now result }
-{
-    let mut meter = Meter::new();
-    judge(standing, key, machine, machine.moment, &mut meter).next
-}
-
-fn earlier(one: Option<u64>, other: Option<u64>) -> Option<u64>
-    ensures { result ≡ earlier one other }
-{
-    match one {
-        None => other,
-        Some(t) => match other {
-            None => Some(t),
-            Some(u) => Some(t.min(u)),
-        },
-    }
 }

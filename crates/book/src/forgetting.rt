@@ -1,52 +1,18 @@
 //! The verdicts after a clear: those on the keys that it took, and no others.
 
-ghost use Rattle.std.specs.Prelude.{◌≡◌, ◌+◌, ◌*◌, ◌≤◌, true, false, None};
+ghost use Rattle.std.specs.Prelude.{◌≡◌};
 ghost use Rattle.fleet_model.specs.Sound.{IsSound};
 ghost use Rattle.fleet_model.specs.State.{State};
 ghost use Rattle.book.specs.Flips.{TellsStepIfKnown};
 ghost use Rattle.book.specs.Gone.{is_gone, without_keys};
-ghost use Rattle.book.specs.Reads.{pairs_from};
 ghost use Rattle.book.specs.Verdicts.{AreHeld, ChangesTable};
 
 use crate::gone::{Gone, forget};
 use crate::machine::Machine;
 use crate::verdicts::{Verdicts, has_filter};
-use crossing::Meter;
 use standing_filters::Flips;
 
 impl Verdicts {
-    /// Keys of a table are gone. Given-up verdicts are made anew, if a filter is of the table;
-    /// answers whether they were.
-    pub(crate) fn clear(
-        &mut self,
-        machine: &Machine,
-        table: usize,
-        gone: &Gone,
-        meter: &mut Meter,
-        flips: &mut Flips,
-    ) -> bool
-        requires sound { IsSound machine.now }
-        ensures held { (state : State) → ChangesTable table state machine.now
-            → machine.now.rows ≡ without_keys table (is_gone gone.now) state.rows
-            → AreHeld state self.old.standing → AreHeld machine.now self.new.standing }
-        ensures few { result ≡ false → meter.new.evals ≡ meter.old.evals }
-        ensures anew { result ≡ true
-            → meter.new.evals ≤ meter.old.evals + 505 * pairs_from machine.now 0 }
-        ensures given_up { result ≡ true → self.old.standing ≡ None }
-        ensures flips { (state : State) → IsSound state → ChangesTable table state machine.now
-            → machine.now.rows ≡ without_keys table (is_gone gone.now) state.rows
-            → AreHeld state self.old.standing
-            → TellsStepIfKnown state machine.now flips.old flips.new }
-    {
-        if self.standing.is_none() && has_filter(machine.config.filters.as_slice(), table) {
-            flips.lose();
-            self.renew(machine, meter);
-            return true;
-        }
-        self.forget(machine, table, gone, flips);
-        false
-    }
-
     /// Keys of a table are gone: its filters hold them no more. Reads no value and takes no memory
     /// but for flips.
     pub(crate) fn forget(&mut self, machine: &Machine, table: usize, gone: &Gone, flips: &mut Flips)
@@ -63,10 +29,6 @@ impl Verdicts {
         if !has_filter(machine.config.filters.as_slice(), table) {
             return;
         }
-        let Some(standing) = &mut self.standing else {
-            flips.lose();
-            return;
-        };
-        forget(standing, table, gone, flips);
+        forget(&mut self.standing, table, gone, flips);
     }
 }

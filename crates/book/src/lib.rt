@@ -2,27 +2,28 @@
 //! gives, and its answers.
 //!
 //! Contracts see a book as `fleet_model`'s state, with the clauses of `plain_book`, which it is
-//! compared with. Inside, rows lie by table, key and peer in `peer_rows`, which looks at them
-//! before they end. For each ranked list bounds are kept on the values of its table's keys, and for
-//! each standing filter verdicts on them (`standing_filters`). An update is a search and a row
-//! replaced, and its key is judged by the filters of its table. Where more than four proxies hold
-//! the key, the most that its rows are ever worth lies with them, and of fewer a look at their rows
-//! tells it. For a filter that the key can't meet by that, and for a list's bound, no value is
-//! worked out. Whether a key meets a bound is asked of no more rows than it takes (`values`), and
-//! when its rows come to nothing one pass over them tells (`nothing`). A moment looks at what is
-//! due and no more: rows that end, and verdicts that change. A filter's keys and its next change
-//! are read off its verdicts, and a list looks at the keys of which a bound isn't below what it
-//! gives. Users are the fleet, the hub and the commands.
+//! compared with; but `filter_keys` and `next_change` are never refused. Inside, rows lie by table,
+//! key and peer in `peer_rows`, which looks at them before they end. For each ranked list bounds
+//! are kept on the values of its table's keys, and for each standing filter verdicts on them
+//! (`standing_filters`). An update is a search and a row replaced, and its key is judged by the
+//! filters of its table. Where more than four proxies hold the key, the most that its rows are ever
+//! worth lies with them, and of fewer a look at their rows tells it. For a filter that the key
+//! can't meet by that, and for a list's bound, no value is worked out. Whether a key meets a bound
+//! is asked of no more rows than it takes (`values`), and when its rows come to nothing one pass
+//! over them tells (`nothing`). A moment looks at what is due and no more: rows that end, and
+//! verdicts that change. A filter's keys and its next change are read off its verdicts, and a list
+//! looks at the keys of which a bound isn't below what it gives. Users are the fleet, the hub and
+//! the commands.
 //!
-//! No event fails for want of a verdict's memory. Verdicts are given up where memory for them is
-//! refused, all at once; from then on a filter's keys and its next change are found by judging each
-//! key of its table. The verdicts are made anew as a filter is added, by a clear of more than one
-//! key, or by a moment at which a key's last row ended. Where they are kept a clear takes those on
-//! its keys away and judges none (`forgetting`).
+//! Verdicts are never given up: the book's invariant says so (`IsBook`), and no public clause. What
+//! an event takes for them is made before it is applied (`preparing`): room to judge an update's
+//! key, and the verdicts of an added filter. Where memory for it is refused, so is the whole event.
+//! Behind that only plans and flips take memory, and may be lost. A clear takes the verdicts on its
+//! keys away and judges none (`forgetting`).
 //!
 //! `Book::step_at` says how many values an event read (`specs/Reads.antt`). It is none where
 //! nothing changes by it or keys are cleared, and else at most 505 for each pair of a filter and a
-//! key that it concerns. That verdicts are kept while there is memory for them, no clause says.
+//! key that it concerns.
 //!
 //! `Book::step_run` takes a seat's events as one: what updates of one peer that follow each other
 //! have in common is looked up once, and the seat is counted up once behind them (`runs`). So is,
@@ -32,8 +33,8 @@
 //!
 //! `Book::step_telling` and `step_run` tell by `Flips` which keys come into the filters' sets and
 //! which leave them, so that who keeps copies of the sets needn't list them anew. That isn't known
-//! where filters come or go, where a filter's table is cleared whole, while verdicts are given up,
-//! and where an allocation for it failed.
+//! where filters come or go, where a filter's table is cleared whole, and where an allocation for
+//! it failed.
 //!
 //! `Taken` says whether an event is an update that a full table doesn't take. A book counts these
 //! by table and peer, beside what contracts see of it. So what `Book::dropped` answers, tests show.
@@ -62,12 +63,12 @@ mod named;
 mod next;
 mod nothing;
 mod one_key;
+mod preparing;
 mod puts;
 mod queries;
 mod ranking;
 mod row;
 mod runs;
-mod sets;
 mod store;
 mod table_use;
 mod taking;
@@ -81,4 +82,4 @@ pub use listing::BookRows;
 pub use named::keys_named;
 pub use peer_rows::Spot;
 pub use ranking::Ranked;
-pub use standing_filters::{Flip, Flips};
+pub use standing_filters::{Flip, Flips, Keys};

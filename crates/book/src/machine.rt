@@ -3,14 +3,13 @@
 ghost use Rattle.std.specs.Prelude.{◌≡◌, ◌<◌, ◌≤◌, ◌&&◌, ◌==◌, length};
 ghost use Rattle.std.specs.Prelude.{not, if◌then◌else◌, false, filter, IfOk, OnOk, OnErr};
 ghost use Rattle.agg_types.specs.declared.limits.TheConstants.{LAST_MOMENT};
-ghost use Rattle.fleet_model.specs.Answers.{filter_of};
+ghost use Rattle.fleet_model.specs.Filters.{is_new};
 ghost use Rattle.fleet_model.specs.Keys.{key_rows, sum_of};
 ghost use Rattle.fleet_model.specs.Machine.{opened, with_row};
 ghost use Rattle.fleet_model.specs.Rows.{arrival_of, has_room, held_rows};
 ghost use Rattle.fleet_model.specs.Seats.{is_number};
 ghost use Rattle.fleet_model.specs.Values.{cols_of, selects};
 ghost use Rattle.book.specs.Gone.{is_gone, without_keys};
-ghost use Rattle.book.specs.Verdicts.{keys_in};
 ghost use Rattle.book.specs.declared.gone.Gone.TheVariants.{Nothing};
 ghost use Rattle.book.specs.Leading.{AreLed};
 ghost use Rattle.book.specs.Listing.{ListsMeeting};
@@ -25,9 +24,9 @@ use crate::leaders::put_led;
 use crate::listing::{BookRows, meeting};
 use crate::queries;
 use crate::store::{Size, Store};
-use agg_types::{Cell, Cond, Config, Filter, Key, NoMemory, Select};
+use agg_types::{Cell, Cond, Config, Filter, Key, MOST_FILTERS, NoMemory, Select};
 use book_frame::seats::{Seats, Sessions, is_number};
-use book_frame::standing::{cols_of, filter_at};
+use book_frame::standing::cols_of;
 use fleet_model::Summed;
 use peer_rows::Spot;
 use ranked::Leaders;
@@ -171,17 +170,6 @@ impl Machine {
         self.rows.used(table)
     }
 
-    /// How many keys of all tables have a row. The count stays at its greatest number.
-    pub(crate) fn keys_used(&self) -> u64
-        ensures { result ≡ keys_in self.now.rows (length self.now.config.tables) }
-    {
-        let mut used = 0u64;
-        for table in 0..self.config.tables.len() {
-            used = used.saturating_add(self.used(table) as u64);
-        }
-        used
-    }
-
     /// How many rows a peer holds of a table.
     pub(crate) fn rows_held(&self, table: usize, peer: usize) -> usize
         requires table_in { table < length self.now.config.tables }
@@ -214,12 +202,12 @@ impl Machine {
         meeting(alloc, &self.rows, cols, table, conds, self.moment)
     }
 
-    /// The standing filter at a position.
-    pub(crate) fn filter_at(&self, position: usize) -> &Filter
-        requires { position < length self.now.config.filters }
-        ensures { result.now ≡ filter_of self.now position }
+    /// Whether a filter is taken as it is added: fewer stand than may, and none has its name.
+    pub(crate) fn takes(&self, filter: &Filter) -> bool
+        ensures { result ≡ is_new self.now.config.filters filter.now }
     {
-        filter_at(self.config.filters.as_slice(), position)
+        let filters = &self.config.filters;
+        filters.len() < MOST_FILTERS && !filters.contains(filter.name.as_slice())
     }
 }
 

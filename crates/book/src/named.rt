@@ -14,6 +14,6 @@ pub fn keys_named<'a>(alloc: Global, book: &'a Book, name: &[u8]) -> Result<Vec<
 {
     match book.config().filters.position(name) {
         None => Ok(Vec::new(alloc)),
-        Some(filter) => book.filter_keys(alloc, filter),
+        Some(filter) => book.filter_keys(filter).into_vec(alloc),
     }
 }

@@ -231,7 +231,8 @@ pub(crate) fn note(hints: &mut Vec<Option<Spot>>, place: usize, spot: Option<Spo
     }
 }
 
-// Takes an update of a turn: its row is put and its key judged. Nothing has changed after NoMemory.
+// Takes an update of a turn: room is made to judge its key, its row is put, and the key judged.
+// Nothing has changed after NoMemory.
 #[inline(always)]
 fn take_one(
     machine: &mut Machine,
@@ -256,6 +257,7 @@ fn take_one(
         (TellsStepIfKnown machine.old machine.new flips.old flips.new) }
     ensures flips_err { OnErr result (flips.new ≡ flips.old) }
 {
+    verdicts.prepare_update(machine, table_use, what)?;
     let applied = machine.put_lent(turn, table_use, what, hint)?;
     verdicts.follow_update(machine, table_use, what, applied.spot, flips);
     drops.note(what, applied.dropped);

@@ -1,6 +1,6 @@
 //! What an event makes of the machine.
 
-ghost use Rattle.std.specs.Prelude.{◌≡◌, ◌&&◌, false, IsTrue, IfOk, IsOk};
+ghost use Rattle.std.specs.Prelude.{◌≡◌, ◌&&◌, true, IsTrue, IfOk, IsOk};
 ghost use Rattle.std.specs.Prelude.{OnErr, OnOk, nat_lt};
 ghost use Rattle.agg_types.specs.Whats.{as_what};
 ghost use Rattle.agg_types.specs.declared.event.What.TheVariants.{Leave};
@@ -80,8 +80,8 @@ impl Machine {
         is_number(seats::number_of(&self.seats, seat), seq) && seq < NUMBERS_END
     }
 
-    // Whether an event counts, and then that it is of peers and tables that there are.
-    fn is_due(&self, seat: u64, seq: u64, what: LentWhat<'_>) -> bool
+    /// Whether an event counts, and then that it is of peers and tables that there are.
+    pub(crate) fn is_due(&self, seat: u64, seq: u64, what: LentWhat<'_>) -> bool
         ensures exact { result ≡ counts_now self.now (event_of seat seq (as_what what.entry)) }
         ensures sits { IsTrue result
             → IsDue (as_what what.entry) seat seq (number_of self.now seat) }
@@ -90,8 +90,8 @@ impl Machine {
         self.counts(seat, seq, what)
     }
 
-    // One event, as the machine of one event says, whatever the hint; nothing has changed after
-    // NoMemory.
+    /// One event that counts, as the machine of one event says, whatever the hint; nothing has
+    /// changed after `NoMemory`.
     #[tactic(auto, unfolding(crate::specs::Dropped::is_dropped, fleet_model::specs::Machine::after))]
     pub(crate) fn apply(
         &mut self,
@@ -100,6 +100,9 @@ impl Machine {
         what: LentWhat<'_>,
         hint: Option<Spot>,
     ) -> Result<Outcome, NoMemory>
+        requires counts { counts_now self.old (event_of seat seq (as_what what)) ≡ true }
+        requires sits { IsDue (as_what what) seat seq (number_of self.old seat) }
+        requires fits { FitsPlace self.old.config (as_what what) }
         ensures ok { OnOk result
             (self.new ≡ after self.old (event_of seat seq (as_what what.entry))) }
         ensures dropped { IfOk result (λ outcome. outcome.applied.dropped
@@ -108,12 +111,7 @@ impl Machine {
             (is_gone outcome.gone) self.old.rows self.new.rows) }
         ensures err { OnErr result (self.new ≡ self.old) }
         ensures leaving { as_what what.entry ≡ Leave → IsOk result }
-        ensures uncounted { counts_now self.old (event_of seat seq (as_what what.entry)) ≡ false
-            → IsOk result }
     {
-        if !self.is_due(seat, seq, what) {
-            return Ok(Outcome::unseen());
-        }
         match what {
             LentWhat::Put {
                 peer,

@@ -1,14 +1,15 @@
 //! The judging of a key whose rows may have changed.
 
-ghost use Rattle.std.specs.Prelude.{◌+◌, ◌*◌, ◌≤◌};
+ghost use Rattle.std.specs.Prelude.{◌≡◌, ◌+◌, ◌*◌, ◌≤◌, true};
 ghost use Rattle.agg_types.specs.Whats.{as_what};
 ghost use Rattle.fleet_model.specs.Sound.{IsSound};
 ghost use Rattle.fleet_model.specs.State.{State};
+ghost use Rattle.standing_filters.specs.Watched.{IsReady};
 ghost use Rattle.book.specs.Flips.{TellsStepIfKnown};
 ghost use Rattle.book.specs.Reads.{filters_at};
 ghost use Rattle.book.specs.Runs.{IsLentInto};
-ghost use Rattle.book.specs.Uses.{IsUseOf};
-ghost use Rattle.book.specs.Verdicts.{AreHeld, ChangesKey, Follows};
+ghost use Rattle.book.specs.Uses.{IsUseOf, has_filter};
+ghost use Rattle.book.specs.Verdicts.{AreHeld, ChangesKey, Follows, HasRoomFor};
 
 use crate::machine::Machine;
 use crate::one_key::OneKey;
@@ -20,7 +21,8 @@ use peer_rows::Spot;
 use standing_filters::Flips;
 
 impl Verdicts {
-    /// The rows of a key may have changed: the filters of its table judge it.
+    /// The rows of a key may have changed: the filters of its table judge it, for which there is
+    /// room.
     pub(crate) fn touch(
         &mut self,
         machine: &Machine,
@@ -31,6 +33,8 @@ impl Verdicts {
         flips: &mut Flips,
     )
         requires sound { IsSound machine.now }
+        requires room { has_filter machine.now.config table ≡ true
+            → IsReady table key.now self.old.standing }
         ensures held { (state : State) → ChangesKey table key.now state machine.now
             → AreHeld state self.old.standing → AreHeld machine.now self.new.standing }
         ensures few { (state : State) → AreHeld state self.old.standing
@@ -45,7 +49,8 @@ impl Verdicts {
         self.judge(machine, table, key, spot, meter, flips);
     }
 
-    /// An update was put, of a table on which this stands: where no filter does, nothing is judged.
+    /// An update was put, of a table on which this stands and for whose judgement there is room:
+    /// where no filter does, nothing is judged.
     #[inline]
     pub(crate) fn follow_update(
         &mut self,
@@ -58,6 +63,7 @@ impl Verdicts {
         requires sound { IsSound machine.now }
         requires found { IsUseOf machine.now.config table_use }
         requires lent { IsLentInto table_use.table what }
+        requires room { HasRoomFor (as_what what) machine.now.config self.old.standing }
         ensures held { (state : State) → Follows (as_what what.entry) state machine.now
             → AreHeld state self.old.standing → AreHeld machine.now self.new.standing }
         ensures flips { (state : State) → IsSound state
@@ -85,6 +91,7 @@ impl Verdicts {
         flips: &mut Flips,
     )
         requires sound { IsSound machine.now }
+        requires room { IsReady table key.now self.old.standing }
         ensures held { (state : State) → ChangesKey table key.now state machine.now
             → AreHeld state self.old.standing → AreHeld machine.now self.new.standing }
         ensures few { (state : State) → AreHeld state self.old.standing
@@ -94,18 +101,14 @@ impl Verdicts {
             → TellsStepIfKnown state machine.now flips.old flips.new }
     {
         standing_filters::laws::touch_keeps_verdicts();
-        let Some(standing) = &mut self.standing else {
-            flips.lose();
-            return;
-        };
         let values = OneKey::new(machine, spot, table, key);
         let hint = spot.map(Spot::place);
-        if standing
-            .touch_near(hint, table, key, &values, machine.moment, meter, flips)
-            .is_err()
-        {
-            self.standing = None;
-            flips.lose();
-        }
+        let now = machine.moment;
+        let touched = self
+            .standing
+            .touch_near(hint, table, key, &values, now, meter, flips);
+        let Ok(()) = touched else {
+            unreachable!();
+        };
     }
 }

@@ -7,7 +7,7 @@ ghost use Rattle.agg_types.specs.Col.{same_col};
 ghost use Rattle.agg_types.specs.Op.{op_holds};
 ghost use Rattle.agg_types.specs.declared.column.Col.{Col as ColName};
 ghost use Rattle.fleet_model.specs.Keys.{Rows, key_rows, row_worth, worth_of};
-ghost use Rattle.fleet_model.specs.Values.{cell_worth, column_worth, meets, value};
+ghost use Rattle.fleet_model.specs.Values.{cell_worth, column_worth, value};
 ghost use Rattle.book.specs.Placed.{found_in};
 ghost use Rattle.book.specs.Shown.{as_arrival, cell_of, found_worth, rows_worth};
 ghost use Rattle.book.specs.Store.{AreFound};
@@ -233,23 +233,6 @@ pub fn value(store: &Store, cols: &[(Col, u32)], table: usize, key: &Key, col: C
 {
     fleet_model::laws::keys::a_key_answers_by_its_rows();
     found_worth(store.of_key(table, key).as_ref(), cols, col, t)
-}
-
-/// Whether all conditions hold of a key's values at a moment: one search, and then its rows for
-/// each condition.
-#[tactic(auto, unfolding(fleet_model::specs::Values::meets))]
-pub fn meets(
-    store: &Store,
-    cols: &[(Col, u32)],
-    table: usize,
-    key: &Key,
-    t: u64,
-    conds: &[Cond],
-) -> bool
-    ensures { result ≡ meets cols.now store.now.rows table key.now t conds.now }
-{
-    fleet_model::laws::keys::a_key_answers_by_its_rows();
-    found_meets(store.of_key(table, key).as_ref(), cols, t, conds)
 }
 
 /// Whether all conditions hold of what the rows of the key that were found sum up to.

@@ -118,7 +118,7 @@ fn append_asked(
         Question::Table { table, sel } => append_table(alloc, book, *table, sel, out),
         Question::FilterKeys(filter) => append_filter(alloc, book, *filter, out),
         Question::Ranking(rank) => append_rank(alloc, book, *rank, out),
-        Question::NextChange(filter) => append_next(alloc, book, readers, *filter, out),
+        Question::NextChange(filter) => append_next(book, readers, *filter, out),
     }
 }
 
@@ -242,7 +242,7 @@ fn append_filter(
     ensures begins { take (length out.old.items) out.new.items ≡ out.old.items }
 {
     let standing = filter_at(book, filter);
-    let keys = book.filter_keys(alloc, filter)?;
+    let keys = book.filter_keys(filter).into_vec(alloc)?;
     append_held(
         standing,
         shape_of(book, standing.table),
@@ -264,7 +264,6 @@ fn append_rank(alloc: Global, book: &Book, rank: usize, out: &mut Vec<u8>) -> Re
 }
 
 fn append_next(
-    alloc: Global,
     book: &Book,
     readers: Readers,
     filter: usize,
@@ -276,7 +275,7 @@ fn append_next(
     ensures begins { take (length out.old.items) out.new.items ≡ out.old.items }
 {
     let standing = filter_at(book, filter);
-    let t = book.next_change(alloc, filter)?;
+    let t = book.next_change(filter);
     let shape = shape_of(book, standing.table);
     match readers {
         Readers::Scripts => append_change(standing, shape, t, out),

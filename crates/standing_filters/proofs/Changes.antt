@@ -53,7 +53,8 @@ changes_exact (x ∷ kept) sorted e =
     (changes_exact kept (sorted_tail (slice_cmp nat_cmp) x.0 (keys_of kept) sorted) e)
   where
     none : at_key e.1 x.0 ≡ true → verdict_at kept e.1 ≡ out
-    none same = ap (λ o. unwrap_or o out) (ap (λ k. lookup (at_key k) kept) (same_if_at e.1 x.0 same)
+    none same = ap (λ o. unwrap_or o out) (ap (λ k. lookup (at_key k) kept)
+        (same_if_at e.1 x.0 same)
         ∙ lookup-above (slice_cmp nat_cmp) x.0 kept
         (above_first (slice_cmp nat_cmp) x.0 kept sorted))
 

@@ -9,6 +9,9 @@ pub mod OneByOne
 pub mod Walking
 pub mod Removed
 pub mod Placing
+pub mod Ordered
+pub mod Readying
+pub mod Lent
 pub mod Marking
 pub mod Forgotten
 pub mod Settling

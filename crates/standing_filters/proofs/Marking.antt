@@ -1,13 +1,13 @@
 -- Marks of hashes, as keys come to places and leave them.
-use Rattle.std.proofs.Common.{◌≡◌, ◌≤◌, ◌<◌, ℕ, Bool, true, List, length, Some, None, refl, sym, ap}
-use Rattle.std.proofs.Common.{◌∙◌, subst, inl, inr, arith}
+use Rattle.std.proofs.Common.{◌≡◌, ◌≤◌, ℕ, Bool, true, List, length, Some}
+use Rattle.std.proofs.Common.{None, Ok, Result, sym, ap}
+use Rattle.std.proofs.Common.{◌∙◌, subst, inl, inr}
 use Rattle.std.proofs.lemmas.Bool.{cases_eq}
-use Rattle.std.proofs.lemmas.List.{get_or-set_other, get_or_past}
-use Rattle.std.proofs.lemmas.Option.{none-some, same_Some}
-use Rattle.std.specs.Prelude.{slice_set}
+use Rattle.std.proofs.lemmas.Option.{same_Some}
+use Rattle.std.specs.Prelude.{IfOk}
 use Rattle.place_index.specs.Hash.{hash_of_bytes}
 use Rattle.place_index.specs.Places.{key_at, laid, revalued}
-use Rattle.place_index.proofs.Leading.{emptied_same, key_at-revalued, laid_other, laid_same}
+use Rattle.place_index.proofs.Leading.{key_at-revalued, laid_other, laid_same}
 use Rattle.standing_filters.specs.Marked.{AreMarked, is_marked}
 use Rattle.standing_filters.specs.Placed.{VerdictPlaces}
 use Rattle.standing_filters.specs.declared.judging.Verdict.{Verdict}
@@ -37,8 +37,7 @@ pub marked_revalued : (marks : List Bool) (places : VerdictPlaces) (at : ℕ) (v
 marked_revalued marks places at verdict are =
     λ p k own. are p k (sym (key_at-revalued places at verdict p) ∙ own)
 
--- no key lies behind the last place
-pub no_key_past : (places : VerdictPlaces) (p : ℕ) (key : List ℕ) → length places ≤ p
-    → key_at places p ≡ Some key → ⊥
-no_key_past places p key past own =
-    none-some key (sym (ap key_of (get_or_past places p None past)) ∙ own)
+-- what an answer that is there fulfils
+pub if_ok_at : {A E : Type 0} (P : A → Type 0) (result : Result A E) (answer : A)
+    → result ≡ Ok answer → IfOk result P → P answer
+if_ok_at P result answer is fulfils = subst (λ r. IfOk r P) is fulfils

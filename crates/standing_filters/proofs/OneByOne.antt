@@ -1,5 +1,6 @@
 -- The clock goes on under one filter: keys whose changes have come are judged, one by one.
-use Rattle.std.proofs.Common.{◌≡◌, ◌≢◌, ℕ, ◌+◌, ◌*◌, ◌<◌, ◌≤◌, ◌||◌, Bool, true, false, cond, List, []}
+use Rattle.std.proofs.Common.{◌≡◌, ◌≢◌, ℕ, ◌+◌, ◌*◌, ◌<◌, ◌≤◌, ◌||◌, Bool}
+use Rattle.std.proofs.Common.{true, false, cond, List, []}
 use Rattle.std.proofs.Common.{◌∷◌, Option, None, Some, length, refl, sym, ap, ◌∙◌, subst, arith}
 use Rattle.std.proofs.Common.{⊎_elim, inl, inr}
 use Rattle.std.specs.Prelude.{slice_set, sum_by}
@@ -13,7 +14,7 @@ use Rattle.crossing.specs.First.{IsFirstFrom}
 use Rattle.place_index.specs.Places.{in_order, item_at, key_at}
 use Rattle.standing_filters.specs.Placed.{IsSetAt, VerdictPlaces, change_in, verdict_in}
 use Rattle.standing_filters.specs.Plans.{IsWatchBut, Watching, view_of_watch}
-use Rattle.standing_filters.specs.Turns.{AreDue, IsQuiet, IsReadFor, IsTurned, has_come, is_due}
+use Rattle.standing_filters.specs.Turns.{AreDue, IsQuiet, IsTurned, has_come, is_due}
 use Rattle.standing_filters.specs.Turns.{same_key}
 use Rattle.standing_filters.specs.Verdicts.{IsVerdict, holds_at}
 use Rattle.standing_filters.specs.Watched.{IsTouched, Watched, is_among, verdict_at}
@@ -129,7 +130,8 @@ module _ (summed : ℕ → List ℕ → Col → ℕ → ℕ) (living : ℕ → L
       (few : flat → after ≤ between + 505) where
     unjudged : (b : Bool) → is_among so.keys key ≡ b → b ≡ false
     unjudged true there = absurd (false≢true (sym
-        (judged_later summed living old.filter t key (verdict_at mid.kept key) (so.judged key there))
+        (judged_later summed living old.filter t key (verdict_at mid.kept key)
+        (so.judged key there))
         ∙ due))
     unjudged false none = refl
 
@@ -200,9 +202,6 @@ module _ (summed : ℕ → List ℕ → Col → ℕ → ℕ) (living : ℕ → L
         others key true there stays = absurd (false≢true (sym stays
             ∙ among_due t old so.keys so.due.due key there))
         others key false none stays = so.others key none
-
-    pub so_read : flat → IsReadFor t old before after
-    so_read f = record { keys = so.keys; due = so.due; few = so.few f }
 
 -- a place is judged whose verdict was due
 pub turned_place : (summed : ℕ → List ℕ → Col → ℕ → ℕ) (living : ℕ → List ℕ → ℕ → ℕ) (t : ℕ)

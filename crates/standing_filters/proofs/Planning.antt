@@ -12,7 +12,7 @@ use Rattle.place_index.specs.Places.{item_at, key_at, in_order, AreDistinct}
 use Rattle.place_index.proofs.Ordered.{at_key, found, lookup-held, lookup-in_order, same_if_at}
 use Rattle.place_index.proofs.Ordered.{value_of_item}
 use Rattle.place_plans.specs.Plans.{plan_at}
-use Rattle.standing_filters.specs.Placed.{AreAlike, AreAlikeBut, VerdictPlaces, change_in}
+use Rattle.standing_filters.specs.Placed.{AreAlikeBut, VerdictPlaces, change_in}
 use Rattle.standing_filters.specs.Placed.{earlier_of, verdict_in}
 use Rattle.standing_filters.specs.Plans.{ArePlanned, IsFirstOf, IsPlanned, IsWatch, IsWatchBut}
 use Rattle.standing_filters.specs.Plans.{Planning, Watching}
@@ -62,16 +62,6 @@ watch_planned old new watch same places planned = record {
   few = subst (λ f. length f.conds ≤ MOST_CONDS) (sym same) watch.few;
   distinct = subst (λ (l : VerdictPlaces). AreDistinct l) (sym places) watch.distinct;
   planned = planned;
-}
-
-pub watch_alike : (old new : Watching) → IsWatch old → new.filter ≡ old.filter
-    → AreAlike old.places new.places → new.plans ≡ old.plans → IsWatch new
-watch_alike old new watch same alike plans = record {
-  few = subst (λ f. length f.conds ≤ MOST_CONDS) (sym same) watch.few;
-  distinct = λ p q key one other. watch.distinct p q key (ap key_of (sym (alike p)) ∙ one)
-      (ap key_of (sym (alike q)) ∙ other);
-  planned = subst (λ (plans : Planning). ArePlanned new.places plans) (sym plans)
-      (λ known p. watch.planned known p ∙ sym (ap change_of (alike p)));
 }
 
 -- ---- keys and their places

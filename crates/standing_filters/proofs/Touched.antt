@@ -1,22 +1,17 @@
 -- What a touch of one filter makes of it.
-use Rattle.std.proofs.Common.{◌≡◌, ◌≢◌, ◌==◌, ◌||◌, ℕ, Bool, true, false, cond, List, [], ◌∷◌}
+use Rattle.std.proofs.Common.{◌≡◌, ◌≢◌, ℕ, Bool, true, false, cond, List}
 use Rattle.std.proofs.Common.{None, Some}
-use Rattle.std.proofs.Common.{is_some, refl, sym, ap, ◌∙◌, subst}
-use Rattle.std.specs.Prelude.{MatchBool, map, slice_set, unwrap_or}
-use Rattle.std.specs.List.{list_any}
-use Rattle.std.proofs.lemmas.Bool.{eq-eqb, false≢true}
+use Rattle.std.proofs.Common.{refl, sym, ap, ◌∙◌, subst}
+use Rattle.std.specs.Prelude.{unwrap_or}
 use Rattle.std.specs.BTreeMap.{is_at}
 use Rattle.std.specs.Cmp.Lexicographic.{slice_cmp}
 use Rattle.std.specs.Ordering.{nat_cmp}
 use Rattle.agg_types.specs.declared.column.Col.{Col}
-use Rattle.standing_filters.specs.Placed.{AreAlike, VerdictPlaces}
 use Rattle.standing_filters.specs.Plans.{Becomes, Watching, kept_at, kept_by, view_of_watch}
 use Rattle.standing_filters.specs.Verdicts.{IsVerdict, out}
-use Rattle.standing_filters.specs.Watched.{AreTouched, IsTouched, verdict_at}
+use Rattle.standing_filters.specs.Watched.{IsTouched, verdict_at}
 use Rattle.standing_filters.specs.declared.judging.Verdict.{Verdict}
-use Rattle.standing_filters.specs.declared.watch.Room.{Room}
 use Rattle.place_index.proofs.Ordered.{is_itself, same_if_at}
-use Rattle.standing_filters.proofs.Placing.{alike_order}
 
 abbrev KeyVerdicts : Type 0
 KeyVerdicts = List (List ℕ × Verdict)
@@ -39,7 +34,8 @@ stays_there key verdict old new becomes q other = becomes q
 pub touched : (summed : ℕ → List ℕ → Col → ℕ → ℕ) (living : ℕ → List ℕ → ℕ → ℕ) (table : ℕ)
     (key : List ℕ) (now : ℕ) (old new : Watching) (verdict : Verdict)
     → old.filter.table ≡ table → new.filter ≡ old.filter
-    → IsVerdict summed living old.filter now key verdict → Becomes key verdict (kept_by old) (kept_by new)
+    → IsVerdict summed living old.filter now key verdict → Becomes key verdict (kept_by old)
+    (kept_by new)
     → IsTouched summed living table key now (view_of_watch old) (view_of_watch new)
 touched summed living table key now old new verdict of same judged becomes = record {
   filter = same;
@@ -71,37 +67,6 @@ untouched summed living table key now w apart = record {
   elsewhere = λ _. refl;
 }
 
--- filters of other tables are what they were
-pub others_untouched : (summed : ℕ → List ℕ → Col → ℕ → ℕ) (living : ℕ → List ℕ → ℕ → ℕ)
-    (table : ℕ) (key : List ℕ) (now : ℕ) (watches : List Watching)
-    → list_any (λ w. w.filter.table == table) watches ≡ false
-    → AreTouched summed living table key now (map view_of_watch watches) (map view_of_watch watches)
-others_untouched summed living table key now [] none = tt
-others_untouched summed living table key now (w ∷ watches) none =
-    by (w.filter.table == table) refl none
-    (others_untouched summed living table key now watches)
-  where
-    by : (b : Bool) → (w.filter.table == table) ≡ b
-        → (b || list_any (λ w. w.filter.table == table) watches) ≡ false
-        → (list_any (λ w. w.filter.table == table) watches ≡ false
-        → AreTouched summed living table key now (map view_of_watch watches)
-        (map view_of_watch watches))
-        → AreTouched summed living table key now (map view_of_watch (w ∷ watches))
-        (map view_of_watch (w ∷ watches))
-    by true is any rest = cc
-    by false is any rest = (
-      untouched summed living table key now w
-          (λ of. false≢true (sym is ∙ eq-eqb w.filter.table table of)),
-      rest any,
-    )
-
--- where the verdicts were made room for before
-pub becomes_after : (key : List ℕ) (verdict : Verdict) (old roomed new : KeyVerdicts)
-    → ((q : List ℕ) → verdict_at roomed q ≡ verdict_at old q) → Becomes key verdict roomed new
-    → Becomes key verdict old new
-becomes_after key verdict old roomed new same becomes q = becomes q
-    ∙ ap (λ v. cond (is_at (slice_cmp nat_cmp key) q) verdict v) (same q)
-
 -- a key on which no verdict is kept is out already
 pub becomes_none : (key : List ℕ) (kept : KeyVerdicts) → kept_at kept key ≡ None
     → Becomes key out kept kept
@@ -112,29 +77,3 @@ becomes_none key kept none q = by (is_at (slice_cmp nat_cmp key) q) refl
     by true same = ap (verdict_at kept) (sym (same_if_at key q same))
         ∙ ap (λ found. unwrap_or found out) none
     by false apart = refl
-
--- room for a verdict changes none
-pub room_same : (key : List ℕ) (kept new : KeyVerdicts) → kept_at kept key ≡ None
-    → Becomes key out kept new → (q : List ℕ) → verdict_at new q ≡ verdict_at kept q
-room_same key kept new none becomes q = becomes q ∙ sym (becomes_none key kept none q)
-
-pub view_stays : (old new : Watching) → new.filter ≡ old.filter → kept_by new ≡ kept_by old
-    → view_of_watch new ≡ view_of_watch old
-view_stays old new same kept = λ i. record { filter = same i; kept = kept i }
-
--- room is given back
-pub room_back : (room : Room) (old prepared new : Watching)
-    → MatchBool (is_some room.old) (AreAlike old.places prepared.places)
-    (AreAlike old.places (slice_set prepared.places room.at None))
-    → new.places ≡ cond (is_some room.old) prepared.places (slice_set prepared.places room.at None)
-    → kept_by new ≡ kept_by old
-room_back room old prepared new alike back = by (is_some room.old) alike back
-  where
-    by : (b : Bool) → MatchBool b (AreAlike old.places prepared.places)
-        (AreAlike old.places (slice_set prepared.places room.at None))
-        → new.places ≡ cond b prepared.places (slice_set prepared.places room.at None)
-        → kept_by new ≡ kept_by old
-    by true alike back = alike_order old.places new.places
-        (subst (λ (l : VerdictPlaces). AreAlike old.places l) (sym back) alike)
-    by false alike back = alike_order old.places new.places
-        (subst (λ (l : VerdictPlaces). AreAlike old.places l) (sym back) alike)

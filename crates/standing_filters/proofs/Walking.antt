@@ -1,8 +1,8 @@
 -- Keys whose verdicts change up to a moment, and what is read for them.
 use Rattle.std.proofs.Common.{◌≡◌, ℕ, ◌<◌, ◌≤◌, true, false, List, [], ◌∷◌, Option, None}
-use Rattle.std.proofs.Common.{Some, length, refl, sym, ap, ◌∙◌, subst, arith}
+use Rattle.std.proofs.Common.{Some, length, refl, sym, subst, arith}
 use Rattle.std.specs.Prelude.{map}
-use Rattle.std.proofs.lemmas.Bool.{false≢true, le-leb, leb-false, leb-true}
+use Rattle.std.proofs.lemmas.Bool.{false≢true, leb-false, leb-true}
 use Rattle.std.proofs.lemmas.List.Sums.{sum_by-cons}
 use Rattle.std.specs.List.{AllZip, IsDistinct}
 use Rattle.place_index.proofs.Ordered.{is_itself, same_if_at}
@@ -21,9 +21,6 @@ key_itself key = is_itself key
 pub due_moment : (t : ℕ) (o : Option ℕ) → has_come t o ≡ true → (u : ℕ) × (o ≡ Some u) × (u ≤ t)
 due_moment t None come = absurd (false≢true come)
 due_moment t (Some u) come = (u, refl, leb-true u t come)
-
-pub come_since : (t u : ℕ) (o : Option ℕ) → o ≡ Some u → u ≤ t → has_come t o ≡ true
-come_since t u o is come = ap (has_come t) is ∙ le-leb u t come
 
 pub not_come : (t u : ℕ) → has_come t (Some u) ≡ false → t < u
 not_come t u stays = leb-false u t stays

@@ -3,6 +3,7 @@ pub mod Laws
 pub mod Placed
 pub mod Marked
 pub mod Plans
+pub mod Ready
 pub mod Turns
 pub mod Verdicts
 pub mod Watched

@@ -4,9 +4,10 @@ use Rattle.place_index.specs.Hash.{hash_of_bytes}
 use Rattle.place_index.specs.Places.{key_at}
 use Rattle.standing_filters.specs.Placed.{VerdictPlaces}
 
--- verdicts that lie in places of an index
+-- verdicts that lie in places, and for how many further ones there is room
 pub record Marking : Type 0 where
   pub places : VerdictPlaces
+  pub room : ℕ
 
 -- whether a hash is marked: the mark is that of what is left of it
 abbrev pub is_marked : List Bool → ℕ → Bool

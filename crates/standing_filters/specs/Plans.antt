@@ -1,5 +1,6 @@
 -- Planned changes: for each place the moment at which the verdict in it changes next.
-use Rattle.std.specs.Prelude.{◌≡◌, ◌≢◌, ℕ, ◌≤◌, Bool, false, ◌&&◌, ◌==◌, if◌then◌else◌, List, [], ◌∷◌}
+use Rattle.std.specs.Prelude.{◌≡◌, ◌≢◌, ℕ, ◌≤◌, Bool, false, ◌&&◌, ◌==◌}
+use Rattle.std.specs.Prelude.{if◌then◌else◌, List, [], ◌∷◌}
 use Rattle.std.specs.Prelude.{Option, None, Some, length}
 use Rattle.std.specs.Borrow.{Bor}
 use Rattle.std.specs.BTreeMap.{is_at}
@@ -86,10 +87,11 @@ IsFirstOf moment (Some t) = ((p : ℕ) × (moment p ≡ Some t))
 
 -- ---- a filter with verdicts and plans
 
--- a filter, the verdicts on its keys, and when these change
+-- a filter, the verdicts on its keys, for how many more there is room, and when they change
 pub record Watching : Type 0 where
   pub filter : Filter
   pub places : VerdictPlaces
+  pub room : ℕ
   pub plans : Planning
 
 -- the verdicts in the order of the keys

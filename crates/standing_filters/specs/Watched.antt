@@ -1,13 +1,14 @@
 -- What contracts see of standing filters: each with the keys on which its verdict isn't `out`, in
 -- order, and their verdicts.
-use Rattle.std.specs.Prelude.{◌≡◌, ◌≢◌, ◌==◌, ◌&&◌, ℕ, ◌≤◌, Bool, List, [], Option, None}
-use Rattle.std.specs.Prelude.{Some, count_by, filter, if◌then◌else◌, map, slice_index_or}
+use Rattle.std.specs.Prelude.{◌≡◌, ◌≢◌, ◌==◌, ◌&&◌, ◌⊎◌, ℕ, ◌≤◌, Bool, true, List, [], Option}
+use Rattle.std.specs.Prelude.{None, Some, count_by, filter, if◌then◌else◌, map, slice_index_or}
 use Rattle.std.specs.Prelude.{unwrap_or}
 use Rattle.std.specs.BTreeMap.{is_at}
 use Rattle.std.specs.Cmp.Lexicographic.{slice_cmp}
 use Rattle.std.specs.List.{AllZip, list_any}
 use Rattle.std.specs.Map.{lookup}
 use Rattle.std.specs.Ordering.{nat_cmp}
+use Rattle.agg_types.specs.Key.{is_short}
 use Rattle.agg_types.specs.declared.column.Col.{Col}
 use Rattle.agg_types.specs.declared.config.Filter.{Filter}
 use Rattle.standing_filters.specs.Verdicts.{IsVerdict, out}
@@ -18,9 +19,18 @@ pub record Watched : Type 0 where
   pub filter : Filter
   pub kept : List (List ℕ × Verdict)
 
--- standing filters
+-- standing filters, and what is there for judgements to come
 pub record AllWatched : Type 0 where
   pub filters : List Watched
+  -- the table whose filters have room for a verdict, if there is one
+  pub ready : Option ℕ
+  -- the key of which there is a copy for each of them, if there is one
+  pub copied : Option (List ℕ)
+
+-- a judgement of a key is sure to have its memory: there is room for a verdict in each filter of
+-- its table, and a copy of the key for it, which a short one doesn't need
+abbrev pub IsReady : ℕ → List ℕ → AllWatched → Type 0
+IsReady table key s = (s.ready ≡ Some table) × ((is_short key ≡ true) ⊎ (s.copied ≡ Some key))
 
 -- how many of some filters are of a table
 abbrev pub filters_of : ℕ → List Watched → ℕ

@@ -7,6 +7,7 @@ ghost use Rattle.standing_filters.specs.Plans.{IsWatch, view_of_watch};
 ghost use Rattle.standing_filters.specs.Verdicts.{out};
 ghost use Rattle.standing_filters.specs.Watched.{IsTouched, unheld, verdict_at};
 
+use crate::touching::make_copies;
 use crate::watch::Watch;
 use agg_types::{Filter, Key, NoMemory};
 use crossing::{Meter, Values};
@@ -18,12 +19,19 @@ use std::marker::Model;
 /// Contracts see the filter with these verdicts.
 pub struct Adding {
     watch: Watch,
+    // Copies of the key that is judged.
+    copies: Vec<Key>,
+    alloc: Global,
 }
 
 // By hand, so that what drops it elsewhere proves nothing of its parts.
 impl Drop for Adding {
     fn drop(self) {
-        let Adding { watch: _ } = self;
+        let Adding {
+            watch: _,
+            copies: _,
+            alloc: _,
+        } = self;
     }
 }
 
@@ -39,13 +47,17 @@ impl Model for Adding {
 }
 
 impl Adding {
-    // A filter that has judged no key yet.
-    pub(crate) fn new(alloc: Global, filter: &Filter) -> Result<Adding, NoMemory>
+    // A filter that has judged no key yet, with room for verdicts on so many.
+    pub(crate) fn new(alloc: Global, filter: &Filter, keys: usize) -> Result<Adding, NoMemory>
         requires few { length filter.now.conds ≤ MOST_CONDS }
         ensures { IfOk result (λ adding. adding ≡ unheld filter.now) }
     {
+        let mut watch = Watch::new(alloc, filter.duplicate(alloc)?);
+        watch.reserve(keys)?;
         Ok(Adding {
-            watch: Watch::new(alloc, filter.duplicate(alloc)?),
+            watch,
+            copies: Vec::new(alloc),
+            alloc,
         })
     }
 
@@ -73,7 +85,9 @@ impl Adding {
         if verdict.is_out() {
             return Ok(());
         }
-        self.watch.change(None, key, verdict)?;
+        self.watch.reserve(0)?;
+        make_copies(&mut self.copies, self.alloc, key, 1)?;
+        self.watch.change(None, key, &mut self.copies, verdict);
         Ok(())
     }
 
@@ -82,7 +96,11 @@ impl Adding {
         ensures watch { IsWatch result }
         ensures view { view_of_watch result ≡ self }
     {
-        let Adding { watch } = self;
+        let Adding {
+            watch,
+            copies: _,
+            alloc: _,
+        } = self;
         watch
     }
 }

@@ -1,12 +1,13 @@
-ghost use Rattle.std.specs.Prelude.{◌≡◌, length};
+ghost use Rattle.std.specs.Prelude.{◌≡◌, IfOk, MatchOption, false, length, map, true};
 ghost use Rattle.std.specs.Iterator.{at_most};
 ghost use Rattle.std.specs.Map.Iter.{TakesFirst, deref};
-ghost use Rattle.standing_filters.specs.Placed.{verdict_in, verdicts_in};
+ghost use Rattle.standing_filters.specs.Placed.{rank_in, verdict_in, verdicts_in};
 ghost use Rattle.standing_filters.specs.Watched.{keys_held};
 
 use crate::marked::MarkedVerdicts;
-use agg_types::Key;
-use std::collections::btree_map::Iter;
+use agg_types::{Key, NoMemory};
+use place_order::Places;
+use std::alloc::Global;
 use std::marker::Model;
 
 /// Lends the keys that a standing filter holds, in order. Takes no memory.
@@ -14,8 +15,8 @@ use std::marker::Model;
 /// Contracts see the list of what it has left.
 #[derive(Drop)]
 pub struct Keys<'a> {
-    // The place of each key's verdict.
-    order: Iter<'a, Key, usize>,
+    // The places of the keys with verdicts.
+    order: Places<'a>,
     verdicts: &'a MarkedVerdicts,
 }
 
@@ -30,10 +31,21 @@ impl<'a> Model for Keys<'a> {
 }
 
 impl<'a> Keys<'a> {
-    pub(crate) fn new(order: Iter<'a, Key, usize>, verdicts: &'a MarkedVerdicts) -> Keys<'a>
+    pub(crate) fn new(order: Places<'a>, verdicts: &'a MarkedVerdicts) -> Keys<'a>
         ensures { result ≡ keys_held (verdicts_in verdicts.entry.now.places order.entry) }
     {
         Keys { order, verdicts }
+    }
+
+    /// The keys that are left, as a list. `NoMemory` where an allocation for it failed.
+    pub fn into_vec(self, alloc: Global) -> Result<Vec<&'a Key>, NoMemory>
+        ensures { IfOk result (λ keys. map (λ key. key.now) keys.items ≡ self.entry) }
+    {
+        let mut found = Vec::new(alloc);
+        for key in self {
+            found.push(key)?;
+        }
+        Ok(found)
     }
 }
 
@@ -45,8 +57,8 @@ impl<'a> Iterator for Keys<'a> {
     ghost remaining = { λ keys. at_most (length keys) };
 
     fn next(&mut self) -> Option<&'a Key> {
-        while let Some((key, at)) = self.order.next() {
-            if is_held(self.verdicts, *at) {
+        while let Some(at) = self.order.next() {
+            if let Some(key) = held_key(self.verdicts, at) {
                 return Some(key);
             }
         }
@@ -54,12 +66,15 @@ impl<'a> Iterator for Keys<'a> {
     }
 }
 
-// Whether the verdict in a place says that its key is held.
-fn is_held(verdicts: &MarkedVerdicts, at: usize) -> bool
-    ensures { result ≡ (verdict_in verdicts.now.places at).holds }
+// The key in a place, if the verdict there says that it is held.
+fn held_key(verdicts: &MarkedVerdicts, at: usize) -> Option<&Key>
+    ensures { MatchOption result ((verdict_in verdicts.now.places at).holds ≡ false)
+        (λ key. ((verdict_in verdicts.now.places at).holds ≡ true)
+        × (key.now ≡ rank_in verdicts.now.places at)) }
 {
-    match verdicts.value(at) {
-        Some(verdict) => verdict.holds,
-        None => false,
+    let verdict = verdicts.value(at)?;
+    if !verdict.holds {
+        return None;
     }
+    verdicts.key(at)
 }

@@ -1,10 +1,10 @@
 //! Verdicts in numbered places. Of most keys that have none that is known without a search.
 
 ghost use Rattle.std.specs.Prelude.{◌≡◌, ◌≤◌, ℕ, List, [], length, slice_set, Some, None, IfOk};
-ghost use Rattle.std.specs.Prelude.{IfSome, IfNone, OnErr, true};
-ghost use Rattle.std.specs.Option.{option_copied};
+ghost use Rattle.std.specs.Prelude.{◌<◌, ◌-◌, IfSome, IfNone, IsOk, OnErr, OnOk, true, unwrap_or};
+ghost use Rattle.std.specs.Option.{option_copied, option_map};
 ghost use Rattle.place_index.specs.Places.{item_at, key_at, value_at, laid, revalued};
-ghost use Rattle.place_index.specs.Places.{IsAbsent};
+ghost use Rattle.place_index.specs.Places.{AreDistinct, IsAbsent};
 ghost use Rattle.place_index.specs.Hash.{hash_of_bytes};
 ghost use Rattle.standing_filters.specs.Marked.{is_marked};
 
@@ -12,7 +12,9 @@ use crate::judging::Verdict;
 use crate::marks::Marks;
 use agg_types::{Key, NoMemory};
 use place_index::{IndexKey, PlaceIndex};
+use place_order::PlaceRanks;
 use std::alloc::Global;
+use std::cmp::Ordering;
 use std::marker::Model;
 
 /// With more verdicts than that most hashes are marked, and no mark is looked at.
@@ -24,7 +26,7 @@ const SHORT_WALK: usize = 65536;
 /// Verdicts on keys in numbered places, where the keys' hashes are marked: most filters hold few
 /// keys, and most keys that come have no verdict.
 ///
-/// Contracts see the list of the places.
+/// Contracts see the list of the places, and for how many further verdicts there is room.
 #[derive(Drop)]
 pub(crate) struct MarkedVerdicts {
     verdicts: PlaceIndex<Key, Verdict>,
@@ -38,15 +40,16 @@ impl Model for MarkedVerdicts {
 
     ghost Value = { Marking };
 
-    ghost view = { λ m. record { places = m.verdicts.places } };
+    ghost view = { λ m. record { places = m.verdicts.places; room = m.verdicts.room } };
 
     ghost invariant = { λ m. AreMarked m.marks m.verdicts.places };
 }
 
 impl MarkedVerdicts {
-    /// No verdicts. Takes no memory.
+    /// No verdicts, and room for none. Takes no memory.
     pub(crate) fn new(alloc: Global) -> MarkedVerdicts
-        ensures { result.places ≡ [] }
+        ensures places { result.places ≡ [] }
+        ensures room { result.room ≡ 0 }
     {
         MarkedVerdicts {
             verdicts: PlaceIndex::new(alloc),
@@ -105,38 +108,58 @@ impl MarkedVerdicts {
         self.verdicts.find(key)
     }
 
-    /// Lays a key that has no place down, and answers its place. After `NoMemory` nothing has
-    /// changed.
-    pub(crate) fn insert(&mut self, key: Key, verdict: Verdict) -> Result<usize, NoMemory>
-        requires { IsAbsent self.old.places key }
-        ensures bound { IfOk result (λ at. at ≤ length self.old.places) }
-        ensures empty { IfOk result (λ at. item_at self.old.places at ≡ None) }
-        ensures ok { IfOk result
-            (λ at. self.new.places ≡ laid self.old.places at (Some (key, verdict))) }
-        ensures err { OnErr result (self.new ≡ self.old) }
+    /// Makes room for so many further verdicts. After `NoMemory` there is room for as many as
+    /// before.
+    pub(crate) fn reserve(&mut self, keys: usize) -> Result<(), NoMemory>
+        ensures places { self.new.places ≡ self.old.places }
+        ensures ok { OnOk result (keys ≤ self.new.room) }
+        ensures room { self.old.room ≤ self.new.room }
+    {
+        self.verdicts.reserve(keys)
+    }
+
+    /// Lays a key that has no place down, and answers its place. Takes no memory.
+    pub(crate) fn insert(&mut self, key: Key, verdict: Verdict) -> usize
+        requires absent { IsAbsent self.old.places key }
+        requires room { 0 < self.old.room }
+        ensures bound { result ≤ length self.old.places }
+        ensures empty { item_at self.old.places result ≡ None }
+        ensures after { self.new.places ≡ laid self.old.places result (Some (key, verdict)) }
+        ensures room { self.new.room ≡ self.old.room - 1 }
+        ensures distinct { AreDistinct self.new.places }
     {
         self.marks.mark(key.hash_of());
-        let at = self.verdicts.insert(key, verdict)?;
-        Ok(at)
+        let at = self.verdicts.insert(key, verdict).unwrap();
+        // Its clause says that no key lies in two places.
+        let _count = self.verdicts.count();
+        at
     }
 
     /// Puts a verdict in the stead of the one in a place, if that isn't empty.
     #[inline]
     pub(crate) fn replace(&mut self, at: usize, verdict: Verdict)
         ensures after { self.new.places ≡ revalued self.old.places at verdict }
+        ensures room { self.new.room ≡ self.old.room }
+        ensures distinct { AreDistinct self.new.places }
     {
         self.verdicts.replace(at, verdict);
+        // Its clause says that no key lies in two places.
+        let _count = self.verdicts.count();
     }
 
     /// Empties a place, and answers what lay there.
     pub(crate) fn remove(&mut self, at: usize) -> Option<(Key, Verdict)>
         ensures value { result ≡ item_at self.old.places at }
         ensures after { self.new.places ≡ slice_set self.old.places at None }
+        ensures room { self.new.room ≡ self.old.room }
+        ensures distinct { AreDistinct self.new.places }
     {
         let item = self.take(at);
         if self.is_stale() {
             self.renew();
         }
+        // Its clause says that no key lies in two places.
+        let _count = self.verdicts.count();
         item
     }
 
@@ -144,6 +167,7 @@ impl MarkedVerdicts {
     fn take(&mut self, at: usize) -> Option<(Key, Verdict)>
         ensures value { result ≡ item_at self.old.places at }
         ensures after { self.new.places ≡ slice_set self.old.places at None }
+        ensures room { self.new.room ≡ self.old.room }
     {
         self.gone = self.gone.saturating_add(1);
         self.verdicts.remove(at)
@@ -158,10 +182,34 @@ impl MarkedVerdicts {
     #[cold]
     #[inline(never)]
     fn renew(&mut self)
-        ensures { self.new.places ≡ self.old.places }
+        ensures { self.new ≡ self.old }
     {
         self.gone = 0;
         self.marks = marks_of(&self.verdicts);
+    }
+}
+
+// Places are ranked by their keys.
+impl PlaceRanks for MarkedVerdicts {
+    ghost use Rattle.standing_filters.specs.Placed.{rank_in};
+
+    ghost rank = { λ m at. rank_in m.places at };
+
+    fn order(&self, left: usize, right: usize) -> Ordering {
+        match (self.key(left), self.key(right)) {
+            (Some(left), Some(right)) => left.cmp(right),
+            (left, right) => bytes_of(left).cmp(&bytes_of(right)),
+        }
+    }
+}
+
+// The bytes of a key, or none where there is no key.
+fn bytes_of(key: Option<&Key>) -> &[u8]
+    ensures { result.now ≡ unwrap_or (option_map (λ k. k.now) key.entry) [] }
+{
+    match key {
+        Some(key) => key.as_slice(),
+        None => &[],
     }
 }
 

@@ -1,12 +1,12 @@
-ghost use Rattle.std.specs.Prelude.{◌≡◌, length};
+ghost use Rattle.std.specs.Prelude.{◌≡◌, MatchOption, None, Some, length};
 ghost use Rattle.std.specs.Iterator.{at_most};
 ghost use Rattle.std.specs.Map.Iter.{TakesFirst};
-ghost use Rattle.standing_filters.specs.Placed.{change_in, verdicts_in};
+ghost use Rattle.standing_filters.specs.Placed.{change_in, rank_in, verdicts_in};
 ghost use Rattle.standing_filters.specs.Plans.{changes_of, lent_change};
 
 use crate::marked::MarkedVerdicts;
 use agg_types::Key;
-use std::collections::btree_map::Iter;
+use place_order::Places;
 use std::marker::Model;
 
 /// Lends the keys on which a standing filter's verdict changes, in order, each with that moment.
@@ -15,8 +15,8 @@ use std::marker::Model;
 /// Contracts see the list of what it has left.
 #[derive(Drop)]
 pub struct Planned<'a> {
-    // The place of each key's verdict.
-    order: Iter<'a, Key, usize>,
+    // The places of the keys with verdicts.
+    order: Places<'a>,
     verdicts: &'a MarkedVerdicts,
 }
 
@@ -31,7 +31,7 @@ impl<'a> Model for Planned<'a> {
 }
 
 impl<'a> Planned<'a> {
-    pub(crate) fn new(order: Iter<'a, Key, usize>, verdicts: &'a MarkedVerdicts) -> Planned<'a>
+    pub(crate) fn new(order: Places<'a>, verdicts: &'a MarkedVerdicts) -> Planned<'a>
         ensures { result ≡ changes_of (verdicts_in verdicts.entry.now.places order.entry) }
     {
         Planned { order, verdicts }
@@ -46,9 +46,9 @@ impl<'a> Iterator for Planned<'a> {
     ghost remaining = { λ left. at_most (length left) };
 
     fn next(&mut self) -> Option<(u64, &'a Key)> {
-        while let Some((key, at)) = self.order.next() {
-            if let Some(moment) = change_at(self.verdicts, *at) {
-                return Some((moment, key));
+        while let Some(at) = self.order.next() {
+            if let Some(change) = key_change(self.verdicts, at) {
+                return Some(change);
             }
         }
         None
@@ -63,4 +63,15 @@ pub(crate) fn change_at(verdicts: &MarkedVerdicts, at: usize) -> Option<u64>
         Some(verdict) => verdict.next,
         None => None,
     }
+}
+
+// The key in a place, if the verdict there changes, with that moment.
+fn key_change(verdicts: &MarkedVerdicts, at: usize) -> Option<(u64, &Key)>
+    ensures { MatchOption result (change_in verdicts.now.places at ≡ None)
+        (λ change. (change_in verdicts.now.places at ≡ Some change.0)
+        × (change.1.now ≡ rank_in verdicts.now.places at)) }
+{
+    let moment = change_at(verdicts, at)?;
+    let key = verdicts.key(at)?;
+    Some((moment, key))
 }

@@ -1,78 +1,143 @@
-//! One key, judged by the filters of its table: all of them, or none.
+//! One key, judged by the filters of its table.
 
-ghost use Rattle.std.specs.Prelude.{◌≡◌, ◌≤◌, ◌<◌, ◌+◌, ◌*◌, ◌^◌, ◌==◌, false, length, map};
-ghost use Rattle.std.specs.Prelude.{IsOk, OnOk, OnErr};
-ghost use Rattle.std.specs.List.{list_any};
+ghost use Rattle.std.specs.Prelude.{◌≡◌, ◌≤◌, ◌<◌, ◌+◌, ◌*◌, ◌^◌, ◌==◌, ◌⊎◌};
+ghost use Rattle.std.specs.Prelude.{[], false, length, map};
+ghost use Rattle.std.specs.Prelude.{IfOk, OnOk, ℕ};
 ghost use Rattle.crossing.specs.First.{IsFlatSoon};
 ghost use Rattle.standing_filters.specs.Flips.{TellsFrom, holding};
 ghost use Rattle.standing_filters.specs.Plans.{AreWatches, view_of_watch};
+ghost use Rattle.standing_filters.specs.Ready.{AreCopies, HaveRoom, IsRoomFor};
 ghost use Rattle.standing_filters.specs.Watched.{AreTouched, filters_of};
 
 use crate::flips::Flips;
-use crate::watch::{Watch, held_by};
+use crate::watch::{AHEAD, Watch};
 use agg_types::{Key, NoMemory};
 use crossing::{Meter, Values};
+use std::alloc::Global;
+
+/// Room for judgements of keys of a table.
+#[derive(Clone, Copy)]
+pub(crate) struct Reserved {
+    /// How many filters are of the table.
+    pub(crate) filters: usize,
+    /// For so many judgements there is room in each of them.
+    pub(crate) sure: usize,
+}
+
+/// Makes room for a verdict in each filter of a table, and for so many in all. Answers for how many
+/// filters, and for how many judgements there is room in each: one at least, and at most `AHEAD`.
+/// After `NoMemory` no verdict has changed.
+#[inline]
+pub(crate) fn reserve_each(
+    watches: &mut [Watch],
+    table: usize,
+    keys: usize,
+) -> Result<Reserved, NoMemory>
+    requires watches { AreWatches watches.old }
+    requires few { length watches.old < 2 ^ 64 }
+    ensures stay { AreWatches watches.new }
+    ensures same { map view_of_watch watches.new ≡ map view_of_watch watches.old }
+    ensures room { IfOk result (λ reserved. HaveRoom reserved.sure table watches.new) }
+    ensures sure { IfOk result (λ reserved. 0 < reserved.sure) }
+    ensures filters { IfOk result (λ reserved. reserved.filters
+        ≡ filters_of table (map view_of_watch watches.old)) }
+{
+    let Some((first, rest)) = watches.split_first_mut() else {
+        return Ok(Reserved {
+            filters: 0,
+            sure: AHEAD,
+        });
+    };
+    let others = reserve_each(rest, table, keys)?;
+    if !first.is_of(table) {
+        return Ok(others);
+    }
+    first.reserve(keys)?;
+    Ok(Reserved {
+        filters: others.filters + 1,
+        sure: others.sure.min(first.room()),
+    })
+}
+
+/// So many copies of a key, and at least one, in place of others.
+#[inline]
+pub(crate) fn make_copies(
+    copies: &mut Vec<Key>,
+    alloc: Global,
+    key: &Key,
+    count: usize,
+) -> Result<(), NoMemory>
+    ensures copies { OnOk result (AreCopies key.now count copies.new.items) }
+    ensures some { OnOk result (0 < length copies.new.items) }
+{
+    let copy = key.duplicate(alloc)?;
+    if count <= 1 && copies.len() == 1 {
+        copies[0] = copy;
+        return Ok(());
+    }
+    copies.clear();
+    copies.push(copy)?;
+    for _more in 1..count {
+        copies.push(key.duplicate(alloc)?)?;
+    }
+    Ok(())
+}
 
 /// Judges a key by each filter of its table at a moment, and notes where it comes into a set or
-/// leaves it. The first filter stands at a place. After `NoMemory` no verdict has changed. A key
-/// that has no live row takes no memory but for flips. A hint says in which place of each filter's
-/// verdicts that on the key may lie; no answer depends on it.
+/// leaves it. The first filter stands at a place. Each has room for a verdict, and there is a copy
+/// of the key for it, which a short one doesn't need; a key that has no live row needs neither. The
+/// room of each sinks by one at most. Takes no memory but for flips. A hint says in which place of
+/// each filter's verdicts that on the key may lie; no answer depends on it.
 pub(crate) fn touch_each<V: Values>(
     watches: &mut [Watch],
     at: usize,
     hint: Option<usize>,
     table: usize,
     key: &Key,
+    copies: &mut Vec<Key>,
     values: &V,
     now: u64,
     meter: &mut Meter,
     flips: &mut Flips,
-) -> Result<(), NoMemory>
+)
     requires watches { AreWatches watches.old }
     requires few { at + length watches.old < 2 ^ 64 }
+    requires room { (V.living values.now table key.now now ≡ 0)
+        ⊎ IsRoomFor table key.now copies.old.items watches.old }
     ensures stay { AreWatches watches.new }
-    ensures ok { OnOk result (AreTouched (V.summed values.now) (V.living values.now) table key.now
-        now (map view_of_watch watches.old) (map view_of_watch watches.new)) }
-    ensures err { OnErr result (map view_of_watch watches.new ≡ map view_of_watch watches.old) }
-    ensures dead { V.living values.now table key.now now ≡ 0 → IsOk result }
+    ensures touched { AreTouched (V.summed values.now) (V.living values.now) table key.now
+        now (map view_of_watch watches.old) (map view_of_watch watches.new) }
     ensures counted { IsFlatSoon now (V.flat values.now table key.now)
         → meter.new.evals ≤ meter.old.evals
         + 505 * filters_of table (map view_of_watch watches.old) }
-    ensures flips { OnOk result (flips.new.lost ≡ false → TellsFrom at
+    ensures copies { (more : ℕ) → AreCopies key.now
+        (more + filters_of table (map view_of_watch watches.old)) copies.old.items
+        → AreCopies key.now more copies.new.items }
+    ensures room_left { (count other : ℕ) → HaveRoom (count + 1) other watches.old
+        → HaveRoom count other watches.new }
+    ensures flips { flips.new.lost ≡ false → TellsFrom at
         (holding (map view_of_watch watches.old)) (holding (map view_of_watch watches.new))
-        flips.old flips.new) }
+        flips.old flips.new }
 {
     let Some((first, rest)) = watches.split_first_mut() else {
-        return Ok(());
+        return;
     };
+    touch_each(
+        rest,
+        at + 1,
+        hint,
+        table,
+        key,
+        copies,
+        values,
+        now,
+        meter,
+        flips,
+    );
     if !first.is_of(table) {
-        return touch_each(rest, at + 1, hint, table, key, values, now, meter, flips);
+        return;
     }
     let verdict = first.judge(key, values, now, meter);
-    if !is_any_of(rest, table) {
-        let held = first.change(hint, key, verdict)?;
-        flips.note(at, key, held, verdict.holds);
-        return Ok(());
-    }
-    if verdict.is_out() {
-        touch_each(rest, at + 1, hint, table, key, values, now, meter, flips)?;
-        let held = first.forget(hint, key);
-        flips.note(at, key, held, verdict.holds);
-        return Ok(());
-    }
-    let room = first.prepare(hint, key)?;
-    if let Err(refused) = touch_each(rest, at + 1, hint, table, key, values, now, meter, flips) {
-        first.back_out(room);
-        return Err(refused);
-    }
-    first.commit(room, verdict);
-    flips.note(at, key, held_by(room.old), verdict.holds);
-    Ok(())
-}
-
-// Whether some filter is one of a table.
-fn is_any_of(watches: &[Watch], table: usize) -> bool
-    ensures { result ≡ list_any (λ w. w.filter.table == table) watches.now }
-{
-    watches.iter().any(|watch| watch.is_of(table))
+    let held = first.change(hint, key, copies, verdict);
+    flips.note(at, key, held, verdict.holds);
 }

@@ -1,6 +1,7 @@
 //! One standing filter: the verdicts on its keys, and plans of when they change.
 
-ghost use Rattle.std.specs.Prelude.{ℕ, List, ◌≡◌, ◌≤◌, ◌+◌, ◌==◌, [], length, slice_set};
+ghost use Rattle.std.specs.Prelude.{ℕ, List, ◌≡◌, ◌≢◌, ◌≤◌, ◌<◌, ◌+◌, ◌==◌, ◌⊎◌, [], length};
+ghost use Rattle.std.specs.Prelude.{slice_set};
 ghost use Rattle.std.specs.Prelude.{if◌then◌else◌, is_some, map, IfNone, IfSome, IsSome, IsOk};
 ghost use Rattle.std.specs.Prelude.{IfOk, OnOk, OnErr};
 ghost use Rattle.std.specs.Prelude.{MatchBool, None, Some, false, true, unwrap_or};
@@ -10,11 +11,13 @@ ghost use Rattle.std.specs.BTreeMap.{is_at};
 ghost use Rattle.std.specs.Cmp.Lexicographic.{slice_cmp};
 ghost use Rattle.std.specs.Map.{keys_of};
 ghost use Rattle.std.specs.Ordering.{nat_cmp};
+ghost use Rattle.agg_types.specs.Key.{is_short};
 ghost use Rattle.agg_types.specs.declared.limits.TheConstants.{MOST_CONDS};
 ghost use Rattle.crossing.specs.First.{IsFlatSoon};
 ghost use Rattle.place_index.specs.Places.{item_at, key_at};
 ghost use Rattle.standing_filters.specs.Flips.{TellsAt};
-ghost use Rattle.standing_filters.specs.Placed.{AreAlike, IsSetAt, change_in, verdict_in};
+ghost use Rattle.standing_filters.specs.Placed.{IsSetAt, change_in, verdict_in};
+ghost use Rattle.standing_filters.specs.Ready.{AreCopies};
 ghost use Rattle.standing_filters.specs.Turns.{IsQuiet, IsReadFor, IsTurned, is_due};
 ghost use Rattle.standing_filters.specs.Verdicts.{IsVerdict, out};
 ghost use Rattle.standing_filters.specs.Watched.{IsFirstChange, IsTouched, keys_held, unheld};
@@ -35,8 +38,8 @@ use std::marker::Model;
 
 /// A standing filter with the verdicts on its keys.
 ///
-/// Several filters can be changed together or not at all: `prepare` takes all the memory, and then
-/// `commit` or `back_out` takes none but for plans, which are lost where it is refused.
+/// `reserve` makes room for verdicts. No other call takes memory but for plans, which are lost
+/// where it is refused.
 #[derive(Drop)]
 pub(crate) struct Watch {
     filter: Filter,
@@ -46,19 +49,23 @@ pub(crate) struct Watch {
     plans: ChangePlans,
 }
 
-/// A place in which a verdict on a key may be kept, and the one that is kept.
-#[derive(Clone, Copy)]
-pub(crate) struct Room {
-    pub(crate) at: usize,
-    pub(crate) old: Option<Verdict>,
-}
+/// Room for so many more verdicts is made than are needed.
+const SPARE: usize = 1024;
+
+/// For so many judgements at most it is looked at once whether there is room.
+pub(crate) const AHEAD: usize = 64;
 
 impl Model for Watch {
     ghost use Rattle.standing_filters.specs.Plans.{Watching};
 
     ghost Value = { Watching };
 
-    ghost view = { λ w. record { filter = w.filter; places = w.kept; plans = w.plans } };
+    ghost view = { λ w. record {
+      filter = w.filter;
+      places = w.kept.places;
+      room = w.kept.room;
+      plans = w.plans;
+    } };
 }
 
 impl Watch {
@@ -131,85 +138,71 @@ impl Watch {
         judge(&self.filter, key, values, now, meter)
     }
 
-    /// Makes room for a verdict on a key. After `NoMemory` nothing has changed. No answer depends
-    /// on the hint.
-    pub(crate) fn prepare(&mut self, hint: Option<usize>, key: &Key) -> Result<Room, NoMemory>
+    /// Makes room for one more verdict, and for so many in all, with some to spare. After
+    /// `NoMemory` no verdict has changed.
+    ///
+    /// Until room is looked at again, up to `AHEAD` keys may come that weren't counted. So there is
+    /// room for these too: at any time, for a verdict on each key of the table.
+    #[inline]
+    pub(crate) fn reserve(&mut self, keys: usize) -> Result<(), NoMemory>
         requires { IsWatch self.old }
         ensures filter { self.new.filter ≡ self.old.filter }
+        ensures places { self.new.places ≡ self.old.places }
         ensures stay { IsWatch self.new }
-        ensures found { IfOk result (λ room. room.old ≡ kept_at (kept_by self.old) key.now) }
-        ensures own { IfOk result (λ room. item_at self.new.places room.at
-            ≡ Some (key.now, unwrap_or room.old out)) }
-        ensures same { OnOk result ((q : List ℕ) → verdict_at (kept_by self.new) q
-            ≡ verdict_at (kept_by self.old) q) }
-        ensures back { IfOk result (λ room. MatchBool (is_some room.old)
-            (AreAlike self.old.places self.new.places)
-            (AreAlike self.old.places (slice_set self.new.places room.at None))) }
-        ensures err { OnErr result (view_of_watch self.new ≡ view_of_watch self.old) }
+        ensures ok { OnOk result (0 < self.new.room) }
+        ensures room { self.old.room ≤ self.new.room }
     {
-        if let Some((at, old)) = self.kept.find_near(hint, key) {
-            return Ok(Room { at, old: Some(old) });
+        let more = keys.saturating_sub(self.kept.count()).saturating_add(AHEAD);
+        if more <= self.kept.room() {
+            return Ok(());
         }
-        let at = self.enter(key, OUT)?;
-        Ok(Room { at, old: None })
+        self.kept.reserve(more.saturating_add(SPARE))
     }
 
-    /// Gives back the room that `prepare` made.
-    pub(crate) fn back_out(&mut self, room: Room)
-        requires { IsWatch self.old }
-        ensures filter { self.new.filter ≡ self.old.filter }
-        ensures stay { IsWatch self.new }
-        ensures back { self.new.places ≡ (if is_some room.old then self.old.places
-            else slice_set self.old.places room.at None) }
+    /// For how many further verdicts there is room.
+    #[inline]
+    pub(crate) fn room(&self) -> usize
+        ensures { result ≡ self.now.room }
     {
-        if room.old.is_none() {
-            self.take_out(room.at);
-        }
-    }
-
-    /// Keeps a verdict on a key in the room that `prepare` made for it.
-    pub(crate) fn commit(&mut self, room: Room, verdict: Verdict)
-        requires watch { IsWatch self.old }
-        requires there { IsSome (item_at self.old.places room.at) }
-        ensures filter { self.new.filter ≡ self.old.filter }
-        ensures stay { IsWatch self.new }
-        ensures becomes { (key : List ℕ) → key_at self.old.places room.at ≡ Some key
-            → Becomes key verdict (kept_by self.old) (kept_by self.new) }
-    {
-        self.put(room.at, verdict);
+        self.kept.room()
     }
 
     /// Keeps a verdict on a key, and plans its change. Answers whether the key was held before.
-    /// After `NoMemory` nothing has changed; `OUT` is never refused. No search of the keys in
-    /// order, where one is kept already. No answer depends on the hint.
+    /// Where the key has no verdict yet, it takes room for one and a copy of the key: a short one's
+    /// own. No search of the keys in order, where one is kept already. No answer depends on the
+    /// hint.
     #[inline(always)]
     pub(crate) fn change(
         &mut self,
         hint: Option<usize>,
         key: &Key,
+        copies: &mut Vec<Key>,
         verdict: Verdict,
-    ) -> Result<bool, NoMemory>
-        requires { IsWatch self.old }
+    ) -> bool
+        requires watch { IsWatch self.old }
+        requires room { verdict ≢ out → (0 < self.old.room)
+            × ((is_short key.now ≡ true) ⊎ AreCopies key.now 1 copies.old.items) }
         ensures filter { self.new.filter ≡ self.old.filter }
         ensures stay { IsWatch self.new }
-        ensures kept { OnOk result
-            (Becomes key.now verdict (kept_by self.old) (kept_by self.new)) }
-        ensures was { IfOk result (λ was. was ≡ (verdict_at (kept_by self.old) key.now).holds) }
-        ensures err { OnErr result (view_of_watch self.new ≡ view_of_watch self.old) }
-        ensures out { verdict ≡ out → IsOk result }
+        ensures kept { Becomes key.now verdict (kept_by self.old) (kept_by self.new) }
+        ensures was { result ≡ (verdict_at (kept_by self.old) key.now).holds }
+        ensures copies { (more : ℕ) → AreCopies key.now (more + 1) copies.old.items
+            → AreCopies key.now more copies.new.items }
+        ensures room_left { self.old.room ≤ self.new.room + 1 }
     {
         if verdict.is_out() {
-            return Ok(self.forget(hint, key));
+            return self.forget(hint, key);
         }
         let Some((at, old)) = self.kept.find_near(hint, key) else {
-            self.enter(key, verdict)?;
-            return Ok(false);
+            if let Some(copy) = copy_of(key, copies) {
+                self.enter(copy, verdict);
+            }
+            return false;
         };
-        if old == verdict {
-            return Ok(old.holds);
+        if old != verdict {
+            self.put(at, verdict);
         }
-        self.put(at, verdict);
-        Ok(old.holds)
+        old.holds
     }
 
     /// Keeps no verdict on a key, so that it is `OUT`. Answers whether it was held before. No
@@ -221,6 +214,7 @@ impl Watch {
         ensures stay { IsWatch self.new }
         ensures was { result ≡ (verdict_at (kept_by self.old) key.now).holds }
         ensures kept { Becomes key.now out (kept_by self.old) (kept_by self.new) }
+        ensures room_left { self.new.room ≡ self.old.room }
     {
         let Some((at, old)) = self.kept.find_near(hint, key) else {
             return false;
@@ -369,22 +363,18 @@ impl Watch {
         }
     }
 
-    // Puts a verdict on a key in that has none, and plans its change. Answers its place.
-    fn enter(&mut self, key: &Key, verdict: Verdict) -> Result<usize, NoMemory>
+    // Puts a verdict on a key in that has none, and plans its change.
+    fn enter(&mut self, key: Key, verdict: Verdict)
         requires watch { IsWatch self.old }
-        requires none { kept_at (kept_by self.old) key.now ≡ None }
+        requires none { kept_at (kept_by self.old) key ≡ None }
+        requires room { 0 < self.old.room }
         ensures filter { self.new.filter ≡ self.old.filter }
         ensures stay { IsWatch self.new }
-        ensures own { IfOk result (λ at. item_at self.new.places at ≡ Some (key.now, verdict)) }
-        ensures becomes { OnOk result
-            (Becomes key.now verdict (kept_by self.old) (kept_by self.new)) }
-        ensures back { IfOk result (λ at.
-            AreAlike self.old.places (slice_set self.new.places at None)) }
-        ensures err { OnErr result (view_of_watch self.new ≡ view_of_watch self.old) }
+        ensures becomes { Becomes key verdict (kept_by self.old) (kept_by self.new) }
+        ensures room_left { self.old.room ≤ self.new.room + 1 }
     {
-        let at = self.kept.insert(key, verdict)?;
+        let at = self.kept.insert(key, verdict);
         self.plans.plan(at, verdict.next);
-        Ok(at)
     }
 
     // Puts a verdict in the stead of the one in a place, and plans its change.
@@ -397,6 +387,7 @@ impl Watch {
         ensures own { verdict_in self.new.places at ≡ verdict }
         ensures becomes { (key : List ℕ) → key_at self.old.places at ≡ Some key
             → Becomes key verdict (kept_by self.old) (kept_by self.new) }
+        ensures room_left { self.new.room ≡ self.old.room }
     {
         if verdict.is_out() {
             self.take_out(at);
@@ -414,6 +405,7 @@ impl Watch {
         ensures after { self.new.places ≡ slice_set self.old.places at None }
         ensures becomes { (key : List ℕ) → key_at self.old.places at ≡ Some key
             → Becomes key out (kept_by self.old) (kept_by self.new) }
+        ensures room_left { self.new.room ≡ self.old.room }
     {
         self.kept.remove(at);
         self.plans.plan(at, None);
@@ -425,4 +417,18 @@ pub(crate) fn held_by(verdict: Option<Verdict>) -> bool
     ensures { result ≡ (unwrap_or verdict out).holds }
 {
     verdict.is_some_and(|verdict| verdict.holds)
+}
+
+// A copy of a key, which takes no memory: its own where it is short, and else the last of some.
+#[inline(always)]
+fn copy_of(key: &Key, copies: &mut Vec<Key>) -> Option<Key>
+    ensures copy { (is_short key.now ≡ true) ⊎ AreCopies key.now 1 copies.old.items
+        → result ≡ Some key.now }
+    ensures copies { (more : ℕ) → AreCopies key.now (more + 1) copies.old.items
+        → AreCopies key.now more copies.new.items }
+{
+    match key.short_copy() {
+        Some(copy) => Some(copy),
+        None => copies.pop(),
+    }
 }

@@ -1,9 +1,9 @@
 //! Runs lists of events through the book that the product runs on and through the plain book, side
 //! by side. Compares all that both answer after each event: rows, sums, sets, ranked lists, next
 //! changes, sessions and seats. Prints how many events there were, how many answers differ, how
-//! many values the book read for its filters, how often it made its verdicts anew, and how many
-//! updates full tables didn't take. For one more list it prints of how many events the book could
-//! tell the flips, how many flips these were, and how many sets they don't lead to.
+//! many values the book read for its filters, and how many updates full tables didn't take. For one
+//! more list it prints of how many events the book could tell the flips, how many flips these were,
+//! and how many sets they don't lead to.
 //!
 //! An event for which an allocation failed has to leave each answer as it was, and then happens
 //! once more. `test_books again` compares at the end of a run and where an allocation failed:
@@ -71,10 +71,7 @@ fn tell(rt: &impl Print, name: &str, pair: &Pair) -> Result<()> {
 
 /// Tells what was read for filters, where no allocation fails.
 fn tell_reads(rt: &impl Print, pair: &Pair) -> Result<()> {
-    println!(rt;
-        "  values read {}, verdicts made anew {}, dropped {}",
-        pair.read, pair.anew, pair.dropped
-    )?;
+    println!(rt; "  values read {}, dropped {}", pair.read, pair.dropped)?;
     Ok(())
 }
 
@@ -173,9 +170,9 @@ fn falling(rt: &impl Print, alloc: Global) -> Result<()> {
 }
 
 /// Eighty peers with the same few keys.
-fn of_eighty(rt: &impl Print, alloc: Global) -> Result<()> {
+fn of_eighty(rt: &impl Print, alloc: Global, way: Way) -> Result<()> {
     let fleet = many_peers::fleet(alloc)?;
-    let mut pair = Pair::of(alloc, fleet.as_bytes(), true)?;
+    let mut pair = Pair::of(alloc, fleet.as_bytes(), way.near)?;
     pair.happen(alloc, Deed::Sit(0))?;
     for peer in 0..many_peers::PEERS {
         pair.happen(alloc, Deed::Sit(peer + 1))?;
@@ -183,11 +180,11 @@ fn of_eighty(rt: &impl Print, alloc: Global) -> Result<()> {
     }
     for number in 0..many_peers::DEEDS {
         pair.happen(alloc, many_peers::deed(number, pair.moment()))?;
-        if number % 5 == 0 {
+        if way.often && number % 5 == 0 {
             pair.compare(alloc)?;
         }
     }
-    end(rt, alloc, "many peers", NEAR, &mut pair)
+    end(rt, alloc, "many peers", way, &mut pair)
 }
 
 /// Makes the runs of which each allocation fails in turn.
@@ -195,7 +192,8 @@ pub fn run_again(rt: &impl Print, alloc: Global) -> Result<()> {
     play(rt, alloc, "reconnect", SELDOM, worked::RECONNECT)?;
     play(rt, alloc, "size limit", SELDOM, worked::SIZE_LIMIT)?;
     play(rt, alloc, "drops", SELDOM, worked::DROPS)?;
-    draw(rt, alloc, "drawn, near", SELDOM)
+    draw(rt, alloc, "drawn, near", SELDOM)?;
+    of_eighty(rt, alloc, SELDOM)
 }
 
 fn all_runs(rt: &impl Print, alloc: Global) -> Result<()> {
@@ -208,7 +206,7 @@ fn all_runs(rt: &impl Print, alloc: Global) -> Result<()> {
     draw(rt, alloc, "drawn, far", FAR)?;
     tell_sets(rt, alloc)?;
     falling(rt, alloc)?;
-    of_eighty(rt, alloc)?;
+    of_eighty(rt, alloc, NEAR)?;
     crowd(rt, alloc)
 }
 

@@ -122,7 +122,7 @@ fn print_held(rt: &impl Print, alloc: Global, book: &Book) -> Result<()> {
     if book.config().filters.is_empty() {
         return Ok(());
     }
-    for key in book.filter_keys(alloc, 0)? {
+    for key in book.filter_keys(0) {
         let digits = hex::encode(alloc, key.as_slice())?;
         println!(rt; "  held: {}", digits.as_str())?;
     }

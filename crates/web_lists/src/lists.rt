@@ -81,9 +81,9 @@ fn put_filter(
 ) -> Result<bool, NoMemory>
     requires { place < length book.now.config.filters }
 {
-    let keys = book.filter_keys(alloc, place)?;
+    let keys = book.filter_keys(place).into_vec(alloc)?;
     json.number("keys", keys.len() as u64)?;
-    json.number_if("next_change", book.next_change(alloc, place)?)?;
+    json.number_if("next_change", book.next_change(place))?;
     json.begin_list("entries")?;
     put_keys(alloc, json, keys.as_slice(), part)
 }

@@ -101,7 +101,7 @@ fn filter_sum(
 ) -> Result<FilterSum, NoMemory>
     requires { place < length book.now.config.filters }
 {
-    let next = book.next_change(alloc, place)?;
+    let next = book.next_change(place);
     let name = filter.name.duplicate(alloc)?;
     let (keys, first) = first_held(alloc, book, place)?;
     Ok(FilterSum {
@@ -117,12 +117,15 @@ fn filter_sum(
 fn first_held(alloc: Global, book: &Book, place: usize) -> Result<(usize, Vec<Key>), NoMemory>
     requires { place < length book.now.config.filters }
 {
-    let keys = book.filter_keys(alloc, place)?;
+    let mut count = 0usize;
     let mut first = Vec::new(alloc);
-    for key in keys.as_slice().iter().take(MOST_KEYS) {
-        first.push(key.duplicate(alloc)?)?;
+    for key in book.filter_keys(place) {
+        if count < MOST_KEYS {
+            first.push(key.duplicate(alloc)?)?;
+        }
+        count = count.saturating_add(1);
     }
-    Ok((keys.len(), first))
+    Ok((count, first))
 }
 
 fn rank_sum(alloc: Global, book: &Book, place: usize, rank: &Rank) -> Result<RankSum, NoMemory>

@@ -111,9 +111,12 @@ fn ask_filter(rt: &HostRuntime, book: &Book, filter: usize) -> Result<()> {
         return Ok(());
     }
     let start = now(rt);
-    let held = book.filter_keys(rt.alloc(), filter)?.len();
+    let mut held = 0usize;
+    for _key in book.filter_keys(filter) {
+        held = held.saturating_add(1);
+    }
     let keys = since(rt, start).as_micros();
-    let next = book.next_change(rt.alloc(), filter)?;
+    let next = book.next_change(filter);
     let both = since(rt, start).as_micros();
     let change = both.saturating_sub(keys);
     let _ = eprintln!(rt;

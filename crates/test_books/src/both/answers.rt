@@ -158,12 +158,12 @@ fn filter_differs(
     if filter >= fast.config().filters.len() || filter >= plain.config().filters.len() {
         return Ok(1);
     }
-    let keys = fast.filter_keys(alloc, filter)?;
+    let keys = fast.filter_keys(filter).into_vec(alloc)?;
     let others = plain.filter_keys(alloc, filter)?;
     let mut differ = u64::from(!are_same_keys(keys.as_slice(), others.as_slice()));
     seen.sets |= !keys.is_empty();
     if near {
-        let change = fast.next_change(alloc, filter)?;
+        let change = fast.next_change(filter);
         seen.changes |= change.is_some();
         if change != plain.next_change(alloc, filter)? {
             differ = differ.saturating_add(1);

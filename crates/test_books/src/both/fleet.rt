@@ -68,8 +68,6 @@ pub struct Pair {
     // How many values the first one read, by all events and by the last one.
     pub read: u64,
     pub last_read: u64,
-    // How often it made its verdicts anew.
-    pub anew: u64,
     // How many updates a full table of it didn't take.
     pub dropped: u64,
 }
@@ -100,7 +98,6 @@ impl Pair {
             seen: NOTHING,
             read: 0,
             last_read: 0,
-            anew: 0,
             dropped: 0,
         })
     }
@@ -136,9 +133,6 @@ impl Pair {
     fn note(&mut self, taken: Taken) {
         self.last_read = taken.read;
         self.read = self.read.saturating_add(taken.read);
-        if taken.anew {
-            self.anew = self.anew.saturating_add(1);
-        }
         if taken.dropped {
             self.dropped = self.dropped.saturating_add(1);
         }

@@ -71,7 +71,7 @@ fn sets(alloc: Global, book: &Book) -> Result<Vec<BTreeSet<Key>>, NoMemory> {
     let mut sets = Vec::new(alloc);
     for filter in 0..book.config().filters.len() {
         let mut set = BTreeSet::new(alloc);
-        for key in book.filter_keys(alloc, filter)? {
+        for key in book.filter_keys(filter) {
             set.insert(key.duplicate(alloc)?)?;
         }
         sets.push(set)?;
@@ -98,7 +98,7 @@ fn differ(alloc: Global, book: &Book, sets: &Vec<BTreeSet<Key>>) -> Result<u64, 
     let mut differ = u64::from(filters != sets.len());
     for (filter, set) in sets.iter().enumerate() {
         if filter < filters {
-            let keys = book.filter_keys(alloc, filter)?;
+            let keys = book.filter_keys(filter).into_vec(alloc)?;
             let is_same = keys.len() == set.len() && keys.iter().all(|key| set.contains(*key));
             differ = differ.saturating_add(u64::from(!is_same));
         }

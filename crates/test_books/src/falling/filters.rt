@@ -168,7 +168,7 @@ fn show<R: Print>(
 fn add(alloc: Global, standing: &mut Standing, values: &Counted, meter: &mut Meter) -> Result<()> {
     let (one, other) = (Key::copy(alloc, b"a")?, Key::copy(alloc, b"b")?);
     let more = filter(alloc, FROM_THREE)?;
-    let mut adding = standing.begin(&more)?;
+    let mut adding = standing.begin(&more, 2)?;
     adding.judge(&one, values, 0, meter)?;
     adding.judge(&other, values, 0, meter)?;
     standing.add(adding)?;

@@ -68,13 +68,16 @@ fn sums(rt: &impl Print, alloc: Global, book: &Book) -> Result<()> {
 
 /// `Book::filter_keys` lists the keys that a standing filter holds, and `Book::next_change` answers
 /// when they change though nothing is told.
-fn held(rt: &impl Print, alloc: Global, book: &Book) -> Result<()> {
+fn held(rt: &impl Print, book: &Book) -> Result<()> {
     if book.config().filters.is_empty() {
         return Ok(());
     }
-    let keys = book.filter_keys(alloc, 0)?.len();
+    let mut keys = 0usize;
+    for _key in book.filter_keys(0) {
+        keys = keys.saturating_add(1);
+    }
     println!(rt; "filter: {keys} keys at {} ms", book.moment())?;
-    println!(rt; "next change: {:?}", book.next_change(alloc, 0)?)?;
+    println!(rt; "next change: {:?}", book.next_change(0))?;
     Ok(())
 }
 
@@ -123,12 +126,12 @@ pub fn show(rt: &impl Print, alloc: Global) -> Result<()> {
     let mut book = Book::new(alloc, config(alloc, FLEET)?, 0)?;
     happen(alloc, &mut book)?;
     sums(rt, alloc, &book)?;
-    held(rt, alloc, &book)?;
+    held(rt, &book)?;
     top(rt, alloc, &book)?;
     ask(rt, alloc, &book, b"show table t data.gpc0 gt 3")?;
     ask(rt, alloc, &book, b"show table u")?;
     let seq = book.next_seq(0).unwrap_or(0);
     book.apply(0, seq, &What::Moment(1000))?;
-    held(rt, alloc, &book)?;
+    held(rt, &book)?;
     plans(rt, alloc)
 }

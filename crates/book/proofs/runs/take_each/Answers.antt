@@ -1,4 +1,4 @@
-use Rattle.std.proofs.Common.{rules, refl, sym, ap, subst, ◌∙◌, ◌≡◌, ◌+◌, ◌<◌, length, arith, ℕ}
+use Rattle.std.proofs.Common.{refl, sym, ap, subst, ◌∙◌, ◌≡◌, ◌+◌, ◌<◌, length, arith, ℕ}
 use Rattle.std.proofs.Common.{List}
 use Rattle.agg_types.specs.Whats.{as_what}
 use Rattle.agg_types.specs.declared.event.What.{What}

@@ -3,7 +3,7 @@ use Rattle.agg_types.specs.Whats.{as_what}
 use Rattle.fleet_model.specs.Sound.{IsSound}
 use Rattle.fleet_model.specs.State.{State}
 use Rattle.book.specs.Uses.{IsUseOf}
-use Rattle.book.specs.Verdicts.{Follows}
+use Rattle.book.specs.Verdicts.{AreAll, Follows}
 use Rattle.book.proofs.Updates.{follows_update, sound_update}
 use Rattle.book.proofs.runs.take_one.Goals as goal
 
@@ -24,7 +24,8 @@ returns-clause-flips c =
     c.follow_update.ensures.flips state c.requires.book.sound
     (subst (Follows (as_what c.args.what) state) (sym c.in_ok-applied.ensures.ok)
     (follows_update state c.args.turn.seat c.args.turn.peer (as_what c.args.what)
-    c.requires.book.sound c.requires.update)) c.requires.book.held
+    c.requires.book.sound c.requires.update))
+    (subst (AreAll state) (sym c.prepare_update.ensures.filters) c.requires.book.held)
 
 pub returns-clause-book : goal.returns-clause-book
 returns-clause-book c =
@@ -37,5 +38,5 @@ returns-clause-book c =
           (subst (Follows (as_what c.args.what) state) (sym c.in_ok-applied.ensures.ok)
           (follows_update state c.args.turn.seat c.args.turn.peer (as_what c.args.what)
           c.requires.book.sound c.requires.update))
-          c.requires.book.held;
+          (subst (AreAll state) (sym c.prepare_update.ensures.filters) c.requires.book.held);
     }

@@ -1,20 +1,29 @@
-use Rattle.std.proofs.Common.{sym, subst}
+use Rattle.std.proofs.Common.{◌≡◌, ◌∙◌, ℕ, [], refl, sym, ap, subst}
+use Rattle.agg_types.specs.declared.config.Config.{Config}
+use Rattle.fleet_model.specs.Machine.{opened}
 use Rattle.fleet_model.specs.Sound.{IsSound}
+use Rattle.fleet_model.specs.State.{State}
 use Rattle.book.proofs.book.Book.new.Goals as goal
+
+no_rows : (config : Config) (moment : ℕ) → (opened config moment).rows ≡ []
+unfolding opened
+no_rows config moment = refl
 
 pub invariant_of-result : goal.invariant_of-result
 invariant_of-result c = record {
   sound = subst IsSound (sym c.in_ok-machine.ensures)
       (c.states_are_sound.ensures.opened c.args.config c.args.moment c.requires.checked
       c.requires.in_range);
-  held = c.new-verdicts.ensures;
+  held = c.in_ok-verdicts.ensures;
 }
 
-pub new-verdicts-requires : goal.new-verdicts-requires
-new-verdicts-requires c = record {
+pub new-requires-2 : goal.new-requires-2
+new-requires-2 c = record {
   sound = subst IsSound (sym c.in_ok-machine.ensures)
       (c.states_are_sound.ensures.opened c.args.config c.args.moment c.requires.checked
       c.requires.in_range);
+  empty = ap (λ (s : State). s.rows) c.in_ok-machine.ensures
+      ∙ no_rows c.args.config c.args.moment;
 }
 
 pub returns-clause-sound : goal.returns-clause-sound

@@ -1,21 +1,20 @@
 use Rattle.std.proofs.Common.{sym, ap, ◌∙◌}
 use Rattle.place_index.specs.Places.{in_order}
 use Rattle.place_index.proofs.Ordered.{lookup-absent, lookup-held}
-use Rattle.standing_filters.specs.Placed.{VerdictPlaces}
+use Rattle.standing_filters.specs.Marked.{Marking}
 use Rattle.standing_filters.specs.Plans.{kept_at}
-use Rattle.standing_filters.proofs.Placing.{distinct_placed}
 use Rattle.standing_filters.proofs.kept.KeptVerdicts.find_near.Goals as goal
 
 pub returns-in_err-at-clause-kept : goal.returns-in_err-at-clause-kept
 returns-in_err-at-clause-kept c = rw c.from_residual.ensures
-    (sym (ap (λ (l : VerdictPlaces). kept_at (in_order l) c.args.key.now) (sym c.self.view_is)
+    (sym (ap (λ (m : Marking). kept_at (in_order m.places) c.args.key.now) (sym c.self.view_is)
     ∙ lookup-absent c.self.inside.verdicts.places c.args.key.now c.in_err-at.ensures.none))
 
 pub returns-clause-kept : goal.returns-clause-kept
 returns-clause-kept c =
     sym (lookup-held c.self.inside.verdicts.places c.in_ok-at.at c.args.key.now
     c.in_ok-verdict.verdict.now
-    (distinct_placed c.self.inside.verdicts.places c.self.inside.order.entries c.self.invariant)
+    c.self.invariant.0.distinct
     c.in_ok-at.ensures.some
     (sym c.in_ok-verdict.ensures))
-    ∙ ap (λ (l : VerdictPlaces). kept_at (in_order l) c.args.key.now) c.self.view_is
+    ∙ ap (λ (m : Marking). kept_at (in_order m.places) c.args.key.now) c.self.view_is

@@ -3,4 +3,4 @@ use Rattle.standing_filters.proofs.Planning.{IsFirstBelow}
 use Rattle.standing_filters.proofs.kept.KeptVerdicts.first_change.Given as goal
 
 abbrev pub invariant-loop-at : goal.invariant-loop-at
-invariant-loop-at l = IsFirstBelow (change_in l.self) l.at l.first
+invariant-loop-at l = IsFirstBelow (change_in l.self.places) l.at l.first

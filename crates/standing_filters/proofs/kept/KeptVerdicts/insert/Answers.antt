@@ -1,101 +1,91 @@
-use Rattle.std.proofs.Common.{◌≡◌, ℕ, List, Some, cond, refl, sym, ap, subst, ◌∙◌}
-use Rattle.std.specs.Prelude.{slice_set, None}
-use Rattle.place_index.specs.Places.{in_order, item_at, laid, IsAbsent}
-use Rattle.place_index.proofs.Ordered.{absent-lookup, at_key, lookup-laid}
-use Rattle.standing_filters.specs.Placed.{AreAlike, AreAlikeBut, ArePlaced, VerdictPlaces, place_of}
+use Rattle.std.proofs.Common.{◌≡◌, ◌+◌, ◌<◌, ◌≤◌, List, Some, length, sym, ap, subst, ◌∙◌}
+use Rattle.std.proofs.Common.{ℕ, arith}
+use Rattle.std.specs.Prelude.{None}
+use Rattle.place_index.specs.Places.{AreDistinct, in_order, item_at, laid, IsAbsent}
+use Rattle.place_index.proofs.Ordered.{absent-lookup, lookup-laid}
+use Rattle.place_order.specs.Orders.{AreByRank, HasOwnRank}
+use Rattle.standing_filters.specs.Marked.{Marking}
+use Rattle.standing_filters.specs.Placed.{AreAlikeBut, AreOrdered, VerdictPlaces, rank_in}
 use Rattle.standing_filters.specs.Plans.{Becomes, kept_at}
-use Rattle.standing_filters.proofs.Placing.{becomes_found, distinct_placed, laid_back, laid_else}
-use Rattle.standing_filters.proofs.Placing.{laid_here, placed_alike, placed_laid}
+use Rattle.standing_filters.proofs.Ordered.{length_laid, ordered_laid, rank_own, ranks_before}
+use Rattle.standing_filters.proofs.Placing.{becomes_found, laid_else, laid_here}
 use Rattle.standing_filters.proofs.kept.KeptVerdicts.insert.Goals as goal
 
-no_place : (old view : VerdictPlaces) (key own : List ℕ) → old ≡ view
-    → kept_at (in_order view) key ≡ None → own ≡ key → IsAbsent old own
-no_place old view key own same none is =
-    subst (λ (k : List ℕ). IsAbsent old k) (sym is)
-    (absent-lookup old key (ap (λ (l : VerdictPlaces). kept_at (in_order l) key) same ∙ none))
+no_place : (old : VerdictPlaces) (view : Marking) (key : List ℕ) → old ≡ view.places
+    → kept_at (in_order view.places) key ≡ None → IsAbsent old key
+no_place old view key same none =
+    absent-lookup old key (ap (λ (l : VerdictPlaces). kept_at (in_order l) key) same ∙ none)
 
-pub insert-requires : goal.insert-requires
-insert-requires c = no_place c.self.inside.verdicts.places c.args.self.now c.args.key.now
-    c.in_ok-own.own c.self.view_is c.requires c.in_ok-own.ensures
+pub insert-at-requires-clause-absent : goal.insert-at-requires-clause-absent
+insert-at-requires-clause-absent c = no_place c.self.inside.verdicts.places c.args.self.now
+    c.args.key
+    (ap (λ (m : Marking). m.places) c.self.view_is) c.requires.none
 
--- it goes again where it isn't listed
-pub invariant_of-self-in-Err : goal.invariant_of-self-in-Err
-invariant_of-self-in-Err c =
+pub insert-requires-clause-ordered : goal.insert-requires-clause-ordered
+insert-requires-clause-ordered c =
+    subst (λ (l : VerdictPlaces). AreByRank (rank_in l) c.self.inside.order.places)
+    (sym c.insert-at.ensures.after)
+    (ranks_before c.self.inside.verdicts.places c.self.inside.order.places c.insert-at.result
+    c.args.key c.args.verdict c.insert-at.ensures.empty c.insert-at.ensures.bound
+    c.self.invariant.0)
+
+pub insert-requires-clause-apart : goal.insert-requires-clause-apart
+insert-requires-clause-apart c =
+    subst (λ (l : VerdictPlaces). HasOwnRank (rank_in l) c.insert-at.result
+    c.self.inside.order.places) (sym c.insert-at.ensures.after)
+    (rank_own c.self.inside.verdicts.places c.self.inside.order.places c.insert-at.result
+    c.args.key c.args.verdict c.insert-at.ensures.empty c.insert-at.ensures.bound
+    c.self.invariant.0 (no_place c.self.inside.verdicts.places c.args.self.now c.args.key
+    (ap (λ (m : Marking). m.places) c.self.view_is) c.requires.none))
+
+pub invariant_of-self : goal.invariant_of-self
+invariant_of-self c =
     let old = c.self.inside.verdicts.places in
-    let order = c.self.inside.order.entries in
-    let at = c.in_ok-at.at in
-    let back : c.remove.new.self.places
-    ≡ slice_set (laid old at (Some (c.in_ok-own.own, c.args.verdict))) at None =
-    c.remove.ensures.after ∙ ap (λ (l : VerdictPlaces). slice_set l at None) c.in_ok-at.ensures.ok in
-    subst (λ o. ArePlaced c.remove.new.self.places o) (sym c.in-Err.ensures.err)
-    (subst (λ (l : VerdictPlaces). ArePlaced l order) (sym back)
-    (placed_alike old (slice_set (laid old at (Some (c.in_ok-own.own, c.args.verdict))) at None)
-    order (laid_back old order at c.in_ok-own.own c.args.verdict c.in_ok-at.ensures.empty
-    c.in_ok-at.ensures.bound) c.self.invariant))
+    let at = c.insert-at.result in
+    let held = c.self.invariant in
+    let there : 0 < c.self.inside.room =
+    subst (λ (m : Marking). 0 < m.room) (sym c.self.view_is) c.requires.room in
+    let grown : length c.insert-at.new.self.places ≤ length old + 1 =
+    subst (λ (l : VerdictPlaces). length l ≤ length old + 1) (sym c.insert-at.ensures.after)
+    (length_laid old at (Some (c.args.key, c.args.verdict))) in (
+      subst (λ (l : VerdictPlaces). AreOrdered l c.insert.new.self.places)
+          (sym c.insert-at.ensures.after)
+          (ordered_laid old c.self.inside.order.places at c.args.key c.args.verdict
+          c.insert-at.ensures.empty c.insert-at.ensures.bound held.0 c.insert.new.self.places
+          c.insert.ensures.inserted
+          (subst (λ (l : VerdictPlaces). AreByRank (rank_in l) c.insert.new.self.places)
+          c.insert-at.ensures.after c.insert.ensures.ordered)
+          (subst AreDistinct c.insert-at.ensures.after c.insert-at.ensures.distinct)),
+      omega (held.1, c.insert-at.ensures.room, arith),
+      omega (held.2, grown, c.insert.ensures.room, there, arith),
+    )
 
-pub returns-in-Err-clause-err : goal.returns-in-Err-clause-err
-returns-in-Err-clause-err c =
-    let old = c.self.inside.verdicts.places in
-    let at = c.in_ok-at.at in
-    let back : c.remove.new.self.places
-    ≡ slice_set (laid old at (Some (c.in_ok-own.own, c.args.verdict))) at None =
-    c.remove.ensures.after ∙ ap (λ (l : VerdictPlaces). slice_set l at None) c.in_ok-at.ensures.ok in
-    subst (λ (l : VerdictPlaces). AreAlike l c.remove.new.self.places) c.self.view_is
-    (subst (λ (l : VerdictPlaces). AreAlike old l) (sym back)
-    (laid_back old c.self.inside.order.entries at c.in_ok-own.own c.args.verdict
-    c.in_ok-at.ensures.empty c.in_ok-at.ensures.bound))
-
--- it is there, and listed
 pub returns-clause-own : goal.returns-clause-own
 returns-clause-own c =
-    let old = c.self.inside.verdicts.places in
-    let at = c.in_ok-at.at in
-    ap (λ (l : VerdictPlaces). item_at l at) c.in_ok-at.ensures.ok
-    ∙ laid_here old c.self.inside.order.entries at c.in_ok-own.own c.args.verdict
-    c.in_ok-at.ensures.empty c.in_ok-at.ensures.bound
-    ∙ ap (λ (k : List ℕ). Some (k, c.args.verdict)) c.in_ok-own.ensures
+    ap (λ (l : VerdictPlaces). item_at l c.insert-at.result) c.insert-at.ensures.after
+    ∙ laid_here c.self.inside.verdicts.places c.insert-at.result c.args.key c.args.verdict
+    c.insert-at.ensures.empty c.insert-at.ensures.bound
 
 pub returns-clause-others : goal.returns-clause-others
 returns-clause-others c =
-    let old = c.self.inside.verdicts.places in
-    let at = c.in_ok-at.at in
-    subst (λ (l : VerdictPlaces). AreAlikeBut at l c.insert.new.self.places) c.self.view_is
-    (subst (λ (l : VerdictPlaces). AreAlikeBut at old l) (sym c.in_ok-at.ensures.ok)
-    (laid_else old c.self.inside.order.entries at c.in_ok-own.own c.args.verdict
-    c.in_ok-at.ensures.empty c.in_ok-at.ensures.bound))
-
-pub invariant_of-self-in_default : goal.invariant_of-self-in_default
-invariant_of-self-in_default c =
-    let old = c.self.inside.verdicts.places in
-    let order = c.self.inside.order.entries in
-    let after = c.insert-2.new.self.entries in
-    let at = c.in_ok-at.at in
-    let own = c.in_ok-own.own in
-    let same : c.in_ok-listed.listed ≡ own = c.in_ok-listed.ensures ∙ sym c.in_ok-own.ensures in
-    let found : (q : List ℕ) → place_of after q ≡ cond (at_key own q) (Some at) (place_of order q) =
-    subst (λ (k : List ℕ). (q : List ℕ) → place_of after q
-    ≡ cond (at_key k q) (Some at) (place_of order q)) same c.in_default.ensures.updates.0 in
-    subst (λ (l : VerdictPlaces). ArePlaced l after) (sym c.in_ok-at.ensures.ok)
-    (placed_laid old order at own c.args.verdict c.in_ok-at.ensures.empty c.in_ok-at.ensures.bound
-    c.self.invariant (no_place old c.args.self.now c.args.key.now own c.self.view_is c.requires
-    c.in_ok-own.ensures) after found)
-
-pub returns-clause-distinct : goal.returns-clause-distinct
-returns-clause-distinct c =
-    distinct_placed c.insert.new.self.places c.insert-2.new.self.entries
-    (invariant_of-self-in_default c)
+    subst (λ (l : VerdictPlaces). AreAlikeBut c.insert-at.result l c.insert-at.new.self.places)
+    (ap (λ (m : Marking). m.places) c.self.view_is)
+    (subst (λ (l : VerdictPlaces). AreAlikeBut c.insert-at.result c.self.inside.verdicts.places l)
+    (sym c.insert-at.ensures.after)
+    (laid_else c.self.inside.verdicts.places c.insert-at.result c.args.key c.args.verdict
+    c.insert-at.ensures.empty c.insert-at.ensures.bound))
 
 pub returns-clause-becomes : goal.returns-clause-becomes
 returns-clause-becomes c =
     let old = c.self.inside.verdicts.places in
-    let at = c.in_ok-at.at in
-    let key = c.args.key.now in
+    let at = c.insert-at.result in
+    let key = c.args.key in
     let verdict = c.args.verdict in
-    let made : c.insert.new.self.places ≡ laid old at (Some (key, verdict)) = c.in_ok-at.ensures.ok
-    ∙ ap (λ (k : List ℕ). laid old at (Some (k, verdict))) c.in_ok-own.ensures in
-    let absent = no_place old c.args.self.now key key c.self.view_is c.requires refl in
+    let same : old ≡ c.args.self.now.places = ap (λ (m : Marking). m.places) c.self.view_is in
+    let absent = no_place old c.args.self.now key same c.requires.none in
     subst (λ (l : VerdictPlaces). Becomes key verdict (in_order l)
-    (in_order c.insert.new.self.places)) c.self.view_is
-    (subst (λ (l : VerdictPlaces). Becomes key verdict (in_order old) (in_order l)) (sym made)
+    (in_order c.insert-at.new.self.places)) same
+    (subst (λ (l : VerdictPlaces). Becomes key verdict (in_order old) (in_order l))
+    (sym c.insert-at.ensures.after)
     (becomes_found key (Some verdict) (in_order old) (in_order (laid old at (Some (key, verdict))))
-    (lookup-laid old at key verdict absent c.in_ok-at.ensures.empty)))
+    (lookup-laid old at key verdict absent c.insert-at.ensures.empty)))

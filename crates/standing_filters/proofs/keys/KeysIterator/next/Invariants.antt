@@ -3,9 +3,9 @@ use Rattle.standing_filters.specs.Placed.{verdicts_in}
 use Rattle.standing_filters.specs.Watched.{keys_held}
 use Rattle.standing_filters.proofs.keys.KeysIterator.next.Given as goal
 
-abbrev pub invariant-loop-key : goal.invariant-loop-key
-invariant-loop-key l = keys_held (verdicts_in l.self-inside.verdicts.now.places l.self-inside.order)
+abbrev pub invariant-loop-at : goal.invariant-loop-at
+invariant-loop-at l = keys_held (verdicts_in l.self-inside.verdicts.now.places l.self-inside.order)
     ≡ l.fn.self
 
-abbrev pub decreases-loop-key : goal.decreases-loop-key
-decreases-loop-key l = length l.self-inside.order
+abbrev pub decreases-loop-at : goal.decreases-loop-at
+decreases-loop-at l = length l.self-inside.order

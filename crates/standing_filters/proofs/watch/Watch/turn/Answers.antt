@@ -18,7 +18,8 @@ loop-at-init g c = record {
   watch = c.requires;
   so = so_none (g.V.Values.summed c.args.values.now) (g.V.Values.living c.args.values.now) c.args.t
       (view_of_watch c.args.self.now) c.args.meter.now.evals
-      ((table : ℕ) (key : List ℕ) → IsFlatSoon c.args.t (g.V.Values.flat c.args.values.now table key));
+      ((table : ℕ) (key : List ℕ) → IsFlatSoon c.args.t
+      (g.V.Values.flat c.args.values.now table key));
   flips = λ known. at_none c.args.place (λ key. (verdict_at (kept_by c.args.self.now) key).holds)
       c.args.flips.now known;
 }
@@ -41,7 +42,8 @@ loop-at-preserved g c =
       flips = λ known.
           let told = c.turn_place.ensures.flips known in
           at_then c.args.place (λ key. (verdict_at (kept_by c.args.self.now) key).holds)
-          (λ key. (verdict_at (kept_by old) key).holds) (λ key. (verdict_at (kept_by new) key).holds)
+          (λ key. (verdict_at (kept_by old) key).holds) (λ key. (verdict_at
+          (kept_by new) key).holds)
           c.args.flips.now c.loop-at.flips c.turn_place.new.flips
           (c.loop-at.invariant.flips told.known)
           (subst (λ (l : VerdictPlaces). TellsAt c.args.place
@@ -83,11 +85,13 @@ loop-other-preserved g c =
       flips = λ known.
           let told = c.turn_place-in-loop-other.ensures.flips known in
           at_then c.args.place (λ key. (verdict_at (kept_by c.args.self.now) key).holds)
-          (λ key. (verdict_at (kept_by old) key).holds) (λ key. (verdict_at (kept_by new) key).holds)
+          (λ key. (verdict_at (kept_by old) key).holds) (λ key. (verdict_at
+          (kept_by new) key).holds)
           c.args.flips.now c.loop-other.flips c.turn_place-in-loop-other.new.flips
           (c.loop-other.invariant.flips told.known) told;
       bound = subst (λ n. n ≤ c.places-count.result)
-          (sym (set_length c.loop-other.other old.places new.places c.turn_place-in-loop-other.ensures.set))
+          (sym (set_length c.loop-other.other old.places new.places
+          c.turn_place-in-loop-other.ensures.set))
           c.loop-other.invariant.bound;
       turned = one_more c.args.t c.loop-other.other c.loop-other.other old.places new.places
           c.turn_place-in-loop-other.ensures.set refl c.turn_place-in-loop-other.ensures.turned
