@@ -2,9 +2,10 @@
 use Rattle.std.proofs.Common.{◌≡◌, ℕ, zero, suc, ◌+◌, ◌<◌, ◌≤◌, true, false, not, subst}
 use Rattle.std.proofs.Common.{eqb, ltb, List, [], ◌∷◌, ◌++◌, length, take, drop, Option, Some, None}
 use Rattle.std.proofs.Common.{refl, ap, sym, ◌∙◌, inl, inr, arith, append-nil}
-use Rattle.std.proofs.Common.{length-take-le, Err, codes}
+use Rattle.std.proofs.Common.{length-take-le, Ok, Err, codes}
 use Rattle.std.specs.Fmt.{decimal}
-use Rattle.std.specs.Prelude.{if◌then◌else◌, nat_lt}
+use Rattle.std.specs.Prelude.{if◌then◌else◌, nat_lt, OnOk, Result}
+use Rattle.std.specs.Result.{is_err}
 use Rattle.std.specs.Option.{option_or, option_to_list}
 use Rattle.std.proofs.Math.Seq.{take-append-add, drop-append-add}
 use Rattle.std.proofs.lemmas.Bool.{cases_Bool, cases_lt}
@@ -29,6 +30,11 @@ use Rattle.serve.specs.declared.door.Door.{Door}
 use Rattle.serve.specs.declared.door.Door.TheVariants.{Programs, People}
 
 -- ---- what a line says stands in what is kept of it
+
+-- what keeping it promises where it wasn't refused
+pub from_ok : {T E P : Type 0} (result : Result T E) → is_err result ≡ false → OnOk result P → P
+from_ok (Ok u) not ok = ok
+from_ok (Err e) not ok = cc
 
 only_returns : (xs : List ℕ) → text_byte xs ≡ None → are_returns xs ≡ true
 only_returns [] none = refl

@@ -1,10 +1,9 @@
 use Rattle.std.proofs.Common.{◌≡◌, ℕ, Bool, true, false, List, ◌++◌, refl, ap, sym, inr}
 use Rattle.std.proofs.Common.{◌∙◌}
 use Rattle.std.proofs.lemmas.Result.{err_from_is_err_and}
-use Rattle.book.proofs.Judging.{from_ok}
 use Rattle.hub.specs.Views.{Seeing}
 use Rattle.serve.proofs.Commanded.{has_quit, learned_same, stops_obeying, works_obeyed}
-use Rattle.serve.proofs.Kept.{kept_quits}
+use Rattle.serve.proofs.Kept.{from_ok, kept_quits}
 use Rattle.serve.proofs.Pieces.{none_in_both}
 use Rattle.serve.specs.Commanding.{HasLearned, kept_of}
 use Rattle.serve.specs.Commands.{changes_in, seen_by}

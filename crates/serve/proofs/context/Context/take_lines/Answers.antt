@@ -1,8 +1,8 @@
 use Rattle.std.proofs.Common.{ℕ, Bool, List, ◌∙◌, ap, subst, sym}
 use Rattle.std.proofs.lemmas.Result.{err_from_is_err_and}
-use Rattle.book.proofs.Judging.{from_ok}
 use Rattle.hub.specs.Views.{Seeing}
 use Rattle.serve.proofs.Commanded.{stops_unkept, works_kept}
+use Rattle.serve.proofs.Kept.{from_ok}
 use Rattle.serve.specs.Commanding.{Works, WorksIf}
 use Rattle.serve.specs.Traffic.{so_far}
 use Rattle.serve.proofs.context.Context.take_lines.Goals as goal
