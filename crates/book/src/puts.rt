@@ -15,14 +15,42 @@ ghost use Rattle.book.specs.Store.{put_arrival};
 use crate::at::At;
 use crate::store::Size;
 use agg_types::{Cell, Col, Key, NoMemory};
-use peer_rows::{Held, Row, RowCells, Rows, Spot};
+use peer_rows::{FEW_CELLS, Held, Row, RowCells, Rows, Spot};
 use period_rate::Rate;
 use std::alloc::Global;
 use std::mem;
 
-/// A row that arrives at a moment, in ms.
+/// Lays a row down that arrives at a moment, in ms, where another one lies. One of few cells takes
+/// no memory, and is made there.
 #[inline(always)]
-pub fn new_row(
+pub fn lay_row(
+    row: &mut Row,
+    alloc: Global,
+    t: u64,
+    life: Option<u64>,
+    cols: &[(Col, u32)],
+    cells: &[Cell],
+) -> Result<(), NoMemory>
+    requires in_range { t ≤ LAST_MOMENT }
+    requires short { IsShort life }
+    ensures { OnOk result (as_arrival row.new ≡ put_arrival t life cols.now cells.now) }
+{
+    if cells.len() > FEW_CELLS {
+        *row = new_row(alloc, t, life, cols, cells)?;
+        return Ok(());
+    }
+    let mut held = RowCells::none(alloc);
+    hold(&mut held, t, cols, cells)?;
+    let life = short(life);
+    if !row.set_few(&held, t, life) {
+        *row = Row::new(held, t, life)?;
+    }
+    Ok(())
+}
+
+/// A row that arrives at a moment, in ms.
+#[inline(never)]
+fn new_row(
     alloc: Global,
     t: u64,
     life: Option<u64>,

@@ -17,10 +17,10 @@ ghost use Rattle.book.specs.Planned.{IsInside, IsShort, place_at};
 ghost use Rattle.book.specs.Store.{AreRowsOf, IsEachKeyOf, IsWalk, put_arrival, row_keys};
 
 use crate::at::At;
-use crate::puts::{drop_key, drop_row, drop_table, new_row, set_row};
+use crate::puts::{drop_key, drop_row, drop_table, lay_row, set_row};
 use crate::values::{arriving_worth, found_bound};
 use agg_types::{Cell, Col, Key, NoMemory, Shape};
-use peer_rows::{ByKey, EachKey, OfKey, Rows, Spot, Trace};
+use peer_rows::{ByKey, EachKey, OfKey, Row, Rows, Spot, Trace};
 use std::alloc::Global;
 use std::marker::Model;
 
@@ -176,7 +176,8 @@ impl Store {
             drop_row(&mut self.rows, self.size, at);
             return Ok(at.spot);
         }
-        let mut row = new_row(self.alloc, t, life, cols, cells)?;
+        let mut row = Row::blank();
+        lay_row(&mut row, self.alloc, t, life, cols, cells)?;
         Ok(set_row(&mut self.rows, self.size, at, &mut row)?)
     }
 

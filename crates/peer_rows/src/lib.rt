@@ -50,6 +50,6 @@ pub use by_key::ByKey;
 pub use each_key::EachKey;
 pub use of_key::OfKey;
 pub use place_index::Trace;
-pub use row::{Held, Row, RowCells};
+pub use row::{FEW_CELLS, Held, Row, RowCells};
 pub use rows::Rows;
 pub use spot::Spot;

@@ -1,5 +1,5 @@
 ghost use Rattle.std.specs.Prelude.{◌≡◌, ◌+◌, ◌/◌, ◌≤◌, [], ◌∷◌, ◌++◌, length, map};
-ghost use Rattle.std.specs.Prelude.{slice_get, IfOk, IfSome, OnOk, OnErr};
+ghost use Rattle.std.specs.Prelude.{slice_get, IfOk, IfSome, MatchBool, OnOk, OnErr};
 ghost use Rattle.std.specs.Option.{option_map};
 ghost use Rattle.agg_types.specs.declared.limits.TheConstants.{LAST_MOMENT};
 ghost use Rattle.peer_rows.specs.Counted.{counted, counted_at};
@@ -16,8 +16,8 @@ use std::alloc::Global;
 use std::marker::Model;
 use std::mem;
 
-// How many cells are laid into the value itself, while they fit there.
-const FEW: usize = 5;
+/// So many cells are laid into the value itself, while they fit there.
+pub const FEW_CELLS: usize = 5;
 
 /// What a row holds of one column: a count, or a rate over a period.
 #[derive(Clone, Copy, Debug, PartialEq, Eq)]
@@ -84,15 +84,25 @@ impl Model for RowCells {
 }
 
 impl RowCells {
+    /// No cells, to be few. Takes no memory.
+    #[inline(always)]
+    pub fn none(alloc: Global) -> RowCells
+        ensures { result ≡ [] }
+    {
+        RowCells {
+            form: Form::Few(Few::none()),
+            alloc,
+        }
+    }
+
     /// No cells, with room for so many.
     pub fn with_capacity(alloc: Global, cells: usize) -> Result<RowCells, NoMemory>
         ensures { IfOk result (λ cells. cells ≡ []) }
     {
-        let form = if cells <= FEW {
-            Form::Few(Few::none())
-        } else {
-            Form::Many(Vec::with_capacity(alloc, cells)?)
-        };
+        if cells <= FEW_CELLS {
+            return Ok(RowCells::none(alloc));
+        }
+        let form = Form::Many(Vec::with_capacity(alloc, cells)?);
         Ok(RowCells { form, alloc })
     }
 
@@ -162,7 +172,7 @@ impl RowCells {
 fn spread(alloc: Global, few: &RowCells) -> Result<Vec<Packed>, NoMemory>
     ensures { IfOk result (λ cells. map held_of cells.items ≡ few.now) }
 {
-    let mut cells = Vec::with_capacity(alloc, FEW + 1)?;
+    let mut cells = Vec::with_capacity(alloc, FEW_CELLS + 1)?;
     for col in 0..few.len() {
         if let Some(held) = few.get(col) {
             cells.push(Packed::new(&held))?;
@@ -242,13 +252,26 @@ impl Row {
           ends = option_map (λ life. arrived + life) life;
         }) }
     {
-        match lay(&cells, arrived, life) {
-            Some(laid) => Ok(Row { laid }),
-            None => {
-                let laid = block(cells, arrived, life)?;
-                Ok(Row { laid })
-            }
+        let mut row = Row::blank();
+        if row.set_few(&cells, arrived, life) {
+            return Ok(row);
         }
+        let laid = block(cells, arrived, life)?;
+        Ok(Row { laid })
+    }
+
+    /// Becomes what `new` makes of these cells, if they and the moments fit the value itself, and
+    /// else stays. Takes no memory.
+    ///
+    /// A processor waits where words that were just written one by one are read as a block, as
+    /// where a row is handed on. So who makes many rows makes each where it is to lie.
+    #[inline(always)]
+    pub fn set_few(&mut self, cells: &RowCells, arrived: u64, life: Option<u32>) -> bool
+        requires { arrived ≤ LAST_MOMENT }
+        ensures { MatchBool result (self.new ≡ stored cells.now arrived life)
+            (self.new ≡ self.old) }
+    {
+        lay(&mut self.laid, cells, arrived, life)
     }
 
     /// A row without cells, which never ends, to be left where one is taken. Takes no memory.
@@ -395,27 +418,31 @@ fn moment(head: u8, low: u32) -> u64
     whole(low, u32::from(head / LENS))
 }
 
-// A row with its cells in the value itself, if these and its moments fit there.
+// Lays a row down with its cells in the value itself, if these and its moments fit there.
 #[inline(always)]
-fn lay(cells: &RowCells, arrived: u64, life: Option<u32>) -> Option<Laid>
-    ensures { IfSome result (λ laid. row_in laid ≡ stored cells.now arrived life) }
+fn lay(laid: &mut Laid, cells: &RowCells, arrived: u64, life: Option<u32>) -> bool
+    ensures { MatchBool result (row_in laid.new ≡ stored cells.now arrived life)
+        (laid.new ≡ laid.old) }
 {
     let Form::Few(few) = &cells.form else {
-        return None;
+        return false;
     };
     let high = arrived / WORD;
     if high >= HIGHS {
-        return None;
+        return false;
     }
-    let life = life_word(life)?;
+    let Some(life) = life_word(life) else {
+        return false;
+    };
     let (len, kinds, words) = few.laid();
-    Some(Laid::Few {
+    *laid = Laid::Few {
         head: len + LENS * high as u8,
         kinds,
         words: *words,
         low: (arrived % WORD) as u32,
         life,
-    })
+    };
+    true
 }
 
 // The number of a life, if that isn't the one that says that there is none.

@@ -49,7 +49,7 @@ returns-clause-ok c =
     } in
     let old = arrivals c.self.inside.rows.entries in
     ap kept (c.in_ok-set_row.ensures.ok
-    ∙ ap (insert_entry row_key_cmp old (place_at c.args.at)) c.in_ok-row.ensures
+    ∙ ap (insert_entry row_key_cmp old (place_at c.args.at)) c.in_ok-lay_row.ensures
     ∙ sym (with_living c.args.t old (place_at c.args.at) row live))
     ∙ ap (λ (s : InForce). record s { rows = with_row c.args.t s.rows (place_at c.args.at) row })
     c.self.view_is
