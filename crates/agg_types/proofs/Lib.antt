@@ -2,5 +2,6 @@ pub mod Columns
 pub mod Checking
 pub mod Naming
 pub mod Numbers
-pub mod Packing
+pub mod PackedWords
+mod Packing
 pub mod Removing

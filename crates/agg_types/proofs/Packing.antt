@@ -12,7 +12,7 @@ use Rattle.agg_types.specs.declared.event.What.TheVariants as whats
 use Rattle.agg_types.specs.Whats.{AreWithin, entry_what, life_of}
 use Rattle.agg_types.specs.declared.event.Cell.{Cell}
 use Rattle.agg_types.specs.declared.entry.Entry.{Entry}
-use Rattle.agg_types.specs.declared.entry.Entry.TheVariants.{Put, Other}
+use Rattle.agg_types.specs.declared.entry.Entry.TheVariants.{Put, Packed, Other}
 
 -- ---- cells behind others
 -- what entries say stays where cells are added
@@ -29,6 +29,8 @@ entries-more cells more (Put count table peer start life key ∷ entries) within
       take-append-le count (drop start cells) more ends,
       entries-more cells more entries within.1,
     ) refl
+entries-more cells more (Packed table peer life key packed ∷ entries) within =
+    rw (entries-more cells more entries within) refl
 entries-more cells more (Other what ∷ entries) within =
     rw (entries-more cells more entries within) refl
 
@@ -37,6 +39,8 @@ pub AreWithin-more : (len more : ℕ) (entries : List Entry) → len ≤ more �
 AreWithin-more len more [] fewer within = tt
 AreWithin-more len more (Put count table peer start life key ∷ entries) fewer within =
     (omega (arith, within.0, fewer), AreWithin-more len more entries fewer within.1)
+AreWithin-more len more (Packed table peer life key packed ∷ entries) fewer within =
+    AreWithin-more len more entries fewer within
 AreWithin-more len more (Other what ∷ entries) fewer within =
     AreWithin-more len more entries fewer within
 
@@ -45,6 +49,8 @@ pub AreWithin-append : (len : ℕ) (entries others : List Entry) → AreWithin l
 AreWithin-append len [] others within last = last
 AreWithin-append len (Put count table peer start life key ∷ entries) others within last =
     (within.0, AreWithin-append len entries others within.1 last)
+AreWithin-append len (Packed table peer life key packed ∷ entries) others within last =
+    AreWithin-append len entries others within last
 AreWithin-append len (Other what ∷ entries) others within last =
     AreWithin-append len entries others within last
 

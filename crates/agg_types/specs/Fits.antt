@@ -60,6 +60,11 @@ select_fits shape (Conds conds) = conds_fit shape.cols conds
 abbrev pub at_table : List Shape → ℕ → (Shape → Bool) → Bool
 at_table tables table test = option_map_or test (slice_get tables table) false
 
+-- whether a key and cells may be a row of the table at a position
+abbrev pub row_fits : List Shape → ℕ → List ℕ → List Cell → Bool
+row_fits tables table key cells =
+    at_table tables table (λ shape. key_fits shape.kind key && cells_fit shape.cols cells)
+
 -- whether a life, if there is one, has 32 bits
 abbrev pub life_fits : Option ℕ → Bool
 life_fits None = true
@@ -75,8 +80,7 @@ abbrev pub fits : Config → What → Bool
 fits config Sit = true
 fits config (Open peer) = nat_lt peer (length config.peers)
 fits config (Put peer table key life cells) =
-    nat_lt peer (length config.peers) && life_fits life && at_table config.tables table
-    (λ shape. key_fits shape.kind key && cells_fit shape.cols cells)
+    nat_lt peer (length config.peers) && life_fits life && row_fits config.tables table key cells
 fits config (Clear table sel) = at_table config.tables table (λ shape. select_fits shape sel)
 fits config (AddFilter filter) = filter_fits config.tables filter
 fits config (DropFilter name) = true

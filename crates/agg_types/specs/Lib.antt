@@ -3,10 +3,12 @@ pub mod Check
 pub mod Col
 pub mod FaultName
 pub mod Fits
+pub mod Form
 pub mod Key
 pub mod Kind
 pub mod Name
 pub mod Naming
 pub mod Op
+pub mod Packed
 pub mod RowKey
 pub mod Whats

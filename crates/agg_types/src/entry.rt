@@ -2,12 +2,12 @@
 ghost use Rattle.std.specs.Prelude.{◌≡◌, ℕ, ◌+◌, ◌≤◌, List, [], ◌∷◌, ◌++◌};
 ghost use Rattle.std.specs.Prelude.{drop, length, take};
 ghost use Rattle.std.specs.Prelude.{IsTrue};
-ghost use Rattle.agg_types.specs.Whats.{AreWithin, FitsEntry, FitsLife, as_what, entry_what};
+ghost use Rattle.agg_types.specs.Whats.{AreWithin, FitsCells, FitsEntry, FitsLife, as_what, entry_what};
 ghost use Rattle.agg_types.specs.Whats.{life_of};
 ghost use Rattle.agg_types.specs.declared.event.Cell.{Cell as CellValue};
 ghost use Rattle.agg_types.specs.declared.event.What.TheVariants.{Put};
 
-use crate::{Cell, Key, LentWhat, What};
+use crate::{Cell, Key, LentCells, LentWhat, PackedCells, What};
 use std::mem::size_of;
 
 /// The life that stands for none. No longer one fits an entry.
@@ -33,11 +33,19 @@ pub(crate) enum Entry {
         life: u32,
         key: Key,
     },
-    /// What happens seldom, or is too large for the form above.
+    /// The same with its cells in words.
+    Packed {
+        table: u16,
+        peer: u32,
+        life: u32,
+        key: Key,
+        cells: PackedCells,
+    },
+    /// What happens seldom, or is too large for the forms above.
     Other(Box<What>),
 }
 
-const _: () = prove!(size_of::<Entry>() == 40);
+const _: () = prove!(size_of::<Entry>() == 72);
 
 // By hand, so that what drops it elsewhere proves nothing of its parts.
 impl Drop for Entry {
@@ -50,6 +58,13 @@ impl Drop for Entry {
                 start: _,
                 life: _,
                 key: _,
+            } => {}
+            Entry::Packed {
+                table: _,
+                peer: _,
+                life: _,
+                key: _,
+                cells: _,
             } => {}
             Entry::Other(_) => {}
         }
@@ -67,7 +82,8 @@ impl Entry {
         start: usize,
         count: usize,
     ) -> Entry
-        requires fits { FitsEntry peer table start count life }
+        requires fits { FitsEntry peer table life }
+        requires cells { FitsCells start count }
         ensures says { (before cells : List CellValue) → start ≡ length before
             → count ≡ length cells
             → entry_what (before ++ cells) result ≡ Put peer table key life cells }
@@ -80,6 +96,29 @@ impl Entry {
             start: start as u32,
             life: life_word(life),
             key,
+        }
+    }
+
+    /// The entry of an update whose cells are in words.
+    #[inline(always)]
+    pub(crate) fn packed(
+        peer: usize,
+        table: usize,
+        key: Key,
+        life: Option<u64>,
+        cells: PackedCells,
+    ) -> Entry
+        requires fits { FitsEntry peer table life }
+        ensures says { (others : List CellValue)
+            → entry_what others result ≡ Put peer table key life cells }
+        ensures within { (len : ℕ) → AreWithin len (result ∷ []) }
+    {
+        Entry::Packed {
+            table: table as u16,
+            peer: peer as u32,
+            life: life_word(life),
+            key,
+            cells,
         }
     }
 
@@ -101,7 +140,20 @@ impl Entry {
                 table: *table as usize,
                 key,
                 life: life_from(*life),
-                cells: first(from(cells, *start as usize), *count as usize),
+                cells: LentCells::Slice(first(from(cells, *start as usize), *count as usize)),
+            },
+            Entry::Packed {
+                table,
+                peer,
+                life,
+                key,
+                cells,
+            } => LentWhat::Put {
+                peer: *peer as usize,
+                table: *table as usize,
+                key,
+                life: life_from(*life),
+                cells: LentCells::Packed(cells),
             },
             Entry::Other(what) => LentWhat::of(what),
         }
@@ -132,12 +184,20 @@ fn first(cells: &[Cell], count: usize) -> &[Cell]
     }
 }
 
-/// Whether an update has such an entry, so many cells of which begin at this place.
-#[inline]
-pub(crate) fn fits(peer: usize, table: usize, start: usize, count: usize, life: Option<u64>) -> bool
-    ensures { IsTrue result → FitsEntry peer table start count life }
+/// Whether an update of a peer has an entry.
+#[inline(always)]
+pub(crate) fn fits(peer: usize, table: usize, life: Option<u64>) -> bool
+    ensures { IsTrue result → FitsEntry peer table life }
 {
-    peer <= LARGEST && table <= LAST_TABLE && start <= LARGEST && count <= MOST && life_fits(life)
+    peer <= LARGEST && table <= LAST_TABLE && life_fits(life)
+}
+
+/// Whether so many cells that begin at a place have one.
+#[inline]
+pub(crate) fn cells_fit(start: usize, count: usize) -> bool
+    ensures { IsTrue result → FitsCells start count }
+{
+    start <= LARGEST && count <= MOST
 }
 
 // Whether a life fits an entry.

@@ -1,12 +1,16 @@
-ghost use Rattle.std.specs.Prelude.{◌≡◌, ◌&&◌};
+ghost use Rattle.std.specs.Prelude.{◌≡◌, ◌&&◌, IfSome};
 ghost use Rattle.std.specs.List.{list_all};
-ghost use Rattle.agg_types.specs.Fits.{key_fits, cell_fits, cells_fit, stores, conds_fit};
+ghost use Rattle.agg_types.specs.Fits.{key_fits, cell_fits, cells_fit, row_fits, stores, conds_fit};
 ghost use Rattle.agg_types.specs.Fits.{select_fits, at_table, life_fits, filter_fits, fits};
-ghost use Rattle.agg_types.specs.Whats.{as_what};
+ghost use Rattle.agg_types.specs.Form.{IsFormAt};
+ghost use Rattle.agg_types.specs.Whats.{as_what, lent_cells};
 ghost use Rattle.agg_types.specs.declared.event.What.TheVariants.{Put};
 
 use crate::limits::{LAST_MOMENT, MOST_CONDS};
-use crate::{Cell, Col, Cond, Config, Filter, Key, KeyKind, LentWhat, Select, Shape, What};
+use crate::{
+    Cell, Col, Cond, Config, Filter, Key, KeyKind, LentCells, LentWhat, Select, Shape, UpdateForm,
+    What,
+};
 
 impl Config {
     /// Whether something may happen in this configuration. Its positions are in range, its key has
@@ -36,6 +40,30 @@ impl Config {
         }
     }
 
+    /// The same, said sooner of an update of a table whose form is known.
+    #[inline(always)]
+    pub fn fits_by(&self, table: usize, form: Option<UpdateForm>, what: LentWhat<'_>) -> bool
+        requires { IfSome form (IsFormAt self.now.tables table) }
+        ensures { result ≡ fits self.now (as_what what.entry) }
+    {
+        let LentWhat::Put {
+            peer,
+            table: own,
+            key,
+            life,
+            cells: LentCells::Packed(cells),
+        } = what
+        else {
+            return self.fits_lent(what);
+        };
+        match form {
+            Some(form) if own == table && form.takes(key, cells) => {
+                peer < self.peers.len() && life_fits(life)
+            }
+            _ => self.fits_lent(what),
+        }
+    }
+
     // Whether one may happen that lies elsewhere as it is.
     fn other_fits(&self, what: &What) -> bool
         ensures { result ≡ fits self.now what.now }
@@ -50,7 +78,13 @@ impl Config {
                 key,
                 life,
                 cells,
-            } => self.put_fits(*peer, *table, key, *life, cells.as_slice()),
+            } => self.put_fits(
+                *peer,
+                *table,
+                key,
+                *life,
+                LentCells::Slice(cells.as_slice()),
+            ),
             What::Clear { table, sel } => selection_fits(tables, *table, sel),
             What::AddFilter(filter) => filter_fits(tables, filter),
             What::DropFilter(_) => true,
@@ -66,9 +100,9 @@ impl Config {
         table: usize,
         key: &Key,
         life: Option<u64>,
-        cells: &[Cell],
+        cells: LentCells<'_>,
     ) -> bool
-        ensures { result ≡ fits self.now (Put peer table key.now life cells.now) }
+        ensures { result ≡ fits self.now (Put peer table key.now life (lent_cells cells.entry)) }
     {
         peer < self.peers.len()
             && life_fits(life)
@@ -109,15 +143,21 @@ fn life_fits(life: Option<u64>) -> bool
     }
 }
 
-fn row_fits(tables: &[Shape], table: usize, key: &Key, cells: &[Cell]) -> bool
-    ensures { result ≡ at_table tables.now table
-        (λ shape. key_fits shape.kind key.now && cells_fit shape.cols cells.now) }
+fn row_fits(tables: &[Shape], table: usize, key: &Key, cells: LentCells<'_>) -> bool
+    ensures { result ≡ row_fits tables.now table key.now (lent_cells cells.entry) }
 {
     match tables.get(table) {
         None => false,
-        Some(shape) => {
-            shape.kind.fits(key.as_slice()) && cells_fit(shape.cols.as_slice(), cells)
-        }
+        Some(shape) => { shape.kind.fits(key.as_slice()) && lent_fit(shape.cols.as_slice(), cells) }
+    }
+}
+
+fn lent_fit(cols: &[(Col, u32)], cells: LentCells<'_>) -> bool
+    ensures { result ≡ cells_fit cols.now (lent_cells cells.entry) }
+{
+    match cells {
+        LentCells::Slice(cells) => cells_fit(cols, cells),
+        LentCells::Packed(cells) => cells_fit(cols, cells.unpack().as_slice()),
     }
 }
 

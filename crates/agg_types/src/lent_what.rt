@@ -2,7 +2,16 @@
 ghost use Rattle.std.specs.Prelude.{◌≡◌};
 ghost use Rattle.agg_types.specs.Whats.{as_what};
 
-use crate::{Cell, Key, What};
+use crate::{Cell, Key, PackedCells, What};
+
+/// The cells of an update, as a batch lends them.
+#[derive(Clone, Copy, Debug)]
+pub enum LentCells<'a> {
+    /// One by one.
+    Slice(&'a [Cell]),
+    /// In words.
+    Packed(&'a PackedCells),
+}
 
 /// What happened, as a batch lends it: the `What` of the same name, or any other.
 #[derive(Clone, Copy, Debug)]
@@ -13,7 +22,7 @@ pub enum LentWhat<'a> {
         table: usize,
         key: &'a Key,
         life: Option<u64>,
-        cells: &'a [Cell],
+        cells: LentCells<'a>,
     },
     /// What lies in the batch as it is.
     Other(&'a What),
@@ -37,7 +46,7 @@ impl<'a> LentWhat<'a> {
                 table: *table,
                 key,
                 life: *life,
-                cells: cells.as_slice(),
+                cells: LentCells::Slice(cells.as_slice()),
             },
             _ => LentWhat::Other(what),
         }

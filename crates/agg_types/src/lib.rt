@@ -20,6 +20,7 @@ mod declared;
 mod entry;
 mod event;
 mod fits;
+mod form;
 mod items;
 mod key;
 mod kind;
@@ -28,6 +29,7 @@ mod lent_what;
 pub mod limits;
 mod name;
 mod no_memory;
+mod packed;
 mod row_key;
 mod short_key;
 mod whats;
@@ -38,15 +40,17 @@ pub use column::{COLUMNS, Col, ColInfo, ColKind, LAST_TYPE};
 pub use config::{Cond, Config, Filter, KeyKind, Op, Push, Rank, Shape};
 pub use declared::{Declared, Named};
 pub use event::{Cell, Event, Select, What};
+pub use form::UpdateForm;
 pub use items::Items;
 pub use key::Key;
 pub use kind::{KINDS, KeyLength, KindInfo};
-pub use lent_what::LentWhat;
+pub use lent_what::{LentCells, LentWhat};
 pub use limits::{
     LAST_MOMENT, LAST_SEAT, MOST_CONDS, MOST_FILTERS, MOST_PEERS, MOST_PUSHES, MOST_RANKS,
     MOST_SEATS, MOST_TABLES, NUMBERS_END,
 };
 pub use name::{Name, is_name};
 pub use no_memory::NoMemory;
+pub use packed::{PackedCells, UnpackedCells, WORDS, Words};
 pub use row_key::RowKey;
 pub use whats::Whats;

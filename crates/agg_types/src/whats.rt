@@ -3,19 +3,13 @@ ghost use Rattle.std.specs.Prelude.{◌≡◌, ◌==◌, ◌<◌, ◌+◌, ◌^�
 ghost use Rattle.std.specs.Prelude.{slice_get, IfOk, OnErr, OnOk, Some, vec_capacity, vec_len};
 ghost use Rattle.std.specs.Option.{option_map};
 ghost use Rattle.agg_types.specs.declared.event.What.TheVariants.{Put};
-ghost use Rattle.agg_types.specs.Whats.{as_what};
+ghost use Rattle.agg_types.specs.Whats.{FitsEntry, as_what};
 
-use crate::entry::{Entry, fits};
-use crate::{Cell, Cells, Key, LentWhat, NoMemory, What};
+use crate::entry::{Entry, cells_fit, fits};
+use crate::{Cell, Cells, Key, LentWhat, NoMemory, PackedCells, What};
 use std::alloc::Global;
 use std::fmt;
 use std::marker::Model;
-
-/// For how many cells of an update `reserve` takes room.
-const EACH: usize = 3;
-
-/// For how many cells it takes room at once, at most.
-const AT_ONCE: usize = 1 << 12;
 
 /// So many cells are laid sooner one by one than as a block.
 const FEW: usize = 8;
@@ -26,10 +20,11 @@ const FEW: usize = 8;
 /// copies of a book take it.
 ///
 /// An update takes no memory of its own but for a key of more than 16 bytes, which has a block: its
-/// cells lie in a block that all updates share.
+/// cells lie in its entry, packed in words, or, where they are more or larger than fit there, in a
+/// block that all updates share.
 pub struct Whats {
     entries: Vec<Entry>,
-    /// Those of the updates, one update's behind another's.
+    /// Those of the updates that aren't packed, one update's behind another's.
     cells: Vec<Cell>,
 }
 
@@ -125,8 +120,7 @@ impl Whats {
     pub fn reserve(&mut self, count: usize) -> Result<(), NoMemory>
         ensures { self.new ≡ self.old }
     {
-        self.entries.reserve(count)?;
-        Ok(self.cells.reserve(count.saturating_mul(EACH).min(AT_ONCE))?)
+        Ok(self.entries.reserve(count)?)
     }
 
     /// Adds what happened behind the others. After NoMemory the list is as it was.
@@ -154,22 +148,67 @@ impl Whats {
             (self.new ≡ self.old ++ Put peer table key life cells.now ∷ []) }
         ensures err { OnErr result (self.new ≡ self.old) }
     {
+        if !fits(peer, table, life) {
+            return self.push_what(peer, table, key, life, cells);
+        }
+        let Some(packed) = PackedCells::pack(cells) else {
+            return self.push_wide(peer, table, key, life, cells);
+        };
+        make_room(&mut self.entries)?;
+        self.entries
+            .push_reserved(Entry::packed(peer, table, key, life, packed));
+        Ok(())
+    }
+
+    // Adds an update whose cells aren't packed: they are laid behind the others'.
+    #[inline(never)]
+    fn push_wide(
+        &mut self,
+        peer: usize,
+        table: usize,
+        key: Key,
+        life: Option<u64>,
+        cells: &[Cell],
+    ) -> Result<(), NoMemory>
+        requires { FitsEntry peer table life }
+        ensures ok { OnOk result
+            (self.new ≡ self.old ++ Put peer table key life cells.now ∷ []) }
+        ensures err { OnErr result (self.new ≡ self.old) }
+    {
         let start = self.cells.len();
-        if !fits(peer, table, start, cells.len(), life) {
-            let cells = Cells::copy(self.alloc(), cells)?;
-            return self.push(What::Put {
-                peer,
-                table,
-                key,
-                life,
-                cells,
-            });
+        if !cells_fit(start, cells.len()) {
+            return self.push_what(peer, table, key, life, cells);
         }
         make_room(&mut self.entries)?;
         lay(&mut self.cells, cells)?;
         let entry = Entry::put(peer, table, key, life, start, cells.len());
         self.entries.push_reserved(entry);
         Ok(())
+    }
+
+    // Adds an update that no entry has room for, in a block of its own.
+    #[cold]
+    #[inline(never)]
+    fn push_what(
+        &mut self,
+        peer: usize,
+        table: usize,
+        key: Key,
+        life: Option<u64>,
+        cells: &[Cell],
+    ) -> Result<(), NoMemory>
+        ensures ok { OnOk result
+            (self.new ≡ self.old ++ Put peer table key life cells.now ∷ []) }
+        ensures err { OnErr result (self.new ≡ self.old) }
+    {
+        let cells = Cells::copy(self.alloc(), cells)?;
+        self.push(What::Put {
+            peer,
+            table,
+            key,
+            life,
+            cells,
+        })
     }
 
     /// Takes all out. The room stays.

@@ -5,6 +5,7 @@ pub mod Inside
 pub mod Reading
 pub mod Bounding
 pub mod Placing
+pub mod Arriving
 pub mod Counting
 pub mod Foresight
 pub mod Leading

@@ -1,9 +1,9 @@
 -- What the rows of a book stand for.
-use Rattle.std.specs.Prelude.{◌≡◌, ℕ, ◌≤◌, ◌==◌, List, [], Option, None, Some, MatchOption}
+use Rattle.std.specs.Prelude.{◌≡◌, ℕ, ◌≤◌, ◌==◌, List, [], Option, None, Some, Bool, MatchBool, MatchOption}
 use Rattle.std.specs.Prelude.{filter}
 use Rattle.std.specs.Prelude.{length, map}
 use Rattle.std.specs.Borrow.{Bor}
-use Rattle.std.specs.BTreeMap.{is_at}
+use Rattle.std.specs.BTreeMap.{insert_entry, is_at}
 use Rattle.std.specs.Cmp.Lexicographic.{slice_cmp}
 use Rattle.std.specs.List.{IsDistinct, dedup}
 use Rattle.std.specs.Map as maps
@@ -12,14 +12,17 @@ use Rattle.std.specs.Option.{option_map}
 use Rattle.fleet_model.specs.Keys.{key_rows}
 use Rattle.fleet_model.specs.Values.{same_key}
 use Rattle.peer_rows.specs.Places.{Keys}
+use Rattle.peer_rows.specs.Rows.{RowMap}
 use Rattle.peer_rows.specs.Table.{Spot}
 use Rattle.peer_rows.specs.Walk.{if_any}
+use Rattle.peer_rows.specs.declared.arrival.Arrival.{Arrival as Packed}
 use Rattle.peer_rows.specs.declared.row.Row.{Row}
-use Rattle.book.specs.Shown.{of_peer, of_spot}
+use Rattle.book.specs.Shown.{arrivals, of_peer, of_spot}
 use Rattle.agg_types.specs.declared.config.Config.{Config}
 use Rattle.agg_types.specs.declared.column.Col.{Col}
 use Rattle.agg_types.specs.declared.event.Cell.{Cell}
 use Rattle.agg_types.specs.declared.limits.TheConstants.{LAST_MOMENT}
+use Rattle.agg_types.specs.RowKey.{row_key_cmp}
 use Rattle.agg_types.specs.declared.row_key.RowKey.{RowKey}
 use Rattle.fleet_model.specs.Normalized.{normalized_cells}
 use Rattle.fleet_model.specs.declared.arrival.Arrival.{Arrival}
@@ -34,6 +37,16 @@ pub record InForce : Type 0 where
 abbrev pub put_arrival : ℕ → Option ℕ → List (Col × ℕ) → List Cell → Arrival
 put_arrival t life cols cells =
     record { arrived = t; life = life; cells = normalized_cells cols cells }
+
+-- the row that packed cells make which arrive
+abbrev pub arrival_put : Packed → Arrival
+arrival_put packed = put_arrival packed.t packed.life packed.cols.now packed.cells.now
+
+-- it stands at a place now, or, where it wasn't put, nothing has changed
+abbrev pub HasArrived : Bool → RowMap → RowMap → RowKey → Packed → Type 0
+HasArrived done old new place packed = MatchBool done
+    (arrivals new.entries
+    ≡ insert_entry row_key_cmp (arrivals old.entries) place (arrival_put packed)) (new ≡ old)
 
 -- these are the rows of a key, each with its peer; there is none where none were found
 abbrev pub AreRowsOf : List (RowKey × Arrival) → ℕ → List ℕ → Option (List (ℕ × Row)) → Type 0

@@ -1,5 +1,6 @@
 -- What stands on a table: filters, and ranked lists.
-use Rattle.std.specs.Prelude.{◌≡◌, ◌==◌, ℕ, Bool}
+use Rattle.std.specs.Prelude.{◌≡◌, ◌==◌, ℕ, Bool, IfSome}
+use Rattle.agg_types.specs.Form.{IsFormAt}
 use Rattle.std.specs.List.{list_any}
 use Rattle.agg_types.specs.declared.config.Config.{Config}
 use Rattle.book.specs.declared.table_use.TableUse.{TableUse}
@@ -16,3 +17,4 @@ has_list config table = list_any (λ rank. rank.table == table) config.ranks
 pub record IsUseOf (config : Config) (used : TableUse) : Type 0 where
   pub judged : used.is_judged ≡ has_filter config used.table
   pub ranked : used.is_ranked ≡ has_list config used.table
+  pub form : IfSome used.form (IsFormAt config.tables used.table)

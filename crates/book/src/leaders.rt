@@ -7,6 +7,7 @@
 
 ghost use Rattle.std.specs.Prelude.{◌≡◌, ◌<◌, ◌≤◌, ℕ, List, Option, length, filter, OnOk};
 ghost use Rattle.std.specs.Prelude.{OnErr};
+ghost use Rattle.agg_types.specs.Whats.{lent_cells};
 ghost use Rattle.agg_types.specs.declared.limits.TheConstants.{LAST_MOMENT};
 ghost use Rattle.fleet_model.specs.Keys.{AreInOrder};
 ghost use Rattle.fleet_model.specs.Machine.{with_row};
@@ -19,7 +20,7 @@ ghost use Rattle.book.specs.Uses.{has_list};
 use crate::at::At;
 use crate::foreseen::live_rows;
 use crate::store::Store;
-use agg_types::{Cell, Config, Key, NoMemory, Rank, Shape};
+use agg_types::{Config, Key, LentCells, NoMemory, Rank, Shape};
 use book_frame::standing::cols_of;
 use peer_rows::Spot;
 use ranked::Leaders;
@@ -32,14 +33,14 @@ pub fn lead(
     rows: &Store,
     t: u64,
     at: At<'_>,
-    cells: &[Cell],
+    cells: LentCells<'_>,
 ) -> Result<(), NoMemory>
     requires ordered { AreInOrder rows.now.rows }
     requires led { AreLed tables.now ranks.now rows.now.rows t leaders.old }
     ensures led { AreLed tables.now ranks.now rows.now.rows t leaders.new }
     ensures put { OnOk result ((life : Option ℕ) → AreLed tables.now ranks.now
         (with_row t rows.now.rows (place_at at.entry)
-        (arrival_of tables.now at.entry.table t life cells.now)) t leaders.new) }
+        (arrival_of tables.now at.entry.table t life (lent_cells cells.entry))) t leaders.new) }
 {
     let cols = cols_of(tables, at.table);
     // Bounds take keys and let them go as rows do, so a key mostly lies in the same place in both.
@@ -63,7 +64,7 @@ pub fn put_led(
     t: u64,
     at: At<'_>,
     life: Option<u64>,
-    cells: &[Cell],
+    cells: LentCells<'_>,
 ) -> Result<Option<Spot>, NoMemory>
     requires in_range { t ≤ LAST_MOMENT }
     requires inside { IsInside rows.old.peers rows.old.tables (place_at at) }
@@ -73,7 +74,7 @@ pub fn put_led(
     requires led { AreLed config.now.tables config.now.ranks rows.old.rows t leaders.old }
     ensures ok { OnOk result (rows.new ≡ record rows.old {
       rows = with_row t rows.old.rows (place_at at.entry)
-          (arrival_of config.now.tables at.entry.table t life cells.now);
+          (arrival_of config.now.tables at.entry.table t life (lent_cells cells.entry));
     }) }
     ensures err { OnErr result (rows.new ≡ rows.old) }
     ensures led { AreLed config.now.tables config.now.ranks rows.new.rows t leaders.new }
@@ -94,7 +95,7 @@ fn put_ranked(
     t: u64,
     at: At<'_>,
     life: Option<u64>,
-    cells: &[Cell],
+    cells: LentCells<'_>,
 ) -> Result<Option<Spot>, NoMemory>
     requires in_range { t ≤ LAST_MOMENT }
     requires inside { IsInside rows.old.peers rows.old.tables (place_at at) }
@@ -103,7 +104,7 @@ fn put_ranked(
     requires led { AreLed config.now.tables config.now.ranks rows.old.rows t leaders.old }
     ensures ok { OnOk result (rows.new ≡ record rows.old {
       rows = with_row t rows.old.rows (place_at at.entry)
-          (arrival_of config.now.tables at.entry.table t life cells.now);
+          (arrival_of config.now.tables at.entry.table t life (lent_cells cells.entry));
     }) }
     ensures err { OnErr result (rows.new ≡ rows.old) }
     ensures led { AreLed config.now.tables config.now.ranks rows.new.rows t leaders.new }
@@ -125,7 +126,7 @@ fn lead_and_put(
     t: u64,
     at: At<'_>,
     life: Option<u64>,
-    cells: &[Cell],
+    cells: LentCells<'_>,
 ) -> Result<Option<Spot>, NoMemory>
     requires in_range { t ≤ LAST_MOMENT }
     requires inside { IsInside rows.old.peers rows.old.tables (place_at at) }
@@ -134,7 +135,7 @@ fn lead_and_put(
     requires led { AreLed config.now.tables config.now.ranks rows.old.rows t leaders.old }
     ensures ok { OnOk result (rows.new ≡ record rows.old {
       rows = with_row t rows.old.rows (place_at at.entry)
-          (arrival_of config.now.tables at.entry.table t life cells.now);
+          (arrival_of config.now.tables at.entry.table t life (lent_cells cells.entry));
     }) }
     ensures err { OnErr result (rows.new ≡ rows.old) }
     ensures led { AreLed config.now.tables config.now.ranks rows.new.rows t leaders.new }

@@ -2,6 +2,7 @@
 
 ghost use Rattle.std.specs.Prelude.{◌≡◌, ◌<◌, ◌≤◌, ◌&&◌, ◌==◌, length};
 ghost use Rattle.std.specs.Prelude.{not, if◌then◌else◌, false, filter, IfOk, OnOk, OnErr};
+ghost use Rattle.agg_types.specs.Whats.{lent_cells};
 ghost use Rattle.agg_types.specs.declared.limits.TheConstants.{LAST_MOMENT};
 ghost use Rattle.fleet_model.specs.Filters.{is_new};
 ghost use Rattle.fleet_model.specs.Keys.{key_rows, sum_of};
@@ -24,7 +25,7 @@ use crate::leaders::put_led;
 use crate::listing::{BookRows, meeting};
 use crate::queries;
 use crate::store::{Size, Store};
-use agg_types::{Cell, Cond, Config, Filter, Key, MOST_FILTERS, NoMemory, Select};
+use agg_types::{Cond, Config, Filter, Key, LentCells, MOST_FILTERS, NoMemory, Select};
 use book_frame::seats::{Seats, Sessions, is_number};
 use book_frame::standing::cols_of;
 use fleet_model::Summed;
@@ -265,7 +266,7 @@ pub(crate) fn put(
     t: u64,
     at: At<'_>,
     life: Option<u64>,
-    cells: &[Cell],
+    cells: LentCells<'_>,
 ) -> Result<Applied, NoMemory>
     requires in_range { t ≤ LAST_MOMENT }
     requires inside { IsInside rows.old.peers rows.old.tables (place_at at) }
@@ -276,7 +277,7 @@ pub(crate) fn put(
       rows = if is_number session seat
           && has_room config.now.tables rows.old.rows (place_at at.entry)
           then with_row t rows.old.rows (place_at at.entry)
-          (arrival_of config.now.tables at.entry.table t life cells.now)
+          (arrival_of config.now.tables at.entry.table t life (lent_cells cells.entry))
           else rows.old.rows;
     }) }
     ensures dropped { IfOk result (λ applied. applied.dropped ≡ (is_number session seat

@@ -5,25 +5,112 @@ ghost use Rattle.std.specs.Prelude.{IfOk, OnOk, OnErr};
 ghost use Rattle.std.specs.BTreeMap.{insert_entry, is_at};
 ghost use Rattle.std.specs.Map.{remove_entry};
 ghost use Rattle.agg_types.specs.RowKey.{row_key_cmp};
+ghost use Rattle.agg_types.specs.Whats.{lent_cells};
 ghost use Rattle.agg_types.specs.declared.limits.TheConstants.{LAST_MOMENT};
 ghost use Rattle.fleet_model.specs.Normalized.{normalized_cell, normalized_cells};
 ghost use Rattle.peer_rows.specs.Rows.{without_key, without_table};
 ghost use Rattle.book.specs.Planned.{AreRows, IsInside, IsShort, place_at};
 ghost use Rattle.book.specs.Shown.{arrivals, as_arrival, cell_of};
-ghost use Rattle.book.specs.Store.{put_arrival};
+ghost use Rattle.book.specs.Store.{HasArrived, put_arrival};
 
 use crate::at::At;
 use crate::store::Size;
-use agg_types::{Cell, Col, Key, NoMemory};
-use peer_rows::{FEW_CELLS, Held, Row, RowCells, Rows, Spot};
+use agg_types::{Cell, Col, Key, LentCells, NoMemory};
+use peer_rows::{Arrival, Arrived, FEW_CELLS, Held, Row, RowCells, Rows, Spot};
 use period_rate::Rate;
 use std::alloc::Global;
 use std::mem;
+
+/// Whether a row was put, and where the rows of its key lie, if that was seen.
+#[derive(Clone, Copy)]
+pub struct Arriving {
+    pub is_done: bool,
+    pub spot: Option<Spot>,
+}
+
+/// Puts the row that packed cells make which arrive, where it lies, in the place of the one that
+/// stood there. A key whose spot isn't known is searched once, whether it has rows or not. It isn't
+/// done, and nothing has changed, where the cells don't fit a row itself, or the key has rows and
+/// none of the peer.
+#[inline(always)]
+pub fn arrive(
+    rows: &mut Rows,
+    size: Size,
+    at: At<'_>,
+    arrival: &Arrival<'_>,
+) -> Result<Arriving, NoMemory>
+    requires rows { AreRows size.peers size.tables rows.old }
+    requires inside { IsInside size.peers size.tables (place_at at) }
+    requires in_range { arrival.now.t ≤ LAST_MOMENT }
+    ensures ok { IfOk result (λ arriving.
+        HasArrived arriving.is_done rows.old rows.new (place_at at.entry) arrival.now) }
+    ensures err { OnErr result (rows.new ≡ rows.old) }
+    ensures kept { AreRows size.peers size.tables rows.new }
+{
+    if at.spot.is_some() {
+        return Ok(arrive_held(rows, size, at, arrival));
+    }
+    match rows.insert_arrival(at.peer, at.table, at.key, arrival)? {
+        Arrived::New => Ok(Arriving::new(true, None)),
+        Arrived::Misfit => Ok(Arriving::new(false, None)),
+        Arrived::Held(spot) => {
+            let at = At {
+                spot: Some(spot),
+                ..at
+            };
+            Ok(arrive_held(rows, size, at, arrival))
+        }
+    }
+}
+
+// The same where the peer holds a row of the key.
+#[inline(always)]
+fn arrive_held(rows: &mut Rows, size: Size, at: At<'_>, arrival: &Arrival<'_>) -> Arriving
+    requires rows { AreRows size.peers size.tables rows.old }
+    requires inside { IsInside size.peers size.tables (place_at at) }
+    requires in_range { arrival.now.t ≤ LAST_MOMENT }
+    ensures ok { HasArrived result.is_done rows.old rows.new (place_at at.entry) arrival.now }
+    ensures kept { AreRows size.peers size.tables rows.new }
+{
+    let is_done = rows.arrive_at(at.spot, at.peer, at.table, at.key, arrival);
+    Arriving::new(is_done, at.spot)
+}
+
+impl Arriving {
+    #[inline(always)]
+    fn new(is_done: bool, spot: Option<Spot>) -> Arriving
+        ensures { result.is_done ≡ is_done }
+    {
+        Arriving { is_done, spot }
+    }
+}
 
 /// Lays a row down that arrives at a moment, in ms, where another one lies. One of few cells takes
 /// no memory, and is made there.
 #[inline(always)]
 pub fn lay_row(
+    row: &mut Row,
+    alloc: Global,
+    t: u64,
+    life: Option<u64>,
+    cols: &[(Col, u32)],
+    cells: LentCells<'_>,
+) -> Result<(), NoMemory>
+    requires in_range { t ≤ LAST_MOMENT }
+    requires short { IsShort life }
+    ensures { OnOk result
+        (as_arrival row.new ≡ put_arrival t life cols.now (lent_cells cells.entry)) }
+{
+    match cells {
+        LentCells::Slice(cells) => lay_cells(row, alloc, t, life, cols, cells),
+        LentCells::Packed(cells) => {
+            lay_cells(row, alloc, t, life, cols, cells.unpack().as_slice())
+        }
+    }
+}
+
+// The same of cells that lie one by one.
+fn lay_cells(
     row: &mut Row,
     alloc: Global,
     t: u64,
@@ -67,9 +154,9 @@ fn new_row(
     Ok(Row::new(held, t, short(life))?)
 }
 
-// A life in 32 bits.
+/// A life in 32 bits.
 #[inline(always)]
-fn short(life: Option<u64>) -> Option<u32>
+pub fn short(life: Option<u64>) -> Option<u32>
     requires { IsShort life }
     ensures { result ≡ life }
 {

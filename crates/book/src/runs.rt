@@ -147,9 +147,11 @@ impl Machine {
         })
     }
 
-    /// The table of an update of a peer, if an event is lent as one, and fits.
+    /// The table of an update of a peer, if an event is lent as one, and fits. What stands on the
+    /// table of the last update says sooner whether it does.
     #[inline(always)]
-    fn table_of(&self, peer: usize, what: LentWhat<'_>) -> Option<usize>
+    fn table_of(&self, peer: usize, last: TableUse, what: LentWhat<'_>) -> Option<usize>
+        requires { IsUseOf self.now.config last }
         ensures update { IfSome result
             (λ _. IsUpdateOf self.now.config peer (as_what what.entry)) }
         ensures lent { IfSome result (λ table. IsLentInto table what.entry) }
@@ -160,7 +162,7 @@ impl Machine {
                 table,
                 ..
             } => {
-                if other == peer && self.config.fits_lent(what) {
+                if other == peer && self.config.fits_by(last.table, last.form, what) {
                     Some(table)
                 } else {
                     None
@@ -294,7 +296,7 @@ fn take_each(
     let mut table_use = machine.use_of(turn.table);
     'updates: while place < whats.len() {
         let what = whats.at(place);
-        let Some(table) = machine.table_of(turn.peer, what) else {
+        let Some(table) = machine.table_of(turn.peer, table_use, what) else {
             break;
         };
         table_use = machine.use_after(table_use, table);

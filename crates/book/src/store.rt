@@ -3,6 +3,7 @@
 ghost use Rattle.std.specs.Prelude.{◌≡◌, ◌<◌, ◌≤◌, ℕ, List, [], Option, ◌==◌, ◌&&◌, not};
 ghost use Rattle.std.specs.Prelude.{length, map, filter, MatchOption, IfSome, IfOk, OnOk};
 ghost use Rattle.std.specs.Prelude.{OnErr, unwrap_or};
+ghost use Rattle.agg_types.specs.Whats.{lent_cells};
 ghost use Rattle.agg_types.specs.declared.column.Col.{Col as ColName};
 ghost use Rattle.agg_types.specs.declared.event.Cell.{Cell as CellValue};
 ghost use Rattle.agg_types.specs.declared.limits.TheConstants.{LAST_MOMENT};
@@ -10,17 +11,19 @@ ghost use Rattle.fleet_model.specs.Machine.{with_row};
 ghost use Rattle.std.specs.List.{list_any};
 ghost use Rattle.fleet_model.specs.Moments.{is_live};
 ghost use Rattle.fleet_model.specs.Rows.{has_room, size_of};
-ghost use Rattle.fleet_model.specs.Values.{same_key, same_place};
+ghost use Rattle.fleet_model.specs.Values.{column_worth, same_key, same_place};
+ghost use Rattle.std.specs.BTreeMap.{insert_entry};
+ghost use Rattle.agg_types.specs.RowKey.{row_key_cmp};
 ghost use Rattle.fleet_model.specs.Keys.{AreInOrder, held_rows, key_rows, worth_of};
 ghost use Rattle.book.specs.Shown.{of_peer, of_spot};
 ghost use Rattle.book.specs.Planned.{IsInside, IsShort, place_at};
 ghost use Rattle.book.specs.Store.{AreRowsOf, IsEachKeyOf, IsWalk, put_arrival, row_keys};
 
 use crate::at::At;
-use crate::puts::{drop_key, drop_row, drop_table, lay_row, set_row};
+use crate::puts::{arrive, drop_key, drop_row, drop_table, lay_row, set_row, short};
 use crate::values::{arriving_worth, found_bound};
-use agg_types::{Cell, Col, Key, NoMemory, Shape};
-use peer_rows::{ByKey, EachKey, OfKey, Row, Rows, Spot, Trace};
+use agg_types::{Col, Key, LentCells, NoMemory, Shape};
+use peer_rows::{Arrival, ByKey, EachKey, OfKey, Row, Rows, Spot, Trace};
 use std::alloc::Global;
 use std::marker::Model;
 
@@ -161,14 +164,14 @@ impl Store {
         at: At<'_>,
         life: Option<u64>,
         cols: &[(Col, u32)],
-        cells: &[Cell],
+        cells: LentCells<'_>,
     ) -> Result<Option<Spot>, NoMemory>
         requires in_range { t ≤ LAST_MOMENT }
         requires inside { IsInside self.old.peers self.old.tables (place_at at) }
         requires short { IsShort life }
         ensures ok { OnOk result (self.new ≡ record self.old {
           rows = with_row t self.old.rows (place_at at.entry)
-              (put_arrival t life cols.now cells.now);
+              (put_arrival t life cols.now (lent_cells cells.entry));
         }) }
         ensures err { OnErr result (self.new ≡ self.old) }
     {
@@ -176,6 +179,67 @@ impl Store {
             drop_row(&mut self.rows, self.size, at);
             return Ok(at.spot);
         }
+        self.put_living(t, at, life, cols, cells)
+    }
+
+    // The same of a row whose life isn't over.
+    #[inline(always)]
+    fn put_living(
+        &mut self,
+        t: u64,
+        at: At<'_>,
+        life: Option<u64>,
+        cols: &[(Col, u32)],
+        cells: LentCells<'_>,
+    ) -> Result<Option<Spot>, NoMemory>
+        requires in_range { t ≤ LAST_MOMENT }
+        requires inside { IsInside self.old.peers self.old.tables (place_at at) }
+        requires short { IsShort life }
+        ensures ok { OnOk result (self.new ≡ record self.old {
+          rows = insert_entry row_key_cmp self.old.rows (place_at at.entry)
+              (put_arrival t life cols.now (lent_cells cells.entry));
+        }) }
+        ensures err { OnErr result (self.new ≡ self.old) }
+    {
+        let LentCells::Packed(packed) = cells else {
+            return self.put_laid(t, at, life, cols, cells);
+        };
+        let arrival = Arrival {
+            cells: packed,
+            cols,
+            t,
+            life: short(life),
+        };
+        let arriving = arrive(&mut self.rows, self.size, at, &arrival)?;
+        if arriving.is_done {
+            return Ok(arriving.spot);
+        }
+        let at = At {
+            spot: arriving.spot,
+            ..at
+        };
+        self.put_laid(t, at, life, cols, cells)
+    }
+
+    // The same of a row that is made before it is laid down.
+    #[inline(never)]
+    fn put_laid(
+        &mut self,
+        t: u64,
+        at: At<'_>,
+        life: Option<u64>,
+        cols: &[(Col, u32)],
+        cells: LentCells<'_>,
+    ) -> Result<Option<Spot>, NoMemory>
+        requires in_range { t ≤ LAST_MOMENT }
+        requires inside { IsInside self.old.peers self.old.tables (place_at at) }
+        requires short { IsShort life }
+        ensures ok { OnOk result (self.new ≡ record self.old {
+          rows = insert_entry row_key_cmp self.old.rows (place_at at.entry)
+              (put_arrival t life cols.now (lent_cells cells.entry));
+        }) }
+        ensures err { OnErr result (self.new ≡ self.old) }
+    {
         let mut row = Row::blank();
         lay_row(&mut row, self.alloc, t, life, cols, cells)?;
         Ok(set_row(&mut self.rows, self.size, at, &mut row)?)
@@ -278,19 +342,19 @@ impl Store {
         col: Col,
         t: u64,
         at: At<'_>,
-        cells: &[Cell],
+        cells: LentCells<'_>,
     ) -> u128
         requires { AreInOrder self.now.rows }
         ensures before { worth_of cols.now
             (key_rows self.now.rows at.entry.table at.entry.key.now) col t ≤ result }
         ensures after { (life : Option ℕ) → worth_of cols.now
             (key_rows (with_row t self.now.rows (place_at at.entry)
-            (put_arrival t life cols.now cells.now)) at.entry.table at.entry.key.now)
+            (put_arrival t life cols.now (lent_cells cells.entry))) at.entry.table at.entry.key.now)
             col t ≤ result }
     {
         let found = self.of_key_at(at.spot, at.table, at.key);
         let standing = found_bound(found.as_ref(), cols, col, t);
-        standing + u128::from(arriving_worth(col, cols, cells))
+        standing + u128::from(lent_worth(col, cols, cells))
     }
 
     /// Takes away the rows of a table.
@@ -323,6 +387,16 @@ fn size_of(tables: &[Shape], table: usize) -> u64
     match tables.get(table) {
         None => 0,
         Some(shape) => shape.size,
+    }
+}
+
+// What cells that are lent are worth as they arrive.
+fn lent_worth(col: Col, cols: &[(Col, u32)], cells: LentCells<'_>) -> u64
+    ensures { result ≡ column_worth col 0 cols.now (lent_cells cells.entry) }
+{
+    match cells {
+        LentCells::Slice(cells) => arriving_worth(col, cols, cells),
+        LentCells::Packed(cells) => arriving_worth(col, cols, cells.unpack().as_slice()),
     }
 }
 

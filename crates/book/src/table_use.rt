@@ -5,6 +5,7 @@ ghost use Rattle.book.specs.Uses.{IsUseOf, has_list};
 
 use crate::machine::Machine;
 use crate::verdicts::has_filter;
+use agg_types::UpdateForm;
 
 /// Whether an update of a table asks for more than its row: the key is judged where a filter
 /// stands, and bounded where there is a ranked list.
@@ -13,6 +14,8 @@ pub(crate) struct TableUse {
     pub(crate) table: usize,
     pub(crate) is_judged: bool,
     pub(crate) is_ranked: bool,
+    /// What its updates have in common that a batch packs.
+    pub(crate) form: Option<UpdateForm>,
 }
 
 impl Machine {
@@ -25,6 +28,7 @@ impl Machine {
             table,
             is_judged: has_filter(self.config.filters.as_slice(), table),
             is_ranked: self.is_ranked(table),
+            form: UpdateForm::of(self.config.tables.as_slice(), table),
         }
     }
 

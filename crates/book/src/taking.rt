@@ -2,7 +2,7 @@
 
 ghost use Rattle.std.specs.Prelude.{◌≡◌, ◌&&◌, true, IsTrue, IfOk, IsOk};
 ghost use Rattle.std.specs.Prelude.{OnErr, OnOk, nat_lt};
-ghost use Rattle.agg_types.specs.Whats.{as_what};
+ghost use Rattle.agg_types.specs.Whats.{as_what, lent_cells};
 ghost use Rattle.agg_types.specs.declared.event.What.TheVariants.{Leave};
 ghost use Rattle.agg_types.specs.declared.limits.TheConstants.{NUMBERS_END};
 ghost use Rattle.fleet_model.specs.Machine.{after, counts_now, event_of, happened, number_of};
@@ -20,7 +20,7 @@ ghost use Rattle.book.specs.Verdicts.{IsLeaving};
 use crate::at::At;
 use crate::leaders::go_on;
 use crate::machine::{Applied, Machine, Outcome, clear, put};
-use agg_types::{Cell, LentWhat, NUMBERS_END, NoMemory, What};
+use agg_types::{LentCells, LentWhat, NUMBERS_END, NoMemory, What};
 use book_frame::seats;
 use book_frame::seats::{count_up, end_sessions, is_number, open_session, sit_down, stand_up};
 use book_frame::standing::{add_filter, added_at, drop_filter};
@@ -144,15 +144,15 @@ impl Machine {
         seat: u64,
         at: At<'_>,
         life: Option<u64>,
-        cells: &[Cell],
+        cells: LentCells<'_>,
     ) -> Result<Applied, NoMemory>
         requires session { session ≡ session_of self.old at.peer }
         requires placed { IsPlaced self.old.config at.peer at.table life }
         requires ranked { at.is_ranked ≡ has_list self.old.config at.table }
         ensures ok { OnOk result
-            (self.new ≡ with_update self.old seat (put_at at.entry life cells.now)) }
+            (self.new ≡ with_update self.old seat (put_at at.entry life (lent_cells cells.entry))) }
         ensures dropped { IfOk result (λ applied. applied.dropped
-            ≡ lacks_room self.old seat (put_at at.entry life cells.now)) }
+            ≡ lacks_room self.old seat (put_at at.entry life (lent_cells cells.entry))) }
         ensures err { OnErr result (self.new ≡ self.old) }
     {
         put(
@@ -176,16 +176,16 @@ impl Machine {
         seq: u64,
         at: At<'_>,
         life: Option<u64>,
-        cells: &[Cell],
+        cells: LentCells<'_>,
     ) -> Result<Applied, NoMemory>
         requires sits { HasDueNumber seq (number_of self.old seat) }
         requires placed { IsPlaced self.old.config at.peer at.table life }
         requires ranked { at.is_ranked ≡ has_list self.old.config at.table }
         ensures ok { OnOk result (self.new ≡ happened self.old
-            (event_of seat seq (put_at at.entry life cells.now))
-            (put_at at.entry life cells.now)) }
+            (event_of seat seq (put_at at.entry life (lent_cells cells.entry)))
+            (put_at at.entry life (lent_cells cells.entry))) }
         ensures dropped { IfOk result (λ applied. applied.dropped
-            ≡ lacks_room self.old seat (put_at at.entry life cells.now)) }
+            ≡ lacks_room self.old seat (put_at at.entry life (lent_cells cells.entry))) }
         ensures err { OnErr result (self.new ≡ self.old) }
     {
         let session = seats::session_of(&self.sessions, at.peer);
@@ -240,7 +240,8 @@ impl Machine {
                     spot: self.rows.spot_for(hint, is_ranked, *table, key),
                     is_ranked,
                 };
-                let applied = self.apply_put(seat, seq, at, *life, cells.as_slice())?;
+                let cells = LentCells::Slice(cells.as_slice());
+                let applied = self.apply_put(seat, seq, at, *life, cells)?;
                 Ok(Outcome::of(applied))
             }
             What::Clear { table, sel } => {

@@ -26,7 +26,7 @@ use Rattle.std.proofs.lemmas.Cmp.{tied_itself}
 use Rattle.peer_rows.proofs.Selecting.{filter_not-none, filter-none}
 use Rattle.peer_rows.proofs.Spreading.{spread-remove_entry, spread-none, filter_not-spread}
 use Rattle.peer_rows.proofs.Spreading.{map-filter-spread, sorted-spread}
-use Rattle.peer_rows.proofs.Keying.{Keys, one_key, once-remove_entry, peers-lookup}
+use Rattle.peer_rows.proofs.Keying.{Keys, lookup_not_held, one_key, once-remove_entry, peers-lookup}
 use Rattle.peer_rows.proofs.Keying.{rows_of_peer-split, rows_of_peer-le}
 use Rattle.peer_rows.proofs.Keying.{length-filter-insert_entry_new}
 use Rattle.peer_rows.proofs.Keying.{length-filter-insert_entry_held, length-filter-remove_entry}
@@ -323,6 +323,25 @@ few_after es fs counts key peer row n kept is none once len small =
     let was = kept.counted peer in
     let most = rows_of_peer-le fs peer once in
     omega (arith, more, was, most, len, small)
+
+-- the first row of a key is counted up at its peer
+module _ (es fs : Keys) (counts : List ℕ) (key : List ℕ) (peer n : ℕ) (row : Row)
+    (kept : IsKept es counts) (once : EachPeerOnce fs)
+    (is : rows_in fs ≡ insert_entry spot_cmp (rows_in es) (key, peer) row)
+    (none : lookup (is_at (slice_cmp nat_cmp key)) es ≡ None) (in_range : peer < length counts)
+    (count : n ≡ get_or counts peer n) where
+  pub first_fits : (keys : ℕ) → keys ≡ length fs → keys < 2 ^ 64 → n + 1 < 2 ^ 64
+  first_fits keys len small =
+      let few = few_after es fs counts key peer row keys kept is (lookup_not_held es key peer none)
+      once len small in
+      let same = get_or_in counts peer n in_range count in
+      omega (arith, few, same)
+
+  pub kept-first : IsStrictlySortedBy (slice_cmp nat_cmp) (keys_of fs)
+      → IsKept fs (set counts peer (n + 1))
+  kept-first ordered = rw (get_or_in counts peer n in_range count)
+      (kept-put_new es fs counts key peer kept ordered once row is
+      (lookup_not_held es key peer none) in_range)
 
 alike_at : (n p z : ℕ) → get_or (replicate n z) p z ≡ z
 alike_at zero zero z = refl

@@ -14,3 +14,5 @@ pub mod Placing
 pub mod Walk
 pub mod InTime
 pub mod Living
+pub mod Dating
+pub mod Arrivals

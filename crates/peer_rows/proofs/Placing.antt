@@ -414,6 +414,26 @@ module _ (ts : List TableRows) (i : ℕ) (new table : TableRows) (found : slice_
   first_map after peers (Ok (Some held)) is = (map_same peers is.0, is.1)
   first_map after peers (Err refused) is = is
 
+  -- and where it is put by what an answer says
+  pub told_result : {A : Type 0} (is_new : A → Bool) (peers : ℕ) → AreTables peers ts
+      → (r : Result A NoMemory) → IfOk r (λ a. new ≡ record table {
+        entries = cond (is_new a) (insert_entry spot_cmp table.entries (key, peer) row)
+            table.entries;
+      }) → OnErr r (new ≡ table) → AreTables peers (set ts i new)
+  told_result is_new peers are (Ok a) is e = put_found peers are (is_new a) is
+  told_result is_new peers are (Err refused) o is = put_found peers are false is
+
+  pub told_map : {A : Type 0} (is_new : A → Bool) (peers : ℕ) (r : Result A NoMemory)
+      → IfOk r (λ a. new ≡ record table {
+        entries = cond (is_new a) (insert_entry spot_cmp table.entries (key, peer) row)
+            table.entries;
+      }) → IfOk r (λ a. row_map peers (length (set ts i new)) (placed (set ts i new))
+      ≡ cond (is_new a)
+      (row_map peers (length ts) (insert_entry row_key_cmp (placed ts) (place_of i key peer) row))
+      (row_map peers (length ts) (placed ts)))
+  told_map is_new peers (Ok a) is = map_found peers (is_new a) is
+  told_map is_new peers (Err refused) is = is
+
 pub tables-put_result : {A : Type 0} (peers : ℕ) (ts : List TableRows) → AreTables peers ts
     → (i : ℕ) (new table : TableRows) (found : slice_get ts i ≡ Some table) (key : List ℕ)
     (peer : ℕ) (row : Row) (result : Result A NoMemory)

@@ -1,5 +1,5 @@
 -- What becomes of places where the rows in one of them change.
-use Rattle.std.specs.Prelude.{◌≡◌, ℕ, Bool, List, Option, Some, Result, IsOk, IsSome, IfOk}
+use Rattle.std.specs.Prelude.{◌≡◌, ℕ, Bool, List, Option, Some, Result, IsOk, IsSome, IfOk, true}
 use Rattle.std.specs.Prelude.{MatchBool, OnOk, OnErr, is_some}
 use Rattle.std.specs.BTreeMap.{insert_entry, is_at}
 use Rattle.std.specs.Map.{lookup, remove_entry}
@@ -36,6 +36,15 @@ pub record IsExchanged (peer : ℕ) (row back : Row) (found : Bool) (at : ℕ) (
   pub is : found ≡ is_some (lookup (is_at (nat_cmp peer)) rows)
   pub after : MatchBool found (later ≡ insert_entry nat_cmp rows peer row) (later ≡ rows)
   pub came : MatchBool found (lookup (is_at (nat_cmp peer)) rows ≡ Some back) (back ≡ row)
+
+-- a peer's row in a place becomes another, where there is one, or nothing has changed
+pub record IsArrived (peer : ℕ) (row : Row) (done : Bool) (at : ℕ) (old new : Places)
+    : Type 0 where
+  pub rows : List (ℕ × Row)
+  pub later : List (ℕ × Row)
+  pub changed : IsChanged at rows later old new
+  pub held : done ≡ true → IsSome (lookup (is_at (nat_cmp peer)) rows)
+  pub after : MatchBool done (later ≡ insert_entry nat_cmp rows peer row) (later ≡ rows)
 
 -- a peer's row is taken from among the rows in a place
 pub record IsTaken (peer : ℕ) (result : Option Row) (at : ℕ) (old new : Places) : Type 0 where

@@ -14,3 +14,4 @@ pub mod Walk
 pub mod Ends
 pub mod Laid
 pub mod Changed
+pub mod Arriving

@@ -6,14 +6,16 @@ ghost use Rattle.std.specs.Map.{keys_of};
 ghost use Rattle.std.specs.Option.{option_copied};
 ghost use Rattle.place_index.specs.Places.{item_at, key_at, value_at, laid, filled, AreDistinct};
 ghost use Rattle.place_index.specs.Places.{AreEmpty, IsAbsent, in_order};
-ghost use Rattle.peer_rows.specs.Changed.{IsExchanged, IsPut, IsTaken};
+ghost use Rattle.agg_types.specs.declared.limits.TheConstants.{LAST_MOMENT};
+ghost use Rattle.peer_rows.specs.Arriving.{arrived_row};
+ghost use Rattle.peer_rows.specs.Changed.{IsArrived, IsExchanged, IsPut, IsTaken};
 ghost use Rattle.peer_rows.specs.Ends.{AreElse, ArePlanned, IsEndBy, lives_at, rows_at};
 ghost use Rattle.peer_rows.specs.Table.{IsKept, rows_in};
 
-use crate::Row;
 use crate::ending::{Gone, end_all, end_due};
 use crate::ends::{Ends, is_by};
 use crate::key_rows::KeyRows;
+use crate::{Arrival, Row};
 use agg_types::{Key, NoMemory};
 use place_index::{PlaceIndex, Trace};
 use std::alloc::Global;
@@ -198,6 +200,26 @@ impl Index {
         }
         settle(&self.keys, &mut self.ends, at, now);
         found
+    }
+
+    /// Makes a peer's row in a place one of cells that arrive, if there is one and they can be laid
+    /// there.
+    #[inline(always)]
+    pub(crate) fn arrive(&mut self, at: usize, peer: usize, arrival: &Arrival<'_>) -> bool
+        requires some { IsSome (item_at self.old.places at) }
+        requires early { arrival.now.t ≤ LAST_MOMENT }
+        ensures { IsArrived peer (arrived_row arrival.now) result at
+            self.old.places self.new.places }
+    {
+        let rows = self.keys.value_mut(at);
+        let Some(end) = rows.arrive(peer, arrival) else {
+            return false;
+        };
+        if ends_by(end, arrival.end()) {
+            return true;
+        }
+        settle(&self.keys, &mut self.ends, at, arrival.t);
+        true
     }
 
     /// Takes a peer's row out of a place, which isn't the only one there.

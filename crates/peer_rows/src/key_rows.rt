@@ -1,19 +1,22 @@
 //! The rows of one key, in the form that fits how many there are.
 ghost use Rattle.std.specs.Prelude.{◌≡◌, ◌≢◌, List, [], ◌∷◌, length};
 ghost use Rattle.std.specs.Prelude.{◌==◌, IsTrue, ◌↔◌, IsOk, IsSome, IfOk, OnOk, OnErr};
-ghost use Rattle.std.specs.Prelude.{MatchBool, Some, is_some, IfSome, IfNone, ℕ, true};
-ghost use Rattle.std.specs.Option.{option_copied};
+ghost use Rattle.std.specs.Prelude.{MatchBool, MatchOption, Some, is_some, IfSome, IfNone, ℕ, true};
+ghost use Rattle.std.specs.Prelude.{◌≤◌};
+ghost use Rattle.std.specs.Option.{option_copied, option_map};
 ghost use Rattle.std.specs.Ordering.{nat_cmp};
 ghost use Rattle.std.specs.Map.{keys_of, lookup, remove_entry};
 ghost use Rattle.std.specs.BTreeMap.{insert_entry, is_at};
-ghost use Rattle.peer_rows.specs.Ends.{AreLive, HasEnded, IsLeast, is_behind};
+ghost use Rattle.agg_types.specs.declared.limits.TheConstants.{LAST_MOMENT};
+ghost use Rattle.peer_rows.specs.Arriving.{arrived_row};
+ghost use Rattle.peer_rows.specs.Ends.{AreLive, HasEnded, IsLeast, end_of, is_behind};
 ghost use Rattle.peer_rows.specs.Peers.{IsOne, ArePeers, AreSummed, held_by};
 
 use crate::mosts::Mosts;
 use crate::of_key::{first_ended, is_only, least_end};
 use crate::page::{PAGE, Page, PeerRow};
 use crate::pages::Pages;
-use crate::{OfKey, Row};
+use crate::{Arrival, OfKey, Row};
 use agg_types::NoMemory;
 use std::alloc::Global;
 use std::marker::Model;
@@ -119,6 +122,23 @@ impl KeyRows {
         match &mut self.peers {
             Peers::One(own, held) => exchange_one(*own, held, peer, row),
             _ => exchange_among(&mut self.peers, peer, row),
+        }
+    }
+
+    /// Makes a peer's row one of cells that arrive, if it holds one and they can be laid there, and
+    /// answers the end of the row that was. None says that nothing has changed.
+    #[inline(always)]
+    pub(crate) fn arrive(&mut self, peer: usize, arrival: &Arrival<'_>) -> Option<Option<u64>>
+        requires { arrival.now.t ≤ LAST_MOMENT }
+        ensures rows { MatchOption result (self.new ≡ self.old)
+            (λ _. self.new ≡ insert_entry nat_cmp self.old peer (arrived_row arrival.now)) }
+        ensures end { IfSome result (λ end.
+            option_map end_of (lookup (is_at (nat_cmp peer)) self.old) ≡ Some end) }
+        ensures are { ArePeers self.new }
+    {
+        match &mut self.peers {
+            Peers::One(own, held) => arrive_one(*own, held, peer, arrival),
+            _ => arrive_among(&mut self.peers, peer, arrival),
         }
     }
 
@@ -404,6 +424,49 @@ fn exchange_among(peers: &mut Peers, peer: usize, row: &mut Row) -> bool
             found
         }
     }
+}
+
+// Makes a row one of cells that arrive, if it is the peer's and they can be laid there.
+#[inline(always)]
+fn arrive_one(own: u32, held: &mut Row, peer: usize, arrival: &Arrival<'_>) -> Option<Option<u64>>
+    requires { arrival.now.t ≤ LAST_MOMENT }
+    ensures own { IfSome result (λ _. own ≡ peer) }
+    ensures row { MatchOption result (held.new ≡ held.old)
+        (λ _. held.new ≡ arrived_row arrival.now) }
+    ensures end { IfSome result (λ end. end ≡ end_of held.old) }
+{
+    if own as usize != peer {
+        return None;
+    }
+    let end = held.end();
+    if held.arrive(arrival) {
+        Some(end)
+    } else {
+        None
+    }
+}
+
+// The same with a row that is made beside the others and exchanged for the peer's.
+#[inline(never)]
+fn arrive_among(peers: &mut Peers, peer: usize, arrival: &Arrival<'_>) -> Option<Option<u64>>
+    requires early { arrival.now.t ≤ LAST_MOMENT }
+    requires are { ArePeers (held_by peers.old) }
+    requires summed { AreSummed peers.old }
+    ensures rows { MatchOption result (held_by peers.new ≡ held_by peers.old)
+        (λ _. held_by peers.new
+        ≡ insert_entry nat_cmp (held_by peers.old) peer (arrived_row arrival.now)) }
+    ensures end { IfSome result (λ end.
+        option_map end_of (lookup (is_at (nat_cmp peer)) (held_by peers.old)) ≡ Some end) }
+    ensures summed { AreSummed peers.new }
+{
+    let mut row = Row::blank();
+    if !row.arrive(arrival) {
+        return None;
+    }
+    if !exchange_among(peers, peer, &mut row) {
+        return None;
+    }
+    Some(row.end())
 }
 
 // Takes a peer's row out, and off the most that the rows are worth together. One row alone stays.

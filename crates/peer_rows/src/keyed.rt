@@ -2,7 +2,7 @@
 //! each key lie, and keeps no order.
 ghost use Rattle.std.specs.Prelude.{◌≡◌, ◌^◌, ◌<◌, ◌↔◌, List, [], ◌∷◌, Some, None, length, IsOk};
 ghost use Rattle.std.specs.Prelude.{IsSome, IfSome, IfNone, IfOk, OnOk, OnErr, IsTrue, MatchBool};
-ghost use Rattle.std.specs.Prelude.{MatchOption, is_some, slice_set, filter};
+ghost use Rattle.std.specs.Prelude.{MatchOption, is_some, slice_set, filter, true, ◌≤◌};
 ghost use Rattle.std.specs.Option.{option_copied};
 ghost use Rattle.std.specs.Ordering.{nat_cmp};
 ghost use Rattle.std.specs.Cmp.Lexicographic.{slice_cmp};
@@ -10,6 +10,8 @@ ghost use Rattle.std.specs.Map.{keys_of, lookup, remove_entry};
 ghost use Rattle.std.specs.BTreeMap.{insert_entry, is_at};
 ghost use Rattle.std.specs.List.Sorted.{IsStrictlySortedBy};
 ghost use Rattle.place_index.specs.Places.{item_at, key_at, value_at, AreDistinct, IsAbsent};
+ghost use Rattle.agg_types.specs.declared.limits.TheConstants.{LAST_MOMENT};
+ghost use Rattle.peer_rows.specs.Arriving.{arrived_row, is_new};
 ghost use Rattle.peer_rows.specs.Ends.{lives_at};
 ghost use Rattle.place_index.specs.Places.{in_order};
 ghost use Rattle.peer_rows.specs.Table.{IsKept};
@@ -19,7 +21,7 @@ use crate::ending::Gone;
 use crate::index::Index;
 use crate::key_rows::KeyRows;
 use crate::listing::sorted;
-use crate::{ByKey, EachKey, Row, Spot};
+use crate::{Arrival, Arrived, ByKey, EachKey, Row, Spot};
 use agg_types::{Key, NoMemory};
 use place_index::Trace;
 use std::alloc::Global;
@@ -174,6 +176,32 @@ impl Keyed {
         self.index.exchange(at, peer, row)
     }
 
+    /// Makes the row of a peer and key one of cells that arrive, if there is one and they can be
+    /// laid there.
+    #[inline(always)]
+    pub(crate) fn arrive(
+        &mut self,
+        hint: Option<Spot>,
+        peer: usize,
+        key: &Key,
+        arrival: &Arrival<'_>,
+    ) -> bool
+        requires peers { EachPeerOnce self.old }
+        requires early { arrival.now.t ≤ LAST_MOMENT }
+        ensures held { result ≡ true
+            → IsSome (lookup (is_at (spot_cmp (key.now, peer))) (rows_in self.old)) }
+        ensures rows { MatchBool result (rows_in self.new
+            ≡ insert_entry spot_cmp (rows_in self.old) (key.now, peer) (arrived_row arrival.now))
+            (self.new ≡ self.old) }
+        ensures once { EachPeerOnce self.new }
+        ensures ordered { IsStrictlySortedBy (slice_cmp nat_cmp) (keys_of self.new) }
+    {
+        let Some(at) = find(&self.index, hint, key) else {
+            return false;
+        };
+        self.index.arrive(at, peer, arrival)
+    }
+
     /// Puts the first row of a key, which is left blank then. Where the key has rows, nothing
     /// changes, and where they lie comes back.
     pub(crate) fn insert_first(
@@ -199,6 +227,36 @@ impl Keyed {
             return Ok(None);
         };
         Ok(Some(Spot::new(at)))
+    }
+
+    /// Puts the first row of a key, which cells make that arrive. Where the key has rows, no row is
+    /// made, nothing changes, and where they lie comes back.
+    pub(crate) fn insert_arrival(
+        &mut self,
+        peer: usize,
+        key: &Key,
+        arrival: &Arrival<'_>,
+    ) -> Result<Arrived, NoMemory>
+        requires peers { EachPeerOnce self.old }
+        requires early { arrival.now.t ≤ LAST_MOMENT }
+        ensures new { IfOk result (λ arrived. is_new arrived ≡ true
+            → lookup (is_at (slice_cmp nat_cmp key.now)) self.old ≡ None) }
+        ensures ok { IfOk result (λ arrived. MatchBool (is_new arrived) (rows_in self.new
+            ≡ insert_entry spot_cmp (rows_in self.old) (key.now, peer) (arrived_row arrival.now))
+            (self.new ≡ self.old)) }
+        ensures err { OnErr result (self.new ≡ self.old) }
+        ensures once { EachPeerOnce self.new }
+        ensures ordered { IsStrictlySortedBy (slice_cmp nat_cmp) (keys_of self.new) }
+    {
+        let Some(at) = find(&self.index, None, key) else {
+            let mut row = Row::blank();
+            if !row.arrive(arrival) {
+                return Ok(Arrived::Misfit);
+            }
+            insert_new(&mut self.index, self.alloc, peer, key, &mut row)?;
+            return Ok(Arrived::New);
+        };
+        Ok(Arrived::Held(Spot::new(at)))
     }
 
     /// Takes a row out, and its key with it where it was the key's last.

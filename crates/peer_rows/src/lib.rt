@@ -17,6 +17,10 @@
 //! refused, the row is put all the same, and the next `end_rows` looks at all places. A place of
 //! whose rows none ends has no plan, so none is left behind.
 //!
+//! The words of an update's packed cells are those of a row but for the moments of its rates: so
+//! `arrive_at` copies them over the held row and dates its rates there, and makes no row beside it
+//! where the key has one alone.
+//!
 //! No clause says how long a call takes. A look-up is at most one search of a table's keys, `count`
 //! and `used` take constant time. A row that replaces another takes no memory but for its plan, and
 //! for sums or pages for which it was refused before.
@@ -25,6 +29,8 @@
 #![tactic(auto)]
 
 mod ahead;
+mod arrival;
+mod arriving;
 mod blank;
 mod by_key;
 mod each_key;
@@ -46,6 +52,7 @@ mod rows;
 mod spot;
 mod table;
 
+pub use arrival::{Arrival, Arrived};
 pub use by_key::ByKey;
 pub use each_key::EachKey;
 pub use of_key::OfKey;

@@ -7,10 +7,10 @@ ghost use Rattle.peer_rows.specs.Few.{widened};
 const COUNTS: u32 = 1 << 16;
 
 /// So many numbers the high half of a moment has beside a period: moments of 34 years.
-const HIGHS: u32 = 1 << 8;
+pub(crate) const HIGHS: u32 = 1 << 8;
 
 /// So many numbers a period has, in ms: up to four hours and a half.
-const PERIODS: u32 = 1 << 24;
+pub(crate) const PERIODS: u32 = 1 << 24;
 
 /// A rate's five words in three, if its counts are below 2^16, its period below 2^24 ms, and the
 /// moment from which it is 0 below 2^40 ms.

@@ -188,7 +188,7 @@ fn spread(alloc: Global, few: &RowCells) -> Result<Vec<Packed>, NoMemory>
 /// four years, below 2^37 ms, and any life but the longest. Other rows have their cells in a block.
 #[derive(Debug)]
 pub struct Row {
-    laid: Laid,
+    pub(crate) laid: Laid,
 }
 
 // By hand, so that what drops it elsewhere proves nothing of its parts.
@@ -201,7 +201,7 @@ impl Drop for Row {
 const _: () = prove!(size_of::<Row>() == 40);
 
 #[derive(Debug, Drop)]
-enum Laid {
+pub(crate) enum Laid {
     // How many cells there are, with the high bits of the moment of arrival, the digits that say
     // the cells' kinds, and their words; the low bits of the moment, and the life.
     Few {
@@ -221,10 +221,10 @@ enum Laid {
 }
 
 // So many numbers of cells there are in a byte, beside the high bits of a moment.
-const LENS: u8 = 8;
+pub(crate) const LENS: u8 = 8;
 
 // So many numbers these bits have.
-const HIGHS: u64 = 32;
+pub(crate) const HIGHS: u64 = 32;
 
 // The life that says that a row of few cells never ends.
 const ENDLESS: u32 = u32::MAX;
@@ -447,7 +447,7 @@ fn lay(laid: &mut Laid, cells: &RowCells, arrived: u64, life: Option<u32>) -> bo
 
 // The number of a life, if that isn't the one that says that there is none.
 #[inline(always)]
-fn life_word(life: Option<u32>) -> Option<u32>
+pub(crate) fn life_word(life: Option<u32>) -> Option<u32>
     ensures { IfSome result (λ word. life_in word ≡ life) }
 {
     match life {

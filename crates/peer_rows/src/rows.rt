@@ -1,13 +1,15 @@
 ghost use Rattle.std.specs.Prelude.{◌≡◌, ◌≢◌, ◌<◌, [], length, count_by, IsOk, IsSome, IfNone};
-ghost use Rattle.std.specs.Prelude.{IfOk, IfSome, OnOk, OnErr, Some, MatchBool, MatchOption, is_some};
-ghost use Rattle.std.specs.Prelude.{if◌then◌else◌, map};
+ghost use Rattle.std.specs.Prelude.{IfOk, IfSome, OnOk, OnErr, Some, MatchBool, MatchOption};
+ghost use Rattle.std.specs.Prelude.{is_some, if◌then◌else◌, map, ◌≤◌};
 ghost use Rattle.std.specs.Option.{option_copied};
+ghost use Rattle.agg_types.specs.declared.limits.TheConstants.{LAST_MOMENT};
+ghost use Rattle.peer_rows.specs.Arriving.{arrived_row, is_new};
 ghost use Rattle.peer_rows.specs.Ends.{ended};
 ghost use Rattle.peer_rows.specs.Walk.{IsEachKey};
 
 use crate::ending::Gone;
 use crate::table::Table;
-use crate::{ByKey, EachKey, OfKey, Row, Spot};
+use crate::{Arrival, Arrived, ByKey, EachKey, OfKey, Row, Spot};
 use agg_types::{Key, NoMemory};
 use place_index::Trace;
 use std::alloc::Global;
@@ -322,6 +324,28 @@ impl Rows {
         self.tables[table].exchange(hint, peer, key, row)
     }
 
+    /// Puts the row that cells make which arrive, where the peer holds one of the table and key,
+    /// whatever the hint. Takes no memory. `false` says that nothing has changed.
+    #[inline(always)]
+    pub fn arrive_at(
+        &mut self,
+        hint: Option<Spot>,
+        peer: usize,
+        table: usize,
+        key: &Key,
+        arrival: &Arrival<'_>,
+    ) -> bool
+        requires peer_in { peer < self.old.peers }
+        requires table_in { table < self.old.tables }
+        requires in_range { arrival.now.t ≤ LAST_MOMENT }
+        ensures rows { MatchBool result
+            (self.new ≡ with_row self.old peer table key.now (arrived_row arrival.now))
+            (self.new ≡ self.old) }
+        ensures ordered { AreInOrder self.new.entries }
+    {
+        self.tables[table].arrive(hint, peer, key, arrival)
+    }
+
     /// Puts the first row of a key; the row is left blank then. Where the key has rows, nothing
     /// changes, and where they lie comes back.
     pub fn insert_first(
@@ -343,6 +367,27 @@ impl Rows {
         ensures ordered { AreInOrder self.new.entries }
     {
         self.tables[table].insert_first(peer, key, row)
+    }
+
+    /// Puts the first row of a key, which cells make that arrive. Where the key has rows, nothing
+    /// changes, and where they lie comes back.
+    pub fn insert_arrival(
+        &mut self,
+        peer: usize,
+        table: usize,
+        key: &Key,
+        arrival: &Arrival<'_>,
+    ) -> Result<Arrived, NoMemory>
+        requires peer_in { peer < self.old.peers }
+        requires table_in { table < self.old.tables }
+        requires in_range { arrival.now.t ≤ LAST_MOMENT }
+        ensures ok { IfOk result (λ arrived. self.new ≡ (if is_new arrived
+            then with_row self.old peer table key.now (arrived_row arrival.now)
+            else self.old)) }
+        ensures err { OnErr result (self.new ≡ self.old) }
+        ensures ordered { AreInOrder self.new.entries }
+    {
+        self.tables[table].insert_arrival(peer, key, arrival)
     }
 
     /// What `take` does and answers, whatever the hint.

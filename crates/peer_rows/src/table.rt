@@ -1,11 +1,13 @@
 ghost use Rattle.std.specs.Prelude.{◌≡◌, ◌≢◌, ◌+◌, ◌<◌, ◌≤◌, ℕ, [], length, filter, not, map};
-ghost use Rattle.std.specs.Prelude.{slice_index, IsOk, IsSome, IfNone, IfSome, IfOk, OnOk, OnErr, Some};
-ghost use Rattle.std.specs.Prelude.{replicate};
+ghost use Rattle.std.specs.Prelude.{slice_index, IsOk, IsSome, IfNone, IfSome, IfOk, OnOk, OnErr};
+ghost use Rattle.std.specs.Prelude.{Some, replicate};
 ghost use Rattle.std.specs.Prelude.{MatchBool, MatchOption, is_some, if◌then◌else◌};
 ghost use Rattle.std.specs.Option.{option_copied};
 ghost use Rattle.std.specs.List.{dedup};
 ghost use Rattle.std.specs.Map.{lookup, remove_entry};
 ghost use Rattle.std.specs.BTreeMap.{insert_entry, is_at};
+ghost use Rattle.agg_types.specs.declared.limits.TheConstants.{LAST_MOMENT};
+ghost use Rattle.peer_rows.specs.Arriving.{arrived_row, is_new};
 ghost use Rattle.peer_rows.specs.Ends.{ended};
 ghost use Rattle.peer_rows.specs.Table.{rows_at_peer};
 ghost use Rattle.peer_rows.specs.Walk.{IsEachKey};
@@ -13,7 +15,7 @@ ghost use Rattle.peer_rows.specs.Walk.{IsEachKey};
 use crate::ending::Gone;
 use crate::key_rows::KeyRows;
 use crate::keyed::Keyed;
-use crate::{ByKey, EachKey, OfKey, Row, Spot};
+use crate::{Arrival, Arrived, ByKey, EachKey, OfKey, Row, Spot};
 use agg_types::{Key, NoMemory};
 use place_index::Trace;
 use std::alloc::Global;
@@ -170,6 +172,27 @@ impl Table {
         self.keys.exchange(hint, peer, key, row)
     }
 
+    /// Makes the row of a peer and key one of cells that arrive, if there is one and they can be
+    /// laid there.
+    #[inline(always)]
+    pub(crate) fn arrive(
+        &mut self,
+        hint: Option<Spot>,
+        peer: usize,
+        key: &Key,
+        arrival: &Arrival<'_>,
+    ) -> bool
+        requires { arrival.now.t ≤ LAST_MOMENT }
+        ensures { self.new ≡ record self.old {
+          entries = if result
+              then insert_entry spot_cmp self.old.entries (key.now, peer)
+              (arrived_row arrival.now)
+              else self.old.entries;
+        } }
+    {
+        self.keys.arrive(hint, peer, key, arrival)
+    }
+
     /// Puts the first row of a key, which is left blank then. Where the key has rows, nothing
     /// changes, and where they lie comes back.
     pub(crate) fn insert_first(
@@ -194,6 +217,33 @@ impl Table {
             self.counts[peer] += 1;
         }
         Ok(held)
+    }
+
+    /// Puts the first row of a key, which cells make that arrive. Where the key has rows, nothing
+    /// changes, and where they lie comes back.
+    pub(crate) fn insert_arrival(
+        &mut self,
+        peer: usize,
+        key: &Key,
+        arrival: &Arrival<'_>,
+    ) -> Result<Arrived, NoMemory>
+        requires peer_in { peer < self.old.peers }
+        requires early { arrival.now.t ≤ LAST_MOMENT }
+        ensures ok { IfOk result (λ arrived. self.new ≡ record self.old {
+          entries = if is_new arrived
+              then insert_entry spot_cmp self.old.entries (key.now, peer)
+              (arrived_row arrival.now)
+              else self.old.entries;
+        }) }
+        ensures err { OnErr result (self.new ≡ self.old) }
+    {
+        let arrived = self.keys.insert_arrival(peer, key, arrival)?;
+        if let Arrived::New = arrived {
+            // Each peer has at most a row of each key, so its count stays below 2^64.
+            let _keys = self.keys.len();
+            self.counts[peer] += 1;
+        }
+        Ok(arrived)
     }
 
     /// Takes a row out.

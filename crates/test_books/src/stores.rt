@@ -2,8 +2,8 @@
 //!
 //! Places: finds, inserts and removes keys, also keys whose hashes choose one window and far more
 //! than one window holds; exchanges values, and lays keys into room that was made for them. Rows:
-//! puts, replaces, takes and clears the rows of two peers and of a hundred, and works rows into
-//! sums. Rates, at the moments at which they change, and both kinds of due index on the same
+//! puts, replaces, takes and clears the rows of two peers and of a hundred, works rows into sums, and
+//! lays rows of packed cells where they lie. Rates, at the moments at which they change, and both kinds of due index on the same
 //! entries.
 //!
 //! It shows what no contract says: that these calls succeed while there is memory. Where places or
@@ -13,6 +13,7 @@ mod crowded;
 mod due;
 mod growth;
 mod laying;
+mod packing;
 mod pages;
 mod places;
 mod rates;
@@ -29,6 +30,7 @@ pub fn run(rt: &HostRuntime) -> Result<()> {
     growth::run(rt)?;
     rooms::run(rt)?;
     rows::run(rt)?;
+    packing::run(rt)?;
     pages::run(rt)?;
     sums::run(rt)?;
     rates::run(rt)?;

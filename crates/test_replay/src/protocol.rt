@@ -9,7 +9,7 @@
 
 ghost use Rattle.std.specs.Prelude.{◌<◌};
 
-use agg_types::{Config, Items, LentWhat, NoMemory, What, Whats};
+use agg_types::{Config, Items, LentCells, LentWhat, NoMemory, What, Whats};
 use anyhow::Result;
 use bytes::Bytes;
 use peers_msg::{Definition, Feed, Message, WireCause, WireFault, get_int, put_int, write_message};
@@ -182,9 +182,19 @@ fn print_fact(rt: &impl Print, alloc: Global, fact: LentWhat<'_>) -> Result<()> 
             cells,
         } => {
             let key = hex::encode(alloc, key.as_slice())?;
-            println!(rt; "put {peer} {table} {key} {life:?} {cells:?}")?;
+            let row = format!(in alloc; "put {peer} {table} {key} {life:?}")?;
+            print_cells(rt, &row, cells)?;
         }
         LentWhat::Other(_) => println!(rt; "no fact of a session")?,
+    }
+    Ok(())
+}
+
+// Prints a row with its cells, which may lie in two ways, too.
+fn print_cells(rt: &impl Print, row: &str, cells: LentCells<'_>) -> Result<()> {
+    match cells {
+        LentCells::Slice(cells) => println!(rt; "{row} {cells:?}")?,
+        LentCells::Packed(cells) => println!(rt; "{row} {:?}", cells.unpack().as_slice())?,
     }
     Ok(())
 }

@@ -1,4 +1,5 @@
 use Rattle.std.proofs.Common.{arith}
+use Rattle.agg_types.specs.Whats.{lent_cells}
 use Rattle.fleet_model.specs.Machine.{with_row}
 use Rattle.fleet_model.specs.Rows.{arrival_of}
 use Rattle.book.specs.Leading.{rank_at}
@@ -29,16 +30,16 @@ loop-list-preserved c =
             c.cols_of-cols.ensures w.worth_with-bound.ensures.before);
         put = λ life. touched_more tables ranks rows
             (with_row c.args.t rows place (arrival_of tables c.args.at.table c.args.t life
-            c.args.cells.now)) c.args.t list c.args.at.key.now w.worth_with-bound.result
+            (lent_cells c.args.cells))) c.args.t list c.args.at.key.now w.worth_with-bound.result
             c.loop-list.leaders w.touch.new.self c.loop-list-test.true c.loop-list.invariant.led
             w.touch.ensures.others w.in_ok-touch.ensures.holds
             (rank_worth tables (λ cols. with_row c.args.t rows place
-            (put_arrival c.args.t life cols c.args.cells.now)) c.args.t (rank_at ranks list)
+            (put_arrival c.args.t life cols (lent_cells c.args.cells))) c.args.t (rank_at ranks list)
             c.index-ranks-list.result c.cols_of-cols.result.now c.args.at.table
             c.args.at.key.now w.worth_with-bound.result rank w.if-rank-at.true
             c.cols_of-cols.ensures (w.worth_with-bound.ensures.after life))
             (λ other apart. apart_rows rows c.args.t place
-            (arrival_of tables c.args.at.table c.args.t life c.args.cells.now)
+            (arrival_of tables c.args.at.table c.args.t life (lent_cells c.args.cells))
             (rank_at ranks list).table other c.requires.ordered apart)
             (c.loop-list.invariant.put life);
       })
@@ -46,10 +47,10 @@ loop-list-preserved c =
         led = c.loop-list.invariant.led;
         put = λ life. passed_more tables ranks rows
             (with_row c.args.t rows place (arrival_of tables c.args.at.table c.args.t life
-            c.args.cells.now)) c.args.t list c.loop-list.leaders c.loop-list-test.true
+            (lent_cells c.args.cells))) c.args.t list c.loop-list.leaders c.loop-list-test.true
             c.loop-list.invariant.led
             (λ other. elsewhere_rows rows c.args.t place (arrival_of tables c.args.at.table c.args.t
-            life c.args.cells.now) (rank_at ranks list) c.index-ranks-list.result other
+            life (lent_cells c.args.cells)) (rank_at ranks list) c.index-ranks-list.result other
             c.requires.ordered rank w.if-rank-at.false)
             (c.loop-list.invariant.put life);
       })

@@ -1,4 +1,5 @@
 use Rattle.std.proofs.Common.{ℕ, ◌<◌, Option}
+use Rattle.agg_types.specs.Whats.{lent_cells}
 use Rattle.fleet_model.specs.Machine.{with_row}
 use Rattle.fleet_model.specs.Rows.{arrival_of}
 use Rattle.ranked.specs.Leaders.{bounds_of}
@@ -11,6 +12,6 @@ invariant-loop-list l = record {
   led : AreLed l.tables l.ranks l.rows.rows l.t l.leaders;
   put : (life : Option ℕ) (other : ℕ) → other < l.list
       → IsLed l.tables (with_row l.t l.rows.rows (place_at l.at)
-      (arrival_of l.tables l.at.table l.t life l.cells)) l.t (rank_at l.ranks other)
+      (arrival_of l.tables l.at.table l.t life (lent_cells l.cells))) l.t (rank_at l.ranks other)
       (bounds_of l.leaders other);
 }

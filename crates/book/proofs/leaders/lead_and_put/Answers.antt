@@ -3,6 +3,7 @@ use Rattle.std.specs.Prelude.{OnOk}
 use Rattle.agg_types.specs.declared.column.Col.{Col}
 use Rattle.agg_types.specs.declared.config.Rank.{Rank}
 use Rattle.agg_types.specs.declared.config.Shape.{Shape}
+use Rattle.agg_types.specs.Whats.{lent_cells}
 use Rattle.fleet_model.specs.Machine.{with_row}
 use Rattle.fleet_model.specs.Rows.{arrival_of}
 use Rattle.fleet_model.specs.Values.{cols_of}
@@ -18,7 +19,7 @@ returns-clause-ok c =
     (c.put.new.self ≡ record c.args.rows.now {
       rows =
           with_row c.args.t c.args.rows.now.rows (place_at c.args.at)
-          (put_arrival c.args.t c.args.life cols c.args.cells.now);
+          (put_arrival c.args.t c.args.life cols (lent_cells c.args.cells));
     }))
     (c.cols_of.ensures ∙ ap (λ (tables : List Shape). cols_of tables c.args.at.table)
     c.as_slice-tables.ensures) c.put.ensures.ok
@@ -30,7 +31,7 @@ returns-clause-led c =
     let after : InForce = record c.args.rows.now {
       rows =
           with_row c.args.t c.args.rows.now.rows (place_at c.args.at)
-          (arrival_of config.tables c.args.at.table c.args.t c.args.life c.args.cells.now);
+          (arrival_of config.tables c.args.at.table c.args.t c.args.life (lent_cells c.args.cells));
     } in
     put_or_not (λ (s : InForce). AreLed config.tables config.ranks s.rows c.args.t leaders)
     c.put.result c.args.rows.now after c.put.new.self
@@ -38,7 +39,7 @@ returns-clause-led c =
     (c.put.new.self ≡ record c.args.rows.now {
       rows =
           with_row c.args.t c.args.rows.now.rows (place_at c.args.at)
-          (put_arrival c.args.t c.args.life cols c.args.cells.now);
+          (put_arrival c.args.t c.args.life cols (lent_cells c.args.cells));
     }))
     (c.cols_of.ensures ∙ ap (λ (tables : List Shape). cols_of tables c.args.at.table)
     c.as_slice-tables.ensures) c.put.ensures.ok)
@@ -51,5 +52,5 @@ returns-clause-led c =
     c.as_slice.ensures
     (subst (λ (tables : List Shape). AreLed tables c.as_slice.result.now
     (with_row c.args.t c.args.rows.now.rows (place_at c.args.at)
-    (arrival_of tables c.args.at.table c.args.t c.args.life c.args.cells.now)) c.args.t leaders)
+    (arrival_of tables c.args.at.table c.args.t c.args.life (lent_cells c.args.cells))) c.args.t leaders)
     c.as_slice-tables.ensures (c.in_ok-lead.ensures.put c.args.life)))

@@ -2,6 +2,7 @@ use Rattle.std.proofs.Common.{◌≡◌, ◌∙◌, ℕ, List, ap, sym, subst}
 use Rattle.std.specs.Prelude.{OnOk}
 use Rattle.agg_types.specs.declared.column.Col.{Col}
 use Rattle.agg_types.specs.declared.config.Shape.{Shape}
+use Rattle.agg_types.specs.Whats.{lent_cells}
 use Rattle.fleet_model.specs.Machine.{with_row}
 use Rattle.fleet_model.specs.Rows.{arrival_of}
 use Rattle.fleet_model.specs.Values.{cols_of}
@@ -17,7 +18,7 @@ returns-clause-ok c =
     (c.put.new.self ≡ record c.args.rows.now {
       rows =
           with_row c.args.t c.args.rows.now.rows (place_at c.args.at)
-          (put_arrival c.args.t c.args.life cols c.args.cells.now);
+          (put_arrival c.args.t c.args.life cols (lent_cells c.args.cells));
     }))
     (c.cols_of-cols.ensures ∙ ap (λ (tables : List Shape). cols_of tables c.args.at.table)
     c.as_slice.ensures) c.put.ensures.ok
@@ -29,7 +30,7 @@ returns-clause-led c =
     let after : InForce = record c.args.rows.now {
       rows =
           with_row c.args.t c.args.rows.now.rows (place_at c.args.at)
-          (arrival_of config.tables c.args.at.table c.args.t c.args.life c.args.cells.now);
+          (arrival_of config.tables c.args.at.table c.args.t c.args.life (lent_cells c.args.cells));
     } in
     put_or_not (λ (s : InForce). AreLed config.tables config.ranks s.rows c.args.t leaders)
     c.put.result c.args.rows.now after c.put.new.self
@@ -37,11 +38,11 @@ returns-clause-led c =
     (c.put.new.self ≡ record c.args.rows.now {
       rows =
           with_row c.args.t c.args.rows.now.rows (place_at c.args.at)
-          (put_arrival c.args.t c.args.life cols c.args.cells.now);
+          (put_arrival c.args.t c.args.life cols (lent_cells c.args.cells));
     }))
     (c.cols_of-cols.ensures ∙ ap (λ (tables : List Shape). cols_of tables c.args.at.table)
     c.as_slice.ensures) c.put.ensures.ok)
     c.put.ensures.err c.requires.led
     (unranked_led config.tables config.ranks c.args.rows.now.rows c.args.t (place_at c.args.at)
-    (arrival_of config.tables c.args.at.table c.args.t c.args.life c.args.cells.now) leaders
+    (arrival_of config.tables c.args.at.table c.args.t c.args.life (lent_cells c.args.cells)) leaders
     c.requires.ordered (sym c.requires.ranked ∙ c.if-at.false) c.requires.led)
