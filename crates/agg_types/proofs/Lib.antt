@@ -1,5 +1,6 @@
 pub mod Columns
 pub mod Checking
+pub mod Lists
 pub mod Naming
 pub mod Numbers
 pub mod PackedWords

@@ -1,10 +1,14 @@
 -- Cells that are packed in words, as one is added and as they are read.
 use Rattle.std.proofs.Common.{◌≡◌, ℕ, zero, suc, ◌+◌, ◌-◌, ◌*◌, ◌/◌, ◌%◌, ◌^◌, ◌<◌, ◌≤◌, List, []}
 use Rattle.std.proofs.Common.{◌∷◌, ◌++◌, length, true, false, Bool, refl, sym, ◌∙◌, ap, arith}
-use Rattle.std.proofs.Common.{get_or, take, add-zero, add-one, length-append}
+use Rattle.std.proofs.Common.{◌≢◌, Some, None, drop, slice_get, ◌==◌, get_or, take, add-zero, add-one, length-append}
 use Rattle.std.proofs.lemmas.Bool.{lt-ltb}
 use Rattle.std.proofs.lemmas.List.{take_more}
-use Rattle.std.specs.Prelude.{◌⊎◌, ◌&&◌, nat_lt, if◌then◌else◌}
+use Rattle.std.proofs.Math.Dec.{eqb-suc-zero}
+use Rattle.std.proofs.Math.Seq.{take-length}
+use Rattle.std.proofs.lemmas.Option.{slice_get_within}
+use Rattle.std.specs.Prelude.{◌⊎◌, ◌&&◌, nat_lt, if◌then◌else◌, IfSome, Option}
+use Rattle.agg_types.proofs.Lists.{get-last, get-others, left-at, none-left}
 use Rattle.agg_types.specs.Col.{is_rate, is_wide}
 use Rattle.agg_types.specs.Fits.{cell_fits, cells_fit}
 use Rattle.agg_types.specs.Form.{AreWords, FitColumns}
@@ -103,7 +107,59 @@ length-cells (suc len) kinds words =
     length-append (packed_cells len (kinds / 4) words) _
     ∙ (rw (length-cells len (kinds / 4) words) (omega arith))
 
+-- the cell of a column: the last, and any other
+pub packed-last : (len kinds : ℕ) (words : List ℕ) → 0 < len
+    → slice_get (packed_cells len kinds words) (len - 1)
+    ≡ Some (cell_at (kinds % 4) words (total_width (len - 1) (kinds / 4)))
+packed-last len kinds words some =
+    let before = packed_cells (len - 1) (kinds / 4) words in
+    let last = cell_at (kinds % 4) words (total_width (len - 1) (kinds / 4)) in
+    let place : length before ≡ len - 1 = length-cells (len - 1) (kinds / 4) words in
+    rw (cells-last len kinds words some)
+    (ap (λ n. slice_get (before ++ last ∷ []) n) (sym place) ∙ get-last before last)
+
+pub packed-others : (len kinds : ℕ) (words : List ℕ) (col : ℕ) → 0 < len → col ≢ len - 1
+    → slice_get (packed_cells len kinds words) col
+    ≡ slice_get (packed_cells (len - 1) (kinds / 4) words) col
+packed-others len kinds words col some apart =
+    let before = packed_cells (len - 1) (kinds / 4) words in
+    let place : length before ≡ len - 1 = length-cells (len - 1) (kinds / 4) words in
+    rw (cells-last len kinds words some)
+    (get-others before _ col (λ same. apart (same ∙ place)))
+
+-- there are few
+pub few-packed : (len used kinds : ℕ) (words : List ℕ) (col : ℕ) (found : Option Cell)
+    → ArePacked len used kinds → found ≡ slice_get (packed_cells len kinds words) col
+    → IfSome found (λ _. col < 7)
+few-packed len used kinds words col None are is = tt
+few-packed len used kinds words col (Some cell) are is =
+    let within = slice_get_within (packed_cells len kinds words) col cell (sym is) in
+    omega (arith, within, length-cells len kinds words, are.least, are.most)
+
 -- ---- cells of columns
+-- where no cell is left
+pub fit-none : (cols : List (Col × ℕ)) (cells : List Cell) (from : ℕ)
+    → slice_get cells from ≡ None → cells_fit cols (drop from cells) ≡ (length cols == 0)
+fit-none [] cells from none = rw (none-left cells from none) refl
+fit-none (col ∷ cols) cells from none =
+    rw (none-left cells from none) (sym (eqb-suc-zero (length cols)))
+
+-- where one is left, beside no column, and beside the first of some
+pub fit-over : (cols : List (Col × ℕ)) (cells : List Cell) (from : ℕ) (cell : Cell)
+    → slice_get cells from ≡ Some cell → length cols < 1
+    → cells_fit cols (drop from cells) ≡ false
+fit-over [] cells from cell is none = rw (left-at cells from cell is) refl
+fit-over (col ∷ cols) cells from cell is none = absurd (omega (arith, none))
+
+pub fit-next : (cols : List (Col × ℕ)) (cells : List Cell) (from : ℕ) (cell : Cell)
+    (d : Col × ℕ) → slice_get cells from ≡ Some cell → 1 ≤ length cols
+    → cells_fit cols (drop from cells) ≡ cell_fits (get_or cols 0 d).0 cell
+    && cells_fit (take (length cols - 1) (drop 1 cols)) (drop (from + 1) cells)
+fit-next [] cells from cell d is some = absurd (omega (arith, some))
+fit-next (col ∷ cols) cells from cell d is some =
+    let long : suc (length cols) - 1 ≡ length cols = omega arith in
+    rw (left-at cells from cell is, add-one, long, take-length cols) refl
+
 both-and : (first rest more : Bool) → first && rest ≡ true → (rest ≡ true → more ≡ true)
     → first && more ≡ true
 both-and true rest more both leads = leads both

@@ -6,6 +6,7 @@ use Rattle.agg_types.specs.Kind.{allows}
 use Rattle.agg_types.specs.Packed.{packed_cells}
 use Rattle.agg_types.specs.declared.column.Col.{Col}
 use Rattle.agg_types.specs.declared.config.Shape.{Shape}
+use Rattle.agg_types.specs.declared.event.Cell.{Cell}
 use Rattle.agg_types.specs.declared.form.UpdateForm.{UpdateForm}
 
 -- words of 32 bits
@@ -22,3 +23,8 @@ FitColumns cols len kinds =
 abbrev pub IsFormAt : List Shape → ℕ → UpdateForm → Type 0
 IsFormAt tables table form = (key ws : List ℕ) → allows form.length (length key) ≡ true
     → AreWords ws → row_fits tables table key (packed_cells form.len form.kinds ws) ≡ true
+
+-- a key and cells fit every table that has the form
+abbrev pub FitAllOf : UpdateForm → List ℕ → List Cell → Type 0
+FitAllOf form key cells = (tables : List Shape) (table : ℕ) → IsFormAt tables table form
+    → row_fits tables table key cells ≡ true

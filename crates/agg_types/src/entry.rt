@@ -2,8 +2,8 @@
 ghost use Rattle.std.specs.Prelude.{◌≡◌, ℕ, ◌+◌, ◌≤◌, List, [], ◌∷◌, ◌++◌};
 ghost use Rattle.std.specs.Prelude.{drop, length, take};
 ghost use Rattle.std.specs.Prelude.{IsTrue};
-ghost use Rattle.agg_types.specs.Whats.{AreWithin, FitsCells, FitsEntry, FitsLife, as_what, entry_what};
-ghost use Rattle.agg_types.specs.Whats.{life_of};
+ghost use Rattle.agg_types.specs.Whats.{AreWithin, FitsCells, FitsEntry, FitsLife};
+ghost use Rattle.agg_types.specs.Whats.{as_what, entry_what, life_of};
 ghost use Rattle.agg_types.specs.declared.event.Cell.{Cell as CellValue};
 ghost use Rattle.agg_types.specs.declared.event.What.TheVariants.{Put};
 

@@ -1,4 +1,4 @@
-ghost use Rattle.std.specs.Prelude.{◌≡◌, ◌&&◌, IfSome};
+ghost use Rattle.std.specs.Prelude.{◌≡◌, ◌&&◌, drop, IfSome};
 ghost use Rattle.std.specs.List.{list_all};
 ghost use Rattle.agg_types.specs.Fits.{key_fits, cell_fits, cells_fit, row_fits, stores, conds_fit};
 ghost use Rattle.agg_types.specs.Fits.{select_fits, at_table, life_fits, filter_fits, fits};
@@ -8,8 +8,8 @@ ghost use Rattle.agg_types.specs.declared.event.What.TheVariants.{Put};
 
 use crate::limits::{LAST_MOMENT, MOST_CONDS};
 use crate::{
-    Cell, Col, Cond, Config, Filter, Key, KeyKind, LentCells, LentWhat, Select, Shape, UpdateForm,
-    What,
+    Cell, Col, Cond, Config, Filter, Key, KeyKind, LentCells, LentWhat, PackedCells, Select, Shape,
+    UpdateForm, What,
 };
 
 impl Config {
@@ -157,7 +157,20 @@ fn lent_fit(cols: &[(Col, u32)], cells: LentCells<'_>) -> bool
 {
     match cells {
         LentCells::Slice(cells) => cells_fit(cols, cells),
-        LentCells::Packed(cells) => cells_fit(cols, cells.unpack().as_slice()),
+        LentCells::Packed(cells) => packed_fit(cols, cells, 0),
+    }
+}
+
+// The same of packed cells from a place on.
+fn packed_fit(cols: &[(Col, u32)], cells: &PackedCells, from: usize) -> bool
+    ensures { result ≡ cells_fit cols.now (drop from cells.now) }
+{
+    match cells.get(from) {
+        None => cols.is_empty(),
+        Some(cell) => match cols {
+            [] => false,
+            [col, cols @ ..] => cell_fits(col.0, cell) && packed_fit(cols, cells, from + 1),
+        },
     }
 }
 

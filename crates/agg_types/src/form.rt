@@ -1,10 +1,7 @@
 //! What the updates of a table have in common.
-ghost use Rattle.std.specs.Prelude.{◌≡◌, ℕ, List, IfSome, IsTrue, true};
-ghost use Rattle.std.specs.Prelude.{if◌then◌else◌};
+ghost use Rattle.std.specs.Prelude.{◌≡◌, IfSome, IsTrue, if◌then◌else◌};
 ghost use Rattle.agg_types.specs.Col.{is_rate};
-ghost use Rattle.agg_types.specs.Fits.{row_fits};
-ghost use Rattle.agg_types.specs.Form.{FitColumns, IsFormAt};
-ghost use Rattle.agg_types.specs.declared.config.Shape.{Shape as ShapeValue};
+ghost use Rattle.agg_types.specs.Form.{FitAllOf, FitColumns, IsFormAt};
 
 use crate::{Col, Key, KeyLength, PackedCells, Shape};
 
@@ -35,8 +32,7 @@ impl UpdateForm {
     /// Whether an update with this key and these cells has the form.
     #[inline(always)]
     pub fn takes(self, key: &Key, cells: &PackedCells) -> bool
-        ensures { IsTrue result → (tables : List ShapeValue) (table : ℕ) → IsFormAt tables table self
-            → row_fits tables table key.now cells.now ≡ true }
+        ensures { IsTrue result → FitAllOf self key.now cells.now }
     {
         let (len, _, kinds, _) = cells.laid();
         len == self.len && kinds == self.kinds && self.length.allows(key.as_slice().len() as u64)

@@ -1,6 +1,6 @@
 //! An event of a batch, as the batch lends it.
-ghost use Rattle.std.specs.Prelude.{◌≡◌};
-ghost use Rattle.agg_types.specs.Whats.{as_what};
+ghost use Rattle.std.specs.Prelude.{◌≡◌, slice_get};
+ghost use Rattle.agg_types.specs.Whats.{as_what, lent_cells};
 
 use crate::{Cell, Key, PackedCells, What};
 
@@ -11,6 +11,19 @@ pub enum LentCells<'a> {
     Slice(&'a [Cell]),
     /// In words.
     Packed(&'a PackedCells),
+}
+
+impl LentCells<'_> {
+    /// The cell of a column, if there is one.
+    #[inline]
+    pub fn get(self, col: usize) -> Option<Cell>
+        ensures { result ≡ slice_get (lent_cells self.entry) col }
+    {
+        match self {
+            LentCells::Slice(cells) => cells.get(col).copied(),
+            LentCells::Packed(cells) => cells.get(col),
+        }
+    }
 }
 
 /// What happened, as a batch lends it: the `What` of the same name, or any other.

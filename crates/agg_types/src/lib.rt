@@ -7,9 +7,12 @@
 //! stated order and none exactly where there is none; `Config::fits` holds exactly of what may
 //! happen; `Op::holds` is the comparison; what is copied or duplicated is equal.
 //!
+//! A batch of events (`Whats`) is the list of what happens, whether it keeps an update's cells in
+//! words (`PackedCells`) or one by one.
+//!
 //! No clause says that a copy succeeds while there is memory, or how much room a key takes (24
 //! bytes where it has up to 16). Nor does one say that up to four cells take none beside their
-//! list.
+//! list, or which updates a batch packs: those whose cells have seven words at most.
 #![tactic(auto)]
 
 mod cells;
@@ -33,6 +36,7 @@ mod packed;
 mod row_key;
 mod short_key;
 mod whats;
+mod words;
 
 pub use cells::Cells;
 pub use check::ConfigFault;
@@ -51,6 +55,7 @@ pub use limits::{
 };
 pub use name::{Name, is_name};
 pub use no_memory::NoMemory;
-pub use packed::{PackedCells, UnpackedCells, WORDS, Words};
+pub use packed::PackedCells;
 pub use row_key::RowKey;
 pub use whats::Whats;
+pub use words::{WORDS, Words, write_words};

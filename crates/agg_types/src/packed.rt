@@ -1,27 +1,20 @@
 //! The cells of an update in words of 32 bits.
 ghost use Rattle.std.specs.Prelude.{◌≡◌, ◌+◌, ◌<◌, ◌≤◌, ℕ, [], ◌∷◌, ◌++◌, length, IfSome};
-ghost use Rattle.std.specs.Prelude.{if◌then◌else◌, slice_index};
+ghost use Rattle.std.specs.Prelude.{if◌then◌else◌, slice_get, slice_index, IfOk};
 ghost use Rattle.agg_types.specs.Form.{AreWords};
 ghost use Rattle.agg_types.specs.Packed.{AreKinds, ArePacked, cell_at, packed_cells, total_width};
 ghost use Rattle.agg_types.specs.Packed.{width};
+ghost use Rattle.agg_types.specs.declared.event.Cell.TheVariants.{Count, Rate};
 
-use crate::Cell;
+use crate::{Cell, Cells, NoMemory, WORDS, Words, write_words};
+use std::alloc::Global;
 use std::marker::Model;
-
-/// How many words there are: as many as two rates and a count take.
-pub const WORDS: usize = 7;
-
-/// The words of an update's cells.
-pub type Words = [u32; WORDS];
 
 /// So many numbers a word has.
 const WORD: u64 = 1 << 32;
 
 /// So many numbers a rate's count has in half a word.
 const COUNTS: u32 = 1 << 16;
-
-/// What stands where there is no cell.
-const BLANK: Cell = Cell::Count(0);
 
 /// The cells of an update in words of 32 bits, one cell behind the other, as a batch keeps those
 /// that fit there: a count below 2^32 takes one word, and a rate of counts below 2^16 and an
@@ -50,7 +43,7 @@ impl Model for PackedCells {
 impl PackedCells {
     /// No cells.
     #[inline(always)]
-    fn none() -> PackedCells
+    pub fn none() -> PackedCells
         ensures { result ≡ [] }
     {
         PackedCells {
@@ -75,20 +68,35 @@ impl PackedCells {
         Some(packed)
     }
 
-    // Adds a cell behind the others, if it fits there.
+    /// Adds a cell behind the others, if it fits there.
     #[inline(always)]
-    fn push(&mut self, cell: Cell) -> bool
+    pub fn push(&mut self, cell: Cell) -> bool
         ensures { self.new ≡ (if result then self.old ++ cell ∷ [] else self.old) }
     {
         match cell {
-            Cell::Count(count) => count < WORD && self.push_words(0, &[count as u32]),
-            Cell::Rate { elapsed, cur, prev } => {
-                elapsed < WORD
-                    && cur < COUNTS
-                    && prev < COUNTS
-                    && self.push_words(3, &[cur + COUNTS * prev, elapsed as u32, 0])
-            }
+            Cell::Count(count) => self.push_count(count),
+            Cell::Rate { elapsed, cur, prev } => self.push_rate(elapsed, cur, prev),
         }
+    }
+
+    /// Adds a count behind the others, if it fits there.
+    #[inline(always)]
+    pub fn push_count(&mut self, count: u64) -> bool
+        ensures { self.new ≡ (if result then self.old ++ Count count ∷ [] else self.old) }
+    {
+        count < WORD && self.push_words(0, &[count as u32])
+    }
+
+    /// Adds a rate behind the others, with the time elapsed in ms, if it fits there.
+    #[inline(always)]
+    pub fn push_rate(&mut self, elapsed: u64, cur: u32, prev: u32) -> bool
+        ensures { self.new ≡ (if result then self.old ++ Rate elapsed cur prev ∷ []
+            else self.old) }
+    {
+        elapsed < WORD
+            && cur < COUNTS
+            && prev < COUNTS
+            && self.push_words(3, &[cur + COUNTS * prev, elapsed as u32, 0])
     }
 
     // Adds a cell of these words, if there is room for them.
@@ -107,7 +115,7 @@ impl PackedCells {
         let Some(before) = self.kinds.checked_mul(4) else {
             return false;
         };
-        write(&mut self.words, used, own);
+        write_words(&mut self.words, used, own);
         self.kinds = before + digit;
         self.len += 1;
         self.used += own.len() as u8;
@@ -126,14 +134,34 @@ impl PackedCells {
         (self.len, self.used, self.kinds, &self.words)
     }
 
-    /// The cells one by one. Takes no memory.
-    #[inline(never)]
-    pub fn unpack(&self) -> UnpackedCells
-        ensures { result ≡ self.now }
+    /// How many cells there are.
+    #[inline(always)]
+    pub fn len(&self) -> usize
+        ensures { result ≡ length self.now }
     {
-        let mut cells = UnpackedCells::none();
-        lay_out(self.len, self.kinds, self.used, &self.words, &mut cells);
-        cells
+        self.len as usize
+    }
+
+    /// The cell of a column, if there is one.
+    pub fn get(&self, col: usize) -> Option<Cell>
+        ensures cell { result ≡ slice_get self.now col }
+        ensures few { IfSome result (λ _. col < 7) }
+    {
+        get(self.len, self.kinds, self.used, &self.words, col)
+    }
+
+    /// The cells one by one. More than four take memory.
+    #[inline(never)]
+    pub fn unpack(&self, alloc: Global) -> Result<Cells, NoMemory>
+        ensures { IfOk result (λ cells. cells ≡ self.now) }
+    {
+        let mut cells = Cells::with_capacity(alloc, self.len())?;
+        for col in 0..self.len() {
+            if let Some(cell) = self.get(col) {
+                cells.push(cell)?;
+            }
+        }
+        Ok(cells)
     }
 }
 
@@ -145,40 +173,23 @@ fn tell(words: &[u32])
     let _ = words;
 }
 
-// Writes a cell's words from a place on.
-#[inline(always)]
-fn write(words: &mut Words, at: usize, cell: &[u32])
-    requires { at + length cell.now ≤ 7 }
-    ensures here { (k : ℕ) → k < length cell.now
-        → slice_index words.new (at + k) ≡ slice_index cell.now k }
-    ensures before { (k : ℕ) → k < at → slice_index words.new k ≡ slice_index words.old k }
-{
-    match cell {
-        [only] => words[at] = *only,
-        [first, second, third] => {
-            words[at] = *first;
-            words[at + 1] = *second;
-            words[at + 2] = *third;
-        }
-        _ => words[at..at + cell.len()].copy_from_slice(cell),
-    }
-}
-
-// Lays so many cells behind others, whose kinds are the digits of a number and which take so many
+// The cell of a column, of so many whose kinds are the digits of a number and which take so many
 // words.
-fn lay_out(len: u8, kinds: u16, used: u8, words: &Words, cells: &mut UnpackedCells)
+fn get(len: u8, kinds: u16, used: u8, words: &Words, col: usize) -> Option<Cell>
     requires used { used ≡ total_width len kinds }
     requires small { used ≤ 7 }
-    requires room { length cells.old + len ≤ 7 }
-    ensures { cells.new ≡ cells.old ++ packed_cells len kinds words.now }
+    ensures { result ≡ slice_get (packed_cells len kinds words.now) col }
 {
     if len == 0 {
-        return;
+        return None;
     }
     let digit = kinds % 4;
     let at = used - width(digit);
-    lay_out(len - 1, kinds / 4, at, words, cells);
-    cells.push(cell(digit, words, at as usize));
+    let before = len - 1;
+    if col == before as usize {
+        return Some(cell(digit, words, at as usize));
+    }
+    get(before, kinds / 4, at, words, col)
 }
 
 // How many words a cell takes.
@@ -201,49 +212,5 @@ fn cell(digit: u16, words: &Words, at: usize) -> Cell
         elapsed: u64::from(words[at + 1]),
         cur: words[at] % COUNTS,
         prev: words[at] / COUNTS,
-    }
-}
-
-/// A few cells one by one, as they were packed. Contracts see the list of them.
-#[derive(Debug, Drop)]
-pub struct UnpackedCells {
-    len: u8,
-    cells: [Cell; WORDS],
-}
-
-impl Model for UnpackedCells {
-    ghost use Rattle.std.specs.Prelude.{◌≤◌, List, take};
-    ghost use Rattle.agg_types.specs.declared.event.Cell.{Cell};
-
-    ghost Value = { List Cell };
-
-    ghost view = { λ few. take few.len few.cells };
-
-    ghost invariant = { λ few. few.len ≤ 7 };
-}
-
-impl UnpackedCells {
-    fn none() -> UnpackedCells
-        ensures { result ≡ [] }
-    {
-        UnpackedCells {
-            len: 0,
-            cells: [BLANK; WORDS],
-        }
-    }
-
-    fn push(&mut self, cell: Cell)
-        requires { length self.old < 7 }
-        ensures { self.new ≡ self.old ++ cell ∷ [] }
-    {
-        self.cells[self.len as usize] = cell;
-        self.len += 1;
-    }
-
-    /// The cells, in order.
-    pub fn as_slice(&self) -> &[Cell]
-        ensures { result.now ≡ self.now }
-    {
-        &self.cells[..self.len as usize]
     }
 }

@@ -3,7 +3,7 @@ ghost use Rattle.std.specs.Prelude.{◌≡◌, ◌==◌, ◌<◌, ◌+◌, ◌^�
 ghost use Rattle.std.specs.Prelude.{slice_get, IfOk, OnErr, OnOk, Some, vec_capacity, vec_len};
 ghost use Rattle.std.specs.Option.{option_map};
 ghost use Rattle.agg_types.specs.declared.event.What.TheVariants.{Put};
-ghost use Rattle.agg_types.specs.Whats.{FitsEntry, as_what};
+ghost use Rattle.agg_types.specs.Whats.{as_what};
 
 use crate::entry::{Entry, cells_fit, fits};
 use crate::{Cell, Cells, Key, LentWhat, NoMemory, PackedCells, What};
@@ -148,15 +148,32 @@ impl Whats {
             (self.new ≡ self.old ++ Put peer table key life cells.now ∷ []) }
         ensures err { OnErr result (self.new ≡ self.old) }
     {
+        match PackedCells::pack(cells) {
+            Some(packed) => self.push_packed(peer, table, key, life, packed),
+            None => self.push_wide(peer, table, key, life, cells),
+        }
+    }
+
+    /// Adds an update whose cells are packed. After NoMemory the list is as it was.
+    #[inline(always)]
+    pub fn push_packed(
+        &mut self,
+        peer: usize,
+        table: usize,
+        key: Key,
+        life: Option<u64>,
+        cells: PackedCells,
+    ) -> Result<(), NoMemory>
+        ensures ok { OnOk result (self.new ≡ self.old ++ Put peer table key life cells ∷ []) }
+        ensures err { OnErr result (self.new ≡ self.old) }
+    {
         if !fits(peer, table, life) {
+            let cells = cells.unpack(self.alloc())?;
             return self.push_what(peer, table, key, life, cells);
         }
-        let Some(packed) = PackedCells::pack(cells) else {
-            return self.push_wide(peer, table, key, life, cells);
-        };
         make_room(&mut self.entries)?;
         self.entries
-            .push_reserved(Entry::packed(peer, table, key, life, packed));
+            .push_reserved(Entry::packed(peer, table, key, life, cells));
         Ok(())
     }
 
@@ -170,13 +187,13 @@ impl Whats {
         life: Option<u64>,
         cells: &[Cell],
     ) -> Result<(), NoMemory>
-        requires { FitsEntry peer table life }
         ensures ok { OnOk result
             (self.new ≡ self.old ++ Put peer table key life cells.now ∷ []) }
         ensures err { OnErr result (self.new ≡ self.old) }
     {
         let start = self.cells.len();
-        if !cells_fit(start, cells.len()) {
+        if !fits(peer, table, life) || !cells_fit(start, cells.len()) {
+            let cells = Cells::copy(self.alloc(), cells)?;
             return self.push_what(peer, table, key, life, cells);
         }
         make_room(&mut self.entries)?;
@@ -195,13 +212,11 @@ impl Whats {
         table: usize,
         key: Key,
         life: Option<u64>,
-        cells: &[Cell],
+        cells: Cells,
     ) -> Result<(), NoMemory>
-        ensures ok { OnOk result
-            (self.new ≡ self.old ++ Put peer table key life cells.now ∷ []) }
+        ensures ok { OnOk result (self.new ≡ self.old ++ Put peer table key life cells ∷ []) }
         ensures err { OnErr result (self.new ≡ self.old) }
     {
-        let cells = Cells::copy(self.alloc(), cells)?;
         self.push(What::Put {
             peer,
             table,

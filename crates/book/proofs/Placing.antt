@@ -25,6 +25,8 @@ use Rattle.peer_rows.specs.declared.row.Row.{Row}
 use Rattle.book.specs.Placed.{found_in}
 use Rattle.book.specs.Shown.{as_arrival, cell_of, found_worth, rows_worth}
 use Rattle.std.proofs.lemmas.List.Sums.{sum_by-cons}
+use Rattle.std.proofs.lemmas.Option.{slice_get-map}
+use Rattle.agg_types.specs.declared.event.Cell.{Cell}
 
 -- what a cell that was found is worth, and nothing where none was
 abbrev pub held_worth : ℕ → ℕ → ℕ → Option Held → ℕ
@@ -41,47 +43,91 @@ placed_worth (Some place) since arrived cells =
 abbrev pub behind : ℕ → Option (ℕ × ℕ) → Option (ℕ × ℕ)
 behind before found = option_map (λ (place : ℕ × ℕ). (before + place.0, place.1)) found
 
-get_none : (i : ℕ) → slice_get {X = Held} [] i ≡ None
+-- ---- cells as they come
+-- what a cell that was found is worth, and nothing where none was
+abbrev pub cell_found : ℕ → ℕ → Option Cell → ℕ
+cell_found period since None = 0
+cell_found period since (Some cell) = cell_worth period since cell
+
+-- what cells are worth at a place
+abbrev pub worth_at : Option (ℕ × ℕ) → ℕ → List Cell → ℕ
+worth_at None since cells = 0
+worth_at (Some place) since cells = cell_found place.1 since (slice_get cells place.0)
+
+get_none : (i : ℕ) → slice_get {X = Cell} [] i ≡ None
 get_none i = refl
 
-get_more : (xs : List Held) (x : Held) (i : ℕ) → slice_get (x ∷ xs) (i + 1) ≡ slice_get xs i
+get_more : (xs : List Cell) (x : Cell) (i : ℕ) → slice_get (x ∷ xs) (i + 1) ≡ slice_get xs i
 get_more xs x i = rw add-one refl
 
-shifted_none : (o : Option (ℕ × ℕ)) (since arrived : ℕ)
-    → placed_worth (option_map (λ place. (place.0 + 1, place.1)) o) since arrived [] ≡ 0
-shifted_none None since arrived = refl
-shifted_none (Some place) since arrived =
-    ap (held_worth place.1 since arrived) (get_none (place.0 + 1))
+shifted_none : (o : Option (ℕ × ℕ)) (since : ℕ)
+    → worth_at (option_map (λ place. (place.0 + 1, place.1)) o) since [] ≡ 0
+shifted_none None since = refl
+shifted_none (Some place) since = ap (cell_found place.1 since) (get_none (place.0 + 1))
 
-shifted : (o : Option (ℕ × ℕ)) (since arrived : ℕ) (c : Held) (cells : List Held)
-    → placed_worth (option_map (λ place. (place.0 + 1, place.1)) o) since arrived (c ∷ cells)
-    ≡ placed_worth o since arrived cells
-shifted None since arrived c cells = refl
-shifted (Some place) since arrived c cells =
-    ap (held_worth place.1 since arrived) (get_more cells c place.0)
+shifted : (o : Option (ℕ × ℕ)) (since : ℕ) (c : Cell) (cells : List Cell)
+    → worth_at (option_map (λ place. (place.0 + 1, place.1)) o) since (c ∷ cells)
+    ≡ worth_at o since cells
+shifted None since c cells = refl
+shifted (Some place) since c cells = ap (cell_found place.1 since) (get_more cells c place.0)
+
+pub column_at : (col : Col) (since : ℕ) (cols : List (Col × ℕ)) (cells : List Cell)
+    → column_worth col since cols cells ≡ worth_at (found_in cols col) since cells
+column_at col since [] cells = refl
+column_at col since (s ∷ cols) [] = by (same_col s.0 col)
+  where
+    by : (b : Bool) → 0 ≡ worth_at (cond b (Some (0, s.1))
+        (option_map (λ place. (place.0 + 1, place.1)) (found_in cols col))) since []
+    by true = refl
+    by false = sym (shifted_none (found_in cols col) since)
+column_at col since (s ∷ cols) (c ∷ cells) =
+    by (column_at col since cols cells) (same_col s.0 col)
+  where
+    by : column_worth col since cols cells ≡ worth_at (found_in cols col) since cells
+        → (b : Bool) → cond b (cell_worth s.1 since c) (column_worth col since cols cells)
+        ≡ worth_at (cond b (Some (0, s.1))
+        (option_map (λ place. (place.0 + 1, place.1)) (found_in cols col))) since (c ∷ cells)
+    by rest true = refl
+    by rest false = rest ∙ sym (shifted (found_in cols col) since c cells)
+
+-- the worth of a column that isn't stored, and of one whose cell lies at a place
+pub worth_unstored : (col : Col) (since : ℕ) (cols : List (Col × ℕ)) (cells : List Cell)
+    (o : Option (ℕ × ℕ)) → o ≡ found_in cols col → o ≡ None
+    → 0 ≡ column_worth col since cols cells
+worth_unstored col since cols cells o is none =
+    sym (column_at col since cols cells
+    ∙ ap (λ o. worth_at o since cells) (sym is ∙ none))
+
+pub worth_placed : (col : Col) (since : ℕ) (cols : List (Col × ℕ)) (cells : List Cell)
+    (o : Option (ℕ × ℕ)) (place period : ℕ) (cell : Option Cell)
+    → o ≡ found_in cols col → o ≡ Some (place, period) → cell ≡ slice_get cells place
+    → (worth : ℕ) → worth ≡ cell_found period since cell
+    → worth ≡ column_worth col since cols cells
+worth_placed col since cols cells o place period cell is some there worth worths =
+    worths ∙ ap (cell_found period since) there
+    ∙ sym (column_at col since cols cells
+    ∙ ap (λ o. worth_at o since cells) (sym is ∙ some))
+
+-- ---- cells as a row holds them
+cell_held : (period since arrived : ℕ) (held : Option Held)
+    → cell_found period since (option_map (cell_of arrived) held)
+    ≡ held_worth period since arrived held
+cell_held period since arrived None = refl
+cell_held period since arrived (Some held) = refl
+
+held_at : (o : Option (ℕ × ℕ)) (since arrived : ℕ) (cells : List Held)
+    → worth_at o since (map (cell_of arrived) cells) ≡ placed_worth o since arrived cells
+held_at None since arrived cells = refl
+held_at (Some place) since arrived cells =
+    ap (cell_found place.1 since) (slice_get-map (cell_of arrived) cells place.0)
+    ∙ cell_held place.1 since arrived (slice_get cells place.0)
 
 pub column_found : (col : Col) (since arrived : ℕ) (cols : List (Col × ℕ)) (cells : List Held)
     → column_worth col since cols (map (cell_of arrived) cells)
     ≡ placed_worth (found_in cols col) since arrived cells
-column_found col since arrived [] cells = refl
-column_found col since arrived (s ∷ cols) [] = by (same_col s.0 col)
-  where
-    by : (b : Bool) → 0 ≡ placed_worth (cond b (Some (0, s.1))
-        (option_map (λ place. (place.0 + 1, place.1)) (found_in cols col))) since arrived []
-    by true = refl
-    by false = sym (shifted_none (found_in cols col) since arrived)
-column_found col since arrived (s ∷ cols) (c ∷ cells) =
-    by (column_found col since arrived cols cells) (same_col s.0 col)
-  where
-    by : column_worth col since cols (map (cell_of arrived) cells)
-        ≡ placed_worth (found_in cols col) since arrived cells
-        → (b : Bool) → cond b (cell_worth s.1 since (cell_of arrived c))
-        (column_worth col since cols (map (cell_of arrived) cells))
-        ≡ placed_worth (cond b (Some (0, s.1))
-        (option_map (λ place. (place.0 + 1, place.1)) (found_in cols col))) since arrived
-        (c ∷ cells)
-    by rest true = refl
-    by rest false = rest ∙ sym (shifted (found_in cols col) since arrived c cells)
+column_found col since arrived cols cells =
+    column_at col since cols (map (cell_of arrived) cells)
+    ∙ held_at (found_in cols col) since arrived cells
 
 row_found : (cols : List (Col × ℕ)) (col : Col) (t : ℕ) (row : Row) (o : Option (ℕ × ℕ))
     → o ≡ found_in cols col

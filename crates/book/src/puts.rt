@@ -104,7 +104,8 @@ pub fn lay_row(
     match cells {
         LentCells::Slice(cells) => lay_cells(row, alloc, t, life, cols, cells),
         LentCells::Packed(cells) => {
-            lay_cells(row, alloc, t, life, cols, cells.unpack().as_slice())
+            let cells = cells.unpack(alloc)?;
+            lay_cells(row, alloc, t, life, cols, cells.as_slice())
         }
     }
 }

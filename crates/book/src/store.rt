@@ -11,7 +11,7 @@ ghost use Rattle.fleet_model.specs.Machine.{with_row};
 ghost use Rattle.std.specs.List.{list_any};
 ghost use Rattle.fleet_model.specs.Moments.{is_live};
 ghost use Rattle.fleet_model.specs.Rows.{has_room, size_of};
-ghost use Rattle.fleet_model.specs.Values.{column_worth, same_key, same_place};
+ghost use Rattle.fleet_model.specs.Values.{same_key, same_place};
 ghost use Rattle.std.specs.BTreeMap.{insert_entry};
 ghost use Rattle.agg_types.specs.RowKey.{row_key_cmp};
 ghost use Rattle.fleet_model.specs.Keys.{AreInOrder, held_rows, key_rows, worth_of};
@@ -354,7 +354,7 @@ impl Store {
     {
         let found = self.of_key_at(at.spot, at.table, at.key);
         let standing = found_bound(found.as_ref(), cols, col, t);
-        standing + u128::from(lent_worth(col, cols, cells))
+        standing + u128::from(arriving_worth(col, cols, cells))
     }
 
     /// Takes away the rows of a table.
@@ -387,16 +387,6 @@ fn size_of(tables: &[Shape], table: usize) -> u64
     match tables.get(table) {
         None => 0,
         Some(shape) => shape.size,
-    }
-}
-
-// What cells that are lent are worth as they arrive.
-fn lent_worth(col: Col, cols: &[(Col, u32)], cells: LentCells<'_>) -> u64
-    ensures { result ≡ column_worth col 0 cols.now (lent_cells cells.entry) }
-{
-    match cells {
-        LentCells::Slice(cells) => arriving_worth(col, cols, cells),
-        LentCells::Packed(cells) => arriving_worth(col, cols, cells.unpack().as_slice()),
     }
 }
 

@@ -5,6 +5,7 @@ ghost use Rattle.std.specs.Prelude.{IfSome, Some, slice_get};
 ghost use Rattle.std.specs.List.{list_all, position, position_or_len};
 ghost use Rattle.agg_types.specs.Col.{same_col};
 ghost use Rattle.agg_types.specs.Op.{op_holds};
+ghost use Rattle.agg_types.specs.Whats.{lent_cells};
 ghost use Rattle.agg_types.specs.declared.column.Col.{Col as ColName};
 ghost use Rattle.fleet_model.specs.Keys.{Rows, key_rows, row_worth, worth_of};
 ghost use Rattle.fleet_model.specs.Values.{cell_worth, column_worth, value};
@@ -14,7 +15,7 @@ ghost use Rattle.book.specs.Store.{AreFound};
 
 use crate::row::is_live;
 use crate::store::Store;
-use agg_types::{Cell, Col, Cond, Key};
+use agg_types::{Cell, Col, Cond, Key, LentCells};
 use peer_rows::{Held, OfKey, Row};
 use period_rate::Rate;
 use standing_filters::fails_for_good;
@@ -53,21 +54,15 @@ pub fn found_in(cols: &[(Col, u32)], col: Col) -> Option<(usize, u32)>
 }
 
 /// What the cell of a column is worth as it arrives.
-pub fn arriving_worth(col: Col, cols: &[(Col, u32)], cells: &[Cell]) -> u64
-    ensures { result ≡ column_worth col 0 cols.now cells.now }
+pub fn arriving_worth(col: Col, cols: &[(Col, u32)], cells: LentCells<'_>) -> u64
+    ensures { result ≡ column_worth col 0 cols.now (lent_cells cells.entry) }
 {
-    match cols {
-        [] => 0,
-        [stored, cols @ ..] => match cells {
-            [] => 0,
-            [cell, cells @ ..] => {
-                if stored.0.id() == col.id() {
-                    arriving_cell(stored.1, *cell)
-                } else {
-                    arriving_worth(col, cols, cells)
-                }
-            }
-        },
+    let Some((place, period)) = found_in(cols, col) else {
+        return 0;
+    };
+    match cells.get(place) {
+        None => 0,
+        Some(cell) => arriving_cell(period, cell),
     }
 }
 

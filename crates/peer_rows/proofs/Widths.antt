@@ -6,6 +6,7 @@ use Rattle.std.proofs.Common.{arith, get_or, take, add-zero, add-one}
 use Rattle.std.proofs.Common.{length-append}
 use Rattle.std.specs.Prelude.{Some, None, map, slice_get}
 use Rattle.std.proofs.lemmas.List.{map-append}
+use Rattle.agg_types.proofs.Lists.{get-last, get-others}
 use Rattle.peer_rows.specs.declared.row.Held.{Held}
 use Rattle.peer_rows.specs.Few.{cell_at, cells_of, kind_of, total_width, width}
 use Rattle.peer_rows.specs.declared.few.Kind.{Kind}
@@ -79,19 +80,6 @@ total-last zero kinds some = absurd (omega (arith, some))
 total-last (suc len) kinds some = let same : suc len - 1 ≡ len = omega arith in rw same refl
 
 -- ---- the cell of a column
-get-last : (cells : List Held) (cell : Held) → slice_get (cells ++ cell ∷ []) (length cells)
-    ≡ Some cell
-get-last [] cell = refl
-get-last (c ∷ cells) cell = get-last cells cell
-
-get-others : (cells : List Held) (cell : Held) (col : ℕ) → col ≢ length cells
-    → slice_get (cells ++ cell ∷ []) col ≡ slice_get cells col
-get-others [] cell zero apart = absurd (apart refl)
-get-others [] cell (suc col) apart = refl
-get-others (c ∷ cells) cell zero apart = refl
-get-others (c ∷ cells) cell (suc col) apart =
-    get-others cells cell col (λ same. apart (ap suc same))
-
 pub few-last : (len kinds : ℕ) (words : List ℕ) (col : ℕ) (held : Held) → 0 < len → col ≡ len - 1
     → held ≡ cell_at (kind_of (kinds % 4)) words (total_width (len - 1) (kinds / 4))
     → Some held ≡ slice_get (cells_of len kinds words) col

@@ -9,11 +9,10 @@ ghost use Rattle.peer_rows.specs.Few.{cell_at, cells_of};
 ghost use Rattle.peer_rows.specs.Laid.{row_in};
 ghost use Rattle.peer_rows.specs.declared.few.Kind.TheVariants.{Narrow};
 
-use crate::few::{WORDS, Words};
 use crate::packed::WORD;
 use crate::row::{self, Laid, life_word};
 use crate::{Arrival, Row, narrow};
-use agg_types::Col;
+use agg_types::{Col, WORDS, Words};
 
 impl Row {
     /// Becomes the row of cells that arrive, if that can be laid here, and else stays. Takes no

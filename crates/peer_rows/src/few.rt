@@ -7,15 +7,9 @@ ghost use Rattle.peer_rows.specs.Most.{most_at, most_of};
 use crate::Held;
 use crate::narrow::{narrowed, widened};
 use crate::packed::{Packed, halves, whole};
+use agg_types::{WORDS, Words, write_words};
 use period_rate::Rate;
 use std::marker::Model;
-
-/// How many words there are: as many as two narrow rates and a small count take, or a wide rate and
-/// two small counts.
-pub(crate) const WORDS: usize = 7;
-
-/// The words of a few cells.
-pub(crate) type Words = [u32; WORDS];
 
 // What a cell is, and so how many words it takes: a count below 2^32 one, another two, a rate five,
 // and a narrow one three.
@@ -194,7 +188,7 @@ impl Few {
         let Some(before) = self.kinds.checked_mul(4) else {
             return false;
         };
-        write(&mut self.words, used, own);
+        write_words(&mut self.words, used, own);
         self.kinds = before + kind.digit();
         self.len += 1;
         self.used += own.len() as u8;
@@ -291,35 +285,4 @@ fn word(words: &Words, at: usize) -> u32
     ensures { result ≡ slice_index words.now at }
 {
     if at < WORDS { words[at] } else { 0 }
-}
-
-// Writes a cell's words from a place on: one by one where there are as many as a cell has, since a
-// copy of a few words is dearer.
-#[inline(always)]
-fn write(words: &mut Words, at: usize, cell: &[u32])
-    requires { at + length cell.now ≤ 7 }
-    ensures here { (k : ℕ) → k < length cell.now
-        → slice_index words.new (at + k) ≡ slice_index cell.now k }
-    ensures before { (k : ℕ) → k < at → slice_index words.new k ≡ slice_index words.old k }
-{
-    match cell {
-        [only] => words[at] = *only,
-        [low, high] => {
-            words[at] = *low;
-            words[at + 1] = *high;
-        }
-        [first, second, third] => {
-            words[at] = *first;
-            words[at + 1] = *second;
-            words[at + 2] = *third;
-        }
-        [first, second, third, fourth, fifth] => {
-            words[at] = *first;
-            words[at + 1] = *second;
-            words[at + 2] = *third;
-            words[at + 3] = *fourth;
-            words[at + 4] = *fifth;
-        }
-        _ => words[at..at + cell.len()].copy_from_slice(cell),
-    }
 }

@@ -8,9 +8,9 @@ ghost use Rattle.peer_rows.specs.Laid.{life_in, moment_of, row_in, stored};
 ghost use Rattle.peer_rows.specs.Most.{most_at, most_of};
 ghost use Rattle.peer_rows.specs.Packed.{held_of};
 
-use crate::few::{self, Few, WORDS, Words};
+use crate::few::{self, Few};
 use crate::packed::{Packed, WORD, whole};
-use agg_types::NoMemory;
+use agg_types::{NoMemory, WORDS, Words};
 use period_rate::Rate;
 use std::alloc::Global;
 use std::marker::Model;

@@ -183,7 +183,7 @@ fn print_fact(rt: &impl Print, alloc: Global, fact: LentWhat<'_>) -> Result<()> 
         } => {
             let key = hex::encode(alloc, key.as_slice())?;
             let row = format!(in alloc; "put {peer} {table} {key} {life:?}")?;
-            print_cells(rt, &row, cells)?;
+            print_cells(rt, alloc, &row, cells)?;
         }
         LentWhat::Other(_) => println!(rt; "no fact of a session")?,
     }
@@ -191,10 +191,13 @@ fn print_fact(rt: &impl Print, alloc: Global, fact: LentWhat<'_>) -> Result<()> 
 }
 
 // Prints a row with its cells, which may lie in two ways, too.
-fn print_cells(rt: &impl Print, row: &str, cells: LentCells<'_>) -> Result<()> {
+fn print_cells(rt: &impl Print, alloc: Global, row: &str, cells: LentCells<'_>) -> Result<()> {
     match cells {
         LentCells::Slice(cells) => println!(rt; "{row} {cells:?}")?,
-        LentCells::Packed(cells) => println!(rt; "{row} {:?}", cells.unpack().as_slice())?,
+        LentCells::Packed(cells) => {
+            let cells = cells.unpack(alloc)?;
+            println!(rt; "{row} {:?}", cells.as_slice())?;
+        }
     }
     Ok(())
 }

@@ -6,8 +6,8 @@ use peer_rows::{Arrival, Held, Row, Rows};
 use period_rate::Rate;
 use std::alloc::Global;
 
-/// Columns, each with its period in ms, the cells of an update, when it arrives and for how long, in
-/// ms.
+/// Columns, each with its period in ms, the cells of an update, when it arrives and for how long,
+/// in ms.
 #[derive(Clone, Copy)]
 struct Case {
     name: &'static str,
@@ -226,7 +226,8 @@ fn show(rt: &HostRuntime, case: &Case) -> Result<()> {
         println!(rt; "{}: not packed", case.name)?;
         return Ok(());
     };
-    let same = cells.unpack().as_slice() == case.cells;
+    let unpacked = cells.unpack(alloc)?;
+    let same = unpacked.as_slice() == case.cells;
     let (again, holds) = match laid(alloc, case, &cells) {
         Err(_) => laid(alloc, case, &cells)?,
         Ok(laid) => laid,

@@ -17,8 +17,8 @@ invariant_of-self c =
 pub returns : goal.returns
 returns c =
     cells-pushed c.self.inside.len c.self.inside.kinds (c.in-Some.before + c.args.digit)
-    c.args.digit c.self.inside.used c.self.inside.words c.write.new.words c.args.own.now
+    c.args.digit c.self.inside.used c.self.inside.words c.write_words.new.words c.args.own.now
     (omega (arith, c.in-Some.ensures)) c.requires.small c.self.invariant.width c.requires.words
-    c.write.ensures.here c.write.ensures.before
+    c.write_words.ensures.here c.write_words.ensures.before
     ∙ ap (λ (cells : List Cell). cells ++ cell_at c.args.digit c.args.own.now 0 ∷ [])
     c.self.view_is

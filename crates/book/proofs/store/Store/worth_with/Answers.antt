@@ -26,7 +26,7 @@ returns-clause-after c = λ life.
     let standing = worth_found c.args.self.now.rows c.args.at.table c.args.at.key.now
     c.args.cols.now c.args.col c.args.t c.as_ref.result found in
     let own : c.from.result ≡ column_worth c.args.col 0 c.args.cols.now (lent_cells c.args.cells) =
-    c.from.ensures ∙ c.lent_worth.ensures in
+    c.from.ensures ∙ c.arriving_worth.ensures in
     let more : worth_of c.args.cols.now
     (key_rows (with_row c.args.t c.args.self.now.rows (place_at c.args.at)
     (put_arrival c.args.t life c.args.cols.now (lent_cells c.args.cells))) c.args.at.table

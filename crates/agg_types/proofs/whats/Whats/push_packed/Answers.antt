@@ -1,5 +1,5 @@
 use Rattle.agg_types.proofs.Packing.{AreWithin-append}
-use Rattle.agg_types.proofs.whats.Whats.push_put.Goals as goal
+use Rattle.agg_types.proofs.whats.Whats.push_packed.Goals as goal
 
 pub invariant_of-self-2 : goal.invariant_of-self-2
 invariant_of-self-2 c =
