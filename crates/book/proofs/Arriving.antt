@@ -1,6 +1,6 @@
 -- The row that packed cells make which arrive is the row that is to be put.
-use Rattle.std.proofs.Common.{◌≡◌, ℕ, ◌+◌, ◌-◌, ◌*◌, ◌≤◌, List, [], ◌∷◌, Some, None, refl, sym, ap, ◌∙◌, subst}
-use Rattle.std.proofs.Common.{Bool, true, false, arith}
+use Rattle.std.proofs.Common.{◌≡◌, ℕ, ◌+◌, ◌-◌, ◌*◌, ◌≤◌, List, [], ◌∷◌, Some, None, refl, sym, ap}
+use Rattle.std.proofs.Common.{◌∙◌, subst, Bool, true, false, arith}
 use Rattle.std.specs.Prelude.{Option, MatchBool, map, min}
 use Rattle.std.specs.BTreeMap.{insert_entry}
 use Rattle.agg_types.specs.RowKey.{row_key_cmp}
@@ -79,10 +79,12 @@ rows-arrived peers tables false old new place packed are ordered inside same =
 
 -- the rows in force with one put
 pub in-force : (peers tables : ℕ) (old new : List (RowKey × Arrival)) (place : RowKey)
-    (row : Arrival) (store : InForce) → record { peers = peers; tables = tables; rows = old } ≡ store
+    (row : Arrival) (store : InForce)
+    → record { peers = peers; tables = tables; rows = old } ≡ store
     → new ≡ insert_entry row_key_cmp old place row
     → record { peers = peers; tables = tables; rows = new }
     ≡ record store { rows = insert_entry row_key_cmp store.rows place row }
 in-force peers tables old new place row store view is =
-    ap (λ (rows : List (RowKey × Arrival)). record { peers = peers; tables = tables; rows = rows }) is
+    ap (λ (rows : List (RowKey × Arrival)).
+    record { peers = peers; tables = tables; rows = rows }) is
     ∙ ap (λ (s : InForce). record s { rows = insert_entry row_key_cmp s.rows place row }) view

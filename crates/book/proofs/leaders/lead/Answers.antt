@@ -34,8 +34,8 @@ loop-list-preserved c =
             c.loop-list.leaders w.touch.new.self c.loop-list-test.true c.loop-list.invariant.led
             w.touch.ensures.others w.in_ok-touch.ensures.holds
             (rank_worth tables (λ cols. with_row c.args.t rows place
-            (put_arrival c.args.t life cols (lent_cells c.args.cells))) c.args.t (rank_at ranks list)
-            c.index-ranks-list.result c.cols_of-cols.result.now c.args.at.table
+            (put_arrival c.args.t life cols (lent_cells c.args.cells))) c.args.t
+            (rank_at ranks list) c.index-ranks-list.result c.cols_of-cols.result.now c.args.at.table
             c.args.at.key.now w.worth_with-bound.result rank w.if-rank-at.true
             c.cols_of-cols.ensures (w.worth_with-bound.ensures.after life))
             (λ other apart. apart_rows rows c.args.t place

@@ -52,5 +52,6 @@ returns-clause-led c =
     c.as_slice.ensures
     (subst (λ (tables : List Shape). AreLed tables c.as_slice.result.now
     (with_row c.args.t c.args.rows.now.rows (place_at c.args.at)
-    (arrival_of tables c.args.at.table c.args.t c.args.life (lent_cells c.args.cells))) c.args.t leaders)
+    (arrival_of tables c.args.at.table c.args.t c.args.life (lent_cells c.args.cells))) c.args.t
+    leaders)
     c.as_slice-tables.ensures (c.in_ok-lead.ensures.put c.args.life)))

@@ -44,5 +44,5 @@ returns-clause-led c =
     c.as_slice.ensures) c.put.ensures.ok)
     c.put.ensures.err c.requires.led
     (unranked_led config.tables config.ranks c.args.rows.now.rows c.args.t (place_at c.args.at)
-    (arrival_of config.tables c.args.at.table c.args.t c.args.life (lent_cells c.args.cells)) leaders
-    c.requires.ordered (sym c.requires.ranked ∙ c.if-at.false) c.requires.led)
+    (arrival_of config.tables c.args.at.table c.args.t c.args.life (lent_cells c.args.cells))
+    leaders c.requires.ordered (sym c.requires.ranked ∙ c.if-at.false) c.requires.led)
