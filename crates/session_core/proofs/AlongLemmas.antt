@@ -1,11 +1,12 @@
 -- Cells that are read one behind the other are those of the integers.
-use Rattle.std.proofs.Common.{◌≡◌, ℕ, zero, suc, ◌+◌, ◌-◌, ◌<◌, ◌≤◌, Bool, List, [], ◌∷◌, ◌++◌}
-use Rattle.std.proofs.Common.{length, take, drop, map, Option, Some, None, refl, sym, ap, ◌∙◌, arith}
+use Rattle.std.proofs.Common.{◌≡◌, ℕ, suc, ◌+◌, ◌-◌, ◌<◌, ◌≤◌, Bool, List, [], ◌∷◌, ◌++◌}
+use Rattle.std.proofs.Common.{length, drop, map, Option, Some, None, refl, sym, ap, ◌∙◌, arith}
 use Rattle.std.proofs.Common.{append_assoc, length-append, get_or, true, false, ltb, ◌*◌, ◌%◌, ◌^◌}
 use Rattle.std.proofs.Common.{eqb, ◌&&◌, Ok}
 use Rattle.std.proofs.lemmas.Bool.{lt-ltb, lt-leb, eqb-true, false≢true}
 use Rattle.std.specs.Prelude.{leb}
-use Rattle.std.proofs.lemmas.List.{drop_at, drop_more, drop_all, take_rest}
+use Rattle.std.proofs.lemmas.List.{drop_at, drop_more, drop_all}
+use Rattle.std.proofs.lemmas.Option.{none-some, same_Some}
 use Rattle.std.specs.Option.{option_map}
 use Rattle.peers_msg.specs.Payload.{◌>>=◌, number_at}
 use Rattle.peers_msg.proofs.Integers.{two_front, three_front}
@@ -15,9 +16,9 @@ use Rattle.agg_types.specs.declared.event.Cell.TheVariants as cells
 use Rattle.session_core.specs.Values.{elapsed_of}
 use Rattle.session_core.specs.declared.plan.Source.{Source}
 use Rattle.session_core.specs.declared.plan.Source.TheVariants as sources
-use Rattle.session_core.specs.Plan.{count_in, rate_in, cell_from, numbers_at, AreCells}
+use Rattle.session_core.specs.Plan.{count_in, rate_in, cell_from, numbers_at}
 use Rattle.session_core.specs.Straight.{is_straight}
-use Rattle.session_core.specs.Along.{cell_at, cells_along, count_at, rate_at}
+use Rattle.session_core.specs.Along.{cell_at, cells_along, cells_with, count_at, rate_at}
 
 -- ---- the cells of columns, one behind the other
 
@@ -56,6 +57,28 @@ along_cut all at front rest source lt is found =
 pub along_all : (all : List Source) (at : ℕ) (front : List Cell) (rest : List ℕ)
     → length all ≤ at → behind_cells front (cells_along (drop at all) rest) ≡ Some (front ++ [])
 along_all all at front rest le = rw (drop_all at all le) refl
+
+-- a cell that is packed behind others
+packed_then : (others : List Source) (front new : List Cell) (after : List ℕ)
+    (o : Option (Cell × List ℕ)) → cells_with front o ≡ Some (new, after)
+    → behind_cells front (o >>= λ (first : Cell × List ℕ). cells_along others first.1
+    >>= λ (cells : List Cell). Some (first.0 ∷ cells))
+    ≡ behind_cells new (cells_along others after)
+packed_then others front new after None is = absurd (none-some (new, after) is)
+packed_then others front new after (Some x) is =
+    let both : (front ++ x.0 ∷ [], x.1) ≡ (new, after) =
+    same_Some (front ++ x.0 ∷ [], x.1) (new, after) is in
+    behind_one front x.0 (cells_along others x.1)
+    ∙ ap (λ (both : List Cell × List ℕ). behind_cells both.0 (cells_along others both.1)) both
+
+pub along_packed : (all : List Source) (at : ℕ) (front new : List Cell) (rest after : List ℕ)
+    (other : Source) → at < length all
+    → cells_with front (cell_at (get_or all at other) rest) ≡ Some (new, after)
+    → behind_cells front (cells_along (drop at all) rest)
+    ≡ behind_cells new (cells_along (drop (at + 1) all) after)
+along_packed all at front new rest after other lt found =
+    rw (drop_more all at other lt)
+    (packed_then (drop (at + 1) all) front new after (cell_at (get_or all at other) rest) found)
 
 -- ---- a straight plan's cells are those of its integers
 

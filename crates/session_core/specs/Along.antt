@@ -1,5 +1,6 @@
 -- Cells that are read one behind the other.
-use Rattle.std.specs.Prelude.{ℕ, Bool, List, [], ◌∷◌, Option, Some}
+use Rattle.std.specs.Prelude.{ℕ, Bool, List, [], ◌∷◌, ◌++◌, Option, Some}
+use Rattle.std.specs.Option.{option_map}
 use Rattle.peers_msg.specs.Payload.{◌>>=◌, number_at}
 use Rattle.agg_types.specs.declared.event.Cell.{Cell}
 use Rattle.session_core.specs.declared.plan.Source.{Source}
@@ -25,6 +26,11 @@ abbrev pub cell_at : Source → List ℕ → Option (Cell × List ℕ)
 cell_at (sources.Blank cell) bytes = Some (cell, bytes)
 cell_at (sources.Count place wide) bytes = count_at wide bytes
 cell_at (sources.Rate place) bytes = rate_at bytes
+
+-- cells, with the next one behind them, and the bytes after it
+abbrev pub cells_with : List Cell → Option (Cell × List ℕ) → Option (List Cell × List ℕ)
+cells_with cells next =
+    option_map (λ (first : Cell × List ℕ). (cells ++ first.0 ∷ [], first.1)) next
 
 -- the cells of columns, one column's integers behind another's
 abbrev pub cells_along : List Source → List ℕ → Option (List Cell)

@@ -21,6 +21,13 @@ put_in shape peer followed life bytes = do
   let cells = cells_of sents followed.periods shape.cols
   Some (Put peer followed.table key.0 (life_of followed.expiry life) cells)
 
+-- the row of this key and this life that values give; None where one is cut short or over
+abbrev pub put_of_values : Shape → ℕ → Followed → Option ℕ → List ℕ → List ℕ → Option What
+put_of_values shape peer followed life key values = do
+  sents ← sents_at followed.bits values
+  let cells = cells_of sents followed.periods shape.cols
+  Some (Put peer followed.table key life cells)
+
 -- the entry at this place is in force, with this definition of this table and this last id
 pub record IsInForce (tables : List Shape) (t : Tracked) (at : ℕ) (entry : Entry)
     (followed : Followed) (shape : Shape) (last : ℕ) : Type 0 where

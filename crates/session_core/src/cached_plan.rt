@@ -1,13 +1,13 @@
 //! A plan that a session keeps from piece to piece, with what it was made of.
 
-ghost use Rattle.std.specs.Prelude.{◌≡◌, [], map, vec_len, IsTrue, IfOk, IfSome};
+ghost use Rattle.std.specs.Prelude.{◌≡◌, [], map, vec_len, IsTrue, IfOk, IfSome, Some};
 ghost use Rattle.std.specs.Option.{option_map};
 ghost use Rattle.session_core.specs.Plan.{AreCells, cell_from, numbers_at, IsPlan};
 
 use crate::decode_plan::DecodePlan;
 use crate::track::Followed;
 use crate::values::TYPES;
-use agg_types::{Cell, Col, Items, NoMemory};
+use agg_types::{Cell, Col, Items, NoMemory, PackedCells};
 use std::alloc::Global;
 use std::marker::Model;
 
@@ -74,6 +74,16 @@ impl CachedPlan {
         self.made.is_of(bits, periods, cols)
     }
 
+    /// Reads the cells of an update's values into words; `None` where `read` has to read them.
+    #[inline(always)]
+    pub(crate) fn pack(&self, bytes: &[u8]) -> Option<PackedCells>
+        ensures { IfSome result (λ packed.
+            option_map (λ numbers. map (cell_from numbers) self.now.sources.items)
+            (numbers_at (vec_len self.now.numbers) bytes.now) ≡ Some packed) }
+    {
+        self.made.pack(bytes)
+    }
+
     /// Reads the cells of an update's values; false where one is cut or too large.
     #[inline]
     pub(crate) fn read(&mut self, bytes: &[u8]) -> bool
@@ -102,6 +112,15 @@ impl Made {
         self.bits == bits
             && same_periods(&self.periods, periods)
             && same_cols(self.cols.as_slice(), cols)
+    }
+
+    #[inline(always)]
+    fn pack(&self, bytes: &[u8]) -> Option<PackedCells>
+        ensures { IfSome result (λ packed.
+            option_map (λ numbers. map (cell_from numbers) self.now.sources.items)
+            (numbers_at (vec_len self.now.numbers) bytes.now) ≡ Some packed) }
+    {
+        self.plan.pack(bytes)
     }
 
     #[inline]

@@ -1,13 +1,13 @@
 //! How the values of a table's updates are read, and the room for what is read.
 
-ghost use Rattle.std.specs.Prelude.{◌≡◌, map, vec_len, IfOk};
+ghost use Rattle.std.specs.Prelude.{◌≡◌, map, vec_len, IfOk, IfSome, IsTrue, Some};
 ghost use Rattle.std.specs.Option.{option_map};
 ghost use Rattle.session_core.specs.Straight.{is_straight};
 
 use crate::plan::{Source, fill, read_numbers, source_of, widths};
-use crate::straight::{is_straight, read_straight};
+use crate::straight::{is_straight, read_packed, read_straight, take_at_most};
 use crate::values::TYPES;
-use agg_types::{Cell, Col, NoMemory};
+use agg_types::{Cell, Col, NoMemory, PackedCells, WORDS};
 use std::alloc::Global;
 
 /// How the updates of a table are read.
@@ -22,8 +22,12 @@ pub(crate) struct DecodePlan {
     /// Whether the columns' integers are all that is sent, in the columns' order: then the cells
     /// are read in one pass, and the room for integers isn't used.
     pub(crate) straight: bool,
+    /// Whether the cells can be read so into words. Where the columns are too many, no update tries
+    /// it in vain.
+    pub(crate) packs: bool,
     ghost one_each: { vec_len cells ≡ vec_len sources },
     ghost in_order: { straight ≡ is_straight 0 (vec_len numbers) sources.items },
+    ghost in_words: { IsTrue packs → IsTrue straight },
 }
 
 impl DecodePlan {
@@ -48,12 +52,28 @@ impl DecodePlan {
         let mut cells = Vec::new(alloc);
         cells.resize(sources.len(), Cell::Count(0))?;
         let straight = is_straight(0, count, sources.as_slice());
+        let packs = straight && take_at_most(WORDS, sources.as_slice());
         Ok(DecodePlan {
             numbers,
             sources,
             cells,
             straight,
+            packs,
         })
+    }
+
+    /// Reads the cells of an update's values into words; `None` where one is cut or too large, or
+    /// where they aren't all that can be read so: `read` tells that.
+    #[inline(always)]
+    pub(crate) fn pack(&self, bytes: &[u8]) -> Option<PackedCells>
+        ensures { IfSome result (λ packed.
+            option_map (λ numbers. map (cell_from numbers) self.now.sources.items)
+            (numbers_at (vec_len self.now.numbers) bytes.now) ≡ Some packed) }
+    {
+        if !self.packs {
+            return None;
+        }
+        read_packed(self.sources.as_slice(), bytes)
     }
 
     /// Reads the cells of an update's values; false where one is cut or too large.

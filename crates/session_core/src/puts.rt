@@ -1,19 +1,19 @@
 //! The rows that updates give. What updates of one table have in common, that stand one behind the
 //! other, is looked up once.
 
-ghost use Rattle.std.specs.Prelude.{◌≡◌, ◌≤◌, ◌==◌, IfOk, IfSome, OnOk};
+ghost use Rattle.std.specs.Prelude.{◌≡◌, ◌≤◌, ◌==◌, IfOk, IfSome, OnOk, Some};
 ghost use Rattle.std.specs.Option.{option_map};
 ghost use Rattle.agg_types.specs.Kind.{kind_length};
 ghost use Rattle.session_core.specs.Meaning.{AddsFact};
 ghost use Rattle.session_core.specs.Plan.{AreCells, IsPlan, IsPlanOf, cells_read};
-ghost use Rattle.session_core.specs.Puts.{PutsGoOn, put_in};
+ghost use Rattle.session_core.specs.Puts.{PutsGoOn, put_in, put_of_values};
 ghost use Rattle.session_core.specs.Tracked.{put_of};
 ghost use Rattle.session_core.specs.Values.{cells_of, sents_at};
 
 use crate::cached_plan::CachedPlan;
 use crate::track::Followed;
 use crate::values::{id_after, key_at, key_of, key_of_length, life_of};
-use agg_types::{Cell, Cells, Col, Declared, KeyLength, NoMemory, Shape, What, Whats};
+use agg_types::{Cell, Cells, Col, Declared, KeyLength, NoMemory, PackedCells, Shape, What, Whats};
 use peers_msg::{Given, LentMessage};
 use std::alloc::Global;
 
@@ -61,7 +61,7 @@ pub(crate) fn put_updates(
 }
 
 /// Adds the row that an update gives to the facts; false where its key or a value is cut or too
-/// large.
+/// large. Cells that fit in words, as most do, are read straight into them.
 #[inline(always)]
 #[tactic(auto, unfolding(crate::specs::Puts::put_in))]
 fn put(
@@ -84,11 +84,56 @@ fn put(
     let Some((key, values)) = key_of_length(length, bytes) else {
         return Ok(false);
     };
+    let life = life_of(followed.expiry, life);
+    if let Some(packed) = pack_cells(followed, shape.cols.as_slice(), plan, values) {
+        let key = key_of(alloc, key)?;
+        facts.push_packed(peer, followed.table, key, life, packed)?;
+        return Ok(true);
+    }
+    put_wide(alloc, peer, followed, shape, plan, life, key, values, facts)
+}
+
+/// Reads the cells of an update's values along the plan into words; `None` where `read_cells` has
+/// to read them.
+#[inline(always)]
+fn pack_cells(
+    followed: &Followed,
+    cols: &[(Col, u32)],
+    plan: &CachedPlan,
+    values: &[u8],
+) -> Option<PackedCells>
+    requires { IsPlan followed.now.bits followed.now.periods cols.now plan.now }
+    ensures { IfSome result (λ packed.
+        option_map (λ sents. cells_of sents followed.now.periods cols.now)
+        (sents_at followed.now.bits values.now) ≡ Some packed) }
+{
+    plan.pack(values)
+}
+
+/// Adds the row of this key and this life whose values these are to the facts; false where a value
+/// is cut or too large. Its cells needn't fit in words. It is apart, so that the updates whose
+/// cells do make no room for it.
+#[inline(never)]
+fn put_wide(
+    alloc: Global,
+    peer: usize,
+    followed: &Followed,
+    shape: &Shape,
+    plan: &mut CachedPlan,
+    life: Option<u64>,
+    key: &[u8],
+    values: &[u8],
+    facts: &mut Whats,
+) -> Result<bool, NoMemory>
+    requires { IsPlan followed.now.bits followed.now.periods shape.now.cols plan.old }
+    ensures put { IfOk result (λ told. AddsFact told facts.old facts.new
+        (put_of_values shape.now peer followed.now life key.now values.now)) }
+    ensures planned { IsPlan followed.now.bits followed.now.periods shape.now.cols plan.new }
+{
     if !read_cells(followed, shape.cols.as_slice(), plan, values) {
         return Ok(false);
     }
     let key = key_of(alloc, key)?;
-    let life = life_of(followed.expiry, life);
     facts.push_put(peer, followed.table, key, life, plan.cells())?;
     Ok(true)
 }

@@ -24,6 +24,11 @@ use agg_types::{Config, Declared, Items, NoMemory, Shape, What, Whats};
 use peers_msg::{Feed, Given, Message, WireCause, write_message};
 use std::alloc::Global;
 
+/// For how many facts at most room is taken before a piece's messages are read. Most pieces have
+/// 16 KB, and an update has some 14 bytes at least, so that few have more; room for more is made as
+/// they come. Messages of two bytes, of which a piece may have very many, are no facts.
+const MOST_AT_ONCE: usize = 1024;
+
 /// The messages of a peer whose hello was accepted.
 #[derive(Debug, Drop)]
 pub(crate) struct Dialogue {
@@ -248,7 +253,7 @@ fn answer(
 {
     let mut facts = facts;
     // A message is a fact at most.
-    facts.reserve(given.len())?;
+    facts.reserve(given.len().min(MOST_AT_ONCE))?;
     let mut out = replies;
     let current = dialogue.track.current();
     let mut changes = dialogue.track.take_room();

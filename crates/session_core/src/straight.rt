@@ -1,16 +1,17 @@
 //! The cells of an update in one pass over its bytes, where its integers are those of its columns
 //! in order.
 
-ghost use Rattle.std.specs.Prelude.{◌≡◌, ◌≤◌, Bool, IfSome, drop, length, Some};
+ghost use Rattle.std.specs.Prelude.{◌≡◌, ◌≤◌, Bool, IfSome, drop, length, Some, None, nat_le, sum};
+ghost use Rattle.std.specs.Prelude.{if◌then◌else◌, map};
 ghost use Rattle.peers_msg.specs.Payload.{number_at};
 ghost use Rattle.std.specs.Option.{option_map};
 ghost use Rattle.session_core.specs.Plan.{AreCells};
-ghost use Rattle.session_core.specs.Straight.{is_straight};
-ghost use Rattle.session_core.specs.Along.{cell_at, cells_along, count_at, rate_at};
+ghost use Rattle.session_core.specs.Straight.{is_straight, words_of};
+ghost use Rattle.session_core.specs.Along.{cell_at, cells_along, cells_with, count_at, rate_at};
 
 use crate::plan::{Source, count_in, rate};
 use crate::values::{elapsed_of, low_word};
-use agg_types::Cell;
+use agg_types::{Cell, PackedCells};
 use peers_msg::get_int;
 
 /// The least first byte of an integer of more than one byte.
@@ -36,6 +37,82 @@ pub(crate) fn is_straight(at: usize, end: usize, sources: &[Source]) -> bool
             }
         },
     }
+}
+
+/// Whether the cells of these columns take at most so many words, where they are packed.
+pub(crate) fn take_at_most(words: usize, sources: &[Source]) -> bool
+    ensures { result ≡ nat_le (sum (map words_of sources.now)) words }
+{
+    match sources {
+        [] => true,
+        [first, rest @ ..] => {
+            let own = words_of(first);
+            own <= words && take_at_most(words - own, rest)
+        }
+    }
+}
+
+/// How many words the cell of a column takes.
+fn words_of(source: &Source) -> usize
+    ensures { result ≡ words_of source.now }
+{
+    match source {
+        Source::Blank(Cell::Count(_)) | Source::Count { .. } => 1,
+        Source::Blank(Cell::Rate { .. }) | Source::Rate { .. } => 3,
+    }
+}
+
+/// Reads the cells of all columns one behind the other into words, so that none is written to
+/// memory as a `Cell`; `None` where an integer is cut or too large, or a cell doesn't fit.
+#[inline(always)]
+pub(crate) fn read_packed(sources: &[Source], bytes: &[u8]) -> Option<PackedCells>
+    ensures { IfSome result (λ packed. cells_along sources.now bytes.now ≡ Some packed) }
+{
+    let mut packed = PackedCells::none();
+    let mut rest = bytes;
+    for source in sources {
+        let taken = pack_cell(source, rest, &mut packed)?;
+        rest = &rest[taken..];
+    }
+    Some(packed)
+}
+
+/// Packs the cell of the column whose integers are at the front behind the others: how many bytes
+/// they take. What is rare is read apart, into a cell, so that only that cell has to be in memory.
+#[inline(always)]
+fn pack_cell(source: &Source, bytes: &[u8], packed: &mut PackedCells) -> Option<usize>
+    ensures exact { IfSome result (λ taken. cells_with packed.old (cell_at source.now bytes.now)
+        ≡ Some (packed.new, drop taken bytes.now)) }
+    ensures within { IfSome result (λ taken. taken ≤ length bytes.now) }
+{
+    match source {
+        Source::Blank(blank) => taken_if(packed.push(*blank), 0),
+        Source::Count { wide, .. } => {
+            if let Some((count, taken)) = short_count_at(bytes) {
+                return taken_if(packed.push_count(count), taken);
+            }
+            let mut cell = Cell::Count(0);
+            let taken = read_count(*wide, bytes, &mut cell)?;
+            taken_if(packed.push(cell), taken)
+        }
+        Source::Rate { .. } => {
+            if let Some((elapsed, cur, prev)) = small_rate_at(bytes) {
+                let fits = packed.push_rate(u64::from(elapsed), u32::from(cur), u32::from(prev));
+                return taken_if(fits, 3);
+            }
+            let mut cell = Cell::Count(0);
+            let taken = read_rate(bytes, &mut cell)?;
+            taken_if(packed.push(cell), taken)
+        }
+    }
+}
+
+/// So many bytes, where their cell fits.
+#[inline(always)]
+fn taken_if(fits: bool, taken: usize) -> Option<usize>
+    ensures { result ≡ (if fits then Some taken else None) }
+{
+    if fits { Some(taken) } else { None }
 }
 
 /// Reads the cells of all columns one behind the other; false where an integer is cut or too large.

@@ -1,4 +1,4 @@
-use Rattle.std.proofs.Common.{◌≡◌, ◌∙◌, ap, refl, sym}
+use Rattle.std.proofs.Common.{◌∙◌, ap, refl, sym}
 use Rattle.session_core.specs.Tracked.{Tracked}
 use Rattle.session_core.proofs.PieceLemmas.{settled_twice}
 use Rattle.session_core.proofs.UndoLemmas.{restored}
