@@ -394,8 +394,8 @@ fn exchange_one(own: u32, held: &mut Row, peer: usize, row: &mut Row) -> bool
     true
 }
 
-// Exchanges a peer's row for this one, if it is there, and keeps up the most that the rows are worth
-// together.
+// Exchanges a peer's row for this one, if it is there, and keeps up the most that the rows are
+// worth together.
 #[inline(never)]
 fn exchange_among(peers: &mut Peers, peer: usize, row: &mut Row) -> bool
     requires are { ArePeers (held_by peers.old) }

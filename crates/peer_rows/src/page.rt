@@ -132,8 +132,9 @@ impl Page {
         Ok(())
     }
 
-    /// Looks at where a row may lie, so that it is near when it is put: at a number, or at the last.
-    /// Whether a row was found there that came at any moment but the last that there is, so always.
+    /// Looks at where a row may lie, so that it is near when it is put: at a number, or at the
+    /// last. Whether a row was found there that came at any moment but the last that there is, so
+    /// always.
     pub(crate) fn touch(&self, number: usize) -> bool {
         match self.rows.get(number).or(self.rows.last()) {
             None => true,

@@ -17,9 +17,11 @@ returns-in-Many-clause-summed c =
 pub returns-in-Paged-clause-summed : goal.returns-in-Paged-clause-summed
 returns-in-Paged-clause-summed c =
     let are : ArePeers c.in-Paged.pages = rw c.in-Paged.is at c.requires.are in
-    let summed : AreMosts c.in-Paged.mosts c.in-Paged.pages = rw c.in-Paged.is at c.requires.summed in
-    mosts-exchanged c.args.peer c.in-Paged.mosts c.add-in-Paged.new.self c.take_off-in-Paged.new.self
-    c.in-Paged.pages c.exchange-found-in-Paged.new.self c.args.row.now c.exchange-found-in-Paged.new.row
+    let summed : AreMosts c.in-Paged.mosts c.in-Paged.pages =
+    rw c.in-Paged.is at c.requires.summed in
+    mosts-exchanged c.args.peer c.in-Paged.mosts c.add-in-Paged.new.self
+    c.take_off-in-Paged.new.self c.in-Paged.pages c.exchange-found-in-Paged.new.self
+    c.args.row.now c.exchange-found-in-Paged.new.row
     c.exchange-found-in-Paged.result are.sorted summed c.add-in-Paged.ensures.columns
     c.add-in-Paged.ensures.sums c.take_off-in-Paged.ensures.columns
     c.take_off-in-Paged.ensures.sums c.exchange-found-in-Paged.ensures.rows

@@ -36,7 +36,8 @@ returns-in_ok-old-in-Many-clause-summed c =
 pub returns-in_ok-old-in-Paged-clause-summed : goal.returns-in_ok-old-in-Paged-clause-summed
 returns-in_ok-old-in-Paged-clause-summed c =
     let are : ArePeers c.in-Paged.pages = rw c.in-Paged.is at c.requires.are in
-    let summed : AreMosts c.in-Paged.mosts c.in-Paged.pages = rw c.in-Paged.is at c.requires.summed in
+    let summed : AreMosts c.in-Paged.mosts c.in-Paged.pages =
+    rw c.in-Paged.is at c.requires.summed in
     let own = is_at (nat_cmp c.args.peer) in
     let went : option_copied c.as_ref-in-Paged.result ≡ lookup own c.in-Paged.pages =
     c.as_ref-in-Paged.ensures.value ∙ c.in_ok-old-in-Paged.ensures.old in

@@ -21,11 +21,13 @@ returns-in-Many-clause-summed c =
 
 pub returns-in-Paged-clause-summed : goal.returns-in-Paged-clause-summed
 returns-in-Paged-clause-summed c =
-    let summed : AreMosts c.in-Paged.mosts c.in-Paged.pages = rw c.in-Paged.is at c.requires.summed in
+    let summed : AreMosts c.in-Paged.mosts c.in-Paged.pages =
+    rw c.in-Paged.is at c.requires.summed in
     let went : option_copied c.as_ref-in-Paged.result
     ≡ lookup (is_at (nat_cmp c.args.peer)) c.in-Paged.pages =
     c.as_ref-in-Paged.ensures.value ∙ c.take-row-in-Paged.ensures.value in
     mosts-taken c.args.peer c.in-Paged.mosts c.in-Paged.mosts c.take_off-in-Paged.new.self
     c.in-Paged.pages c.take-row-in-Paged.new.self summed c.take_off-in-Paged.ensures.columns
     (subst (λ (row : Option Row). AreRaised row c.take_off-in-Paged.new.self c.in-Paged.mosts
-    (length c.take_off-in-Paged.new.self)) went c.take_off-in-Paged.ensures.sums) c.take-row-in-Paged.ensures.after
+    (length c.take_off-in-Paged.new.self)) went c.take_off-in-Paged.ensures.sums)
+    c.take-row-in-Paged.ensures.after

@@ -17,8 +17,9 @@ invariant_of-self c =
     let page : IsPageOf c.args.peer 0 c.self.inside.pages.items c.page_of-at.result =
     rw c.as_slice.ensures.value at c.page_of-at.ensures.page in
     own_stay c.args.peer c.page_of-at.result c.self.inside.pages.items c.index_mut.result.now
-    c.exchange.new.self c.self.invariant.0 page c.index_mut.ensures.value c.self.inside.len c.args.row.now
-    c.exchange.result c.exchange.ensures.found c.exchange.ensures.rows c.self.invariant.1
+    c.exchange.new.self c.self.invariant.0 page c.index_mut.ensures.value c.self.inside.len
+    c.args.row.now c.exchange.result c.exchange.ensures.found c.exchange.ensures.rows
+    c.self.invariant.1
 
 pub returns-clause-found : goal.returns-clause-found
 returns-clause-found c =
@@ -32,7 +33,8 @@ pub returns-clause-rows : goal.returns-clause-rows
 returns-clause-rows c =
     let page : IsPageOf c.args.peer 0 c.self.inside.pages.items c.page_of-at.result =
     rw c.as_slice.ensures.value at c.page_of-at.ensures.page in
-    rw (← c.self.view_is) (own_exchanged c.args.peer c.page_of-at.result c.self.inside.pages.items c.index_mut.result.now
+    rw (← c.self.view_is) (own_exchanged c.args.peer c.page_of-at.result
+    c.self.inside.pages.items c.index_mut.result.now
     c.exchange.new.self c.self.invariant.0 page c.index_mut.ensures.value
     c.args.row.now c.exchange.result c.exchange.ensures.rows)
 

@@ -33,10 +33,12 @@ invariant_of-self-2 c =
     let none : lookup (is_at (nat_cmp c.args.peer)) (joined c.self.inside.pages.items) ≡ None =
     rw (← c.self.view_is) at c.requires in
     let same = c.part_last.ensures.rows in
-    let put = own_put c.args.peer c.page_of-at.result c.part_last.new.pages.items c.index_mut.result.now
+    let put = own_put c.args.peer c.page_of-at.result c.part_last.new.pages.items
+    c.index_mut.result.now
     c.insert.new.self c.part_last.ensures.are page c.index_mut.ensures.value c.args.row
     c.in_ok-insert.ensures.ok in (
-      own_pages_put c.args.peer c.page_of-at.result c.part_last.new.pages.items c.index_mut.result.now
+      own_pages_put c.args.peer c.page_of-at.result c.part_last.new.pages.items
+          c.index_mut.result.now
           c.insert.new.self c.part_last.ensures.are page c.index_mut.ensures.value c.args.row
           c.in_ok-insert.ensures.ok,
       c.in-Some.ensures.1
@@ -51,7 +53,8 @@ pub returns-clause-ok : goal.returns-clause-ok
 returns-clause-ok c =
     let page : IsPageOf c.args.peer 0 c.part_last.new.pages.items c.page_of-at.result =
     rw c.as_slice.ensures.value at c.page_of-at.ensures.page in
-    rw (← c.self.view_is) (own_put c.args.peer c.page_of-at.result c.part_last.new.pages.items c.index_mut.result.now
+    rw (← c.self.view_is) (own_put c.args.peer c.page_of-at.result
+    c.part_last.new.pages.items c.index_mut.result.now
     c.insert.new.self c.part_last.ensures.are page c.index_mut.ensures.value
     c.args.row c.in_ok-insert.ensures.ok
     ∙ ap (λ (rows : Rows). insert_entry nat_cmp rows c.args.peer c.args.row)

@@ -25,10 +25,12 @@ invariant_of-self c =
     sym (own_lookup c.args.peer c.page_of-at.result c.self.inside.pages.items c.index_mut.result.now
     c.take.new.self c.self.invariant.0 page c.index_mut.ensures.value)
     ∙ sym c.take.ensures.value ∙ c.in_err-row.was in (
-      own_pages_taken c.args.peer c.page_of-at.result c.self.inside.pages.items c.index_mut.result.now
+      own_pages_taken c.args.peer c.page_of-at.result c.self.inside.pages.items
+          c.index_mut.result.now
           c.take.new.self c.self.invariant.0 page c.index_mut.ensures.value c.take.ensures.after,
       c.self.invariant.1 ∙ sym (ap (λ (rows : Rows). length rows)
-          (own_taken c.args.peer c.page_of-at.result c.self.inside.pages.items c.index_mut.result.now
+          (own_taken c.args.peer c.page_of-at.result c.self.inside.pages.items
+          c.index_mut.result.now
           c.take.new.self c.self.invariant.0 page c.index_mut.ensures.value c.take.ensures.after
           ∙ remove_entry-missing own (joined c.self.inside.pages.items) none)),
     )
@@ -45,7 +47,8 @@ pub returns-in_err-row-clause-after : goal.returns-in_err-row-clause-after
 returns-in_err-row-clause-after c =
     let page : IsPageOf c.args.peer 0 c.self.inside.pages.items c.page_of-at.result =
     rw c.as_slice.ensures.value at c.page_of-at.ensures.page in
-    rw (← c.self.view_is) (own_taken c.args.peer c.page_of-at.result c.self.inside.pages.items c.index_mut.result.now
+    rw (← c.self.view_is) (own_taken c.args.peer c.page_of-at.result
+    c.self.inside.pages.items c.index_mut.result.now
     c.take.new.self c.self.invariant.0 page c.index_mut.ensures.value
     c.take.ensures.after)
 
@@ -71,10 +74,12 @@ invariant_of-self-2 c =
     c.take.new.self c.self.invariant.0 page c.index_mut.ensures.value)
     ∙ sym c.take.ensures.value ∙ c.in_ok-row.was in
     let less = length_removed own (joined c.self.inside.pages.items) c.in_ok-row.row here in
-    let after = ap (λ (rows : Rows). length rows) (own_taken c.args.peer c.page_of-at.result c.self.inside.pages.items c.index_mut.result.now
+    let after = ap (λ (rows : Rows). length rows) (own_taken c.args.peer c.page_of-at.result
+    c.self.inside.pages.items c.index_mut.result.now
     c.take.new.self c.self.invariant.0 page c.index_mut.ensures.value
     c.take.ensures.after) in (
-      own_pages_taken c.args.peer c.page_of-at.result c.self.inside.pages.items c.index_mut.result.now
+      own_pages_taken c.args.peer c.page_of-at.result c.self.inside.pages.items
+          c.index_mut.result.now
           c.take.new.self c.self.invariant.0 page c.index_mut.ensures.value c.take.ensures.after,
       omega (arith, less, after, c.self.invariant.1),
     )
@@ -91,6 +96,7 @@ pub returns-clause-after : goal.returns-clause-after
 returns-clause-after c =
     let page : IsPageOf c.args.peer 0 c.self.inside.pages.items c.page_of-at.result =
     rw c.as_slice.ensures.value at c.page_of-at.ensures.page in
-    rw (← c.self.view_is) (own_taken c.args.peer c.page_of-at.result c.self.inside.pages.items c.index_mut.result.now
+    rw (← c.self.view_is) (own_taken c.args.peer c.page_of-at.result
+    c.self.inside.pages.items c.index_mut.result.now
     c.take.new.self c.self.invariant.0 page c.index_mut.ensures.value
     c.take.ensures.after)
