@@ -1,6 +1,6 @@
 -- What becomes of a key's rows and their plan where cells arrive at one of them.
-use Rattle.std.proofs.Common.{◌≡◌, ℕ, Bool, true, false, List, Option, Some, None, refl, sym}
-use Rattle.std.proofs.Common.{cond, subst}
+use Rattle.std.proofs.Common.{◌≡◌, ◌≢◌, ℕ, Bool, true, false, List, Option, Some, None, refl, sym}
+use Rattle.std.proofs.Common.{cond, subst, [], ap, ◌∙◌}
 use Rattle.std.proofs.lemmas.Bool.{false≢true}
 use Rattle.std.proofs.lemmas.Option.{none-some, same_Some}
 use Rattle.std.specs.BTreeMap.{insert_entry, is_at}
@@ -9,16 +9,19 @@ use Rattle.std.specs.List.Sorted.{IsStrictlySortedBy}
 use Rattle.std.specs.Map.{keys_of, lookup}
 use Rattle.std.specs.Option.{option_map}
 use Rattle.std.specs.Ordering.{nat_cmp}
-use Rattle.std.specs.Prelude.{MatchBool, MatchOption, IsSome}
+use Rattle.std.specs.Prelude.{MatchBool, MatchOption, IsSome, IfOk, Result, Ok, Err, map}
 use Rattle.place_index.specs.Places.{revalued, value_at}
+use Rattle.peer_rows.specs.Arriving.{HasCome}
 use Rattle.peer_rows.specs.Ends.{end_of, ArePlanned, IsEndBy}
 use Rattle.peer_rows.specs.Peers.{ArePeers}
 use Rattle.peer_rows.specs.Places.{Keys, Places}
 use Rattle.peer_rows.specs.Table.{EachPeerOnce, IsKept, rows_in, spot_cmp}
+use Rattle.peer_rows.specs.declared.arrival.Arrived.{Arrived}
+use Rattle.peer_rows.specs.declared.arrival.Arrived.TheVariants as came
 use Rattle.peer_rows.specs.declared.ends.Ends.{Ends}
 use Rattle.peer_rows.specs.declared.row.Row.{Row}
 use Rattle.peer_rows.proofs.InTime.{PeerRows, exchanged_planned}
-use Rattle.peer_rows.proofs.Kept.{kept-put_held}
+use Rattle.peer_rows.proofs.Kept.{kept-put_held, map_some}
 use Rattle.peer_rows.proofs.Peers.{are-put}
 
 -- the rows stand by peer
@@ -67,3 +70,15 @@ pub match_arrived : {X : Type 0} (new some none : X) (done : Bool) → new ≡ c
     → MatchBool done (new ≡ some) (new ≡ none)
 match_arrived new some none true is = is
 match_arrived new some none false is = is
+
+-- what an answer says of rows, it says of what is made of each
+module _ {A B : Type 0} (f : A → B) (rows : List A) (made : List B) (is : made ≡ map f rows) where
+  came_map : (arrived : Arrived) → HasCome arrived rows → HasCome arrived made
+  came_map came.New none = is ∙ ap (λ l. map f l) none
+  came_map (came.Held spot) some = subst (λ (l : List B). l ≢ []) (sym is) (map_some f rows some)
+  came_map came.Misfit said = said
+
+  pub came_then : {E : Type 0} (r : Result Arrived E) → IfOk r (λ arrived. HasCome arrived rows)
+      → IfOk r (λ arrived. HasCome arrived made)
+  came_then (Ok arrived) said = came_map arrived said
+  came_then (Err e) said = said

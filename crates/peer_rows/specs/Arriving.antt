@@ -1,5 +1,6 @@
 -- The cells of an update that arrive at a moment, as a row holds them.
-use Rattle.std.specs.Prelude.{ℕ, ◌+◌, ◌*◌, ◌^◌, ◌<◌, Bool, true, false, List, map, min}
+use Rattle.std.specs.Prelude.{◌≡◌, ◌≢◌, ℕ, ◌+◌, ◌*◌, ◌^◌, ◌<◌, Bool, true, false, List, []}
+use Rattle.std.specs.Prelude.{map, min}
 use Rattle.std.specs.List.{AllByRecursion, zip}
 use Rattle.agg_types.specs.declared.column.Col.{Col}
 use Rattle.agg_types.specs.declared.event.Cell.{Cell}
@@ -36,3 +37,10 @@ abbrev pub is_new : Arrived → Bool
 is_new came.New = true
 is_new (came.Held spot) = false
 is_new came.Misfit = false
+
+-- the rows that a key had when its first row was to arrive: none where that was laid down, some
+-- where the key is held, and none or some after a misfit
+abbrev pub HasCome : {X : Type 0} → Arrived → List X → Type 0
+HasCome came.New rows = rows ≡ []
+HasCome (came.Held spot) rows = rows ≢ []
+HasCome came.Misfit rows = Unit {0}

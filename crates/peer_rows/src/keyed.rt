@@ -11,7 +11,7 @@ ghost use Rattle.std.specs.BTreeMap.{insert_entry, is_at};
 ghost use Rattle.std.specs.List.Sorted.{IsStrictlySortedBy};
 ghost use Rattle.place_index.specs.Places.{item_at, key_at, value_at, AreDistinct, IsAbsent};
 ghost use Rattle.agg_types.specs.declared.limits.TheConstants.{LAST_MOMENT};
-ghost use Rattle.peer_rows.specs.Arriving.{arrived_row, is_new};
+ghost use Rattle.peer_rows.specs.Arriving.{HasCome, arrived_row, is_new};
 ghost use Rattle.peer_rows.specs.Ends.{lives_at};
 ghost use Rattle.place_index.specs.Places.{in_order};
 ghost use Rattle.peer_rows.specs.Table.{IsKept};
@@ -48,7 +48,7 @@ impl Model for Keyed {
 }
 
 impl Keyed {
-    ghost use Rattle.peer_rows.specs.Table.{spot_cmp, rows_in, EachPeerOnce};
+    ghost use Rattle.peer_rows.specs.Table.{spot_cmp, rows_in, same_key, EachPeerOnce};
 
     /// No rows, for so many peers.
     pub(crate) fn new(alloc: Global, peers: usize) -> Keyed
@@ -241,6 +241,8 @@ impl Keyed {
         requires early { arrival.now.t ≤ LAST_MOMENT }
         ensures new { IfOk result (λ arrived. is_new arrived ≡ true
             → lookup (is_at (slice_cmp nat_cmp key.now)) self.old ≡ None) }
+        ensures came { IfOk result (λ arrived. HasCome arrived
+            (filter (λ e. same_key key.now e.0.0) (rows_in self.old))) }
         ensures ok { IfOk result (λ arrived. MatchBool (is_new arrived) (rows_in self.new
             ≡ insert_entry spot_cmp (rows_in self.old) (key.now, peer) (arrived_row arrival.now))
             (self.new ≡ self.old)) }

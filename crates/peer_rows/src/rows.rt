@@ -3,7 +3,7 @@ ghost use Rattle.std.specs.Prelude.{IfOk, IfSome, OnOk, OnErr, Some, MatchBool, 
 ghost use Rattle.std.specs.Prelude.{is_some, if◌then◌else◌, map, ◌≤◌};
 ghost use Rattle.std.specs.Option.{option_copied};
 ghost use Rattle.agg_types.specs.declared.limits.TheConstants.{LAST_MOMENT};
-ghost use Rattle.peer_rows.specs.Arriving.{arrived_row, is_new};
+ghost use Rattle.peer_rows.specs.Arriving.{HasCome, arrived_row, is_new};
 ghost use Rattle.peer_rows.specs.Ends.{ended};
 ghost use Rattle.peer_rows.specs.Walk.{IsEachKey};
 
@@ -381,6 +381,7 @@ impl Rows {
         requires peer_in { peer < self.old.peers }
         requires table_in { table < self.old.tables }
         requires in_range { arrival.now.t ≤ LAST_MOMENT }
+        ensures came { IfOk result (λ arrived. HasCome arrived (peers_of self.old table key.now)) }
         ensures ok { IfOk result (λ arrived. self.new ≡ (if is_new arrived
             then with_row self.old peer table key.now (arrived_row arrival.now)
             else self.old)) }

@@ -7,7 +7,7 @@ ghost use Rattle.std.specs.List.{dedup};
 ghost use Rattle.std.specs.Map.{lookup, remove_entry};
 ghost use Rattle.std.specs.BTreeMap.{insert_entry, is_at};
 ghost use Rattle.agg_types.specs.declared.limits.TheConstants.{LAST_MOMENT};
-ghost use Rattle.peer_rows.specs.Arriving.{arrived_row, is_new};
+ghost use Rattle.peer_rows.specs.Arriving.{HasCome, arrived_row, is_new};
 ghost use Rattle.peer_rows.specs.Ends.{ended};
 ghost use Rattle.peer_rows.specs.Table.{rows_at_peer};
 ghost use Rattle.peer_rows.specs.Walk.{IsEachKey};
@@ -229,6 +229,8 @@ impl Table {
     ) -> Result<Arrived, NoMemory>
         requires peer_in { peer < self.old.peers }
         requires early { arrival.now.t ≤ LAST_MOMENT }
+        ensures came { IfOk result (λ arrived. HasCome arrived
+            (filter (λ e. same_key key.now e.0.0) self.old.entries)) }
         ensures ok { IfOk result (λ arrived. self.new ≡ record self.old {
           entries = if is_new arrived
               then insert_entry spot_cmp self.old.entries (key.now, peer)
