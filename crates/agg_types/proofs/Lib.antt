@@ -1,5 +1,6 @@
 pub mod Columns
 pub mod Checking
+pub mod Fitting
 pub mod Lists
 pub mod Naming
 pub mod Numbers

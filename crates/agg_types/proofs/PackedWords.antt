@@ -8,6 +8,7 @@ use Rattle.std.proofs.Math.Dec.{eqb-suc-zero}
 use Rattle.std.proofs.Math.Seq.{take-length}
 use Rattle.std.proofs.lemmas.Option.{slice_get_within}
 use Rattle.std.specs.Prelude.{◌⊎◌, ◌&&◌, nat_lt, if◌then◌else◌, IfSome, Option}
+use Rattle.agg_types.proofs.Fitting.{kinds-pushed}
 use Rattle.agg_types.proofs.Lists.{get-last, get-others, left-at, none-left}
 use Rattle.agg_types.specs.Col.{is_rate, is_wide}
 use Rattle.agg_types.specs.Fits.{cell_fits, cells_fit}
@@ -70,7 +71,7 @@ pub digit-small : (digit : ℕ) → AreKinds 1 digit → digit < 4 → (digit �
 digit-small digit kinds small = let same : digit % 4 ≡ digit = omega (arith, small) in
     rw (← same) kinds.0
 
-width-some : (digit : ℕ) → 0 < width digit
+pub width-some : (digit : ℕ) → 0 < width digit
 width-some zero = omega arith
 width-some (suc n) = omega arith
 
@@ -85,6 +86,7 @@ are-pushed len used kinds later digit own are is small digits long room =
       width = rw (add-one, others, last, are.width, long) refl;
       least = omega (arith, are.least, long, width-some digit);
       most = room;
+      few = rw is (kinds-pushed len kinds digit are.few small);
       digits = rw (add-one, others, last) ((rw (← same) digits.0), are.digits);
     }
 

@@ -1,6 +1,7 @@
 -- Cells of an update in words of 32 bits, one cell behind the other.
-use Rattle.std.specs.Prelude.{◌≡◌, ℕ, zero, suc, ◌+◌, ◌/◌, ◌%◌, ◌^◌, ◌≤◌, List, [], ◌∷◌, ◌++◌}
-use Rattle.std.specs.Prelude.{◌⊎◌, slice_index as word}
+use Rattle.std.specs.Prelude.{◌≡◌, ℕ, zero, suc, ◌+◌, ◌/◌, ◌%◌, ◌^◌, ◌<◌, ◌≤◌, ◌&&◌, Bool}
+use Rattle.std.specs.Prelude.{List, [], ◌∷◌, ◌++◌, ◌⊎◌, nat_lt, slice_index as word}
+use Rattle.std.specs.List.{list_all, sum_by}
 use Rattle.agg_types.specs.declared.event.Cell.{Cell}
 use Rattle.agg_types.specs.declared.event.Cell.TheVariants.{Count, Rate}
 
@@ -27,6 +28,21 @@ packed_cells zero kinds ws = []
 packed_cells (suc len) kinds ws =
     packed_cells len (kinds / 4) ws ++ cell_at (kinds % 4) ws (total_width len (kinds / 4)) ∷ []
 
+-- how many words a cell takes
+abbrev pub cell_width : Cell → ℕ
+cell_width (Count count) = 1
+cell_width (Rate elapsed cur prev) = 3
+
+-- whether the numbers of a cell fit in these
+abbrev pub is_narrow : Cell → Bool
+is_narrow (Count count) = nat_lt count (2 ^ 32)
+is_narrow (Rate elapsed cur prev) =
+    nat_lt elapsed (2 ^ 32) && nat_lt cur (2 ^ 16) && nat_lt prev (2 ^ 16)
+
+-- whether cells fit in seven words
+abbrev pub fit_words : List Cell → Bool
+fit_words cells = list_all is_narrow cells && nat_lt (sum_by cell_width cells) 8
+
 -- the digits say counts, by 0, and rates, by 3
 abbrev pub AreKinds : ℕ → ℕ → Type 0
 AreKinds zero kinds = Unit {0}
@@ -37,4 +53,5 @@ pub record ArePacked (len used kinds : ℕ) : Type 0 where
   pub width : used ≡ total_width len kinds
   pub least : len ≤ used
   pub most : used ≤ 7
+  pub few : kinds < 4 ^ len
   pub digits : AreKinds len kinds

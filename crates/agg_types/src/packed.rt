@@ -1,9 +1,10 @@
 //! The cells of an update in words of 32 bits.
 ghost use Rattle.std.specs.Prelude.{◌≡◌, ◌+◌, ◌<◌, ◌≤◌, ℕ, [], ◌∷◌, ◌++◌, length, IfSome};
 ghost use Rattle.std.specs.Prelude.{if◌then◌else◌, slice_get, slice_index, IfOk};
+ghost use Rattle.std.specs.Option.{is_some};
 ghost use Rattle.agg_types.specs.Form.{AreWords};
-ghost use Rattle.agg_types.specs.Packed.{AreKinds, ArePacked, cell_at, packed_cells, total_width};
-ghost use Rattle.agg_types.specs.Packed.{width};
+ghost use Rattle.agg_types.specs.Packed.{AreKinds, ArePacked, cell_at, fit_words, packed_cells};
+ghost use Rattle.agg_types.specs.Packed.{total_width, width};
 ghost use Rattle.agg_types.specs.declared.event.Cell.TheVariants.{Count, Rate};
 
 use crate::{Cell, Cells, NoMemory, WORDS, Words, write_words};
@@ -57,7 +58,8 @@ impl PackedCells {
     /// These cells in words, if they fit there.
     #[inline(always)]
     pub fn pack(cells: &[Cell]) -> Option<PackedCells>
-        ensures { IfSome result (λ packed. packed ≡ cells.now) }
+        ensures cells { IfSome result (λ packed. packed ≡ cells.now) }
+        ensures fit { is_some result ≡ fit_words cells.now }
     {
         let mut packed = PackedCells::none();
         for cell in cells {
@@ -71,7 +73,8 @@ impl PackedCells {
     /// Adds a cell behind the others, if it fits there.
     #[inline(always)]
     pub fn push(&mut self, cell: Cell) -> bool
-        ensures { self.new ≡ (if result then self.old ++ cell ∷ [] else self.old) }
+        ensures cells { self.new ≡ (if result then self.old ++ cell ∷ [] else self.old) }
+        ensures fit { result ≡ fit_words (self.old ++ cell ∷ []) }
     {
         match cell {
             Cell::Count(count) => self.push_count(count),
@@ -82,7 +85,8 @@ impl PackedCells {
     /// Adds a count behind the others, if it fits there.
     #[inline(always)]
     pub fn push_count(&mut self, count: u64) -> bool
-        ensures { self.new ≡ (if result then self.old ++ Count count ∷ [] else self.old) }
+        ensures cells { self.new ≡ (if result then self.old ++ Count count ∷ [] else self.old) }
+        ensures fit { result ≡ fit_words (self.old ++ Count count ∷ []) }
     {
         count < WORD && self.push_words(0, &[count as u32])
     }
@@ -90,8 +94,9 @@ impl PackedCells {
     /// Adds a rate behind the others, with the time elapsed in ms, if it fits there.
     #[inline(always)]
     pub fn push_rate(&mut self, elapsed: u64, cur: u32, prev: u32) -> bool
-        ensures { self.new ≡ (if result then self.old ++ Rate elapsed cur prev ∷ []
+        ensures cells { self.new ≡ (if result then self.old ++ Rate elapsed cur prev ∷ []
             else self.old) }
+        ensures fit { result ≡ fit_words (self.old ++ Rate elapsed cur prev ∷ []) }
     {
         elapsed < WORD
             && cur < COUNTS
@@ -105,18 +110,18 @@ impl PackedCells {
         requires small { digit < 4 }
         requires kind { AreKinds 1 digit }
         requires words { length own.now ≡ width digit }
-        ensures { self.new ≡ (if result then self.old ++ cell_at digit own.now 0 ∷ []
+        ensures cells { self.new ≡ (if result then self.old ++ cell_at digit own.now 0 ∷ []
             else self.old) }
+        ensures fit { result ≡ fit_words (self.old ++ cell_at digit own.now 0 ∷ []) }
     {
+        tell(&self.words);
+        tell(own);
         let used = self.used as usize;
         if used + own.len() > WORDS {
             return false;
         }
-        let Some(before) = self.kinds.checked_mul(4) else {
-            return false;
-        };
         write_words(&mut self.words, used, own);
-        self.kinds = before + digit;
+        self.kinds = self.kinds * 4 + digit;
         self.len += 1;
         self.used += own.len() as u8;
         true
