@@ -1,6 +1,6 @@
-//! Cells that are packed in words, and rows that are laid of them where they lie.
+//! Cells that are packed in words, rows that are laid of them where they lie, and batches.
 
-use agg_types::{Cell, Col, Key, NoMemory, PackedCells};
+use agg_types::{Cell, Col, Key, LentCells, LentWhat, NoMemory, PackedCells, Whats};
 use anyhow::Result;
 use peer_rows::{Arrival, Held, Row, Rows};
 use period_rate::Rate;
@@ -177,6 +177,19 @@ const CASES: [Case; 12] = [
     },
 ];
 
+/// The cells of each update of `PLACES`: more than a list of cells keeps without memory of its own.
+const SIX: [Cell; 6] = [Cell::Count(1); 6];
+
+/// A peer, a table and a life, in ms: the largest that the entry of a batch has room for, and what
+/// is just too large for one.
+const PLACES: [(usize, usize, Option<u64>); 5] = [
+    (0, 0, None),
+    (0xffff_ffff, 0xffff, Some(0xffff_fffe)),
+    (0x1_0000_0000, 0, None),
+    (0, 0x1_0000, None),
+    (0, 0, Some(0xffff_ffff)),
+];
+
 // A cell as it is held from its arrival on.
 fn held(t: u64, period: u32, cell: Cell) -> Held {
     match cell {
@@ -239,10 +252,49 @@ fn show(rt: &HostRuntime, case: &Case) -> Result<()> {
     Ok(())
 }
 
+// Whether a batch lends this update, and whether its cells lie in words there.
+fn lent(whats: &Whats, at: (usize, usize, Option<u64>)) -> (bool, bool) {
+    let Some(
+        LentWhat::Put {
+            peer,
+            table,
+            life,
+            cells,
+            ..
+        },
+    ) = whats.get(0)
+    else {
+        return (false, false);
+    };
+    let mut same = (peer, table, life) == at && cells.get(SIX.len()).is_none();
+    for (place, cell) in SIX.iter().enumerate() {
+        same = same && cells.get(place) == Some(*cell);
+    }
+    (same, matches!(cells, LentCells::Packed(_)))
+}
+
+fn show_batched(rt: &HostRuntime, at: (usize, usize, Option<u64>)) -> Result<()> {
+    let alloc = rt.alloc();
+    let Some(cells) = PackedCells::pack(&SIX) else {
+        println!(rt; "six counts: not packed")?;
+        return Ok(());
+    };
+    let (peer, table, life) = at;
+    let mut whats = Whats::new(alloc);
+    let key = Key::copy(alloc, &[10, 0, 0, 1])?;
+    whats.push_packed(peer, table, key, life, cells)?;
+    let (same, packed) = lent(&whats, at);
+    println!(rt; "peer {peer}, table {table}, life {life:?}: the same {same}, packed {packed}")?;
+    Ok(())
+}
+
 /// Shows each.
 pub fn run(rt: &HostRuntime) -> Result<()> {
     for case in CASES {
         show(rt, &case)?;
+    }
+    for at in PLACES {
+        show_batched(rt, at)?;
     }
     Ok(())
 }
