@@ -12,21 +12,19 @@ use Rattle.session_core.specs.Run.{GoesOn, run}
 use Rattle.session_core.specs.Tracked.{Tracked}
 use Rattle.session_core.specs.Values.{cells_of, key_at, life_of, sents_at}
 
--- the row that an update gives under a definition of this table; None where its key or a value is
--- cut short or over
-unfoldable pub put_in : Shape → ℕ → Followed → Option ℕ → List ℕ → Option What
-put_in shape peer followed life bytes = do
-  key ← key_at shape.kind bytes
-  sents ← sents_at followed.bits key.1
-  let cells = cells_of sents followed.periods shape.cols
-  Some (Put peer followed.table key.0 (life_of followed.expiry life) cells)
-
 -- the row of this key and this life that values give; None where one is cut short or over
 abbrev pub put_of_values : Shape → ℕ → Followed → Option ℕ → List ℕ → List ℕ → Option What
 put_of_values shape peer followed life key values = do
   sents ← sents_at followed.bits values
   let cells = cells_of sents followed.periods shape.cols
   Some (Put peer followed.table key life cells)
+
+-- the row that an update gives under a definition of this table; None where its key or a value is
+-- cut short or over
+unfoldable pub put_in : Shape → ℕ → Followed → Option ℕ → List ℕ → Option What
+put_in shape peer followed life bytes = do
+  key ← key_at shape.kind bytes
+  put_of_values shape peer followed (life_of followed.expiry life) key.0 key.1
 
 -- the entry at this place is in force, with this definition of this table and this last id
 pub record IsInForce (tables : List Shape) (t : Tracked) (at : ℕ) (entry : Entry)
