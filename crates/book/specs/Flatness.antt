@@ -15,8 +15,8 @@ use Rattle.fleet_model.proofs.KeyRows.{value-rows}
 use Rattle.book.specs.Foreseen.{flat_within, living_of, living_within, within, worth_within}
 
 -- ---- they only fall
-pub worth_falls : (cols : List (Col × ℕ)) (rows : Rows) (table : ℕ) (key : List ℕ) (col : Col)
-    (t later : ℕ) → t ≤ later
+pub worth_falls : (cols : List (Col × ℕ)) (rows : Rows) (table : ℕ) (key : List ℕ)
+    (col : Col) (t later : ℕ) → t ≤ later
     → worth_within cols (key_rows rows table key) col later
     ≤ worth_within cols (key_rows rows table key) col t
 worth_falls cols rows table key col t later h =
@@ -36,10 +36,12 @@ one_falls row t later h = by (is_live later row) (is_live t row) refl refl
     by true false e f =
         let lived : is_live t row ≡ true = lived_before row.life row.arrived t later h e in cc
 
-living_falls_at : (rows : Rows) (t later : ℕ) → t ≤ later → living_of rows later ≤ living_of rows t
+living_falls_at : (rows : Rows) (t later : ℕ) → t ≤ later
+    → living_of rows later ≤ living_of rows t
 living_falls_at [] t later h = omega arith
 living_falls_at (row ∷ rows) t later h =
-    let own : one_if (is_live later row.1) ≤ one_if (is_live t row.1) = one_falls row.1 t later h in
+    let own : one_if (is_live later row.1) ≤ one_if (is_live t row.1) =
+    one_falls row.1 t later h in
     let rest : living_of rows later ≤ living_of rows t = living_falls_at rows t later h in
     omega arith
 
@@ -84,7 +86,8 @@ living_flat cols t later h (row ∷ rows) flat =
     let rest : rows_flat_from cols rows ≤ t = omega arith in
     (λ i. one_if (live_flat cols t later h row.1 own i) + living_flat cols t later h rows rest i)
 
-pub living_stays : (cols : List (Col × ℕ)) (rows : Rows) (t : ℕ) → flat_within cols rows ≤ t
+pub living_stays : (cols : List (Col × ℕ)) (rows : Rows) (t : ℕ)
+    → flat_within cols rows ≤ t
     → living_within rows t ≡ living_within rows (flat_within cols rows)
 living_stays cols rows t h =
     let flat = flat_moment (longest_period cols) rows in

@@ -25,7 +25,8 @@ pub record TellsAll (state : State) (events : List Event) (old new : Flipped) : 
   pub added : new.flips ≡ old.flips ++ more
   pub filters : (some others : List Event) → events ≡ some ++ others
       → (fold after state some).config.filters ≡ state.config.filters
-  pub said : (filter : ℕ) (key : List ℕ) (is_in : Bool) → last_said more filter key ≡ Some is_in
+  pub said : (filter : ℕ) (key : List ℕ) (is_in : Bool)
+      → last_said more filter key ≡ Some is_in
       → held_in (fold after state events) filter key ≡ is_in
   pub unsaid : (filter : ℕ) (key : List ℕ) → last_said more filter key ≡ None
       → (some others : List Event) → events ≡ some ++ others

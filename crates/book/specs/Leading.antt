@@ -25,8 +25,8 @@ IsLed tables rows t rank bounds =
     (λ key. worth_of (cols_of tables rank.table) (key_rows rows rank.table key) rank.col t)
 
 -- so has it in each ranked list
-pub record AreLed (tables : List Shape) (ranks : List Rank) (rows : Rows) (t : ℕ) (lists : Lists) :
-    Type 0 where
+pub record AreLed (tables : List Shape) (ranks : List Rank) (rows : Rows) (t : ℕ)
+    (lists : Lists) : Type 0 where
   pub count : length lists ≡ length ranks
   pub each : (list : ℕ) → list < length ranks
       → IsLed tables rows t (rank_at ranks list) (bounds_of lists list)

@@ -43,19 +43,21 @@ rows_meet cols conds t rows =
     list_all (λ cond. op_holds cond.op (rows_worth cols cond.col t rows) cond.bound) conds
 
 -- the rows of a key, if there are any and they meet all conditions at t
-abbrev pub if_met : List (Col × ℕ) → List Cond → ℕ → Rows → Option (List (RowKey × Arrival))
+abbrev pub if_met : List (Col × ℕ) → List Cond → ℕ → Rows
+    → Option (List (RowKey × Arrival))
 if_met cols conds t rows = if meet_at cols rows conds t then if_any rows else None
 
 -- each key of a table whose rows meet all conditions at t, once with them, in whatever order
-pub record AreMeeting (rows : Rows) (table : ℕ) (cols : List (Col × ℕ)) (conds : List Cond) (t : ℕ)
-    (keys : Keys) : Type 0 where
+pub record AreMeeting (rows : Rows) (table : ℕ) (cols : List (Col × ℕ)) (conds : List Cond)
+    (t : ℕ) (keys : Keys) : Type 0 where
   pub once : IsDistinct (eq_by_cmp (slice_cmp nat_cmp)) (keys_of keys)
   pub exact : (key : List ℕ)
       → option_map (map (of_peer table key)) (lookup (is_at (slice_cmp nat_cmp key)) keys)
       ≡ if_met cols conds t (key_rows rows table key)
 
 -- of the keys of a table that have rows, these are the ones that meet all conditions at t
-abbrev pub AreThoseMeeting : Rows → ℕ → List (Col × ℕ) → List Cond → ℕ → List (List ℕ) → Type 0
+abbrev pub AreThoseMeeting : Rows → ℕ → List (Col × ℕ) → List Cond → ℕ
+    → List (List ℕ) → Type 0
 AreThoseMeeting rows table cols conds t keys = (key : List ℕ) → key_rows rows table key ≢ []
     → list_any (λ other. same_key other key) keys ≡ meets cols rows table key t conds
 

@@ -1,5 +1,5 @@
 -- What a row that is kept stands for.
-use Rattle.std.specs.Prelude.{ℕ, ◌-◌, List, Option, None, Some, map, sum_by}
+use Rattle.std.specs.Prelude.{◌≡◌, ◌≤◌, ℕ, ◌-◌, List, Option, None, Some, map, slice_get, sum_by}
 use Rattle.std.specs.Borrow.{Bor}
 use Rattle.std.specs.Option.{option_map}
 use Rattle.agg_types.specs.declared.column.Col.{Col}
@@ -13,6 +13,7 @@ use Rattle.peer_rows.specs.declared.row.Held.TheVariants.{Count, Rate}
 use Rattle.peer_rows.specs.Table.{Spot}
 use Rattle.peer_rows.specs.declared.row.Row.{Row}
 use Rattle.period_rate.specs.Rate.{elapsed_at}
+use Rattle.book.specs.Placed.{found_in}
 
 -- a cell as it came at the moment of its arrival
 abbrev pub cell_of : ℕ → Held → Cell
@@ -44,9 +45,21 @@ abbrev pub rows_worth : List (Col × ℕ) → Col → ℕ → List (ℕ × Row) 
 rows_worth cols col t rows = sum_by (λ p. row_worth cols col t (as_arrival p.1)) rows
 
 -- the same of rows that were found, and nothing where none were
-abbrev pub found_worth : List (Col × ℕ) → Col → ℕ → Option (Bor (List (ℕ × Row))) → ℕ
+abbrev pub found_worth : List (Col × ℕ) → Col → ℕ → Option (Bor (List (ℕ × Row)))
+    → ℕ
 found_worth cols col t None = 0
 found_worth cols col t (Some rows) = rows_worth cols col t rows.now
+
+-- rows that were found are worth no more than this in a column, at any moment
+abbrev pub AreWorthAtMost : List (Col × ℕ) → Col → Option (Bor (List (ℕ × Row)))
+    → ℕ → Type 0
+AreWorthAtMost cols col rows most = (t : ℕ) → found_worth cols col t rows ≤ most
+
+-- a row is worth this at t in each column of this period that lies where the row holds this cell
+abbrev pub IsWorthByCell : ℕ → ℕ → Row → Held → ℕ → Type 0
+IsWorthByCell period t row held worth = (cols : List (Col × ℕ)) (col : Col) (place : ℕ)
+    → found_in cols col ≡ Some (place, period) → slice_get row.cells place ≡ Some held
+    → worth ≡ row_worth cols col t (as_arrival row)
 
 -- a row of a table, as it stands at its place
 abbrev pub of_spot : ℕ → Spot × Row → RowKey × Arrival

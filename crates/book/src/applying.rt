@@ -23,7 +23,8 @@ impl Book {
         ensures ok { OnOk result (self.new ≡ after self.old (event_of seat seq what.now)) }
         ensures err { OnErr result (self.new ≡ self.old) }
         ensures leaving { what.now ≡ Leave → IsOk result }
-        ensures uncounted { counts_now self.old (event_of seat seq what.now) ≡ false → IsOk result }
+        ensures uncounted { counts_now self.old (event_of seat seq what.now) ≡ false
+            → IsOk result }
         ensures sound { IsSound self.new }
     {
         self.apply_lent(seat, seq, LentWhat::of(what))
@@ -57,7 +58,8 @@ impl Book {
             ≡ is_dropped self.old (event_of seat seq what.now)) }
         ensures err { OnErr result (self.new ≡ self.old) }
         ensures leaving { what.now ≡ Leave → IsOk result }
-        ensures uncounted { counts_now self.old (event_of seat seq what.now) ≡ false → IsOk result }
+        ensures uncounted { counts_now self.old (event_of seat seq what.now) ≡ false
+            → IsOk result }
         ensures quiet { IfOk result (λ taken. IsQuietTo self.old what.now → taken.read ≡ 0) }
         ensures few { IfOk result (λ taken. IsFewFor self.old self.new what.now taken.read) }
         ensures sound { IsSound self.new }

@@ -177,7 +177,8 @@ impl Book {
         ensures err { OnErr result (self.new ≡ self.old) }
         ensures leaving { event.now.what ≡ Leave → IsOk result }
         ensures uncounted { counts_now self.old event.now ≡ false → IsOk result }
-        ensures quiet { IfOk result (λ taken. IsQuietTo self.old event.now.what → taken.read ≡ 0) }
+        ensures quiet { IfOk result
+            (λ taken. IsQuietTo self.old event.now.what → taken.read ≡ 0) }
         ensures few { IfOk result (λ taken. IsFewFor self.old self.new event.now.what taken.read) }
         ensures sound { IsSound self.new }
     {
@@ -242,7 +243,8 @@ impl Book {
     /// The keys of a table with a row, in order.
     #[tactic(auto, unfolding(fleet_model::specs::Answers::keys_of))]
     pub fn keys(&self, alloc: Global, table: usize) -> Result<Vec<&Key>, NoMemory>
-        ensures { IfOk result (λ keys. map (λ key. key.now) keys.items ≡ keys_of self.now table) }
+        ensures { IfOk result
+            (λ keys. map (λ key. key.now) keys.items ≡ keys_of self.now table) }
     {
         let machine = &self.machine;
         queries::live_keys(alloc, &machine.rows, table, machine.moment)

@@ -2,12 +2,12 @@
 
 ghost use Rattle.std.specs.Prelude.{◌≡◌, ◌<◌, ◌^◌, ◌-◌, ℕ, List, length, map, min};
 ghost use Rattle.std.specs.Prelude.{IfSome, nat_lt};
-ghost use Rattle.fleet_model.specs.Keys.{Rows, key_rows, worth_of};
+ghost use Rattle.fleet_model.specs.Keys.{key_rows, worth_of};
 ghost use Rattle.fleet_model.specs.Next.{flat_moment};
 ghost use Rattle.fleet_model.specs.Values.{cols_of};
 ghost use Rattle.book.specs.Foreseen.{flat_within, living_of};
 ghost use Rattle.book.specs.Shown.{as_arrival, of_peer};
-ghost use Rattle.book.specs.Store.{AreFound};
+ghost use Rattle.book.specs.Store.{IfFound};
 
 use crate::likely::found_likely;
 use crate::machine::Machine;
@@ -116,8 +116,7 @@ pub fn live_rows(store: &Store, table: usize, key: &Key, t: u64) -> usize
 /// How many rows of a key that were found live at a moment.
 pub fn found_live(rows: Option<&OfKey<'_>>, t: u64) -> usize
     requires { IfSome rows (λ rows. length rows.now < 2 ^ 64) }
-    ensures { (all : Rows) (table : ℕ) (key : List ℕ) → AreFound all table key rows.entry
-        → result ≡ living_of (key_rows all table key) t }
+    ensures { IfFound rows.entry (λ own. result ≡ living_of own t) }
 {
     match rows {
         None => 0,
@@ -143,8 +142,7 @@ fn count_live(rows: OfKey<'_>, t: u64) -> usize
 /// looked at than it takes to reach the bound.
 pub fn found_fewer(rows: Option<&OfKey<'_>>, t: u64, bound: u128) -> bool
     requires { IfSome rows (λ rows. length rows.now < 2 ^ 64) }
-    ensures { (all : Rows) (table : ℕ) (key : List ℕ) → AreFound all table key rows.entry
-        → result ≡ nat_lt (living_of (key_rows all table key) t) bound }
+    ensures { IfFound rows.entry (λ own. result ≡ nat_lt (living_of own t) bound) }
 {
     match rows {
         None => bound > 0,
@@ -180,8 +178,8 @@ fn key_flat(store: &Store, table: usize, key: &Key, longest: u32) -> u64
 /// The moment from which the clock changes nothing of the rows of a key that were found, or the
 /// last one of all.
 pub fn found_flat(rows: Option<&OfKey<'_>>, longest: u32) -> u64
-    ensures { (all : Rows) (table : ℕ) (key : List ℕ) → AreFound all table key rows.entry
-        → result ≡ min (flat_moment longest (key_rows all table key)) (2 ^ 64 - 1) }
+    ensures { IfFound rows.entry
+        (λ own. result ≡ min (flat_moment longest own) (2 ^ 64 - 1)) }
 {
     match rows {
         None => 0,

@@ -5,12 +5,12 @@ ghost use Rattle.std.specs.Prelude.{slice_get};
 ghost use Rattle.agg_types.specs.declared.column.Col.{Col as ColName};
 ghost use Rattle.crossing.specs.First.{IsDropAt};
 ghost use Rattle.period_rate.specs.Rate.{elapsed_at};
-ghost use Rattle.fleet_model.specs.Keys.{Rows, key_rows, row_worth};
+ghost use Rattle.fleet_model.specs.Keys.{row_worth};
 ghost use Rattle.fleet_model.specs.Moments.{is_live};
 ghost use Rattle.book.specs.Foreseen.{worth_within};
 ghost use Rattle.book.specs.Placed.{found_in};
 ghost use Rattle.book.specs.Shown.{as_arrival, rows_worth};
-ghost use Rattle.book.specs.Store.{AreFound};
+ghost use Rattle.book.specs.Store.{IfFound};
 
 use crate::likely::Falling;
 use crate::values::{found_in, held_worth};
@@ -29,8 +29,8 @@ pub fn found_drop(
     bound: u128,
 ) -> Option<u64>
     requires { IfSome rows (λ rows. length rows.now < 2 ^ 64) }
-    ensures { (all : Rows) (table : ℕ) (key : List ℕ) → AreFound all table key rows.entry
-        → IfSome result (IsDropAt from (worth_within cols.now (key_rows all table key) col) bound) }
+    ensures { IfFound rows.entry
+        (λ own. IfSome result (IsDropAt from (worth_within cols.now own col) bound)) }
 {
     match rows {
         Some(rows) if bound == 1 => nothing_from(rows, cols, col, from),
@@ -107,7 +107,8 @@ fn over_from(place: usize, period: u32, row: &Row) -> Option<(u64, Falling, Held
 
 // From when on a row has ended, if it ends.
 fn end_of(row: &Row) -> Option<u64>
-    ensures { (t : ℕ) → IfSome result (λ end. is_live t (as_arrival row.now) ≡ nat_lt t end) }
+    ensures { (t : ℕ)
+        → IfSome result (λ end. is_live t (as_arrival row.now) ≡ nat_lt t end) }
 {
     match row.ends() {
         None => None,

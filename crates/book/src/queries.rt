@@ -33,7 +33,8 @@ pub fn live_keys(alloc: Global, store: &Store, table: usize, t: u64) -> Result<V
 // The keys of rows that live at a moment, each once.
 fn distinct_keys<'a>(alloc: Global, rows: ByKey<'a>, t: u64) -> Result<Vec<&'a Key>, NoMemory>
     ensures { IfOk result (λ keys. map (λ key. key.now) keys.items
-        ≡ dedup same_key (map (λ s. s.0.0) (filter (λ s. is_live t (as_arrival s.1)) rows.entry))) }
+        ≡ dedup same_key (map (λ s. s.0.0)
+        (filter (λ s. is_live t (as_arrival s.1)) rows.entry))) }
 {
     let mut keys = Vec::new(alloc);
     let mut last: Option<&Key> = None;

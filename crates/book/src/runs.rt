@@ -195,7 +195,8 @@ impl Machine {
         requires lent { IsLentInto table_use.table what }
         requires put { IsPutOf turn.peer (as_what what) }
         requires placed { FitsPlace self.old.config (as_what what) }
-        ensures ok { OnOk result (self.new ≡ with_update self.old turn.seat (as_what what.entry)) }
+        ensures ok { OnOk result
+            (self.new ≡ with_update self.old turn.seat (as_what what.entry)) }
         ensures dropped { IfOk result (λ applied. applied.dropped
             ≡ lacks_room self.old turn.seat (as_what what.entry)) }
         ensures err { OnErr result (self.new ≡ self.old) }

@@ -12,12 +12,11 @@ ghost use Rattle.std.specs.List.{list_any};
 ghost use Rattle.fleet_model.specs.Moments.{is_live};
 ghost use Rattle.fleet_model.specs.Rows.{has_room, size_of};
 ghost use Rattle.fleet_model.specs.Values.{same_key, same_place};
-ghost use Rattle.std.specs.BTreeMap.{insert_entry};
-ghost use Rattle.agg_types.specs.RowKey.{row_key_cmp};
 ghost use Rattle.fleet_model.specs.Keys.{AreInOrder, held_rows, key_rows, worth_of};
 ghost use Rattle.book.specs.Shown.{of_peer, of_spot};
 ghost use Rattle.book.specs.Planned.{IsInside, IsShort, place_at};
 ghost use Rattle.book.specs.Store.{AreRowsOf, IsEachKeyOf, IsWalk, put_arrival, row_keys};
+ghost use Rattle.book.specs.Store.{with_arrived};
 
 use crate::at::At;
 use crate::puts::{arrive, drop_key, drop_row, drop_table, lay_row, set_row, short};
@@ -195,10 +194,8 @@ impl Store {
         requires in_range { t ≤ LAST_MOMENT }
         requires inside { IsInside self.old.peers self.old.tables (place_at at) }
         requires short { IsShort life }
-        ensures ok { OnOk result (self.new ≡ record self.old {
-          rows = insert_entry row_key_cmp self.old.rows (place_at at.entry)
-              (put_arrival t life cols.now (lent_cells cells.entry));
-        }) }
+        ensures ok { OnOk result
+            (self.new ≡ with_arrived self.old t at.entry life cols.now cells.entry) }
         ensures err { OnErr result (self.new ≡ self.old) }
     {
         let LentCells::Packed(packed) = cells else {
@@ -234,10 +231,8 @@ impl Store {
         requires in_range { t ≤ LAST_MOMENT }
         requires inside { IsInside self.old.peers self.old.tables (place_at at) }
         requires short { IsShort life }
-        ensures ok { OnOk result (self.new ≡ record self.old {
-          rows = insert_entry row_key_cmp self.old.rows (place_at at.entry)
-              (put_arrival t life cols.now (lent_cells cells.entry));
-        }) }
+        ensures ok { OnOk result
+            (self.new ≡ with_arrived self.old t at.entry life cols.now cells.entry) }
         ensures err { OnErr result (self.new ≡ self.old) }
     {
         let mut row = Row::blank();

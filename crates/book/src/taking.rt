@@ -149,8 +149,8 @@ impl Machine {
         requires session { session ≡ session_of self.old at.peer }
         requires placed { IsPlaced self.old.config at.peer at.table life }
         requires ranked { at.is_ranked ≡ has_list self.old.config at.table }
-        ensures ok { OnOk result
-            (self.new ≡ with_update self.old seat (put_at at.entry life (lent_cells cells.entry))) }
+        ensures ok { OnOk result (self.new
+            ≡ with_update self.old seat (put_at at.entry life (lent_cells cells.entry))) }
         ensures dropped { IfOk result (λ applied. applied.dropped
             ≡ lacks_room self.old seat (put_at at.entry life (lent_cells cells.entry))) }
         ensures err { OnErr result (self.new ≡ self.old) }

@@ -39,8 +39,8 @@ impl Verdicts {
             → AreHeld state self.old.standing → AreHeld machine.now self.new.standing }
         ensures few { (state : State) → AreHeld state self.old.standing
             → meter.new.evals ≤ meter.old.evals + 505 * filters_at state table }
-        ensures flips { (state : State) → IsSound state → ChangesKey table key.now state machine.now
-            → AreHeld state self.old.standing
+        ensures flips { (state : State) → IsSound state
+            → ChangesKey table key.now state machine.now → AreHeld state self.old.standing
             → TellsStepIfKnown state machine.now flips.old flips.new }
     {
         if !has_filter(machine.config.filters.as_slice(), table) {
@@ -96,8 +96,8 @@ impl Verdicts {
             → AreHeld state self.old.standing → AreHeld machine.now self.new.standing }
         ensures few { (state : State) → AreHeld state self.old.standing
             → meter.new.evals ≤ meter.old.evals + 505 * filters_at state table }
-        ensures flips { (state : State) → IsSound state → ChangesKey table key.now state machine.now
-            → AreHeld state self.old.standing
+        ensures flips { (state : State) → IsSound state
+            → ChangesKey table key.now state machine.now → AreHeld state self.old.standing
             → TellsStepIfKnown state machine.now flips.old flips.new }
     {
         standing_filters::laws::touch_keeps_verdicts();

@@ -1,17 +1,18 @@
 //! The values of a key, by adding up over its rows.
 
 ghost use Rattle.std.specs.Prelude.{◌≡◌, ◌+◌, ◌-◌, ◌*◌, ◌<◌, ◌≤◌, ◌^◌, ℕ, List, length, nat_lt};
-ghost use Rattle.std.specs.Prelude.{IfSome, Some, slice_get};
+ghost use Rattle.std.specs.Prelude.{IfSome};
 ghost use Rattle.std.specs.List.{list_all, position, position_or_len};
 ghost use Rattle.agg_types.specs.Col.{same_col};
 ghost use Rattle.agg_types.specs.Op.{op_holds};
 ghost use Rattle.agg_types.specs.Whats.{lent_cells};
 ghost use Rattle.agg_types.specs.declared.column.Col.{Col as ColName};
-ghost use Rattle.fleet_model.specs.Keys.{Rows, key_rows, row_worth, worth_of};
+ghost use Rattle.fleet_model.specs.Keys.{row_worth, worth_of};
 ghost use Rattle.fleet_model.specs.Values.{cell_worth, column_worth, value};
 ghost use Rattle.book.specs.Placed.{found_in};
-ghost use Rattle.book.specs.Shown.{as_arrival, cell_of, found_worth, rows_worth};
-ghost use Rattle.book.specs.Store.{AreFound};
+ghost use Rattle.book.specs.Shown.{AreWorthAtMost, IsWorthByCell, as_arrival, cell_of};
+ghost use Rattle.book.specs.Shown.{found_worth, rows_worth};
+ghost use Rattle.book.specs.Store.{IfFound};
 
 use crate::row::is_live;
 use crate::store::Store;
@@ -95,9 +96,7 @@ pub fn row_worth(found: Option<(usize, u32)>, t: u64, row: &Row) -> u64
 
 /// The same of a row by the cell that it holds there, for a column that is stored.
 pub fn held_worth(period: u32, t: u64, row: &Row, held: Held) -> u64
-    ensures { (cols : List (ColName × ℕ)) (col : ColName) (place : ℕ)
-        → found_in cols col ≡ Some (place, period) → slice_get row.now.cells place ≡ Some held
-        → result ≡ row_worth cols col t (as_arrival row.now) }
+    ensures { IsWorthByCell period t row.now held result }
 {
     if !is_live(t, row) {
         return 0;
@@ -145,8 +144,8 @@ pub fn found_below(
     bound: u128,
 ) -> bool
     requires { IfSome rows (λ rows. length rows.now < 2 ^ 64) }
-    ensures { (all : Rows) (table : ℕ) (key : List ℕ) → AreFound all table key rows.entry
-        → result ≡ nat_lt (worth_of cols.now (key_rows all table key) col t) bound }
+    ensures { IfFound rows.entry
+        (λ own. result ≡ nat_lt (worth_of cols.now own col t) bound) }
 {
     match rows {
         None => bound > 0,
@@ -158,8 +157,7 @@ pub fn found_below(
 pub fn found_worth(rows: Option<&OfKey<'_>>, cols: &[(Col, u32)], col: Col, t: u64) -> u128
     requires { IfSome rows (λ rows. length rows.now < 2 ^ 64) }
     ensures exact { result ≡ found_worth cols.now col t rows.entry }
-    ensures of_key { (all : Rows) (table : ℕ) (key : List ℕ) → AreFound all table key rows.entry
-        → result ≡ worth_of cols.now (key_rows all table key) col t }
+    ensures of_key { IfFound rows.entry (λ own. result ≡ worth_of cols.now own col t) }
     ensures small { result + 2 ^ 64 ≤ 2 ^ 128 }
 {
     match rows {
@@ -188,7 +186,7 @@ fn place_of(cols: &[(Col, u32)], col: Col) -> usize
 /// The most that the rows of a key that were found are worth in a column at any moment, where that
 /// is at hand.
 pub fn found_most(rows: Option<&OfKey<'_>>, cols: &[(Col, u32)], col: Col) -> Option<u128>
-    ensures { IfSome result (λ most. (t : ℕ) → found_worth cols.now col t rows.entry ≤ most) }
+    ensures { IfSome result (AreWorthAtMost cols.now col rows.entry) }
 {
     match rows {
         None => Some(0),

@@ -140,16 +140,18 @@ impl Verdicts {
     // The clock may have gone on: judges what has come due since.
     fn turn(&mut self, machine: &Machine, meter: &mut Meter, flips: &mut Flips)
         requires sound { IsSound machine.now }
-        ensures held { (told : ℕ) (state : State) → IsSound state → GoesOn told state machine.now
-            → AreHeld state self.old.standing → AreHeld machine.now self.new.standing }
-        ensures few { (told : ℕ) (state : State) → IsSound state → GoesOn told state machine.now
-            → AreHeld state self.old.standing → meter.old.evals ≡ 0
-            → IsForDue state machine.now.moment meter.new.evals }
-        ensures quiet { (told : ℕ) (state : State) → IsSound state → GoesOn told state machine.now
-            → AreHeld state self.old.standing → meter.old.evals ≡ 0
-            → IsQuietUntil state machine.now.moment → meter.new.evals ≡ 0 }
-        ensures flips { (told : ℕ) (state : State) → IsSound state → GoesOn told state machine.now
-            → AreHeld state self.old.standing
+        ensures held { (told : ℕ) (state : State) → IsSound state
+            → GoesOn told state machine.now → AreHeld state self.old.standing
+            → AreHeld machine.now self.new.standing }
+        ensures few { (told : ℕ) (state : State) → IsSound state
+            → GoesOn told state machine.now → AreHeld state self.old.standing
+            → meter.old.evals ≡ 0 → IsForDue state machine.now.moment meter.new.evals }
+        ensures quiet { (told : ℕ) (state : State) → IsSound state
+            → GoesOn told state machine.now → AreHeld state self.old.standing
+            → meter.old.evals ≡ 0 → IsQuietUntil state machine.now.moment
+            → meter.new.evals ≡ 0 }
+        ensures flips { (told : ℕ) (state : State) → IsSound state
+            → GoesOn told state machine.now → AreHeld state self.old.standing
             → TellsStepIfKnown state machine.now flips.old flips.new }
     {
         standing_filters::laws::moment_keeps_verdicts();
