@@ -30,7 +30,8 @@ total_width (suc len) kinds = total_width len (kinds / 4) + width (kind_of (kind
 -- the five words from a place on
 abbrev pub five_from : List ℕ → ℕ → List ℕ
 five_from ws at =
-    word ws at ∷ word ws (at + 1) ∷ word ws (at + 2) ∷ word ws (at + 3) ∷ word ws (at + 4) ∷ []
+    word ws at ∷ word ws (at + 1) ∷ word ws (at + 2) ∷ word ws (at + 3)
+    ∷ word ws (at + 4) ∷ []
 
 -- the five words of a rate that three stand for: its two counts share one word, the high half of
 -- the moment from which it is 0 and its period another

@@ -28,11 +28,13 @@ most_in col rows = sum_by (λ r. most_at r.1.cells col) rows
 
 -- these are that of a key's rows, for as many columns as there are numbers
 abbrev pub AreMosts : List ℕ → List (ℕ × Row) → Type 0
-AreMosts mosts rows = (col : ℕ) → col < length mosts → slice_index mosts col ≡ most_in col rows
+AreMosts mosts rows = (col : ℕ) → col < length mosts
+    → slice_index mosts col ≡ most_in col rows
 
 -- the rows are worth no more than these
 abbrev pub AreAbove : List ℕ → List (ℕ × Row) → Type 0
-AreAbove mosts rows = (col : ℕ) → col < length mosts → most_in col rows ≤ slice_index mosts col
+AreAbove mosts rows = (col : ℕ) → col < length mosts
+    → most_in col rows ≤ slice_index mosts col
 
 -- the first numbers are greater by what cells are worth at most
 abbrev pub AreAdded : List Held → List ℕ → List ℕ → ℕ → Type 0

@@ -32,7 +32,8 @@ impl Row {
 // Lays the row of cells that arrive down, if all of it fits there.
 #[inline(always)]
 fn lay(laid: &mut Laid, arrival: &Arrival<'_>) -> bool
-    ensures { MatchBool result (row_in laid.new ≡ arrived_row arrival.now) (laid.new ≡ laid.old) }
+    ensures { MatchBool result (row_in laid.new ≡ arrived_row arrival.now)
+        (laid.new ≡ laid.old) }
 {
     let high = arrival.t / WORD;
     if high >= row::HIGHS {
@@ -85,7 +86,8 @@ fn date(len: u8, kinds: u16, end: usize, words: &mut Words, cols: &[(Col, u32)],
     requires early { t < 2 ^ 37 }
     ensures cells { cells_of len kinds words.new
         ≡ arriving t (take len cols.now) (packed_cells len kinds words.old) }
-    ensures behind { (k : ℕ) → end ≤ k → slice_index words.new k ≡ slice_index words.old k }
+    ensures behind { (k : ℕ) → end ≤ k
+        → slice_index words.new k ≡ slice_index words.old k }
 {
     if len == 0 {
         return;
@@ -110,7 +112,8 @@ fn date_rate(words: &mut Words, at: usize, period: u32, t: u64)
     ensures cell { cell_at Narrow words.new at
         ≡ arriving_cell t period (packed_cell 3 words.old at) }
     ensures before { (k : ℕ) → k < at → slice_index words.new k ≡ slice_index words.old k }
-    ensures behind { (k : ℕ) → at + 3 ≤ k → slice_index words.new k ≡ slice_index words.old k }
+    ensures behind { (k : ℕ) → at + 3 ≤ k
+        → slice_index words.new k ≡ slice_index words.old k }
 {
     let over = 2 * u64::from(period) + 1;
     let elapsed = u64::from(words[at + 1]).min(over);

@@ -152,7 +152,8 @@ impl Few {
     // Adds a rate, in three words if it fits there.
     #[inline(always)]
     fn push_rate(&mut self, rate: &Rate) -> bool
-        ensures { self.new ≡ (if result then self.old ++ Held.Rate rate.now ∷ [] else self.old) }
+        ensures { self.new
+            ≡ (if result then self.old ++ Held.Rate rate.now ∷ [] else self.old) }
     {
         let wide = rate.to_words();
         match narrowed(&wide) {

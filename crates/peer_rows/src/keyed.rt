@@ -106,7 +106,8 @@ impl Keyed {
 
     /// The rows of a key.
     pub(crate) fn get(&self, hint: Option<Spot>, key: &Key) -> Option<&KeyRows>
-        ensures value { option_copied result ≡ lookup (is_at (slice_cmp nat_cmp key.now)) self.now }
+        ensures value { option_copied result
+            ≡ lookup (is_at (slice_cmp nat_cmp key.now)) self.now }
         ensures ordered { IsStrictlySortedBy (slice_cmp nat_cmp) (keys_of self.now) }
     {
         let at = find(&self.index, hint, key)?;

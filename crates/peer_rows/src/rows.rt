@@ -148,7 +148,8 @@ impl Rows {
     pub fn clear_key(&mut self, table: usize, key: &Key) -> usize
         requires { table < self.old.tables }
         ensures after { self.new ≡ without_key self.old table key.now }
-        ensures value { result ≡ count_by (λ e. of_table_key table key.now e.0) self.old.entries }
+        ensures value { result
+            ≡ count_by (λ e. of_table_key table key.now e.0) self.old.entries }
         ensures ordered { AreInOrder self.new.entries }
     {
         self.clear_key_at(None, table, key)
@@ -412,7 +413,8 @@ impl Rows {
     pub fn clear_key_at(&mut self, hint: Option<Spot>, table: usize, key: &Key) -> usize
         requires { table < self.old.tables }
         ensures after { self.new ≡ without_key self.old table key.now }
-        ensures value { result ≡ count_by (λ e. of_table_key table key.now e.0) self.old.entries }
+        ensures value { result
+            ≡ count_by (λ e. of_table_key table key.now e.0) self.old.entries }
         ensures ordered { AreInOrder self.new.entries }
     {
         self.tables[table].clear_key(hint, key)
