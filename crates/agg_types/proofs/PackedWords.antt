@@ -1,7 +1,8 @@
 -- Cells that are packed in words, as one is added and as they are read.
 use Rattle.std.proofs.Common.{◌≡◌, ℕ, zero, suc, ◌+◌, ◌-◌, ◌*◌, ◌/◌, ◌%◌, ◌^◌, ◌<◌, ◌≤◌, List, []}
 use Rattle.std.proofs.Common.{◌∷◌, ◌++◌, length, true, false, Bool, refl, sym, ◌∙◌, ap, arith}
-use Rattle.std.proofs.Common.{◌≢◌, Some, None, drop, slice_get, ◌==◌, get_or, take, add-zero, add-one, length-append}
+use Rattle.std.proofs.Common.{◌≢◌, Some, None, drop, slice_get, ◌==◌, get_or, take, add-zero}
+use Rattle.std.proofs.Common.{add-one, length-append}
 use Rattle.std.proofs.lemmas.Bool.{lt-ltb}
 use Rattle.std.proofs.lemmas.List.{take_more}
 use Rattle.std.proofs.Math.Dec.{eqb-suc-zero}

@@ -1,6 +1,7 @@
 //! A stream of messages that comes in pieces.
 
-ghost use Rattle.std.specs.Prelude.{◌≡◌, ◌≢◌, ◌+◌, ◌++◌, ◌<◌, ◌≤◌, ℕ, List, [], length, take, Some, Err};
+ghost use Rattle.std.specs.Prelude.{◌≡◌, ◌≢◌, ◌+◌, ◌++◌, ◌<◌, ◌≤◌, ℕ, List, [], length, take};
+ghost use Rattle.std.specs.Prelude.{Some, Err};
 ghost use Rattle.std.specs.Prelude.{IsSome, IfOk, IfErr, IsOkAnd};
 ghost use Rattle.agg_types.specs.declared.limits.TheConstants.{LONGEST_PAYLOAD};
 

@@ -34,7 +34,8 @@ pub fn start_of<R: BufRead>(alloc: Global, config: Reader, script: &mut R) -> io
     requires count { lines_read config ≡ 0 }
     ensures cut { IfOk result (λ start. OfLines (R.remaining script.old) (R.remaining script.new)
         (λ lines rest. IsCutAt lines (position is_start lines) rest start)) }
-    ensures in_range { IfOk result (λ start. IfSome start.opening (λ moment. moment ≤ LAST_MOMENT)) }
+    ensures in_range { IfOk result
+        (λ start. IfSome start.opening (λ moment. moment ≤ LAST_MOMENT)) }
     ensures numbered { IfOk result (λ start. start.number ≤ 2 ^ 63) }
 {
     let mut config = config;

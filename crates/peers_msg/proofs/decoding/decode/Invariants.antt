@@ -5,7 +5,8 @@ use Rattle.peers_msg.proofs.decoding.decode.Given as goal
 
 abbrev pub invariant-loop-entry : goal.invariant-loop-entry
 invariant-loop-entry l =
-    IsSoFar l.bytes.items (drop l.at l.bytes.items) (map (entry_message l.bytes.items) l.entries.items)
+    IsSoFar l.bytes.items (drop l.at l.bytes.items)
+    (map (entry_message l.bytes.items) l.entries.items)
     × (l.at ≤ length l.bytes.items)
 
 abbrev pub decreases-loop-entry : goal.decreases-loop-entry

@@ -9,8 +9,8 @@ pub returns-in_err-pause-clause-takes : goal.returns-in_err-pause-clause-takes
 returns-in_err-pause-clause-takes g c =
     λ seated start given more gives w.
     let p = err_from_is_err_and c.from_residual.result c.from_residual.ensures.1 in
-    rw (p.1, p.2) (c.in_err-pause.ensures.takes c.args.self.now.hub.now seated start given more gives
-    w)
+    rw (p.1, p.2)
+    (c.in_err-pause.ensures.takes c.args.self.now.hub.now seated start given more gives w)
 
 pub tell-requires : goal.tell-requires
 tell-requires g c =

@@ -89,7 +89,8 @@ returns-in_err-post_batch-in-Ok-clause-takes g c =
     c.args.piece.now c.in-Ok.batch None _ gives w
     (subst (λ stage. ContinuesTalk (setup_of hub.config) seated (taken_in w.turns) c.args.piece.now
     c.in-Ok.batch None stage) (sym
-    (ap (λ (s : SessionState). s.stage) c.post_batch.ensures.session)) stands) c.post_batch.ensures.seat
+    (ap (λ (s : SessionState). s.stage) c.post_batch.ensures.session)) stands)
+    c.post_batch.ensures.seat
     (then.goes_on (facts_in (setup_of hub.config) seated w.turns) w.work.told))
 
 pub returns-in_ok-cause-in-Err-clause-takes : goal.returns-in_ok-cause-in-Err-clause-takes
