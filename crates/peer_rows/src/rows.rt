@@ -1,6 +1,6 @@
 ghost use Rattle.std.specs.Prelude.{◌≡◌, ◌≢◌, ◌<◌, [], length, count_by, IsOk, IsSome, IfNone};
 ghost use Rattle.std.specs.Prelude.{IfOk, IfSome, OnOk, OnErr, Some, MatchBool, MatchOption};
-ghost use Rattle.std.specs.Prelude.{is_some, if◌then◌else◌, map, ◌≤◌};
+ghost use Rattle.std.specs.Prelude.{is_some, if◌then◌else◌, map, true, ◌≤◌};
 ghost use Rattle.std.specs.Option.{option_copied};
 ghost use Rattle.agg_types.specs.declared.limits.TheConstants.{LAST_MOMENT};
 ghost use Rattle.peer_rows.specs.Arriving.{HasCome, arrived_row, is_new};
@@ -326,7 +326,8 @@ impl Rows {
     }
 
     /// Puts the row that cells make which arrive, where the peer holds one of the table and key,
-    /// whatever the hint. Takes no memory. `false` says that nothing has changed.
+    /// whatever the hint. Takes no memory. `false` says that nothing has changed: there is none, or
+    /// the cells can't be laid there (`Row::arrive`).
     #[inline(always)]
     pub fn arrive_at(
         &mut self,
@@ -339,6 +340,7 @@ impl Rows {
         requires peer_in { peer < self.old.peers }
         requires table_in { table < self.old.tables }
         requires in_range { arrival.now.t ≤ LAST_MOMENT }
+        ensures held { result ≡ true → IsSome (row_at self.old peer table key.now) }
         ensures rows { MatchBool result
             (self.new ≡ with_row self.old peer table key.now (arrived_row arrival.now))
             (self.new ≡ self.old) }

@@ -1,6 +1,6 @@
 ghost use Rattle.std.specs.Prelude.{◌≡◌, ◌≢◌, ◌+◌, ◌<◌, ◌≤◌, ℕ, [], length, filter, not, map};
 ghost use Rattle.std.specs.Prelude.{slice_index, IsOk, IsSome, IfNone, IfSome, IfOk, OnOk, OnErr};
-ghost use Rattle.std.specs.Prelude.{Some, replicate};
+ghost use Rattle.std.specs.Prelude.{Some, replicate, true};
 ghost use Rattle.std.specs.Prelude.{MatchBool, MatchOption, is_some, if◌then◌else◌};
 ghost use Rattle.std.specs.Option.{option_copied};
 ghost use Rattle.std.specs.List.{dedup};
@@ -183,7 +183,9 @@ impl Table {
         arrival: &Arrival<'_>,
     ) -> bool
         requires { arrival.now.t ≤ LAST_MOMENT }
-        ensures { self.new ≡ record self.old {
+        ensures held { result ≡ true
+            → IsSome (lookup (is_at (spot_cmp (key.now, peer))) self.old.entries) }
+        ensures rows { self.new ≡ record self.old {
           entries = if result
               then insert_entry spot_cmp self.old.entries (key.now, peer)
               (arrived_row arrival.now)
