@@ -22,6 +22,13 @@ struct Seated {
     stream: Arc<Stream, Global>,
 }
 
+/// A connection that a newer one of its peer ended.
+#[derive(Clone, Copy)]
+struct Replaced {
+    id: u64,
+    address: SocketAddr,
+}
+
 /// The connections of peers, each under a number of its own.
 #[derive(Drop)]
 struct Lists {
@@ -31,8 +38,8 @@ struct Lists {
     waiting: BTreeMap<u64, Arc<Stream, Global>, Global>,
     // the one that sits for each peer
     seated: BTreeMap<usize, Seated, Global>,
-    // those that a newer one ended, until that is told
-    replaced: Vec<SocketAddr>,
+    // those that a newer one ended, until that is told or they are over
+    replaced: Vec<Replaced>,
     // how many came from an address that isn't asked for, and the last of these, until that is told
     unasked: u64,
     last_unasked: Option<SocketAddr>,
@@ -166,7 +173,10 @@ impl Connections {
         let lists = &mut *guard;
         if let Ok(Some(older)) = lists.seated.insert(peer, seated) {
             older.stream.end();
-            let _ = lists.replaced.push(older.address);
+            let _ = lists.replaced.push(Replaced {
+                id: older.id,
+                address: older.address,
+            });
         }
     }
 
@@ -181,6 +191,10 @@ impl Connections {
         if sits {
             lists.seated.remove(&peer);
         }
+        // Where a newer one took its place after its end was told, that is told of nobody else.
+        if let Some(at) = lists.replaced.iter().position(|other| other.id == id) {
+            lists.replaced.swap_remove(at);
+        }
     }
 
     /// Whether a newer connection of its peer ended the one from this address. It is forgotten with
@@ -188,7 +202,11 @@ impl Connections {
     pub fn was_replaced<R: Wait>(&self, rt: &R, address: SocketAddr) -> bool {
         let mut guard = self.lists.lock(rt);
         let lists = &mut *guard;
-        let Some(at) = lists.replaced.iter().position(|other| *other == address) else {
+        let at = lists
+            .replaced
+            .iter()
+            .position(|other| other.address == address);
+        let Some(at) = at else {
             return false;
         };
         lists.replaced.swap_remove(at);
