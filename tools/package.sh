@@ -47,10 +47,7 @@ put_zipped packaging/aggregator.8 usr/share/man/man8/aggregator.8
 doc=usr/share/doc/sesamejoist
 put_zipped CHANGELOG.md $doc/changelog
 put 644 README.md $doc/README.md
-for page in ACTING COMMANDS CONFIGURATION HTTP MODEL OPERATIONS PERFORMANCE PROOFS PROTOCOL REPLAY; do
-    put 644 docs/$page.md $doc/docs/$page.md
-done
-for file in $(git ls-files examples); do
+for file in $(git ls-files docs examples); do
     put 644 "$file" "$doc/$file"
 done
 
