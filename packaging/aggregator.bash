@@ -31,6 +31,9 @@ _aggregator() {
         import | replay)
             COMPREPLY=($(compgen -W "--help" -- "$word"))
             ;;
+        help)
+            COMPREPLY=($(compgen -W "listen check import replay" -- "$word"))
+            ;;
     esac
 }
 complete -F _aggregator aggregator
