@@ -522,7 +522,7 @@ def checking(report, options):
     report.check("also one in a file", 1, lambda: "" if run(named) == (0, b"ok\n", b"") else run(named))
     faulty = b"name agg\npeer\ntable t type ip size 1x\npeer lb1\npeer lb1\n"
     wanted = b"config line 2: Syntax\nconfig line 3: Number\nconfig line 5: Duplicate\n"
-    form = b"; write: table <name> type <type> size <rows> store <column>,<rate>(<ms>)\n"
+    form = b"; write: table <name> type <type> size <rows> [store <column>,<rate>(<ms>)]\n"
     explained = (b"config line 2, word 2 is missing: expected a name; write: peer <name>\n"
                  b"config line 3, word 6 \"1x\": expected a number of 1 to 20 digits" + form +
                  b"config line 5: the name stands already, or a column twice; "

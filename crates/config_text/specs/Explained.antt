@@ -1,5 +1,5 @@
 -- What is told of the faults of a configuration beside their names.
-use Rattle.std.specs.Prelude.{ℕ, ◌-◌, Bool, false, ◌&&◌, if◌then◌else◌, ◌==◌, List, [], ◌++◌}
+use Rattle.std.specs.Prelude.{ℕ, ◌-◌, Bool, false, ◌&&◌, ◌||◌, if◌then◌else◌, ◌==◌, List, [], ◌++◌}
 use Rattle.std.specs.Prelude.{codes, Option, None, Some}
 use Rattle.std.specs.Fmt.{decimal}
 use Rattle.std.specs.List.{flat_map}
@@ -24,20 +24,6 @@ use Rattle.line_words.specs.declared.misread.Expected.{Expected}
 use Rattle.line_words.specs.declared.misread.Expected.TheVariants as expected
 use Rattle.line_words.specs.declared.misread.Misread.{Misread}
 
--- what had to stand in a place
-abbrev pub expected_text : Expected → List ℕ
-expected_text expected.Name = codes "a name"
-expected_text expected.Keyword = codes "a keyword"
-expected_text expected.End = codes "the line's end"
-expected_text expected.Number = codes "a number of 1 to 20 digits"
-expected_text expected.Column = codes "a column"
-expected_text expected.Columns = codes "columns with commas between, a rate with its period in ms"
-expected_text expected.Condition = codes "data.<column>"
-expected_text expected.Operator = codes "eq, ne, le, ge, lt or gt"
-expected_text expected.Key = codes "a key"
-expected_text expected.Moment = codes "a moment in ms"
-expected_text expected.Hexadecimal = codes "hexadecimal digits, two for each byte"
-
 -- whether a table's line has to give this kind of keys a length
 abbrev pub has_length : Option KeyKind → Bool
 has_length None = false
@@ -49,11 +35,41 @@ wants_length words =
     if bytes_eq (word_at 1 words) (codes "table") then has_length (kind_named (word_at 4 words))
     else false
 
--- what had to stand in a place of a line of these words: `len` behind such a kind
-unfoldable pub place_text : Misread → List (List ℕ) → List ℕ
+-- the word of a place in a table's line, whose keys may have a length
+abbrev pub table_word : ℕ → Bool → List ℕ
+table_word place has_len =
+    if place == 3 then codes "type"
+    else if place == 4 then codes "ip, ipv6, integer, string or binary"
+    else if (place == 5) && has_len then codes "len"
+    else if (place == 5) || ((place == 7) && has_len) then codes "size"
+    else codes "store"
+
+-- the keyword of a place in a line of these words, where there is but one
+abbrev pub keyword_text : ℕ → List (List ℕ) → List ℕ
+keyword_text place words =
+    if bytes_eq (word_at 1 words) (codes "table") then table_word place (wants_length words)
+    else if bytes_eq (word_at 1 words) (codes "push") then codes "hold"
+    else codes "a keyword"
+
+-- what had to stand in a place, where a keyword would be this one
+abbrev pub expected_text : Expected → List ℕ → List ℕ
+expected_text expected.Name keyword = codes "a name"
+expected_text expected.Keyword keyword = keyword
+expected_text expected.End keyword = codes "the line's end"
+expected_text expected.Number keyword = codes "a number of 1 to 20 digits"
+expected_text expected.Column keyword = codes "a column"
+expected_text expected.Columns keyword =
+    codes "columns with commas between, a rate with its period in ms"
+expected_text expected.Condition keyword = codes "data.<column>"
+expected_text expected.Operator keyword = codes "eq, ne, le, ge, lt or gt"
+expected_text expected.Key keyword = codes "a key"
+expected_text expected.Moment keyword = codes "a moment in ms"
+expected_text expected.Hexadecimal keyword = codes "hexadecimal digits, two for each byte"
+
+-- what had to stand in a place of a line of these words
+abbrev pub place_text : Misread → List (List ℕ) → List ℕ
 place_text misread words =
-    if (misread.word == 5) && wants_length words then codes "len"
-    else expected_text misread.expected
+    expected_text misread.expected (keyword_text misread.word words)
 
 -- how a line is written that begins with this word
 abbrev pub form_named : List ℕ → List ℕ
@@ -61,18 +77,18 @@ form_named kind =
     if bytes_eq kind (codes "name") then codes "name <name>"
     else if bytes_eq kind (codes "peer") then codes "peer <name>"
     else if bytes_eq kind (codes "table")
-    then codes "table <name> type <type> size <rows> store <column>,<rate>(<ms>)"
+    then codes "table <name> type <type> size <rows> [store <column>,<rate>(<ms>)]"
     else if bytes_eq kind (codes "filter")
-    then codes "filter <name> <table> data.<column> <operator> <number>"
+    then codes "filter <name> <table> data.<column> <operator> <number> .."
     else if bytes_eq kind (codes "rank") then codes "rank <name> <table> <column> <length>"
-    else if bytes_eq kind (codes "push") then codes "push <filter> hold <ms>"
+    else if bytes_eq kind (codes "push") then codes "push <filter> [hold <ms>]"
     else codes "name, peer, table, filter, rank or push first"
 
 -- how a line of these words is written
 unfoldable pub form_of : List (List ℕ) → List ℕ
 form_of words =
     if wants_length words
-    then codes "table <name> type string|binary len <n> size <rows> store <column>,<rate>(<ms>)"
+    then codes "table <name> type string|binary len <n> size <rows> [store <column>,<rate>(<ms>)]"
     else form_named (word_at 1 words)
 
 -- a word as it is told: its bytes but spaces and what doesn't print, in quotes

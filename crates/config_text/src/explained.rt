@@ -5,8 +5,9 @@ ghost use Rattle.std.specs.Fmt.{decimal};
 ghost use Rattle.line_words.specs.Words.{lines_of, words};
 ghost use Rattle.config_text.specs.Explained.{cause_text, check_text, expected_text, explanation};
 ghost use Rattle.config_text.specs.Explained.{explanations, form_named, form_of, found_text};
-ghost use Rattle.config_text.specs.Explained.{line_explanation, misread_text, place_text};
-ghost use Rattle.config_text.specs.Explained.{quoted, reason_text, wanted_text, wants_length};
+ghost use Rattle.config_text.specs.Explained.{keyword_text, line_explanation, misread_text};
+ghost use Rattle.config_text.specs.Explained.{place_text, quoted, reason_text, table_word};
+ghost use Rattle.config_text.specs.Explained.{wanted_text, wants_length};
 ghost use Rattle.agg_types.specs.declared.check.ConfigFault.TheVariants.{TooMany, BadPeriod};
 ghost use Rattle.agg_types.specs.declared.check.ConfigFault.TheVariants.{BadSize, BadName};
 
@@ -24,10 +25,14 @@ const LAST_PERIOD: u64 = PERIOD_END as u64 - 1;
 
 const LAST_HOLD: u64 = HOLD_END - 1;
 
-/// Where the kind of keys stands in a table's line, and what gives it a length: words, from 1.
+/// Where `type`, the kind of keys and what is behind them stand in a table's line: words, from 1.
+const TYPE_PLACE: usize = 3;
+
 const KIND_PLACE: usize = 4;
 
 const LENGTH_PLACE: usize = 5;
+
+const SIZE_PLACE: usize = 7;
 
 /// Appends what explains the faults of a text's lines, a line for each, with its LF.
 pub fn append_explanations(
@@ -113,14 +118,39 @@ fn append_quoted(word: &[u8], out: &mut Vec<u8>) -> Result<(), NoMemory>
     append_text(b"\"", out)
 }
 
-#[tactic(auto, unfolding(crate::specs::Explained::place_text))]
 fn place_text(misread: Misread, line: &[u8]) -> &'static str
     ensures { result.now ≡ place_text misread (words line.now) }
 {
-    if misread.word == LENGTH_PLACE && wants_length(line) {
-        "len"
+    expected_text(misread.expected, keyword_text(misread.word, line))
+}
+
+// The keyword of a place, where there is but one.
+fn keyword_text(place: usize, line: &[u8]) -> &'static str
+    ensures { result.now ≡ keyword_text place (words line.now) }
+{
+    let kind = word_at(line, 1);
+    if kind == b"table".as_slice() {
+        table_word(place, wants_length(line))
+    } else if kind == b"push".as_slice() {
+        "hold"
     } else {
-        expected_text(misread.expected)
+        "a keyword"
+    }
+}
+
+fn table_word(place: usize, has_len: bool) -> &'static str
+    ensures { result.now ≡ table_word place has_len }
+{
+    if place == TYPE_PLACE {
+        "type"
+    } else if place == KIND_PLACE {
+        "ip, ipv6, integer, string or binary"
+    } else if place == LENGTH_PLACE && has_len {
+        "len"
+    } else if place == LENGTH_PLACE || place == SIZE_PLACE && has_len {
+        "size"
+    } else {
+        "store"
     }
 }
 
@@ -138,12 +168,12 @@ fn wants_length(line: &[u8]) -> bool
     }
 }
 
-fn expected_text(expected: Expected) -> &'static str
-    ensures { result.now ≡ expected_text expected }
+fn expected_text(expected: Expected, keyword: &'static str) -> &'static str
+    ensures { result.now ≡ expected_text expected keyword.now }
 {
     match expected {
         Expected::Name => "a name",
-        Expected::Keyword => "a keyword",
+        Expected::Keyword => keyword,
         Expected::End => "the line's end",
         Expected::Number => "a number of 1 to 20 digits",
         Expected::Column => "a column",
@@ -161,7 +191,7 @@ fn form_of(line: &[u8]) -> &'static str
     ensures { result.now ≡ form_of (words line.now) }
 {
     if wants_length(line) {
-        "table <name> type string|binary len <n> size <rows> store <column>,<rate>(<ms>)"
+        "table <name> type string|binary len <n> size <rows> [store <column>,<rate>(<ms>)]"
     } else {
         form_named(word_at(line, 1))
     }
@@ -175,13 +205,13 @@ fn form_named(kind: &[u8]) -> &'static str
     } else if kind == b"peer".as_slice() {
         "peer <name>"
     } else if kind == b"table".as_slice() {
-        "table <name> type <type> size <rows> store <column>,<rate>(<ms>)"
+        "table <name> type <type> size <rows> [store <column>,<rate>(<ms>)]"
     } else if kind == b"filter".as_slice() {
-        "filter <name> <table> data.<column> <operator> <number>"
+        "filter <name> <table> data.<column> <operator> <number> .."
     } else if kind == b"rank".as_slice() {
         "rank <name> <table> <column> <length>"
     } else if kind == b"push".as_slice() {
-        "push <filter> hold <ms>"
+        "push <filter> [hold <ms>]"
     } else {
         "name, peer, table, filter, rank or push first"
     }
