@@ -6,9 +6,9 @@ use agg_types::{Col, Config, KeyKind, NoMemory, Shape};
 use std::alloc::Global;
 
 const HEAD: &[u8] =
-    b"# From a haproxy.cfg. The last peer there is taken for the collector: if it is a proxy,\n\
-# write it as a peer, give the collector's name here, and name it in each proxy's peers section.\n\
-# Add a peer line for each further proxy, then filters and ranked lists.\n";
+    b"# From a haproxy.cfg. Of several peers the last that is kept is taken for the collector:\n\
+# if it is a proxy, write it as a peer, give the collector's name here, and name it in each\n\
+# proxy's peers section. Add a peer line for each further proxy, then filters and ranked lists.\n";
 
 /// The lines of a configuration without filters and ranked lists, behind these comments.
 pub(crate) fn text_of(alloc: Global, config: &Config, notes: &[u8]) -> Result<Vec<u8>, NoMemory> {
