@@ -12,6 +12,7 @@ use bytes::Bytes;
 use http::{Method, Request, StatusCode};
 use http_server::{Response, Service};
 use hub::{Lens, Naming};
+use show_clear::CommandFault;
 use std::alloc::{AllocError, Global};
 use std::marker::PhantomData;
 use std::sync::{Arc, Wait};
@@ -93,33 +94,48 @@ fn no_memory() -> Reply {
     Reply::plain(StatusCode::SERVICE_UNAVAILABLE, "out of memory\n")
 }
 
+// A reply with a text that was made.
+fn replying(status: StatusCode, kind: Kind, text: Vec<u8>) -> Reply {
+    match Bytes::from_vec(text) {
+        Err(_) => no_memory(),
+        Ok(body) => Reply { status, kind, body },
+    }
+}
+
+// A name as a line.
+fn line_of(alloc: Global, name: &str) -> Result<Vec<u8>, NoMemory> {
+    let mut line = Vec::new(alloc);
+    line.extend_from_slice(name.as_bytes())?;
+    line.extend_from_slice(b"\n")?;
+    Ok(line)
+}
+
+// What is answered to conditions that say nothing: the name of their fault.
+fn bad_where(alloc: Global, fault: CommandFault) -> Reply {
+    match line_of(alloc, fault.name()) {
+        Err(_) => no_memory(),
+        Ok(line) => replying(StatusCode::BAD_REQUEST, Kind::Plain, line),
+    }
+}
+
 // What is answered where there is no answer of a book.
-fn refused(refusal: Refusal) -> Reply {
+fn refused(alloc: Global, refusal: Refusal) -> Reply {
     match refusal {
         Refusal::Busy => busy(),
         Refusal::List(ListFault::NoSuch) => Reply::plain(StatusCode::NOT_FOUND, "not found\n"),
         Refusal::List(ListFault::BadKey) => {
             Reply::plain(StatusCode::BAD_REQUEST, "after is a key of the list\n")
         }
-        Refusal::List(ListFault::BadWhere(fault)) => {
-            Reply::plain(StatusCode::BAD_REQUEST, fault.name())
-        }
+        Refusal::List(ListFault::BadWhere(fault)) => bad_where(alloc, fault),
         Refusal::List(ListFault::NoMemory) => no_memory(),
     }
 }
 
-// A text that was made.
-fn made(kind: Kind, text: Result<Vec<u8>, Refusal>) -> Reply {
+// A text that was made, or why there is none.
+fn made(alloc: Global, kind: Kind, text: Result<Vec<u8>, Refusal>) -> Reply {
     match text {
-        Err(refusal) => refused(refusal),
-        Ok(text) => match Bytes::from_vec(text) {
-            Err(_) => no_memory(),
-            Ok(body) => Reply {
-                status: StatusCode::OK,
-                kind,
-                body,
-            },
-        },
+        Err(refusal) => refused(alloc, refusal),
+        Ok(text) => replying(StatusCode::OK, kind, text),
     }
 }
 
@@ -223,9 +239,13 @@ impl<'a, J: Naming, R: Wait, F: Facts> Clerk<'a, J, R, F> {
         ensures { Follows self.old.lens.seen self.new.lens.seen }
     {
         match question {
-            Question::Metrics => made(Kind::Figures, self.tell(question)),
-            Question::Overview | Question::Peers(_) => made(Kind::Json, self.tell(question)),
-            _ => made(Kind::Json, self.look(question)),
+            Question::Metrics => made(self.alloc, Kind::Figures, self.tell(question)),
+            Question::Overview | Question::Peers(_) => made(
+                self.alloc,
+                Kind::Json,
+                self.tell(question),
+            ),
+            _ => made(self.alloc, Kind::Json, self.look(question)),
         }
     }
 
