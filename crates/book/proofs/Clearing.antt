@@ -7,10 +7,12 @@ use Rattle.std.specs.BTreeMap.{is_at}
 use Rattle.std.specs.Cmp.{eq_by_cmp_equiv}
 use Rattle.std.specs.Cmp.Lexicographic.{nat_list_cmp_total, slice_cmp}
 use Rattle.std.specs.List.{AllByRecursion, list_any}
+use Rattle.std.specs.List.Sorted.{IsPermutation}
 use Rattle.std.specs.Map as maps
 use Rattle.std.specs.Ordering.{nat_cmp}
 use Rattle.std.proofs.lemmas.Bool.{false≢true}
 use Rattle.std.proofs.lemmas.Bool.Decides.{nat_tests}
+use Rattle.std.proofs.lemmas.List.Sorted.{list_any-IsPermutation}
 use Rattle.std.proofs.lemmas.Map.Made.{is_some-lookup}
 use Rattle.agg_types.specs.declared.column.Col.{Col}
 use Rattle.agg_types.specs.declared.config.Cond.{Cond}
@@ -33,11 +35,12 @@ use Rattle.standing_filters.specs.Watched.{is_among}
 use Rattle.book.specs.Foreseen.{living_of}
 use Rattle.book.specs.Gone.{without_keys}
 use Rattle.book.specs.Leading.{AreLed, IsTableDropped, Lists, rank_at}
-use Rattle.book.specs.Listing.{AreMeeting, AreThoseMeeting}
+use Rattle.book.specs.Listing.{AreMeeting, AreThoseMeeting, DoAllMeet, rows_meet}
+use Rattle.book.specs.Store.{IsEachKeyOf}
 use Rattle.book.specs.Planned.{IsInside}
 use Rattle.book.specs.Shown.{arrivals, of_peer, view_of_row}
 use Rattle.book.proofs.Leading.{none_alive, other_list, stays}
-use Rattle.book.proofs.Meeting.{is_some-mapped}
+use Rattle.book.proofs.Meeting.{is_some-mapped, met_of_walk}
 use Rattle.book.proofs.Lists.{all-map, same_filters}
 use Rattle.book.proofs.Reading.{and_yes, each_filter, eq_turned}
 
@@ -143,6 +146,13 @@ those_of_met rows table cols conds t met own are = λ key some.
     ∙ any_met (meet_at cols (key_rows rows table key) conds t) (key_rows rows table key) some
     ∙ sym (own key)
 
+-- the order of the keys doesn't matter
+pub those_moved : (rows : Rows) (table : ℕ) (cols : List (Col × ℕ)) (conds : List Cond) (t : ℕ)
+    (keys others : List (List ℕ)) → AreThoseMeeting rows table cols conds t keys
+    → IsPermutation keys others → AreThoseMeeting rows table cols conds t others
+those_moved rows table cols conds t keys others those moved = λ key some.
+    sym (list_any-IsPermutation (λ other. same_key other key) keys others moved) ∙ those key some
+
 -- each row of a table is one of its key's
 own_rows : (table : ℕ) (rows : Rows) → AllByRecursion (λ row. (row.0.table == table) ≡ true
     → key_rows rows table row.0.key ≢ []) rows
@@ -187,6 +197,49 @@ cleared_where rows table cols conds t keys those = same_filters
     by row true here some = ap (λ b. not ((row.0.table == table) && b))
         (those row.0.key (some here))
     by row false here some = ap (λ b. not (b && list_any (λ key. same_key key row.0.key) keys)) here
+        ∙ sym (ap (λ b. not (b && meets cols rows table row.0.key t conds)) here)
+
+-- ---- a table all of whose keys meet the conditions
+every : (walk : Keys) → filter (λ e. true) walk ≡ walk
+every [] = refl
+every (e ∷ walk) = ap (λ more. e ∷ more) (every walk)
+
+-- a walk that conditions take nothing from is of keys that all meet them
+pub all_of_walk : (rows : Rows) (table : ℕ) (cols : List (Col × ℕ)) (conds : List Cond) (t : ℕ)
+    (walk : Keys) → ((some : List Cond) (key : List ℕ) → meets cols rows table key t some
+    ≡ meet_at cols (key_rows rows table key) some t)
+    → IsEachKeyOf rows table walk → filter (λ e. rows_meet cols conds t e.1) walk ≡ walk
+    → DoAllMeet rows table cols conds t
+all_of_walk rows table cols conds t walk own each all = λ key some.
+    sym (those_of_met rows table cols conds t (filter (λ e. rows_meet cols conds t e.1) walk)
+    (own conds) (met_of_walk rows table cols conds t walk each) key some)
+    ∙ ap (λ (keys : Keys). list_any (λ other. same_key other key) (maps.keys_of keys))
+    (all ∙ sym (every walk))
+    ∙ those_of_met rows table cols [] t (filter (λ e. true) walk) (own [])
+    (met_of_walk rows table cols [] t walk each) key some
+    ∙ own [] key
+
+-- so all rows of the table go
+pub cleared_all : (rows : Rows) (table : ℕ) (cols : List (Col × ℕ)) (conds : List Cond) (t : ℕ)
+    → DoAllMeet rows table cols conds t
+    → filter (λ row. not (row.0.table == table)) rows
+    ≡ filter (λ row. not ((row.0.table == table) && meets cols rows table row.0.key t conds)) rows
+cleared_all rows table cols conds t all = same_filters
+    (λ row. not (row.0.table == table))
+    (λ row. not ((row.0.table == table) && meets cols rows table row.0.key t conds)) rows
+    (all-map (λ (row : RowKey × Arrival). (row.0.table == table) ≡ true
+    → key_rows rows table row.0.key ≢ [])
+    (λ row. not (row.0.table == table)
+    ≡ not ((row.0.table == table) && meets cols rows table row.0.key t conds))
+    (λ row some. by row (row.0.table == table) refl some) rows (own_rows table rows))
+  where
+    by : (row : RowKey × Arrival) (b : Bool) → (row.0.table == table) ≡ b
+        → ((row.0.table == table) ≡ true → key_rows rows table row.0.key ≢ [])
+        → not (row.0.table == table)
+        ≡ not ((row.0.table == table) && meets cols rows table row.0.key t conds)
+    by row true here some = ap not (and_yes (row.0.table == table))
+        ∙ ap (λ b. not ((row.0.table == table) && b)) (sym (all row.0.key (some here)))
+    by row false here some = ap not here
         ∙ sym (ap (λ b. not (b && meets cols rows table row.0.key t conds)) here)
 
 -- the same keys, asked the other way round

@@ -1,16 +1,17 @@
 -- The keys that a ranked list finds by bounds are the first of its table's.
 use Rattle.std.proofs.Common.{◌≡◌, ℕ, ◌<◌, ◌≤◌, Bool, true, false, not, ◌&&◌, nat_le, nat_lt}
 use Rattle.std.proofs.Common.{List, [], ◌∷◌, ◌++◌, length, map, zero, suc, Option, None, Some}
-use Rattle.std.proofs.Common.{is_some, refl, sym, ap, ◌∙◌, subst, arith}
-use Rattle.std.specs.Prelude.{filter, take, slice_index_or}
+use Rattle.std.proofs.Common.{is_some, refl, sym, ap, ◌∙◌, subst, arith, ⊎_elim, length-take}
+use Rattle.std.specs.Prelude.{filter, min, take, slice_index_or}
 use Rattle.std.specs.BTreeMap.{is_at}
 use Rattle.std.specs.Cmp.Lexicographic.{slice_cmp}
 use Rattle.std.specs.Map as maps
 use Rattle.std.specs.Option.{IsSomeAnd, option_map}
 use Rattle.std.specs.Ordering.{nat_cmp}
-use Rattle.std.proofs.lemmas.Bool.{and_parts}
+use Rattle.std.proofs.lemmas.Bool.{and_parts, cases_lt}
 use Rattle.std.proofs.lemmas.Bool.Decides.{nat_tests}
 use Rattle.std.proofs.lemmas.Cmp.{nat_list_cmp_total}
+use Rattle.std.proofs.lemmas.List.{take-take, take_all}
 use Rattle.std.proofs.lemmas.List.Kept.{IsStrictlySortedBy-filter}
 use Rattle.std.proofs.lemmas.Map.Lookups.{exact_bytes}
 use Rattle.std.proofs.lemmas.Map.Made.{is_some-lookup}
@@ -72,6 +73,31 @@ pub lists_short : (config : Config) (list : ℕ) → list < length config.ranks
     → config_faults config ≡ [] → (rank_at config.ranks list).n ≤ 1000
 lists_short config list within none = ranks_short config.tables [] config.ranks list _ within
     (back_none _ (each (rank_faults config.tables) [] config.ranks) none)
+
+-- ---- the first ones of a list
+-- so many of the first so many are as many as the fewer
+pub take_fewer : {X : Type 0} (k m n : ℕ) (xs : List X) → k ≡ min m n
+    → take k xs ≡ take m (take n xs)
+take_fewer k m n xs is = ⊎_elim fewer whole (cases_lt m n)
+  where
+    fewer : m < n → take k xs ≡ take m (take n xs)
+    fewer less =
+        let same : k ≡ m = omega (arith, is, less) in
+        ap (λ (i : ℕ). take i xs) same ∙ sym (take-take m n xs (omega (arith, less)))
+
+    whole : n ≤ m → take k xs ≡ take m (take n xs)
+    whole least =
+        let same : k ≡ n = omega (arith, is, least) in
+        ap (λ (i : ℕ). take i xs) same
+        ∙ sym (take_all m (take n xs) (omega (arith, least, length-take n xs)))
+
+-- so many are all, where a list has no more
+pub all_ranked : (state : State) (rank : Rank) (most : ℕ) → rank.n ≤ most
+    → take most (ranked state rank) ≡ ranked state rank
+unfolding ranked
+all_ranked state rank most short =
+    take_all most (take rank.n (ranking state rank.table rank.col))
+    (omega (arith, short, length-take rank.n (ranking state rank.table rank.col)))
 
 -- ---- bounds at the machine's moment
 in_time : (t : ℕ) → t ≤ LAST_MOMENT → within t ≡ t

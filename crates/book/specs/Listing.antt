@@ -1,6 +1,6 @@
 -- What a listing of a table's keys lends.
 use Rattle.std.specs.Prelude.{◌≡◌, ◌≢◌, ℕ, Bool, if◌then◌else◌, List, [], Option, None, map}
-use Rattle.std.specs.Prelude.{unwrap_or}
+use Rattle.std.specs.Prelude.{unwrap_or, true}
 use Rattle.std.specs.BTreeMap.{is_at}
 use Rattle.std.specs.Cmp.Lexicographic.{slice_cmp}
 use Rattle.std.specs.List.{IsDistinct, list_all, list_any}
@@ -60,6 +60,11 @@ abbrev pub AreThoseMeeting : Rows → ℕ → List (Col × ℕ) → List Cond �
     → List (List ℕ) → Type 0
 AreThoseMeeting rows table cols conds t keys = (key : List ℕ) → key_rows rows table key ≢ []
     → list_any (λ other. same_key other key) keys ≡ meets cols rows table key t conds
+
+-- each key of a table that has rows meets all conditions at t
+abbrev pub DoAllMeet : Rows → ℕ → List (Col × ℕ) → List Cond → ℕ → Type 0
+DoAllMeet rows table cols conds t = (key : List ℕ) → key_rows rows table key ≢ []
+    → meets cols rows table key t conds ≡ true
 
 -- what is listed are these keys in order, each with what its rows sum up to
 pub record ListsMeeting (rows : Rows) (table : ℕ) (cols : List (Col × ℕ)) (conds : List Cond)

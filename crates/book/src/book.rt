@@ -1,4 +1,4 @@
-ghost use Rattle.std.specs.Prelude.{◌≡◌, ◌<◌, ◌≤◌, ℕ, List, map, length, nat_lt};
+ghost use Rattle.std.specs.Prelude.{◌≡◌, ◌<◌, ◌≤◌, ℕ, List, map, length, nat_lt, take};
 ghost use Rattle.std.specs.Prelude.{false, [], ◌∷◌, ◌++◌, IfOk, IsOk, OnOk, OnErr};
 ghost use Rattle.agg_types.specs.Check.{config_faults};
 ghost use Rattle.agg_types.specs.declared.config.Config.{Config};
@@ -308,11 +308,22 @@ impl Book {
     }
 
     /// The ranked list at a position of the configuration, found by bounds on the values of keys.
+    /// Takes memory for as many keys as it may have.
     pub fn top(&self, alloc: Global, rank: usize) -> Result<Ranked<'_>, NoMemory>
         requires { rank < length self.now.config.ranks }
         ensures { IfOk result (λ entries. entries ≡ ranked self.now (rank_of self.now rank)) }
     {
-        Ok(Ranked::new(self.machine.top(alloc, rank)?))
+        Ok(Ranked::new(self.machine.top(alloc, rank, usize::MAX)?))
+    }
+
+    /// The first so many keys of that list: who wants few of them pays for these alone, in memory
+    /// and in keys that are looked at.
+    pub fn top_of(&self, alloc: Global, rank: usize, most: usize) -> Result<Ranked<'_>, NoMemory>
+        requires { rank < length self.now.config.ranks }
+        ensures { IfOk result
+            (λ entries. entries ≡ take most (ranked self.now (rank_of self.now rank))) }
+    {
+        Ok(Ranked::new(self.machine.top(alloc, rank, most)?))
     }
 
     /// The first moment above the book's, in ms, at which a filter holds other keys than now, if

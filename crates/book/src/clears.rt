@@ -1,15 +1,18 @@
-//! Clears. A whole table goes at once. Where conditions choose, the keys are found in one walk of
-//! the rows as they lie, and then their rows are taken away one by one.
+//! Clears. A whole table goes at once, also where conditions choose each of its many keys. Else the
+//! keys that conditions choose are found in one walk of the rows as they lie, and then their rows
+//! are taken away one by one.
 
 ghost use Rattle.std.specs.Prelude.{◌≡◌, ◌≤◌, ◌&&◌, ◌==◌, ◌∷◌, [], not, filter, length, map};
+ghost use Rattle.std.specs.Prelude.{true};
 ghost use Rattle.std.specs.Prelude.{IfOk, OnOk, OnErr};
 ghost use Rattle.std.specs.List.{list_any};
 ghost use Rattle.fleet_model.specs.Values.{meets, same_key};
 ghost use Rattle.standing_filters.specs.Watched.{is_among};
-ghost use Rattle.book.specs.Gone.{without_keys};
+ghost use Rattle.book.specs.Gone.{is_gone, without_keys};
 ghost use Rattle.book.specs.Leading.{StaysLed};
-ghost use Rattle.book.specs.Listing.{AreThoseMeeting, rows_meet};
+ghost use Rattle.book.specs.Listing.{AreThoseMeeting, DoAllMeet, rows_meet};
 
+use crate::gone::Gone;
 use crate::leaders::{drop_bounds, drop_table_bounds};
 use crate::store::Store;
 use crate::values::found_meets;
@@ -17,6 +20,10 @@ use agg_types::{Col, Cond, Key, NoMemory, Rank};
 use peer_rows::EachKey;
 use ranked::Leaders;
 use std::alloc::Global;
+
+// A clear by conditions looks whether all keys of a table meet them where it has more than so many.
+// Of fewer it tells which it took, so that who keeps a copy of a filter's set needn't list it anew.
+const FEW: usize = 4096;
 
 /// Takes away the rows of a key and its bounds.
 pub fn clear_key(
@@ -77,8 +84,9 @@ pub fn clear_table(store: &mut Store, leaders: &mut Leaders, ranks: &[Rank], tab
 }
 
 /// Takes away the rows of each key of a table whose values meet the conditions, as they were
-/// before, and its bounds, and answers these keys.
-pub fn clear_where(
+/// before, and its bounds, and answers which keys these are. Where a table of many keys has none
+/// that doesn't meet them, it is cleared whole, so nothing is searched.
+pub(crate) fn clear_where(
     alloc: Global,
     store: &mut Store,
     leaders: &mut Leaders,
@@ -87,21 +95,55 @@ pub fn clear_where(
     table: usize,
     t: u64,
     conds: &[Cond],
-) -> Result<Vec<Key>, NoMemory>
+) -> Result<Gone, NoMemory>
     requires { length ranks.now ≤ length leaders.old }
     ensures ok { OnOk result (store.new ≡ record store.old {
       rows = filter (λ row. not
           ((row.0.table == table) && meets cols.now store.old.rows table row.0.key t conds.now))
           store.old.rows;
     }) }
-    ensures gone { IfOk result (λ keys.
-        store.new.rows ≡ without_keys table (is_among keys.items) store.old.rows) }
+    ensures gone { IfOk result (λ gone.
+        store.new.rows ≡ without_keys table (is_gone gone) store.old.rows) }
     ensures err { OnErr result (store.new ≡ store.old) }
     ensures led { StaysLed ranks.now store.old.rows t leaders.old store.new.rows t leaders.new }
 {
-    let keys = keys_that_meet(alloc, store, cols, table, t, conds)?;
+    if store.used(table) > FEW && all_meet(store, cols, table, t, conds) {
+        clear_table(store, leaders, ranks, table, t);
+        return Ok(Gone::Table);
+    }
+    let mut keys = keys_that_meet(alloc, store, cols, table, t, conds)?;
+    // Bounds and verdicts stand in the order of their keys: so what is read for one is near when
+    // the next one is taken away.
+    keys.sort_unstable();
     clear_keys(store, leaders, ranks, table, keys.as_slice(), t);
-    Ok(keys)
+    Ok(Gone::Keys(keys))
+}
+
+// Whether each key of a table that has rows meets the conditions: a walk up to the first that
+// doesn't.
+fn all_meet(store: &Store, cols: &[(Col, u32)], table: usize, t: u64, conds: &[Cond]) -> bool
+    ensures { result ≡ true → DoAllMeet store.now.rows table cols.now conds.now t }
+{
+    fleet_model::laws::keys::a_key_answers_by_its_rows();
+    match store.each_key(table) {
+        None => false,
+        Some(walk) => each_meets(walk, cols, t, conds),
+    }
+}
+
+// Whether the rows of each key meet the conditions.
+fn each_meets(walk: EachKey<'_>, cols: &[(Col, u32)], t: u64, conds: &[Cond]) -> bool
+    ensures { result ≡ true
+        → filter (λ e. rows_meet cols.now conds.now t e.1) walk.entry ≡ walk.entry }
+{
+    for (key, rows) in walk {
+        let _own = key;
+        let _few = rows.len();
+        if !found_meets(Some(&rows), cols, t, conds) {
+            return false;
+        }
+    }
+    true
 }
 
 // The keys of a table that have rows and meet the conditions, in no order: one walk of the rows as

@@ -154,8 +154,10 @@ pub fn go_on(rows: &mut Store, leaders: &mut Leaders, config: &Config, now: u64,
         ≡ record rows.old { rows = filter (λ row. is_live later row.1) rows.old.rows } }
     ensures led { AreLed config.now.tables config.now.ranks rows.new.rows later leaders.new }
 {
-    // Nobody else asks which keys are gone.
-    let gone = rows.end_rows(later, !config.ranks.is_empty());
+    // Nobody else asks which keys are gone. Bounds stand in the order of their keys: so what is
+    // read for one is near when the next one is taken away.
+    let mut gone = rows.end_rows(later, !config.ranks.is_empty());
+    gone.sort_unstable();
     drop_ended(
         leaders,
         config.ranks.as_slice(),

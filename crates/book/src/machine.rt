@@ -248,8 +248,7 @@ pub(crate) fn clear(
         Select::Conds(conds) => {
             let cols = cols_of(config.tables.as_slice(), table);
             let conds = conds.as_slice();
-            let keys = clear_where(alloc, rows, leaders, ranks, cols, table, t, conds)?;
-            Ok(Gone::Keys(keys))
+            clear_where(alloc, rows, leaders, ranks, cols, table, t, conds)
         }
     }
 }

@@ -1,6 +1,6 @@
 //! The keys of a table by their values of a column.
 
-ghost use Rattle.std.specs.Prelude.{◌≡◌, ◌<◌, length, IfOk};
+ghost use Rattle.std.specs.Prelude.{◌≡◌, ◌<◌, length, take, IfOk};
 ghost use Rattle.std.specs.Iterator.{at_most};
 ghost use Rattle.std.specs.Map.Iter.{TakesFirst};
 ghost use Rattle.fleet_model.specs.Ranking.{rank_of, ranked};
@@ -10,6 +10,7 @@ ghost use Rattle.book_frame.specs.Lent.{key_and_value};
 use crate::machine::Machine;
 use agg_types::{Key, NoMemory};
 use book_frame::standing::rank_at;
+use ranked::Wanted;
 use std::alloc::Global;
 use std::marker::Model;
 
@@ -64,17 +65,25 @@ impl<'a> Iterator for Ranked<'a> {
 }
 
 impl Machine {
-    /// The ranked list at a position of the configuration.
+    /// The first so many keys of the ranked list at a position of the configuration.
     pub(crate) fn top(
         &self,
         alloc: Global,
         list: usize,
+        most: usize,
     ) -> Result<ranked::Ranked<'_, Machine>, NoMemory>
         requires there { list < length self.now.config.ranks }
         requires sound { IsSound self.now }
-        ensures { IfOk result (λ found. found.left ≡ ranked self.now (rank_of self.now list)) }
+        ensures { IfOk result
+            (λ found. found.left ≡ take most (ranked self.now (rank_of self.now list))) }
     {
         let rank = rank_at(self.config.ranks.as_slice(), list);
-        self.leaders.top(alloc, list, rank, self.moment, self)
+        let wanted = Wanted {
+            table: rank.table,
+            col: rank.col,
+            n: most.min(rank.n as usize),
+            now: self.moment,
+        };
+        self.leaders.top(alloc, list, wanted, self)
     }
 }

@@ -4,5 +4,6 @@ pub mod Members
 pub mod Placed
 pub mod Reached
 pub mod Sorting
+pub mod Standing
 pub mod Walking
 pub mod Zeros

@@ -1,11 +1,12 @@
 -- Keys by their values, found by bounds on them: from the greatest bound on, until the best found
 -- so far stands before all that are left.
-use Rattle.std.specs.Prelude.{◌≡◌, ℕ, ◌+◌, ◌-◌, ◌^◌, ◌<◌, ◌≤◌, Bool, true, ◌==◌, nat_le, nat_lt}
+use Rattle.std.specs.Prelude.{◌≡◌, ℕ, ◌+◌, ◌-◌, ◌^◌, ◌<◌, ◌≤◌, Bool, false, true, ◌==◌, nat_le}
 use Rattle.std.specs.Prelude.{if◌then◌else◌, List, [], ◌∷◌, ◌++◌, count_by, length, take, Option}
-use Rattle.std.specs.Prelude.{None, Some, IfSome, is_none, min}
+use Rattle.std.specs.Prelude.{None, Some, IfSome, is_none, min, nat_lt}
 use Rattle.std.specs.List.{AllByRecursion}
 use Rattle.std.specs.Borrow.{Bor}
 use Rattle.std.specs.Map.Iter.{TakesFirst}
+use Rattle.std.specs.Ordering.{is_lt}
 use Rattle.fleet_model.specs.Ranking.{put_in_order, rank_cmp}
 
 -- An entry of the index is how many leading zeros the bound of a key has, of 128 binary digits, and
@@ -49,6 +50,12 @@ found living value room candidates entries =
 -- a candidate that is lent
 abbrev pub view_of_candidate : Bor (List ℕ) × ℕ → List ℕ × ℕ
 view_of_candidate candidate = (candidate.0.now, candidate.1)
+
+-- none comes before one that stands before it
+abbrev pub AreRanked : List (List ℕ × ℕ) → Type 0
+AreRanked [] = Unit {0}
+AreRanked (c ∷ candidates) =
+    AllByRecursion (λ d. is_lt (rank_cmp d c) ≡ false) candidates × AreRanked candidates
 
 -- each has a value of at most that of any before it
 abbrev pub AreFalling : List (List ℕ × ℕ) → Type 0

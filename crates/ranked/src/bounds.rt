@@ -7,9 +7,9 @@ ghost use Rattle.place_index.specs.Places.{key_at, in_order, AreDistinct};
 ghost use Rattle.ranked.specs.Bounds.{AreAllBounded, AreOthersKept, IsByKey, IsListOf, bound_at};
 ghost use Rattle.ranked.specs.Bounds.{first_ranked, zeros_at};
 
-use crate::Ranked;
 use crate::slack::{serves, zeros_for};
-use agg_types::{Key, NoMemory, Rank};
+use crate::{Ranked, Wanted};
+use agg_types::{Key, NoMemory};
 use crossing::Values;
 use expiry_wheel::{DueIndex, OrderedDue};
 use place_index::{PlaceIndex, Slot};
@@ -134,23 +134,22 @@ impl Bounds {
     pub fn top<'a, V: Values>(
         &'a self,
         alloc: Global,
-        rank: &Rank,
-        now: u64,
+        wanted: Wanted,
         values: &'a V,
     ) -> Result<Ranked<'a, V>, NoMemory>
-        requires short { rank.now.n ≤ LONGEST_RANK }
+        requires short { wanted.n ≤ LONGEST_RANK }
         requires bounds { AreAllBounded self.now
-            (λ key. V.living values.now rank.now.table key now)
-            (λ key. V.summed values.now rank.now.table key rank.now.col now) }
-        ensures list { IfOk result (λ list. list.left ≡ first_ranked rank.now.n
-            (λ key. V.living values.now rank.now.table key now)
-            (λ key. V.summed values.now rank.now.table key rank.now.col now)
+            (λ key. V.living values.now wanted.table key wanted.now)
+            (λ key. V.summed values.now wanted.table key wanted.col wanted.now) }
+        ensures list { IfOk result (λ list. list.left ≡ first_ranked wanted.n
+            (λ key. V.living values.now wanted.table key wanted.now)
+            (λ key. V.summed values.now wanted.table key wanted.col wanted.now)
             (keys_of self.now)) }
         ensures index { IfOk result (λ list. IsListOf list.index self.now) }
         ensures start { IfOk result (λ list. list.walked ≡ 0) }
         ensures ordered { IsByKey self.now }
     {
-        Ranked::new(alloc, &self.index, rank, now, values)
+        Ranked::new(alloc, &self.index, wanted, values)
     }
 }
 

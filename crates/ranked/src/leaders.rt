@@ -6,8 +6,8 @@ ghost use Rattle.ranked.specs.Bounds.{AreAllBounded, IsBounded, IsByKey, IsListO
 ghost use Rattle.ranked.specs.Bounds.{first_ranked};
 ghost use Rattle.ranked.specs.Leaders.{IsOneKeyOf, bounds_of};
 
-use crate::{Bounds, Ranked};
-use agg_types::{Key, NoMemory, Rank};
+use crate::{Bounds, Ranked, Wanted};
+use agg_types::{Key, NoMemory};
 use crossing::Values;
 use std::alloc::Global;
 use std::marker::Model;
@@ -83,23 +83,22 @@ impl Leaders {
         &'a self,
         alloc: Global,
         list: usize,
-        rank: &Rank,
-        now: u64,
+        wanted: Wanted,
         values: &'a V,
     ) -> Result<Ranked<'a, V>, NoMemory>
         requires there { list < length self.now }
-        requires short { rank.now.n ≤ LONGEST_RANK }
+        requires short { wanted.n ≤ LONGEST_RANK }
         requires bounds { AreAllBounded (bounds_of self.now list)
-            (λ key. V.living values.now rank.now.table key now)
-            (λ key. V.summed values.now rank.now.table key rank.now.col now) }
-        ensures list { IfOk result (λ found. found.left ≡ first_ranked rank.now.n
-            (λ key. V.living values.now rank.now.table key now)
-            (λ key. V.summed values.now rank.now.table key rank.now.col now)
+            (λ key. V.living values.now wanted.table key wanted.now)
+            (λ key. V.summed values.now wanted.table key wanted.col wanted.now) }
+        ensures list { IfOk result (λ found. found.left ≡ first_ranked wanted.n
+            (λ key. V.living values.now wanted.table key wanted.now)
+            (λ key. V.summed values.now wanted.table key wanted.col wanted.now)
             (keys_of (bounds_of self.now list))) }
         ensures index { IfOk result (λ found. IsListOf found.index (bounds_of self.now list)) }
         ensures start { IfOk result (λ found. found.walked ≡ 0) }
         ensures ordered { IsByKey (bounds_of self.now list) }
     {
-        self.lists[list].top(alloc, rank, now, values)
+        self.lists[list].top(alloc, wanted, values)
     }
 }

@@ -24,7 +24,9 @@ mod leaders;
 mod list;
 mod slack;
 mod walk;
+mod wanted;
 
 pub use bounds::Bounds;
 pub use leaders::Leaders;
 pub use list::Ranked;
+pub use wanted::Wanted;

@@ -6,8 +6,9 @@ ghost use Rattle.agg_types.specs.declared.limits.TheConstants.{LONGEST_RANK};
 ghost use Rattle.expiry_wheel.specs.Entries.{IsInOrder};
 ghost use Rattle.ranked.specs.Walk.{AreBounds, GivesFirst, IsCounted, found};
 
+use crate::Wanted;
 use crate::walk::take_certain;
-use agg_types::{Col, Key, NoMemory, Rank};
+use agg_types::{Key, NoMemory};
 use crossing::Values;
 use expiry_wheel::{Entries, OrderedDue};
 use std::alloc::Global;
@@ -25,9 +26,7 @@ pub struct Ranked<'a, V: Values> {
     // The best keys taken so far and not given yet, the best first.
     candidates: Vec<(&'a Key, u128)>,
     values: &'a V,
-    table: usize,
-    col: Col,
-    now: u64,
+    wanted: Wanted,
     // How many keys may still be given.
     left: usize,
     walked: usize,
@@ -41,9 +40,7 @@ impl<V: Values> Drop for Ranked<'_, V> {
             ahead: _,
             candidates: _,
             values: _,
-            table: _,
-            col: _,
-            now: _,
+            wanted: _,
             left: _,
             walked: _,
         } = self;
@@ -52,22 +49,24 @@ impl<V: Values> Drop for Ranked<'_, V> {
 
 impl<'a, V: Values> Model for Ranked<'a, V> {
     ghost use Rattle.std.specs.Prelude.{List, ℕ, map, vec_len, vec_capacity, ◌≤◌, ◌<◌};
-    ghost use Rattle.ranked.specs.Walk.{AreBounds, IsWalk, RankedList, found, view_of_candidate};
+    ghost use Rattle.ranked.specs.Walk.{AreBounds, AreRanked, IsWalk, RankedList, found};
+    ghost use Rattle.ranked.specs.Walk.{view_of_candidate};
 
     ghost Value = { RankedList };
 
     ghost view = { λ r. record {
-      left = found (λ key. V.living r.values.now r.table key r.now)
-          (λ key. V.summed r.values.now r.table key r.col r.now) r.left
+      left = found (λ key. V.living r.values.now r.wanted.table key r.wanted.now)
+          (λ key. V.summed r.values.now r.wanted.table key r.wanted.col r.wanted.now) r.left
           (map view_of_candidate r.candidates.items) r.ahead;
       walked = r.walked;
       index = r.index.now;
       ahead = r.ahead;
     } };
 
-    ghost invariant = { λ r. AreBounds (λ key. V.living r.values.now r.table key r.now)
-        (λ key. V.summed r.values.now r.table key r.col r.now) r.ahead
+    ghost invariant = { λ r. AreBounds (λ key. V.living r.values.now r.wanted.table key r.wanted.now)
+        (λ key. V.summed r.values.now r.wanted.table key r.wanted.col r.wanted.now) r.ahead
         × (vec_len r.candidates ≤ r.left) × (r.left < vec_capacity r.candidates)
+        × AreRanked (map view_of_candidate r.candidates.items)
         × IsWalk r.index.now r.walked (map view_of_candidate r.candidates.items) r.ahead };
 }
 
@@ -77,30 +76,27 @@ impl<'a, V: Values> Ranked<'a, V> {
     pub(crate) fn new(
         alloc: Global,
         index: &'a OrderedDue<Key>,
-        rank: &Rank,
-        now: u64,
+        wanted: Wanted,
         values: &'a V,
     ) -> Result<Ranked<'a, V>, NoMemory>
-        requires short { rank.now.n ≤ LONGEST_RANK }
-        requires bounds { AreBounds (λ key. V.living values.now rank.now.table key now)
-            (λ key. V.summed values.now rank.now.table key rank.now.col now) index.now }
+        requires short { wanted.n ≤ LONGEST_RANK }
+        requires bounds { AreBounds (λ key. V.living values.now wanted.table key wanted.now)
+            (λ key. V.summed values.now wanted.table key wanted.col wanted.now) index.now }
         ensures list { IfOk result (λ list. list.left
-            ≡ found (λ key. V.living values.now rank.now.table key now)
-            (λ key. V.summed values.now rank.now.table key rank.now.col now) rank.now.n []
+            ≡ found (λ key. V.living values.now wanted.table key wanted.now)
+            (λ key. V.summed values.now wanted.table key wanted.col wanted.now) wanted.n []
             index.now) }
         ensures index { IfOk result (λ list. list.index ≡ index.now) }
         ensures start { IfOk result (λ list. list.walked ≡ 0) }
         ensures ordered { IsInOrder (slice_cmp nat_cmp) index.now }
     {
-        let left = rank.n as usize;
+        let left = wanted.n;
         Ok(Ranked {
             index,
             ahead: Entries::new(index),
             candidates: Vec::with_capacity(alloc, left + 1)?,
             values,
-            table: rank.table,
-            col: rank.col,
-            now,
+            wanted,
             left,
             walked: 0,
         })
@@ -132,9 +128,7 @@ impl<'a, V: Values> Iterator for Ranked<'a, V> {
             &mut self.candidates,
             self.left,
             self.values,
-            self.table,
-            self.col,
-            self.now,
+            self.wanted,
         );
         self.walked = self.walked.saturating_add(walked);
         if self.candidates.as_slice().is_empty() {

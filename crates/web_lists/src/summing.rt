@@ -146,7 +146,7 @@ fn first_ranked(alloc: Global, book: &Book, place: usize) -> Result<Vec<(Key, u1
     requires { place < length book.now.config.ranks }
 {
     let mut first = Vec::new(alloc);
-    for (key, value) in book.top(alloc, place)?.take(MOST_KEYS) {
+    for (key, value) in book.top_of(alloc, place, MOST_KEYS)? {
         first.push((key.duplicate(alloc)?, value))?;
     }
     Ok(first)

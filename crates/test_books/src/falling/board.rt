@@ -3,7 +3,7 @@ ghost use Rattle.test_books.specs.Board.{faded, start_at};
 
 use agg_types::{Col, Key, NoMemory, Rank};
 use crossing::Values;
-use ranked::{Bounds, Ranked};
+use ranked::{Bounds, Ranked, Wanted};
 use std::alloc::Global;
 use std::cell::Cell;
 use std::collections::BTreeMap;
@@ -141,6 +141,12 @@ impl Board {
     pub fn top(&self, alloc: Global, rank: &Rank) -> Result<Ranked<'_, Starts>, NoMemory>
         requires { rank.now.n ≤ 1000 }
     {
-        self.bounds.top(alloc, rank, self.now, &self.starts)
+        let wanted = Wanted {
+            table: rank.table,
+            col: rank.col,
+            n: rank.n as usize,
+            now: self.now,
+        };
+        self.bounds.top(alloc, wanted, &self.starts)
     }
 }

@@ -37,14 +37,8 @@ returns-in_err-alone-in-One-clause-led c =
     c.args.rows.now.rows c.clear_one.new.store.rows c.args.t c.args.t c.args.leaders.now
     c.clear_one.new.leaders c.as_slice-ranks.ensures c.clear_one.ensures.led c.requires
 
-pub returns-in_ok-keys-in-Conds-clause-led : goal.returns-in_ok-keys-in-Conds-clause-led
-returns-in_ok-keys-in-Conds-clause-led c =
-    led_by c.args.config.now.tables c.args.config.now.ranks c.as_slice-ranks.result.now
-    c.args.rows.now.rows c.clear_where.new.store.rows c.args.t c.args.t c.args.leaders.now
-    c.clear_where.new.leaders c.as_slice-ranks.ensures c.clear_where.ensures.led c.requires
-
-pub returns-in_err-keys-in-Conds-clause-led : goal.returns-in_err-keys-in-Conds-clause-led
-returns-in_err-keys-in-Conds-clause-led c =
+pub returns-in-Conds-clause-led : goal.returns-in-Conds-clause-led
+returns-in-Conds-clause-led c =
     led_by c.args.config.now.tables c.args.config.now.ranks c.as_slice-ranks.result.now
     c.args.rows.now.rows c.clear_where.new.store.rows c.args.t c.args.t c.args.leaders.now
     c.clear_where.new.leaders c.as_slice-ranks.ensures c.clear_where.ensures.led c.requires

@@ -11,10 +11,10 @@ use Rattle.ranked.proofs.walk.take_next.Goals as goal
 
 pub returns-then-live-gt0-clause-same : goal.returns-then-live-gt0-clause-same
 returns-then-live-gt0-clause-same g c =
-    let living : List ℕ → ℕ = λ key. g.V.Values.living c.args.values.now c.args.table
-    key c.args.now in
-    let value : List ℕ → ℕ = λ key. g.V.Values.summed c.args.values.now c.args.table key
-    c.args.col c.args.now in
+    let living : List ℕ → ℕ = λ key. g.V.Values.living c.args.values.now c.args.wanted.table
+    key c.args.wanted.now in
+    let value : List ℕ → ℕ = λ key. g.V.Values.summed c.args.values.now c.args.wanted.table key
+    c.args.wanted.col c.args.wanted.now in
     let old = map view_of_candidate c.args.candidates.now.items in
     let new = map view_of_candidate c.offer.new.candidates.items in
     let all = first_and_rest c.args.ahead.now (c.in-Some.field-0-0, c.in-Some.key.now)
@@ -27,10 +27,10 @@ returns-then-live-gt0-clause-same g c =
 
 pub returns-then-live-gt0-clause-walked : goal.returns-then-live-gt0-clause-walked
 returns-then-live-gt0-clause-walked g c index walked h =
-    let living : List ℕ → ℕ = λ key. g.V.Values.living c.args.values.now c.args.table
-    key c.args.now in
-    let value : List ℕ → ℕ = λ key. g.V.Values.summed c.args.values.now c.args.table key
-    c.args.col c.args.now in
+    let living : List ℕ → ℕ = λ key. g.V.Values.living c.args.values.now c.args.wanted.table
+    key c.args.wanted.now in
+    let value : List ℕ → ℕ = λ key. g.V.Values.summed c.args.values.now c.args.wanted.table key
+    c.args.wanted.col c.args.wanted.now in
     let old = map view_of_candidate c.args.candidates.now.items in
     let new = map view_of_candidate c.offer.new.candidates.items in
     let e : ℕ × List ℕ = (c.in-Some.field-0-0, c.in-Some.key.now) in

@@ -1,11 +1,11 @@
-use Rattle.std.proofs.Common.{◌≡◌, ◌≤◌, ◌∙◌, List, ap, sym, subst}
+use Rattle.std.proofs.Common.{◌≡◌, ◌≤◌, ◌∙◌, List, ap, arith, sym, subst, take}
 use Rattle.std.proofs.lemmas.Result.{IfOk-weaker}
 use Rattle.agg_types.specs.declared.config.Rank.{Rank}
 use Rattle.fleet_model.specs.Ranking.{ranked}
 use Rattle.fleet_model.specs.State.{State}
 use Rattle.ranked.specs.Leaders.{bounds_of}
 use Rattle.book.specs.Leading.{AreLed, rank_at}
-use Rattle.book.proofs.FirstKeys.{first_is, list_bounded, lists_short}
+use Rattle.book.proofs.FirstKeys.{first_is, list_bounded, lists_short, take_fewer}
 use Rattle.book.proofs.machine.Machine.top.Goals as goal
 
 pub top-requires-clause-short : goal.top-requires-clause-short
@@ -14,8 +14,10 @@ top-requires-clause-short c =
     c.rank_at-rank.ensures ∙ ap (λ (ranks : List Rank). rank_at ranks c.args.list)
     c.as_slice.ensures ∙ ap (λ (s : State). rank_at s.config.ranks c.args.list)
     c.self.view_is in
+    let short : c.rank_at-rank.result.now.n ≤ 1000 =
     subst (λ (r : Rank). r.n ≤ 1000) (sym rank) (lists_short c.args.self.now.config c.args.list
-    c.requires.there c.requires.sound.checked)
+    c.requires.there c.requires.sound.checked) in
+    omega (arith, short, c.min.ensures)
 
 pub returns : goal.returns
 returns c =
@@ -30,8 +32,10 @@ returns c =
     subst (λ (s : State). AreLed s.config.tables s.config.ranks s.rows s.moment lists)
     c.self.view_is c.self.invariant.led in
     IfOk-weaker c.top.result _ _ (λ found is. is
-    ∙ first_is state c.rank_at-rank.result.now (bounds_of lists c.args.list) c.self.inside.moment
+    ∙ take_fewer c.min.result c.args.most c.rank_at-rank.result.now.n _ c.min.ensures
+    ∙ ap (take c.args.most)
+    (first_is state c.rank_at-rank.result.now (bounds_of lists c.args.list) c.self.inside.moment
     c.requires.sound.ordered c.top.ensures.ordered c.requires.sound.in_range now
     (list_bounded state lists c.args.list c.self.inside.moment c.rank_at-rank.result.now led
     c.requires.there c.requires.sound.in_range now rank)
-    ∙ ap (λ (r : Rank). ranked state r) rank) c.top.ensures.list
+    ∙ ap (λ (r : Rank). ranked state r) rank)) c.top.ensures.list

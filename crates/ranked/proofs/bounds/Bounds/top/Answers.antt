@@ -10,26 +10,26 @@ use Rattle.ranked.proofs.bounds.Bounds.top.Goals as goal
 
 pub new-requires-clause-bounds : goal.new-requires-clause-bounds
 new-requires-clause-bounds g c =
-    let living : List ℕ → ℕ = λ key. g.V.Values.living c.args.values.now c.args.rank.now.table
-    key c.args.now in
-    let value : List ℕ → ℕ = λ key. g.V.Values.summed c.args.values.now c.args.rank.now.table key
-    c.args.rank.now.col c.args.now in
+    let living : List ℕ → ℕ = λ key. g.V.Values.living c.args.values.now c.args.wanted.table
+    key c.args.wanted.now in
+    let value : List ℕ → ℕ = λ key. g.V.Values.summed c.args.values.now c.args.wanted.table key
+    c.args.wanted.col c.args.wanted.now in
     bounds_hold c.self.inside.index (in_order c.self.inside.zeros.places) living value
     c.self.invariant (subst (λ kept. AreAllBounded kept living value)
     (sym c.self.view_is) c.requires.bounds)
 
 pub returns : goal.returns
 returns g c =
-    let living : List ℕ → ℕ = λ key. g.V.Values.living c.args.values.now c.args.rank.now.table
-    key c.args.now in
-    let value : List ℕ → ℕ = λ key. g.V.Values.summed c.args.values.now c.args.rank.now.table key
-    c.args.rank.now.col c.args.now in
+    let living : List ℕ → ℕ = λ key. g.V.Values.living c.args.values.now c.args.wanted.table
+    key c.args.wanted.now in
+    let value : List ℕ → ℕ = λ key. g.V.Values.summed c.args.values.now c.args.wanted.table key
+    c.args.wanted.col c.args.wanted.now in
     let places = c.self.inside.zeros.places in
     record {
       list = IfOk-weaker c.new.result _ _ (λ list is. is
-          ∙ found_is c.args.rank.now.n living value c.self.inside.index (in_order places)
+          ∙ found_is c.args.wanted.n living value c.self.inside.index (in_order places)
           c.self.invariant (sorted-in_order places) c.new.ensures.ordered
-          ∙ ap (λ kept. first_ranked c.args.rank.now.n living value (keys_of kept)) c.self.view_is)
+          ∙ ap (λ kept. first_ranked c.args.wanted.n living value (keys_of kept)) c.self.view_is)
           c.new.ensures.list;
       index = IfOk-weaker c.new.result _ _
           (λ list is. subst (λ index. IsListOf index c.args.self.now) (sym is) (record {

@@ -11,8 +11,9 @@ use Rattle.ranked.proofs.list.RankedIterator.next.Goals as goal
 pub returns-clause-steps : goal.returns-clause-steps
 returns-clause-steps g c =
     let r = c.self.inside in
-    let living : List ℕ → ℕ = λ key. g.V.Values.living r.values.now r.table key r.now in
-    let value : List ℕ → ℕ = λ key. g.V.Values.summed r.values.now r.table key r.col r.now in
+    let living : List ℕ → ℕ = λ key. g.V.Values.living r.values.now r.wanted.table key r.wanted.now in
+    let value : List ℕ → ℕ = λ key. g.V.Values.summed r.values.now r.wanted.table key
+    r.wanted.col r.wanted.now in
     let kept = c.take_certain-walked.new.candidates.items in
     let some : 0 < length kept = subst (λ l. 0 < length l) c.as_slice.ensures.value
     (not_zero (length c.as_slice.result.now) (sym c.is_empty.ensures ∙ c.if-is_empty.false)) in
@@ -21,7 +22,7 @@ returns-clause-steps g c =
     let walk : IsWalk r.index.now (counted (r.walked + c.take_certain-walked.result))
     (map view_of_candidate kept)
     c.take_certain-walked.new.ahead = c.take_certain-walked.ensures.walked r.index.now r.walked
-    c.self.invariant.3 in
+    c.self.invariant.4 in
     let given : IsWalk r.index.now (counted (r.walked + c.take_certain-walked.result))
     (view_of_candidate c.remove.result ∷ map view_of_candidate (remove kept 0))
     c.take_certain-walked.new.ahead =
@@ -60,8 +61,9 @@ returns-clause-goes g c = record {
 pub returns-then-is_empty-clause-steps : goal.returns-then-is_empty-clause-steps
 returns-then-is_empty-clause-steps g c =
     let r = c.self.inside in
-    let living : List ℕ → ℕ = λ key. g.V.Values.living r.values.now r.table key r.now in
-    let value : List ℕ → ℕ = λ key. g.V.Values.summed r.values.now r.table key r.col r.now in
+    let living : List ℕ → ℕ = λ key. g.V.Values.living r.values.now r.wanted.table key r.wanted.now in
+    let value : List ℕ → ℕ = λ key. g.V.Values.summed r.values.now r.wanted.table key
+    r.wanted.col r.wanted.now in
     let none = gives_none living value r.left
     (map view_of_candidate c.take_certain-walked.new.candidates.items)
     c.take_certain-walked.new.ahead (length-map c.take_certain-walked.new.candidates.items
@@ -71,7 +73,7 @@ returns-then-is_empty-clause-steps g c =
     let walk : IsWalk r.index.now (counted (r.walked + c.take_certain-walked.result))
     (map view_of_candidate c.take_certain-walked.new.candidates.items)
     c.take_certain-walked.new.ahead = c.take_certain-walked.ensures.walked r.index.now r.walked
-    c.self.invariant.3 in (
+    c.self.invariant.4 in (
       (ap (λ v. v.left) (sym c.self.view_is) ∙ sym c.take_certain-walked.ensures.same ∙ none, none),
       ap (λ v. v.index) c.self.view_is,
       record {
