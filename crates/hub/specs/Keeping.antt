@@ -1,7 +1,9 @@
 -- What an append does to all that lies under the lock.
-use Rattle.std.specs.Prelude.{◌≡◌, ℕ, false, List, [], ◌∷◌}
+use Rattle.std.specs.Prelude.{◌≡◌, ℕ, true, false, List, [], ◌∷◌}
+use Rattle.std.specs.List.{All}
 use Rattle.agg_types.specs.declared.event.What.{What}
 use Rattle.agg_types.specs.declared.event.What.TheVariants.{Leave}
+use Rattle.hub.specs.Freeing.{IsFreeing}
 use Rattle.hub.specs.History.{Beginning, longer_by}
 use Rattle.hub.specs.Kept.{Kept}
 use Rattle.hub.specs.Posts.{Follows, IsNotNext, Seated, ShowsBatch, SitsDown}
@@ -16,10 +18,14 @@ ShowsSame k k' = (k'.shown ≡ k.shown) × (k'.stuck ≡ k.stuck)
 abbrev pub AddsBatch : Kept → Kept → Seated → List What → Type 0
 AddsBatch k k' p whats = k'.all ≡ longer_by k.all (numbered p.seat p.number whats)
 
--- no batch is appended while a showing is refused; else it is, and the ticket is for all
+-- while a showing is refused nothing is appended but what frees memory
+abbrev pub MayAppend : Kept → List What → Type 0
+MayAppend k whats = k.stuck ≡ true → All IsFreeing whats
+
+-- a batch that may be is appended, and the ticket is for all
 pub record IsAppended (k k' : Kept) (p : Seated) (whats : List What) (ticket : Beginning) : Type 0
   where
-    pub runs : k.stuck ≡ false
+    pub may : MayAppend k whats
     pub adds : AddsBatch k k' p whats
     pub all : k'.all ≡ ticket
 

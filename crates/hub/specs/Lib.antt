@@ -8,6 +8,7 @@ pub mod Begun
 pub mod Roll
 pub mod Sitting
 pub mod Posts
+pub mod Freeing
 pub mod Kept
 pub mod Keeping
 pub mod Views

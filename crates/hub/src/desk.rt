@@ -1,7 +1,9 @@
 //! What lies under the lock: the whole history, what of it the press took, and the press itself
 //! while nobody publishes.
 
-ghost use Rattle.std.specs.Prelude.{◌≡◌, ◌<◌, ◌≤◌, ◌^◌, [], false, not, true, IfOk, IfSome};
+ghost use Rattle.std.specs.Prelude.{◌≡◌, ◌<◌, ◌≤◌, ◌^◌, [], false, length, not, true, IfOk};
+ghost use Rattle.std.specs.Prelude.{IfSome};
+ghost use Rattle.agg_types.specs.declared.limits.TheConstants.{MOST_SEATS};
 ghost use Rattle.left_right.specs.Sides.{view};
 ghost use Rattle.fleet_model.specs.Machine.{opened};
 ghost use Rattle.hub.specs.Copied.{whole};
@@ -16,6 +18,7 @@ use crate::idle::Idle;
 use crate::log::Front;
 use crate::naming::Naming;
 use crate::press::Press;
+use crate::progress::Progress;
 use crate::receipt::{Receipt, Showing, Ticket};
 use crate::roll::Roll;
 use crate::store::hang;
@@ -36,13 +39,18 @@ pub struct Desk<J: Naming, R: Wait + Drop> {
     front: Front,
     // The beginning of it that the press took.
     from: Front,
-    // What was appended since. It has room for a Leave of each seat that sits.
+    // What was appended since. It has room for a Leave of each seat that sits, and as a rule for
+    // some batches that free memory.
     queue: VecDeque<Logged>,
     roll: Roll,
     // How many seats sit.
     sitting: usize,
     shown: Showing,
     stuck: bool,
+    // Whether the reserve was away when the press was laid back.
+    short: bool,
+    // Whether a thread watches a look that holds the next round up.
+    watched: bool,
     // How often the press was taken.
     rounds: u64,
     idle: Vec<Idle<J>>,
@@ -69,7 +77,8 @@ impl<J: Naming, R: Wait + Drop> Model for Desk<J, R> {
 }
 
 impl<J: Naming, R: Wait + Drop> Desk<J, R> {
-    /// Whether the last showing was refused. Then nothing but Leaves is appended.
+    /// Whether the last showing was refused. Then nothing but Leaves and what frees memory is
+    /// appended.
     pub fn is_stuck(&self) -> bool
         ensures { result ≡ self.now.stuck }
     {
@@ -86,15 +95,57 @@ impl<J: Naming, R: Wait + Drop> Desk<J, R> {
         self.rounds
     }
 
+    /// Whether this thread is the one that watches a look that holds the next round up. There is
+    /// at most one at a time, and none while somebody publishes.
+    pub fn begin_watch(&mut self) -> bool
+        ensures { self.new ≡ self.old }
+    {
+        if self.watched || self.press.is_none() {
+            return false;
+        }
+        self.watched = true;
+        true
+    }
+
+    /// The thread that watched doesn't any more.
+    pub fn end_watch(&mut self)
+        ensures { self.new ≡ self.old }
+    {
+        self.watched = false;
+    }
+
     /// The number of the round that shows a ticket's list, if it isn't shown yet.
     pub fn round_of(&self, ticket: &Ticket) -> u64
         requires { ticket.now.of ≡ J.book }
     {
-        if ticket.front().compare(&self.from) {
+        if self.press.is_none() && ticket.front().compare(&self.from) {
             self.rounds
         } else {
             self.rounds.wrapping_add(1)
         }
+    }
+
+    /// How far showing has come.
+    pub fn progress(&self) -> Progress
+        ensures appended { result.appended ≡ length self.now.all.events }
+        ensures shown { result.shown ≡ length self.now.shown.events }
+    {
+        Progress {
+            appended: self.front.len(),
+            shown: self.shown.len(),
+            rounds: self.rounds,
+            is_publishing: self.press.is_none(),
+        }
+    }
+
+    /// Whether memory is short: the last showing was refused, or the reserve was away behind it.
+    fn is_short(&self) -> bool
+        ensures { result ≡ false → self.now.stuck ≡ false }
+    {
+        if self.stuck {
+            return true;
+        }
+        self.short
     }
 
     /// A ticket for the whole history.
@@ -142,6 +193,7 @@ impl<J: Naming, R: Wait + Drop> Desk<J, R> {
         }
         self.shown = press.showing();
         self.stuck = !showed;
+        self.short = !press.has_reserve();
         self.press = Some(press);
     }
 
@@ -191,7 +243,7 @@ impl<J: Naming, R: Wait + Drop> Desk<J, R> {
         ensures { IfOk result (λ d. IsOpened d front) }
     {
         let roll = Roll::new(alloc, first.config().peers.len())?;
-        let queue = VecDeque::with_capacity(alloc, MOST_SEATS)?;
+        let queue = VecDeque::with_capacity(alloc, 2 * MOST_SEATS)?;
         let press = Press::new(alloc, own, first, second, front.again(), places)?;
         let filled = seat_readers(alloc, press, places)?;
         let (press, idle) = filled;
@@ -205,11 +257,21 @@ impl<J: Naming, R: Wait + Drop> Desk<J, R> {
             sitting: 0,
             shown,
             stuck: false,
+            short: false,
+            watched: false,
             rounds: 0,
             idle,
             press: Some(press),
         })
     }
+}
+
+/// How much room a queue keeps for batches that free memory, of which each takes two places. None
+/// is kept while memory is short, since then it is for these.
+fn set_aside(short: bool) -> usize
+    ensures { result ≤ MOST_SEATS }
+{
+    if short { 0 } else { MOST_SEATS }
 }
 
 // Readers for all places.

@@ -26,7 +26,8 @@ pub enum AppendFault {
     Replaced { by: u64, now: Ticket },
     /// The list of `now` has `found` events of this seat, and the pass's number is another.
     NotNext { found: u64, now: Ticket },
-    /// An allocation failed, or the last batch that was appended couldn't be shown.
+    /// An allocation failed, or memory is short and not all of the batch frees some: the reserve
+    /// couldn't be had again, or the last showing was refused.
     NoMemory,
     /// The seat's numbers don't go as far.
     Spent,

@@ -17,15 +17,17 @@ use crate::desk::Desk;
 use crate::faults::{AppendFault, LensFault, PostFault, SeatFault};
 use crate::lens::Lens;
 use crate::log::{Front, Log};
+use crate::looks::Looks;
 use crate::naming::Naming;
 use crate::pass::Pass;
+use crate::progress::Progress;
 use crate::receipt::{Receipt, Ticket};
 use crate::store::hang;
 use agg_types::{Config, LentWhat, NoMemory, What, Whats};
 use book::Book;
 use std::alloc::Global;
 use std::marker::Model;
-use std::sync::{Condvar, Mutex, Wait};
+use std::sync::{Arc, Condvar, Mutex, Wait};
 
 mod rounds;
 
@@ -116,6 +118,8 @@ pub struct Hub<J: Naming, R: Wait + Drop> {
     // Who waits for a round waits here, by whether its number is even or odd.
     even: Condvar,
     odd: Condvar,
+    // Which looks the next round would wait for: a hint.
+    looks: Arc<Looks, Global>,
 }
 
 impl<J: Naming, R: Wait + Drop> Drop for Hub<J, R> {
@@ -128,6 +132,7 @@ impl<J: Naming, R: Wait + Drop> Drop for Hub<J, R> {
             desk: _,
             even: _,
             odd: _,
+            looks: _,
         } = self;
     }
 }
@@ -146,6 +151,11 @@ impl<J: Naming, R: Wait + Drop> Model for Hub<J, R> {
 
 impl<J: Naming, R: Wait + Drop> Hub<J, R> {
     /// A hub with places for so many lenses, 1 to 1,000. Dropping it waits for looks that last.
+    ///
+    /// It keeps a block of 36 MB that is never written, so that nothing of it is resident, and
+    /// gives that up where an allocation fails while a batch is shown. While it can't have it
+    /// again, or a showing stands refused, batches are refused with NoMemory; those of moments,
+    /// clears and dropped filters alone are not, since they free memory.
     pub fn new(
         alloc: Global,
         own: R,
@@ -156,6 +166,9 @@ impl<J: Naming, R: Wait + Drop> Hub<J, R> {
         requires places { (0 < places) × (places ≤ 1000) }
         ensures { IfOk result (λ h. h ≡ opening) }
     {
+        let Ok(looks) = Arc::new(alloc, Looks::new()) else {
+            return Err(NoMemory);
+        };
         let (first, second, config, log, start) = opening.into_parts();
         let desk = Desk::new(alloc, own, first, second, start.again(), places)?;
         Ok(Hub {
@@ -166,6 +179,7 @@ impl<J: Naming, R: Wait + Drop> Hub<J, R> {
             desk: Mutex::new(desk),
             even: Condvar::new(),
             odd: Condvar::new(),
+            looks,
         })
     }
 
@@ -200,8 +214,9 @@ impl<J: Naming, R: Wait + Drop> Hub<J, R> {
     }
 
     /// Takes a seat. Seats are numbered from 0, each number is given once, and at most `MOST_SEATS`
-    /// sit at a time. It waits for no look, but where the last showing was refused: it tries that
-    /// again first.
+    /// sit at a time. It waits for no look. Where the last showing was refused it tries that again
+    /// first, and answers NoMemory where it is refused again, where a look is in the way of it, or
+    /// another thread.
     pub fn seat<W: Wait>(&self, rt: &W) -> Result<Pass, SeatFault>
         ensures { IfOk result (λ p. SitsDown p × Follows self.now p.seen) }
     {
@@ -312,6 +327,13 @@ impl<J: Naming, R: Wait + Drop> Hub<J, R> {
         Err((pass, PostFault::NotNext { found, shown }))
     }
 
+    /// How far showing has come: for a watch that finds a hub that shows nothing any more. It takes
+    /// the lock for microseconds, waits for nobody else, and takes no memory.
+    pub fn progress<W: Wait>(&self, rt: &W) -> Progress {
+        let desk = self.desk.lock(rt);
+        desk.progress()
+    }
+
     /// Its history is the one that its name names.
     pub fn has_one_history(&self)
         ensures { self.now.of ≡ J.book }
@@ -325,9 +347,12 @@ impl<J: Naming, R: Wait + Drop> Hub<J, R> {
         ensures { IfOk result (λ l. l ≡ record { seen = self.now; inside = false }) }
     {
         for _ in rt.forever() {
+            let Ok(looks) = Arc::try_clone(&self.looks) else {
+                return Err(LensFault::NoMemory);
+            };
             let mut desk = self.desk.lock(rt);
             if let Some(reader) = desk.reader() {
-                return Ok(Lens::new(reader, Receipt::first(&self.start)));
+                return Ok(Lens::new(reader, Receipt::first(&self.start), looks));
             }
             if desk.has_press() {
                 return Err(LensFault::NoPlace);

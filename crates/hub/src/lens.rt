@@ -13,30 +13,38 @@ ghost use Rattle.hub.specs.Views.{IsBookOf, Learns};
 
 use crate::copies::Sight;
 use crate::hand::{HubReader, HubReading};
+use crate::looks::Looks;
 use crate::receipt::Receipt;
 use agg_types::NoMemory;
 use book::Book;
 use set_changes::Change;
+use std::alloc::Global;
 use std::marker::Model;
+use std::sync::Arc;
 
 /// A copy that was entered.
 struct Visit {
     reading: HubReading,
+    // The turn at which the look is counted.
+    turn: u64,
 }
 
 impl Drop for Visit {
     fn drop(self) {
-        let Visit { reading } = self;
+        let Visit { reading, turn: _ } = self;
         reading.leave();
     }
 }
 
 impl Visit {
-    fn leave(self) -> HubReader
+    // The reader, and the look is counted no more.
+    fn leave(self, looks: &Looks) -> HubReader
         ensures { view result.place ≡ view self.reading.place }
     {
-        let Visit { reading } = self;
-        reading.leave()
+        let Visit { reading, turn } = self;
+        let reader = reading.leave();
+        looks.end(turn);
+        reader
     }
 }
 
@@ -46,15 +54,20 @@ pub struct Lens {
     visit: Option<Visit>,
     // For the list that it has seen.
     seen: Receipt,
+    looks: Arc<Looks, Global>,
 }
 
 impl Drop for Lens {
     fn drop(self) {
         let Lens {
             reader: _,
-            visit: _,
+            visit,
             seen: _,
+            looks,
         } = self;
+        if let Some(visit) = visit {
+            visit.leave(&looks);
+        }
     }
 }
 
@@ -123,7 +136,7 @@ impl Lens {
     ghost use Rattle.hub.specs.Looking.{Rests};
 
     /// A lens that has seen this list, over a reader that was told of its log.
-    pub(crate) fn new(reader: HubReader, seen: Receipt) -> Lens
+    pub(crate) fn new(reader: HubReader, seen: Receipt, looks: Arc<Looks, Global>) -> Lens
         requires { IsTold seen.of (view reader.place) }
         ensures { result ≡ record { seen = seen; inside = false } }
     {
@@ -131,6 +144,7 @@ impl Lens {
             reader: Some(reader),
             visit: None,
             seen,
+            looks,
         }
     }
 
@@ -175,12 +189,27 @@ impl Lens {
         ensures { self.new ≡ record { seen = self.old.seen; inside = false } }
     {
         if let Some(visit) = self.visit.take() {
-            self.reader = Some(visit.leave());
+            self.reader = Some(visit.leave(&self.looks));
         }
     }
 
+    // Enters the copy that is shown, if it has all that this lens has seen. The look is counted
+    // from before the copy is entered until it is left.
+    fn count_in(&mut self) -> bool
+        ensures inside { result ≡ self.new.inside }
+        ensures seen { MatchBool result (Follows self.old.seen self.new.seen)
+            (self.new.seen ≡ self.old.seen) }
+    {
+        let turn = self.looks.begin();
+        if self.enter(turn) {
+            return true;
+        }
+        self.looks.end(turn);
+        false
+    }
+
     // Enters the copy that is shown, if it has all that this lens has seen.
-    fn enter(&mut self) -> bool
+    fn enter(&mut self, turn: u64) -> bool
         ensures inside { result ≡ self.new.inside }
         ensures seen { MatchBool result (Follows self.old.seen self.new.seen)
             (self.new.seen ≡ self.old.seen) }
@@ -205,7 +234,7 @@ impl Lens {
                     return false;
                 }
                 self.seen = found;
-                self.visit = Some(Visit { reading });
+                self.visit = Some(Visit { reading, turn });
                 true
             }
         }
@@ -219,7 +248,7 @@ impl Lens {
             (λ k. (k.lens.ghost_name ≡ self.entry.ghost_name) × (k.lens.now.inside ≡ true)
             × Follows self.old.seen k.lens.now.seen) }
     {
-        if self.enter() {
+        if self.count_in() {
             Some(Look { lens: self })
         } else {
             None

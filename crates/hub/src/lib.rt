@@ -14,7 +14,11 @@
 //! A pass keeps another owner of its last two batches. Once both copies have taken one of them, its
 //! list comes back to the session, empty and with its room, by `Pass::take_back`.
 //!
-//! A thread that posts inside a look of its own waits for itself for ever.
+//! A thread that posts inside a look of its own waits for itself for ever. `Hub::append` and
+//! `Hub::wait` wait for no look, as far as counts of looks tell, which are a hint.
+//!
+//! Where an allocation fails while batches are shown, a reserve is given up for it. Until there is
+//! memory again only what gives memory back is taken: moments, clears and dropped filters.
 //!
 //! No clause says that a call gets on: not that a wait ends, that memory is there, that a seat or a
 //! place is free, nor that a look isn't None.
@@ -26,6 +30,7 @@ mod copies;
 mod desk;
 mod entry;
 mod faults;
+mod freeing;
 mod hand;
 mod hub;
 mod idle;
@@ -33,10 +38,14 @@ mod last_batches;
 pub mod laws;
 mod lens;
 mod log;
+mod looks;
 mod naming;
 mod pass;
+mod patience;
 mod press;
+mod progress;
 mod receipt;
+mod reserve;
 mod roll;
 mod sitting;
 mod store;
@@ -48,5 +57,6 @@ pub use hub::{Hub, Opening};
 pub use lens::{Lens, Look};
 pub use naming::Naming;
 pub use pass::Pass;
+pub use progress::Progress;
 pub use receipt::{Receipt, Ticket};
 pub use set_changes::Change;

@@ -1,7 +1,7 @@
 //! The right to publish. Whoever has the press shows readers what it took, and holds no lock.
 
 ghost use Rattle.std.specs.Prelude.{◌≡◌, ◌<◌, ◌≤◌, ◌^◌, ◌++◌, [], drop, true, if◌then◌else◌};
-ghost use Rattle.std.specs.Prelude.{IfOk, IfSome, MatchBool, MatchOption};
+ghost use Rattle.std.specs.Prelude.{length, IfOk, IfSome, MatchBool, MatchOption};
 ghost use Rattle.std.specs.VecDeque.{deque_len, deque_capacity};
 ghost use Rattle.agg_types.specs.declared.limits.TheConstants.{MOST_SEATS};
 ghost use Rattle.left_right.specs.Sides.{view};
@@ -15,6 +15,7 @@ use crate::idle::Idle;
 use crate::log::Front;
 use crate::naming::Naming;
 use crate::receipt::Showing;
+use crate::reserve::Reserve;
 use agg_types::{MOST_SEATS, NoMemory};
 use book::Book;
 use left_right::writer::Writer;
@@ -29,9 +30,11 @@ use std::sync::Wait;
 #[derive(Drop)]
 pub struct Press<J: Naming, R: Wait + Drop> {
     hand: Hand<R>,
-    // What was taken and not yet handed to the writer. It has room for a Leave of each seat.
+    // What was taken and not yet handed to the writer. It has room for a Leave of each seat, and as
+    // much again for what frees memory.
     queue: VecDeque<Logged>,
     taken: Front,
+    reserve: Reserve,
     of: PhantomData<J>,
 }
 
@@ -89,8 +92,69 @@ impl<J: Naming, R: Wait + Drop> Press<J, R> {
         true
     }
 
-    /// Shows readers all that was taken, if there is memory for it. It waits for those that are
-    /// still inside the copy that isn't shown.
+    /// Shows readers all that was taken, if there is memory for it. Where there is none it gives up
+    /// the reserve and tries once more. Once all is shown it takes the reserve again if that can be
+    /// had. It waits for those that are still inside the copy that isn't shown.
+    pub fn show_all<W: Wait>(self, rt: &W) -> (Press<J, R>, bool)
+        ensures taken { result.0.taken ≡ self.taken }
+        ensures shown { result.0.shown ≡ (if result.1 then whole self.taken else self.shown) }
+    {
+        let (press, showed) = self.try_twice(rt);
+        if !showed {
+            return (press, false);
+        }
+        (press.with_reserve(), true)
+    }
+
+    fn try_twice<W: Wait>(self, rt: &W) -> (Press<J, R>, bool)
+        ensures taken { result.0.taken ≡ self.taken }
+        ensures shown { result.0.shown ≡ (if result.1 then whole self.taken else self.shown) }
+    {
+        let (press, showed) = self.publish(rt);
+        if showed || !press.has_reserve() {
+            return (press, showed);
+        }
+        press.without_reserve().publish(rt)
+    }
+
+    // Gives up the reserve.
+    fn without_reserve(self) -> Press<J, R>
+        ensures { result ≡ self }
+    {
+        let mut press = self;
+        let rows = press.rows();
+        press.reserve.give_up(rows);
+        press
+    }
+
+    // Takes the reserve again where it was given up, if it can be had.
+    fn with_reserve(self) -> Press<J, R>
+        ensures { result ≡ self }
+    {
+        let mut press = self;
+        if !press.reserve.is_due() {
+            return press;
+        }
+        let rows = press.rows();
+        press.reserve.take_again(rows);
+        press
+    }
+
+    /// Whether it has the reserve. While it hasn't memory is short.
+    pub fn has_reserve(&self) -> bool {
+        self.reserve.is_had()
+    }
+
+    // How many rows are shown, over all tables and peers.
+    fn rows(&self) -> u64 {
+        let shown = self.hand.writer.published();
+        if shown.has_part() {
+            return 0;
+        }
+        count_rows(shown.book())
+    }
+
+    /// Shows readers all that was taken, if there is memory for it.
     pub fn publish<W: Wait>(self, rt: &W) -> (Press<J, R>, bool)
         ensures taken { result.0.taken ≡ self.taken }
         ensures shown { result.0.shown ≡ (if result.1 then whole self.taken else self.shown) }
@@ -99,6 +163,7 @@ impl<J: Naming, R: Wait + Drop> Press<J, R> {
             hand,
             mut queue,
             taken,
+            reserve,
             of: _,
         } = self;
         let (mut writer, own) = hand.open();
@@ -107,6 +172,7 @@ impl<J: Naming, R: Wait + Drop> Press<J, R> {
                 hand: Hand { writer, own },
                 queue,
                 taken,
+                reserve,
                 of: PhantomData,
             };
             return (press, false);
@@ -119,6 +185,7 @@ impl<J: Naming, R: Wait + Drop> Press<J, R> {
                     hand,
                     queue,
                     taken,
+                    reserve,
                     of: PhantomData,
                 };
                 (press, true)
@@ -128,6 +195,7 @@ impl<J: Naming, R: Wait + Drop> Press<J, R> {
                     hand,
                     queue,
                     taken,
+                    reserve,
                     of: PhantomData,
                 };
                 (press, false)
@@ -143,6 +211,7 @@ impl<J: Naming, R: Wait + Drop> Press<J, R> {
             hand,
             queue,
             taken,
+            reserve,
             of: _,
         } = self;
         let (mut writer, own) = hand.open();
@@ -151,6 +220,7 @@ impl<J: Naming, R: Wait + Drop> Press<J, R> {
                 hand: Hand { writer, own },
                 queue,
                 taken,
+                reserve,
                 of: PhantomData,
             };
             return (press, None);
@@ -162,6 +232,7 @@ impl<J: Naming, R: Wait + Drop> Press<J, R> {
             hand: Hand { writer, own },
             queue,
             taken,
+            reserve,
             of: PhantomData,
         };
         (press, Some(idle))
@@ -183,7 +254,8 @@ impl<J: Naming, R: Wait + Drop> Press<J, R> {
         requires places { (0 < places) × (places < 2 ^ 32) }
         ensures { IfOk result (λ p. (p.taken ≡ front) × (p.shown ≡ whole front)) }
     {
-        let queue = VecDeque::with_capacity(alloc, MOST_SEATS)?;
+        let queue = VecDeque::with_capacity(alloc, 2 * MOST_SEATS)?;
+        let reserve = Reserve::whole(alloc)?;
         let first = Shown::new(alloc, first, front.again());
         let second = Shown::new(alloc, second, front.again());
         let writer: HubWriter = Writer::new(alloc, first, second, places)?;
@@ -193,6 +265,7 @@ impl<J: Naming, R: Wait + Drop> Press<J, R> {
                 hand: Hand { writer, own },
                 queue,
                 taken: front,
+                reserve,
                 of: PhantomData,
             }),
             Err(_) => {
@@ -201,4 +274,24 @@ impl<J: Naming, R: Wait + Drop> Press<J, R> {
             }
         }
     }
+}
+
+// How many rows a book has, over all tables and peers.
+fn count_rows(book: &Book) -> u64 {
+    let mut rows = 0u64;
+    for table in 0..book.config().tables.len() {
+        rows = rows.saturating_add(count_table(book, table));
+    }
+    rows
+}
+
+// How many rows a book has of a table, over all peers.
+fn count_table(book: &Book, table: usize) -> u64
+    requires table_in { table < length book.now.config.tables }
+{
+    let mut rows = 0u64;
+    for peer in 0..book.config().peers.len() {
+        rows = rows.saturating_add(book.rows_held(table, peer));
+    }
+    rows
 }

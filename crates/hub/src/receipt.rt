@@ -143,6 +143,13 @@ impl Showing {
         }
     }
 
+    /// How many events its list has.
+    pub fn len(&self) -> u64
+        ensures { result ≡ length self.now.events }
+    {
+        self.front.len()
+    }
+
     /// The receipt for a ticket, if its list is shown.
     pub fn receipt(&self, ticket: &Ticket) -> Option<Receipt>
         requires { ticket.now.of ≡ self.now.of }

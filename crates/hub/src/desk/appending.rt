@@ -1,6 +1,6 @@
 //! What is appended to the history.
 
-ghost use Rattle.std.specs.Prelude.{◌≡◌, ◌<◌, ◌+◌, length, false, Some, MatchOption};
+ghost use Rattle.std.specs.Prelude.{◌≡◌, ◌<◌, ◌+◌, length, Some, MatchOption};
 ghost use Rattle.std.specs.Prelude.{MatchResult, ◌≤◌, IsTrue, IsFalse};
 ghost use Rattle.std.specs.BTreeMap.{is_at};
 ghost use Rattle.std.specs.List.{All};
@@ -9,13 +9,14 @@ ghost use Rattle.std.specs.Ordering.{nat_cmp};
 ghost use Rattle.agg_types.specs.declared.limits.TheConstants.{NUMBERS_END};
 ghost use Rattle.fleet_model.specs.Seats.{numbered};
 ghost use Rattle.hub.specs.History.{longer_by, own};
-ghost use Rattle.hub.specs.Keeping.{IsAppended, ShowsSame};
+ghost use Rattle.hub.specs.Keeping.{IsAppended, MayAppend, ShowsSame};
 ghost use Rattle.hub.specs.Posts.{AppendRefused, Appends, FindsReplaced, Follows, NoneReplaced};
 ghost use Rattle.hub.specs.Posts.{advanced};
 ghost use Rattle.hub.specs.Roll.{MayPost};
 
-use super::Desk;
+use super::{Desk, set_aside};
 use crate::faults::AppendFault;
+use crate::freeing::frees_all;
 use crate::log::Log;
 use crate::naming::Naming;
 use crate::pass::Pass;
@@ -79,7 +80,8 @@ impl<J: Naming, R: Wait + Drop> Desk<J, R> {
         ensures pass { MatchResult result (λ _. pass.new ≡ advanced pass.old (length whats))
             (λ _. pass.new ≡ pass.old) }
     {
-        let Ok(()) = self.queue.reserve(self.sitting + 2) else {
+        let aside = set_aside(self.short);
+        let Ok(()) = self.queue.reserve(self.sitting + 2 + aside) else {
             return Err(whats);
         };
         let run = pass.batch(whats)?;
@@ -92,6 +94,16 @@ impl<J: Naming, R: Wait + Drop> Desk<J, R> {
             run,
         );
         Ok(())
+    }
+
+    /// Whether a batch isn't taken, since memory is short and not all of the batch frees some.
+    fn refuses(&self, whats: &Whats) -> bool
+        ensures { IsFalse result → MayAppend self.now whats.now }
+    {
+        if !self.is_short() {
+            return false;
+        }
+        !frees_all(whats)
     }
 
     /// Adds a batch to the history, where it may stand there.
@@ -111,7 +123,7 @@ impl<J: Naming, R: Wait + Drop> Desk<J, R> {
         ensures told { MatchResult result (Appends pass.old pass.new whats)
             (λ refused. AppendRefused pass.old pass.new whats refused.0 refused.1) }
     {
-        if self.stuck {
+        if self.refuses(&whats) {
             return Err((AppendFault::NoMemory, whats));
         }
         let found = self.count_of(rt, pass);
@@ -139,7 +151,7 @@ impl<J: Naming, R: Wait + Drop> Desk<J, R> {
     ) -> Result<Ticket, (AppendFault, Whats)>
         requires log { log.now ≡ J.book }
         requires pass { pass.old.seen.of ≡ J.book }
-        requires runs { self.old.stuck ≡ false }
+        requires may { MayAppend self.old whats }
         requires follows { Follows pass.old.seen self.old.all }
         requires owns { length (own pass.old.seat self.old.all.events) ≡ pass.old.number }
         requires fits { All (MayPost self.old.all.config) whats }

@@ -14,7 +14,7 @@ ghost use Rattle.hub.specs.Keeping.{IsBehind, IsLeft, ShowsSame, SitsDownIn};
 ghost use Rattle.hub.specs.Posts.{Follows, NoneReplaced};
 ghost use Rattle.hub.specs.Sitting.{sits_new};
 
-use super::Desk;
+use super::{Desk, set_aside};
 use crate::faults::SeatFault;
 use crate::log::Log;
 use crate::naming::Naming;
@@ -61,7 +61,8 @@ impl<J: Naming, R: Wait + Drop> Desk<J, R> {
         }
         let seat = self.roll.next_seat();
         let _count = self.front.len();
-        let Ok(()) = self.queue.reserve(self.sitting + 2) else {
+        let aside = set_aside(self.short);
+        let Ok(()) = self.queue.reserve(self.sitting + 2 + aside) else {
             return Err(SeatFault::NoMemory);
         };
         let Ok(()) = self.roll.sit() else {
