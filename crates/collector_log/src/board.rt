@@ -61,7 +61,8 @@ pub struct Board {
     posts: AtomicU64,
     seats: AtomicU64,
     refused: AtomicU64,
-    // the moment of the timer's last turn, in ms, and one; 0 before the first
+    // the moment of the timer's first turn, or since when its last post is shown, in ms, and one;
+    // 0 before
     turned: AtomicU64,
     rates: Rates,
 }
@@ -150,13 +151,23 @@ impl Board {
         self.refused.fetch_add(count, Ordering::SeqCst);
     }
 
-    /// The timer is about to post at a moment, in ms: what it posted before is shown.
+    /// The timer is about to post at a moment, in ms.
     pub fn tick<R: Wait>(&self, rt: &R, now: u64) {
-        self.turned.store(now.saturating_add(1), Ordering::SeqCst);
+        let _ = self.turned.compare_exchange(
+            0,
+            now.saturating_add(1),
+            Ordering::SeqCst,
+            Ordering::SeqCst,
+        );
         self.rates.count(rt, now, self.updates());
     }
 
-    /// When the timer was about to post last, in ms.
+    /// A moment was posted, and is shown at this one, in ms.
+    pub fn post_moment(&self, now: u64) {
+        self.turned.store(now.saturating_add(1), Ordering::SeqCst);
+    }
+
+    /// When the last moment was posted, in ms; before the first when one was about to be.
     pub fn last_turn(&self) -> Option<u64> {
         self.turned.load(Ordering::SeqCst).checked_sub(1)
     }

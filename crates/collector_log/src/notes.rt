@@ -204,6 +204,7 @@ impl<'a, R: Clock + Wait + Memory> Gate for Notes<'a, R> {
             News::Posted(peer, updates) => self.board.post(peer, updates, self.clock.moment()),
             News::Defined(peer, definition) => self.defined(peer, definition),
             News::Gone(gone) => self.gone(gone),
+            News::Ticked => self.board.post_moment(self.clock.moment()),
             News::Sat => self.board.sit(),
             News::Left => self.board.leave(),
             News::TurnedAway(address) => {

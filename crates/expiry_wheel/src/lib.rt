@@ -9,7 +9,7 @@
 //! entries first on a tie.
 //!
 //! Ends of rows and changes of filters are planned by place (`place_plans`), so `Wheel` and `Due`
-//! run in tests and benches only.
+//! run in tests only.
 //!
 //! No clause says what a call costs, nor that a wheel has levels: docs/PERFORMANCE.md has figures.
 #![tactic(auto)]

@@ -1,6 +1,6 @@
 //! Connections of peers and the book of the fleet, one step at a time, in one thread.
 //!
-//! `replay` and `bench` drive it. A `Fleet` represents the steps that were done, and its book
+//! `replay` drives it. A `Fleet` represents the steps that were done, and its book
 //! answers what recomputing from all their events gives, but for the last of them, which wait where
 //! an allocation failed. `Fleet::step` promises what each step sends, which fault it answers, and
 //! that nothing but its own events waits behind it. A step may also tell a connection what has

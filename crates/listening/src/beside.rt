@@ -48,6 +48,10 @@ impl<'d, 'v, 'w, S: Source + Drop, W: Write + Drop, D: Doors<S, W>, V: Visits, F
         self.doors.seated(source);
     }
 
+    fn keeps_clock(&self) -> bool {
+        self.doors.keeps_clock()
+    }
+
     fn threads_beside(&self) -> u64 {
         self.visits.threads().saturating_add(1)
     }

@@ -12,9 +12,8 @@ use crate::door::Door;
 use crate::gate::{Gate, News, Place};
 use crate::served::{Faulted, Served};
 use crate::source::Source;
-use crate::status::Status;
-use agg_types::{Config, NoMemory};
-use book::Book;
+use crate::timing::Timing;
+use agg_types::Config;
 use hub::{Hub, Naming, Pass};
 use std::alloc::Global;
 use std::io::Write;
@@ -72,6 +71,13 @@ pub trait Doors<S: Source + Drop, W: Write + Drop> {
     /// A connection of a peer has its seat.
     fn seated(&self, _source: &S) {}
 
+    /// Whether the clock goes on for want of memory: behind a timer that ended since memory was
+    /// lacking another one is begun, after a rest and with a seat of its own, as long as a door is
+    /// open. Where this isn't so, the first timer that ends is the last.
+    fn keeps_clock(&self) -> bool {
+        false
+    }
+
     /// How many threads serve what else comes in.
     fn threads_beside(&self) -> u64 {
         0
@@ -111,31 +117,6 @@ struct Connection<'a, S: Source + Drop, W: Write + Drop, D: Doors<S, W>> {
     ghost blank: { W.contents caller.writer ≡ D.blank },
 }
 
-/// The gate of the timer, which also ends once both doors have closed.
-#[derive(Drop)]
-struct TimerGate<'a, G> {
-    gate: &'a G,
-    counts: &'a Counts,
-}
-
-impl<'a, G: Gate> Gate for TimerGate<'a, G> {
-    fn turn(&self, place: Place) {
-        self.gate.turn(place);
-    }
-
-    fn stop(&self) -> bool {
-        self.gate.stop() || self.counts.are_done()
-    }
-
-    fn tell(&self, place: Place, news: News<'_>) {
-        self.gate.tell(place, news);
-    }
-
-    fn status(&self, book: &Book, status: Status, out: &mut Vec<u8>) -> Result<(), NoMemory> {
-        self.gate.status(book, status, out)
-    }
-}
-
 /// What serves connections, whatever it stands on and they are.
 trait Workers<K> {
     /// The next connection of a peer. None closes this door.
@@ -164,14 +145,6 @@ trait Workers<K> {
 
     /// Serves what else comes in until both doors have closed. Each of these threads does so.
     fn beside(&self);
-}
-
-// Whether a worker that has ended gave its seat back.
-fn has_left(ended: &Result<Served, Faulted>) -> bool {
-    match ended {
-        Ok(served) => served.left.is_some(),
-        Err(faulted) => faulted.served.left.is_some(),
-    }
 }
 
 /// What all workers of a collector share.
@@ -231,9 +204,10 @@ impl<'a, J: Naming, H: Wait + Drop, C: Clock, G: Gate, D> Collector<'a, J, H, C,
     {
         let Caller { source, writer } = caller;
         let mut link = Link { source, writer };
+        let is_seated = pass.is_some();
         let ended = self.context(rt).serve_session(&mut link, pass);
         self.counts.count(ended.is_ok());
-        if has_left(&ended) {
+        if is_seated {
             self.gate.tell(Place::Session(None), News::Left);
         }
         let Link { source, writer } = link;
@@ -312,15 +286,12 @@ impl<
         let door = doors.door(&link.source);
         let ended = self.context(rt).serve_admin(&mut link, lens, pass, door);
         self.counts.count(ended.is_ok());
-        if has_left(&ended) {
-            self.gate.tell(Place::Admin, News::Left);
-        }
+        self.gate.tell(Place::Admin, News::Left);
         let Link { source, writer } = link;
         doors.part_admin(self.hub.config(), source, writer, door, ended);
     }
 
     // Its seat is taken first; then connections are served.
-    #[tactic(auto, using(crate::proofs::Timed::was_timed))]
     fn timer<R: Wait>(&self, rt: &R) {
         let Ok(pass) = self.hub.seat(rt) else {
             self.counts.give_up();
@@ -328,19 +299,15 @@ impl<
         };
         self.gate.tell(Place::Timer, News::Sat);
         self.counts.begin_to_serve();
-        let gate = TimerGate {
-            gate: self.gate,
-            counts: self.counts,
-        };
-        let context = Context {
-            rt,
+        let timing = Timing {
             alloc: self.alloc,
             hub: self.hub,
             clock: self.clock,
-            gate: &gate,
+            gate: self.gate,
+            counts: self.counts,
+            goes_on: self.doors.keeps_clock(),
         };
-        let ended = context.run_timer(pass);
-        self.clock.part_timer(ended);
+        timing.run(rt, pass);
     }
 
     fn threads_beside(&self) -> u64 {
@@ -437,10 +404,11 @@ fn open<
 
 /// Serves until both doors have closed and their workers have ended. There is one worker for each
 /// connection of a peer, four admin connections at once, what the doors serve beside them, and a
-/// timer, whose seat is taken first.
+/// timer, whose seat is taken first. Where the doors ask for it (`Doors::keeps_clock`), another
+/// timer is begun behind one that ended since memory was lacking.
 ///
 /// Where that seat is refused, or the thread of the timer, of an admin or of what is served beside
-/// them, nothing is served. Each connection that was served goes back to the doors, and the timer
+/// them, nothing is served. Each connection that was served goes back to the doors, and each timer
 /// to its clock, with what is promised of it. Which connections are served, that all go back, and
 /// what is counted no clause says: what other threads did leaves nothing here that one could name.
 pub fn serve_all<

@@ -30,6 +30,8 @@ pub enum News<'a> {
     Defined(usize, &'a Definition),
     /// The connection of a session is over.
     Gone(Gone<'a>),
+    /// A timer's moment was posted, and is shown.
+    Ticked,
     /// A worker has a seat from now on.
     Sat,
     /// A worker gave its seat back.

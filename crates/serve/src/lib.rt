@@ -38,6 +38,7 @@ mod session;
 mod source;
 mod status;
 mod timer;
+mod timing;
 mod waiting;
 mod worker;
 mod writing;

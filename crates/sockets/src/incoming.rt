@@ -6,6 +6,8 @@ ghost use Rattle.serve.specs.Sources.{IsWithin};
 use crate::greeting::Hello;
 use crate::pace::Pace;
 use crate::streams::Stream;
+use crate::ticks::Ticks;
+use crate::waiter::Waiter;
 use serve::{Came, ReadFailed, Source};
 use std::alloc::Global;
 use std::io::ErrorKind;
@@ -13,10 +15,17 @@ use std::net::SocketAddr;
 use std::sync::{Arc, Wait};
 use std::time::Clock;
 
+/// How long a read has to take, in ms, to count as held up. It waits half a second at most.
+const HELD_UP: u64 = 1000;
+
 /// What a peer or an admin sends: first what was read before it was served.
 #[derive(Drop)]
-pub struct Incoming<'a, R> {
+pub struct Incoming<'a, R: Wait> {
+    // Its place among those that wait for their hello, of a peer's until that was read. It is given
+    // up before the stream is.
+    pub(crate) waiter: Option<Waiter<'a, R>>,
     pub(crate) stream: Arc<Stream, Global>,
+    pub(crate) clock: &'a Ticks<R>,
     // Where it comes from, if from an address.
     pub(crate) sender: Option<SocketAddr>,
     // Its number among the connections of peers, 0 for an admin's.
@@ -40,7 +49,7 @@ pub struct Incoming<'a, R> {
     ghost fewer: { failed ≤ reads },
 }
 
-impl<'a, R> Incoming<'a, R> {
+impl<'a, R: Wait> Incoming<'a, R> {
     // Has what was read for its hello be what it gives first.
     pub(crate) fn begin_with(&mut self, held: Vec<u8>, hello: Hello)
         ensures { self.new.reads ≡ self.old.reads }
@@ -117,6 +126,24 @@ fn read_once(stream: &Stream, buffer: &mut [u8]) -> Result<Came, ReadFailed>
     }
 }
 
+// Reads once from a socket. A read that gave nothing and was held up, as where the process was
+// stopped and goes on, is done again: it gives what came meanwhile. So a peer isn't taken for silent
+// whose bytes lie in the socket.
+fn read_awake<R: Clock>(
+    clock: &Ticks<R>,
+    stream: &Stream,
+    buffer: &mut [u8],
+) -> Result<Came, ReadFailed>
+    ensures { IsWithin result buffer.new }
+{
+    let began = clock.moment();
+    let came = read_once(stream, buffer)?;
+    if came != Came::Nothing || clock.moment().saturating_sub(began) < HELD_UP {
+        return Ok(came);
+    }
+    read_once(stream, buffer)
+}
+
 impl<'a, R: Clock + Wait> Incoming<'a, R> {
     // Reads once from the socket: of an admin into the room for that, and gives the first line.
     fn fetch(&mut self, buffer: &mut [u8]) -> Result<Came, ReadFailed>
@@ -125,9 +152,9 @@ impl<'a, R: Clock + Wait> Incoming<'a, R> {
         ensures within { IsWithin result buffer.new }
     {
         if self.pace.is_none() {
-            return read_once(&self.stream, buffer);
+            return read_awake(self.clock, &self.stream, buffer);
         }
-        let came = read_once(&self.stream, self.held.as_mut_slice())?;
+        let came = read_awake(self.clock, &self.stream, self.held.as_mut_slice())?;
         let Came::Bytes(count) = came else {
             return Ok(came);
         };

@@ -17,6 +17,7 @@ mod sockets;
 mod streams;
 mod ticks;
 mod unknown;
+mod waiter;
 
 pub use admins::Admins;
 pub use connections::{Connections, Unasked};

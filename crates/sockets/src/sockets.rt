@@ -9,6 +9,7 @@ use crate::outgoing::Outgoing;
 use crate::pace::{Begun, Pace};
 use crate::streams::Stream;
 use crate::ticks::Ticks;
+use crate::waiter::Waiter;
 use agg_types::Config;
 use command_line::{Network, UnknownPeers, admits};
 use serve::{Caller, Door, Doors, Faulted, Served};
@@ -58,7 +59,7 @@ impl<'a, R: Clock + Wait> Sockets<'a, R> {
         &self,
         stream: Arc<Stream, Global>,
         sender: Option<SocketAddr>,
-        id: u64,
+        waiter: Option<Waiter<'a, R>>,
         begun: Option<Begun>,
     ) -> io::Result<Visitor<'a, R>> {
         stream.send_at_once()?;
@@ -70,8 +71,14 @@ impl<'a, R: Clock + Wait> Sockets<'a, R> {
             connections: self.connections,
             begun,
         };
+        let id = match &waiter {
+            None => 0,
+            Some(waiter) => waiter.id,
+        };
         let source = Incoming {
+            waiter,
             stream,
+            clock: self.clock,
             sender,
             id,
             peer: None,
@@ -98,13 +105,12 @@ impl<'a, R: Clock + Wait> Sockets<'a, R> {
         }
         let stream = Arc::new(self.alloc, stream).ok()?;
         let id = self.connections.come(rt, &stream)?;
-        match self.caller(stream, Some(sender), id, None) {
-            Ok(caller) => Some(caller),
-            Err(_) => {
-                self.connections.stop_waiting(rt, id);
-                None
-            }
-        }
+        let waiter = Waiter {
+            clock: self.clock,
+            connections: self.connections,
+            id,
+        };
+        self.caller(stream, Some(sender), Some(waiter), None).ok()
     }
 
     // An operator's connection that came. None where memory is lacking, or it is gone.
@@ -112,7 +118,7 @@ impl<'a, R: Clock + Wait> Sockets<'a, R> {
         let stream = Arc::new(self.alloc, stream).ok()?;
         let begun = Arc::new(self.alloc, AtomicU64::new(0)).ok()?;
         let mine = Arc::try_clone(&begun).ok()?;
-        let Caller { mut source, writer } = self.caller(stream, sender, 0, Some(begun)).ok()?;
+        let Caller { mut source, writer } = self.caller(stream, sender, None, Some(begun)).ok()?;
         source.held.resize(ROOM, 0).ok()?;
         source.pace = Some(Pace::new(self.clock, self.admins, mine));
         Some(Caller { source, writer })
@@ -178,7 +184,7 @@ impl<'a, R: Clock + Wait> Doors<Incoming<'a, R>, Outgoing<'a, R>> for Sockets<'a
     fn greet(&self, config: &Config, source: &mut Incoming<'a, R>) -> bool {
         let rt = &self.clock.rt;
         let Greeting { bytes, hello } = read_hello(rt, self.alloc, config, &source.stream);
-        self.connections.stop_waiting(rt, source.id);
+        source.waiter = None;
         let limit = if config.pushes.is_empty() {
             Duration::from_millis(SOCKET_LIMIT)
         } else {
@@ -195,6 +201,10 @@ impl<'a, R: Clock + Wait> Doors<Incoming<'a, R>, Outgoing<'a, R>> for Sockets<'a
         }
         source.begin_with(bytes, hello);
         matches!(hello, Hello::Of(_))
+    }
+
+    fn keeps_clock(&self) -> bool {
+        true
     }
 
     fn seated(&self, source: &Incoming<'a, R>) {
