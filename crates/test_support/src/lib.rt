@@ -1,4 +1,4 @@
-//! What test and bench programs share: configurations by their text, a hello, keys and events, a
+//! What test programs share: configurations by their text, a hello, keys and events, a
 //! source and a writer that fail.
 //!
 //! A program writes the fleet that it runs as an operator would, and not as a literal of the types:
@@ -51,10 +51,4 @@ pub fn put(alloc: Global, peer: usize, number: u32, count: u64) -> Result<What, 
 /// A batch of one event.
 pub fn alone(alloc: Global, what: What) -> Result<Whats, NoMemory> {
     Whats::alone(alloc, what)
-}
-
-/// The place at which a turn finds its key: each key in turn, and none beside its neighbour.
-pub fn scattered(turn: u32, keys: u32) -> u32 {
-    let keys = u64::from(keys.max(1));
-    (u64::from(turn).wrapping_mul(2_147_483_647) % keys) as u32
 }

@@ -1,6 +1,0 @@
-use Rattle.std.proofs.Common.{◌≡◌}
-use Rattle.bench.proofs.posting.shared.post_share.Given as goal
-
--- the pass stays one of this hub
-abbrev pub invariant-loop-number : goal.invariant-loop-number
-invariant-loop-number g l = l.pass.seen.of ≡ l.hub.of
