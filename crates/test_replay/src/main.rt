@@ -5,8 +5,8 @@
 //! fails, one whose output is watched as it is read, and scripts with lines of 10 MB, with how each
 //! ends.
 //!
-//! Last come the steps of a fleet itself. `test_replay again` runs them alone, and
-//! `tools/refuse_growths.py` lets each allocation of that run fail in turn.
+//! Last come the steps of a fleet itself, one by one and then as one run. `test_replay again` makes
+//! them one by one alone, and `tools/refuse_growths.py` lets each allocation of that fail in turn.
 #![tactic(auto)]
 
 mod failing;
@@ -35,9 +35,11 @@ fn is_again(rt: &HostRuntime) -> Result<bool> {
 }
 
 fn main(rt: HostRuntime) -> Result<()> {
-    if !is_again(&rt)? {
-        protocol::run(&rt)?;
-        replay_all(&rt)?;
+    if is_again(&rt)? {
+        return steps::show(&rt);
     }
-    steps::show(&rt)
+    protocol::run(&rt)?;
+    replay_all(&rt)?;
+    steps::show(&rt)?;
+    steps::show_whole(&rt)
 }

@@ -7,6 +7,7 @@ ghost use Rattle.std.specs.Prelude.{◌≡◌, IfOk};
 ghost use Rattle.fleet_core.specs.Possible.{does_fit};
 
 mod deeds;
+mod whole;
 
 use crate::steps::deeds::{Deed, step};
 use agg_types::NoMemory;
@@ -15,6 +16,7 @@ use book::Book;
 use fleet_core::{Fleet, FleetFault, Replies, Step};
 use std::alloc::Global;
 use test_support::{HELLO, TWO_PROXIES, config};
+pub use whole::show_whole;
 
 /// The hello of the second proxy, with its first definition and update.
 const SECOND: &[u8] = b"HAProxyS 2.1\nagg\nlb2 200 1\n\
@@ -39,7 +41,7 @@ const AGAIN: &[u8] = b"HAProxyS 2.1\nagg\nlb1 101 1\n\
 const TOO_LONG: &[u8] = b"\x0a\x80\xf1\xf0\x80\x80\x80\x01";
 
 /// What happens, in order.
-const DEEDS: [Deed; 17] = [
+pub(crate) const DEEDS: [Deed; 17] = [
     Deed::Connect,
     Deed::Send(1, HELLO),
     Deed::Send(1, OPENING),
@@ -108,7 +110,7 @@ fn print_done(
 }
 
 /// The rows that a fleet holds, and the keys of its filter.
-fn print_held(rt: &impl Print, alloc: Global, book: &Book) -> Result<()> {
+pub(crate) fn print_held(rt: &impl Print, alloc: Global, book: &Book) -> Result<()> {
     for (key, sums) in book.rows(alloc, 0)? {
         let digits = hex::encode(alloc, key.as_slice())?;
         let [gpc0, ..] = sums.values;
@@ -139,7 +141,7 @@ fn opened(alloc: Global) -> Result<Fleet> {
 }
 
 /// The step of a deed, made once more where an allocation failed.
-fn made(alloc: Global, deed: Deed) -> Result<Step, NoMemory> {
+pub(crate) fn made(alloc: Global, deed: Deed) -> Result<Step, NoMemory> {
     match step(alloc, deed) {
         Err(NoMemory) => step(alloc, deed),
         made => made,
