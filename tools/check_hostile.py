@@ -1,14 +1,16 @@
 #!/usr/bin/env python3
 """Checks what the collector does with hostile peers, clumsy admins and faults of its surroundings.
 
-    check_hostile.py [--collector crates/aggregator/out/aggregator]
+    check_hostile.py [--collector crates/aggregator/out/aggregator] [--only PART]
 
 It starts `aggregator listen` (examples/fleet.conf) and speaks to its sockets. Peers send hellos of every verdict,
 broken and cut messages, a byte at a time; they reset, never read, say nothing by the thousand, or drip a hello.
 Admins send lines without an end, or nothing, drip them, never read, or stay for long. Peers call from elsewhere, or
 aren't configured, standard error takes nothing, and the peers' listener breaks. Where a filter is pushed, proxies read
-nothing, ask for all of it all the time, or answer what nobody said. Signals and ports that are taken are tried too. The
-last line counts passed and failed; the status is 1 where one failed. It takes about five minutes.
+nothing, ask for all of it all the time, or answer what nobody said. Memory runs out while rows are shown, browsers send
+HTTP to the admin address, the system refuses threads, the Unix socket is looked at as it comes, and lines are provoked
+by the thousand. Signals and ports that are taken are tried too. The last line counts passed and failed; the status is 1
+where one failed. It takes about six minutes. tools/attack.py has the same and more with figures.
 """
 
 import argparse
@@ -24,10 +26,13 @@ import tempfile
 import threading
 import time
 
-from check_with_haproxy import Report
-from peers_protocol import ACK as ACKNOWLEDGED, DEFINE as DEFINITION, SWITCH, TIMED, UPDATES
-from peers_protocol import Feeder, message, messages, put_int
-from proxies import COLLECTOR, CONFIG, REPOSITORY, Collector, free_ports
+from lib.beside import FORK, Beside
+from lib.collector import COLLECTOR, CONFIG, REPOSITORY, Collector, free_ports
+from lib.peers_protocol import ACK as ACKNOWLEDGED, DEFINE as DEFINITION, SWITCH, UPDATES
+from lib.peers_protocol import Feeder, message, messages, put_int
+from lib.report import Report
+from lib.surviving import cleared, closed_of, config, few_threads, flooded, look_at, unserved, until_closed
+from lib.told import Proxied
 
 CHANGELOG = REPOSITORY / "CHANGELOG.md"
 
@@ -586,6 +591,87 @@ def surroundings(report, options):
         peer.close()
 
 
+def starving(report, options):
+    """Memory runs out while one peer's new keys are shown, which a filter holds."""
+    held = {**os.environ, "MALLOC_ARENA_MAX": "2"}
+    text = config(["sane", "later", "f0"], "filter f t data.gpc0 ge 1\n")
+    with Collector.of(options.collector, text, env=held) as collector:
+        beside = Beside(collector.peers)
+        time.sleep(0.3)
+        flooded(collector, ["f0"], 70, 2)
+        took = cleared(collector, 16)
+        status = collector.process.poll()
+        report.check("where memory ran out a clear is answered, or it ended with status 5", 1,
+                     lambda: "" if took is not None or status == 5 else f"neither in 16 s, status {status}")
+        report.check("and then a peer, an admin, /healthz and the clock are served", 12,
+                     lambda: "" if collector.process.poll() == 5 else unserved(collector, "later"))
+        beside.stop()
+
+
+def browsers(report, options):
+    """HTTP comes to the admin address, with a command in its body."""
+    def posted(head):
+        with call(collector.admin, head + b"Host: x\r\n\r\nclear table t\n", timeout=2) as browser:
+            said, is_closed = until_closed(browser)
+        used = collector.ask("show table t")
+        return "" if not said and is_closed and "used:1\n" in used else (said[:40], is_closed, used)
+
+    with Collector.of(options.collector, config(["feeder"])) as collector:
+        Feeder(collector.peers).push(addresses([7]), 1)
+        for head in (b"POST / HTTP/1.1\r\n", b"GET /x HTTP/1.0\r\n", b"origin: http://evil.example\r\n"):
+            report.check(f"{head[:12]!r} at the admin address is closed without an answer, and does nothing", 1,
+                         lambda: posted(head))
+
+
+def threadless(report, options):
+    """The system starts no more threads."""
+    with tempfile.TemporaryDirectory() as folder:
+        with few_threads(options.collector, config(["later"]), folder) as collector:
+            callers = [call(collector.peers) for _ in range(60)]
+            time.sleep(1)
+            closed = closed_of(callers)
+            report.check("callers that get no thread are closed within a second", 1,
+                         lambda: "" if closed >= 56 else f"{closed} of 60")
+            for caller in callers:
+                caller.close()
+            report.check("and nothing of them is left", 8,
+                         lambda: "" if collector.info()["waiting"] == "0" else collector.info()["waiting"])
+            report.check("a peer is served then", 8, lambda: unserved(collector, "later"))
+
+
+def socket_modes(report, options):
+    """Who looks at the Unix socket as it comes."""
+    with tempfile.TemporaryDirectory() as folder:
+        path, done, found = f"{folder}/admin", FORK.Event(), FORK.Queue()
+        looking = FORK.Process(target=look_at, args=(path, done, found), daemon=True)
+        looking.start()
+        for _ in range(20):
+            with Collector.of(options.collector, config(["p"]), options=["--admin-socket", path], umask=0):
+                pass
+            os.unlink(path)
+        done.set()
+        seen = found.get(timeout=10)
+    report.check("the Unix socket is never open to others, whatever the umask", 1,
+                 lambda: "" if set(seen) == {0o660} else {f"{mode:o}": count for mode, count in seen.items()})
+
+
+def floods(report, options):
+    """What one peer or address can repeat at will is told 60 times a minute, and then counted."""
+    def lines_of(act):
+        with tempfile.TemporaryFile() as log:
+            with Collector.of(options.collector, config(["p"]), log=log) as collector:
+                for _ in range(500):
+                    act(collector)
+                time.sleep(1.5)
+            log.seek(0)
+            return log.read().splitlines()
+
+    for name, act in (("strangers", lambda collector: reset(call(collector.peers, b"x\n"))),
+                      ("connections of one name", lambda collector: call(collector.peers, hello(b"p")).close())):
+        lines = lines_of(act)
+        report.check(f"500 {name} write few lines", 1, lambda: "" if len(lines) < 260 else f"{len(lines)} lines")
+
+
 PUSHING = """name agg
 peer feeder
 peer lb1
@@ -605,54 +691,6 @@ def hello(name):
     return b"HAProxyS 2.1\nagg\n" + name + b" 1 1\n"
 
 
-class Proxied(threading.Thread):
-    """A proxy that takes what it is told, and keeps its keys as HAProxy does. It sends a heartbeat a second."""
-
-    def __init__(self, port, name):
-        super().__init__(daemon=True)
-        self.peer, self.keys, self.puts, self.others, self.beaten = call(port, hello(name)), set(), 0, [], 0.0
-        self.peer.settimeout(0.05)
-        self.start()
-
-    def note(self, group, kind, payload):
-        if (group, kind) == (10, TIMED):
-            self.puts += 1
-            number = struct.unpack(">I", payload[8:12])[0]
-            (self.keys.add if payload[12] else self.keys.discard)(number)
-        else:
-            self.others.append((group, kind))
-
-    def run(self):
-        data, is_greeted = b"", False
-        while True:
-            try:
-                if time.monotonic() - self.beaten > 1:
-                    self.beaten = time.monotonic()
-                    self.peer.sendall(b"\x00\x04")
-                more = self.peer.recv(1 << 20)
-            except TimeoutError:
-                continue
-            except OSError:
-                return
-            if not more:
-                return
-            data += more
-            if not is_greeted and len(data) >= 4:
-                data, is_greeted = data[4:], True
-            if is_greeted:
-                found, behind = messages(data, 0)
-                data = data[behind:]
-                for one in found:
-                    self.note(*one)
-
-    def send_on(self, data, seconds):
-        """Sends something over and over for so long."""
-        end = time.monotonic() + seconds
-        while time.monotonic() < end:
-            self.peer.sendall(data)
-            time.sleep(0.001)
-
-
 def beat_on(peers, done):
     """Has peers that do nothing else send a heartbeat a second."""
     while not done.wait(1):
@@ -669,7 +707,7 @@ def pushing(report, options, count=100_000):
         text.write(PUSHING)
         text.flush()
         collector = Collector(options.collector, *free_ports(2), config=text.name)
-    feeder, proxy = Feeder(collector.peers), Proxied(collector.peers, b"lb2")
+    feeder, proxy = Feeder(collector.peers), Proxied(collector.peers, "lb2")
     deaf_one = socket.socket()
     deaf_one.setsockopt(socket.SOL_SOCKET, socket.SO_RCVBUF, 4096)
     deaf_one.connect(("127.0.0.1", collector.peers))
@@ -698,7 +736,7 @@ def pushing(report, options, count=100_000):
 
 def misbehaving(report, collector, feeder, proxy):
     """One proxy that says what nobody asked for, beside another one."""
-    liar = Proxied(collector.peers, b"lb1")
+    liar = Proxied(collector.peers, "lb1")
     liar.send_on(message(ACKNOWLEDGED, b"\x01\xff\xff\xff\xff") + message(ACKNOWLEDGED, b"\x09\x00\x00\x00\x07"), 0.3)
     feeder.push(addresses([7]), 1)
     report.check("a proxy that acknowledges what was never sent is told on", 2,
@@ -725,20 +763,28 @@ def misbehaving(report, collector, feeder, proxy):
                  lambda: "" if collector.resident() < 120_000_000 else collector.resident())
 
 
+PARTS = (scarce, starving, browsers, threadless, socket_modes, floods, elsewhere, unknown, mute, broken, pushing, checking,
+         surroundings)
+
+
 def main():
     words = argparse.ArgumentParser(description=__doc__, formatter_class=argparse.RawDescriptionHelpFormatter)
     words.add_argument("--collector", default=COLLECTOR, help="the program that is checked")
+    words.add_argument("--only", choices=[part.__name__ for part in PARTS], action="append",
+                       help="one of the parts that start collectors of their own; may be repeated")
     options = words.parse_args()
     # A shell that starts this in the background lets it ignore SIGINT, and so would the collectors that it starts.
     signal.signal(signal.SIGINT, signal.default_int_handler)
     resource.setrlimit(resource.RLIMIT_NOFILE, (4096, resource.getrlimit(resource.RLIMIT_NOFILE)[1]))
     report = Report()
-    collector = Collector(options.collector, *free_ports(2))
-    for part in (verdicts, streams, crowd, newer, strangers, deaf, silence, admins, slow_admins):
-        part(report, collector)
-    collector.stop()
-    for part in (scarce, elsewhere, unknown, mute, broken, pushing, checking, surroundings):
-        part(report, options)
+    if not options.only:
+        collector = Collector(options.collector, *free_ports(2))
+        for part in (verdicts, streams, crowd, newer, strangers, deaf, silence, admins, slow_admins):
+            part(report, collector)
+        collector.stop()
+    for part in PARTS:
+        if part.__name__ in (options.only or [part.__name__]):
+            part(report, options)
     report.end()
 
 

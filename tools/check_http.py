@@ -25,9 +25,9 @@ import threading
 import time
 import urllib.parse
 
-from check_with_haproxy import Report
-from peers_protocol import DEFINE, HEARTBEAT, UPDATE, put_int
-from proxies import COLLECTOR, Collector, free_ports
+from lib.collector import COLLECTOR, Collector, free_ports
+from lib.peers_protocol import DEFINE, UPDATE, beat, message, put_int
+from lib.report import Report
 
 KEYS = 3000
 ODD_PEER = 'l<b>&"1'
@@ -116,24 +116,6 @@ def told(port, path):
 
 def name_of(text):
     return urllib.parse.quote(text, safe="")
-
-
-def message(kind, payload):
-    return bytes([10, kind]) + put_int(len(payload)) + payload
-
-
-def beat(peer):
-    """Keeps a peer's connection, and reads what comes."""
-    while True:
-        try:
-            peer.settimeout(2)
-            peer.sendall(HEARTBEAT)
-            if not peer.recv(1 << 16):
-                return
-        except TimeoutError:
-            continue
-        except OSError:
-            return
 
 
 def push(port):

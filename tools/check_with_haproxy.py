@@ -13,38 +13,12 @@ started again. The last line counts passed and failed; the status is 1 where one
 import argparse
 import collections
 import pathlib
-import sys
 import tempfile
 import time
 
-from proxies import COLLECTOR, CONFIG, PROXY, Collector, Proxy, free_ports, wait_for
-
-SETTLED = 8.0  # s in which a proxy calls a peer again (it waits 5 s) and pushes what changed
-
-
-class Report:
-    """What passed and what failed."""
-
-    def __init__(self):
-        self.passed, self.failed = 0, 0
-
-    def check(self, name, seconds, test):
-        """Asks a test until it says nothing is wrong; the last thing that was wrong is told."""
-        end, wrong = time.monotonic() + seconds, "never asked"
-        while time.monotonic() < end and wrong:
-            try:
-                wrong = test()
-            except (OSError, KeyError, ValueError) as fault:
-                wrong = f"{type(fault).__name__}: {fault}"
-            if wrong:
-                time.sleep(0.05)
-        self.passed, self.failed = self.passed + (not wrong), self.failed + bool(wrong)
-        print(f"passed  {name}" if not wrong else f"FAILED  {name}: {wrong}", flush=True)
-
-    def end(self):
-        """Says how many passed and failed, and ends the program by that."""
-        print(f"{self.passed} passed, {self.failed} failed")
-        sys.exit(1 if self.failed else 0)
+from lib.collector import COLLECTOR, CONFIG, Collector, free_ports, wait_for
+from lib.proxies import PROXY, SETTLED, Proxy
+from lib.report import Report
 
 
 def sums(proxies, column):

@@ -1,11 +1,14 @@
 #!/bin/sh
-# Makes a Debian package of a proved build, and prints its name and its SHA-256.
+# Makes a Debian package of the proved program, and prints its name and its SHA-256.
 #
 #     tools/package.sh [the aggregator program [the folder to write to]]
 #
-# The program is crates/aggregator/out/aggregator unless another is named. The version is what it says of itself
-# (`--version`). Two runs over one program and one commit make the same file: all times are the last commit's, or
-# SOURCE_DATE_EPOCH, and what git doesn't track isn't packed. It wants dpkg-deb and gzip.
+# The program is crates/aggregator/out/aggregator unless another is named. It is packed only where ./build or ./test left a
+# stamp beside it, by which it was proved from the sources of the present commit, with the kit that is installed. The
+# version is what the program says of itself (`--version`) where the commit has the tag v<version>. Else it sorts before
+# that version and behind those of earlier commits, and names the commit: 0.4.0~git20261130.061355.6275ef16 is of
+# 2026-11-30, 06:13:55 UTC. Two runs over one program and one commit make the same file: all times are the last commit's,
+# or SOURCE_DATE_EPOCH, and what git doesn't track isn't packed. It wants dpkg-deb, gzip and python3.
 set -eu
 umask 022
 export LC_ALL=C
@@ -15,13 +18,23 @@ program=${1:-crates/aggregator/out/aggregator}
 to=${2:-.}
 case $program in /*) ;; *) [ $# -eq 0 ] || program=$here/$program ;; esac
 case $to in /*) ;; *) to=$here/$to ;; esac
-[ -x "$program" ] || { echo "$program isn't built: cd crates/aggregator && rt run -- --help" >&2; exit 1; }
+[ -x "$program" ] || { echo "$program isn't built: ./build proves and links it" >&2; exit 1; }
+why=$(PYTHONPATH=tools python3 -c '
+import pathlib, sys
+from lib import stamp
+print(stamp.why_not(pathlib.Path(sys.argv[1]).resolve()))' "$program")
+[ -z "$why" ] || { echo "$program isn't packed: $why. ./build proves and links it" >&2; exit 1; }
+proved() { sed -n "s/^$1: //p" "$program.stamp"; } # a field of the stamp
 
 version=$("$program" --version | awk 'NR == 1 { print $NF }')
 case $version in
     [0-9]*) ;;
     *) echo "$program tells no version: '$version'" >&2; exit 1 ;;
 esac
+if [ "$(git describe --exact-match --tags --match "v$version" 2> /dev/null)" != "v$version" ]; then
+    when=$(TZ=UTC git log -1 --format=%cd --date=format-local:%Y%m%d.%H%M%S)
+    version=$version~git$when.$(git rev-parse --short=8 HEAD)
+fi
 SOURCE_DATE_EPOCH=${SOURCE_DATE_EPOCH:-$(git log -1 --format=%ct)}
 export SOURCE_DATE_EPOCH
 # The newest version of the C library of which the program names a symbol.
@@ -71,7 +84,10 @@ Installed-Size: $size
 Description: collector for the stick tables of a fleet of HAProxy proxies
  Proxies name it as a peer and push their stick tables to it. It sums them per
  key, and tells which keys exceed a limit over the whole fleet, who leads, and
- when the clock alone changes that. Every function of it is proved.
+ when the clock alone changes that.
+ .
+ Every function of it is proved: commit $(proved commit | cut -c 1-12),
+ $(proved kit), $(proved verdict).
 CONTROL
 find "$tree" -depth -exec touch -h -d "@$SOURCE_DATE_EPOCH" {} +
 

@@ -25,7 +25,7 @@ import socket
 import sys
 import time
 
-from peers_protocol import ACK, DEFINE, SWITCH, TIMED, UPDATE, UPDATES, get_int, messages, put_int
+from lib.peers_protocol import ACK, DEFINE, SWITCH, TIMED, UPDATE, UPDATES, get_int, messages, put_int
 
 HEARTBEAT_SECONDS = 2.5
 

@@ -17,9 +17,8 @@ import tempfile
 import threading
 import time
 
-from check_http import beat, message
-from peers_protocol import DEFINE, INCREMENTAL, put_int
-from proxies import COLLECTOR, Collector, free_ports
+from lib.collector import COLLECTOR, Collector, free_ports
+from lib.peers_protocol import DEFINE, INCREMENTAL, beat, message, put_int
 
 SIZES = {"wide": (1280, 1500), "narrow": (390, 2400)}
 SCHEMES = {"light": 1, "dark": 0}

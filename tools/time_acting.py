@@ -27,8 +27,9 @@ import tempfile
 import threading
 import time
 
-from peers_protocol import Feeder
-from proxies import COLLECTOR, Collector, Proxy, free_ports, wait_for
+from lib.collector import COLLECTOR, Collector, free_ports, wait_for
+from lib.peers_protocol import Feeder
+from lib.proxies import Proxy
 
 HEARTBEAT = bytes([0, 4])
 SCATTER = 2147483647

@@ -18,9 +18,10 @@ import struct
 import tempfile
 import time
 
-from peers_protocol import UPDATE, put_int
-from proxies import Collector, free_ports
-from time_receiver import COLLECTOR_CONFIG, Peer, definition, message, start_haproxy
+from lib.collector import Collector, free_ports
+from lib.peers_protocol import UPDATE, message, put_int
+from lib.pushing import Peer, definition
+from lib.receivers import COLLECTOR_CONFIG, start_haproxy
 
 EXPIRY = 600000
 

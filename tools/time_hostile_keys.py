@@ -20,8 +20,10 @@ import itertools
 import struct
 import tempfile
 
-from peers_protocol import DEFINE, TIMED, UPDATE, message, put_int
-from time_receiver import InTurn, Peer, listen, resident
+from lib.collector import resident
+from lib.peers_protocol import DEFINE, TIMED, UPDATE, message, put_int
+from lib.pushing import InTurn, Peer
+from lib.receivers import listen
 
 ADDRESS, STRING, BINARY = 4, 6, 7  # kinds of keys, as a definition tells them
 DAYS = 49 * 86400 * 1000  # ms

@@ -28,9 +28,9 @@ import tempfile
 import threading
 import time
 
-from peers_protocol import TIMED_INCREMENTAL, put_int
-from time_receiver import FILTERS as STANDING
-from time_receiver import SCATTER, Peer, definition, message, start_collector, updates
+from lib.peers_protocol import TIMED_INCREMENTAL, message, put_int
+from lib.pushing import SCATTER, Peer, definition, updates
+from lib.receivers import FILTERS as STANDING, start_collector
 
 PHASES = ("rest", "count", "rate", "clear", "ends", "looks")
 LIFE = 600000

@@ -11,30 +11,14 @@ status is 1 where one failed.
 """
 
 import argparse
-import pathlib
 import tempfile
 import time
-import urllib.error
-import urllib.request
 
-from check_with_haproxy import SETTLED, Report
-from proxies import COLLECTOR, REPOSITORY, Collector, Proxy, free_ports, kill_all, wait_for
+from lib.collector import COLLECTOR, Collector, free_ports, wait_for
+from lib.proxies import ACTING, ACTING_PROXY, SETTLED, Proxy, kill_all, status
+from lib.report import Report
 
-CONFIG = REPOSITORY / "examples/acting.conf"
-PROXY = REPOSITORY / "examples/acting.cfg"
 LIFE = 10.0  # s for which a key is told that isn't told again
-
-
-def status(proxy, client):
-    """The status that a proxy answers a request of a client with."""
-    request = urllib.request.Request(f"http://127.0.0.1:{proxy.http}/", headers={"x-forwarded-for": client})
-    try:
-        with urllib.request.urlopen(request, timeout=5) as answer:
-            answer.read()
-            return answer.status
-    except urllib.error.HTTPError as refusal:
-        refusal.read()
-        return refusal.code
 
 
 def told(proxy):
@@ -94,7 +78,7 @@ def collector_dies(report, collector, proxies):
 
 
 def collector_returns(report, collector, proxies, program, log):
-    again = Collector(program, collector.peers, collector.admin, config=CONFIG, log=log)
+    again = Collector(program, collector.peers, collector.admin, config=ACTING, log=log)
     wait_for("both proxies at the new collector", 2 * SETTLED,
              lambda: again.ask("show peers").count("state=connected") == len(proxies))
     exceed(proxies, "10.0.0.69")
@@ -105,7 +89,7 @@ def collector_returns(report, collector, proxies, program, log):
 def master_reloads(report, collector, proxies, folder):
     """A master starts a new worker while a client is refused."""
     proxies.pop().stop()
-    reloaded = Proxy("lb2", collector.peers, folder, config=PROXY, master=True)
+    reloaded = Proxy("lb2", collector.peers, folder, config=ACTING_PROXY, master=True)
     proxies.append(reloaded)
     wait_for("the master's worker at the collector", 2 * SETTLED,
              lambda: collector.ask("show peers").count("state=connected") == len(proxies))
@@ -127,8 +111,8 @@ def main():
     report = Report()
     with tempfile.TemporaryDirectory() as folder, open(options.log or "/dev/null", "ab") as log:
         peers, admin = free_ports(2)
-        collector = Collector(options.collector, peers, admin, config=CONFIG, log=log)
-        proxies = [Proxy(name, peers, folder, config=PROXY) for name in ("lb1", "lb2")]
+        collector = Collector(options.collector, peers, admin, config=ACTING, log=log)
+        proxies = [Proxy(name, peers, folder, config=ACTING_PROXY) for name in ("lb1", "lb2")]
         try:
             time.sleep(1)
             refused(report, collector, proxies)

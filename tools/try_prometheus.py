@@ -20,9 +20,9 @@ import time
 import urllib.parse
 import urllib.request
 
-from check_with_haproxy import Report
-from proxies import COLLECTOR, REPOSITORY, Collector, Proxy, free_ports, kill_all, wait_for
-from try_acting import CONFIG, PROXY, status
+from lib.collector import COLLECTOR, REPOSITORY, Collector, free_ports, wait_for
+from lib.proxies import ACTING, ACTING_PROXY, Proxy, kill_all, status
+from lib.report import Report
 
 SETTINGS = """global:
   scrape_interval: 1s
@@ -137,8 +137,8 @@ def main():
     report = Report()
     with tempfile.TemporaryDirectory() as folder:
         peers, admin, web = free_ports(3)
-        collector = Collector(options.collector, peers, admin, config=CONFIG, options=["--http", f"127.0.0.1:{web}"])
-        proxies = [Proxy(name, peers, folder, config=PROXY) for name in ("lb1", "lb2")]
+        collector = Collector(options.collector, peers, admin, config=ACTING, options=["--http", f"127.0.0.1:{web}"])
+        proxies = [Proxy(name, peers, folder, config=ACTING_PROXY) for name in ("lb1", "lb2")]
         prometheus = Prometheus(folder, web)
         try:
             watch(report, prometheus, collector, proxies, options.minutes)

@@ -6,18 +6,27 @@
 #
 # It wants Debian's haproxy, or another by its path (HAPROXY=/opt/haproxy/sbin/haproxy), curl, and python3 to ask the
 # collectors. It takes examples/fleet.conf and examples/haproxy.cfg, with a second collector added. Nobody else is
-# touched: all addresses are of this machine. A program that isn't built yet is proved and built first, which takes a
-# while.
+# touched: all addresses are free ones of this machine. ./build makes the program.
 set -eu
 cd "$(dirname "$0")/.."
+PATH=$PATH:/usr/sbin
 collector=${1:-crates/aggregator/out/aggregator}
-[ -x "$collector" ] || (cd crates/aggregator && rt run -- --help > /dev/null)
+missing=
+for need in python3 curl "${HAPROXY:-haproxy}"; do
+    command -v "$need" > /dev/null || missing="$missing $need"
+done
+[ -z "$missing" ] || { echo "missing:$missing (apt-get install haproxy curl python3)" >&2; exit 1; }
+[ -x "$collector" ] || { echo "$collector isn't built: ./build proves and links it" >&2; exit 1; }
 DIR=$(mktemp -d)
-COLLECTOR_PORT=10930
-SECOND_PORT=10931
-export DIR COLLECTOR_PORT SECOND_PORT
+# (free ones: the two collectors' for peers and for questions, and each proxy's own and its frontend's)
+set -- $(PYTHONPATH=tools python3 -c 'from lib.collector import free_ports; print(*free_ports(8))')
+COLLECTOR_PORT=$1 SECOND_PORT=$2 first_admin=$3 second_admin=$4
+one_own=$5 one_http=$6 two_own=$7 two_http=$8
+export PATH DIR COLLECTOR_PORT SECOND_PORT
 pids=
-trap 'kill $pids 2>/dev/null; wait; rm -rf "$DIR"' EXIT
+trap 'kill $pids 2> /dev/null || :; wait || :; rm -rf "$DIR"' EXIT
+trap 'exit 130' INT
+trap 'exit 143' TERM
 
 # Each collector has a name of its own, and every proxy names both.
 sed 's/^name agg$/name agg2/' examples/fleet.conf > "$DIR/second.conf"
@@ -41,7 +50,7 @@ proxy() { # name, its own port, its frontend's port
 }
 requests() { # requests through each proxy, all of one client
     for _ in $(seq "$1"); do
-        for port in 10942 10944; do
+        for port in $one_http $two_http; do
             curl -s -o /dev/null -H "x-forwarded-for: 10.0.0.66" "http://127.0.0.1:$port/"
         done
     done
@@ -58,18 +67,18 @@ counts() { # which collector, its port for questions, the count that it is to ha
     [ "$has" = "$3" ] || { echo "it should count $3"; failed=1; }
 }
 
-collect first $COLLECTOR_PORT 10932
+collect first $COLLECTOR_PORT $first_admin
 first=$started
-collect second $SECOND_PORT 10933
-proxy lb1 10941 10942
-proxy lb2 10943 10944
+collect second $SECOND_PORT $second_admin
+proxy lb1 $one_own $one_http
+proxy lb2 $two_own $two_http
 sleep 2
 
 echo "10.0.0.66 sends 60 requests through each proxy."
 requests 60
-counts first 10932 120
-counts second 10933 120
-for port in 10932 10933; do
+counts first $first_admin 120
+counts second $second_admin 120
+for port in $first_admin $second_admin; do
     python3 tools/ask.py "127.0.0.1:$port" "show filter abusers"
 done
 
@@ -78,11 +87,11 @@ echo "The first collector is killed. 10.0.0.66 sends 15 more through each proxy.
 kill -9 "$first"
 wait "$first" 2> /dev/null || true
 requests 15
-counts second 10933 150
+counts second $second_admin 150
 
 echo
 echo "The first collector starts again: the proxies dial it and teach it all that they hold."
-collect first $COLLECTOR_PORT 10932
-counts first 10932 150
-counts second 10933 150
+collect first $COLLECTOR_PORT $first_admin
+counts first $first_admin 150
+counts second $second_admin 150
 exit $failed

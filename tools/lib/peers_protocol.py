@@ -60,6 +60,20 @@ def message(kind, payload):
     return bytes([10, kind]) + put_int(len(payload)) + payload
 
 
+def beat(peer):
+    """Keeps a peer's connection, and reads what comes."""
+    while True:
+        try:
+            peer.settimeout(2)
+            peer.sendall(HEARTBEAT)
+            if not peer.recv(1 << 16):
+                return
+        except TimeoutError:
+            continue
+        except OSError:
+            return
+
+
 class Feeder(threading.Thread):
     """A peer of a table `t` of IPv4 keys with gpc0. It reads all that it is told, and sends a heartbeat a second."""
 

@@ -1,0 +1,1 @@
+"""What several tools beside this folder need."""
