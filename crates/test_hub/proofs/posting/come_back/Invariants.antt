@@ -1,5 +1,5 @@
 use Rattle.std.proofs.Common.{◌≡◌}
-use Rattle.test_collector.proofs.posts.posting.come_back.Given as goal
+use Rattle.test_hub.proofs.posting.come_back.Given as goal
 
 -- the pass stays one of this hub
 abbrev pub invariant-loop-number : goal.invariant-loop-number

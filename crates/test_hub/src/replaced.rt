@@ -3,7 +3,7 @@
 ghost use Rattle.std.specs.Prelude.{◌≡◌, IfOk};
 ghost use Rattle.std.specs.List.{All};
 ghost use Rattle.hub.specs.Roll.{MayPost};
-ghost use Rattle.test_collector.specs.Seen.{IsSessionShown};
+ghost use Rattle.test_hub.specs.Seen.{IsSessionShown};
 
 use crate::shared::{batch, post, sit};
 use agg_types::{What, Whats};

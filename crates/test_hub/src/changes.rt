@@ -3,7 +3,7 @@
 
 ghost use Rattle.std.specs.Prelude.{◌≡◌, IfOk};
 
-use crate::posts::fleet::Batch;
+use crate::fleet::Batch;
 use crate::shared::{lens, post, sit};
 use anyhow::{Result, anyhow};
 use book::keys_named;

@@ -1,9 +1,12 @@
-//! Seats, posts, receipts and looks of a hub, in one thread, and what came into a filter's set and
+//! Runs a hub, in one thread and in two, and prints what its posts and looks show.
+//!
+//! Seats, posts, receipts and looks in one thread come first; then what came into a filter's set and
 //! left it between two looks. A thread appends inside a look, beside one that posts.
 //!
 //! Then posts, seats, lenses and leaves, each made once more where an allocation failed. So what is
-//! printed of these is the same whichever allocation fails: `test_collector again` runs them alone,
-//! and `tools/refuse_growths.py` lets each of its allocations fail in turn.
+//! printed of these is the same whichever allocation fails: `test_hub again` runs them alone, and
+//! `tools/refuse_growths.py` lets each of its allocations fail in turn.
+#![tactic(auto)]
 
 mod again;
 mod beside;
@@ -13,21 +16,23 @@ mod no_memory;
 mod posting;
 mod replaced;
 mod seats;
+mod shared;
 mod shown;
 
-use crate::posts::changes::{follow, pushing};
-use crate::posts::no_memory::{fleet_opened, opened};
-use crate::posts::posting::{late, run_alone};
+use crate::changes::{follow, pushing};
+use crate::no_memory::{fleet_opened, opened};
+use crate::posting::{late, run_alone};
 use crate::shared::opening;
 use anyhow::Result;
 use std::alloc::Global;
+use std::env::Env;
 use std::marker::Brand;
 use std::sync::Wait;
 use std::thread::Threads;
 use std::time::Clock;
 
 /// Posts, seats, lenses and leaves, each made once more where an allocation failed.
-pub fn run_again<R: Print + Wait>(rt: &R, alloc: Global) -> Result<()> {
+fn run_again<R: Print + Wait>(rt: &R, alloc: Global) -> Result<()> {
     for _ in 0..2 {
         if opened::<Brand, R>(rt, alloc, fleet_opened(alloc)?)? {
             break;
@@ -37,7 +42,7 @@ pub fn run_again<R: Print + Wait>(rt: &R, alloc: Global) -> Result<()> {
 }
 
 /// Runs each.
-pub fn run<R: Print + Threads + Wait + Clock + Copy + Send + Sync>(
+fn run<R: Print + Threads + Wait + Clock + Copy + Send + Sync>(
     rt: &R,
     alloc: Global,
 ) -> Result<()> {
@@ -46,4 +51,11 @@ pub fn run<R: Print + Threads + Wait + Clock + Copy + Send + Sync>(
     follow::<Brand, R>(rt, alloc, pushing(alloc)?)?;
     beside::stage::<Brand, R>(rt, alloc, opening(alloc)?)?;
     run_again(rt, alloc)
+}
+
+fn main(rt: HostRuntime) -> Result<()> {
+    if std::env::args(&rt)?.any(|word| word.as_str() == "again") {
+        return run_again(&rt, rt.alloc());
+    }
+    run(&rt, rt.alloc())
 }

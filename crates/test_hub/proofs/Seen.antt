@@ -6,7 +6,7 @@ use Rattle.fleet_model.specs.State.{IsStateOf, State}
 use Rattle.hub.specs.History.{Beginning}
 use Rattle.hub.specs.Posts.{Seated}
 use Rattle.hub.specs.Shows.{ShowsPosted}
-use Rattle.test_collector.specs.Seen.{IsSessionShown}
+use Rattle.test_hub.specs.Seen.{IsSessionShown}
 
 pub session_shown : (seen receipt : Beginning) (p : Seated) (whats : List What) (book : State)
     (peer : ℕ) (session : Option ℕ) → ShowsPosted seen receipt p whats book

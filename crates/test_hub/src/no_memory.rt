@@ -2,10 +2,10 @@
 
 ghost use Rattle.std.specs.Prelude.{◌≡◌, IfOk};
 
-use crate::posts::again::{leave, post};
-use crate::posts::fleet::{Batch, opening};
-use crate::posts::shown::seen;
+use crate::again::{leave, post};
+use crate::fleet::{Batch, opening};
 use crate::shared::sit;
+use crate::shown::seen;
 use agg_types::Whats;
 use anyhow::{Context, Result};
 use hub::{Hub, Lens, Naming, Opening, Pass, Receipt};

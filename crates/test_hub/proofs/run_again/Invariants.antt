@@ -1,4 +1,4 @@
-use Rattle.test_collector.proofs.posts.run_again.Given as goal
+use Rattle.test_hub.proofs.run_again.Given as goal
 
 -- the log that was just opened
 abbrev pub ghosts-opened : goal.ghosts-opened

@@ -2,8 +2,8 @@
 
 ghost use Rattle.std.specs.Prelude.{◌≡◌};
 
-use crate::posts::replaced::replace;
-use crate::posts::seats::{fill, has_place};
+use crate::replaced::replace;
+use crate::seats::{fill, has_place};
 use crate::shared::{lens, post, seen, session, sit};
 use agg_types::{What, Whats};
 use anyhow::Result;

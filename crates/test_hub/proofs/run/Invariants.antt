@@ -1,4 +1,4 @@
-use Rattle.test_collector.proofs.posts.run.Given as goal
+use Rattle.test_hub.proofs.run.Given as goal
 
 -- the logs that were just opened
 abbrev pub ghosts-run_alone : goal.ghosts-run_alone

@@ -5,8 +5,8 @@
 
 ghost use Rattle.std.specs.Prelude.{◌≡◌, IfOk, IfSome};
 
-use crate::posts::shown::seen;
 use crate::shared::{leave_once, post_once};
+use crate::shown::seen;
 use agg_types::{What, Whats};
 use anyhow::{Result, anyhow, ensure};
 use hub::{Hub, Lens, Naming, Pass, PostFault, Receipt};

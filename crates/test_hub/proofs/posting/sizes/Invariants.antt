@@ -1,5 +1,5 @@
 use Rattle.std.proofs.Common.{◌≡◌}
-use Rattle.test_collector.proofs.posts.posting.sizes.Given as goal
+use Rattle.test_hub.proofs.posting.sizes.Given as goal
 
 -- the pass stays one of this hub
 abbrev pub invariant-loop-puts : goal.invariant-loop-puts

@@ -1,5 +1,5 @@
-use Rattle.test_collector.proofs.Seen.{session_shown}
-use Rattle.test_collector.proofs.posts.replaced.session_behind.Goals as goal
+use Rattle.test_hub.proofs.Seen.{session_shown}
+use Rattle.test_hub.proofs.replaced.session_behind.Goals as goal
 
 -- src/replaced.rt:102:1
 pub returns : goal.returns

@@ -1,5 +1,5 @@
 use Rattle.std.proofs.Common.{◌≡◌}
-use Rattle.test_collector.proofs.posts.no_memory.steps.Given as goal
+use Rattle.test_hub.proofs.no_memory.steps.Given as goal
 
 -- the pass and the lens stay those of this hub
 abbrev pub invariant-loop-batch : goal.invariant-loop-batch
