@@ -1,10 +1,11 @@
 #!/usr/bin/env python3
 """Runs the gate, and tells where its processor time goes: proofs, tests, edits and programs, for each crate.
 
-    python3 tools/gate_cost.py [--out LOG] [COMMAND ..]     (rt ci where no command is named)
+    python3 tools/gate_cost.py [--out LOG] [--page docs/GATE.md] [-- COMMAND ..]     (rt ci where none is named)
 
-It looks at the processes that the command starts ten times a second, so what lives shorter isn't counted. A
-crate's line says processor seconds. What the command prints goes to LOG (gate.log), its last line to standard output too.
+It looks at the processes that the command starts ten times a second, so what lives shorter isn't counted. A crate's
+line says processor seconds. What the command prints goes to LOG (gate.log), its last line to standard output too.
+Into PAGE it writes the same as a table of processor minutes, between the two lines that say so there.
 """
 
 import argparse
@@ -18,6 +19,7 @@ import time
 
 TICK = os.sysconf("SC_CLK_TCK")
 KINDS = ("proof", "tests", "edits", "program")
+MARKS = ("<!-- tools/gate_cost.py writes from here -->\n", "<!-- up to here -->\n")
 
 
 def of_process(pid):
@@ -74,9 +76,21 @@ def owner(pid, found, names):
     return None
 
 
+def write_page(page, rows, told):
+    """Writes a table of processor minutes into a page, between its two marks."""
+    lines = [f"{told}. Taken on {time.strftime('%Y-%m-%d', time.gmtime())}.", "",
+             f"| Crate | {' | '.join(KINDS)} | all |", "|---" * (len(KINDS) + 2) + "|"]
+    for crate, row in rows:
+        lines.append(f"| {crate} | " + " | ".join(f"{it / 60:.1f}" for it in [*row, sum(row)]) + " |")
+    text = page.read_text()
+    before, rest = text.split(MARKS[0])
+    page.write_text(before + MARKS[0] + "\n".join(lines) + "\n" + MARKS[1] + rest.split(MARKS[1])[1])
+
+
 def main():
     words = argparse.ArgumentParser(description=__doc__, formatter_class=argparse.RawDescriptionHelpFormatter)
     words.add_argument("--out", default="gate.log")
+    words.add_argument("--page", type=pathlib.Path)
     words.add_argument("command", nargs="*")
     options = words.parse_args()
     start, spent, names, owners = time.time(), {}, {}, {}
@@ -97,12 +111,16 @@ def main():
         sums[owners.get(one) or ("other", "program")] += seconds
     print(f"{'crate':20}" + "".join(f"{kind:>9}" for kind in KINDS) + f"{'all':>9}")
     crates = sorted({crate for crate, _ in sums}, key=lambda it: -sum(sums[it, kind] for kind in KINDS))
-    for crate in crates + ["all"]:
-        row = [sum(sums[it, kind] for it in (crates if crate == "all" else [crate])) for kind in KINDS]
+    rows = [(crate, [sums[crate, kind] for kind in KINDS]) for crate in crates]
+    rows.append(("all", [sum(it) for it in zip(*(row for _, row in rows))]))
+    for crate, row in rows:
         print(f"{crate:20}" + "".join(f"{it:9.0f}" for it in row) + f"{sum(row):9.0f}")
     last = pathlib.Path(options.out).read_text(errors="replace").rstrip().split("\n")[-1]
     minutes = sum(sums.values()) / 60
-    print(f"{last}; {(time.time() - start) / 60:.0f} min on {os.cpu_count()} cores, {minutes:.0f} processor minutes")
+    told = f"{last}; {(time.time() - start) / 60:.0f} min on {os.cpu_count()} cores, {minutes:.0f} processor minutes"
+    print(told)
+    if options.page:
+        write_page(options.page, rows, told)
     sys.exit(process.returncode)
 
 

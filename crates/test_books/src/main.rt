@@ -1,15 +1,16 @@
 //! Runs what a book stands on and the book itself, from below, and prints what they answer.
 //!
-//! First the stores: places, rows, sums, rates and planned moments. Then keys whose values fall:
-//! standing filters and ranked lists. Then lists of events, which the book and the plain book take
-//! side by side, and runs over a plain book alone.
+//! First the stores: places, rows, sums, rates and planned moments. Then a standing filter on a
+//! value that falls. Then a book over histories that are worked out by hand, and lists of events
+//! that two books take, one event by event and one in runs.
 //!
-//! `test_books again` makes some of the runs of both books alone: an event for which an allocation
-//! failed happens once more there, and `tools/refuse_growths.py` lets each fail in turn.
+//! `test_books again` makes some of these lists alone: an event for which an allocation failed
+//! happens once more there, and `tools/refuse_growths.py` lets each fail in turn.
 #![tactic(auto)]
 
 mod both;
 mod falling;
+mod histories;
 mod stores;
 
 use anyhow::Result;
@@ -21,5 +22,6 @@ fn main(rt: HostRuntime) -> Result<()> {
     }
     stores::run(&rt)?;
     falling::run(&rt, rt.alloc())?;
+    histories::run(&rt, rt.alloc())?;
     both::run(&rt, rt.alloc())
 }

@@ -1,6 +1,8 @@
 //! What happens to a fleet of two tables, as data.
 
-use agg_types::{Cell, Cells, Col, Cond, Filter, Items, Key, Name, NoMemory, Op, Select, What};
+use agg_types::{
+    Cell, Cells, Col, Cond, Filter, Items, Key, Name, NoMemory, Op, Select, What, Whats,
+};
 use std::alloc::Global;
 
 /// A row of a peer: the number of its key, its life in ms, and what its cells are made from.
@@ -42,7 +44,7 @@ pub enum Deed {
 const LETTERS: &[u8] = b"alike-alike-alike-alike-alike-and-not-alike";
 
 /// A key of a table by its number: an address in the first, a beginning of one string in others.
-pub fn key(alloc: Global, table: usize, number: u16) -> Result<Key, NoMemory> {
+fn key(alloc: Global, table: usize, number: u16) -> Result<Key, NoMemory> {
     if table == 0 {
         let [high, low] = number.to_be_bytes();
         return Key::copy(alloc, &[10, 0, high, low]);
@@ -52,13 +54,13 @@ pub fn key(alloc: Global, table: usize, number: u16) -> Result<Key, NoMemory> {
 }
 
 /// The cells of a row: a count, and a rate that the count is made of.
-fn cells(alloc: Global, count: u32) -> Result<Cells, NoMemory> {
+fn cells(count: u32) -> [Cell; 2] {
     let rate = Cell::Rate {
         elapsed: u64::from(count % 25),
         cur: count % 7,
         prev: count % 5,
     };
-    Cells::copy(alloc, &[Cell::Count(u64::from(count)), rate])
+    [Cell::Count(u64::from(count)), rate]
 }
 
 fn put(alloc: Global, row: Row) -> Result<What, NoMemory> {
@@ -67,7 +69,7 @@ fn put(alloc: Global, row: Row) -> Result<What, NoMemory> {
         table: row.table,
         key: key(alloc, row.table, row.key)?,
         life: row.life,
-        cells: cells(alloc, row.count)?,
+        cells: Cells::copy(alloc, &cells(row.count))?,
     })
 }
 
@@ -104,6 +106,17 @@ pub fn seat_of(deed: Deed) -> u64 {
         Deed::Sit(seat) | Deed::Open(seat, _) | Deed::Put(seat, _) | Deed::Leave(seat) => seat,
         Deed::Rate(seat, _, _, _) => seat,
         _ => 0,
+    }
+}
+
+/// Adds what happens to a batch. A row is added with its cells, as a session adds it.
+pub fn add(alloc: Global, batch: &mut Whats, deed: Deed) -> Result<(), NoMemory> {
+    match deed {
+        Deed::Put(_, row) => {
+            let key = key(alloc, row.table, row.key)?;
+            batch.push_put(row.peer, row.table, key, row.life, &cells(row.count))
+        }
+        _ => batch.push(what(alloc, deed)?),
     }
 }
 

@@ -19,6 +19,8 @@ pub struct Draw {
     drawn: u32,
     seats: [u64; PEERS],
     last: u64,
+    // The peer that was drawn last.
+    peer: usize,
 }
 
 impl Draw {
@@ -30,6 +32,7 @@ impl Draw {
             drawn: 0,
             seats: [1, 2, 3],
             last: 3,
+            peer: 0,
         }
     }
 
@@ -76,8 +79,12 @@ impl Draw {
         self.below(KEYS) as u16
     }
 
+    /// Mostly the peer that was drawn last, so that its events follow one another.
     fn peer(&mut self) -> usize {
-        self.below(PEERS as u64) as usize
+        if self.below(4) == 0 {
+            self.peer = self.below(PEERS as u64) as usize;
+        }
+        self.peer
     }
 
     /// No life, one that is over at once, a short one, or a long one.

@@ -1,22 +1,19 @@
-//! Two books of one fleet, to which the same happens.
+//! Two books of one fleet, to which the same happens: to one event by event, to the other in runs.
 
 use crate::both::answers::{NOTHING, Seen, differences};
-use crate::both::deeds::{Deed, seat_of, what};
-use agg_types::{NoMemory, What};
-use anyhow::Result;
-use book::{Book, Taken};
-use plain_book::Book as PlainBook;
+use crate::both::deeds::{Deed, add, seat_of, what};
+use agg_types::{NUMBERS_END, NoMemory, What, Whats};
+use anyhow::{Result, ensure};
+use book::{Book, Flips, Taken};
 use std::alloc::Global;
 use std::marker::Model;
 use test_support::config;
 
-/// How many peers and tables there are.
+/// How many peers there are.
 pub const PEERS: usize = 3;
 
-pub const TABLES: usize = 2;
-
 /// Three peers, a table of addresses and one of strings; the first holds a million rows.
-const MANY: &[u8] = b"name agg
+pub const MANY: &[u8] = b"name agg
 peer lb1
 peer lb2
 peer lb3
@@ -55,21 +52,81 @@ fn made(alloc: Global, deed: Deed) -> Result<What, NoMemory> {
     }
 }
 
-/// The book that the product runs on and the plain book, of one fleet. Contracts see nothing of
-/// them.
+fn opened(alloc: Global, fleet: &[u8]) -> Result<Book> {
+    Ok(Book::new(alloc, config(alloc, fleet)?, 0)?)
+}
+
+/// Events of one seat that follow one another, under its numbers from a first one on.
 #[derive(Drop)]
-pub struct Pair {
-    fast: Book,
-    plain: PlainBook,
-    near: bool,
+struct Run {
+    seat: u64,
+    first: u64,
+    batch: Whats,
+}
+
+impl Run {
+    // Whether an event under this number goes on with it.
+    fn goes_on(&self, seat: u64, number: u64) -> bool {
+        seat == self.seat && number == self.first.saturating_add(self.batch.len() as u64)
+    }
+
+    // Begins anew.
+    fn begin(&mut self, seat: u64, first: u64) {
+        self.seat = seat;
+        self.first = first;
+        self.batch.clear();
+    }
+
+    // Adds what happens, once more where an allocation failed.
+    fn add(&mut self, alloc: Global, deed: Deed) -> Result<(), NoMemory> {
+        match add(alloc, &mut self.batch, deed) {
+            Err(NoMemory) => add(alloc, &mut self.batch, deed),
+            added => added,
+        }
+    }
+
+    // Has a book take it. Where an allocation failed, it goes on at that place once more.
+    fn apply(&self, alloc: Global, book: &mut Book, flips: &mut Flips) -> Result<()> {
+        let end = u128::from(self.first) + self.batch.len() as u128;
+        ensure!(end < u128::from(NUMBERS_END), "too long a run");
+        let mut hints = Vec::new(alloc);
+        let done = book.step_run(self.seat, self.first, &self.batch, 0, &mut hints, flips);
+        if done == self.batch.len() {
+            return Ok(());
+        }
+        let mut hints = Vec::new(alloc);
+        let done = book.step_run(self.seat, self.first, &self.batch, done, &mut hints, flips);
+        ensure!(done == self.batch.len(), "a run was refused twice");
+        Ok(())
+    }
+}
+
+/// How many runs and events there were, of how many runs the flips were known and how many these
+/// were, and what the events read and full tables didn't take.
+#[derive(Clone, Copy)]
+pub struct Counts {
     pub events: u64,
-    pub differ: u64,
-    pub seen: Seen,
-    // How many values the first one read, by all events and by the last one.
+    pub runs: u64,
+    pub told: u64,
+    pub flips: u64,
+    /// How many values the first book read, for all events and for the last one.
     pub read: u64,
     pub last_read: u64,
-    // How many updates a full table of it didn't take.
     pub dropped: u64,
+}
+
+/// Both books. Contracts see nothing of them.
+#[derive(Drop)]
+pub struct Pair {
+    single: Book,
+    by_runs: Book,
+    run: Run,
+    flips: Flips,
+    often: bool,
+    pub counts: Counts,
+    pub seen: Seen,
+    /// How many answers differed.
+    pub differ: u64,
 }
 
 impl Model for Pair {
@@ -79,103 +136,140 @@ impl Model for Pair {
 }
 
 impl Pair {
-    /// Two books to which nothing has happened. Next changes are asked for only where all moments
-    /// are near, and there tables are small.
-    pub fn new(alloc: Global, near: bool) -> Result<Pair> {
-        Pair::of(alloc, if near { FEW } else { MANY }, near)
-    }
-
-    /// The same of a fleet whose configuration is told.
-    pub fn of(alloc: Global, fleet: &[u8], near: bool) -> Result<Pair> {
-        let one = config(alloc, fleet)?;
-        let other = config(alloc, fleet)?;
+    /// Two books to which nothing has happened, of a fleet whose configuration is told. They are
+    /// compared behind each run, or only when that is asked for.
+    pub fn of(alloc: Global, fleet: &[u8], often: bool) -> Result<Pair> {
         Ok(Pair {
-            fast: Book::new(alloc, one, 0)?,
-            plain: PlainBook::new(alloc, other, 0)?,
-            near,
-            events: 0,
-            differ: 0,
+            single: opened(alloc, fleet)?,
+            by_runs: opened(alloc, fleet)?,
+            run: Run {
+                seat: 0,
+                first: 0,
+                batch: Whats::new(alloc),
+            },
+            flips: Flips::new(alloc),
+            often,
+            counts: Counts {
+                events: 0,
+                runs: 0,
+                told: 0,
+                flips: 0,
+                read: 0,
+                last_read: 0,
+                dropped: 0,
+            },
             seen: NOTHING,
-            read: 0,
-            last_read: 0,
-            dropped: 0,
+            differ: 0,
         })
     }
 
-    /// The moment of both.
+    /// The moment, in ms.
     pub fn moment(&self) -> u64 {
-        self.fast.moment()
+        self.single.moment()
     }
 
-    /// Lets something happen to both, under the next number of its seat, and once more where an
-    /// allocation failed. The first has to answer then what the second does, to which it hasn't
-    /// happened yet.
+    /// Lets something happen under the next number of its seat: at once to the first book, and to
+    /// the second with the run that it belongs to.
     pub fn happen(&mut self, alloc: Global, deed: Deed) -> Result<()> {
         let seat = seat_of(deed);
-        let what = made(alloc, deed)?;
-        let seq = self.plain.next_seq(seat).unwrap_or(0);
-        let taken = match self.fast.apply_at(seat, seq, &what, None) {
+        let number = self.single.next_seq(seat).unwrap_or(0);
+        if !self.run.goes_on(seat, number) {
+            self.end_run(alloc)?;
+            self.run.begin(seat, number);
+        }
+        self.step(alloc, seat, number, &made(alloc, deed)?)?;
+        self.run.add(alloc, deed)?;
+        self.counts.events = self.counts.events.saturating_add(1);
+        Ok(())
+    }
+
+    // The first book takes an event. Where an allocation failed, it has to answer what the second
+    // does, to which it hasn't happened yet, and takes it once more.
+    fn step(&mut self, alloc: Global, seat: u64, number: u64, what: &What) -> Result<()> {
+        let taken = match self.single.apply_at(seat, number, what, None) {
             Ok(taken) => taken,
             Err(_) => {
-                self.differ = self.differ.saturating_add(self.differences(alloc)?.0);
-                self.fast.apply_at(seat, seq, &what, None)?
+                self.end_run(alloc)?;
+                self.run.begin(seat, number);
+                self.compare(alloc)?;
+                self.single.apply_at(seat, number, what, None)?
             }
         };
         self.note(taken);
-        if self.plain.apply(seat, seq, &what).is_err() {
-            self.plain.apply(seat, seq, &what)?;
-        }
-        self.events = self.events.saturating_add(1);
         Ok(())
     }
 
     // Notes what was read.
     fn note(&mut self, taken: Taken) {
-        self.last_read = taken.read;
-        self.read = self.read.saturating_add(taken.read);
+        let counts = &mut self.counts;
+        counts.last_read = taken.read;
+        counts.read = counts.read.saturating_add(taken.read);
         if taken.dropped {
-            self.dropped = self.dropped.saturating_add(1);
+            counts.dropped = counts.dropped.saturating_add(1);
         }
     }
 
-    /// Compares how many keys of the first table both have.
-    pub fn compare_used(&mut self) {
-        let used = self.fast.used(0);
-        self.seen.rows |= used > 0;
-        if used != self.plain.used(0) {
+    // The second book takes the run that waits, and is compared where that is to be done often.
+    fn end_run(&mut self, alloc: Global) -> Result<()> {
+        if self.run.batch.is_empty() {
+            return Ok(());
+        }
+        self.flips.begin();
+        self.run.apply(alloc, &mut self.by_runs, &mut self.flips)?;
+        self.run.batch.clear();
+        self.note_run();
+        if self.often {
+            self.compare(alloc)?;
+        }
+        Ok(())
+    }
+
+    // Notes a run, and what its flips tell.
+    fn note_run(&mut self) {
+        let counts = &mut self.counts;
+        counts.runs = counts.runs.saturating_add(1);
+        if let Some(flips) = self.flips.known() {
+            counts.told = counts.told.saturating_add(1);
+            counts.flips = counts.flips.saturating_add(flips.len() as u64);
+        }
+    }
+
+    /// Ends the run that waits, and compares all that both answer.
+    pub fn end(&mut self, alloc: Global) -> Result<()> {
+        self.end_run(alloc)?;
+        self.compare(alloc)?;
+        if self.drops() != self.counts.dropped {
             self.differ = self.differ.saturating_add(1);
         }
+        Ok(())
     }
 
-    /// Compares all that both answer, once more where an allocation failed.
-    pub fn compare(&mut self, alloc: Global) -> Result<()> {
+    // Compares what both answer, once more where an allocation failed.
+    fn compare(&mut self, alloc: Global) -> Result<()> {
         let (found, seen) = match self.differences(alloc) {
             Err(NoMemory) => self.differences(alloc)?,
             Ok(found) => found,
         };
         self.differ = self.differ.saturating_add(found);
-        if self.drops() != self.dropped {
-            self.differ = self.differ.saturating_add(1);
-        }
         self.seen = seen;
         Ok(())
     }
 
-    // How many updates full tables of the first one didn't take, as it counts them itself.
+    // How many answers differ, and what was compared so far.
+    fn differences(&self, alloc: Global) -> Result<(u64, Seen), NoMemory> {
+        let mut seen = self.seen;
+        let found = differences(alloc, &self.single, &self.by_runs, &mut seen)?;
+        Ok((found, seen))
+    }
+
+    // How many updates full tables of the first book didn't take, as it counts them itself.
     fn drops(&self) -> u64 {
         let mut dropped = 0u64;
-        for table in 0..TABLES {
-            for peer in 0..PEERS {
-                dropped = dropped.saturating_add(self.fast.dropped(table, peer));
+        for table in 0..self.single.config().tables.len() {
+            for peer in 0..self.single.config().peers.len() {
+                dropped = dropped.saturating_add(self.single.dropped(table, peer));
             }
         }
         dropped
-    }
-
-    // How many answers differ, and what was ever among them.
-    fn differences(&self, alloc: Global) -> Result<(u64, Seen), NoMemory> {
-        let mut seen = self.seen;
-        let found = differences(alloc, &self.fast, &self.plain, self.near, &mut seen)?;
-        Ok((found, seen))
     }
 }

@@ -31,8 +31,8 @@ pub fn fleet(alloc: Global) -> Result<String> {
     Ok(text)
 }
 
-/// What happens at a number: mostly a row comes, in a scattered order of the peers; at times the
-/// clock goes on, or a key is cleared.
+/// What happens at a number: mostly a row comes, five of a peer in turn, and the peers in a
+/// scattered order; at times the clock goes on, or a key is cleared.
 pub fn deed(number: u64, moment: u64) -> Deed {
     if number % 250 == 249 {
         return Deed::ClearKey(0, (number / 250 % 2) as u16);
@@ -45,7 +45,7 @@ pub fn deed(number: u64, moment: u64) -> Deed {
 
 // A row of one of two keys, which mostly stays.
 fn put(number: u64) -> Deed {
-    let peer = number % PEERS * 37 % PEERS;
+    let peer = number / 5 % PEERS * 37 % PEERS;
     let life = match number % 7 {
         4 => Some(60),
         5 => Some(9),

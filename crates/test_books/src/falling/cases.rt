@@ -3,10 +3,10 @@
 use agg_types::{Col, Cond, Op};
 
 /// The end of a row that outlasts all rows here.
-pub const LATE: u64 = 1_000_000;
+const LATE: u64 = 1_000_000;
 
 /// How long ago the period of a rate began that has been 0 ever since, in ms.
-pub const OVER: u64 = 3000;
+const OVER: u64 = 3000;
 
 /// A filter over a key, and the moments at which it is looked at.
 #[derive(Clone, Copy)]
@@ -32,9 +32,9 @@ macro_rules! cond {
     };
 }
 
-pub const IS_TWO: &[Cond] = &[cond!(Eq, 2)];
+const IS_TWO: &[Cond] = &[cond!(Eq, 2)];
 
-pub const FROM_THREE: &[Cond] = &[cond!(Ge, 3)];
+const FROM_THREE: &[Cond] = &[cond!(Ge, 3)];
 
 /// They never hold together.
 const CONTRARY: &[Cond] = &[cond!(Ge, 3), cond!(Lt, 3)];

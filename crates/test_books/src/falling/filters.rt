@@ -1,9 +1,9 @@
-//! Keys under standing filters as the clock goes on.
+//! A key under a standing filter as the clock goes on.
 
 ghost use Rattle.std.specs.Prelude.{◌≤◌, length, IfOk};
 ghost use Rattle.std.specs.List.{All};
 
-use crate::falling::cases::{CASES, Case, FROM_THREE, IS_TWO, LATE, OVER};
+use crate::falling::cases::{CASES, Case};
 use crate::falling::pair::{Counted, Pair};
 use agg_types::{Cond, Config, Declared, Filter, Items, Key, Name, NoMemory};
 use anyhow::{Result, ensure};
@@ -13,13 +13,12 @@ use standing_filters::{Flips, Standing};
 use std::alloc::Global;
 use std::io::Print;
 
-/// Prints what filters say of one key in each case, and of several keys.
+/// Prints what a filter says of one key in each case.
 pub fn run<R: Print>(rt: &R, alloc: Global) -> Result<()> {
     for case in CASES {
         play(rt, alloc, &case)?;
     }
-    added(rt, alloc)?;
-    planned(rt, alloc)
+    Ok(())
 }
 
 // Two rates of 3 events in the period before, which fall to 0 within the next one. The second
@@ -162,136 +161,4 @@ fn show<R: Print>(
     let held = standing.keys(0).next().is_some();
     let next = standing.next_change(0);
     print_shown(rt, t, held, next, meter.evals, values.reads())
-}
-
-// Adds a filter with the keys that have rows.
-fn add(alloc: Global, standing: &mut Standing, values: &Counted, meter: &mut Meter) -> Result<()> {
-    let (one, other) = (Key::copy(alloc, b"a")?, Key::copy(alloc, b"b")?);
-    let more = filter(alloc, FROM_THREE)?;
-    let mut adding = standing.begin(&more, 2)?;
-    adding.judge(&one, values, 0, meter)?;
-    adding.judge(&other, values, 0, meter)?;
-    standing.add(adding)?;
-    Ok(())
-}
-
-// A filter that is added with the keys that have rows.
-fn added<R: Print>(rt: &R, alloc: Global) -> Result<()> {
-    println!(rt; "added")?;
-    let values = falling(500, LATE);
-    let mut standing = standing(alloc, IS_TWO)?;
-    let mut meter = Meter::new();
-    add(alloc, &mut standing, &values, &mut meter)?;
-    count_on(rt, alloc, &mut standing, &values, meter)
-}
-
-// Prints what there is at once, and as the clock goes on.
-fn count_on<R: Print>(
-    rt: &R,
-    alloc: Global,
-    standing: &mut Standing,
-    values: &Counted,
-    before: Meter,
-) -> Result<()> {
-    count(rt, standing, values, before)?;
-    let mut meter = before;
-    let mut flips = Flips::unknown(alloc);
-    for t in [166, 167] {
-        standing.moment(values, t, &mut meter, &mut flips)?;
-        count(rt, standing, values, meter)?;
-    }
-    Ok(())
-}
-
-fn print_count<R: Print>(
-    rt: &R,
-    filters: usize,
-    held: u64,
-    next: Option<u64>,
-    evals: u64,
-    reads: u64,
-) -> Result<()> {
-    println!(rt; "filters:{filters} held:{held} next:{next:?} evals:{evals} reads:{reads}")?;
-    Ok(())
-}
-
-// Prints how many filters there are, and of the last one how many keys it holds and its next
-// change.
-fn count<R: Print>(rt: &R, standing: &Standing, values: &Counted, meter: Meter) -> Result<()> {
-    let filters = standing.len();
-    if filters == 0 {
-        return Ok(());
-    }
-    let last = filters - 1;
-    let mut held = 0u64;
-    for _ in standing.keys(last) {
-        held = held.saturating_add(1);
-    }
-    let next = standing.next_change(last);
-    print_count(rt, filters, held, next, meter.evals, values.reads())
-}
-
-// Touches a key.
-fn touch(
-    alloc: Global,
-    standing: &mut Standing,
-    key: &[u8],
-    values: &Counted,
-    t: u64,
-) -> Result<()> {
-    let mut meter = Meter::new();
-    let mut flips = Flips::unknown(alloc);
-    standing.touch(
-        0,
-        &Key::copy(alloc, key)?,
-        values,
-        t,
-        &mut meter,
-        &mut flips,
-    )?;
-    Ok(())
-}
-
-// What is planned for three keys, two of which change in the same ms, and once that has come.
-fn planned<R: Print>(rt: &R, alloc: Global) -> Result<()> {
-    println!(rt; "planned")?;
-    let values = falling(OVER, LATE);
-    let mut standing = standing(alloc, IS_TWO)?;
-    touch_three(alloc, &mut standing, &values)?;
-    plan_on(rt, alloc, &mut standing, &values)
-}
-
-fn touch_three(alloc: Global, standing: &mut Standing, values: &Counted) -> Result<()> {
-    for (key, t) in [(b"c", 0), (b"b", 1), (b"a", 0)] {
-        touch(alloc, standing, key, values, t)?;
-    }
-    Ok(())
-}
-
-fn plan_on<R: Print>(
-    rt: &R,
-    alloc: Global,
-    standing: &mut Standing,
-    values: &Counted,
-) -> Result<()> {
-    show_plans(rt, standing)?;
-    let mut meter = Meter::new();
-    let mut flips = Flips::unknown(alloc);
-    for t in [1, 400] {
-        standing.moment(values, t, &mut meter, &mut flips)?;
-        show_plans(rt, standing)?;
-    }
-    Ok(())
-}
-
-// Prints the planned changes of the first filter.
-fn show_plans<R: Print>(rt: &R, standing: &Standing) -> Result<()> {
-    if standing.len() == 0 {
-        return Ok(());
-    }
-    println!(rt; "next:{:?}", standing.next_change(0))?;
-    for (at, key) in standing.planned(0) {
-        println!(rt; "at {at}: {key:?}")?;
-    }
-    Ok(())
 }

@@ -6,22 +6,6 @@ use expiry_wheel::{Due, DueEntry, DueIndex, OrderedDue, Wheel};
 use std::alloc::Global;
 use std::io::Print;
 
-/// Numbers that look drawn at random, the same in every run.
-#[derive(Drop)]
-struct Draws {
-    seed: u64,
-}
-
-impl Draws {
-    fn draw(&mut self) -> u64 {
-        self.seed = self
-            .seed
-            .wrapping_mul(6_364_136_223_846_793_005)
-            .wrapping_add(1_442_695_040_888_963_407);
-        self.seed
-    }
-}
-
 fn plan<D: DueIndex<u32>>(index: &mut D, at: u64, item: u32) -> Result<()> {
     match index.plan(at, item) {
         Ok(()) => Ok(()),
@@ -69,16 +53,6 @@ impl Both {
         let other = self.ordered.cancel(at, &item);
         self.note(found == other);
         found
-    }
-
-    fn compare_next(&mut self) {
-        let alike = self.wheel.next_at() == self.ordered.next_at();
-        self.note(alike);
-    }
-
-    fn compare_after(&mut self, at: u64, item: u32) {
-        let alike = self.wheel.after(Some((at, &item))) == self.ordered.after(Some((at, &item)));
-        self.note(alike);
     }
 }
 
@@ -199,89 +173,6 @@ fn play(rt: &impl Print, alloc: Global, title: &str, now: u64, calls: &[Call]) -
     print_end(rt, title, &both)
 }
 
-/// One of several kinds of call, at a moment near the clock's or far from it.
-fn mixed_call(both: &mut Both, clock: &mut u64, drawn: u64) -> Result<()> {
-    let reach = match (drawn >> 20) % 5 {
-        0 => 3,
-        1 => 255,
-        2 => 65_535,
-        3 => 16_777_215,
-        _ => u64::MAX,
-    };
-    let at = clock.wrapping_add((drawn >> 24) & reach).wrapping_sub(2);
-    let item = ((drawn >> 33) % 4) as u32;
-    match (drawn >> 40) % 8 {
-        0 => {
-            *clock = clock.wrapping_add((drawn >> 44) % 100);
-            for _ in 0..3 {
-                both.take_due(*clock);
-            }
-        }
-        1 => {
-            both.cancel(at, item);
-        }
-        2 => both.compare_after(at, item),
-        _ => both.plan(at, item)?,
-    }
-    both.compare_next();
-    Ok(())
-}
-
-/// How many entries are left, taken one by one.
-fn drain(both: &mut Both) -> u32 {
-    for passed in 0..100_000 {
-        if both.take_due(u64::MAX).is_none() {
-            return passed;
-        }
-    }
-    100_000
-}
-
-/// Makes a thousand calls of many kinds, and answers how many entries they leave.
-fn mix(both: &mut Both) -> Result<u32> {
-    let mut clock = 1u64 << 40;
-    let mut draws = Draws { seed: 1 };
-    for _ in 0..1000 {
-        mixed_call(both, &mut clock, draws.draw())?;
-    }
-    Ok(drain(both))
-}
-
-/// Plans more moments than a slot is searched for, so that it is parted again, and answers how many
-/// entries are left once most were cancelled or taken.
-fn crowd(both: &mut Both) -> Result<u32> {
-    for item in 0..400 {
-        both.plan(4096 + 10 * u64::from(item), item)?;
-    }
-    both.take_due(4096);
-    for item in 0..80 {
-        both.plan(4100 + 31 * u64::from(item), item)?;
-    }
-    for step in 0..500 {
-        let at = 4096 + 8 * u64::from(step);
-        both.cancel(at, step);
-        both.take_due(at);
-    }
-    Ok(drain(both))
-}
-
-fn print_left(rt: &impl Print, title: &str, both: &Both, left: u32) -> Result<()> {
-    println!(rt; "{title}: {left} left, {} differences", both.differences)?;
-    Ok(())
-}
-
-fn mixed_calls(rt: &impl Print, alloc: Global) -> Result<()> {
-    let mut both = Both::new(alloc, 1 << 40)?;
-    let left = mix(&mut both)?;
-    print_left(rt, "1000 mixed calls", &both, left)
-}
-
-fn crowded_slot(rt: &impl Print, alloc: Global) -> Result<()> {
-    let mut both = Both::new(alloc, 0)?;
-    let left = crowd(&mut both)?;
-    print_left(rt, "a crowded slot", &both, left)
-}
-
 /// An ordered index of two entries.
 fn firsts(alloc: Global) -> Result<OrderedDue<u32>> {
     let mut firsts = OrderedDue::new(alloc);
@@ -319,8 +210,6 @@ pub fn run(rt: &impl Print, alloc: Global) -> Result<()> {
     play(rt, alloc, "from 0", 0, LEAST_FIRST)?;
     play(rt, alloc, "from 1000000", 1_000_000, LEAST_FIRST)?;
     play(rt, alloc, "levels", 0, LEVELS)?;
-    mixed_calls(rt, alloc)?;
-    crowded_slot(rt, alloc)?;
     play(rt, alloc, "one moment", 0, ONE_MOMENT)?;
     print_merged(rt, &firsts(alloc)?, &seconds(alloc)?)
 }

@@ -75,37 +75,6 @@ impl Summed {
     }
 }
 
-// The number of rows of a key, and the totals of its columns.
-fn totals(sums: &Sums, key: &Key) -> (u64, u128, u128)
-    requires { sums.now.widths ≡ 2 ∷ [] }
-{
-    let first = sums.count_of(0, key, 0);
-    (sums.rows_of(0, key), first, sums.count_of(0, key, 1))
-}
-
-// Adds two rows of a key and drops the second.
-fn dropped(alloc: Global) -> Result<(u64, u128, u128), NoMemory> {
-    let mut sums = new_sums(alloc)?;
-    let key = Key::copy(alloc, &[10, 0, 0, 1])?;
-    let first = row(alloc, 5)?;
-    let second = row(alloc, 7)?;
-    sums.add_row(0, &key, &first)?;
-    sums.add_row(0, &key, &second)?;
-    sums.drop_row(0, &key, &second);
-    Ok(totals(&sums, &key))
-}
-
-// Adds a row of a key and puts another in its place.
-fn replaced(alloc: Global) -> Result<(u64, u128, u128), NoMemory> {
-    let mut sums = new_sums(alloc)?;
-    let key = Key::copy(alloc, &[10, 0, 0, 1])?;
-    let first = row(alloc, 5)?;
-    let second = row(alloc, 7)?;
-    sums.add_row(0, &key, &first)?;
-    sums.replace_row(0, &key, &first, &second);
-    Ok(totals(&sums, &key))
-}
-
 impl Summed {
     fn add_all(&mut self, rt: &HostRuntime, rows: &[(u8, u64)]) -> Result<()> {
         for (last, count) in rows {
@@ -116,11 +85,6 @@ impl Summed {
     }
 }
 
-fn print_totals(rt: &HostRuntime, what: &str, totals: (u64, u128, u128)) -> Result<()> {
-    println!(rt; "{what}: {totals:?}")?;
-    Ok(())
-}
-
 pub fn run(rt: &HostRuntime) -> Result<()> {
     let mut summed = Summed {
         sums: new_sums(rt.alloc())?,
@@ -128,7 +92,5 @@ pub fn run(rt: &HostRuntime) -> Result<()> {
     };
     summed.add_all(rt, &[(1, 5), (2, 9), (1, 7)])?;
     summed.show(rt, 1)?;
-    summed.show(rt, 3)?;
-    print_totals(rt, "5 and 7 added, 7 dropped", dropped(rt.alloc())?)?;
-    print_totals(rt, "5 added, 7 in its place", replaced(rt.alloc())?)
+    summed.show(rt, 3)
 }

@@ -1,12 +1,12 @@
-//! The runs, as data.
+//! The histories, as data.
 
 use agg_types::Cell;
 
-/// A row of key 10.0.0.n with one cell.
+/// A row of the key of the number n with one cell.
 #[derive(Clone, Copy)]
 pub struct Row {
     pub peer: usize,
-    pub n: u8,
+    pub n: u16,
     pub life: Option<u64>,
     pub cell: Cell,
 }

@@ -1,12 +1,18 @@
-//! Runs over a plain book alone, each a few rows and then some moments. What is printed is compared
-//! with figures worked out by hand.
+//! A book over histories that are worked out by hand, each of a few rows and then some moments.
+//!
+//! What it answers at each moment is printed: how many keys have a row, how many the filter holds
+//! and when that changes next, each summed row, and the ranked list. Then ranked lists of values
+//! that are alike, fallen, steep or level, and how many keys each looked at.
+mod fleet;
+mod lists;
+mod runs;
 
-use crate::both::plain_fleet::{fleet, happen, put};
-use crate::both::runs::{RUNS, Run};
+use crate::histories::fleet::{fleet, happen, put};
+use crate::histories::runs::{RUNS, Run};
 use agg_types::What;
 use anyhow::Result;
+use book::Book;
 use fleet_model::Summed;
-use plain_book::Book;
 use std::alloc::Global;
 
 /// A summed row: its peers, the ms that it has left, and each value that isn't 0 with its column's
@@ -24,8 +30,8 @@ fn show_row(rt: &impl Print, key: &[u8], sums: Summed) -> Result<()> {
 
 fn show_filter(rt: &impl Print, alloc: Global, book: &Book) -> Result<()> {
     if book.config().filters.len() > 0 {
-        let held = book.filter_keys(alloc, 0)?.len();
-        let next = book.next_change(alloc, 0)?;
+        let held = book.filter_keys(0).into_vec(alloc)?.len();
+        let next = book.next_change(0);
         println!(rt; "  filter: keys {held}, next {next:?}")?;
     }
     Ok(())
@@ -68,10 +74,10 @@ fn play(rt: &impl Print, alloc: Global, run: &Run) -> Result<()> {
     Ok(())
 }
 
-/// Plays all runs.
-pub fn play_all(rt: &impl Print, alloc: Global) -> Result<()> {
+/// Plays each.
+pub fn run(rt: &impl Print, alloc: Global) -> Result<()> {
     for run in RUNS {
         play(rt, alloc, &run)?;
     }
-    Ok(())
+    lists::run(rt, alloc)
 }

@@ -1,3 +1,0 @@
-pub mod Shown
-pub mod PutAll
-pub use Rattle.book_frame.specs.Lent

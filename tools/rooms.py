@@ -1,0 +1,41 @@
+#!/usr/bin/env python3
+"""Counts each crate's functions, and refuses a crate above 120 that wasn't above it before.
+
+    python3 tools/rooms.py        the largest crates, and what is refused; the status is 1 if anything is
+
+A crate of LARGE may have as many functions as stand there, and no more: so it only shrinks. Lower its number when it
+has fewer, and take it out at 120.
+"""
+import pathlib
+import re
+import sys
+
+MOST = 120
+LARGE = {
+    "peer_rows": 268, "book": 253, "hub": 213, "agg_types": 213, "test_books": 209, "serve": 199, "test_collector": 171,
+    "place_index": 154, "telling": 148, "session_core": 144, "standing_filters": 137, "show_clear": 136,
+}
+HEAD = re.compile(r"^\s*(?:pub(?:\([^)]*\))? )?(?:const )?(?:unsafe )?fn ", re.MULTILINE)
+
+
+def main():
+    crates = pathlib.Path(__file__).resolve().parent.parent / "crates"
+    counts = {it.name: sum(len(HEAD.findall(file.read_text())) for file in it.glob("src/**/*.rt"))
+              for it in crates.iterdir()}
+    refused = False
+    for name, count in sorted(counts.items(), key=lambda it: -it[1]):
+        most = LARGE.get(name, MOST)
+        if count > most:
+            told = f", of at most {most}: split it"
+        elif name in LARGE and count < most:
+            told = f", its number is {most}: lower it"
+        else:
+            told = ""
+        if told or count > MOST:
+            print(f"{name:20} {count}{told}")
+        refused = refused or told != ""
+    sys.exit(refused)
+
+
+if __name__ == "__main__":
+    main()
