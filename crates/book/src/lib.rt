@@ -1,8 +1,8 @@
 //! The book that the product runs on: after each event the state that recomputing from all events
 //! gives, and its answers.
 //!
-//! Contracts see a book as `fleet_model`'s state, with the clauses of `plain_book`, which it is
-//! compared with; but `filter_keys` and `next_change` are never refused. Inside, rows lie by table,
+//! Contracts see a book as `fleet_model`'s state: each answer is that model's, recomputed from all
+//! events. `filter_keys` and `next_change` are never refused. Inside, rows lie by table,
 //! key and peer in `peer_rows`, which looks at them before they end. For each ranked list bounds
 //! are kept on the values of its table's keys, and for each standing filter verdicts on them
 //! (`standing_filters`). An update is a search and a row replaced, and its key is judged by the
