@@ -17,7 +17,8 @@ import tempfile
 import time
 
 from lib.collector import COLLECTOR, CONFIG, Collector, free_ports, wait_for
-from lib.proxies import PROXY, SETTLED, Proxy
+from lib.needs import ends_cleanly, wants
+from lib.proxies import HAPROXY, PROXY, SETTLED, Proxy
 from lib.report import Report
 
 
@@ -151,6 +152,8 @@ def main():
     words.add_argument("--threads", type=int, default=1, help="threads of each proxy")
     words.add_argument("--log", help="a file for what the collector says on standard error")
     options = words.parse_args()
+    wants(HAPROXY, program=options.collector)
+    ends_cleanly()
     report = Report()
     with tempfile.TemporaryDirectory() as folder, open(options.log or "/dev/null", "ab") as log:
         text = PROXY.read_text().replace("global\n", f"global\n    nbthread {options.threads}\n")

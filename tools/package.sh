@@ -8,7 +8,7 @@
 # version is what the program says of itself (`--version`) where the commit has the tag v<version>. Else it sorts before
 # that version and behind those of earlier commits, and names the commit: 0.4.0~git20261130.061355.6275ef16 is of
 # 2026-11-30, 06:13:55 UTC. Two runs over one program and one commit make the same file: all times are the last commit's,
-# or SOURCE_DATE_EPOCH, and what git doesn't track isn't packed. It wants dpkg-deb, gzip and python3.
+# or SOURCE_DATE_EPOCH, and what git doesn't track isn't packed. It wants dpkg-deb, gzip, git and python3.
 set -eu
 umask 022
 export LC_ALL=C
@@ -18,6 +18,11 @@ program=${1:-crates/aggregator/out/aggregator}
 to=${2:-.}
 case $program in /*) ;; *) [ $# -eq 0 ] || program=$here/$program ;; esac
 case $to in /*) ;; *) to=$here/$to ;; esac
+missing=
+for need in dpkg-deb gzip git python3; do
+    command -v "$need" > /dev/null || missing="$missing $need"
+done
+[ -z "$missing" ] || { echo "missing:$missing (apt-get install dpkg gzip git python3)" >&2; exit 2; }
 [ -x "$program" ] || { echo "$program isn't built: ./build proves and links it" >&2; exit 1; }
 why=$(PYTHONPATH=tools python3 -c '
 import pathlib, sys

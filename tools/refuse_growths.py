@@ -26,6 +26,8 @@ import subprocess
 import sys
 import tempfile
 
+from lib.needs import ends_cleanly, wants
+
 SHIM = r"""
 #define _GNU_SOURCE
 #include <dlfcn.h>
@@ -133,6 +135,8 @@ def main():
     parser.add_argument("--upto", type=int, default=1_000_000)
     parser.add_argument("words", nargs="*", default=None)
     given = parser.parse_args()
+    wants("cc")
+    ends_cleanly()
     counts = {"same": 0, "cut": 0, "told": 0, "wrong": 0}
     with tempfile.TemporaryDirectory() as folder:
         program = Program(given.crate, given.words or None, pathlib.Path(folder))

@@ -18,6 +18,7 @@ import threading
 import time
 
 from lib.collector import COLLECTOR, Collector, free_ports
+from lib.needs import ends_cleanly, wants
 from lib.peers_protocol import DEFINE, INCREMENTAL, beat, message, put_int
 
 SIZES = {"wide": (1280, 1500), "narrow": (390, 2400)}
@@ -92,6 +93,8 @@ def main():
     words.add_argument("--collector", default=COLLECTOR, help="the program")
     words.add_argument("--chromium", default="chromium", help="the browser")
     options = words.parse_args()
+    wants(options.chromium, program=options.collector)
+    ends_cleanly()
     options.folder.mkdir(parents=True, exist_ok=True)
     for count in (0, 1, 250):
         take(options, count)

@@ -30,6 +30,7 @@ import time
 from lib.asking import ask
 from lib.beside import FORK, TURN, get, last_of, seated
 from lib.collector import COLLECTOR, Collector, free_ports
+from lib.needs import ends_cleanly, wants
 from lib.peers_protocol import UPDATE, message, put_int
 from lib.surviving import cleared, flooded, of_unit, unlimited, unserved
 from lib.told import Proxied
@@ -303,6 +304,8 @@ def main():
     words.add_argument("--pause", type=float, default=0)
     words.add_argument("--seed", type=int, default=1)
     options = words.parse_args()
+    wants(program=options.collector)
+    ends_cleanly()
     with tempfile.TemporaryDirectory() as folder:
         wrong = soak(options, folder)
     if wrong:

@@ -28,8 +28,9 @@ import threading
 import time
 
 from lib.collector import COLLECTOR, Collector, free_ports, wait_for
+from lib.needs import ends_cleanly, wants
 from lib.peers_protocol import Feeder
-from lib.proxies import Proxy
+from lib.proxies import HAPROXY, Proxy
 
 HEARTBEAT = bytes([0, 4])
 SCATTER = 2147483647
@@ -239,6 +240,8 @@ def main():
     words.add_argument("--crossings", type=int, default=100)
     words.add_argument("--proxies", type=int, default=0)
     options = words.parse_args()
+    wants(*[HAPROXY] if options.proxies else [], program=options.collector)
+    ends_cleanly()
     peers, admin = free_ports(2)
     with tempfile.NamedTemporaryFile("w", suffix=".conf") as text:
         text.write(config(options))

@@ -19,6 +19,7 @@ import tempfile
 import time
 
 from lib.collector import Collector, free_ports
+from lib.needs import ends_cleanly, wants
 from lib.peers_protocol import UPDATE, message, put_int
 from lib.pushing import Peer, definition
 from lib.receivers import COLLECTOR_CONFIG, start_haproxy
@@ -67,6 +68,8 @@ def main():
     words.add_argument("--keys", type=int, default=100000)
     words.add_argument("--peers", type=int, default=1, help="how many peers hold the keys, for --collector")
     options = words.parse_args()
+    wants(*filter(None, [options.haproxy]), program=options.collector)
+    ends_cleanly()
     names = [f"lb{number + 1}" for number in range(1 if options.haproxy else options.peers)]
     with tempfile.TemporaryDirectory() as folder:
         if options.haproxy:

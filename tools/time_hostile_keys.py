@@ -1,7 +1,7 @@
 #!/usr/bin/env python3
 """Times what keys and lives cost that a hostile client chooses, each beside harmless ones in the same run.
 
-    time_hostile_keys.py [--collector ../crates/aggregator/out/aggregator] [--keys 1000000] [--only NAME]
+    time_hostile_keys.py [--collector crates/aggregator/out/aggregator] [--keys 1000000] [--only NAME]
 
 It starts the collector anew for each line that it prints, and pushes each key once and then once more:
 
@@ -20,7 +20,8 @@ import itertools
 import struct
 import tempfile
 
-from lib.collector import resident
+from lib.collector import COLLECTOR, resident
+from lib.needs import ends_cleanly, wants
 from lib.peers_protocol import DEFINE, TIMED, UPDATE, message, put_int
 from lib.pushing import InTurn, Peer
 from lib.receivers import listen
@@ -119,10 +120,12 @@ def measure(program, name, what, table, kind, length, keys, lives=None, peers=1)
 
 def main():
     words = argparse.ArgumentParser(description=__doc__, formatter_class=argparse.RawDescriptionHelpFormatter)
-    words.add_argument("--collector", default="../crates/aggregator/out/aggregator")
+    words.add_argument("--collector", default=COLLECTOR)
     words.add_argument("--keys", type=int, default=1000000)
     words.add_argument("--only")
     options = words.parse_args()
+    wants(program=options.collector)
+    ends_cleanly()
     count = options.keys
     five = lambda number: struct.pack(">Q", number)[3:]
     address = lambda number: struct.pack(">I", number)

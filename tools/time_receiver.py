@@ -36,6 +36,7 @@ import tempfile
 import time
 
 from lib.collector import resident
+from lib.needs import ends_cleanly, wants
 from lib.pushing import SCATTER, TURN, InTurn, Peer, definition, updates
 from lib.receivers import FILTERS, RANK, start_collector, start_haproxy
 
@@ -211,6 +212,8 @@ def main():
     words.add_argument("--receiver", default="agg")
     words.add_argument("--pid", type=int, help="the receiver's process, whose memory is to be told")
     options = words.parse_args()
+    wants(*filter(None, [options.haproxy]), program=options.collector)
+    ends_cleanly()
     if options.push and not options.filter:
         words.error("--push needs --filter")
     if options.to and options.ask:

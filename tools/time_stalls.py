@@ -28,6 +28,7 @@ import tempfile
 import threading
 import time
 
+from lib.needs import ends_cleanly, wants
 from lib.peers_protocol import TIMED_INCREMENTAL, message, put_int
 from lib.pushing import SCATTER, Peer, definition, updates
 from lib.receivers import FILTERS as STANDING, start_collector
@@ -217,6 +218,8 @@ def main():
     words.add_argument("--filter", choices=STANDING, help="which keys a filter of the collector holds")
     words.add_argument("--only", choices=PHASES, action="append", help="one of the measurements; may be repeated")
     options = words.parse_args()
+    wants(program=options.collector)
+    ends_cleanly()
     phases = [it for it in PHASES if it in (options.only or PHASES)]
     senders = [f"lb{number + 1}" for number in range(max(options.senders, 1))]
     tabled = [it for it in phases if it not in ("ends", "looks")]

@@ -15,7 +15,8 @@ import tempfile
 import time
 
 from lib.collector import COLLECTOR, Collector, free_ports, wait_for
-from lib.proxies import ACTING, ACTING_PROXY, SETTLED, Proxy, kill_all, status
+from lib.needs import ends_cleanly, wants
+from lib.proxies import ACTING, ACTING_PROXY, HAPROXY, SETTLED, Proxy, kill_all, status
 from lib.report import Report
 
 LIFE = 10.0  # s for which a key is told that isn't told again
@@ -108,6 +109,8 @@ def main():
     words.add_argument("--collector", default=COLLECTOR, help="the program that is tried")
     words.add_argument("--log", help="a file for what the collector says on standard error")
     options = words.parse_args()
+    wants(HAPROXY, program=options.collector)
+    ends_cleanly()
     report = Report()
     with tempfile.TemporaryDirectory() as folder, open(options.log or "/dev/null", "ab") as log:
         peers, admin = free_ports(2)

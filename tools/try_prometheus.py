@@ -21,7 +21,8 @@ import urllib.parse
 import urllib.request
 
 from lib.collector import COLLECTOR, REPOSITORY, Collector, free_ports, wait_for
-from lib.proxies import ACTING, ACTING_PROXY, Proxy, kill_all, status
+from lib.needs import ends_cleanly, wants
+from lib.proxies import ACTING, ACTING_PROXY, HAPROXY, Proxy, kill_all, status
 from lib.report import Report
 
 SETTINGS = """global:
@@ -134,6 +135,8 @@ def main():
     words.add_argument("--collector", default=COLLECTOR)
     words.add_argument("--minutes", type=float, default=10)
     options = words.parse_args()
+    wants(HAPROXY, "prometheus", program=options.collector)
+    ends_cleanly()
     report = Report()
     with tempfile.TemporaryDirectory() as folder:
         peers, admin, web = free_ports(3)
