@@ -258,7 +258,7 @@ impl<'a, J: Naming, R: Wait, F: Facts> Clerk<'a, J, R, F> {
             Question::Page => Reply {
                 status: StatusCode::OK,
                 kind: Kind::Page,
-                body: Bytes::from_static(PAGE),
+                body: Bytes::from_static(PAGE.as_bytes()),
             },
             Question::Health => self.health(),
             _ => {
